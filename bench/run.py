@@ -1,0 +1,149 @@
+#!/usr/bin/env python3
+"""Times `tempo bare` on long lists of commands. It prints numbers and judges nothing.
+
+    bench/run.py [--full] [PROGRAM]
+
+PROGRAM is a built `tempo`; without it, the program is proved and built by `rt run` first. `--full` also brings 65,535 bounds into
+force, which takes a while. Each list is read from a file by a process of its own; the times of single commands are from
+writing the command to reading its answer, the mean of all of them.
+"""
+import pathlib
+import random
+import subprocess
+import sys
+import tempfile
+import time
+
+ROOT = pathlib.Path(__file__).resolve().parent.parent
+EVENTS = 1024
+HORIZON = 1_000_000_000
+MOST_BOUNDS = 65_535
+HEAD = f"network {EVENTS} {HORIZON}"
+
+
+def built():
+    """Proves and builds the program, and answers where it is."""
+    crate = ROOT / "crates" / "tempo"
+    subprocess.run(["rt", "run"], cwd=crate, check=True, stdin=subprocess.DEVNULL, stdout=subprocess.DEVNULL)
+    return crate / "out" / "tempo"
+
+
+def say(name, took, count, answers):
+    """Prints one line of numbers."""
+    refused = sum(answer.startswith("refused") for answer in answers)
+    print(f"{name:58} {took:8.3f} s  {1000 * took / count:9.4f} ms each  {refused} of {count} refused", flush=True)
+
+
+def batch(program, name, lines):
+    """A run over all the lines at once: the best of three, or where one takes seconds the first."""
+    best = None
+    with tempfile.TemporaryDirectory() as room:
+        commands, written = pathlib.Path(room, "commands"), pathlib.Path(room, "answers")
+        commands.write_text("\n".join([HEAD, *lines]) + "\n")
+        for _ in range(3):
+            with open(commands) as source, open(written, "w") as sink:
+                begin = time.perf_counter()
+                subprocess.run([str(program)], stdin=source, stdout=sink, check=True)
+                took = time.perf_counter() - begin
+            best = took if best is None else min(best, took)
+            if took > 2:
+                break
+        say(name, best, len(lines), written.read_text().splitlines())
+
+
+class Session:
+    """A run that is asked one command after another."""
+
+    def __init__(self, program):
+        self.process = subprocess.Popen([str(program)], stdin=subprocess.PIPE, stdout=subprocess.PIPE, text=True, bufsize=1)
+        self.process.stdin.write(HEAD + "\n")
+
+    def ask(self, line):
+        """The answer to a command."""
+        self.process.stdin.write(line + "\n")
+        return self.process.stdout.readline()
+
+    def timed(self, name, lines):
+        """Asks the commands, and prints how long they took."""
+        begin = time.perf_counter()
+        answers = [self.ask(line) for line in lines]
+        say(name, time.perf_counter() - begin, len(lines), answers)
+
+    def close(self):
+        self.process.stdin.close()
+        self.process.wait()
+
+
+def mixed(count):
+    """Bounds with the origin, withdrawals and windows, up to 400 bounds in force at a time."""
+    draw = random.Random(1)
+    lines, next_id, in_force = [], 0, []
+    for _ in range(count):
+        event = draw.randrange(EVENTS)
+        kind = draw.randrange(4)
+        if kind < 2 and len(in_force) < 400:
+            upper = f"add o {event} {draw.randrange(500_000_000, HORIZON)}"
+            lower = f"add {event} o -{draw.randrange(400_000_000)}"
+            lines.append(upper if kind == 0 else lower)
+            in_force.append(next_id)
+            next_id += 1
+        elif kind == 2 and in_force:
+            lines.append(f"withdraw {in_force.pop(draw.randrange(len(in_force)))}")
+        else:
+            lines.append(f"window {event}")
+    return lines
+
+
+def chain():
+    """Each event 1 to 10 ticks after the one before: 2,046 bounds."""
+    lines = []
+    for event in range(EVENTS - 1):
+        lines.append(f"add {event} {event + 1} 10")
+        lines.append(f"add {event + 1} {event} -1")
+    return lines
+
+
+def loose(count):
+    """Bounds between events of the chain that it leaves room for."""
+    draw = random.Random(2)
+    lines = []
+    for _ in range(count):
+        one = draw.randrange(EVENTS - 1)
+        other = draw.randrange(one + 1, EVENTS)
+        lines.append(f"add {one} {other} {10 * (other - one) + draw.randrange(1000)}")
+    return lines
+
+
+def main():
+    words = [word for word in sys.argv[1:] if word != "--full"]
+    program = pathlib.Path(words[0]) if words else built()
+
+    batch(program, "20,000 windows of a network without bounds", [f"window {k % EVENTS}" for k in range(20_000)])
+    batch(program, "20,000 lines, up to 400 bounds with the origin in force", mixed(20_000))
+    batch(program, "100 reports of 1,024 events", ["report"] * 100)
+    batch(program, "a chain of 1,024 events, 2,046 bounds", chain())
+
+    session = Session(program)
+    for line in chain():
+        session.ask(line)
+    session.timed("on that chain: bounds that change nothing", loose(20))
+    session.timed("on that chain: bounds that narrow each window", [f"add o {EVENTS - 1} {HORIZON - 20_000 * (k + 1)}" for k in range(20)])
+    session.timed("on that chain: bounds that are refused", [f"add {EVENTS - 1} 0 -{20_000 + k}" for k in range(20)])
+    session.timed("on that chain: windows", [f"window {k}" for k in range(200)])
+    session.timed("on that chain: steps of now", [f"advance {k + 1}" for k in range(20)])
+    session.timed("on that chain: withdrawals", [f"withdraw {2 * k}" for k in range(20)])
+    session.close()
+
+    if "--full" in sys.argv:
+        session = Session(program)
+        session.timed("bounds up to 65,515 in force", chain() + loose(MOST_BOUNDS - 2 * (EVENTS - 1) - 20))
+        session.timed("with those: bounds that change nothing", loose(5))
+        session.timed("with those: bounds that narrow each window", [f"add o {EVENTS - 1} {HORIZON - 20_000 * (k + 1)}" for k in range(5)])
+        session.timed("with those: bounds that are refused", [f"add {EVENTS - 1} 0 -{20_000 + k}" for k in range(5)])
+        session.timed("with those: steps of now", [f"advance {k + 1}" for k in range(5)])
+        session.timed("with those: withdrawals", [f"withdraw {2 * k}" for k in range(5)])
+        session.close()
+
+
+if __name__ == "__main__":
+    main()

@@ -1,0 +1,4 @@
+// Runs of the program over readers and writers in memory.
+mod devices;
+mod examples;
+mod faults;

@@ -1,0 +1,25 @@
+use Rattle.std.proofs.Common.{◌≢◌, None, ap, ◌∙◌, rules}
+use Rattle.std.specs.FinMap.{get}
+use Rattle.tp_bounds.specs.Situation.{Situation}
+use Rattle.tp_exec.specs.declared.command.Command.TheVariants.{Withdraw}
+use Rattle.tp_exec.specs.Machine.{Machine}
+use Rattle.tp_exec.specs.Step.{accepted}
+use Rattle.tp_exec.proofs.Ready.{unused_removed}
+use Rattle.tp_exec.proofs.Steps.{withdraw_step, some_is}
+use Rattle.tp_exec.proofs.executive.Executive.withdraw.Goals as goal
+
+pub invariant_of-self-2 : goal.invariant_of-self-2
+invariant_of-self-2 g c =
+    record {
+      between = c.self.invariant.between;
+      unused = λ id le. ap (λ (s : Situation). get s.bounds id) c.in_ok-remove.ensures.ok ∙ unused_removed (g.N.Net.seen c.self.inside.net).bounds c.self.inside.next c.args.id.0 c.self.invariant.unused id le;
+      ids = c.self.invariant.ids;
+      asks_nothing = ap (λ (s : Situation). s.proposed) c.in_ok-remove.ensures.ok ∙ c.self.invariant.asks_nothing;
+    }
+
+pub returns : goal.returns
+returns g c =
+    let s = g.N.Net.seen c.self.inside.net in
+    let known : get (g.N.Net.seen c.self.inside.net).bounds c.args.id.0 ≢ None = search rules in
+    withdraw_step c.args.self.now _ s c.args.id (ap (λ (m : Machine). m.setting) c.self.view_is) (some_is (get s.bounds c.args.id.0) known) c.in_ok-remove.ensures.possible
+    (rw c.in_ok-remove.ensures.ok (ap (λ m. accepted m (Withdraw c.args.id)) c.self.view_is))

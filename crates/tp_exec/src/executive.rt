@@ -1,0 +1,217 @@
+//! A network that takes commands.
+
+ghost use Rattle.std.specs.Prelude.{◌≡◌, ◌↔◌, ℕ, ◌≤◌, true, IfOk};
+ghost use Rattle.tp_bounds.specs.Situation.{event_count};
+ghost use Rattle.tp_bounds.specs.Schedule.{IsMoment};
+ghost use Rattle.tp_exec.specs.Machine.{IsFresh, new_machine};
+ghost use Rattle.tp_exec.specs.declared.command.Answer.TheVariants.{Accepted, Named, Told, Reported};
+ghost use Rattle.tp_exec.specs.declared.command.Command.TheVariants.{Advance, Add, Withdraw, Window, Dispatch, Report as Tell};
+ghost use Rattle.tp_exec.specs.Step.{Step, answer_of, is_point_of, AreMoments};
+
+use crate::command::{Kind, Report};
+use crate::copying::{copy_bounds, copy_past};
+use crate::refusal::{Refusal, refused_by};
+use std::alloc::{AllocError, Global};
+use std::marker::Model;
+use tp_bounds::{Bound, BoundId, Limits, Point, Setting};
+use tp_net::Net;
+
+/// The greatest weight of a bound, either way, in ticks.
+const GREATEST_WEIGHT: i64 = 2_000_000_000;
+
+/// A network that takes commands. A call that is refused changes nothing.
+#[derive(Drop)]
+pub struct Executive<N: Net> {
+    alloc: Global,
+    net: N,
+    limits: Limits,
+    next: u32,
+    kind: Kind,
+}
+
+impl<N: Net> Model for Executive<N> {
+    ghost use Rattle.tp_exec.specs.Machine.{Machine, IsReady, coded_machine};
+
+    ghost Value = { Machine };
+
+    ghost coded = { coded_machine };
+
+    ghost view = { λ a. record { setting = N.seen a.net; limits = a.limits; next = a.next; kind = a.kind } };
+
+    ghost invariant = { λ a. IsReady N.takes_between (record { setting = N.seen a.net; limits = a.limits; next = a.next; kind = a.kind }) };
+}
+
+impl<N: Net> Executive<N> {
+    /// An executive over a new network, whose bounds are all still to be added. It takes no memory.
+    pub fn bare(alloc: Global, limits: Limits, net: N) -> Executive<N>
+        requires between { N.takes_between ≡ true }
+        requires fresh { IsFresh (N.seen net) }
+        requires horizon { (N.seen net).horizon ≡ limits.horizon }
+        requires events { event_count (N.seen net) ≤ limits.events }
+        ensures { result ≡ new_machine (N.seen net) limits }
+    {
+        Executive {
+            alloc,
+            net,
+            limits,
+            next: 0,
+            kind: Kind::Bare,
+        }
+    }
+
+    /// The network.
+    pub fn net(&self) -> &N
+        ensures { N.seen result.now ≡ self.now.setting }
+    {
+        &self.net
+    }
+
+    /// What bounds the run.
+    pub fn limits(&self) -> Limits
+        ensures { result ≡ self.now.limits }
+    {
+        self.limits
+    }
+
+    /// The identifier that the next bound gets.
+    pub fn next(&self) -> u32
+        ensures { result ≡ self.now.next }
+    {
+        self.next
+    }
+
+    /// Where the bounds come from.
+    pub fn kind(&self) -> Kind
+        ensures { result ≡ self.now.kind }
+    {
+        self.kind
+    }
+
+    /// Goes on to a moment, in ticks, which may be the one that is now.
+    pub fn advance(&mut self, to: u32) -> Result<(), Refusal>
+        ensures { Step self.old (Advance to) (answer_of (λ _. Accepted) result) self.new }
+    {
+        if to < self.net.now() {
+            return Err(Refusal::Back);
+        }
+        if self.net.horizon() < to {
+            return Err(Refusal::Moment);
+        }
+        match self.net.raise(to) {
+            Ok(()) => Ok(()),
+            Err(fault) => Err(refused_by(fault)),
+        }
+    }
+
+    /// Brings a bound into force: `to` comes no later than `w` ticks after `from`.
+    pub fn add(&mut self, from: Point, to: Point, w: i64) -> Result<BoundId, Refusal>
+        ensures { Step self.old (Add (record { from = from; to = to; w = w })) (answer_of Named result) self.new }
+    {
+        let count = self.net.events();
+        if !is_point(from, count) || !is_point(to, count) {
+            return Err(Refusal::NoEvent);
+        }
+        if w < -GREATEST_WEIGHT || GREATEST_WEIGHT < w {
+            return Err(Refusal::Weight);
+        }
+        if self.limits.bounds() as usize <= self.net.in_force() {
+            return Err(Refusal::Full);
+        }
+        if self.limits.ids() <= self.next {
+            return Err(Refusal::Spent);
+        }
+        let id = BoundId(self.next);
+        match self.net.add(id, Bound { from, to, w }) {
+            Ok(()) => {
+                self.next += 1;
+                Ok(id)
+            }
+            Err(fault) => Err(refused_by(fault)),
+        }
+    }
+
+    /// Takes a bound out of force.
+    pub fn withdraw(&mut self, id: BoundId) -> Result<(), Refusal>
+        ensures { Step self.old (Withdraw id) (answer_of (λ _. Accepted) result) self.new }
+    {
+        if self.net.bound(id).is_none() {
+            return Err(Refusal::NoBound);
+        }
+        self.net.remove(id)?;
+        Ok(())
+    }
+
+    /// The least and the greatest moment of an event, in ticks. The event happens at a moment in some remaining schedule
+    /// exactly if that moment is not before the one and not after the other. It takes no memory.
+    pub fn window(&self, e: u16) -> Result<(u32, u32), Refusal>
+        ensures step { Step self.now (Window e) (answer_of (λ w. Told w.0 w.1) result) self.now }
+        ensures exact { IfOk result (λ w. (x : ℕ) → ((w.0 ≤ x) × (x ≤ w.1)) ↔ IsMoment self.now.setting e x) }
+    {
+        if self.net.events() <= e {
+            return Err(Refusal::NoEvent);
+        }
+        Ok((self.net.low(e), self.net.high(e)))
+    }
+
+    /// Fixes an event at the moment that is now.
+    pub fn dispatch(&mut self, e: u16) -> Result<(), Refusal>
+        ensures { Step self.old (Dispatch e) (answer_of (λ _. Accepted) result) self.new }
+    {
+        if self.net.events() <= e {
+            return Err(Refusal::NoEvent);
+        }
+        if self.net.fixed(e).is_some() {
+            return Err(Refusal::Done);
+        }
+        match self.net.fix(e, self.net.now()) {
+            Ok(()) => Ok(()),
+            Err(fault) => Err(refused_by(fault)),
+        }
+    }
+
+    /// The state of the run. It can be refused for want of memory alone.
+    pub fn report(&self) -> Result<Report, Refusal>
+        ensures { Step self.now Tell (answer_of Reported result) self.now }
+    {
+        let moments = moments_of(self.alloc, &self.net)?;
+        let done = moments.iter().all(|moment| moment.1);
+        Ok(Report {
+            moment: self.net.now(),
+            kind: self.kind,
+            moments,
+            done,
+        })
+    }
+
+    /// A copy of the setting: the events, the horizon, the bounds in force, what was dispatched, and now.
+    pub fn setting(&self) -> Result<Setting, AllocError>
+        ensures { IfOk result (λ setting. setting ≡ self.now.setting) }
+    {
+        let mut setting = Setting::new(self.alloc, self.net.events(), self.net.horizon())?;
+        copy_bounds(&self.net, self.next, &mut setting)?;
+        copy_past(&self.net, &mut setting);
+        setting.raise(self.net.now());
+        Ok(setting)
+    }
+}
+
+/// The moments of the pointwise least schedule, and which events are dispatched.
+fn moments_of<N: Net>(alloc: Global, net: &N) -> Result<Vec<(u32, bool)>, AllocError>
+    ensures { IfOk result (λ moments. AreMoments (N.seen net.now) moments.items) }
+{
+    let mut moments = Vec::new(alloc);
+    for e in 0..net.events() {
+        moments.push((net.low(e), net.fixed(e).is_some()))?;
+    }
+    Ok(moments)
+}
+
+/// Whether a point is the origin or one of that many events.
+fn is_point(point: Point, count: u16) -> bool
+    ensures { result ≡ is_point_of count point }
+{
+    match point {
+        Point::Origin => true,
+        Point::Event(e) => e < count,
+    }
+}

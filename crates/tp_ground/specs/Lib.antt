@@ -1,0 +1,9 @@
+pub mod State
+pub mod Event
+pub mod Happens
+pub mod Valid
+pub mod Bounds
+pub mod InOrder
+pub mod Reach
+pub mod Verdict
+pub mod Fits

@@ -1,0 +1,36 @@
+//! Happenings of a ground task: what events do to a state when they happen at once.
+//!
+//! - `states`: a state, as the truth of atoms and the numbers of fluents
+//! - `values`: what an expression is worth in a state
+//! - `conditions`: whether a condition holds
+//! - `events`, `lending`: events, and how a task lends them
+//! - `interfere`: when two events interfere
+//! - `faults`: the first fault of a happening
+//! - `writes`: the effects of events, written one after another
+//! - `happening`: all of it together, `apply`
+//! - `plans`: plans and their steps
+#![tactic(auto)]
+
+mod conditions;
+mod events;
+mod faults;
+mod happening;
+mod interfere;
+mod lending;
+mod plans;
+mod states;
+mod values;
+mod writes;
+
+pub use conditions::{compares, holds};
+pub use events::{Event, EventRef, Part};
+pub use faults::{Outcome, Why, rule_defined};
+pub use happening::{ApplyFault, apply};
+pub use interfere::interferes;
+pub use lending::event;
+pub use plans::{Plan, Step};
+pub use states::State;
+pub use values::{Range, value};
+
+#[cfg(test)]
+mod tests;

@@ -1,0 +1,11 @@
+use Rattle.std.proofs.Common.{sym, ap, ◌∙◌}
+use Rattle.std.specs.FinMap.{get}
+use Rattle.tp_bounds.specs.Situation.{Situation}
+use Rattle.tp_net.proofs.HeldLemmas.{get_held}
+use Rattle.tp_net.proofs.scratch.ScratchNetNet.bound.Goals as goal
+
+pub returns : goal.returns
+returns c =
+    c.copied.ensures
+    ∙ (c.get.ensures.value
+    ∙ (sym (get_held c.self.inside.bounds c.args.id.0) ∙ ap (λ (s : Situation). get s.bounds c.args.id.0) c.self.view_is))

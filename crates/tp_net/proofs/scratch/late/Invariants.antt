@@ -1,0 +1,5 @@
+use Rattle.std.proofs.Common.{◌≡◌, ℕ, suc, ◌<◌, ◌≤◌, get_or, None}
+use Rattle.tp_net.proofs.scratch.late.Given as goal
+
+abbrev pub invariant-loop-e : goal.invariant-loop-e
+invariant-loop-e l = (k : ℕ) → k < l.e → get_or l.fixed k None ≡ None → l.now ≤ get_or l.high (suc k) 0

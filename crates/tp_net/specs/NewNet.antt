@@ -1,0 +1,8 @@
+-- What a new network is seen as.
+use Rattle.std.specs.Prelude.{ℕ, replicate, None}
+use Rattle.std.specs.FinMap.{empty}
+use Rattle.tp_bounds.specs.Situation.{Situation}
+
+-- a situation with no bound, at 0, in which nothing is dispatched
+abbrev pub new_situation : ℕ → ℕ → Situation
+new_situation events horizon = record { horizon = horizon; clock = 0; bounds = empty; fixed = replicate events None; proposed = None }

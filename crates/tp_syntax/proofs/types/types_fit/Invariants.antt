@@ -1,0 +1,7 @@
+use Rattle.std.proofs.Common.{◌≡◌, map, drop, length, string_bytes}
+use Rattle.std.specs.List.{list_any}
+use Rattle.tp_syntax.specs.Symbols.{types_view, at_or_below, types_fit}
+use Rattle.tp_syntax.proofs.types.types_fit.Given as goal
+
+abbrev pub invariant-loop-below : goal.invariant-loop-below
+invariant-loop-below l = types_fit (types_view l.types) (map string_bytes (drop l.below-index l.argument)) (map string_bytes l.parameter) ≡ types_fit (types_view l.types) (map string_bytes l.argument) (map string_bytes l.parameter)

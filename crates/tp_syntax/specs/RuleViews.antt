@@ -1,0 +1,13 @@
+-- What a `DurationRule` shows.
+use Rattle.std.specs.Prelude.{◌≡◌, ℕ, List}
+use Rattle.tp_syntax.specs.ExprViews.{expr_view}
+use Rattle.tp_syntax.specs.Effects.{Rule, all_rules, rule, rules_in}
+use Rattle.tp_syntax.specs.declared.rule.DurationRule.{DurationRule, fold-DurationRule}
+use Rattle.tp_syntax.specs.declared.rule.DurationRule.TheOpen.{DurationRule-F}
+
+abbrev pub rule_step : DurationRule-F Rule → Rule
+rule_step (DurationRule-F.And v) = all_rules (rules_in v.items)
+rule_step (DurationRule-F.Limit op x) = rule op (expr_view x)
+
+abbrev pub rule_view : DurationRule → Rule
+rule_view = fold-DurationRule Rule rule_step

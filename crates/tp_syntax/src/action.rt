@@ -1,0 +1,31 @@
+//! Actions.
+
+use crate::cond::Cond;
+use crate::effect::Effect;
+use crate::rule::DurationRule;
+use crate::symbols::Typed;
+use crate::timed::{TimedCond, TimedEffect};
+
+/// What an action needs and does.
+#[derive(Debug, PartialEq, Drop)]
+pub enum Body {
+    /// It happens at one moment.
+    Instant {
+        precondition: Cond,
+        effect: Effect,
+    },
+    /// It has a start, an end and the time between them.
+    Durative {
+        duration: DurationRule,
+        condition: TimedCond,
+        effect: TimedEffect,
+    },
+}
+
+/// An action with its parameters, whose names begin with '?'.
+#[derive(Debug, PartialEq, Drop)]
+pub struct Action {
+    pub name: String,
+    pub parameters: Vec<Typed>,
+    pub body: Body,
+}

@@ -1,0 +1,31 @@
+//! Lists of a known length.
+
+ghost use Rattle.std.specs.Prelude.{◌≡◌, option_map};
+ghost use Rattle.tp_text.specs.Trees.{shape_of};
+ghost use Rattle.tp_syntax.specs.Terms.{shapes};
+ghost use Rattle.tp_syntax.specs.Lists.{only, both};
+
+use tp_text::Tree;
+
+/// The one tree that stands there.
+#[tactic(auto, unfolding(crate::specs::Lists::only))]
+pub fn only<'t, 'a>(trees: &'t [Tree<'a>]) -> Option<&'t Tree<'a>>
+    ensures { option_map (λ t. shape_of t.now) result ≡ only (shapes trees.now) }
+{
+    let [tree, more @ ..] = trees else {
+        return None;
+    };
+    if more.is_empty() { Some(tree) } else { None }
+}
+
+/// The two trees that stand there.
+#[tactic(auto, unfolding(crate::specs::Lists::both))]
+pub fn both<'t, 'a>(trees: &'t [Tree<'a>]) -> Option<(&'t Tree<'a>, &'t Tree<'a>)>
+    ensures { option_map (λ p. (shape_of p.0.now, shape_of p.1.now)) result ≡ both (shapes trees.now) }
+{
+    let [first, rest @ ..] = trees else {
+        return None;
+    };
+    let second = only(rest)?;
+    Some((first, second))
+}

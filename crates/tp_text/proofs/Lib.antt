@@ -1,0 +1,9 @@
+pub mod OnMarks
+pub mod Pieces
+pub mod OnTrees
+pub mod OnTexts
+pub mod OnNumbers
+pub mod OnCovers
+pub mod NumberRows
+pub mod OnTimes
+pub mod OnDepth

@@ -1,0 +1,155 @@
+//! From tokens to a tree.
+
+ghost use Rattle.std.specs.Prelude.{◌≡◌, ◌+◌, ◌<◌, ◌≤◌, [], ◌∷◌, ◌++◌, length, map, IfOk, IfErr, OnOk};
+ghost use Rattle.tp_text.specs.Marks.{left, right, word};
+ghost use Rattle.tp_text.specs.Trees.{tree_written, trees_written, marks_of, HasNoTree, IsOneTree, IsOpen, built, CannotGoOn, kind_mark, shape_of, lefts, rights, HasRoom, IsDeep, IsRefused};
+ghost use Rattle.tp_text.specs.Shapes.{Spells, nesting};
+ghost use Rattle.tp_text.specs.Tokens.{mark_of, max_text};
+
+use crate::fault::TextFault;
+use crate::lexing::tokens;
+use crate::token::{Span, Token};
+use std::alloc::Global;
+use std::mem;
+
+const MAX_DEPTH: usize = 64;
+
+/// A word or a list, with its place in the text.
+#[derive(Debug, Drop)]
+pub enum Tree<'a> {
+    Word(Token<'a>),
+    List { items: Vec<Tree<'a>>, span: Span },
+}
+
+// A list that is open: what it has before the list inside it.
+#[derive(Drop)]
+struct Frame<'a> {
+    items: Vec<Tree<'a>>,
+    start: u32,
+}
+
+// What was read so far: the lists that are open, the outermost first, and what the innermost has.
+#[derive(Drop)]
+struct Builder<'a> {
+    outer: Vec<Frame<'a>>,
+    items: Vec<Tree<'a>>,
+}
+
+fn make_list<'a>(items: Vec<Tree<'a>>, span: Span) -> Tree<'a>
+    ensures { tree_written result ≡ left ∷ (trees_written items.entry.items ++ right ∷ []) }
+{
+    Tree::List { items, span }
+}
+
+fn make_word<'a>(token: Token<'a>) -> Tree<'a>
+    ensures { tree_written result ≡ word token.entry.text.now ∷ [] }
+{
+    Tree::Word(token)
+}
+
+enum Kind {
+    Left,
+    Right,
+    Word,
+}
+
+fn kind_of(token: &Token) -> Kind
+    ensures { mark_of token.now.text.now ≡ kind_mark result token.now.text.now }
+{
+    match token.text.as_bytes() {
+        [b'('] => Kind::Left,
+        [b')'] => Kind::Right,
+        _ => Kind::Word,
+    }
+}
+
+impl<'a> Builder<'a> {
+    fn begin(&mut self, alloc: Global, start: u32) -> Result<(), TextFault>
+        requires { IsOneTree self.old.outer.items self.old.items.items × IsOpen self.old.outer.items self.old.items.items }
+        ensures ok { OnOk result (built self.new ≡ built self.old ++ left ∷ []) }
+        ensures one { OnOk result (IsOneTree self.new.outer.items self.new.items.items) }
+        ensures room { OnOk result (lefts (built self.old) < rights (built self.old) + 64) }
+        ensures refused { IfErr result (λ e. CannotGoOn (built self.old) left e) }
+    {
+        if self.outer.len() >= MAX_DEPTH {
+            return Err(TextFault::Depth(start));
+        }
+        let items = mem::replace(&mut self.items, Vec::new(alloc));
+        self.outer.push(Frame { items, start })?;
+        Ok(())
+    }
+
+    fn end(&mut self, span: Span) -> Result<(), TextFault>
+        requires { IsOneTree self.old.outer.items self.old.items.items × IsOpen self.old.outer.items self.old.items.items }
+        ensures ok { OnOk result (built self.new ≡ built self.old ++ right ∷ []) }
+        ensures one { OnOk result (IsOneTree self.new.outer.items self.new.items.items) }
+        ensures refused { IfErr result (λ e. CannotGoOn (built self.old) right e) }
+    {
+        let Some(frame) = self.outer.pop() else {
+            return Err(TextFault::Extra(span.start));
+        };
+        let inside = mem::replace(&mut self.items, frame.items);
+        let start = frame.start;
+        let stop = span.stop;
+        self.items.push(make_list(inside, Span { start, stop }))?;
+        Ok(())
+    }
+
+    fn add(&mut self, token: Token<'a>) -> Result<(), TextFault>
+        requires { IsOneTree self.old.outer.items self.old.items.items × IsOpen self.old.outer.items self.old.items.items }
+        ensures ok { OnOk result (built self.new ≡ built self.old ++ word token.entry.text.now ∷ []) }
+        ensures one { OnOk result (IsOneTree self.new.outer.items self.new.items.items) }
+        ensures refused { IfErr result (λ e. CannotGoOn (built self.old) (word token.entry.text.now) e) }
+    {
+        self.items.push(make_word(token))?;
+        Ok(())
+    }
+
+    fn step(&mut self, alloc: Global, token: &Token<'a>) -> Result<(), TextFault>
+        requires { IsOneTree self.old.outer.items self.old.items.items }
+        ensures ok { OnOk result (built self.new ≡ built self.old ++ mark_of token.now.text.now ∷ []) }
+        ensures one { OnOk result (IsOneTree self.new.outer.items self.new.items.items) }
+        ensures room { OnOk result (HasRoom (built self.old) (mark_of token.now.text.now)) }
+        ensures refused { IfErr result (λ e. CannotGoOn (built self.old) (mark_of token.now.text.now) e) }
+    {
+        if self.outer.is_empty() && !self.items.is_empty() {
+            return Err(TextFault::Extra(token.span.start));
+        }
+        match kind_of(token) {
+            Kind::Left => self.begin(alloc, token.span.start),
+            Kind::Right => self.end(token.span),
+            Kind::Word => self.add(*token),
+        }
+    }
+}
+
+fn tree_of<'a>(alloc: Global, tokens: &[Token<'a>]) -> Result<Tree<'a>, TextFault>
+    ensures found { IfOk result (λ t. tree_written t ≡ marks_of tokens.now) }
+    ensures shallow { OnOk result (¬ (IsDeep (marks_of tokens.now))) }
+    ensures refused { IfErr result (λ e. HasNoTree (marks_of tokens.now) e) }
+{
+    let outer = Vec::new(alloc);
+    let items = Vec::new(alloc);
+    let mut builder = Builder { outer, items };
+    for token in tokens {
+        builder.step(alloc, token)?;
+    }
+    if let [frame, ..] = builder.outer.as_slice() {
+        return Err(TextFault::Unclosed(frame.start));
+    }
+    match builder.items.pop() {
+        Some(tree) => Ok(tree),
+        None => Err(TextFault::Empty),
+    }
+}
+
+/// The tree that the text spells.
+pub fn read_tree<'a>(alloc: Global, text: &'a str) -> Result<Tree<'a>, TextFault>
+    ensures found { IfOk result (λ t. Spells text.now (shape_of t)) }
+    ensures nested { IfOk result (λ t. nesting (shape_of t) ≤ 64) }
+    ensures limited { OnOk result (length text.now ≤ max_text) }
+    ensures refused { IfErr result (λ e. IsRefused text.now e) }
+{
+    let marks = tokens(alloc, text)?;
+    tree_of(alloc, &marks)
+}

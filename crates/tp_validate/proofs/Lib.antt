@@ -1,0 +1,10 @@
+pub mod Numbers
+pub mod OneHappening
+pub mod Quiet
+pub mod OneMoment
+pub mod Planning
+pub mod Runs
+pub mod Judging
+pub mod Lawful
+pub mod AtPlace
+pub mod Covering

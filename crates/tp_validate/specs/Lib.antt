@@ -1,0 +1,9 @@
+pub mod OfTask
+pub mod Places
+pub mod Tick
+pub mod Rules
+pub mod Found
+pub mod Verdict
+pub mod Validated
+pub mod Reached
+pub mod Answers

@@ -1,0 +1,53 @@
+-- The plans of a task: what their steps do, their run, and when they are valid.
+use Rattle.std.specs.Prelude.{◌≡◌, ℕ, suc, Bool, true, nat_lt, List, [], ◌∷◌, ◌++◌, length, slice_get, option_map, Option}
+use Rattle.std.specs.Option.{option_to_list}
+use Rattle.std.specs.List.{list_all}
+use Rattle.tp_text.specs.Scales.{scale_ticks}
+use Rattle.tp_ground.specs.declared.Body.{Body}
+use Rattle.tp_ground.specs.declared.task.Task.{Task}
+use Rattle.tp_ground.specs.State.{State}
+use Rattle.tp_ground.specs.Valid.{Planned, Placed, events, IsValid}
+use Rattle.tp_ground.specs.Verdict.{Fault, states, fault_at, last_moment}
+use Rattle.tp_happen.specs.declared.plans.Step.{Step}
+use Rattle.tp_happen.specs.Stored.{state_of, first_of}
+
+-- the actions of the steps are the task's
+abbrev pub IsOfTask : Task → List Step → Type 0
+IsOfTask t steps = list_all (λ s. nat_lt s.action.0 (length t.actions.items)) steps ≡ true
+
+-- a step with what its action does
+abbrev pub step_of : Step → Body → Planned
+step_of s b = record { moment = s.tick; duration = s.duration; body = b }
+
+-- the steps in order, each with what its action does
+abbrev pub planned : List Body → List Step → List Planned
+planned bodies [] = []
+planned bodies (s ∷ ss) = option_to_list (option_map (step_of s) (slice_get bodies s.action.0)) ++ planned bodies ss
+
+abbrev pub plan_of : Task → List Step → List Planned
+plan_of t steps = planned t.actions.items steps
+
+abbrev pub events_of : Task → List Step → List Placed
+events_of t steps = events (plan_of t steps)
+
+-- the ticks of a unit, and the state in which the task begins
+abbrev pub scale_of : Task → ℕ
+scale_of t = scale_ticks t.scale
+
+abbrev pub begin : Task → State
+begin t = state_of (first_of t)
+
+-- the state before each moment of the run, and after the last one
+abbrev pub state_at : Task → List Step → ℕ → State
+state_at t steps m = states (scale_of t) (begin t) (events_of t steps) m
+
+abbrev pub last_state : Task → List Step → State
+last_state t steps = state_at t steps (suc (last_moment (events_of t steps)))
+
+-- the fault at a moment, if there is one
+abbrev pub fault_in : Task → List Step → ℕ → Option Fault
+fault_in t steps m = fault_at (scale_of t) (begin t) (plan_of t steps) m
+
+-- the plan is valid for the task
+abbrev pub IsValidPlan : Task → List Step → Type 0
+IsValidPlan t steps = IsValid (scale_of t) (begin t) t.goal (plan_of t steps)

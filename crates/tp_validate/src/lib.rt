@@ -1,0 +1,15 @@
+//! The validator: whether a plan is valid for a task, and its first fault where it is not.
+//!
+//! - `placing`: the steps of a plan with what their actions do, and their events
+//! - `durations`: whether a step's duration is lawful
+//! - `ticks`: what happens at one tick, or the first fault there
+//! - `verdicts`: tick after tick, `validate`
+#![tactic(auto)]
+
+mod durations;
+mod placing;
+mod ticks;
+mod verdicts;
+
+pub use ticks::Fault;
+pub use verdicts::{ValidPlan, ValidateFault, Verdict, validate};

@@ -1,0 +1,176 @@
+//! The verdict on a plan, tick after tick.
+
+ghost use Rattle.std.specs.Prelude.{◌≡◌, ◌<◌, ◌≤◌, true, ◌⊎◌, length, IfOk, IfErr, IfSome, MatchOption};
+ghost use Rattle.std.specs.List.{All, list_all};
+ghost use Rattle.tp_ground.specs.Fits.{body_fits};
+ghost use Rattle.tp_ground.specs.Valid.{events};
+ghost use Rattle.tp_ground.specs.Verdict.{last_moment};
+ghost use Rattle.tp_happen.specs.Fault.{OnRange};
+ghost use Rattle.tp_happen.specs.Steps.{IsPlan};
+ghost use Rattle.tp_validate.specs.OfTask.{IsOfTask, plan_of, IsValidPlan};
+ghost use Rattle.tp_validate.specs.Verdict.{IsSound, PassesIn};
+ghost use Rattle.tp_validate.specs.Reached.{IsCovered, IsRan, PassesBy};
+ghost use Rattle.tp_validate.specs.Answers.{IsFirst, IsVerdict, IsFault};
+
+use crate::placing::{PlacedEvent, PlannedStep, placed_events, planned_steps};
+use crate::ticks::{Fault, Judged, judge_tick};
+use std::alloc::Global;
+use std::marker::Model;
+use thiserror::Error;
+use tp_ground::{Task, valid_without_fault};
+use tp_happen::{ApplyFault, Plan, State, Step, holds};
+
+/// A plan that is valid for its task, in whose run no number passes 10^15 in absolute value.
+#[derive(Drop)]
+pub struct ValidPlan<'t> {
+    task: &'t Task,
+    plan: Plan,
+}
+
+impl<'t> Model for ValidPlan<'t> {
+    ghost use Rattle.tp_ground.specs.contracts.task.Task as a_task;
+    ghost use Rattle.tp_happen.specs.contracts.plans.Step as a_step;
+    ghost use Rattle.std.specs.Coded.{codes};
+    ghost use Rattle.tp_validate.specs.Validated.{Validated};
+
+    ghost Value = { Validated };
+
+    ghost coded = { Prim.hlevel (codes, a_task.the_row.coded, a_step.the_row.coded) };
+
+    ghost use Rattle.tp_validate.specs.Verdict.{IsSound};
+
+    ghost view = { λ v. record { task = v.task.now; steps = v.plan } };
+
+    ghost invariant = { λ v. IsSound v.task.now v.plan };
+}
+
+impl<'t> ValidPlan<'t> {
+    /// The plan.
+    pub fn plan(&self) -> &Plan
+        ensures plan { result.now ≡ self.now.steps }
+        ensures sound { IsSound self.now.task self.now.steps }
+        ensures valid { IsValidPlan self.now.task self.now.steps }
+    {
+        valid_without_fault();
+        &self.plan
+    }
+
+    /// Its task.
+    pub fn task(&self) -> &'t Task
+        ensures task { result.now ≡ self.now.task }
+        ensures sound { IsSound self.now.task self.now.steps }
+    {
+        self.task
+    }
+}
+
+/// What is to be said of a plan: that it is valid, or the tick of its first fault and why.
+#[derive(Drop)]
+pub enum Verdict<'t> {
+    Valid(ValidPlan<'t>),
+    Invalid { plan: Plan, tick: u32, why: Fault },
+}
+
+/// What keeps a plan from being judged: want of memory, or a number past 10^15 in absolute value.
+#[derive(Debug, Drop, Error)]
+pub enum ValidateFault {
+    #[error("out of memory")]
+    Memory(Plan),
+    #[error("a number passed 10^15")]
+    Range(Plan),
+}
+
+/// How a run ends: with a fault at a moment, or with all events done before a moment.
+#[derive(Drop)]
+enum Ran {
+    Faulty(u32, Fault),
+    Done(u32, State),
+}
+
+// The earlier of a moment and another, if there is one.
+fn earlier(best: Option<u32>, moment: u32) -> u32
+    ensures least { result ≤ moment }
+    ensures best { IfSome best (λ m. result ≤ m) }
+    ensures either { MatchOption best (result ≡ moment) (λ m. (result ≡ m) ⊎ (result ≡ moment)) }
+{
+    match best {
+        Some(other) if other < moment => other,
+        _ => moment,
+    }
+}
+
+// The first moment with an event from a moment on.
+fn next_moment(placed: &[PlacedEvent<'_>], from: u32) -> Option<u32>
+    ensures covered { All (IsCovered from result) placed.now }
+    ensures within { IfSome result (λ m. (from ≤ m) × (m ≤ last_moment placed.now)) }
+{
+    let mut next = None;
+    for event in placed {
+        let moment = event.moment();
+        if from <= moment {
+            next = Some(earlier(next, moment));
+        }
+    }
+    next
+}
+
+// Carries out the events of a plan, up to the first fault or to the last of them.
+fn run(
+    alloc: Global,
+    task: &Task,
+    steps: &[PlannedStep<'_>],
+    placed: &[PlacedEvent<'_>],
+) -> Result<Ran, ApplyFault>
+    requires few { length steps.now ≤ 512 }
+    requires placed { placed.now ≡ events steps.now }
+    requires fits { list_all (λ p. body_fits (length task.now.initial_atoms.items) (length task.now.initial_numbers.items) p.body) steps.now ≡ true }
+    requires ends { last_moment placed.now ≤ 1000000000 }
+    ensures ran { IfOk result (IsRan task.now steps.now) }
+    ensures range { IfErr result (λ e. OnRange e (PassesBy task.now steps.now)) }
+{
+    let mut state = State::initial(alloc, task)?;
+    let mut from = 0;
+    while let Some(moment) = next_moment(placed, from) {
+        match judge_tick(alloc, &state, steps, placed, moment)? {
+            Judged::Faulty(why) => return Ok(Ran::Faulty(moment, why)),
+            Judged::Next(next) => state = next,
+        }
+        from = moment + 1;
+    }
+    Ok(Ran::Done(from, state))
+}
+
+// The tick of the first fault and why, None for a plan that has none.
+fn judge(alloc: Global, task: &Task, steps: &[Step]) -> Result<Option<(u32, Fault)>, ApplyFault>
+    requires { IsPlan steps.now }
+    ensures ok { IfOk result (λ r. MatchOption r (IsSound task.now steps.now) (λ f. IsFirst task.now steps.now f.0 f.1)) }
+    ensures range { IfErr result (λ e. OnRange e (PassesIn task.now steps.now)) }
+{
+    let planned = planned_steps(alloc, task, steps)?;
+    let placed = placed_events(alloc, &planned)?;
+    match run(alloc, task, &planned, &placed)? {
+        Ran::Faulty(tick, why) => Ok(Some((tick, why))),
+        Ran::Done(from, state) => {
+            if holds(&state, &task.goal)? {
+                Ok(None)
+            } else {
+                Ok(Some((from.saturating_sub(1), Fault::Goal)))
+            }
+        }
+    }
+}
+
+/// Judges a plan of a task: whether it is valid, or its first fault by tick, kind and number.
+pub fn validate<'t>(alloc: Global, task: &'t Task, plan: Plan) -> Result<Verdict<'t>, ValidateFault>
+    requires { IsOfTask task.now plan }
+    ensures verdict { IfOk result (IsVerdict task.now plan) }
+    ensures fault { IfErr result (IsFault task.now plan) }
+{
+    valid_without_fault();
+    match judge(alloc, task, plan.steps()) {
+        Ok(None) => Ok(Verdict::Valid(ValidPlan { task, plan })),
+        Ok(Some((tick, why))) => Ok(Verdict::Invalid { plan, tick, why }),
+        Err(ApplyFault::Memory) => Err(ValidateFault::Memory(plan)),
+        Err(ApplyFault::Range) => Err(ValidateFault::Range(plan)),
+    }
+}
