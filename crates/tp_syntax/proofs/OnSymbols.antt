@@ -2,7 +2,7 @@ use Rattle.std.proofs.Common.{◌≡◌, ℕ, List, [], ◌∷◌, ◌++◌, map
 use Rattle.std.specs.Str.{bytes_eq}
 use Rattle.tp_syntax.specs.Symbols.{Name, Declared, typed_view, types_of, scope_view}
 use Rattle.tp_syntax.specs.declared.symbols.Typed.{Typed}
-use Rattle.tp_syntax.specs.declared.symbols.Scope.{Scope, Inner, the_lemmas}
+use Rattle.tp_syntax.specs.declared.symbols.Scope.{Scope, Empty, Inner, the_lemmas}
 
 abbrev pub or_else : Option (List Name) → Option (List Name) → Option (List Name)
 or_else (Some ts) o = Some ts
@@ -25,3 +25,6 @@ in_scope n s vars outer o is found =
     ∙ ap (types_of n) (scope_Inner vars outer)
     ∙ types_of-append n (map typed_view vars.now) (scope_view outer.now)
     ∙ ap (λ p. or_else p (types_of n (scope_view outer.now))) (sym found)
+
+pub scope_Empty : scope_view Empty ≡ []
+scope_Empty = search (rules, the_lemmas)

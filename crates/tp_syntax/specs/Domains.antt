@@ -6,6 +6,7 @@ use Rattle.tp_text.specs.Shapes.{Shape, leaf, node, Shapes, no_shapes, shape, Sp
 use Rattle.tp_syntax.specs.Gives.{◌>>=◌, provided}
 use Rattle.tp_syntax.specs.Words.{is_word, lower, section_of}
 use Rattle.tp_syntax.specs.Terms.{name_of}
+use Rattle.tp_syntax.specs.Lists.{both, first_of}
 use Rattle.tp_syntax.specs.Symbols.{Name, Declared, Parent, Form, at_or_below, Symbols}
 use Rattle.tp_syntax.specs.TypedLists.{is_dash, typed_list, parameters_of, has_twice, are_declared}
 use Rattle.tp_syntax.specs.Actions.{Action, action_of}
@@ -62,11 +63,15 @@ types_in ss = typed_list Names ss >>= λ ds. types_from (map type_below ds)
 
 -- ---- the other sections
 
+-- a word that begins with ':'
+unfoldable pub requirement_at : Shape → Option Name
+requirement_at (node ss) = None
+requirement_at (leaf []) = None
+requirement_at (leaf (b ∷ w)) = provided (b == 58) (lower (b ∷ w))
+
 unfoldable pub requirements_in : Shapes → Option (List Name)
 requirements_in no_shapes = Some []
-requirements_in (shape (node ss) rest) = None
-requirements_in (shape (leaf []) rest) = None
-requirements_in (shape (leaf (b ∷ w)) rest) = if b == 58 then option_map (λ ns. lower (b ∷ w) ∷ ns) (requirements_in rest) else None
+requirements_in (shape s ss) = requirement_at s >>= λ n. option_map (λ ns. n ∷ ns) (requirements_in ss)
 
 unfoldable pub objects_in : List Parent → Shapes → Option (List Declared)
 objects_in types ss = typed_list Names ss >>= λ ds. provided (are_declared types ds) ds
@@ -160,10 +165,20 @@ domain_with n ps =
     provided (not (has_twice (map (λ a. a.name) actions)))
     (record { name = n; requirements = requirements; types = types; constants = constants; predicates = predicates; functions = functions; actions = actions })
 
+-- KIND and a name
+unfoldable pub kind_and_name : List ℕ → Shape → Shape → Option Name
+kind_and_name kind (leaf k) (leaf n) = if is_word kind k then name_of n else None
+kind_and_name kind _ _ = None
+
 -- (KIND NAME), as after 'define'
-abbrev pub named : List ℕ → Shape → Option Name
-named kind (node (shape (leaf k) (shape (leaf n) no_shapes))) = if is_word kind k then name_of n else None
-named kind _ = None
+unfoldable pub named : List ℕ → Shape → Option Name
+named kind (leaf w) = None
+named kind (node ss) = both ss >>= λ p. kind_and_name kind p.0 p.1
+
+-- what stands behind 'define': the first of it, and the rest
+unfoldable pub defined : Shape → Option (Shape × Shapes)
+defined (node (shape (leaf w) rest)) = if is_word (codes "define") w then first_of rest else None
+defined _ = None
 
 -- (define (domain NAME) SECTION ..)
 unfoldable pub domain_of : Shape → Option Domain

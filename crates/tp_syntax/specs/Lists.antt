@@ -12,3 +12,8 @@ only (shape s (shape t ss)) = None
 unfoldable pub both : Shapes → Option (Shape × Shape)
 both no_shapes = None
 both (shape s ss) = option_map (λ t. (s, t)) (only ss)
+
+-- the first tree, and those behind it
+unfoldable pub first_of : Shapes → Option (Shape × Shapes)
+first_of no_shapes = None
+first_of (shape s ss) = Some (s, ss)

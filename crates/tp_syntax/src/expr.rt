@@ -28,8 +28,8 @@ pub enum Expr {
     Duration,
 }
 
-// Whether a word begins as a number does.
-fn begins_number(word: &[u8]) -> bool {
+/// Whether a word begins as a number does.
+pub fn begins_number(word: &[u8]) -> bool {
     match word {
         [] => false,
         [first, rest @ ..] => {

@@ -1,6 +1,7 @@
 //! Why a domain or a problem could not be read.
 
 ghost use Rattle.std.specs.Prelude.{◌≡◌};
+ghost use Rattle.tp_syntax.specs.Readings.{of_text, of_tree};
 ghost use Rattle.tp_syntax.specs.declared.fault.SyntaxFault.TheVariants.{Memory};
 
 use std::alloc::{AllocError, AllocFailed};
@@ -59,6 +60,26 @@ pub enum SyntaxFault {
     /// The construct there is left out.
     #[error("the construct at {0} is left out")]
     LeftOut(u32, LeftOutPart),
+}
+
+/// A text that is no tree. Want of memory stays want of memory.
+pub fn text_fault(fault: TextFault) -> SyntaxFault
+    ensures { result ≡ of_text fault }
+{
+    match fault {
+        TextFault::Memory => SyntaxFault::Memory,
+        other => SyntaxFault::Text(other),
+    }
+}
+
+/// A fault of a reader of trees, of which none is of texts.
+pub fn tree_fault(fault: SyntaxFault) -> SyntaxFault
+    ensures { result ≡ of_tree fault }
+{
+    match fault {
+        SyntaxFault::Text(_) => SyntaxFault::Shape(0),
+        other => other,
+    }
 }
 
 impl From<AllocError> for SyntaxFault {

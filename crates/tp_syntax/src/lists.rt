@@ -3,7 +3,7 @@
 ghost use Rattle.std.specs.Prelude.{◌≡◌, option_map};
 ghost use Rattle.tp_text.specs.Trees.{shape_of};
 ghost use Rattle.tp_syntax.specs.Terms.{shapes};
-ghost use Rattle.tp_syntax.specs.Lists.{only, both};
+ghost use Rattle.tp_syntax.specs.Lists.{only, both, first_of};
 
 use tp_text::Tree;
 
@@ -28,4 +28,15 @@ pub fn both<'t, 'a>(trees: &'t [Tree<'a>]) -> Option<(&'t Tree<'a>, &'t Tree<'a>
     };
     let second = only(rest)?;
     Some((first, second))
+}
+
+/// The first tree, and those behind it.
+#[tactic(auto, unfolding(crate::specs::Lists::first_of))]
+pub fn first_of<'t, 'a>(trees: &'t [Tree<'a>]) -> Option<(&'t Tree<'a>, &'t [Tree<'a>])>
+    ensures { option_map (λ p. (shape_of p.0.now, shapes p.1.now)) result ≡ first_of (shapes trees.now) }
+{
+    let [tree, more @ ..] = trees else {
+        return None;
+    };
+    Some((tree, more))
 }

@@ -1,8 +1,33 @@
 //! Problems of a domain.
 
-use crate::cond::Cond;
-use crate::symbols::Typed;
+ghost use Rattle.std.specs.Prelude.{◌≡◌, ◌++◌, map, string_bytes, IfOk, IfErr};
+ghost use Rattle.std.specs.Option.{is_some};
+ghost use Rattle.tp_syntax.specs.TypedLists.{has_twice};
+ghost use Rattle.tp_text.specs.Trees.{shape_of};
+ghost use Rattle.tp_syntax.specs.Terms.{shapes};
+ghost use Rattle.tp_syntax.specs.Symbols.{typed_view, symbols_view};
+ghost use Rattle.tp_syntax.specs.Problems.{goal_in, new_objects, stated, symbols_with, problem_with, own_name, problem_of, SpellsProblem, IsRefusedProblem};
+ghost use Rattle.tp_syntax.specs.CondViews.{cond_view};
+ghost use Rattle.tp_syntax.specs.DomainViews.{initial_view, domain_view, problem_view};
+ghost use Rattle.tp_syntax.specs.ProblemViews.{part_view};
+ghost use Rattle.tp_syntax.specs.Gives.{Gives};
+
+use crate::clash::first_clash;
+use crate::cond::{Cond, read_cond};
+use crate::domain::Domain;
+use crate::fault::{SyntaxFault, text_fault, tree_fault};
+use crate::head::{defined, name_place, named, requirements_in};
+use crate::initial::initial_of;
+use crate::lists::{first_of, only};
+use crate::once::second_mention;
+use crate::problem_parts::{Part, body_of, find_section, once_each};
+use crate::symbols::{Scope, Symbols, Typed};
 use crate::term::Atom;
+use crate::typed::{item_place, objects_in, place};
+use crate::types::Types;
+use crate::words::ProblemSection;
+use std::alloc::{AllocError, Global};
+use tp_text::{Tree, read_tree};
 
 /// What a problem says of its initial state.
 #[derive(Debug, PartialEq, Drop)]
@@ -19,4 +44,203 @@ pub struct Problem {
     pub objects: Vec<Typed>,
     pub initial: Vec<Initial>,
     pub goal: Cond,
+}
+
+// Where the section of a kind begins.
+fn start_of(kind: ProblemSection, parts: &[Part], at: u32) -> u32 {
+    match find_section(kind, parts) {
+        Some(part) => part.start,
+        None => at,
+    }
+}
+
+#[tactic(auto, unfolding(crate::specs::Problems::goal_in))]
+fn goal_in(alloc: Global, symbols: &Symbols, trees: &[Tree], at: u32) -> Result<Cond, SyntaxFault>
+    ensures { Gives cond_view result (goal_in (symbols_view symbols.now) (shapes trees.now)) }
+{
+    let Some(tree) = only(trees) else {
+        return Err(SyntaxFault::Shape(at));
+    };
+    let none = Scope::Empty;
+    read_cond(alloc, tree, symbols, &none)
+}
+
+// The number of the first name among these, the constants first, that stands before, too.
+fn named_again(
+    alloc: Global,
+    constants: &[Typed],
+    objects: &[Typed],
+) -> Result<Option<usize>, AllocError>
+    ensures { IfOk result (λ o. is_some o ≡ has_twice (map (λ d. d.name) (map typed_view constants.now ++ map typed_view objects.now))) }
+{
+    let mut names = Vec::new(alloc);
+    for constant in constants {
+        names.push(constant.name.as_str())?;
+    }
+    for object in objects {
+        names.push(object.name.as_str())?;
+    }
+    second_mention(alloc, &names)
+}
+
+// The objects that the section at `at` declares, none of them a constant.
+#[tactic(auto, unfolding(crate::specs::Problems::new_objects))]
+fn new_objects(
+    alloc: Global,
+    domain: &Domain,
+    trees: &[Tree],
+    at: u32,
+) -> Result<Vec<Typed>, SyntaxFault>
+    ensures { Gives (λ v. map typed_view v.items) result (new_objects (domain_view domain.now) (shapes trees.now)) }
+{
+    let types = Types {
+        declared: &domain.types,
+    };
+    let objects = objects_in(alloc, &types, trees, at)?;
+    if let Some(number) = named_again(alloc, &domain.constants, &objects)? {
+        let object = number.saturating_sub(domain.constants.len());
+        return Err(SyntaxFault::Twice(item_place(trees, object, at)));
+    }
+    Ok(objects)
+}
+
+// Where an entry of `:init` names its atom or fluent.
+fn entry_place(trees: &[Tree], number: usize, at: u32) -> u32 {
+    let Some(tree) = trees.get(number) else {
+        return at;
+    };
+    let Tree::List { items, span } = tree else {
+        return at;
+    };
+    match items.as_slice() {
+        [_, atom, ..] => match atom {
+            Tree::List { span: inner, .. } => inner.start,
+            Tree::Word(_) => span.start,
+        },
+        _ => span.start,
+    }
+}
+
+// What holds at first, and what is to hold. The problem is at `at`.
+#[tactic(auto, unfolding(crate::specs::Problems::stated))]
+fn stated(
+    alloc: Global,
+    symbols: &Symbols,
+    parts: &[Part],
+    at: u32,
+) -> Result<(Vec<Initial>, Cond), SyntaxFault>
+    ensures { Gives (λ r. (map initial_view r.0.items, cond_view r.1)) result (stated (symbols_view symbols.now) (map part_view parts.now)) }
+{
+    let entries = body_of(ProblemSection::Init, parts);
+    let entries_at = start_of(ProblemSection::Init, parts, at);
+    let initial = initial_of(alloc, symbols, entries, entries_at)?;
+    let goals = body_of(ProblemSection::Goal, parts);
+    let goals_at = start_of(ProblemSection::Goal, parts, at);
+    let goal = goal_in(alloc, symbols, goals, goals_at)?;
+    if let Some(number) = first_clash(alloc, &initial)? {
+        return Err(SyntaxFault::Twice(entry_place(entries, number, at)));
+    }
+    Ok((initial, goal))
+}
+
+// What a domain declares, and these objects.
+fn symbols_with<'d>(domain: &'d Domain, objects: &'d [Typed]) -> Symbols<'d>
+    ensures { symbols_view result ≡ symbols_with (domain_view domain.now) (map typed_view objects.now) }
+{
+    Symbols {
+        types: Types {
+            declared: &domain.types,
+        },
+        constants: &domain.constants,
+        objects,
+        predicates: &domain.predicates,
+        functions: &domain.functions,
+    }
+}
+
+fn stated_of(
+    alloc: Global,
+    domain: &Domain,
+    objects: &[Typed],
+    parts: &[Part],
+    at: u32,
+) -> Result<(Vec<Initial>, Cond), SyntaxFault>
+    ensures { Gives (λ r. (map initial_view r.0.items, cond_view r.1)) result (stated (symbols_with (domain_view domain.now) (map typed_view objects.now)) (map part_view parts.now)) }
+{
+    let symbols = symbols_with(domain, objects);
+    stated(alloc, &symbols, parts, at)
+}
+
+#[tactic(auto, unfolding(crate::specs::Problems::problem_with))]
+fn problem_with(
+    alloc: Global,
+    domain: &Domain,
+    name: String,
+    parts: &[Part],
+    at: u32,
+) -> Result<Problem, SyntaxFault>
+    ensures { Gives problem_view result (problem_with (domain_view domain.now) (string_bytes name) (map part_view parts.now)) }
+{
+    let words = body_of(ProblemSection::Requirements, parts);
+    let words_at = start_of(ProblemSection::Requirements, parts, at);
+    let _words = requirements_in(alloc, words, words_at)?;
+    let listed = body_of(ProblemSection::Objects, parts);
+    let listed_at = start_of(ProblemSection::Objects, parts, at);
+    let objects = new_objects(alloc, domain, listed, listed_at)?;
+    let (initial, goal) = stated_of(alloc, domain, &objects, parts, at)?;
+    Ok(Problem {
+        name,
+        objects,
+        initial,
+        goal,
+    })
+}
+
+// The problem's name, beside that of its domain.
+#[tactic(auto, unfolding(crate::specs::Problems::own_name))]
+fn own_name(
+    alloc: Global,
+    domain: &Domain,
+    head: &Tree,
+    of: &Tree,
+    at: u32,
+) -> Result<String, SyntaxFault>
+    ensures { Gives (λ s. string_bytes s) result (own_name (domain_view domain.now) (shape_of head.now) (shape_of of.now)) }
+{
+    let name = named(alloc, "problem", head, at)?;
+    let owner = named(alloc, ":domain", of, at)?;
+    if owner.as_str() != domain.name.as_str() {
+        return Err(SyntaxFault::Unknown(name_place(of)));
+    }
+    Ok(name)
+}
+
+#[tactic(auto, unfolding(crate::specs::Problems::problem_of))]
+fn problem_of(alloc: Global, domain: &Domain, tree: &Tree) -> Result<Problem, SyntaxFault>
+    ensures { Gives problem_view result (problem_of (domain_view domain.now) (shape_of tree.now)) }
+{
+    let at = place(tree);
+    let Some((head, more)) = defined(tree) else {
+        return Err(SyntaxFault::Shape(at));
+    };
+    let Some((of, sections)) = first_of(more) else {
+        return Err(SyntaxFault::Shape(at));
+    };
+    let name = own_name(alloc, domain, head, of, at)?;
+    let parts = once_each(alloc, sections, at)?;
+    problem_with(alloc, domain, name, &parts, at)
+}
+
+/// The problem of this domain that the text spells.
+pub fn read_problem(alloc: Global, text: &str, domain: &Domain) -> Result<Problem, SyntaxFault>
+    ensures found { IfOk result (λ p. SpellsProblem (domain_view domain.now) text.now (problem_view p)) }
+    ensures refused { IfErr result (λ e. IsRefusedProblem (domain_view domain.now) text.now e) }
+{
+    match read_tree(alloc, text) {
+        Ok(tree) => match problem_of(alloc, domain, &tree) {
+            Ok(problem) => Ok(problem),
+            Err(fault) => Err(tree_fault(fault)),
+        },
+        Err(fault) => Err(text_fault(fault)),
+    }
 }

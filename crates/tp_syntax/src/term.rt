@@ -12,20 +12,21 @@ use std::alloc::{AllocError, Global};
 use tp_text::Tree;
 
 /// An object by its name, or a variable.
-#[derive(Debug, PartialEq, Drop)]
+#[derive(Debug, PartialEq, Eq, Hash, Drop)]
 pub enum Term {
     Object(String),
     Variable(String),
 }
 
 /// A name with its arguments.
-#[derive(Debug, PartialEq, Drop)]
+#[derive(Debug, PartialEq, Eq, Hash, Drop)]
 pub struct Atom {
     pub name: String,
     pub terms: Vec<Term>,
 }
 
-fn lowered(alloc: Global, word: &str) -> Result<String, AllocError>
+/// The word in lower case.
+pub fn lowered(alloc: Global, word: &str) -> Result<String, AllocError>
     ensures { IfOk result (λ s. string_bytes s ≡ lower word.now) }
 {
     let mut name = String::from_str(alloc, word)?;

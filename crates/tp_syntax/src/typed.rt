@@ -4,15 +4,18 @@ ghost use Rattle.std.specs.Prelude.{◌≡◌, ◌∷◌, [], ◌++◌, map, OnO
 ghost use Rattle.tp_text.specs.Trees.{shape_of};
 ghost use Rattle.tp_syntax.specs.Terms.{shapes};
 ghost use Rattle.tp_syntax.specs.Symbols.{typed_view, types_view};
-ghost use Rattle.tp_syntax.specs.Gives.{Gives};
+ghost use Rattle.std.specs.Option.{is_some};
+ghost use Rattle.tp_syntax.specs.Gives.{Gives, provided};
+ghost use Rattle.tp_syntax.specs.Domains.{objects_in};
 ghost use Rattle.tp_syntax.specs.TypedLists.{is_dash, given, item_at, type_at, typed_list, name_at, names_of, is_either, either_of, is_type, has_twice, are_declared, parameters_of, parameters_at};
 ghost use Rattle.std.specs.List.{list_all, list_any};
 ghost use Rattle.std.specs.Str.{bytes_eq};
 
 use crate::fault::{LeftOutPart, SyntaxFault};
+use crate::once::second_mention;
 use crate::symbols::Typed;
 use crate::term::{name_of, variable_of};
-use crate::types::{Types, are_types};
+use crate::types::{Types, are_types, is_type};
 use crate::words::{Items, is_word};
 use std::alloc::{AllocError, Global};
 use tp_text::Tree;
@@ -26,7 +29,7 @@ pub fn place(tree: &Tree) -> u32 {
 }
 
 #[tactic(auto, unfolding(crate::specs::TypedLists::is_dash))]
-fn is_dash(tree: &Tree) -> bool
+pub fn is_dash(tree: &Tree) -> bool
     ensures { result ≡ is_dash (shape_of tree.now) }
 {
     match tree {
@@ -36,34 +39,34 @@ fn is_dash(tree: &Tree) -> bool
 }
 
 #[tactic(auto, unfolding(crate::specs::TypedLists::item_at))]
-fn item_at(alloc: Global, items: Items, tree: &Tree) -> Result<String, SyntaxFault>
+fn item_at(alloc: Global, items: Items, tree: &Tree, at: u32) -> Result<String, SyntaxFault>
     ensures { Gives (λ s. string_bytes s) result (item_at items (shape_of tree.now)) }
 {
     match tree {
         Tree::Word(token) => match items {
-            Items::Variables => variable_of(alloc, token.text, token.span.start),
-            Items::Names => name_of(alloc, token.text, token.span.start),
+            Items::Variables => variable_of(alloc, token.text, at),
+            Items::Names => name_of(alloc, token.text, at),
         },
-        Tree::List { span, .. } => Err(SyntaxFault::Shape(span.start)),
+        Tree::List { .. } => Err(SyntaxFault::Shape(at)),
     }
 }
 
 #[tactic(auto, unfolding(crate::specs::TypedLists::name_at))]
-fn name_at(alloc: Global, tree: &Tree) -> Result<String, SyntaxFault>
+fn name_at(alloc: Global, tree: &Tree, at: u32) -> Result<String, SyntaxFault>
     ensures { Gives (λ s. string_bytes s) result (name_at (shape_of tree.now)) }
 {
     match tree {
-        Tree::Word(token) => name_of(alloc, token.text, token.span.start),
-        Tree::List { span, .. } => Err(SyntaxFault::Shape(span.start)),
+        Tree::Word(token) => name_of(alloc, token.text, at),
+        Tree::List { .. } => Err(SyntaxFault::Shape(at)),
     }
 }
 
-fn names_of(alloc: Global, trees: &[Tree]) -> Result<Vec<String>, SyntaxFault>
+fn names_of(alloc: Global, trees: &[Tree], at: u32) -> Result<Vec<String>, SyntaxFault>
     ensures { Gives (λ v. map string_bytes v.items) result (names_of (shapes trees.now)) }
 {
     let mut names = Vec::new(alloc);
     for tree in trees {
-        names.push(name_at(alloc, tree)?)?;
+        names.push(name_at(alloc, tree, at)?)?;
     }
     Ok(names)
 }
@@ -88,7 +91,7 @@ fn either_of(alloc: Global, trees: &[Tree], at: u32) -> Result<Vec<String>, Synt
     if !is_either(first) {
         return Err(SyntaxFault::Shape(at));
     }
-    let names = names_of(alloc, types)?;
+    let names = names_of(alloc, types, at)?;
     if names.is_empty() {
         return Err(SyntaxFault::Shape(at));
     }
@@ -96,12 +99,12 @@ fn either_of(alloc: Global, trees: &[Tree], at: u32) -> Result<Vec<String>, Synt
 }
 
 #[tactic(auto, unfolding(crate::specs::TypedLists::type_at))]
-fn type_at(alloc: Global, items: Items, tree: &Tree) -> Result<Vec<String>, SyntaxFault>
+fn type_at(alloc: Global, items: Items, tree: &Tree, at: u32) -> Result<Vec<String>, SyntaxFault>
     ensures { Gives (λ v. map string_bytes v.items) result (type_at items (shape_of tree.now)) }
 {
     match tree {
         Tree::Word(token) => {
-            let name = name_of(alloc, token.text, token.span.start)?;
+            let name = name_of(alloc, token.text, at)?;
             let mut types = Vec::new(alloc);
             types.push(name)?;
             Ok(types)
@@ -152,8 +155,13 @@ fn give(
     Ok(())
 }
 
-/// The items of a typed list, with their types.
-pub fn typed_list(alloc: Global, items: Items, trees: &[Tree]) -> Result<Vec<Typed>, SyntaxFault>
+/// The items of a typed list, with their types. The list that has these members is at `at`.
+pub fn typed_list(
+    alloc: Global,
+    items: Items,
+    trees: &[Tree],
+    at: u32,
+) -> Result<Vec<Typed>, SyntaxFault>
     ensures { Gives (λ v. map typed_view v.items) result (typed_list items (shapes trees.now)) }
 {
     let mut done = Vec::new(alloc);
@@ -162,17 +170,17 @@ pub fn typed_list(alloc: Global, items: Items, trees: &[Tree]) -> Result<Vec<Typ
     'runs: while let [first, others @ ..] = rest {
         if is_dash(first) {
             if waiting.is_empty() {
-                return Err(SyntaxFault::Shape(place(first)));
+                return Err(SyntaxFault::Shape(at));
             }
             let [kind, more @ ..] = others else {
-                return Err(SyntaxFault::Shape(place(first)));
+                return Err(SyntaxFault::Shape(at));
             };
-            let types = type_at(alloc, items, kind)?;
+            let types = type_at(alloc, items, kind, at)?;
             give(alloc, &mut done, &waiting, &types)?;
             waiting = Vec::new(alloc);
             rest = more;
         } else {
-            waiting.push(item_at(alloc, items, first)?)?;
+            waiting.push(item_at(alloc, items, first, at)?)?;
             rest = others;
         }
     }
@@ -192,34 +200,113 @@ fn have_types(types: &Types, items: &[Typed]) -> bool
     true
 }
 
-fn has_name(name: &str, items: &[Typed]) -> bool
-    ensures { result ≡ list_any (bytes_eq name.now) (map (λ d. d.name) (map typed_view items.now)) }
+// The number of the first item whose name stands before it, too.
+fn named_again(alloc: Global, items: &[Typed]) -> Result<Option<usize>, AllocError>
+    ensures { IfOk result (λ o. is_some o ≡ has_twice (map (λ d. d.name) (map typed_view items.now))) }
 {
+    let mut names = Vec::new(alloc);
     for item in items {
-        if name == item.name.as_str() {
-            return true;
-        }
+        names.push(item.name.as_str())?;
     }
-    false
+    second_mention(alloc, &names)
 }
 
-fn has_twice(items: &[Typed]) -> bool
-    ensures { result ≡ has_twice (map (λ d. d.name) (map typed_view items.now)) }
-{
-    let mut rest = items;
-    'items: while let [first, others @ ..] = rest {
-        if has_name(first.name.as_str(), others) {
-            return true;
+/// Where an item of a typed list stands, by its number.
+pub fn item_place(trees: &[Tree], number: usize, at: u32) -> u32 {
+    let mut left = number;
+    let mut after_dash = false;
+    for tree in trees {
+        if after_dash {
+            after_dash = false;
+        } else if is_dash(tree) {
+            after_dash = true;
+        } else if left == 0 {
+            return place(tree);
+        } else {
+            left -= 1;
         }
-        rest = others;
     }
-    false
+    at
 }
 
-fn are_declared(types: &Types, items: &[Typed]) -> bool
-    ensures { result ≡ are_declared (types_view types.now) (map typed_view items.now) }
+// What stands as the type of an item, by the item's number.
+fn type_tree<'t, 'a>(trees: &'t [Tree<'a>], number: usize) -> Option<&'t Tree<'a>> {
+    let mut left = number;
+    let mut passed = false;
+    let mut after_dash = false;
+    for tree in trees {
+        if after_dash {
+            if passed {
+                return Some(tree);
+            }
+            after_dash = false;
+        } else if is_dash(tree) {
+            after_dash = true;
+        } else if left == 0 {
+            passed = true;
+        } else {
+            left -= 1;
+        }
+    }
+    None
+}
+
+// Where a type stands, by its number among those of `(either T ..)`.
+fn type_place(tree: &Tree, number: usize) -> u32 {
+    match tree {
+        Tree::Word(token) => token.span.start,
+        Tree::List { items, span } => match items.as_slice() {
+            [] => span.start,
+            [_, types @ ..] => types.get(number).map_or(span.start, |kind| place(kind)),
+        },
+    }
+}
+
+// The first type of these that is not declared, in the tree that names them.
+fn undeclared(types: &Types, names: &[String], tree: Option<&Tree>, at: u32) -> u32 {
+    let Some(tree) = tree else {
+        return at;
+    };
+    for (number, name) in names.iter().enumerate() {
+        if !is_type(types, name.as_str()) {
+            return type_place(tree, number);
+        }
+    }
+    at
+}
+
+// What is wrong with items of which one has a type that is not declared.
+fn undeclared_type(types: &Types, items: &[Typed], trees: &[Tree], at: u32) -> SyntaxFault {
+    for (number, item) in items.iter().enumerate() {
+        if !are_types(types, &item.types) {
+            return SyntaxFault::Unknown(undeclared(
+                types,
+                &item.types,
+                type_tree(trees, number),
+                at,
+            ));
+        }
+    }
+    SyntaxFault::Unknown(at)
+}
+
+// Items that were read from these trees, each named once and of declared types.
+fn declared(
+    alloc: Global,
+    types: &Types,
+    items: Vec<Typed>,
+    trees: &[Tree],
+    at: u32,
+) -> Result<Vec<Typed>, SyntaxFault>
+    ensures { let ds = map typed_view items.items in Gives (λ v. map typed_view v.items) result (provided (are_declared (types_view types.now) ds) ds) }
 {
-    !has_twice(items) && have_types(types, items)
+    if let Some(number) = named_again(alloc, &items)? {
+        return Err(SyntaxFault::Twice(item_place(trees, number, at)));
+    }
+    if !have_types(types, &items) {
+        return Err(undeclared_type(types, &items, trees, at));
+    }
+    Ok(items)
 }
 
 fn has_duration(items: &[Typed]) -> bool
@@ -233,6 +320,20 @@ fn has_duration(items: &[Typed]) -> bool
     false
 }
 
+/// Names, each once and of declared types. The list that has these members is at `at`.
+#[tactic(auto, unfolding(crate::specs::Domains::objects_in))]
+pub fn objects_in(
+    alloc: Global,
+    types: &Types,
+    trees: &[Tree],
+    at: u32,
+) -> Result<Vec<Typed>, SyntaxFault>
+    ensures { Gives (λ v. map typed_view v.items) result (objects_in (types_view types.now) (shapes trees.now)) }
+{
+    let items = typed_list(alloc, Items::Names, trees, at)?;
+    declared(alloc, types, items, trees, at)
+}
+
 /// Variables, each once and of declared types.
 #[tactic(auto, unfolding(crate::specs::TypedLists::parameters_of))]
 pub fn parameters_of(
@@ -243,12 +344,11 @@ pub fn parameters_of(
 ) -> Result<Vec<Typed>, SyntaxFault>
     ensures { Gives (λ v. map typed_view v.items) result (parameters_of (types_view types.now) (shapes trees.now)) }
 {
-    let vars = typed_list(alloc, Items::Variables, trees)?;
-    if are_declared(types, &vars) && !has_duration(&vars) {
-        Ok(vars)
-    } else {
-        Err(SyntaxFault::Unknown(at))
+    let vars = typed_list(alloc, Items::Variables, trees, at)?;
+    if has_duration(&vars) {
+        return Err(SyntaxFault::Shape(at));
     }
+    declared(alloc, types, vars, trees, at)
 }
 
 pub fn parameters_at(alloc: Global, types: &Types, tree: &Tree) -> Result<Vec<Typed>, SyntaxFault>

@@ -18,15 +18,33 @@ pub struct Types<'a> {
     pub declared: &'a [TypeName],
 }
 
-fn parent_of<'a>(name: &str, types: &Types<'a>) -> Option<&'a str>
-    ensures { option_map (λ p. p.now) result ≡ parent_of name.now (types_view types.now) }
+fn parent_of<'a>(name: &str, types: &Types<'a>) -> Option<&'a String>
+    ensures { option_map (λ p. string_bytes p.now) result ≡ parent_of name.now (types_view types.now) }
 {
     for declared in types.declared {
         if declared.name.as_str() == name {
-            return Some(declared.parent.as_str());
+            return Some(&declared.parent);
         }
     }
     None
+}
+
+fn climbs(types: &Types, steps: usize, below: &String, above: &str) -> bool
+    ensures { result ≡ at_or_below (types_view types.now) steps (string_bytes below.now) above.now }
+{
+    let mut current = below;
+    let mut left = steps;
+    'up: while left > 0 {
+        if current.as_str() == above {
+            return true;
+        }
+        let Some(parent) = parent_of(current.as_str(), types) else {
+            return false;
+        };
+        current = parent;
+        left -= 1;
+    }
+    current.as_str() == above
 }
 
 // Whether a type is another, or stands below it in at most so many steps.
@@ -41,7 +59,7 @@ fn at_or_below(types: &Types, steps: usize, below: &str, above: &str) -> bool
     }
     match parent_of(below, types) {
         None => false,
-        Some(parent) => at_or_below(types, steps - 1, parent, above),
+        Some(parent) => climbs(types, steps - 1, parent, above),
     }
 }
 
@@ -69,7 +87,8 @@ pub fn types_fit(types: &Types, argument: &[String], parameter: &[String]) -> bo
     true
 }
 
-fn is_type(types: &Types, name: &str) -> bool
+/// Whether a type is declared.
+pub fn is_type(types: &Types, name: &str) -> bool
     ensures { result ≡ is_type (types_view types.now) name.now }
 {
     name == "object" || parent_of(name, types).is_some()

@@ -1,7 +1,7 @@
 //! The words that forms begin with.
 
 ghost use Rattle.std.specs.Prelude.{◌≡◌, codes};
-ghost use Rattle.tp_syntax.specs.Words.{is_word, IsLower, operator_of, head_of, change_of, joint_of, rule_form_of, mark_of};
+ghost use Rattle.tp_syntax.specs.Words.{is_word, IsLower, operator_of, head_of, change_of, joint_of, rule_form_of, mark_of, key_of, section_of, problem_section_of};
 
 /// Of conditions.
 #[derive(Clone, Copy, Debug, PartialEq, Eq)]
@@ -260,6 +260,69 @@ pub fn mark_of(word: &str, moment: &str) -> Option<Mark>
         } else {
             None
         }
+    } else {
+        None
+    }
+}
+
+#[tactic(auto, unfolding(crate::specs::Words::key_of))]
+pub fn key_of(word: &str) -> Option<Key>
+    ensures { result ≡ key_of word.now }
+{
+    if is_word(word, ":parameters") {
+        Some(Key::Parameters)
+    } else if is_word(word, ":precondition") {
+        Some(Key::Precondition)
+    } else if is_word(word, ":duration") {
+        Some(Key::Duration)
+    } else if is_word(word, ":condition") {
+        Some(Key::Condition)
+    } else if is_word(word, ":effect") {
+        Some(Key::Effect)
+    } else {
+        None
+    }
+}
+
+#[tactic(auto, unfolding(crate::specs::Words::section_of))]
+pub fn section_of(word: &str) -> Option<Section>
+    ensures { result ≡ section_of word.now }
+{
+    if is_word(word, ":requirements") {
+        Some(Section::Requirements)
+    } else if is_word(word, ":types") {
+        Some(Section::Types)
+    } else if is_word(word, ":constants") {
+        Some(Section::Constants)
+    } else if is_word(word, ":predicates") {
+        Some(Section::Predicates)
+    } else if is_word(word, ":functions") {
+        Some(Section::Functions)
+    } else if is_word(word, ":action") {
+        Some(Section::Action)
+    } else if is_word(word, ":durative-action") {
+        Some(Section::DurativeAction)
+    } else {
+        None
+    }
+}
+
+#[tactic(auto, unfolding(crate::specs::Words::problem_section_of))]
+pub fn problem_section_of(word: &str) -> Option<ProblemSection>
+    ensures { result ≡ problem_section_of word.now }
+{
+    if is_word(word, ":requirements") {
+        Some(ProblemSection::Requirements)
+    } else if is_word(word, ":objects") {
+        Some(ProblemSection::Objects)
+    } else if is_word(word, ":init") {
+        Some(ProblemSection::Init)
+    } else if is_word(word, ":goal") {
+        Some(ProblemSection::Goal)
+    } else if is_word(word, ":metric") {
+        Some(ProblemSection::Metric)
+    } else if is_word(word, ":length") {
+        Some(ProblemSection::Length)
     } else {
         None
     }

@@ -7,3 +7,4 @@ pub mod OnCovers
 pub mod NumberRows
 pub mod OnTimes
 pub mod OnDepth
+pub mod OnWords

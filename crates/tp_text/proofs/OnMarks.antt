@@ -17,12 +17,12 @@ utf8_text P Q bytes (Ok s) ascii h = refl
 utf8_text P Q bytes (Err e) ascii h = absurd (h.0 (IsUtf8-from_ascii bytes ascii))
 
 -- one byte of a comment, by whether it is an LF
-comment_step : (at b : ℕ) (bs : List ℕ) (t : Bool) → eqb b 10 ≡ t → after_comment at (b ∷ bs) ≡ elim t [ true ↦ placed (at + 1) bs | false ↦ after_comment (at + 1) bs ]
+pub comment_step : (at b : ℕ) (bs : List ℕ) (t : Bool) → eqb b 10 ≡ t → after_comment at (b ∷ bs) ≡ elim t [ true ↦ placed (at + 1) bs | false ↦ after_comment (at + 1) bs ]
 unfolding placed
 comment_step at b bs t e = ap (λ (v : Bool). elim v as (λ w. Marks) [ true ↦ placed (at + 1) bs | false ↦ after_comment (at + 1) bs ]) e
 
 -- one byte between words and comments, by its class
-abbrev by_class : Class → ℕ → ℕ → List ℕ → Marks
+abbrev pub by_class : Class → ℕ → ℕ → List ℕ → Marks
 by_class k at b bs = elim k as (λ w. Marks) [
   | Blank ↦ placed (at + 1) bs
   | Semicolon ↦ after_comment (at + 1) bs

@@ -7,7 +7,7 @@ use Rattle.tp_text.specs.declared.lexing.Class.TheVariants.{Blank, Opening, Clos
 use Rattle.tp_text.proofs.OnMarks.{placed_step, run_is_word}
 
 -- from any place on the bytes have these marks
-abbrev Reads : List ℕ → List Mark → Type 0
+abbrev pub Reads : List ℕ → List Mark → Type 0
 Reads bytes ms = (at : ℕ) → (ps : List Placed) × (placed at bytes ≡ Ok ps) × (marks_only ps ≡ ms)
 
 opening : class 40 ≡ Opening
@@ -22,26 +22,40 @@ space : class 32 ≡ Blank
 unfolding class
 space = refl
 
-none : Reads [] []
+pub none : Reads [] []
 unfolding placed
 none at = ([], refl, refl)
 
-reads_left : (bytes : List ℕ) (ms : List Mark) → Reads bytes ms → Reads (40 ∷ bytes) (left ∷ ms)
+pub reads_left : (bytes : List ℕ) (ms : List Mark) → Reads bytes ms → Reads (40 ∷ bytes) (left ∷ ms)
 reads_left bytes ms h at =
     let r = h (at + 1) in
     (record { mark = left; start = at; stop = at + 1 } ∷ r.0, placed_step at 40 bytes Opening opening ∙ ap (before (record { mark = left; start = at; stop = at + 1 })) r.1, ap (λ (ns : List Mark). left ∷ ns) r.2)
 
-reads_right : (bytes : List ℕ) (ms : List Mark) → Reads bytes ms → Reads (41 ∷ bytes) (right ∷ ms)
+pub reads_right : (bytes : List ℕ) (ms : List Mark) → Reads bytes ms → Reads (41 ∷ bytes) (right ∷ ms)
 reads_right bytes ms h at =
     let r = h (at + 1) in
     (record { mark = right; start = at; stop = at + 1 } ∷ r.0, placed_step at 41 bytes Closing closing ∙ ap (before (record { mark = right; start = at; stop = at + 1 })) r.1, ap (λ (ns : List Mark). right ∷ ns) r.2)
 
-reads_space : (bytes : List ℕ) (ms : List Mark) → Reads bytes ms → Reads (32 ∷ bytes) ms
+pub reads_space : (bytes : List ℕ) (ms : List Mark) → Reads bytes ms → Reads (32 ∷ bytes) ms
 reads_space bytes ms h at =
     let r = h (at + 1) in
     (r.0, placed_step at 32 bytes Blank space ∙ r.1, r.2)
 
-reads_word : (w bytes : List ℕ) (ms : List Mark) → IsWord w → begins_word bytes ≡ false → Reads bytes ms → Reads (w ++ bytes) (word w ∷ ms)
+-- LF is a blank too
+line_end : class 10 ≡ Blank
+unfolding class
+line_end = refl
+
+pub reads_line_end : (bytes : List ℕ) (ms : List Mark) → Reads bytes ms → Reads (10 ∷ bytes) ms
+reads_line_end bytes ms h at =
+    let r = h (at + 1) in
+    (r.0, placed_step at 10 bytes Blank line_end ∙ r.1, r.2)
+
+pub line_end_ends : (bytes : List ℕ) → begins_word (10 ∷ bytes) ≡ false
+unfolding class
+line_end_ends bytes = refl
+
+pub reads_word : (w bytes : List ℕ) (ms : List Mark) → IsWord w → begins_word bytes ≡ false → Reads bytes ms → Reads (w ++ bytes) (word w ∷ ms)
 reads_word [] bytes ms is ends h = absurd is
 reads_word (b ∷ w) bytes ms is ends h = λ at.
     let r = h (at + suc (length w)) in
@@ -55,7 +69,7 @@ ends_member no_shapes rest = refl
 ends_member (shape s ss) rest = refl
 
 mutual
-  reads_shape : (s : Shape) (bytes : List ℕ) (ms : List Mark) → HasWords s → begins_word bytes ≡ false → Reads bytes ms → Reads (shape_text s ++ bytes) (written s ++ ms)
+  pub reads_shape : (s : Shape) (bytes : List ℕ) (ms : List Mark) → HasWords s → begins_word bytes ≡ false → Reads bytes ms → Reads (shape_text s ++ bytes) (written s ++ ms)
   reads_shape (leaf w) bytes ms words ends h = reads_word w bytes ms words ends h
   reads_shape (node ss) bytes ms words ends h =
       subst (λ (t : List ℕ). Reads (40 ∷ t) (left ∷ (all_written ss ++ right ∷ [] ++ ms))) (sym (append_assoc (first_text ss) (41 ∷ []) bytes))

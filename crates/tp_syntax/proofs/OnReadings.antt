@@ -1,0 +1,36 @@
+-- What the refusal of a text's tree says of the text.
+use Rattle.std.proofs.Common.{◌≡◌, ℕ, List, Option, Some, None, sym, ap, ◌∙◌}
+use Rattle.tp_text.specs.Shapes.{Shape, Spells}
+use Rattle.tp_text.specs.Trees.{IsRefused}
+use Rattle.tp_text.specs.declared.fault.TextFault.{TextFault}
+use Rattle.tp_text.specs.declared.fault.TextFault.TheVariants as text_faults
+use Rattle.tp_text.proofs.OnTrees.{spells_one_tree}
+use Rattle.tp_syntax.specs.Gives.{Fails}
+use Rattle.tp_syntax.specs.Readings.{SpellsNone, IsRefusedAs, of_text, of_tree}
+use Rattle.tp_syntax.specs.declared.fault.SyntaxFault.{SyntaxFault}
+use Rattle.tp_syntax.specs.declared.fault.SyntaxFault.TheVariants as faults
+
+module _ {Y : Type 0} (meaning : Shape → Option Y) (text : List ℕ) where
+  no_meaning : (s : Shape) → Spells text s → meaning s ≡ None → SpellsNone meaning text
+  no_meaning s is none u y other some =
+      let same = spells_one_tree text s u is other in
+      let clash : Some y ≡ None = sym some ∙ ap meaning (sym same) ∙ none in
+      cc
+
+  pub refused_tree : (s : Shape) (e : SyntaxFault) → Spells text s → Fails e (meaning s) → IsRefusedAs meaning text (of_tree e)
+  refused_tree s faults.Memory is h = tt
+  refused_tree s (faults.Text f) is h = no_meaning s is h
+  refused_tree s (faults.Shape at) is h = no_meaning s is h
+  refused_tree s (faults.Unknown at) is h = no_meaning s is h
+  refused_tree s (faults.Twice at) is h = no_meaning s is h
+  refused_tree s (faults.Types at) is h = no_meaning s is h
+  refused_tree s (faults.LeftOut at part) is h = no_meaning s is h
+
+  pub refused_text : (f : TextFault) → IsRefused text f → IsRefusedAs meaning text (of_text f)
+  refused_text text_faults.Memory h = tt
+  refused_text text_faults.TooLong h = h
+  refused_text (text_faults.BadByte at) h = h
+  refused_text (text_faults.Unclosed at) h = h
+  refused_text (text_faults.Extra at) h = h
+  refused_text (text_faults.Depth at) h = h
+  refused_text text_faults.Empty h = h

@@ -1,0 +1,10 @@
+use Rattle.std.proofs.Common.{◌≡◌, map, drop}
+use Rattle.tp_syntax.specs.Gives.{with_front}
+use Rattle.tp_syntax.specs.Symbols.{symbols_view}
+use Rattle.tp_syntax.specs.Domains.{actions_in}
+use Rattle.tp_syntax.specs.DomainViews.{action_view}
+use Rattle.tp_syntax.specs.SectionViews.{part_view}
+use Rattle.tp_syntax.proofs.domain_reader.actions_in.Given as goal
+
+abbrev pub invariant-loop-part : goal.invariant-loop-part
+invariant-loop-part l = with_front (map action_view l.actions.items) (actions_in (symbols_view l.symbols) (map part_view (drop l.part-index l.parts))) ≡ actions_in (symbols_view l.symbols) (map part_view l.parts)

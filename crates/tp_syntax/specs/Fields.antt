@@ -1,0 +1,34 @@
+-- An action's fields as they are read.
+use Rattle.std.specs.Prelude.{◌≡◌, List, Bool, ◌&&◌, Option, Some, None}
+use Rattle.std.specs.List.{list_all}
+use Rattle.tp_text.specs.Shapes.{Shape, leaf, node, Shapes}
+use Rattle.tp_text.specs.Trees.{shape_of}
+use Rattle.tp_syntax.specs.Gives.{◌>>=◌, provided}
+use Rattle.tp_syntax.specs.Words.{key_of}
+use Rattle.tp_syntax.specs.Actions as actions
+use Rattle.tp_syntax.specs.Actions.{field, fields_of, each_once, is_field_of}
+use Rattle.tp_syntax.specs.Effects.{Rule, rule_of}
+use Rattle.tp_syntax.specs.Symbols.{Declared, Symbols}
+use Rattle.tp_syntax.specs.declared.words.Key.TheVariants as keys
+use Rattle.tp_syntax.specs.declared.words.Key.{Key}
+use Rattle.tp_syntax.specs.declared.fields.Field.{Field}
+
+abbrev pub field_view : Field → actions.Field
+field_view f = record { key = f.key; value = shape_of f.value.now }
+
+-- the key that a word is
+unfoldable pub key_at : Shape → Option Key
+key_at (leaf w) = key_of w
+key_at (node ss) = None
+
+-- of an action, or of a durative one
+abbrev pub are_fields_of : Bool → List actions.Field → Bool
+are_fields_of lasts fs = list_all (λ f. is_field_of lasts f.key) fs
+
+-- each at most once, of an action or of a durative one
+abbrev pub checked_fields : Bool → Shapes → Option (List actions.Field)
+checked_fields lasts ss = fields_of ss >>= λ fs. provided (each_once fs && are_fields_of lasts fs) fs
+
+-- the rule, which may not be missing
+abbrev pub duration_field : Symbols → List Declared → List actions.Field → Option Rule
+duration_field σ vs fs = field keys.Duration fs >>= rule_of σ vs

@@ -1,0 +1,50 @@
+-- A domain's sections as they are read.
+use Rattle.std.specs.Prelude.{◌≡◌, ℕ, List, map, Bool, true, false, not, Option, Some, None, option_map, Result, Ok, Err}
+use Rattle.tp_text.specs.Shapes.{Shape, leaf, node, Shapes, no_shapes, shape}
+use Rattle.tp_syntax.specs.Gives.{◌>>=◌, provided, with_front, Fails}
+use Rattle.tp_syntax.specs.declared.fault.SyntaxFault.{SyntaxFault}
+use Rattle.tp_syntax.specs.Words.{section_of}
+use Rattle.tp_syntax.specs.Terms.{shapes}
+use Rattle.tp_syntax.specs.Symbols.{Parent, Declared, Form, Symbols}
+use Rattle.tp_syntax.specs.TypedLists.{has_twice}
+use Rattle.tp_syntax.specs.Actions.{Action}
+use Rattle.tp_syntax.specs.Domains.{Part, sections_of, each_once, actions_in}
+use Rattle.tp_syntax.specs.declared.words.Section.{Section}
+use Rattle.tp_syntax.specs.declared.words.Section.TheVariants as sections
+use Rattle.tp_syntax.specs.declared.sections.SectionBody.{SectionBody}
+
+abbrev pub part_view : SectionBody → Part
+part_view s = record { section = s.section; body = shapes s.body.now }
+
+abbrev pub part_with : Shapes → Section → Part
+part_with body k = record { section = k; body = body }
+
+-- a list that begins with a section's word
+unfoldable pub part_at : Shape → Option Part
+part_at (leaf w) = None
+part_at (node no_shapes) = None
+part_at (node (shape (node ss) body)) = None
+part_at (node (shape (leaf w) body)) = option_map (part_with body) (section_of w)
+
+-- each but the actions at most once
+abbrev pub checked_sections : Shapes → Option (List Part)
+checked_sections ss = sections_of ss >>= λ ps. provided (each_once ps) ps
+
+-- the actions, each named once
+abbrev pub actions_once : Symbols → List Part → Option (List Action)
+actions_once σ ps = actions_in σ ps >>= λ as_. provided (not (has_twice (map (λ a. a.name) as_))) as_
+
+-- whether the actions of a section last, if it has one
+abbrev pub action_kind : Section → Option Bool
+action_kind sections.Action = Some false
+action_kind sections.DurativeAction = Some true
+action_kind _ = None
+
+-- what actions may name: what the other sections declare
+abbrev pub domain_symbols : List Parent → List Declared → List Form → List Form → Symbols
+domain_symbols ts cs ps fs = record { types = ts; objects = cs; predicates = ps; functions = fs }
+
+-- what is read goes behind what was there
+abbrev pub Adds : {X Y : Type 0} → List Y → List Y → Result X SyntaxFault → Option (List Y) → Type 0
+Adds old new (Ok x) read = with_front old read ≡ Some new
+Adds old new (Err e) read = Fails e read

@@ -1,0 +1,195 @@
+//! From a tree to an action.
+
+ghost use Rattle.std.specs.Prelude.{◌≡◌, [], map, true, false};
+ghost use Rattle.tp_syntax.specs.Actions.{field, or_missing, body_of, action_of};
+ghost use Rattle.tp_syntax.specs.Conditions.{all_of, no_conditions, condition_of};
+ghost use Rattle.tp_syntax.specs.Parts.{all_parts, no_parts};
+ghost use Rattle.tp_syntax.specs.Effects.{effect_of, timed_condition_of, timed_effect_of};
+ghost use Rattle.tp_syntax.specs.TypedLists.{parameters_at};
+ghost use Rattle.tp_syntax.specs.CondViews.{cond_view};
+ghost use Rattle.tp_syntax.specs.RuleViews.{rule_view};
+ghost use Rattle.tp_syntax.specs.EffectViews.{effect_view, timed_condition_view, timed_effect_view};
+ghost use Rattle.tp_syntax.specs.DomainViews.{body_view, action_view};
+ghost use Rattle.tp_syntax.specs.Fields.{field_view, duration_field};
+ghost use Rattle.tp_syntax.specs.Terms.{shapes};
+ghost use Rattle.tp_syntax.specs.Symbols.{typed_view, types_view, scope_view, symbols_view};
+ghost use Rattle.tp_syntax.specs.Gives.{Gives};
+ghost use Rattle.tp_syntax.specs.declared.words.Key.TheVariants as keys;
+
+use crate::action::{Action, Body};
+use crate::cond::{Cond, read_cond};
+use crate::effect::{Effect, read_effect};
+use crate::fault::SyntaxFault;
+use crate::fields::{Field, find_field, read_fields};
+use crate::joined::Joined;
+use crate::rule::{DurationRule, read_rule};
+use crate::symbols::{Scope, Symbols, Typed};
+use crate::term::name_of;
+use crate::timed::{TimedCond, TimedEffect, read_timed_cond, read_timed_effect};
+use crate::typed::parameters_at;
+use crate::types::Types;
+use crate::words::Key;
+use std::alloc::Global;
+use tp_text::Tree;
+
+fn parameters(alloc: Global, types: &Types, fields: &[Field]) -> Result<Vec<Typed>, SyntaxFault>
+    ensures { Gives (λ v. map typed_view v.items) result (or_missing [] (parameters_at (types_view types.now)) (field keys.Parameters (map field_view fields.now))) }
+{
+    match find_field(Key::Parameters, fields) {
+        Some(list) => parameters_at(alloc, types, list.value),
+        None => Ok(Vec::new(alloc)),
+    }
+}
+
+fn precondition(
+    alloc: Global,
+    symbols: &Symbols,
+    scope: &Scope,
+    fields: &[Field],
+) -> Result<Cond, SyntaxFault>
+    ensures { Gives cond_view result (or_missing (all_of no_conditions) (condition_of (symbols_view symbols.now) (scope_view scope.now)) (field keys.Precondition (map field_view fields.now))) }
+{
+    match find_field(Key::Precondition, fields) {
+        Some(cond) => read_cond(alloc, cond.value, symbols, scope),
+        None => Ok(Cond::And(Vec::new(alloc))),
+    }
+}
+
+fn effect(
+    alloc: Global,
+    symbols: &Symbols,
+    scope: &Scope,
+    fields: &[Field],
+) -> Result<Effect, SyntaxFault>
+    ensures { Gives effect_view result (or_missing (all_parts no_parts) (effect_of (symbols_view symbols.now) false (scope_view scope.now)) (field keys.Effect (map field_view fields.now))) }
+{
+    match find_field(Key::Effect, fields) {
+        Some(effect) => read_effect(alloc, effect.value, symbols, scope),
+        None => Ok(Joined::And(Vec::new(alloc))),
+    }
+}
+
+// The fault of a missing rule is at the action.
+fn duration(
+    alloc: Global,
+    symbols: &Symbols,
+    scope: &Scope,
+    fields: &[Field],
+    at: u32,
+) -> Result<DurationRule, SyntaxFault>
+    ensures { Gives rule_view result (duration_field (symbols_view symbols.now) (scope_view scope.now) (map field_view fields.now)) }
+{
+    match find_field(Key::Duration, fields) {
+        Some(rule) => read_rule(alloc, rule.value, symbols, scope),
+        None => Err(SyntaxFault::Shape(at)),
+    }
+}
+
+fn timed_condition(
+    alloc: Global,
+    symbols: &Symbols,
+    scope: &Scope,
+    fields: &[Field],
+) -> Result<TimedCond, SyntaxFault>
+    ensures { Gives timed_condition_view result (or_missing (all_parts no_parts) (timed_condition_of (symbols_view symbols.now) (scope_view scope.now)) (field keys.Condition (map field_view fields.now))) }
+{
+    match find_field(Key::Condition, fields) {
+        Some(cond) => read_timed_cond(alloc, cond.value, symbols, scope),
+        None => Ok(Joined::And(Vec::new(alloc))),
+    }
+}
+
+fn timed_effect(
+    alloc: Global,
+    symbols: &Symbols,
+    scope: &Scope,
+    fields: &[Field],
+) -> Result<TimedEffect, SyntaxFault>
+    ensures { Gives timed_effect_view result (or_missing (all_parts no_parts) (timed_effect_of (symbols_view symbols.now) (scope_view scope.now)) (field keys.Effect (map field_view fields.now))) }
+{
+    match find_field(Key::Effect, fields) {
+        Some(effect) => read_timed_effect(alloc, effect.value, symbols, scope),
+        None => Ok(Joined::And(Vec::new(alloc))),
+    }
+}
+
+fn instant(
+    alloc: Global,
+    symbols: &Symbols,
+    scope: &Scope,
+    fields: &[Field],
+) -> Result<Body, SyntaxFault>
+    ensures { Gives body_view result (body_of (symbols_view symbols.now) false (scope_view scope.now) (map field_view fields.now)) }
+{
+    let precondition = precondition(alloc, symbols, scope, fields)?;
+    let effect = effect(alloc, symbols, scope, fields)?;
+    Ok(Body::Instant {
+        precondition,
+        effect,
+    })
+}
+
+fn durative(
+    alloc: Global,
+    symbols: &Symbols,
+    scope: &Scope,
+    fields: &[Field],
+    at: u32,
+) -> Result<Body, SyntaxFault>
+    ensures { Gives body_view result (body_of (symbols_view symbols.now) true (scope_view scope.now) (map field_view fields.now)) }
+{
+    let duration = duration(alloc, symbols, scope, fields, at)?;
+    let condition = timed_condition(alloc, symbols, scope, fields)?;
+    let effect = timed_effect(alloc, symbols, scope, fields)?;
+    Ok(Body::Durative {
+        duration,
+        condition,
+        effect,
+    })
+}
+
+fn body(
+    alloc: Global,
+    lasts: bool,
+    symbols: &Symbols,
+    parameters: &[Typed],
+    fields: &[Field],
+    at: u32,
+) -> Result<Body, SyntaxFault>
+    ensures { Gives body_view result (body_of (symbols_view symbols.now) lasts (map typed_view parameters.now) (map field_view fields.now)) }
+{
+    let none = Scope::Empty;
+    let scope = Scope::Inner(parameters, &none);
+    if lasts {
+        durative(alloc, symbols, &scope, fields, at)
+    } else {
+        instant(alloc, symbols, &scope, fields)
+    }
+}
+
+/// The action, or the durative one, in the list at `at`: what stands behind its first word.
+pub fn read_action(
+    alloc: Global,
+    lasts: bool,
+    trees: &[Tree],
+    symbols: &Symbols,
+    at: u32,
+) -> Result<Action, SyntaxFault>
+    ensures { Gives action_view result (action_of (symbols_view symbols.now) lasts (shapes trees.now)) }
+{
+    let [first, rest @ ..] = trees else {
+        return Err(SyntaxFault::Shape(at));
+    };
+    let Tree::Word(word) = first else {
+        return Err(SyntaxFault::Shape(at));
+    };
+    let name = name_of(alloc, word.text, at)?;
+    let fields = read_fields(alloc, lasts, rest, at)?;
+    let parameters = parameters(alloc, &symbols.types, &fields)?;
+    let body = body(alloc, lasts, symbols, &parameters, &fields, at)?;
+    Ok(Action {
+        name,
+        parameters,
+        body,
+    })
+}

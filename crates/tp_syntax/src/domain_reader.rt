@@ -1,0 +1,218 @@
+//! From a text to a domain.
+
+ghost use Rattle.std.specs.Prelude.{◌≡◌, map, string_bytes, IfOk, IfErr};
+ghost use Rattle.tp_text.specs.Trees.{shape_of};
+ghost use Rattle.tp_syntax.specs.Domains.{requirements_in, types_in, objects_in, section, action_at, actions_in, domain_with, domain_of, SpellsDomain};
+ghost use Rattle.tp_syntax.specs.DomainViews.{action_view, domain_view};
+ghost use Rattle.tp_syntax.specs.FormViews.{predicates_in, functions_in};
+ghost use Rattle.tp_syntax.specs.SectionViews.{part_view, Adds, action_kind, actions_once, domain_symbols};
+ghost use Rattle.tp_syntax.specs.Refusals.{IsRefusedDomain};
+ghost use Rattle.tp_syntax.specs.Symbols.{symbols_view, types_view, typed_view, parent_view, form_view};
+ghost use Rattle.tp_syntax.specs.Terms.{shapes};
+ghost use Rattle.tp_syntax.specs.Gives.{Gives};
+ghost use Rattle.tp_syntax.specs.declared.words.Section.TheVariants as sections;
+
+use crate::action::Action;
+use crate::action_reader::read_action;
+use crate::domain::Domain;
+use crate::fault::{SyntaxFault, text_fault, tree_fault};
+use crate::forms::{functions_in, predicates_in};
+use crate::head::{defined, named, requirements_in};
+use crate::sections::{SectionBody, find_section, read_sections};
+use crate::symbols::{Signature, Symbols, Typed};
+use crate::table::{Named, second_named};
+use crate::type_reader::types_in;
+use crate::typed::{objects_in, place};
+use crate::types::{TypeName, Types};
+use crate::words::Section;
+use std::alloc::Global;
+use tp_text::{Tree, read_tree};
+
+impl Named for Action {
+    ghost named = { λ a. string_bytes a.name };
+
+    fn name(&self) -> &str {
+        self.name.as_str()
+    }
+}
+
+// Whether the actions of a section last, if it has one.
+fn action_kind(section: Section) -> Option<bool>
+    ensures { result ≡ action_kind section }
+{
+    match section {
+        Section::Action => Some(false),
+        Section::DurativeAction => Some(true),
+        _ => None,
+    }
+}
+
+// Adds the action of a section, if it has one.
+fn add_action(
+    alloc: Global,
+    actions: &mut Vec<Action>,
+    symbols: &Symbols,
+    part: &SectionBody,
+) -> Result<(), SyntaxFault>
+    ensures { Adds (map action_view actions.old.items) (map action_view actions.new.items) result (action_at (symbols_view symbols.now) part.now.section (shapes part.now.body.now)) }
+{
+    let Some(lasts) = action_kind(part.section) else {
+        return Ok(());
+    };
+    actions.push(read_action(alloc, lasts, part.body, symbols, part.at)?)?;
+    Ok(())
+}
+
+fn actions_in(
+    alloc: Global,
+    symbols: &Symbols,
+    parts: &[SectionBody],
+) -> Result<Vec<Action>, SyntaxFault>
+    ensures { Gives (λ v. map action_view v.items) result (actions_in (symbols_view symbols.now) (map part_view parts.now)) }
+{
+    let mut actions = Vec::new(alloc);
+    for part in parts {
+        add_action(alloc, &mut actions, symbols, part)?;
+    }
+    Ok(actions)
+}
+
+// Where the action of a number has its name.
+fn action_place(parts: &[SectionBody], number: usize) -> u32 {
+    let mut left = number;
+    for part in parts {
+        if action_kind(part.section).is_some() {
+            if left == 0 {
+                return part.body.first().map_or(part.at, |name| place(name));
+            }
+            left -= 1;
+        }
+    }
+    0
+}
+
+// The actions, each named once.
+fn actions_once(
+    alloc: Global,
+    symbols: &Symbols,
+    parts: &[SectionBody],
+) -> Result<Vec<Action>, SyntaxFault>
+    ensures { Gives (λ v. map action_view v.items) result (actions_once (symbols_view symbols.now) (map part_view parts.now)) }
+{
+    let actions = actions_in(alloc, symbols, parts)?;
+    if let Some(number) = second_named(alloc, &actions)? {
+        return Err(SyntaxFault::Twice(action_place(parts, number)));
+    }
+    Ok(actions)
+}
+
+fn requirements(alloc: Global, parts: &[SectionBody]) -> Result<Vec<String>, SyntaxFault>
+    ensures { Gives (λ v. map string_bytes v.items) result (requirements_in (section sections.Requirements (map part_view parts.now))) }
+{
+    let part = find_section(Section::Requirements, parts);
+    requirements_in(alloc, part.body, part.at)
+}
+
+fn types(alloc: Global, parts: &[SectionBody]) -> Result<Vec<TypeName>, SyntaxFault>
+    ensures { Gives (λ v. map parent_view v.items) result (types_in (section sections.Types (map part_view parts.now))) }
+{
+    let part = find_section(Section::Types, parts);
+    types_in(alloc, part.body, part.at)
+}
+
+fn constants(alloc: Global, types: &Types, parts: &[SectionBody]) -> Result<Vec<Typed>, SyntaxFault>
+    ensures { Gives (λ v. map typed_view v.items) result (objects_in (types_view types.now) (section sections.Constants (map part_view parts.now))) }
+{
+    let part = find_section(Section::Constants, parts);
+    objects_in(alloc, types, part.body, part.at)
+}
+
+fn predicates(
+    alloc: Global,
+    types: &Types,
+    parts: &[SectionBody],
+) -> Result<Vec<Signature>, SyntaxFault>
+    ensures { Gives (λ v. map form_view v.items) result (predicates_in (types_view types.now) (section sections.Predicates (map part_view parts.now))) }
+{
+    let part = find_section(Section::Predicates, parts);
+    predicates_in(alloc, types, part.body, part.at)
+}
+
+fn functions(
+    alloc: Global,
+    types: &Types,
+    parts: &[SectionBody],
+) -> Result<Vec<Signature>, SyntaxFault>
+    ensures { Gives (λ v. map form_view v.items) result (functions_in (types_view types.now) (section sections.Functions (map part_view parts.now))) }
+{
+    let part = find_section(Section::Functions, parts);
+    functions_in(alloc, types, part.body, part.at)
+}
+
+// The actions over what the other sections declare.
+fn actions_over(
+    alloc: Global,
+    types: &[TypeName],
+    constants: &[Typed],
+    predicates: &[Signature],
+    functions: &[Signature],
+    parts: &[SectionBody],
+) -> Result<Vec<Action>, SyntaxFault>
+    ensures { Gives (λ v. map action_view v.items) result (actions_once (domain_symbols (map parent_view types.now) (map typed_view constants.now) (map form_view predicates.now) (map form_view functions.now)) (map part_view parts.now)) }
+{
+    let symbols = Symbols {
+        types: Types { declared: types },
+        constants,
+        objects: &[],
+        predicates,
+        functions,
+    };
+    actions_once(alloc, &symbols, parts)
+}
+
+fn domain_with(alloc: Global, name: String, parts: &[SectionBody]) -> Result<Domain, SyntaxFault>
+    ensures { Gives domain_view result (domain_with (string_bytes name) (map part_view parts.now)) }
+{
+    let requirements = requirements(alloc, parts)?;
+    let types = types(alloc, parts)?;
+    let known = Types { declared: &types };
+    let constants = constants(alloc, &known, parts)?;
+    let predicates = predicates(alloc, &known, parts)?;
+    let functions = functions(alloc, &known, parts)?;
+    let actions = actions_over(alloc, &types, &constants, &predicates, &functions, parts)?;
+    Ok(Domain {
+        name,
+        requirements,
+        types,
+        constants,
+        predicates,
+        functions,
+        actions,
+    })
+}
+
+fn domain_of(alloc: Global, tree: &Tree) -> Result<Domain, SyntaxFault>
+    ensures { Gives domain_view result (domain_of (shape_of tree.now)) }
+{
+    let at = place(tree);
+    let Some((head, rest)) = defined(tree) else {
+        return Err(SyntaxFault::Shape(at));
+    };
+    let name = named(alloc, "domain", head, at)?;
+    let parts = read_sections(alloc, rest, at)?;
+    domain_with(alloc, name, &parts)
+}
+
+/// The domain that the text spells.
+pub fn read_domain(alloc: Global, text: &str) -> Result<Domain, SyntaxFault>
+    ensures found { IfOk result (λ d. SpellsDomain text.now (domain_view d)) }
+    ensures refused { IfErr result (λ e. IsRefusedDomain text.now e) }
+{
+    match read_tree(alloc, text) {
+        Ok(tree) => match domain_of(alloc, &tree) {
+            Ok(domain) => Ok(domain),
+            Err(fault) => Err(tree_fault(fault)),
+        },
+        Err(fault) => Err(text_fault(fault)),
+    }
+}

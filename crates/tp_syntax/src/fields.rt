@@ -1,0 +1,142 @@
+//! The fields of an action.
+
+ghost use Rattle.std.specs.Prelude.{◌≡◌, ◌==◌, map, not, option_map};
+ghost use Rattle.std.specs.Option.{is_some};
+ghost use Rattle.tp_text.specs.Trees.{shape_of};
+ghost use Rattle.tp_syntax.specs.Actions.{key_number, field, each_once, is_field_of, fields_of};
+ghost use Rattle.tp_syntax.specs.Fields.{field_view, key_at, are_fields_of, checked_fields};
+ghost use Rattle.tp_syntax.specs.Terms.{shapes};
+ghost use Rattle.tp_syntax.specs.Gives.{Gives};
+
+use crate::fault::SyntaxFault;
+use crate::typed::place;
+use crate::words::{Key, key_of};
+use std::alloc::Global;
+use tp_text::Tree;
+
+/// A field's word, with its place, and its value.
+#[derive(Clone, Copy)]
+pub struct Field<'t, 'a> {
+    pub key: Key,
+    pub at: u32,
+    pub value: &'t Tree<'a>,
+}
+
+#[tactic(auto, unfolding(crate::specs::Fields::key_at))]
+fn key_at(tree: &Tree, at: u32) -> Result<Key, SyntaxFault>
+    ensures { Gives (λ k. k) result (key_at (shape_of tree.now)) }
+{
+    match tree {
+        Tree::Word(token) => match key_of(token.text) {
+            Some(key) => Ok(key),
+            None => Err(SyntaxFault::Shape(at)),
+        },
+        Tree::List { .. } => Err(SyntaxFault::Shape(at)),
+    }
+}
+
+fn fields_of<'t, 'a>(
+    alloc: Global,
+    trees: &'t [Tree<'a>],
+    at: u32,
+) -> Result<Vec<Field<'t, 'a>>, SyntaxFault>
+    ensures { Gives (λ v. map field_view v.items) result (fields_of (shapes trees.now)) }
+{
+    let mut fields = Vec::new(alloc);
+    let mut rest = trees;
+    'fields: while let [word, others @ ..] = rest {
+        let key = key_at(word, at)?;
+        let [value, more @ ..] = others else {
+            return Err(SyntaxFault::Shape(at));
+        };
+        let at = place(word);
+        fields.push(Field { key, at, value })?;
+        rest = more;
+    }
+    Ok(fields)
+}
+
+fn key_number(key: Key) -> u8
+    ensures { result ≡ key_number key }
+{
+    match key {
+        Key::Parameters => 0,
+        Key::Precondition => 1,
+        Key::Duration => 2,
+        Key::Condition => 3,
+        Key::Effect => 4,
+    }
+}
+
+fn is_key(field: &Field, key: Key) -> bool
+    ensures { result ≡ (key_number field.now.key == key_number key) }
+{
+    key_number(field.key) == key_number(key)
+}
+
+/// The first field of a key.
+pub fn find_field<'t, 'a>(key: Key, fields: &[Field<'t, 'a>]) -> Option<Field<'t, 'a>>
+    ensures { option_map (λ f. shape_of f.value.now) result ≡ field key (map field_view fields.now) }
+{
+    for candidate in fields {
+        if is_key(candidate, key) {
+            return Some(*candidate);
+        }
+    }
+    None
+}
+
+// A field whose key stands before it too.
+fn repeated<'t, 'a>(fields: &[Field<'t, 'a>]) -> Option<Field<'t, 'a>>
+    ensures { is_some result ≡ not (each_once (map field_view fields.now)) }
+{
+    let mut rest = fields;
+    'fields: while let [first, others @ ..] = rest {
+        let second = find_field(first.key, others);
+        if second.is_some() {
+            return second;
+        }
+        rest = others;
+    }
+    None
+}
+
+fn is_field_of(lasts: bool, key: Key) -> bool
+    ensures { result ≡ is_field_of lasts key }
+{
+    match key {
+        Key::Parameters | Key::Effect => true,
+        Key::Precondition => !lasts,
+        Key::Duration | Key::Condition => lasts,
+    }
+}
+
+fn are_fields_of(lasts: bool, fields: &[Field]) -> bool
+    ensures { result ≡ are_fields_of lasts (map field_view fields.now) }
+{
+    for field in fields {
+        if !is_field_of(lasts, field.key) {
+            return false;
+        }
+    }
+    true
+}
+
+/// The fields of an action, or of a durative one, each at most once.
+pub fn read_fields<'t, 'a>(
+    alloc: Global,
+    lasts: bool,
+    trees: &'t [Tree<'a>],
+    at: u32,
+) -> Result<Vec<Field<'t, 'a>>, SyntaxFault>
+    ensures { Gives (λ v. map field_view v.items) result (checked_fields lasts (shapes trees.now)) }
+{
+    let fields = fields_of(alloc, trees, at)?;
+    if let Some(second) = repeated(&fields) {
+        return Err(SyntaxFault::Twice(second.at));
+    }
+    if !are_fields_of(lasts, &fields) {
+        return Err(SyntaxFault::Shape(at));
+    }
+    Ok(fields)
+}
