@@ -11,8 +11,23 @@ ghost use Rattle.tp_ground.specs.State.{holds};
 ghost use Rattle.tp_ground.specs.Verdict.{Fault, states, fault_at, last_moment, IsFirstFault};
 ghost use Rattle.tp_ground.specs.declared.GroundEvent.{GroundEvent};
 
+mod beginning;
+mod environment;
+mod fault;
+mod grounder;
+mod grounding;
+mod lookup;
+mod lowering;
+mod numbering;
+mod numbers;
 mod task;
+#[cfg(test)]
+mod tests;
+mod universe;
 
+pub use fault::{GroundFault, TooManyKind};
+pub use numbering::Numbering;
+pub use numbers::has_great_number;
 pub use task::{ActionId, AtomId, FluentId, Task};
 
 /// How two numbers are compared.

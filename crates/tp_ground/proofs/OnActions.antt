@@ -1,0 +1,111 @@
+-- Bodies of ground actions, numbered one after another.
+use Rattle.std.proofs.Common.{◌≡◌, ℕ, ◌+◌, ◌<◌, ◌≤◌, List, [], ◌∷◌, ◌++◌, length, take, drop, get_or, map, Result, IsErrAnd, Bor, Vec, Global, refl, sym, ap, subst, ◌∙◌, append-nil}
+use Rattle.std.specs.List.{flat_map}
+use Rattle.std.proofs.lemmas.List.{map-append, take_more, take_all, take-append-drop}
+use Rattle.tp_syntax.specs.Symbols.{Name, Declared, typed_view}
+use Rattle.tp_syntax.specs.Actions as actions
+use Rattle.tp_syntax.specs.DomainViews.{action_view}
+use Rattle.tp_syntax.specs.declared.symbols.Typed.{Typed}
+use Rattle.tp_syntax.specs.declared.action.Action.{Action}
+use Rattle.tp_ground.specs.Views.{env_view}
+use Rattle.tp_ground.specs.Bindings.{Universe, Env, bindings, bound}
+use Rattle.tp_ground.specs.Written.{GroundBody, body_in}
+use Rattle.tp_ground.specs.Tables.{Tables}
+use Rattle.tp_ground.specs.Mentions.{Mentions, ◌then◌, of_body, of_each}
+use Rattle.tp_ground.specs.Lowered.{IsLowered, Overflows, Lowers}
+use Rattle.tp_ground.specs.Grounding.{ground_action, ground_actions, of_action}
+use Rattle.tp_ground.specs.declared.environment.Env as code
+use Rattle.tp_ground.specs.declared.environment.Env.{Inner, Empty}
+use Rattle.tp_ground.specs.declared.fault.GroundFault.{GroundFault}
+use Rattle.tp_ground.proofs.Along.{next, map_next}
+use Rattle.tp_ground.proofs.OnEntries.{empty_env}
+use Rattle.tp_ground.proofs.OnInner.{names_of, inner_env}
+use Rattle.tp_ground.proofs.OnLowered.{then_assoc, of_each-append, of_each_one, lowered_none, lowered_same, lowered_both, overflows_first, overflows_then, failed}
+
+module _ {X : Type 0} (of : X → Mentions) (xs : List X) (i : ℕ) (x : X) (lt : i < length xs) (item : x ≡ get_or xs i x) where
+  pub each_next : of_each of (take (i + 1) xs) ≡ (of_each of (take i xs) then of x)
+  each_next =
+      ap (of_each of) (take_more xs i x lt) ∙ of_each-append of (take i xs) (get_or xs i x ∷ [])
+      ∙ ap (λ n. of_each of (take i xs) then n) (of_each_one of (get_or xs i x) ∙ ap of (sym item))
+
+  pub each_whole : of_each of xs ≡ (of_each of (take i xs) then (of x then of_each of (drop (i + 1) xs)))
+  each_whole =
+      ap (of_each of) (sym (take-append-drop (i + 1) xs)) ∙ of_each-append of (take (i + 1) xs) (drop (i + 1) xs)
+      ∙ ap (λ m. m then of_each of (drop (i + 1) xs)) each_next
+      ∙ sym (then_assoc (of_each of (take i xs)) (of x) (of_each of (drop (i + 1) xs)))
+
+-- a fault at one that comes after others, in all
+pub each_stopped : {X C Y : Type 0} (named : Tables → C → Y) (of : X → Mentions) (xs : List X) (i : ℕ) (x : X) → i < length xs → x ≡ get_or xs i x → (a b c : Tables) (r : Result C GroundFault) (e : GroundFault) → IsErrAnd r (λ f. f ≡ e) → {D Z : Type 0} {before : Tables → D → Z} {v : D} {ys : Z} → (y : Y) (all m : Mentions) → all ≡ of_each of xs → m ≡ of x → IsLowered before a b v ys (of_each of (take i xs)) → Overflows b m e → Lowers named a r c y all
+each_stopped named of xs i x lt item a b c r e err y all m is p l h =
+    failed named a c y all r e err
+    (subst (λ n. Overflows a n e) (sym (is ∙ each_whole of xs i x lt item))
+    (overflows_then a b (of_each of (take i xs)) (of x then of_each of (drop (i + 1) xs)) e l.notes
+    (overflows_first b (of x) (of_each of (drop (i + 1) xs)) e (subst (λ n. Overflows b n e) p h))))
+
+module _ {C Y : Type 0} (named : Tables → C → Y) where
+  abbrev pub every : Tables → Vec C Global → List Y
+  every t v = map (named t) v.items
+
+  module _ {X : Type 0} (of : X → Mentions) (xs : List X) (i : ℕ) (x : X) (lt : i < length xs) (item : x ≡ get_or xs i x) (a b c : Tables) (v u : Vec C Global) where
+    pub each_push : (g : X → Y) (o : C) (y : Y) (m : Mentions) → u.items ≡ v.items ++ o ∷ [] → y ≡ g x → m ≡ of x → IsLowered every a b v (map g (take i xs)) (of_each of (take i xs)) → IsLowered named b c o y m → IsLowered every a c u (map g (take (i + 1) xs)) (of_each of (take (i + 1) xs))
+    each_push g o y m items p q l k =
+        lowered_same (map g (take (i + 1) xs)) (of_each of (take (i + 1) xs))
+        (ap (λ z. map g (take i xs) ++ z ∷ []) p ∙ sym (map_next g xs i x lt item))
+        (ap (λ n. of_each of (take i xs) then n) q ∙ sym (each_next of xs i x lt item))
+        (lowered_both (λ (ys : List Y) (z : Y). ys ++ z ∷ []) u (λ t. ap (map (named t)) items ∙ map-append (named t) v.items (o ∷ [])) l k)
+
+    pub each_append : (g : X → List Y) (w : Vec C Global) (ys : List Y) (m : Mentions) → u.items ≡ v.items ++ w.items → ys ≡ g x → m ≡ of x → IsLowered every a b v (flat_map g (take i xs)) (of_each of (take i xs)) → IsLowered every b c w ys m → IsLowered every a c u (flat_map g (take (i + 1) xs)) (of_each of (take (i + 1) xs))
+    each_append g w ys m items p q l k =
+        lowered_same (flat_map g (take (i + 1) xs)) (of_each of (take (i + 1) xs))
+        (ap (λ zs. flat_map g (take i xs) ++ zs) p ∙ sym (next g xs i x lt item))
+        (ap (λ n. of_each of (take i xs) then n) q ∙ sym (each_next of xs i x lt item))
+        (lowered_both (λ (zs ws : List Y). zs ++ ws) u (λ t. ap (map (named t)) items ∙ map-append (named t) v.items w.items) l k)
+
+-- what parameters stand for, and nothing else
+pub plain_env : (vars : Bor (List Typed)) (names : Bor (List (Bor (List ℕ)))) (outer : Bor code.Env) (b : Vec (Bor Name) Global) → outer.now ≡ Empty → names.now ≡ b.items → env_view (Inner vars names outer) ≡ bound (map typed_view vars.now) (names_of b)
+plain_env vars names outer b none is =
+    inner_env vars names outer b is
+    ∙ ap (λ (o : code.Env). bound (map typed_view vars.now) (names_of b) ++ env_view o) none
+    ∙ ap (λ (e : Env). bound (map typed_view vars.now) (names_of b) ++ e) empty_env
+    ∙ append-nil (bound (map typed_view vars.now) (names_of b))
+
+module _ (u : Universe) (vs : List Declared) (x : actions.Body) where
+  abbrev pub body_under : Vec (Bor Name) Global → GroundBody
+  body_under b = body_in u (bound vs (names_of b)) x
+
+  abbrev pub mentions_under : Vec (Bor Name) Global → Mentions
+  mentions_under b = of_body u (bound vs (names_of b)) x
+
+  bodies_along : (all : List (Vec (Bor Name) Global)) → map body_under all ≡ map (λ objects. body_in u (bound vs objects) x) (map names_of all)
+  bodies_along [] = refl
+  bodies_along (b ∷ all) = ap (λ ys. body_under b ∷ ys) (bodies_along all)
+
+  mentions_along : (all : List (Vec (Bor Name) Global)) → of_each mentions_under all ≡ of_each (λ objects. of_body u (bound vs objects) x) (map names_of all)
+  mentions_along [] = refl
+  mentions_along (b ∷ all) = ap (λ m. mentions_under b then m) (mentions_along all)
+
+  pub all_bodies : (all : List (Vec (Bor Name) Global)) → map names_of all ≡ bindings u vs → map body_under all ≡ map (λ objects. body_in u (bound vs objects) x) (bindings u vs)
+  all_bodies all is = bodies_along all ∙ ap (map (λ objects. body_in u (bound vs objects) x)) is
+
+  pub all_mentions : (all : List (Vec (Bor Name) Global)) → map names_of all ≡ bindings u vs → of_each mentions_under all ≡ of_each (λ objects. of_body u (bound vs objects) x) (bindings u vs)
+  all_mentions all is = mentions_along all ∙ ap (of_each (λ objects. of_body u (bound vs objects) x)) is
+
+-- the bodies of an action
+abbrev pub bodies_of : Universe → Action → List GroundBody
+bodies_of u a = map (λ objects. body_in u (bound (action_view a).parameters objects) (action_view a).body) (bindings u (action_view a).parameters)
+
+module _ (u : Universe) where
+  bodies_one : (a : actions.Action) (bs : List (List Name)) → map (λ objects. body_in u (bound a.parameters objects) a.body) bs ≡ map (λ g. g.body) (map (ground_action u a) bs)
+  bodies_one a [] = refl
+  bodies_one a (b ∷ bs) = ap (λ ys. body_in u (bound a.parameters b) a.body ∷ ys) (bodies_one a bs)
+
+  pub bodies_all : (xs : List Action) → flat_map (bodies_of u) xs ≡ map (λ g. g.body) (ground_actions u (map action_view xs))
+  bodies_all [] = refl
+  bodies_all (x ∷ xs) =
+      ap (λ ys. ys ++ flat_map (bodies_of u) xs) (bodies_one (action_view x) (bindings u (action_view x).parameters))
+      ∙ ap (λ ys. map (λ g. g.body) (map (ground_action u (action_view x)) (bindings u (action_view x).parameters)) ++ ys) (bodies_all xs)
+      ∙ sym (map-append (λ g. g.body) (map (ground_action u (action_view x)) (bindings u (action_view x).parameters)) (ground_actions u (map action_view xs)))
+
+  pub mentions_all : (xs : List Action) → of_each (λ x. of_action u (action_view x)) xs ≡ of_each (of_action u) (map action_view xs)
+  mentions_all [] = refl
+  mentions_all (x ∷ xs) = ap (λ m. of_action u (action_view x) then m) (mentions_all xs)

@@ -1,0 +1,96 @@
+-- Events and bodies of what was numbered one after another.
+use Rattle.std.proofs.Common.{◌≡◌, List, [], map, Result, IsErrAnd, Vec, Global, refl, sym, ap, subst, ◌∙◌}
+use Rattle.tp_syntax.specs.RuleViews.{rule_view}
+use Rattle.tp_syntax.specs.EffectViews.{timed_condition_view, timed_effect_view}
+use Rattle.tp_syntax.specs.DomainViews.{body_view}
+use Rattle.tp_syntax.specs.declared.rule.DurationRule.{DurationRule}
+use Rattle.tp_syntax.specs.declared.joined.Joined.{Joined}
+use Rattle.tp_syntax.specs.declared.timed.Timed.{Timed}
+use Rattle.tp_syntax.specs.declared.effect.Outcome.{Outcome}
+use Rattle.tp_syntax.specs.declared.cond.Cond as syntax_conds
+use Rattle.tp_syntax.specs.declared.action.Body as syntax
+use Rattle.tp_syntax.specs.declared.action.Body.TheVariants as bodies
+use Rattle.tp_syntax.specs.declared.words.Mark.TheVariants.{OverAll}
+use Rattle.tp_ground.specs.Bindings.{Universe, Env}
+use Rattle.tp_ground.specs.Tables.{Tables}
+use Rattle.tp_ground.specs.Written.{GroundCondition, GroundOutcome, GroundLimit, GroundHappening, instant, durative, happening, condition_at, start_in, end_in, body_in}
+use Rattle.tp_ground.specs.Mentions.{Mentions, ◌then◌, of_condition, of_outcome, of_limit, of_each, of_start, of_end, of_body}
+use Rattle.tp_ground.specs.ReadBack.{named_condition, named_limit, named_event, named_body}
+use Rattle.tp_ground.specs.NumberedOutcomes.{named_outcome}
+use Rattle.tp_ground.specs.Lowered.{Notes, IsLowered, Overflows, Lowers}
+use Rattle.tp_ground.specs.declared.fault.GroundFault.{GroundFault}
+use Rattle.tp_ground.specs.declared.Cond.{Cond}
+use Rattle.tp_ground.specs.declared.Limit.{Limit}
+use Rattle.tp_ground.specs.declared.GroundEvent.{GroundEvent}
+use Rattle.tp_ground.specs.declared.Body.{Body}
+use Rattle.tp_ground.specs.declared.Body.TheVariants.{Instant, Durative}
+use Rattle.tp_ground.specs.declared.lowering.effects.NumberedOutcome.{NumberedOutcome}
+use Rattle.tp_ground.proofs.OnLowered.{AllLowered, failed, notes_then, overflows_first, overflows_then, lowered_as, lowered_both}
+
+-- a fault at the first, the second or the third of three
+module _ (a : Tables) (m n k : Mentions) (f : GroundFault) where
+  pub at_first : Overflows a m f → Overflows a (m then n then k) f
+  at_first h = overflows_first a (m then n) k f (overflows_first a m n f h)
+
+  pub at_second : (b : Tables) → Notes a b m → Overflows b n f → Overflows a (m then n then k) f
+  at_second b l h = overflows_first a (m then n) k f (overflows_then a b m n f l h)
+
+  pub at_third : (b d : Tables) → Notes a b m → Notes b d n → Overflows d k f → Overflows a (m then n then k) f
+  at_third b d l g h = overflows_then a d (m then n) k f (notes_then a b d m n l g) h
+
+-- a condition and outcomes
+abbrev named_pair : Tables → Cond × Vec NumberedOutcome Global → GroundCondition × List GroundOutcome
+named_pair t p = (named_condition t p.0, map (named_outcome t) p.1.items)
+
+abbrev with_rule : GroundCondition × List GroundOutcome → List GroundLimit → GroundHappening
+with_rule p ls = happening p.0 p.1 ls
+
+abbrev pub Assembled : GroundEvent → Cond → List NumberedOutcome → List Limit → Type 0
+Assembled e c os ls = (t : Tables) → named_event t e ≡ happening (named_condition t c) (map (named_outcome t) os) (map (named_limit t) ls)
+
+module _ (a b d : Tables) (c : Cond) (os : Vec NumberedOutcome Global) (e : GroundEvent) (cond : GroundCondition) (outs : List GroundOutcome) (l : IsLowered named_condition a b c cond (of_condition cond)) (k : AllLowered named_outcome of_outcome b d os outs) where
+  pair_lowered : IsLowered named_pair a d (c, os) (cond, outs) (of_condition cond then of_each of_outcome outs)
+  pair_lowered = lowered_both (λ (p : GroundCondition) (q : List GroundOutcome). (p, q)) (c, os) (λ t. refl) l k
+
+  pub start_lowered : (w : Tables) (ls : Vec Limit Global) (limits : List GroundLimit) → AllLowered named_limit of_limit d w ls limits → Assembled e c os.items ls.items → IsLowered named_event a w e (happening cond outs limits) (of_condition cond then of_each of_outcome outs then of_each of_limit limits)
+  start_lowered w ls limits g h = lowered_both with_rule e (λ t. h t) pair_lowered g
+
+  pub plain_lowered : (ls : List Limit) → ls ≡ [] → Assembled e c os.items ls → IsLowered named_event a d e (happening cond outs []) (of_condition cond then of_each of_outcome outs)
+  plain_lowered ls none h = lowered_as (λ (p : GroundCondition × List GroundOutcome). with_rule p []) e (λ t. h t ∙ ap (λ (zs : List Limit). happening (named_condition t c) (map (named_outcome t) os.items) (map (named_limit t) zs)) none) pair_lowered
+
+abbrev named_ends : Tables → GroundEvent × GroundEvent → GroundHappening × GroundHappening
+named_ends t p = (named_event t p.0, named_event t p.1)
+
+pub durative_lowered : (a b c d : Tables) (first last : GroundEvent) (between : Cond) (start end : GroundHappening) (kept : GroundCondition) (m n k : Mentions) → IsLowered named_event a b first start m → IsLowered named_event b c last end n → IsLowered named_condition c d between kept k → IsLowered named_body a d (Durative first last between) (durative start end kept) (m then n then k)
+durative_lowered a b c d first last between start end kept m n k l g h =
+    lowered_both (λ (p : GroundHappening × GroundHappening) (q : GroundCondition). durative p.0 p.1 q) (Durative first last between) (λ t. refl)
+    (lowered_both {named = named_ends} (λ (p q : GroundHappening). (p, q)) (first, last) (λ t. refl) l g) h
+
+pub instant_lowered : (a b : Tables) (e : GroundEvent) (h : GroundHappening) (m : Mentions) → IsLowered named_event a b e h m → IsLowered named_body a b (Instant e) (instant h) m
+instant_lowered a b e h m l = lowered_as instant (Instant e) (λ t. refl) l
+
+-- a durative action, its start, its end and its invariant numbered one after another
+module _ (u : Universe) (env : Env) (x : syntax.Body) (r : DurationRule) (c : Joined (Timed syntax_conds.Cond)) (f : Joined (Timed (Joined Outcome))) (is : x ≡ bodies.Durative r c f) where
+  abbrev of_first : Mentions
+  of_first = of_start u env (rule_view r) (timed_condition_view c) (timed_effect_view f)
+
+  abbrev of_last : Mentions
+  of_last = of_end u env (timed_condition_view c) (timed_effect_view f)
+
+  abbrev of_between : Mentions
+  of_between = of_condition (condition_at u OverAll env (timed_condition_view c))
+
+  stopped : (a b : Tables) (res : Result Body GroundFault) (e : GroundFault) → IsErrAnd res (λ g. g ≡ e) → Overflows a (of_first then of_last then of_between) e → Lowers named_body a res b (body_in u env (body_view x)) (of_body u env (body_view x))
+  stopped a b res e err h = failed named_body a b (body_in u env (body_view x)) (of_body u env (body_view x)) res e err (subst (λ y. Overflows a (of_body u env (body_view y)) e) (sym is) h)
+
+  pub first_stopped : (a b : Tables) (res : Result Body GroundFault) (e : GroundFault) → IsErrAnd res (λ g. g ≡ e) → Overflows a of_first e → Lowers named_body a res b (body_in u env (body_view x)) (of_body u env (body_view x))
+  first_stopped a b res e err h = stopped a b res e err (at_first a of_first of_last of_between e h)
+
+  pub last_stopped : (a b d : Tables) (res : Result Body GroundFault) (e : GroundFault) → IsErrAnd res (λ g. g ≡ e) → Notes a d of_first → Overflows d of_last e → Lowers named_body a res b (body_in u env (body_view x)) (of_body u env (body_view x))
+  last_stopped a b d res e err l h = stopped a b res e err (at_second a of_first of_last of_between e d l h)
+
+  pub between_stopped : (a b d k : Tables) (res : Result Body GroundFault) (e : GroundFault) → IsErrAnd res (λ g. g ≡ e) → Notes a d of_first → Notes d k of_last → Overflows k of_between e → Lowers named_body a res b (body_in u env (body_view x)) (of_body u env (body_view x))
+  between_stopped a b d k res e err l g h = stopped a b res e err (at_third a of_first of_last of_between e d k l g h)
+
+  pub whole_lowered : (a b d k : Tables) (first last : GroundEvent) (between : Cond) → IsLowered named_event a d first (start_in u env (rule_view r) (timed_condition_view c) (timed_effect_view f)) of_first → IsLowered named_event d k last (end_in u env (timed_condition_view c) (timed_effect_view f)) of_last → IsLowered named_condition k b between (condition_at u OverAll env (timed_condition_view c)) of_between → IsLowered named_body a b (Durative first last between) (body_in u env (body_view x)) (of_body u env (body_view x))
+  whole_lowered a b d k first last between l g h = subst (λ y. IsLowered named_body a b (Durative first last between) (body_in u env (body_view y)) (of_body u env (body_view y))) (sym is) (durative_lowered a d k b first last between _ _ _ _ _ _ l g h)

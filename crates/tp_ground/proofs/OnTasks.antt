@@ -1,0 +1,115 @@
+-- What is written out of a problem, numbered one after another, and the task of it.
+use Rattle.std.proofs.Common.{◌≡◌, ℕ, ◌+◌, ◌<◌, ◌≤◌, true, false, None, List, [], ◌∷◌, ◌++◌, length, get_or, map, Result, Vec, Global, refl, sym, ap, ap₂, subst, ◌∙◌, arith, append-nil}
+use Rattle.std.specs.List.{AllByRecursion, IsDistinct, list_all, flat_map}
+use Rattle.std.proofs.lemmas.Bool.{and_from}
+use Rattle.tp_syntax.specs.Symbols.{Name}
+use Rattle.tp_syntax.specs.Conditions.{Condition}
+use Rattle.tp_syntax.specs.Actions as actions
+use Rattle.tp_syntax.specs.DomainViews.{initial_view, action_view}
+use Rattle.tp_syntax.specs.declared.action.Action.{Action}
+use Rattle.tp_syntax.specs.declared.problem.Initial.{Initial}
+use Rattle.tp_ground.specs.Views.{env_view}
+use Rattle.tp_ground.specs.Bindings.{Universe, Env, bindings, bound}
+use Rattle.tp_ground.specs.Fits.{body_fits}
+use Rattle.tp_ground.specs.Tables.{Tables, CannotNumber}
+use Rattle.tp_ground.specs.Written.{GroundCondition, GroundBody, GroundAction, condition_in, body_in}
+use Rattle.tp_ground.specs.Mentions.{Mentions, ◌then◌, of_condition, of_each}
+use Rattle.tp_ground.specs.ReadBack.{named_condition, named_body}
+use Rattle.tp_ground.specs.Initially.{GroundInitial, initial_in, of_initial, named_initial, is_initially_true, initial_value}
+use Rattle.tp_ground.specs.Lowered.{Notes, Extends, IsLowered, Overflows, Lowers}
+use Rattle.tp_ground.specs.Grounding.{universe_of, ground_action, ground_actions, of_action, mentioned, IsTask, HasNoTask}
+use Rattle.tp_ground.specs.WrittenTasks.{WrittenTask, written_task, named_task, of_task, IsMade}
+use Rattle.tp_ground.specs.declared.environment.Env.{Empty}
+use Rattle.tp_ground.specs.declared.beginning.NumberedInitial.{NumberedInitial}
+use Rattle.tp_ground.specs.declared.grounder.LoweredTask.{LoweredTask}
+use Rattle.tp_ground.specs.declared.fault.GroundFault.{GroundFault}
+use Rattle.tp_ground.specs.declared.Cond.{Cond}
+use Rattle.tp_ground.specs.declared.Body.{Body}
+use Rattle.tp_ground.proofs.OnBodies.{at_first, at_second, at_third}
+use Rattle.tp_ground.proofs.OnEntries.{empty_env}
+use Rattle.tp_ground.proofs.OnFits.{body_fits_of}
+use Rattle.tp_ground.proofs.OnLowered.{lowered_both, lowered_same}
+
+entries_view : (is : List Initial) → map (λ i. initial_in (initial_view i)) is ≡ map initial_in (map initial_view is)
+entries_view [] = refl
+entries_view (i ∷ is) = ap (λ xs. initial_in (initial_view i) ∷ xs) (entries_view is)
+
+-- ---- one after another
+
+abbrev all_entries : Tables → Vec NumberedInitial Global → List GroundInitial
+all_entries t v = map (named_initial t) v.items
+
+abbrev all_bodies : Tables → Vec Body Global → List GroundBody
+all_bodies t v = map (named_body t) v.items
+
+abbrev named_pair : Tables → Vec NumberedInitial Global × Cond → List GroundInitial × GroundCondition
+named_pair t p = (map (named_initial t) p.0.items, named_condition t p.1)
+
+module _ (u : Universe) (is : List Initial) (c : Condition) (each : List Action) where
+  abbrev first : Mentions
+  first = of_each of_initial (map initial_in (map initial_view is))
+
+  abbrev second : Mentions
+  second = of_condition (condition_in u [] c)
+
+  abbrev third : Mentions
+  third = of_each (of_action u) (map action_view each)
+
+  abbrev told : List GroundInitial
+  told = map (λ i. initial_in (initial_view i)) is
+
+  pub entries_stopped : (a : Tables) (e : GroundFault) → Overflows a (of_each of_initial told) e → Overflows a (of_task u (map initial_view is) c (map action_view each)) e
+  entries_stopped a e h = at_first a first second third e (subst (λ (es : List GroundInitial). Overflows a (of_each of_initial es) e) (entries_view is) h)
+
+  entries_noted : (a b : Tables) → Notes a b (of_each of_initial told) → Notes a b first
+  entries_noted a b l = subst (λ (es : List GroundInitial). Notes a b (of_each of_initial es)) (entries_view is) l
+
+  goal_noted : (a b : Tables) → Notes a b (of_condition (condition_in u (env_view Empty) c)) → Notes a b second
+  goal_noted a b l = subst (λ (env : Env). Notes a b (of_condition (condition_in u env c))) empty_env l
+
+  pub goal_stopped : (a b : Tables) (e : GroundFault) → Notes a b (of_each of_initial told) → Overflows b (of_condition (condition_in u (env_view Empty) c)) e → Overflows a (of_task u (map initial_view is) c (map action_view each)) e
+  goal_stopped a b e l h = at_second a first second third e b (entries_noted a b l) (subst (λ (env : Env). Overflows b (of_condition (condition_in u env c)) e) empty_env h)
+
+  pub actions_stopped : (a b d : Tables) (e : GroundFault) → Notes a b (of_each of_initial told) → Notes b d (of_condition (condition_in u (env_view Empty) c)) → Overflows d third e → Overflows a (of_task u (map initial_view is) c (map action_view each)) e
+  actions_stopped a b d e l k h = at_third a first second third e b d (entries_noted a b l) (goal_noted b d k) h
+
+  pub task_lowered : (a b d w : Tables) (es : Vec NumberedInitial Global) (g : Cond) (bs : Vec Body Global) (x : LoweredTask) → x ≡ record { entries = es; goal = g; actions = bs } → IsLowered all_entries a b es told (of_each of_initial told) → IsLowered named_condition b d g (condition_in u (env_view Empty) c) (of_condition (condition_in u (env_view Empty) c)) → IsLowered all_bodies d w bs (map (λ y. y.body) (ground_actions u (map action_view each))) third → IsLowered named_task a w x (written_task u (map initial_view is) c (map action_view each)) (of_task u (map initial_view is) c (map action_view each))
+  task_lowered a b d w es g bs x is_x l k h =
+      subst (λ (y : LoweredTask). IsLowered named_task a w y (written_task u (map initial_view is) c (map action_view each)) (of_task u (map initial_view is) c (map action_view each))) (sym is_x)
+      (lowered_both (λ (p : List GroundInitial × GroundCondition) (q : List GroundBody). record { initial = p.0; goal = p.1; bodies = q }) (record { entries = es; goal = g; actions = bs }) (λ t. refl)
+      (lowered_both {named = named_pair} (λ (p : List GroundInitial) (q : GroundCondition). (p, q)) (es, g) (λ t. refl)
+      (lowered_same _ first (entries_view is) (ap (of_each of_initial) (entries_view is)) l)
+      (lowered_same _ second (ap (λ (env : Env). condition_in u env c) empty_env) (ap (λ (env : Env). of_condition (condition_in u env c)) empty_env) k))
+      h)
+
+module _ (a b : Tables) (r : Result LoweredTask GroundFault) (c : Condition) where
+  abbrev pub TaskLowers : Universe → List Initial → List Action → Type 0
+  TaskLowers u is each = Lowers named_task a r b (written_task u (map initial_view is) c (map action_view each)) (of_task u (map initial_view is) c (map action_view each))
+
+  pub same_task : (u v : Universe) (is js : List Initial) (each bs : List Action) → u ≡ v → is ≡ js → each ≡ bs → TaskLowers u is each → TaskLowers v js bs
+  same_task u v is js each bs p q s l = subst (λ w. TaskLowers w js bs) p (subst (λ xs. TaskLowers u xs bs) q (subst (λ ys. TaskLowers u is ys) s l))
+
+-- ---- what the actions change is there
+
+abbrev IsWritten : Universe → GroundBody → Type 0
+IsWritten u y = (env : Env) × ((a : actions.Body) × (y ≡ body_in u env a))
+
+module _ (u : Universe) where
+  written_one : (a : actions.Action) (bs : List (List Name)) (rest : List GroundAction) → AllByRecursion (IsWritten u) (map (λ g. g.body) rest) → AllByRecursion (IsWritten u) (map (λ g. g.body) (map (ground_action u a) bs ++ rest))
+  written_one a [] rest h = h
+  written_one a (b ∷ bs) rest h = ((bound a.parameters b, (a.body, refl)), written_one a bs rest h)
+
+  all_written : (each : List actions.Action) → AllByRecursion (IsWritten u) (map (λ g. g.body) (ground_actions u each))
+  all_written [] = tt
+  all_written (a ∷ each) = written_one a (bindings u a.parameters) (ground_actions u each) (all_written each)
+
+  fit : (t : Tables) (bs : List Body) (ys : List GroundBody) → AllByRecursion (IsWritten u) ys → map (named_body t) bs ≡ ys → list_all (body_fits (length t.atoms) (length t.fluents)) bs ≡ true
+  fit t [] ys h e = refl
+  fit t (b ∷ bs) [] h e = cc
+  fit t (b ∷ bs) (y ∷ ys) h e =
+      let here : named_body t b ≡ y = cc in
+      let rest : map (named_body t) bs ≡ ys = cc in
+      and_from _ _ (body_fits_of t b u h.0.0 h.0.1.0 (here ∙ h.0.1.1)) (fit t bs ys h.1 rest)
+
+  pub bodies_fit : (t : Tables) (bs : List Body) (each : List actions.Action) → map (named_body t) bs ≡ map (λ g. g.body) (ground_actions u each) → list_all (body_fits (length t.atoms) (length t.fluents)) bs ≡ true
+  bodies_fit t bs each e = fit t bs (map (λ g. g.body) (ground_actions u each)) (all_written each) e

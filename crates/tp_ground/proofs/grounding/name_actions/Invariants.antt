@@ -1,0 +1,13 @@
+use Rattle.std.proofs.Common.{◌≡◌, ◌++◌, map, drop}
+use Rattle.tp_syntax.specs.DomainViews.{action_view}
+use Rattle.tp_ground.specs.Views.{universe_view}
+use Rattle.tp_ground.specs.Grounding.{ground_actions}
+use Rattle.tp_ground.proofs.grounding.name_actions.Given as goal
+
+abbrev pub invariant-loop-action : goal.invariant-loop-action
+invariant-loop-action l = record {
+  actions : l.numbering.actions ++ map (λ a. a.words) (ground_actions (universe_view l.universe) (map action_view (drop l.action-index l.actions))) ≡ l.initial.numbering.actions ++ map (λ a. a.words) (ground_actions (universe_view l.universe) (map action_view l.actions));
+  atoms : l.numbering.atoms ≡ l.initial.numbering.atoms;
+  fluents : l.numbering.fluents ≡ l.initial.numbering.fluents;
+  most : l.numbering.most ≡ l.initial.numbering.most;
+}

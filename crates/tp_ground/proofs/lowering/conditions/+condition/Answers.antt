@@ -1,0 +1,109 @@
+use Rattle.std.proofs.Common.{ℕ, List, Vec, Bor, Global, map, ◌++◌, refl, sym, ap, ◌∙◌}
+use Rattle.tp_syntax.specs.Terms.{term_view}
+use Rattle.tp_syntax.specs.Symbols.{typed_view}
+use Rattle.tp_syntax.specs.CondViews.{cond_view}
+use Rattle.tp_syntax.specs.declared.cond.Cond as syntax
+use Rattle.tp_ground.specs.Bindings.{Env, bound}
+use Rattle.tp_ground.specs.Views.{env_view, universe_view}
+use Rattle.tp_ground.specs.Written.{negation, either, condition_in}
+use Rattle.tp_ground.specs.Mentions.{of_condition}
+use Rattle.tp_ground.specs.ReadBack.{named_condition}
+use Rattle.tp_ground.proofs.Along.{map_next, map_ended}
+use Rattle.tp_ground.proofs.Stopped.{map_stopped, map_stopped_as}
+use Rattle.tp_ground.proofs.OnInner.{names_of, map_under, inner_env}
+use Rattle.tp_ground.proofs.OnConditions.{and_of, or_of, imply_of, forall_of, exists_of, same_of, named_Not, all_lowered, any_lowered, all_failed, any_failed, same_lowered, either_mentions}
+use Rattle.tp_ground.proofs.OnLowered.{lowered_as, as_written, all_push, all_same, first_failed, second_failed, both_lowered}
+use Rattle.tp_ground.proofs.lowering.conditions.+condition.Goals as goal
+
+pub conditions-loop-cond-preserved : goal.conditions-loop-cond-preserved
+conditions-loop-cond-preserved t c =
+    let f = λ (x : syntax.Cond). condition_in (universe_view c.args.universe.now) (env_view c.args.env.now) (cond_view x) in
+    all_push named_condition of_condition _ _ _ _ _ _ _ _ _ c.in_ok-push.ensures.items (map_next f c.args.conds.now c.loop-cond.cond-index c.cond-item.result c.loop-cond-test.true c.cond-item.is) c.loop-cond.invariant c.in_ok-condition.ensures
+
+pub conditions-returns-in_err-condition : goal.conditions-returns-in_err-condition
+conditions-returns-in_err-condition t c =
+    let f = λ (x : syntax.Cond). condition_in (universe_view c.args.universe.now) (env_view c.args.env.now) (cond_view x) in
+    map_stopped named_condition of_condition c.args.conds.now c.loop-cond.cond-index c.cond-item.result c.loop-cond-test.true c.cond-item.is _ _ _ _ _ _ _ c.from_residual.ensures.1 f refl c.loop-cond.invariant c.in_err-condition.ensures
+
+pub conditions-returns : goal.conditions-returns
+conditions-returns t c =
+    let f = λ (x : syntax.Cond). condition_in (universe_view c.args.universe.now) (env_view c.args.env.now) (cond_view x) in
+    all_same named_condition of_condition _ _ _ _ _ (map_ended f c.args.conds.now c.loop-cond.cond-index c.loop-cond-test.false) c.loop-cond.invariant
+
+pub under_each-loop-objects-preserved : goal.under_each-loop-objects-preserved
+under_each-loop-objects-preserved t c =
+    let u = universe_view c.args.universe.now in
+    let x = cond_view c.args.cond.now in
+    let f = λ (b : Vec (Bor (List ℕ)) Global). condition_in u (bound (map typed_view c.args.variables.now) (names_of b) ++ env_view c.args.env.now) x in
+    all_push named_condition of_condition _ _ _ _ _ _ _ _ _ c.in_ok-push.ensures.items (map_next f c.deref-objects-items.result.now c.loop-objects.objects-index c.objects-item.result c.loop-objects-test.true c.objects-item.is) c.loop-objects.invariant
+    (as_written of_condition _ _ (ap (λ (e : Env). condition_in u e x) (sym (inner_env _ _ _ c.objects-item.result c.deref.ensures.value))) c.in_ok-condition.ensures)
+
+pub under_each-returns-in_err-condition : goal.under_each-returns-in_err-condition
+under_each-returns-in_err-condition t c =
+    let u = universe_view c.args.universe.now in
+    let env = env_view c.args.env.now in
+    let vs = map typed_view c.args.variables.now in
+    let x = cond_view c.args.cond.now in
+    let xs = c.deref-objects-items.result.now in
+    let f = λ (b : Vec (Bor (List ℕ)) Global). condition_in u (bound vs (names_of b) ++ env) x in
+    map_stopped_as named_condition of_condition xs c.loop-objects.objects-index c.objects-item.result c.loop-objects-test.true c.objects-item.is _ _ _ _ _ _ _ c.from_residual-in_err-condition.ensures.1 f _ (ap (λ (e : Env). condition_in u e x) (inner_env _ _ _ c.objects-item.result c.deref.ensures.value))
+    (sym (map_under u env vs (λ (e : Env). condition_in u e x) xs (ap (map names_of) c.deref-objects-items.ensures.value ∙ c.in_ok-all.ensures)))
+    c.loop-objects.invariant c.in_err-condition.ensures
+
+pub under_each-returns : goal.under_each-returns
+under_each-returns t c =
+    let u = universe_view c.args.universe.now in
+    let env = env_view c.args.env.now in
+    let vs = map typed_view c.args.variables.now in
+    let x = cond_view c.args.cond.now in
+    let xs = c.deref-objects-items.result.now in
+    let f = λ (b : Vec (Bor (List ℕ)) Global). condition_in u (bound vs (names_of b) ++ env) x in
+    all_same named_condition of_condition _ _ _ _ _ (map_ended f xs c.loop-objects.objects-index c.loop-objects-test.false ∙ map_under u env vs (λ (e : Env). condition_in u e x) xs (ap (map names_of) c.deref-objects-items.ensures.value ∙ c.in_ok-all.ensures)) c.loop-objects.invariant
+
+pub negated-returns : goal.negated-returns
+negated-returns t c = lowered_as negation _ (λ u. named_Not u _ ∙ ap (λ z. negation (named_condition u z)) c.in_ok-new.ensures.ok) c.in_ok-lowered.ensures
+
+pub condition-returns-in_err-conditions-in-And : goal.condition-returns-in_err-conditions-in-And
+condition-returns-in_err-conditions-in-And t c = all_failed _ _ _ _ _ _ c.from_residual.ensures.1 c.in_err-conditions-in-And.ensures (and_of (universe_view c.args.universe.now) (env_view c.args.env.now) c.args.cond.now c.in-And.conds c.deref.result.now c.in-And.is c.deref.ensures.value)
+
+pub condition-returns-in_ok-conditions-in-And : goal.condition-returns-in_ok-conditions-in-And
+condition-returns-in_ok-conditions-in-And t c = all_lowered _ _ _ _ _ (and_of (universe_view c.args.universe.now) (env_view c.args.env.now) c.args.cond.now c.in-And.conds c.deref.result.now c.in-And.is c.deref.ensures.value) c.in_ok-conditions-in-And.ensures
+
+pub condition-returns-in_err-conditions-in-Or : goal.condition-returns-in_err-conditions-in-Or
+condition-returns-in_err-conditions-in-Or t c = any_failed _ _ _ _ _ _ c.from_residual-in_err-conditions-in-Or.ensures.1 c.in_err-conditions-in-Or.ensures (or_of (universe_view c.args.universe.now) (env_view c.args.env.now) c.args.cond.now c.in-Or.conds c.deref-in-Or.result.now c.in-Or.is c.deref-in-Or.ensures.value)
+
+pub condition-returns-in_ok-conditions-in-Or : goal.condition-returns-in_ok-conditions-in-Or
+condition-returns-in_ok-conditions-in-Or t c = any_lowered _ _ _ _ _ (or_of (universe_view c.args.universe.now) (env_view c.args.env.now) c.args.cond.now c.in-Or.conds c.deref-in-Or.result.now c.in-Or.is c.deref-in-Or.ensures.value) c.in_ok-conditions-in-Or.ensures
+
+pub condition-returns-in_err-all-in-Forall : goal.condition-returns-in_err-all-in-Forall
+condition-returns-in_err-all-in-Forall t c = all_failed _ _ _ _ _ _ c.from_residual-in_err-all-in-Forall.ensures.1 c.in_err-all-in-Forall.ensures (forall_of (universe_view c.args.universe.now) (env_view c.args.env.now) c.args.cond.now c.in-Forall.variables c.in-Forall.inner c.deref-in-Forall.result.now c.deref-in-Forall-2.result.now c.in-Forall.is c.deref-in-Forall.ensures.value c.deref-in-Forall-2.ensures)
+
+pub condition-returns-in_ok-all-in-Forall : goal.condition-returns-in_ok-all-in-Forall
+condition-returns-in_ok-all-in-Forall t c = all_lowered _ _ _ _ _ (forall_of (universe_view c.args.universe.now) (env_view c.args.env.now) c.args.cond.now c.in-Forall.variables c.in-Forall.inner c.deref-in-Forall.result.now c.deref-in-Forall-2.result.now c.in-Forall.is c.deref-in-Forall.ensures.value c.deref-in-Forall-2.ensures) c.in_ok-all-in-Forall.ensures
+
+pub condition-returns-in_err-any-in-Exists : goal.condition-returns-in_err-any-in-Exists
+condition-returns-in_err-any-in-Exists t c = any_failed _ _ _ _ _ _ c.from_residual-in_err-any-in-Exists.ensures.1 c.in_err-any-in-Exists.ensures (exists_of (universe_view c.args.universe.now) (env_view c.args.env.now) c.args.cond.now c.in-Exists.variables c.in-Exists.inner c.deref-in-Exists.result.now c.deref-in-Exists-2.result.now c.in-Exists.is c.deref-in-Exists.ensures.value c.deref-in-Exists-2.ensures)
+
+pub condition-returns-in_ok-any-in-Exists : goal.condition-returns-in_ok-any-in-Exists
+condition-returns-in_ok-any-in-Exists t c = any_lowered _ _ _ _ _ (exists_of (universe_view c.args.universe.now) (env_view c.args.env.now) c.args.cond.now c.in-Exists.variables c.in-Exists.inner c.deref-in-Exists.result.now c.deref-in-Exists-2.result.now c.in-Exists.is c.deref-in-Exists.ensures.value c.deref-in-Exists-2.ensures) c.in_ok-any-in-Exists.ensures
+
+pub condition-returns-in-Same : goal.condition-returns-in-Same
+condition-returns-in-Same t c = as_written of_condition _ _ (same_of (universe_view c.args.universe.now) (env_view c.args.env.now) c.args.cond.now c.in-Same.a c.in-Same.b c.in-Same.is) (same_lowered _ _ (env_view c.args.env.now) (term_view c.in-Same.a) (term_view c.in-Same.b) c.same.ensures)
+
+pub condition-returns-in_err-first-in-Imply : goal.condition-returns-in_err-first-in-Imply
+condition-returns-in_err-first-in-Imply t c =
+    let u = universe_view c.args.universe.now in
+    let env = env_view c.args.env.now in
+    first_failed named_condition named_condition named_condition of_condition of_condition of_condition either either_mentions _ _ _ (imply_of u env c.args.cond.now c.in-Imply.a c.in-Imply.b c.deref-in-Imply.result.now c.in-Imply.b.value c.in-Imply.is c.deref-in-Imply.ensures refl) _ _ _ _ c.from_residual-in_err-first-in-Imply.ensures.1 c.in_err-first-in-Imply.ensures
+
+pub condition-returns-in_err-second-in-Imply : goal.condition-returns-in_err-second-in-Imply
+condition-returns-in_err-second-in-Imply t c =
+    let u = universe_view c.args.universe.now in
+    let env = env_view c.args.env.now in
+    second_failed named_condition named_condition named_condition of_condition of_condition of_condition either either_mentions _ _ _ (imply_of u env c.args.cond.now c.in-Imply.a c.in-Imply.b c.deref-in-Imply.result.now c.deref-in-Imply-2.result.now c.in-Imply.is c.deref-in-Imply.ensures c.deref-in-Imply-2.ensures) _ _ _ _ _ _ c.from_residual-in_err-second-in-Imply.ensures.1 c.in_ok-first-in-Imply.ensures c.in_err-second-in-Imply.ensures
+
+pub condition-returns-in_ok-either-in-Imply : goal.condition-returns-in_ok-either-in-Imply
+condition-returns-in_ok-either-in-Imply t c =
+    let u = universe_view c.args.universe.now in
+    let env = env_view c.args.env.now in
+    both_lowered named_condition named_condition named_condition of_condition of_condition of_condition either either_mentions _ _ _ (imply_of u env c.args.cond.now c.in-Imply.a c.in-Imply.b c.deref-in-Imply.result.now c.deref-in-Imply-2.result.now c.in-Imply.is c.deref-in-Imply.ensures c.deref-in-Imply-2.ensures) _ _ _ _ _ _ c.in_ok-either-in-Imply.ensures c.in_ok-first-in-Imply.ensures c.in_ok-second-in-Imply.ensures

@@ -1,0 +1,67 @@
+use Rattle.std.proofs.Common.{map, refl, sym, ap, ◌∙◌}
+use Rattle.tp_syntax.specs.Symbols.{typed_view}
+use Rattle.tp_syntax.specs.PartViews.{joined_view}
+use Rattle.tp_ground.specs.Bindings.{Env}
+use Rattle.tp_ground.specs.Views.{env_view, universe_view}
+use Rattle.tp_ground.specs.Written.{parts_in}
+use Rattle.tp_ground.specs.Mentions.{of_each}
+use Rattle.tp_ground.proofs.Along.{next, ended}
+use Rattle.tp_ground.proofs.Stopped.{flat_stopped, flat_stopped_as}
+use Rattle.tp_ground.proofs.OnInner.{names_of, flat_under, inner_env}
+use Rattle.tp_ground.proofs.OnPartLists.{part_of, part_under, part_in, parts_of, bound_of}
+use Rattle.tp_ground.proofs.OnLowered.{all_named, written_as, as_written, all_append, all_same}
+use Rattle.tp_ground.proofs.lowering.parts.+joined.Goals as goal
+
+pub all_parts-loop-part-preserved : goal.all_parts-loop-part-preserved
+all_parts-loop-part-preserved g t c =
+    let u = universe_view c.args.universe.now in
+    all_append g.P.Part.named g.P.Part.mentions _ _ _ _ _ _ _ (part_of u (g.P.Part.written u c.args.mark) g.P.Part.seen (env_view c.args.env.now) c.part-item.result) _ c.in_ok-append.ensures.items (next (part_of u (g.P.Part.written u c.args.mark) g.P.Part.seen (env_view c.args.env.now)) c.args.parts.now c.loop-part.part-index c.part-item.result c.loop-part-test.true c.part-item.is) c.loop-part.invariant c.in_ok-more.ensures
+
+pub all_parts-returns-in_err-more : goal.all_parts-returns-in_err-more
+all_parts-returns-in_err-more g t c =
+    let u = universe_view c.args.universe.now in
+    flat_stopped g.P.Part.named g.P.Part.mentions c.args.parts.now c.loop-part.part-index c.part-item.result c.loop-part-test.true c.part-item.is _ _ _ _ _ _ _ c.from_residual.ensures.1 (part_of u (g.P.Part.written u c.args.mark) g.P.Part.seen (env_view c.args.env.now)) refl c.loop-part.invariant c.in_err-more.ensures
+
+pub all_parts-returns : goal.all_parts-returns
+all_parts-returns g t c =
+    let u = universe_view c.args.universe.now in
+    all_same g.P.Part.named g.P.Part.mentions _ _ _ _ _ (ended (part_of u (g.P.Part.written u c.args.mark) g.P.Part.seen (env_view c.args.env.now)) c.args.parts.now c.loop-part.part-index c.loop-part-test.false) c.loop-part.invariant
+
+pub under_each-loop-objects-preserved : goal.under_each-loop-objects-preserved
+under_each-loop-objects-preserved g t c =
+    let u = universe_view c.args.universe.now in
+    let read = g.P.Part.written u c.args.mark in
+    let x = joined_view g.P.Part.seen c.args.part.now in
+    all_append g.P.Part.named g.P.Part.mentions _ _ _ _ _ _ _ (part_under u read g.P.Part.seen (map typed_view c.args.variables.now) (env_view c.args.env.now) c.args.part.now c.objects-item.result) _ c.in_ok-append.ensures.items (next (part_under u read g.P.Part.seen (map typed_view c.args.variables.now) (env_view c.args.env.now) c.args.part.now) c.deref-objects-items.result.now c.loop-objects.objects-index c.objects-item.result c.loop-objects-test.true c.objects-item.is) c.loop-objects.invariant
+    (as_written (of_each g.P.Part.mentions) _ _ (ap (λ (e : Env). parts_in u read e x) (sym (inner_env _ _ _ c.objects-item.result c.deref.ensures.value))) c.in_ok-more.ensures)
+
+pub under_each-returns-in_err-more : goal.under_each-returns-in_err-more
+under_each-returns-in_err-more g t c =
+    let u = universe_view c.args.universe.now in
+    let read = g.P.Part.written u c.args.mark in
+    let env = env_view c.args.env.now in
+    let vs = map typed_view c.args.variables.now in
+    let x = joined_view g.P.Part.seen c.args.part.now in
+    let xs = c.deref-objects-items.result.now in
+    flat_stopped_as g.P.Part.named g.P.Part.mentions xs c.loop-objects.objects-index c.objects-item.result c.loop-objects-test.true c.objects-item.is _ _ _ _ _ _ _ c.from_residual-in_err-more.ensures.1 (part_under u read g.P.Part.seen vs env c.args.part.now) _ (ap (λ (e : Env). parts_in u read e x) (inner_env _ _ _ c.objects-item.result c.deref.ensures.value))
+    (sym (flat_under u env vs (part_in u read g.P.Part.seen c.args.part.now) xs (ap (map names_of) c.deref-objects-items.ensures.value ∙ c.in_ok-all.ensures)))
+    c.loop-objects.invariant c.in_err-more.ensures
+
+pub under_each-returns : goal.under_each-returns
+under_each-returns g t c =
+    let u = universe_view c.args.universe.now in
+    let read = g.P.Part.written u c.args.mark in
+    let env = env_view c.args.env.now in
+    let vs = map typed_view c.args.variables.now in
+    let xs = c.deref-objects-items.result.now in
+    all_same g.P.Part.named g.P.Part.mentions _ _ _ _ _ (ended (part_under u read g.P.Part.seen vs env c.args.part.now) xs c.loop-objects.objects-index c.loop-objects-test.false ∙ flat_under u env vs (part_in u read g.P.Part.seen c.args.part.now) xs (ap (map names_of) c.deref-objects-items.ensures.value ∙ c.in_ok-all.ensures)) c.loop-objects.invariant
+
+pub joined-returns-in-And : goal.joined-returns-in-And
+joined-returns-in-And g t c =
+    let u = universe_view c.args.universe.now in
+    written_as (all_named g.P.Part.named g.P.Part.mentions) (of_each g.P.Part.mentions) _ _ _ _ _ (parts_of u (g.P.Part.written u c.args.mark) g.P.Part.seen (env_view c.args.env.now) c.args.part.now c.in-And.parts c.deref.result.now c.in-And.is c.deref.ensures.value) c.all_parts.ensures
+
+pub joined-returns-in-Forall : goal.joined-returns-in-Forall
+joined-returns-in-Forall g t c =
+    let u = universe_view c.args.universe.now in
+    written_as (all_named g.P.Part.named g.P.Part.mentions) (of_each g.P.Part.mentions) _ _ _ _ _ (bound_of u (g.P.Part.written u c.args.mark) g.P.Part.seen (env_view c.args.env.now) c.args.part.now c.in-Forall.variables c.in-Forall.inner c.deref-in-Forall.result.now c.deref-in-Forall-2.result.now c.in-Forall.is c.deref-in-Forall.ensures.value c.deref-in-Forall-2.ensures) c.under_each.ensures

@@ -1,0 +1,10 @@
+use Rattle.std.proofs.Common.{◌≡◌, ◌+◌, ◌≤◌, length, map, drop}
+use Rattle.tp_syntax.specs.Symbols.{typed_view, types_view}
+use Rattle.tp_ground.specs.Bindings.{fitting}
+use Rattle.tp_ground.proofs.universe.count_fitting.Given as goal
+
+abbrev pub invariant-loop-object : goal.invariant-loop-object
+invariant-loop-object l = record {
+  counted : l.count + length (fitting (types_view l.types) (map typed_view (drop l.object-index l.objects)) (typed_view l.variable)) ≡ length (fitting (types_view l.types) (map typed_view l.objects) (typed_view l.variable));
+  few : l.count ≤ l.object-index;
+}

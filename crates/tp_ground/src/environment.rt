@@ -1,0 +1,78 @@
+//! What variables stand for.
+
+ghost use Rattle.std.specs.Prelude.{◌≡◌, option_map, map, IfOk};
+ghost use Rattle.tp_syntax.specs.Terms.{term_view, atom_view};
+ghost use Rattle.tp_syntax.specs.Symbols.{typed_view};
+ghost use Rattle.tp_ground.specs.Bindings.{bound, object_among, object_for, words_in};
+ghost use Rattle.tp_ground.specs.Views.{env_view};
+
+use smallvec::SmallVec;
+use std::alloc::{AllocError, Global};
+use tp_syntax::{Atom, Term, Typed};
+
+/// What variables stand for. An inner one hides an outer one of the same name.
+#[derive(Clone, Copy)]
+pub enum Env<'a> {
+    Empty,
+    /// Variables, the objects that they stand for, and what stands outside.
+    Inner(&'a [Typed], &'a [&'a str], &'a Env<'a>),
+}
+
+// The object that one of these variables stands for.
+fn object_among<'a>(variables: &[Typed], objects: &[&'a str], name: &str) -> Option<&'a str>
+    ensures { option_map (λ o. o.now) result ≡ object_among (bound (map typed_view variables.now) (map (λ o. o.now) objects.now)) name.now }
+{
+    let mut left = objects;
+    for variable in variables {
+        let [object, others @ ..] = left else {
+            return None;
+        };
+        if variable.name.as_str() == name {
+            return Some(*object);
+        }
+        left = others;
+    }
+    None
+}
+
+/// The object that a variable stands for.
+fn object_under<'a>(env: &Env<'a>, name: &str) -> Option<&'a str>
+    ensures { option_map (λ o. o.now) result ≡ object_among (env_view env.now) name.now }
+{
+    match env {
+        Env::Empty => None,
+        Env::Inner(variables, objects, outer) => match object_among(variables, objects, name) {
+            Some(object) => Some(object),
+            None => object_under(outer, name),
+        },
+    }
+}
+
+/// The object for an argument. A variable that stands for none is left as it is.
+pub fn object_for<'a>(env: &Env<'a>, argument: &'a Term) -> &'a str
+    ensures { result.now ≡ object_for (env_view env.now) (term_view argument.now) }
+{
+    match argument {
+        Term::Object(name) => name.as_str(),
+        Term::Variable(name) => match object_under(env, name.as_str()) {
+            Some(object) => object,
+            None => name.as_str(),
+        },
+    }
+}
+
+/// The words of an atom or a fluent.
+pub fn words_in<'a>(
+    alloc: Global,
+    env: &Env<'a>,
+    atom: &'a Atom,
+) -> Result<SmallVec<&'a str, 4>, AllocError>
+    ensures { IfOk result (λ v. map (λ w. w.now) v.items ≡ words_in (env_view env.now) (atom_view atom.now)) }
+{
+    let mut words = SmallVec::new(alloc);
+    words.push(atom.name.as_str())?;
+    for term in &atom.terms {
+        words.push(object_for(env, term))?;
+    }
+    Ok(words)
+}

@@ -1,0 +1,144 @@
+//! The task of a problem.
+
+ghost use Rattle.std.specs.Prelude.{◌≡◌, ◌≤◌, ◌++◌, true, map, length, nat_lt, IfOk, IfErr, OnOk};
+ghost use Rattle.std.specs.List.{list_all};
+ghost use Rattle.tp_syntax.specs.Symbols.{typed_view};
+ghost use Rattle.tp_syntax.specs.CondViews.{cond_view};
+ghost use Rattle.tp_syntax.specs.DomainViews.{initial_view, action_view, domain_view, problem_view};
+ghost use Rattle.tp_ground.specs.Fits.{body_fits};
+ghost use Rattle.tp_ground.specs.Views.{universe_view};
+ghost use Rattle.tp_ground.specs.Lowered.{Lowers};
+ghost use Rattle.tp_ground.specs.Grounding.{universe_of, ground_actions, mentioned, HasNoTask};
+ghost use Rattle.tp_ground.specs.WrittenTasks.{written_task, named_task, of_task, IsMade};
+
+use crate::beginning::{NumberedInitial, entries, numbers, truths};
+use crate::environment::Env;
+use crate::fault::{GroundFault, TooManyKind};
+use crate::grounding::{actions_fit, lower_actions};
+use crate::lowering::condition;
+use crate::numbering::Numbering;
+use crate::numbers::has_great_number;
+use crate::task::Task;
+use crate::universe::Universe;
+use crate::{Body, Cond};
+use std::alloc::{AllocError, Global};
+use tp_bounds::Limits;
+use tp_syntax::{Action, Domain, Initial, Problem, Typed, Types};
+use tp_text::Scale;
+
+/// The most objects that a problem may have.
+const MOST_OBJECTS: usize = 65_535;
+
+/// What stands in `:init`, the goal and the bodies of the ground actions, by number.
+#[derive(Drop)]
+pub struct LoweredTask {
+    pub entries: Vec<NumberedInitial>,
+    pub goal: Cond,
+    pub actions: Vec<Body>,
+}
+
+fn has_too_many_objects(constants: &[Typed], objects: &[Typed]) -> bool
+    ensures { result ≡ nat_lt 65_535 (length (map typed_view constants.now ++ map typed_view objects.now)) }
+{
+    constants.len() + objects.len() > MOST_OBJECTS
+}
+
+fn universe_of<'a>(domain: &'a Domain, problem: &'a Problem) -> Universe<'a>
+    ensures { universe_view result ≡ universe_of (domain_view domain.now) (problem_view problem.now) }
+{
+    Universe {
+        types: Types {
+            declared: &domain.types,
+        },
+        constants: &domain.constants,
+        objects: &problem.objects,
+    }
+}
+
+// What can be told before anything is written out.
+fn check(domain: &Domain, problem: &Problem, limits: &Limits) -> Result<(), GroundFault>
+    ensures few { OnOk result (length (ground_actions (universe_of (domain_view domain.now) (problem_view problem.now)) (domain_view domain.now).actions) ≤ limits.now.actions) }
+    ensures err { IfErr result (HasNoTask limits.now (domain_view domain.now) (problem_view problem.now)) }
+{
+    if has_great_number(domain, problem) {
+        return Err(GroundFault::Range);
+    }
+    if has_too_many_objects(&domain.constants, &problem.objects) {
+        return Err(GroundFault::TooMany(TooManyKind::Objects));
+    }
+    let universe = universe_of(domain, problem);
+    if !actions_fit(&universe, &domain.actions, limits.actions()) {
+        return Err(GroundFault::TooMany(TooManyKind::Actions));
+    }
+    Ok(())
+}
+
+// What is said at first, what is asked for, and what can be done, by number.
+fn lower(
+    alloc: Global,
+    universe: &Universe,
+    numbering: &mut Numbering,
+    initial: &[Initial],
+    goal: &tp_syntax::Cond,
+    actions: &[Action],
+) -> Result<LoweredTask, GroundFault>
+    ensures { Lowers named_task numbering.old result numbering.new (written_task (universe_view universe.now) (map initial_view initial.now) (cond_view goal.now) (map action_view actions.now)) (of_task (universe_view universe.now) (map initial_view initial.now) (cond_view goal.now) (map action_view actions.now)) }
+{
+    let entries = entries(alloc, numbering, initial)?;
+    let goal = condition(alloc, universe, &Env::Empty, numbering, goal)?;
+    let actions = lower_actions(alloc, universe, numbering, actions)?;
+    Ok(LoweredTask {
+        entries,
+        goal,
+        actions,
+    })
+}
+
+fn lower_task(
+    alloc: Global,
+    numbering: &mut Numbering,
+    domain: &Domain,
+    problem: &Problem,
+) -> Result<LoweredTask, GroundFault>
+    ensures { Lowers named_task numbering.old result numbering.new (written_task (universe_of (domain_view domain.now) (problem_view problem.now)) (problem_view problem.now).initial (problem_view problem.now).goal (domain_view domain.now).actions) (mentioned (domain_view domain.now) (problem_view problem.now)) }
+{
+    let universe = universe_of(domain, problem);
+    lower(
+        alloc,
+        &universe,
+        numbering,
+        &problem.initial,
+        &problem.goal,
+        &domain.actions,
+    )
+}
+
+fn task_of(
+    alloc: Global,
+    limits: Limits,
+    scale: Scale,
+    numbering: Numbering,
+    lowered: LoweredTask,
+) -> Result<Task, AllocError>
+    requires few { length lowered.actions.items ≤ 65_535 }
+    requires fits { list_all (body_fits (length numbering.atoms) (length numbering.fluents)) lowered.actions.items ≡ true }
+    requires all_named { length numbering.actions ≡ length lowered.actions.items }
+    ensures { IfOk result (IsMade limits scale numbering lowered) }
+{
+    let LoweredTask {
+        entries,
+        goal,
+        actions,
+    } = lowered;
+    let initial_atoms = truths(alloc, numbering.atom_count(), &entries)?;
+    let initial_numbers = numbers(alloc, numbering.fluent_count(), &entries)?;
+    Ok(Task {
+        limits,
+        scale,
+        numbering,
+        actions,
+        initial_atoms,
+        initial_numbers,
+        goal,
+    })
+}

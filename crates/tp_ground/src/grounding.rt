@@ -1,0 +1,110 @@
+//! All ground actions of a problem.
+
+ghost use Rattle.std.specs.Prelude.{◌≡◌, ◌++◌, ◌∷◌, map, length, nat_le, OnOk, string_bytes};
+ghost use Rattle.tp_syntax.specs.Symbols.{typed_view};
+ghost use Rattle.tp_syntax.specs.DomainViews.{action_view, body_view};
+ghost use Rattle.tp_ground.specs.Views.{universe_view};
+ghost use Rattle.tp_ground.specs.Bindings.{bound, bindings};
+ghost use Rattle.tp_ground.specs.Written.{body_in};
+ghost use Rattle.tp_ground.specs.Mentions.{of_body, of_each};
+ghost use Rattle.tp_ground.specs.ReadBack.{named_body};
+ghost use Rattle.tp_ground.specs.Lowered.{Lowers};
+ghost use Rattle.tp_ground.specs.Grounding.{ground_actions, of_action};
+
+use crate::Body;
+use crate::environment::Env;
+use crate::fault::GroundFault;
+use crate::lowering::body;
+use crate::numbering::Numbering;
+use crate::universe::{Universe, bindings, count_bindings, with_first};
+use std::alloc::{AllocError, Global};
+use tp_syntax::{Action, Typed};
+
+/// Whether all actions together have no more bindings than so many.
+pub fn actions_fit(universe: &Universe, actions: &[Action], most: u32) -> bool
+    ensures { result ≡ nat_le (length (ground_actions (universe_view universe.now) (map action_view actions.now))) most }
+{
+    let mut left = most;
+    for action in actions {
+        match count_bindings(universe, &action.parameters, left) {
+            Some(count) => left -= count,
+            None => return false,
+        }
+    }
+    true
+}
+
+// The words of an action under some bindings, after those of others.
+fn push_names(
+    alloc: Global,
+    numbering: &mut Numbering,
+    action: &Action,
+    all: &[Vec<&str>],
+) -> Result<(), AllocError>
+    ensures actions { OnOk result (numbering.new.actions ≡ numbering.old.actions ++ map (λ ns. string_bytes action.now.name ∷ ns) (map (λ b. map (λ o. o.now) b.items) all.now)) }
+    ensures atoms { numbering.new.atoms ≡ numbering.old.atoms }
+    ensures fluents { numbering.new.fluents ≡ numbering.old.fluents }
+    ensures most { numbering.new.most ≡ numbering.old.most }
+{
+    for objects in all {
+        let words = with_first(alloc, action.name.as_str(), objects)?;
+        numbering.push_action(&words)?;
+    }
+    Ok(())
+}
+
+/// The words of all ground actions, in order.
+pub fn name_actions(
+    alloc: Global,
+    universe: &Universe,
+    numbering: &mut Numbering,
+    actions: &[Action],
+) -> Result<(), AllocError>
+    ensures actions { OnOk result (numbering.new.actions ≡ numbering.old.actions ++ map (λ a. a.words) (ground_actions (universe_view universe.now) (map action_view actions.now))) }
+    ensures atoms { numbering.new.atoms ≡ numbering.old.atoms }
+    ensures fluents { numbering.new.fluents ≡ numbering.old.fluents }
+    ensures most { numbering.new.most ≡ numbering.old.most }
+{
+    for action in actions {
+        let all = bindings(alloc, universe, &action.parameters)?;
+        push_names(alloc, numbering, action, &all)?;
+    }
+    Ok(())
+}
+
+// The body of an action under each binding of its parameters.
+fn bodies(
+    alloc: Global,
+    universe: &Universe,
+    numbering: &mut Numbering,
+    parameters: &[Typed],
+    written: &tp_syntax::Body,
+) -> Result<Vec<Body>, GroundFault>
+    ensures { Lowers (λ t v. map (named_body t) v.items) numbering.old result numbering.new (map (λ objects. body_in (universe_view universe.now) (bound (map typed_view parameters.now) objects) (body_view written.now)) (bindings (universe_view universe.now) (map typed_view parameters.now))) (of_each (λ objects. of_body (universe_view universe.now) (bound (map typed_view parameters.now) objects) (body_view written.now)) (bindings (universe_view universe.now) (map typed_view parameters.now))) }
+{
+    let all = bindings(alloc, universe, parameters)?;
+    let outside = Env::Empty;
+    let mut lowered = Vec::new(alloc);
+    for objects in &all {
+        let inner = Env::Inner(&*parameters, objects, &outside);
+        lowered.push(body(alloc, universe, &inner, numbering, written)?)?;
+    }
+    Ok(lowered)
+}
+
+/// The bodies of all ground actions, in order.
+pub fn lower_actions(
+    alloc: Global,
+    universe: &Universe,
+    numbering: &mut Numbering,
+    actions: &[Action],
+) -> Result<Vec<Body>, GroundFault>
+    ensures { Lowers (λ t v. map (named_body t) v.items) numbering.old result numbering.new (map (λ a. a.body) (ground_actions (universe_view universe.now) (map action_view actions.now))) (of_each (of_action (universe_view universe.now)) (map action_view actions.now)) }
+{
+    let mut lowered = Vec::new(alloc);
+    for action in actions {
+        let mut more = bodies(alloc, universe, numbering, &action.parameters, &action.body)?;
+        lowered.append(&mut more)?;
+    }
+    Ok(lowered)
+}

@@ -1,0 +1,168 @@
+//! The bodies of actions.
+
+ghost use Rattle.std.specs.Prelude.{◌≡◌, [], map, IfOk};
+ghost use Rattle.tp_syntax.specs.CondViews.{cond_view};
+ghost use Rattle.tp_syntax.specs.RuleViews.{rule_view};
+ghost use Rattle.tp_syntax.specs.EffectViews.{effect_view, timed_condition_view, timed_effect_view};
+ghost use Rattle.tp_syntax.specs.DomainViews.{body_view};
+ghost use Rattle.tp_ground.specs.Views.{env_view, universe_view};
+ghost use Rattle.tp_ground.specs.Tables.{Tables};
+ghost use Rattle.tp_ground.specs.Written.{happening, condition_at, start_in, end_in, instant_in, body_in};
+ghost use Rattle.tp_ground.specs.Mentions.{of_condition, of_start, of_end, of_instant, of_body};
+ghost use Rattle.tp_ground.specs.ReadBack.{named_condition, named_limit, named_event, named_body};
+ghost use Rattle.tp_ground.specs.NumberedOutcomes.{named_outcome, AreSplit};
+ghost use Rattle.tp_ground.specs.Lowered.{Lowers};
+
+use crate::environment::Env;
+use crate::fault::GroundFault;
+use crate::lowering::conditions::condition;
+use crate::lowering::effects::NumberedOutcome;
+use crate::lowering::parts::joined;
+use crate::lowering::rules::limits;
+use crate::numbering::Numbering;
+use crate::universe::Universe;
+use crate::{Body, Cond, GroundEvent, Limit, NumericEffect};
+use std::alloc::{AllocError, Global};
+use tp_syntax::{DurationRule, Effect, Mark, TimedCond, TimedEffect};
+
+// The adds, the deletes and the writes among outcomes.
+struct Changes {
+    adds: Vec<u32>,
+    deletes: Vec<u32>,
+    writes: Vec<NumericEffect>,
+}
+
+fn split(alloc: Global, outcomes: Vec<NumberedOutcome>) -> Result<Changes, AllocError>
+    ensures { IfOk result (λ s. AreSplit outcomes.items s.adds.items s.deletes.items s.writes.items) }
+{
+    let mut adds = Vec::new(alloc);
+    let mut deletes = Vec::new(alloc);
+    let mut writes = Vec::new(alloc);
+    for outcome in outcomes {
+        match outcome {
+            NumberedOutcome::Add(atom) => adds.push(atom)?,
+            NumberedOutcome::Delete(atom) => deletes.push(atom)?,
+            NumberedOutcome::Write(write) => writes.push(write)?,
+        }
+    }
+    Ok(Changes {
+        adds,
+        deletes,
+        writes,
+    })
+}
+
+// The event of these outcomes.
+fn event(
+    alloc: Global,
+    condition: Cond,
+    outcomes: Vec<NumberedOutcome>,
+    rule: Vec<Limit>,
+) -> Result<GroundEvent, AllocError>
+    ensures { IfOk result (λ e. (t : Tables) → named_event t e ≡ happening (named_condition t condition) (map (named_outcome t) outcomes.items) (map (named_limit t) rule.items)) }
+{
+    let Changes {
+        adds,
+        deletes,
+        writes,
+    } = split(alloc, outcomes)?;
+    Ok(GroundEvent {
+        condition,
+        adds,
+        deletes,
+        writes,
+        rule,
+    })
+}
+
+// The conjuncts of a durative action's condition at a mark.
+fn condition_at(
+    alloc: Global,
+    universe: &Universe,
+    env: &Env,
+    mark: Mark,
+    numbering: &mut Numbering,
+    condition: &TimedCond,
+) -> Result<Cond, GroundFault>
+    ensures { Lowers named_condition numbering.old result numbering.new (condition_at (universe_view universe.now) mark (env_view env.now) (timed_condition_view condition.now)) (of_condition (condition_at (universe_view universe.now) mark (env_view env.now) (timed_condition_view condition.now))) }
+{
+    Ok(Cond::And(joined(alloc, universe, env, mark, numbering, condition)?))
+}
+
+fn start(
+    alloc: Global,
+    universe: &Universe,
+    env: &Env,
+    numbering: &mut Numbering,
+    duration: &DurationRule,
+    condition: &TimedCond,
+    effect: &TimedEffect,
+) -> Result<GroundEvent, GroundFault>
+    ensures { Lowers named_event numbering.old result numbering.new (start_in (universe_view universe.now) (env_view env.now) (rule_view duration.now) (timed_condition_view condition.now) (timed_effect_view effect.now)) (of_start (universe_view universe.now) (env_view env.now) (rule_view duration.now) (timed_condition_view condition.now) (timed_effect_view effect.now)) }
+{
+    let condition = condition_at(alloc, universe, env, Mark::AtStart, numbering, condition)?;
+    let outcomes = joined(alloc, universe, env, Mark::AtStart, numbering, effect)?;
+    let rule = limits(alloc, env, numbering, duration)?;
+    Ok(event(alloc, condition, outcomes, rule)?)
+}
+
+fn end(
+    alloc: Global,
+    universe: &Universe,
+    env: &Env,
+    numbering: &mut Numbering,
+    condition: &TimedCond,
+    effect: &TimedEffect,
+) -> Result<GroundEvent, GroundFault>
+    ensures { Lowers named_event numbering.old result numbering.new (end_in (universe_view universe.now) (env_view env.now) (timed_condition_view condition.now) (timed_effect_view effect.now)) (of_end (universe_view universe.now) (env_view env.now) (timed_condition_view condition.now) (timed_effect_view effect.now)) }
+{
+    let condition = condition_at(alloc, universe, env, Mark::AtEnd, numbering, condition)?;
+    let outcomes = joined(alloc, universe, env, Mark::AtEnd, numbering, effect)?;
+    Ok(event(alloc, condition, outcomes, Vec::new(alloc))?)
+}
+
+fn instant(
+    alloc: Global,
+    universe: &Universe,
+    env: &Env,
+    numbering: &mut Numbering,
+    precondition: &tp_syntax::Cond,
+    effect: &Effect,
+) -> Result<GroundEvent, GroundFault>
+    ensures { Lowers named_event numbering.old result numbering.new (instant_in (universe_view universe.now) (env_view env.now) (cond_view precondition.now) (effect_view effect.now)) (of_instant (universe_view universe.now) (env_view env.now) (cond_view precondition.now) (effect_view effect.now)) }
+{
+    let condition = condition(alloc, universe, env, numbering, precondition)?;
+    let outcomes = joined(alloc, universe, env, Mark::AtStart, numbering, effect)?;
+    Ok(event(alloc, condition, outcomes, Vec::new(alloc))?)
+}
+
+/// The body of an action, under a binding of its parameters.
+pub fn body(
+    alloc: Global,
+    universe: &Universe,
+    env: &Env,
+    numbering: &mut Numbering,
+    body: &tp_syntax::Body,
+) -> Result<Body, GroundFault>
+    ensures { Lowers named_body numbering.old result numbering.new (body_in (universe_view universe.now) (env_view env.now) (body_view body.now)) (of_body (universe_view universe.now) (env_view env.now) (body_view body.now)) }
+{
+    match body {
+        tp_syntax::Body::Instant {
+            precondition,
+            effect,
+        } => {
+            let event = instant(alloc, universe, env, numbering, precondition, effect)?;
+            Ok(Body::Instant(event))
+        }
+        tp_syntax::Body::Durative {
+            duration,
+            condition,
+            effect,
+        } => {
+            let first = start(alloc, universe, env, numbering, duration, condition, effect)?;
+            let last = end(alloc, universe, env, numbering, condition, effect)?;
+            let between = condition_at(alloc, universe, env, Mark::OverAll, numbering, condition)?;
+            Ok(Body::Durative(first, last, between))
+        }
+    }
+}

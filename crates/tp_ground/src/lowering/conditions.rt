@@ -1,0 +1,167 @@
+//! Conditions.
+
+ghost use Rattle.std.specs.Prelude.{◌≡◌, map, IfOk};
+ghost use Rattle.tp_syntax.specs.Terms.{atom_view, term_view};
+ghost use Rattle.tp_syntax.specs.Symbols.{typed_view};
+ghost use Rattle.tp_syntax.specs.ExprViews.{expr_view};
+ghost use Rattle.tp_syntax.specs.CondViews.{cond_view};
+ghost use Rattle.tp_ground.specs.Bindings.{words_in};
+ghost use Rattle.tp_ground.specs.Views.{env_view, universe_view};
+ghost use Rattle.tp_ground.specs.Tables.{Tables, words_at};
+ghost use Rattle.tp_ground.specs.Written.{condition_in, same_in, compared_in, either, negation, inner};
+ghost use Rattle.tp_ground.specs.Mentions.{an_atom, of_condition, of_each};
+ghost use Rattle.tp_ground.specs.ReadBack.{named_condition};
+ghost use Rattle.tp_ground.specs.Lowered.{Lowers};
+
+use crate::Cond;
+use crate::environment::{Env, object_for, words_in};
+use crate::fault::GroundFault;
+use crate::lowering::expressions::{comparison_of, expression};
+use crate::numbering::Numbering;
+use crate::universe::{Universe, bindings};
+use std::alloc::{AllocError, Global};
+use tp_syntax::{Atom, Comparison, Expr, Term, Typed};
+
+/// The number of an atom.
+pub fn atom(
+    alloc: Global,
+    env: &Env,
+    numbering: &mut Numbering,
+    atom: &Atom,
+) -> Result<u32, GroundFault>
+    ensures { Lowers (λ t i. words_at t.atoms i) numbering.old result numbering.new (words_in (env_view env.now) (atom_view atom.now)) (an_atom (words_in (env_view env.now) (atom_view atom.now))) }
+{
+    let words = words_in(alloc, env, atom)?;
+    numbering.atom(&words)
+}
+
+// An equality of objects: the empty conjunction holds, the empty disjunction doesn't.
+fn same(alloc: Global, env: &Env, left: &Term, right: &Term) -> Cond
+    ensures { (t : Tables) → named_condition t result ≡ same_in (env_view env.now) (term_view left.now) (term_view right.now) }
+{
+    if object_for(env, left) == object_for(env, right) {
+        Cond::And(Vec::new(alloc))
+    } else {
+        Cond::Or(Vec::new(alloc))
+    }
+}
+
+fn compared(
+    alloc: Global,
+    env: &Env,
+    numbering: &mut Numbering,
+    comparison: Comparison,
+    left: &Expr,
+    right: &Expr,
+) -> Result<Cond, GroundFault>
+    ensures { Lowers named_condition numbering.old result numbering.new (compared_in (env_view env.now) comparison (expr_view left.now) (expr_view right.now)) (of_condition (compared_in (env_view env.now) comparison (expr_view left.now) (expr_view right.now))) }
+{
+    let x = expression(alloc, env, numbering, left)?;
+    let y = expression(alloc, env, numbering, right)?;
+    Ok(Cond::Compare(comparison_of(comparison), x, y))
+}
+
+// One of two.
+fn either(alloc: Global, first: Cond, second: Cond) -> Result<Cond, AllocError>
+    ensures { IfOk result (λ c. (t : Tables) → named_condition t c ≡ either (named_condition t first) (named_condition t second)) }
+{
+    let mut conds = Vec::new(alloc);
+    conds.push(first)?;
+    conds.push(second)?;
+    Ok(Cond::Or(conds))
+}
+
+#[cycle(condition)]
+fn conditions(
+    alloc: Global,
+    universe: &Universe,
+    env: &Env,
+    numbering: &mut Numbering,
+    conds: &[tp_syntax::Cond],
+) -> Result<Vec<Cond>, GroundFault>
+    ensures { Lowers (λ t v. map (named_condition t) v.items) numbering.old result numbering.new (map (λ c. condition_in (universe_view universe.now) (env_view env.now) (cond_view c)) conds.now) (of_each of_condition (map (λ c. condition_in (universe_view universe.now) (env_view env.now) (cond_view c)) conds.now)) }
+{
+    let mut lowered = Vec::new(alloc);
+    for cond in conds {
+        lowered.push(condition(alloc, universe, env, numbering, cond)?)?;
+    }
+    Ok(lowered)
+}
+
+// A condition under each binding of variables.
+#[cycle(condition)]
+fn under_each(
+    alloc: Global,
+    universe: &Universe,
+    env: &Env,
+    numbering: &mut Numbering,
+    variables: &[Typed],
+    cond: &tp_syntax::Cond,
+) -> Result<Vec<Cond>, GroundFault>
+    ensures { Lowers (λ t v. map (named_condition t) v.items) numbering.old result numbering.new (map (λ e. condition_in (universe_view universe.now) e (cond_view cond.now)) (inner (universe_view universe.now) (env_view env.now) (map typed_view variables.now))) (of_each of_condition (map (λ e. condition_in (universe_view universe.now) e (cond_view cond.now)) (inner (universe_view universe.now) (env_view env.now) (map typed_view variables.now)))) }
+{
+    let all = bindings(alloc, universe, variables)?;
+    let mut lowered = Vec::new(alloc);
+    for objects in &all {
+        let inner = Env::Inner(&*variables, objects, &*env);
+        lowered.push(condition(alloc, universe, &inner, numbering, cond)?)?;
+    }
+    Ok(lowered)
+}
+
+#[cycle(condition)]
+fn negated(
+    alloc: Global,
+    universe: &Universe,
+    env: &Env,
+    numbering: &mut Numbering,
+    cond: &tp_syntax::Cond,
+) -> Result<Cond, GroundFault>
+    ensures { Lowers named_condition numbering.old result numbering.new (negation (condition_in (universe_view universe.now) (env_view env.now) (cond_view cond.now))) (of_condition (condition_in (universe_view universe.now) (env_view env.now) (cond_view cond.now))) }
+{
+    let lowered = condition(alloc, universe, env, numbering, cond)?;
+    Ok(Cond::Not(Box::new(alloc, lowered)?))
+}
+
+/// The condition over numbers, its quantifiers written out.
+#[cycle(condition)]
+pub fn condition(
+    alloc: Global,
+    universe: &Universe,
+    env: &Env,
+    numbering: &mut Numbering,
+    cond: &tp_syntax::Cond,
+) -> Result<Cond, GroundFault>
+    ensures { Lowers named_condition numbering.old result numbering.new (condition_in (universe_view universe.now) (env_view env.now) (cond_view cond.now)) (of_condition (condition_in (universe_view universe.now) (env_view env.now) (cond_view cond.now))) }
+{
+    match cond {
+        tp_syntax::Cond::And(conds) => {
+            Ok(Cond::And(conditions(alloc, universe, env, numbering, conds)?))
+        }
+        tp_syntax::Cond::Or(conds) => {
+            Ok(Cond::Or(conditions(alloc, universe, env, numbering, conds)?))
+        }
+        tp_syntax::Cond::Not(inner) => negated(alloc, universe, env, numbering, inner),
+        tp_syntax::Cond::Imply(a, b) => {
+            let first = negated(alloc, universe, env, numbering, a)?;
+            let second = condition(alloc, universe, env, numbering, b)?;
+            Ok(either(alloc, first, second)?)
+        }
+        tp_syntax::Cond::Forall(variables, inner) => {
+            let all = under_each(alloc, universe, env, numbering, variables, inner)?;
+            Ok(Cond::And(all))
+        }
+        tp_syntax::Cond::Exists(variables, inner) => {
+            let any = under_each(alloc, universe, env, numbering, variables, inner)?;
+            Ok(Cond::Or(any))
+        }
+        tp_syntax::Cond::Atom(a) => {
+            let number = atom(alloc, env, numbering, a)?;
+            Ok(Cond::Atom(number))
+        }
+        tp_syntax::Cond::Same(a, b) => Ok(same(alloc, env, a, b)),
+        tp_syntax::Cond::Compare(comparison, a, b) => {
+            compared(alloc, env, numbering, *comparison, a, b)
+        }
+    }
+}

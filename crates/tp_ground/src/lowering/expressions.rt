@@ -1,0 +1,97 @@
+//! Expressions.
+
+ghost use Rattle.std.specs.Prelude.{◌≡◌};
+ghost use Rattle.tp_syntax.specs.Terms.{atom_view};
+ghost use Rattle.tp_syntax.specs.ExprViews.{expr_view};
+ghost use Rattle.tp_ground.specs.Bindings.{words_in};
+ghost use Rattle.tp_ground.specs.Views.{env_view};
+ghost use Rattle.tp_ground.specs.Tables.{words_at};
+ghost use Rattle.tp_ground.specs.Written.{expression_in, comparison_of};
+ghost use Rattle.tp_ground.specs.Mentions.{a_fluent, of_expression};
+ghost use Rattle.tp_ground.specs.ReadBack.{named_expression};
+ghost use Rattle.tp_ground.specs.Lowered.{Lowers};
+
+use crate::environment::{Env, words_in};
+use crate::fault::GroundFault;
+use crate::numbering::Numbering;
+use crate::{Comparison, Expr};
+use std::alloc::Global;
+use tp_syntax::Atom;
+
+/// How numbers are compared.
+pub fn comparison_of(comparison: tp_syntax::Comparison) -> Comparison
+    ensures { result ≡ comparison_of comparison }
+{
+    match comparison {
+        tp_syntax::Comparison::Less => Comparison::Less,
+        tp_syntax::Comparison::AtMost => Comparison::AtMost,
+        tp_syntax::Comparison::Equal => Comparison::Equal,
+        tp_syntax::Comparison::AtLeast => Comparison::AtLeast,
+        tp_syntax::Comparison::More => Comparison::Greater,
+    }
+}
+
+/// The number of a fluent.
+pub fn fluent(
+    alloc: Global,
+    env: &Env,
+    numbering: &mut Numbering,
+    atom: &Atom,
+) -> Result<u32, GroundFault>
+    ensures { Lowers (λ t i. words_at t.fluents i) numbering.old result numbering.new (words_in (env_view env.now) (atom_view atom.now)) (a_fluent (words_in (env_view env.now) (atom_view atom.now))) }
+{
+    let words = words_in(alloc, env, atom)?;
+    numbering.fluent(&words)
+}
+
+#[cycle(expression)]
+fn operand(
+    alloc: Global,
+    env: &Env,
+    numbering: &mut Numbering,
+    expr: &tp_syntax::Expr,
+) -> Result<Box<Expr>, GroundFault>
+    ensures { Lowers (λ t b. named_expression t b.value) numbering.old result numbering.new (expression_in (env_view env.now) (expr_view expr.now)) (of_expression (expression_in (env_view env.now) (expr_view expr.now))) }
+{
+    let lowered = expression(alloc, env, numbering, expr)?;
+    Ok(Box::new(alloc, lowered)?)
+}
+
+/// The expression with numbers for its fluents.
+#[cycle(expression)]
+pub fn expression(
+    alloc: Global,
+    env: &Env,
+    numbering: &mut Numbering,
+    expr: &tp_syntax::Expr,
+) -> Result<Expr, GroundFault>
+    ensures { Lowers named_expression numbering.old result numbering.new (expression_in (env_view env.now) (expr_view expr.now)) (of_expression (expression_in (env_view env.now) (expr_view expr.now))) }
+{
+    match expr {
+        tp_syntax::Expr::Number(number) => Ok(Expr::Number(*number)),
+        tp_syntax::Expr::Duration => Ok(Expr::Duration),
+        tp_syntax::Expr::Fluent(atom) => {
+            let number = fluent(alloc, env, numbering, atom)?;
+            Ok(Expr::Fluent(number))
+        }
+        tp_syntax::Expr::Negative(a) => {
+            let x = operand(alloc, env, numbering, a)?;
+            Ok(Expr::Negated(x))
+        }
+        tp_syntax::Expr::Sum(a, b) => {
+            let x = operand(alloc, env, numbering, a)?;
+            let y = operand(alloc, env, numbering, b)?;
+            Ok(Expr::Sum(x, y))
+        }
+        tp_syntax::Expr::Difference(a, b) => {
+            let x = operand(alloc, env, numbering, a)?;
+            let y = operand(alloc, env, numbering, b)?;
+            Ok(Expr::Difference(x, y))
+        }
+        tp_syntax::Expr::Product(a, b) => {
+            let x = operand(alloc, env, numbering, a)?;
+            let y = operand(alloc, env, numbering, b)?;
+            Ok(Expr::Product(x, y))
+        }
+    }
+}

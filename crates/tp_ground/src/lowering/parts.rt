@@ -1,0 +1,115 @@
+//! What is joined by `and` and `forall`, written out one after another.
+
+ghost use Rattle.std.specs.Prelude.{◌≡◌, List, map};
+ghost use Rattle.std.specs.List.{flat_map};
+ghost use Rattle.tp_syntax.specs.Symbols.{typed_view};
+ghost use Rattle.tp_syntax.specs.PartViews.{joined_view};
+ghost use Rattle.tp_syntax.specs.declared.words.Mark as marks;
+ghost use Rattle.tp_ground.specs.Bindings as bindings;
+ghost use Rattle.tp_ground.specs.Views.{env_view, universe_view};
+ghost use Rattle.tp_ground.specs.Tables.{Tables};
+ghost use Rattle.tp_ground.specs.Written.{parts_in, inner};
+ghost use Rattle.tp_ground.specs.Mentions.{Mentions, of_each};
+ghost use Rattle.tp_ground.specs.Lowered.{Lowers};
+
+use crate::environment::Env;
+use crate::fault::GroundFault;
+use crate::numbering::Numbering;
+use crate::universe::{Universe, bindings};
+use std::alloc::Global;
+use tp_syntax::{Joined, Mark, Typed};
+
+/// What may stand inside.
+pub trait Part: Drop {
+    /// What it is made into.
+    type Lowered: Drop;
+
+    /// What it shows, and what is written out for it.
+    ghost Seen: { Type 0 };
+
+    ghost Written: { Type 0 };
+
+    ghost seen: { Self → Seen };
+
+    /// What is made says, in tables.
+    ghost named: { Tables → Self.Lowered → Written };
+
+    ghost mentions: { Written → Mentions };
+
+    /// What is written out at a mark.
+    ghost written: { bindings.Universe → marks.Mark → bindings.Env → Seen → List Written };
+
+    /// What it is at a mark.
+    fn lower(
+        &self,
+        alloc: Global,
+        universe: &Universe,
+        env: &Env,
+        mark: Mark,
+        numbering: &mut Numbering,
+    ) -> Result<Vec<Self::Lowered>, GroundFault>
+        ensures { Lowers (λ t v. map (named t) v.items) numbering.old result numbering.new (written (universe_view universe.now) mark (env_view env.now) (seen self.now)) (of_each mentions (written (universe_view universe.now) mark (env_view env.now) (seen self.now))) };
+}
+
+#[cycle(joined)]
+fn all_parts<P: Part>(
+    alloc: Global,
+    universe: &Universe,
+    env: &Env,
+    mark: Mark,
+    numbering: &mut Numbering,
+    parts: &[Joined<P>],
+) -> Result<Vec<P::Lowered>, GroundFault>
+    ensures { Lowers (λ t v. map (P.named t) v.items) numbering.old result numbering.new (flat_map (λ p. parts_in (universe_view universe.now) (P.written (universe_view universe.now) mark) (env_view env.now) (joined_view P.seen p)) parts.now) (of_each P.mentions (flat_map (λ p. parts_in (universe_view universe.now) (P.written (universe_view universe.now) mark) (env_view env.now) (joined_view P.seen p)) parts.now)) }
+{
+    let mut lowered = Vec::new(alloc);
+    for part in parts {
+        let mut more = joined(alloc, universe, env, mark, numbering, part)?;
+        lowered.append(&mut more)?;
+    }
+    Ok(lowered)
+}
+
+// Parts under each binding of variables.
+#[cycle(joined)]
+fn under_each<P: Part>(
+    alloc: Global,
+    universe: &Universe,
+    env: &Env,
+    mark: Mark,
+    numbering: &mut Numbering,
+    variables: &[Typed],
+    part: &Joined<P>,
+) -> Result<Vec<P::Lowered>, GroundFault>
+    ensures { Lowers (λ t v. map (P.named t) v.items) numbering.old result numbering.new (flat_map (λ e. parts_in (universe_view universe.now) (P.written (universe_view universe.now) mark) e (joined_view P.seen part.now)) (inner (universe_view universe.now) (env_view env.now) (map typed_view variables.now))) (of_each P.mentions (flat_map (λ e. parts_in (universe_view universe.now) (P.written (universe_view universe.now) mark) e (joined_view P.seen part.now)) (inner (universe_view universe.now) (env_view env.now) (map typed_view variables.now)))) }
+{
+    let all = bindings(alloc, universe, variables)?;
+    let mut lowered = Vec::new(alloc);
+    for objects in &all {
+        let inner = Env::Inner(&*variables, objects, &*env);
+        let mut more = joined(alloc, universe, &inner, mark, numbering, part)?;
+        lowered.append(&mut more)?;
+    }
+    Ok(lowered)
+}
+
+/// The parts at a mark, each after the one before.
+#[cycle(joined)]
+pub fn joined<P: Part>(
+    alloc: Global,
+    universe: &Universe,
+    env: &Env,
+    mark: Mark,
+    numbering: &mut Numbering,
+    part: &Joined<P>,
+) -> Result<Vec<P::Lowered>, GroundFault>
+    ensures { Lowers (λ t v. map (P.named t) v.items) numbering.old result numbering.new (parts_in (universe_view universe.now) (P.written (universe_view universe.now) mark) (env_view env.now) (joined_view P.seen part.now)) (of_each P.mentions (parts_in (universe_view universe.now) (P.written (universe_view universe.now) mark) (env_view env.now) (joined_view P.seen part.now))) }
+{
+    match part {
+        Joined::And(parts) => all_parts(alloc, universe, env, mark, numbering, parts),
+        Joined::Forall(variables, inner) => {
+            under_each(alloc, universe, env, mark, numbering, variables, inner)
+        }
+        Joined::One(one) => one.lower(alloc, universe, env, mark, numbering),
+    }
+}

@@ -1,0 +1,59 @@
+//! Rules of durations.
+
+ghost use Rattle.std.specs.Prelude.{◌≡◌, map};
+ghost use Rattle.std.specs.List.{flat_map};
+ghost use Rattle.tp_syntax.specs.RuleViews.{rule_view};
+ghost use Rattle.tp_ground.specs.Views.{env_view};
+ghost use Rattle.tp_ground.specs.Written.{limits_in};
+ghost use Rattle.tp_ground.specs.Mentions.{of_limit, of_each};
+ghost use Rattle.tp_ground.specs.ReadBack.{named_limit};
+ghost use Rattle.tp_ground.specs.Lowered.{Lowers};
+
+use crate::Limit;
+use crate::environment::Env;
+use crate::fault::GroundFault;
+use crate::lowering::expressions::{comparison_of, expression};
+use crate::numbering::Numbering;
+use std::alloc::Global;
+use tp_syntax::DurationRule;
+
+#[cycle(limits)]
+fn all_limits(
+    alloc: Global,
+    env: &Env,
+    numbering: &mut Numbering,
+    rules: &[DurationRule],
+) -> Result<Vec<Limit>, GroundFault>
+    ensures { Lowers (λ t v. map (named_limit t) v.items) numbering.old result numbering.new (flat_map (λ r. limits_in (env_view env.now) (rule_view r)) rules.now) (of_each of_limit (flat_map (λ r. limits_in (env_view env.now) (rule_view r)) rules.now)) }
+{
+    let mut lowered = Vec::new(alloc);
+    for rule in rules {
+        let mut more = limits(alloc, env, numbering, rule)?;
+        lowered.append(&mut more)?;
+    }
+    Ok(lowered)
+}
+
+/// The comparisons of a rule.
+#[cycle(limits)]
+pub fn limits(
+    alloc: Global,
+    env: &Env,
+    numbering: &mut Numbering,
+    rule: &DurationRule,
+) -> Result<Vec<Limit>, GroundFault>
+    ensures { Lowers (λ t v. map (named_limit t) v.items) numbering.old result numbering.new (limits_in (env_view env.now) (rule_view rule.now)) (of_each of_limit (limits_in (env_view env.now) (rule_view rule.now))) }
+{
+    match rule {
+        DurationRule::And(rules) => all_limits(alloc, env, numbering, rules),
+        DurationRule::Limit(comparison, value) => {
+            let value = expression(alloc, env, numbering, value)?;
+            let mut one = Vec::new(alloc);
+            one.push(Limit {
+                how: comparison_of(*comparison),
+                value,
+            })?;
+            Ok(one)
+        }
+    }
+}

@@ -1,0 +1,82 @@
+//! Worked examples: words by number and as text, and bindings.
+
+use crate::environment::{Env, object_for};
+use crate::universe::{Universe, bindings, count_bindings};
+use crate::{GroundFault, Numbering, TooManyKind};
+use std::alloc::{AllocError, Global};
+use std::test::Fail;
+use tp_syntax::{Term, TypeName, Typed, Types};
+
+fn typed(alloc: Global, name: &str, kind: &str) -> Result<Typed, AllocError> {
+    let mut types = Vec::new(alloc);
+    types.push(String::from_str(alloc, kind)?)?;
+    let name = String::from_str(alloc, name)?;
+    Ok(Typed { name, types })
+}
+
+fn type_below(alloc: Global, name: &str, parent: &str) -> Result<TypeName, AllocError> {
+    let name = String::from_str(alloc, name)?;
+    let parent = String::from_str(alloc, parent)?;
+    Ok(TypeName { name, parent })
+}
+
+fn name_at<'a>(all: &[Vec<&'a str>], binding: usize, place: usize) -> Option<&'a str> {
+    match all.get(binding)?.get(place) {
+        Some(name) => Some(*name),
+        None => None,
+    }
+}
+
+#[test]
+fn atoms_and_fluents_are_numbered_apart(rt: HostRuntime) -> Result<(), Fail> {
+    let mut numbering = Numbering::new(rt.alloc(), 2);
+    assert_eq!(rt; numbering.atom(&["at", "a"]), Ok(0));
+    assert_eq!(rt; numbering.atom(&["at", "b"]), Ok(1));
+    assert_eq!(rt; numbering.atom(&["at", "a"]), Ok(0));
+    assert_eq!(rt; numbering.fluent(&["at", "b"]), Ok(0));
+    let many_atoms = GroundFault::TooMany(TooManyKind::Atoms);
+    assert_eq!(rt; numbering.atom(&["a", "at"]), Err(many_atoms));
+    assert_eq!(rt; numbering.fluent(&["at"]), Ok(1));
+    let many_fluents = GroundFault::TooMany(TooManyKind::Fluents);
+    assert_eq!(rt; numbering.fluent(&["b"]), Err(many_fluents));
+    Ok(())
+}
+
+#[test]
+fn the_first_variable_varies_slowest(rt: HostRuntime) -> Result<(), Fail> {
+    let alloc = rt.alloc();
+    let van = type_below(alloc, "van", "car")?;
+    let car = type_below(alloc, "car", "object")?;
+    let place = type_below(alloc, "place", "object")?;
+    let types = [van, car, place];
+    let constants = [typed(alloc, "v", "van")?];
+    let objects = [typed(alloc, "p", "place")?, typed(alloc, "c", "car")?];
+    let universe = Universe {
+        types: Types { declared: &types },
+        constants: &constants,
+        objects: &objects,
+    };
+    let variables = [typed(alloc, "?x", "car")?, typed(alloc, "?y", "object")?];
+    let all = bindings(alloc, &universe, &variables)?;
+    assert_eq!(rt; count_bindings(&universe, &variables, 6), Some(6));
+    assert_eq!(rt; count_bindings(&universe, &variables, 5), None);
+    assert_eq!(rt; all.len(), 6);
+    assert_eq!(rt; name_at(&all, 1, 0), Some("v"));
+    assert_eq!(rt; name_at(&all, 1, 1), Some("p"));
+    assert_eq!(rt; name_at(&all, 3, 0), Some("c"));
+    assert_eq!(rt; name_at(&all, 3, 1), Some("v"));
+    Ok(())
+}
+
+#[test]
+fn an_inner_variable_hides_an_outer_one(rt: HostRuntime) -> Result<(), Fail> {
+    let alloc = rt.alloc();
+    let variables = [typed(alloc, "?x", "object")?];
+    let outer = Env::Inner(&variables, &["a"], &Env::Empty);
+    let env = Env::Inner(&variables, &["b"], &outer);
+    let variable = Term::Variable(String::from_str(alloc, "?x")?);
+    assert_eq!(rt; object_for(&env, &variable), "b");
+    let object = Term::Object(String::from_str(alloc, "a")?);
+    assert_eq!(rt; object_for(&env, &object), "a");
+    Ok(())
+}
