@@ -1,9 +1,8 @@
 -- What an event of a fitting action changes is the task's.
-use Rattle.std.proofs.Common.{◌≡◌, ℕ, Bool, true, ◌&&◌, List, [], ◌∷◌, Option, Some, None, suc, zero}
+use Rattle.std.proofs.Common.{◌≡◌, ℕ, true, List, [], ◌∷◌, suc, zero}
 use Rattle.std.specs.Option.{option_and_then, IfSome}
 use Rattle.std.specs.List.{list_all, slice_get}
 use Rattle.std.proofs.lemmas.Bool.{and_parts}
-use Rattle.tp_ground.specs.declared.GroundEvent.{GroundEvent}
 use Rattle.tp_ground.specs.declared.Body.{Body}
 use Rattle.tp_ground.specs.declared.Body.TheVariants.{Instant, Durative}
 use Rattle.tp_ground.specs.Fits.{body_fits, event_fits}

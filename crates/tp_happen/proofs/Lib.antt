@@ -6,3 +6,10 @@ pub mod Times
 pub mod Limits
 pub mod Answered
 pub mod Lent
+pub mod OnMarks
+pub mod OnForms
+pub mod OnPlans
+pub mod OnPrints
+pub mod OnPrinted
+pub mod OnWritten
+pub mod OnTaskLabels

@@ -1,5 +1,5 @@
 -- A unit has at least one tick.
-use Rattle.std.proofs.Common.{ℕ, ◌<◌, lit<}
+use Rattle.std.proofs.Common.{◌<◌, lit<}
 use Rattle.tp_text.specs.declared.number.Scale.{Scale}
 use Rattle.tp_text.specs.declared.number.Scale.TheVariants.{One, Ten, Hundred, Thousand}
 use Rattle.tp_text.specs.Scales.{scale_ticks}

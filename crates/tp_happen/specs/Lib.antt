@@ -6,3 +6,8 @@ pub mod Terms
 pub mod Fault
 pub mod Parts
 pub mod Steps
+pub mod PlanMarks
+pub mod PlanForms
+pub mod PlanTexts
+pub mod PlanPrints
+pub mod TaskLabels

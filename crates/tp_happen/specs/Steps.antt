@@ -1,5 +1,5 @@
 -- Plans as lists of steps.
-use Rattle.std.specs.Prelude.{◌≡◌, ℕ, ◌+◌, ◌≤◌, Bool, true, nat_le, List, length}
+use Rattle.std.specs.Prelude.{◌≡◌, ◌+◌, ◌≤◌, Bool, true, nat_le, List, length}
 use Rattle.std.specs.List.{list_all}
 use Rattle.tp_happen.specs.declared.plans.Step.{Step}
 

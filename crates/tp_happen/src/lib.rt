@@ -14,22 +14,32 @@
 mod conditions;
 mod events;
 mod faults;
+mod forms;
 mod happening;
 mod interfere;
+mod labels;
 mod lending;
+mod marks;
 mod plans;
+mod printing;
+mod reading;
 mod states;
+mod texts;
 mod values;
 mod writes;
 
 pub use conditions::{compares, holds};
 pub use events::{Event, EventRef, Part};
 pub use faults::{Outcome, Why, rule_defined};
+pub use forms::forms_are_written;
 pub use happening::{ApplyFault, apply};
 pub use interfere::interferes;
 pub use lending::event;
 pub use plans::{Plan, Step};
+pub use printing::plans_are_read;
+pub use reading::PlanFault;
 pub use states::State;
+pub use texts::{print_plan, read_plan};
 pub use values::{Range, value};
 
 #[cfg(test)]

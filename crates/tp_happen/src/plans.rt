@@ -56,6 +56,7 @@ impl Plan {
         ensures steps { result.items ≡ self }
         ensures plan { IsPlan self }
     {
-        self.steps
+        let Plan { steps: all } = self;
+        all
     }
 }

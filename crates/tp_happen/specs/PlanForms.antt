@@ -1,0 +1,76 @@
+-- The form of a line of a plan text: TIME `:` `(` NAME ARG .. `)`, with or without `[` DURATION `]`.
+use Rattle.std.specs.Prelude.{◌≡◌, ℕ, List, [], ◌∷◌, ◌++◌, map, Bool, true, false, ◌==◌, ◌&&◌, ◌||◌, if◌then◌else◌, Option, Some, None, option_map}
+use Rattle.std.specs.Option.{option_and_then}
+use Rattle.std.specs.List.{list_all}
+use Rattle.std.specs.Char.{is_ascii_alphabetic, is_ascii_alphanumeric}
+use Rattle.tp_text.specs.Numbers.{has_time_form}
+use Rattle.tp_happen.specs.PlanMarks.{Mark, word, sign, is_bare, word_first, sign_first}
+use Rattle.tp_happen.specs.declared.forms.Form as shown
+
+pub record Form : Type 0 where
+  pub time : List ℕ
+  pub words : List (List ℕ)
+  pub duration : Option (List ℕ)
+
+abbrev pub bracketed : Option (List ℕ) → List Mark
+bracketed None = []
+bracketed (Some d) = sign 91 ∷ word d ∷ sign 93 ∷ []
+
+-- The marks that a form writes.
+abbrev pub written : Form → List Mark
+written f = word f.time ∷ sign 58 ∷ sign 40 ∷ (map word f.words ++ (sign 41 ∷ bracketed f.duration))
+
+-- what a form of the code is
+abbrev pub form_view : shown.Form → Form
+form_view f = record { time = f.time.now; words = map (λ w. w.now) f.words.items; duration = option_map (λ d. d.now) f.duration }
+
+-- TIME, `:`, `(`, and what follows
+abbrev pub head_of : List Mark → Option (List ℕ × List Mark)
+head_of ms = option_and_then (λ (t : List ℕ × List Mark). option_and_then (λ (a : List Mark). option_map (λ (b : List Mark). (t.0, b)) (sign_first 40 a)) (sign_first 58 t.1)) (word_first ms)
+
+abbrev pub with_word : List ℕ → Option (List (List ℕ) × List Mark) → Option (List (List ℕ) × List Mark)
+with_word w None = None
+with_word w (Some p) = Some (w ∷ p.0, p.1)
+
+-- words up to `)`, and what follows
+abbrev pub words_of : List Mark → Option (List (List ℕ) × List Mark)
+words_of [] = None
+words_of (word w ∷ ms) = with_word w (words_of ms)
+words_of (sign b ∷ ms) = if b == 41 then Some ([], ms) else None
+
+-- nothing, or `[`, a word, `]` and then nothing
+abbrev pub bracket_of : List Mark → Option (List ℕ)
+bracket_of ms = option_and_then (λ (a : List Mark). option_and_then (λ (d : List ℕ × List Mark). option_and_then (λ (b : List Mark). if is_bare b then Some d.0 else None) (sign_first 93 d.1)) (word_first a)) (sign_first 91 ms)
+
+abbrev pub end_of : List Mark → Option (Option (List ℕ))
+end_of ms = if is_bare ms then Some None else option_map Some (bracket_of ms)
+
+-- the form whose marks these are
+abbrev pub form_of : List Mark → Option Form
+form_of ms =
+    option_and_then (λ (h : List ℕ × List Mark). option_and_then (λ (w : List (List ℕ) × List Mark). option_map (λ (d : Option (List ℕ)). record { time = h.0; words = w.0; duration = d }) (end_of w.1)) (words_of h.1)) (head_of ms)
+
+-- a letter, and then letters, digits, '-' and '_'
+abbrev pub is_inner : ℕ → Bool
+is_inner b = is_ascii_alphanumeric b || (b == 45 || b == 95)
+
+abbrev pub is_name : List ℕ → Bool
+is_name [] = false
+is_name (b ∷ bs) = is_ascii_alphabetic b && list_all is_inner bs
+
+-- one name or more
+abbrev pub are_names : List (List ℕ) → Bool
+are_names [] = false
+are_names (w ∷ ws) = list_all is_name (w ∷ ws)
+
+abbrev pub is_duration : Option (List ℕ) → Bool
+is_duration None = true
+is_duration (Some d) = has_time_form d
+
+-- the times have the form of times, and the action's words are names
+abbrev pub is_well_formed : Form → Bool
+is_well_formed f = has_time_form f.time && (are_names f.words && is_duration f.duration)
+
+-- marks are those of a form exactly if the form writes them
+abbrev pub FormsAreWritten : Type 0
+FormsAreWritten = (ms : List Mark) (f : Form) → (form_of ms ≡ Some f → ms ≡ written f) × (ms ≡ written f → form_of ms ≡ Some f)

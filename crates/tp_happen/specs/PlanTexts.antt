@@ -1,0 +1,115 @@
+-- What a plan text says of a task: the steps that its lines spell, and the first line at fault.
+use Rattle.std.specs.Prelude.{◌≡◌, ℕ, ◌+◌, ◌<◌, ◌==◌, Bool, true, false, nat_le, nat_lt, if◌then◌else◌, List, [], ◌∷◌, map, length, Option, Some, None, Result, Ok, Err}
+use Rattle.std.specs.Char.{to_ascii_lowercase}
+use Rattle.std.specs.List.{list_all}
+use Rattle.tp_text.specs.Numbers.{ticks_of}
+use Rattle.tp_text.specs.Scales.{scale_ticks}
+use Rattle.tp_text.specs.declared.number.Scale.{Scale}
+use Rattle.tp_ground.specs.declared.task.ActionId.{ActionId}
+use Rattle.tp_happen.specs.declared.plans.Step.{Step}
+use Rattle.tp_happen.specs.declared.reading.Wrong.{Wrong}
+use Rattle.tp_happen.specs.declared.reading.Wrong.TheVariants as wrong
+use Rattle.tp_happen.specs.declared.reading.PlanFault.{PlanFault}
+use Rattle.tp_happen.specs.declared.reading.PlanFault.TheVariants.{Memory, Line, NoAction, NotTicks, TooMany, NoDuration, Horizon}
+use Rattle.tp_happen.specs.PlanMarks.{marks, is_bare}
+use Rattle.tp_happen.specs.PlanForms.{Form, form_of, is_well_formed}
+
+-- What plan texts need of a task: its scale and horizon, how many ground actions it has, the one of some words, whether an
+-- action is durative, and its words.
+pub record Labelled : Type 0 where
+  pub scale : Scale
+  pub horizon : ℕ
+  pub count : ℕ
+  pub action : List (List ℕ) → Option ActionId
+  pub is_durative : ActionId → Bool
+  pub words : ActionId → List (List ℕ)
+
+-- a byte before the lines of what follows it
+abbrev pub before_lines : ℕ → List (List ℕ) → List (List ℕ)
+before_lines b [] = (b ∷ []) ∷ []
+before_lines b (l ∷ ls) = (b ∷ l) ∷ ls
+
+-- a line ends at LF. A last one without LF counts if it has a byte
+abbrev pub lines_of : List ℕ → List (List ℕ)
+lines_of [] = []
+lines_of (b ∷ bs) = if b == 10 then [] ∷ lines_of bs else before_lines b (lines_of bs)
+
+-- lines that have a mark
+abbrev pub full_lines : List (List ℕ) → List (List ℕ)
+full_lines [] = []
+full_lines (l ∷ ls) = if is_bare (marks l) then full_lines ls else l ∷ full_lines ls
+
+-- The step of an action that starts at a time and lasts some time, if these are ticks and it ends within the horizon.
+abbrev pub timed : ℕ → ActionId → Option ℕ → Option ℕ → Result Step Wrong
+timed horizon a None d = Err wrong.Ticks
+timed horizon a (Some t) None = Err wrong.Ticks
+timed horizon a (Some t) (Some d) = if nat_le (t + d) horizon then Ok (record { tick = t; action = a; duration = d }) else Err wrong.Horizon
+
+-- A durative action needs a duration. That of another is not looked at.
+abbrev pub lasting : ℕ → ℕ → Form → ActionId → Bool → Option (List ℕ) → Result Step Wrong
+lasting scale horizon f a true None = Err wrong.Duration
+lasting scale horizon f a true (Some d) = timed horizon a (ticks_of scale f.time) (ticks_of scale d)
+lasting scale horizon f a false d = timed horizon a (ticks_of scale f.time) (Some 0)
+
+abbrev pub acting : Labelled → Form → Option ActionId → Result Step Wrong
+acting task f None = Err wrong.Action
+acting task f (Some a) = lasting (scale_ticks task.scale) task.horizon f a (task.is_durative a) f.duration
+
+-- the step that a form spells, or what is wrong with it
+abbrev pub form_step : Labelled → Form → Result Step Wrong
+form_step task f = if is_well_formed f then acting task f (task.action f.words) else Err wrong.Form
+
+abbrev pub formed : Labelled → Option Form → Result Step Wrong
+formed task None = Err wrong.Form
+formed task (Some f) = form_step task f
+
+-- the step that a line spells, or what is wrong with it
+abbrev pub step_of : Labelled → List ℕ → Result Step Wrong
+step_of task line = formed task (form_of (marks line))
+
+-- lines that are not empty spell these steps, one each, in order
+abbrev pub LinesSpell : Labelled → List (List ℕ) → List Step → Type 0
+LinesSpell task ls steps = map (step_of task) (full_lines ls) ≡ map Ok steps
+
+abbrev pub fault_or : ℕ → Result Step Wrong → Option (ℕ × Wrong) → Option (ℕ × Wrong)
+fault_or n (Ok s) others = others
+fault_or n (Err w) others = Some (n, w)
+
+-- the first of the lines, numbered from n, that is at fault
+abbrev pub first_fault : Labelled → ℕ → List (List ℕ) → Option (ℕ × Wrong)
+first_fault task n [] = None
+first_fault task n (l ∷ ls) = if is_bare (marks l) then first_fault task (n + 1) ls else fault_or n (step_of task l) (first_fault task (n + 1) ls)
+
+-- what is said of a line at fault
+abbrev pub fault_at : ℕ → Wrong → PlanFault
+fault_at n wrong.Form = Line n
+fault_at n wrong.Action = NoAction n
+fault_at n wrong.Duration = NoDuration n
+fault_at n wrong.Ticks = NotTicks n
+fault_at n wrong.Horizon = Horizon n
+
+-- When lines are refused: a line is the first at fault, with that fault, or over 512 lines are not empty.
+abbrev pub LinesAreRefused : Labelled → List (List ℕ) → PlanFault → Type 0
+LinesAreRefused task ls Memory = Unit {0}
+LinesAreRefused task ls (Line n) = first_fault task 1 ls ≡ Some (n, wrong.Form)
+LinesAreRefused task ls (NoAction n) = first_fault task 1 ls ≡ Some (n, wrong.Action)
+LinesAreRefused task ls (NotTicks n) = first_fault task 1 ls ≡ Some (n, wrong.Ticks)
+LinesAreRefused task ls TooMany = 512 < length (full_lines ls)
+LinesAreRefused task ls (NoDuration n) = first_fault task 1 ls ≡ Some (n, wrong.Duration)
+LinesAreRefused task ls (Horizon n) = first_fault task 1 ls ≡ Some (n, wrong.Horizon)
+
+-- the lines of a text, whose case is not significant
+abbrev pub lines_in : List ℕ → List (List ℕ)
+lines_in text = lines_of (map to_ascii_lowercase text)
+
+-- A text spells the steps of a plan.
+abbrev pub SpellsPlan : Labelled → List ℕ → List Step → Type 0
+SpellsPlan task text steps = LinesSpell task (lines_in text) steps
+
+-- the actions of steps are the task's
+abbrev pub AreKnown : Labelled → List Step → Type 0
+AreKnown task steps = list_all (λ s. nat_lt s.action.0 task.count) steps ≡ true
+
+-- when a text is refused
+abbrev pub IsRefused : Labelled → List ℕ → PlanFault → Type 0
+IsRefused task text fault = LinesAreRefused task (lines_in text) fault

@@ -1,0 +1,133 @@
+//! The marks of a line of a plan text, one after another.
+
+ghost use Rattle.std.specs.Prelude.{◌≡◌, ◌∷◌, [], ◌<◌, ◌≤◌, length, take, drop, All, false, MatchOption, IfSome, option_map};
+ghost use Rattle.std.specs.Str.{IsAscii};
+ghost use Rattle.tp_happen.specs.PlanMarks.{is_sign, kind, begins_blank, begins_word, marks, seen, is_bare, word_first, sign_first};
+
+use std::str::from_utf8;
+
+/// What a byte is.
+#[derive(Clone, Copy, Debug, PartialEq, Eq)]
+pub(crate) enum Kind {
+    Blank,
+    Semicolon,
+    Letter,
+    Alone,
+}
+
+/// A word, or a byte that stands alone.
+#[derive(Clone, Copy, Debug)]
+pub(crate) enum Mark<'a> {
+    Word(&'a str),
+    Sign(u8),
+}
+
+fn is_sign(b: u8) -> bool
+    ensures { result ≡ is_sign b }
+{
+    b == b':' || (b == b'(' || (b == b')' || (b == b'[' || b == b']')))
+}
+
+#[tactic(auto, unfolding(crate::specs::PlanMarks::kind))]
+fn kind_of(b: u8) -> Kind
+    ensures { result ≡ kind b }
+{
+    if b == b' ' || (9 <= b && b <= 13) {
+        Kind::Blank
+    } else if b == b';' {
+        Kind::Semicolon
+    } else if is_sign(b) {
+        Kind::Alone
+    } else if 33 <= b && b <= 126 {
+        Kind::Letter
+    } else {
+        Kind::Alone
+    }
+}
+
+// How many letters stand at the front.
+fn letter_len(line: &[u8]) -> usize
+    ensures in_range { result ≤ length line.now }
+    ensures letters { All (λ b. kind b ≡ Kind.Letter) (take result line.now) }
+    ensures longest { begins_word (drop result line.now) ≡ false }
+{
+    for (n, b) in line.iter().enumerate() {
+        if kind_of(*b) != Kind::Letter {
+            return n;
+        }
+    }
+    line.len()
+}
+
+// The line without the blanks at its front.
+fn after_blanks(line: &[u8]) -> &[u8]
+    ensures same { marks result.now ≡ marks line.now }
+    ensures longest { begins_blank result.now ≡ false }
+    ensures shorter { length result.now ≤ length line.now }
+{
+    for (n, b) in line.iter().enumerate() {
+        if kind_of(*b) != Kind::Blank {
+            return &line[n..];
+        }
+    }
+    &[]
+}
+
+// ASCII bytes as text.
+fn ascii_text(bytes: &[u8]) -> &str
+    requires { IsAscii bytes.now }
+    ensures { result.now ≡ bytes.now }
+{
+    from_utf8(bytes).unwrap()
+}
+
+/// The first mark of a line, and what follows it.
+pub(crate) fn next_mark(line: &[u8]) -> Option<(Mark<'_>, &[u8])>
+    ensures mark { MatchOption result (marks line.now ≡ []) (λ r. marks line.now ≡ seen r.0 ∷ marks r.1.now) }
+    ensures shorter { IfSome result (λ r. length r.1.now < length line.now) }
+{
+    let front = after_blanks(line);
+    let [first, rest @ ..] = front else {
+        return None;
+    };
+    match kind_of(*first) {
+        Kind::Blank | Kind::Semicolon => None,
+        Kind::Letter => {
+            let (word, after) = front.split_at(1 + letter_len(rest));
+            Some((Mark::Word(ascii_text(word)), after))
+        }
+        Kind::Alone => Some((Mark::Sign(*first), rest)),
+    }
+}
+
+/// Whether a line has no mark.
+pub(crate) fn is_bare(line: &[u8]) -> bool
+    ensures { result ≡ is_bare (marks line.now) }
+{
+    match next_mark(line) {
+        Some(_) => false,
+        None => true,
+    }
+}
+
+/// The word that comes first, and what follows it.
+pub(crate) fn take_word(line: &[u8]) -> Option<(&str, &[u8])>
+    ensures { option_map (λ r. (r.0.now, marks r.1.now)) result ≡ word_first (marks line.now) }
+{
+    let (mark, rest) = next_mark(line)?;
+    match mark {
+        Mark::Word(word) => Some((word, rest)),
+        Mark::Sign(_) => None,
+    }
+}
+
+/// What follows this sign, if it comes first.
+pub(crate) fn take_sign(line: &[u8], wanted: u8) -> Option<&[u8]>
+    ensures { option_map (λ r. marks r.now) result ≡ sign_first wanted (marks line.now) }
+{
+    let (mark, rest) = next_mark(line)?;
+    match mark {
+        Mark::Word(_) => None,
+        Mark::Sign(found) => { if found == wanted { Some(rest) } else { None } }
+    }
+}
