@@ -1,7 +1,9 @@
 // A run over readers and writers of std.
 ghost use Rattle.std.specs.Prelude.{◌≡◌, ◌<◌};
 
-use crate::words::{NO_MEMORY, NO_WRITE, OUT_OF_ORDER, run_words};
+use crate::fault_lines::{NO_MEMORY, NO_WRITE, OUT_OF_ORDER};
+use crate::files::Files;
+use crate::words::run_words;
 use std::alloc::Global;
 use std::io::{LineWriter, Read, Write};
 use std::marker::Brand;
@@ -29,9 +31,18 @@ impl<T> Counted<T> {
 }
 
 /// Does what the words ask for, and counts the failures of each stream in a ledger of its own.
-fn run_counted<I: Ledger, O: Ledger, F: Ledger, R: Read + Drop, W: Write + Drop, V: Write + Drop>(
+fn run_counted<
+    I: Ledger,
+    O: Ledger,
+    F: Ledger,
+    N: Files,
+    R: Read + Drop,
+    W: Write + Drop,
+    V: Write + Drop,
+>(
     alloc: Global,
     words: &[String],
+    files: &mut N,
     input: Counted<R>,
     output: Counted<W>,
     faults: Counted<V>,
@@ -49,16 +60,17 @@ fn run_counted<I: Ledger, O: Ledger, F: Ledger, R: Read + Drop, W: Write + Drop,
     let input = FromRead::<R, I>::new(input.stream, input.blank);
     let mut output = ToWrite::<W, O>::new(output.stream, output.blank);
     let mut faults = ToWrite::<V, F>::new(faults.stream, faults.blank);
-    run_words(alloc, words, input, &mut output, &mut faults)
+    run_words(alloc, words, files, input, &mut output, &mut faults)
 }
 
 /// Does what the words ask for, over a reader and writers of std. Answers the exit status.
 ///
 /// Each answer is handed to `output` as soon as its line is whole. What could not be written to `output` in the end is told
 /// as a failed write.
-pub fn run_streams<R: Read + Drop, W: Write + Drop, V: Write + Drop>(
+pub fn run_streams<N: Files, R: Read + Drop, W: Write + Drop, V: Write + Drop>(
     alloc: Global,
     words: &[String],
+    files: &mut N,
     input: R,
     output: W,
     mut faults: V,
@@ -67,9 +79,10 @@ pub fn run_streams<R: Read + Drop, W: Write + Drop, V: Write + Drop>(
         let _ = faults.write_all(NO_MEMORY);
         return OUT_OF_ORDER;
     };
-    let status = run_counted::<Brand, Brand, Brand, _, _, _>(
+    let status = run_counted::<Brand, Brand, Brand, _, _, _, _>(
         alloc,
         words,
+        files,
         Counted::new(input),
         Counted::new(&mut output),
         Counted::new(&mut faults),

@@ -1,4 +1,7 @@
-// Runs of the program over readers and writers in memory.
+// Runs of the program over files, readers and writers in memory.
+mod arguments;
 mod devices;
 mod examples;
+mod fault_lines;
 mod faults;
+mod files;

@@ -1,9 +1,14 @@
-// Readers and writers in memory, and runs over them.
+// Readers, writers and files in memory, and runs over them.
+ghost use Rattle.std.specs.Prelude.{Some, find, option_map};
+ghost use Rattle.std.specs.Str.{bytes_eq};
+
+use crate::files::Files;
 use crate::streams::run_streams;
 use std::alloc::{AllocError, Global};
 use std::io;
 use std::io::{ErrorKind, Read, Write};
 use std::process::Abort;
+use tp_device::{Failed, Source};
 
 /// Bytes that come at most so many a call. Behind them is the end, or where it is broken an error.
 #[derive(Clone, Copy)]
@@ -66,6 +71,43 @@ impl Page {
     }
 }
 
+/// What is left of a file in memory.
+#[derive(Drop)]
+pub struct Stored<'a> {
+    bytes: &'a [u8],
+}
+
+impl Source for Stored<'_> {
+    ghost left = { λ s. Some s.bytes.now };
+
+    ghost failures = { λ _. 0 };
+
+    fn pull(&mut self, buffer: &mut [u8]) -> Result<usize, Failed> {
+        Ok(self.bytes.read(buffer).unwrap_or(0))
+    }
+}
+
+/// Files in memory, and how many were opened or asked for in vain.
+#[derive(Drop)]
+pub struct Shelf<'a> {
+    pub files: &'a [(&'a str, &'a [u8])],
+    pub opened: u64,
+}
+
+impl<'a> Files for Shelf<'a> {
+    type Input = Stored<'a>;
+
+    ghost held = { λ s name. option_map (λ f. f.1.now) (find (λ f. bytes_eq f.0.now name) s.files.now) };
+
+    fn open(&mut self, name: &str) -> Result<Stored<'a>, Failed> {
+        self.opened = self.opened.saturating_add(1);
+        match self.files.iter().find(|file| file.0 == name) {
+            Some(file) => Ok(Stored { bytes: file.1 }),
+            None => Err(Failed),
+        }
+    }
+}
+
 /// A page that takes so many bytes a call, and so many calls.
 #[derive(Clone, Copy)]
 pub struct Room {
@@ -93,6 +135,7 @@ impl Outcome {
     fn wants_memory(&self) -> bool {
         self.starved
             || self.faults.as_slice() == b"fault script 3 memory\n".as_slice()
+            || self.faults.as_slice() == b"fault arguments 2 memory\n".as_slice()
             || self
                 .answers
                 .as_slice()
@@ -112,9 +155,20 @@ fn attempt(
     for word in words {
         owned.push(String::from_str(alloc, word)?)?;
     }
+    let mut files = Shelf {
+        files: &[],
+        opened: 0,
+    };
     let mut output = Page::new(alloc, room);
     let mut faults = Page::new(alloc, WIDE);
-    let status = run_streams(alloc, owned.as_slice(), input, &mut output, &mut faults);
+    let status = run_streams(
+        alloc,
+        owned.as_slice(),
+        &mut files,
+        input,
+        &mut output,
+        &mut faults,
+    );
     Ok(Outcome {
         status,
         starved: output.starved || faults.starved,

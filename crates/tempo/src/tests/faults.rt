@@ -1,5 +1,5 @@
 // Runs that come to a fault, and texts at the edges of a line.
-use super::devices::{Feed, Page, Room, WIDE, run, shows, whole};
+use super::devices::{Feed, Page, Room, Shelf, WIDE, run, shows, whole};
 use crate::streams::run_streams;
 use std::alloc::{AllocError, Global};
 use std::io;
@@ -32,21 +32,6 @@ fn no_words_stand_for_bare(rt: HostRuntime) -> Result<(), Fail> {
     assert_eq!(rt; outcome.status, 0);
     assert_eq!(rt; outcome.answers.as_slice(), ANSWERS);
     assert_eq!(rt; outcome.faults.as_slice(), b"".as_slice());
-    Ok(())
-}
-
-#[test]
-fn other_words_are_refused(rt: HostRuntime) -> Result<(), Fail> {
-    let others: [&[&str]; 5] = [
-        &["plan"],
-        &["bare", "bare"],
-        &["Bare"],
-        &[""],
-        &["--journal", "log"],
-    ];
-    for words in others {
-        refuses(&rt, words, COMMANDS, 2, b"fault arguments 1 words\n")?;
-    }
     Ok(())
 }
 
@@ -199,11 +184,16 @@ impl Write for Withholding {
 
 #[test]
 fn what_is_not_handed_on_in_the_end_is_a_failed_write(rt: HostRuntime) -> Result<(), Fail> {
+    let mut files = Shelf {
+        files: &[],
+        opened: 0,
+    };
     let mut faults = Page::new(rt.alloc(), WIDE);
-    let mut status = run_streams(rt.alloc(), &[], whole(COMMANDS), Withholding, &mut faults);
+    let input = whole(COMMANDS);
+    let mut status = run_streams(rt.alloc(), &[], &mut files, input, Withholding, &mut faults);
     if faults.text.as_slice() != b"fault script 2 write\n".as_slice() {
         faults = Page::new(rt.alloc(), WIDE);
-        status = run_streams(rt.alloc(), &[], whole(COMMANDS), Withholding, &mut faults);
+        status = run_streams(rt.alloc(), &[], &mut files, input, Withholding, &mut faults);
     }
     assert_eq!(rt; status, 3);
     assert_eq!(rt;

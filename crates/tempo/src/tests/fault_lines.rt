@@ -1,0 +1,267 @@
+// The line of each fault, and its exit status.
+ghost use Rattle.std.specs.Prelude.{◌≡◌, ◌<◌};
+
+use super::devices::{Page, WIDE};
+use crate::fault_lines::{FaultLine, complain};
+use crate::files::FileFault;
+use std::alloc::Global;
+use std::io::Write;
+use std::marker::Brand;
+use std::process::Abort;
+use std::sync::ledger::{Blank, Ledger};
+use tp_device::ToWrite;
+use tp_script::ServeFault;
+use tp_syntax::{LeftOutPart, SyntaxFault};
+use tp_text::TextFault;
+
+/// Writes a line. Answers the exit status.
+fn write<L: Ledger, W: Write + Drop>(writer: W, blank: Blank, line: FaultLine<'_>) -> u8
+    requires name { blank.name ≡ L.name }
+    requires parts { blank.parts ≡ L.parts }
+    requires some { 0 < blank.parts }
+{
+    let mut sink = ToWrite::<W, L>::new(writer, blank);
+    complain(&mut sink, line)
+}
+
+/// A page with the line on it, and the exit status.
+fn written(alloc: Global, line: FaultLine<'_>) -> (Page, u8) {
+    let mut page = Page::new(alloc, WIDE);
+    let status = write::<Brand, _>(&mut page, Blank::new(1), line);
+    (page, status)
+}
+
+/// Sees to it that the line is spelled so, and goes with that status.
+fn spells<R: Abort + AllocGlobal>(rt: &R, line: FaultLine<'_>, text: &[u8], status: u8) {
+    let mut outcome = written(rt.alloc(), line);
+    if outcome.0.starved {
+        outcome = written(rt.alloc(), line);
+    }
+    assert_eq!(rt; outcome.0.text.as_slice(), text);
+    assert_eq!(rt; outcome.1, status);
+}
+
+#[test]
+fn faults_of_texts(rt: HostRuntime) {
+    let faults: [(TextFault, &[u8], u8); 7] = [
+        (
+            TextFault::Memory,
+            b"fault domain 2 text 1 memory\n".as_slice(),
+            3,
+        ),
+        (
+            TextFault::TooLong,
+            b"fault domain 2 text 2 too-long\n".as_slice(),
+            2,
+        ),
+        (
+            TextFault::BadByte(7),
+            b"fault domain 2 text 3 bad-byte 7\n".as_slice(),
+            2,
+        ),
+        (
+            TextFault::Unclosed(0),
+            b"fault domain 2 text 4 unclosed 0\n".as_slice(),
+            2,
+        ),
+        (
+            TextFault::Extra(20),
+            b"fault domain 2 text 5 extra 20\n".as_slice(),
+            2,
+        ),
+        (
+            TextFault::Depth(64),
+            b"fault domain 2 text 6 depth 64\n".as_slice(),
+            2,
+        ),
+        (
+            TextFault::Empty,
+            b"fault domain 2 text 7 empty\n".as_slice(),
+            2,
+        ),
+    ];
+    for (fault, text, status) in faults {
+        spells(
+            &rt,
+            FaultLine::of_domain(SyntaxFault::Text(fault)),
+            text,
+            status,
+        );
+    }
+}
+
+#[test]
+fn faults_of_domains_and_problems(rt: HostRuntime) {
+    let faults: [(SyntaxFault, &[u8], u8); 7] = [
+        (
+            SyntaxFault::Memory,
+            b"fault problem 1 memory\n".as_slice(),
+            3,
+        ),
+        (
+            SyntaxFault::Text(TextFault::Empty),
+            b"fault problem 2 text 7 empty\n".as_slice(),
+            2,
+        ),
+        (
+            SyntaxFault::Shape(3),
+            b"fault problem 3 shape 3\n".as_slice(),
+            2,
+        ),
+        (
+            SyntaxFault::Unknown(4),
+            b"fault problem 4 unknown 4\n".as_slice(),
+            2,
+        ),
+        (
+            SyntaxFault::Twice(1048575),
+            b"fault problem 5 twice 1048575\n".as_slice(),
+            2,
+        ),
+        (
+            SyntaxFault::Types(6),
+            b"fault problem 6 types 6\n".as_slice(),
+            2,
+        ),
+        (
+            SyntaxFault::LeftOut(9, LeftOutPart::TimedLiteral),
+            b"fault problem 7 left-out 9 timed-literal\n".as_slice(),
+            2,
+        ),
+    ];
+    for (fault, text, status) in faults {
+        spells(&rt, FaultLine::of_problem(fault), text, status);
+    }
+}
+
+#[test]
+fn constructs_that_are_left_out(rt: HostRuntime) {
+    let constructs: [(LeftOutPart, &[u8]); 14] = [
+        (
+            LeftOutPart::When,
+            b"fault domain 7 left-out 1 when\n".as_slice(),
+        ),
+        (
+            LeftOutPart::Division,
+            b"fault domain 7 left-out 1 division\n".as_slice(),
+        ),
+        (
+            LeftOutPart::ScaleDown,
+            b"fault domain 7 left-out 1 scale-down\n".as_slice(),
+        ),
+        (
+            LeftOutPart::Number,
+            b"fault domain 7 left-out 1 number\n".as_slice(),
+        ),
+        (
+            LeftOutPart::AtEndDuration,
+            b"fault domain 7 left-out 1 at-end-duration\n".as_slice(),
+        ),
+        (
+            LeftOutPart::DurationInCondition,
+            b"fault domain 7 left-out 1 duration-in-condition\n".as_slice(),
+        ),
+        (
+            LeftOutPart::Continuous,
+            b"fault domain 7 left-out 1 continuous\n".as_slice(),
+        ),
+        (
+            LeftOutPart::TimedLiteral,
+            b"fault domain 7 left-out 1 timed-literal\n".as_slice(),
+        ),
+        (
+            LeftOutPart::Derived,
+            b"fault domain 7 left-out 1 derived\n".as_slice(),
+        ),
+        (
+            LeftOutPart::Preference,
+            b"fault domain 7 left-out 1 preference\n".as_slice(),
+        ),
+        (
+            LeftOutPart::Constraint,
+            b"fault domain 7 left-out 1 constraint\n".as_slice(),
+        ),
+        (
+            LeftOutPart::ObjectFluent,
+            b"fault domain 7 left-out 1 object-fluent\n".as_slice(),
+        ),
+        (
+            LeftOutPart::Either,
+            b"fault domain 7 left-out 1 either\n".as_slice(),
+        ),
+        (
+            LeftOutPart::Operands,
+            b"fault domain 7 left-out 1 operands\n".as_slice(),
+        ),
+    ];
+    for (what, text) in constructs {
+        spells(
+            &rt,
+            FaultLine::of_domain(SyntaxFault::LeftOut(1, what)),
+            text,
+            2,
+        );
+    }
+}
+
+#[test]
+fn faults_of_files(rt: HostRuntime) {
+    let faults: [(FileFault, &[u8], &[u8], &[u8], u8); 4] = [
+        (
+            FileFault::Memory,
+            b"fault domain 1 memory\n".as_slice(),
+            b"fault problem 1 memory\n".as_slice(),
+            b"fault plan 1 memory\n".as_slice(),
+            3,
+        ),
+        (
+            FileFault::Read,
+            b"fault file 1 read x y\n".as_slice(),
+            b"fault file 1 read x y\n".as_slice(),
+            b"fault file 1 read x y\n".as_slice(),
+            3,
+        ),
+        (
+            FileFault::Utf8,
+            b"fault file 2 utf8 x y\n".as_slice(),
+            b"fault file 2 utf8 x y\n".as_slice(),
+            b"fault file 2 utf8 x y\n".as_slice(),
+            2,
+        ),
+        (
+            FileFault::TooLong,
+            b"fault domain 2 text 2 too-long\n".as_slice(),
+            b"fault problem 2 text 2 too-long\n".as_slice(),
+            b"fault file 3 too-long x y\n".as_slice(),
+            2,
+        ),
+    ];
+    for (fault, domain, problem, plan, status) in faults {
+        spells(&rt, FaultLine::of_domain_file(fault, "x y"), domain, status);
+        spells(
+            &rt,
+            FaultLine::of_problem_file(fault, "x y"),
+            problem,
+            status,
+        );
+        spells(&rt, FaultLine::of_plan_file(fault, "x y"), plan, status);
+    }
+}
+
+#[test]
+fn faults_of_serving(rt: HostRuntime) {
+    let faults: [(ServeFault, &[u8], u8); 5] = [
+        (ServeFault::Read, b"fault script 1 read\n".as_slice(), 3),
+        (ServeFault::Write, b"fault script 2 write\n".as_slice(), 3),
+        (ServeFault::Memory, b"fault script 3 memory\n".as_slice(), 3),
+        (
+            ServeFault::TooLong,
+            b"fault script 4 too-long\n".as_slice(),
+            2,
+        ),
+        (ServeFault::Head, b"fault script 5 head\n".as_slice(), 2),
+    ];
+    for (fault, text, status) in faults {
+        spells(&rt, FaultLine::of_serving(fault), text, status);
+    }
+}
