@@ -5,11 +5,26 @@ status, line; paths of plans (and of domains made with them) are relative to the
 folder, others absolute.  Cases in which a number passes 10^15 are left out, since
 the program may answer Range there."""
 
+import argparse
 import collections
 from pathlib import Path
 
 import validity
 from check import verdict
+
+
+EXAMPLES = Path(__file__).resolve().parents[2] / "examples"
+
+
+def arguments(with_examples=False):
+    """The words of a call that makes a folder of cases."""
+    p = argparse.ArgumentParser()
+    p.add_argument("--seed", type=int, default=1)
+    p.add_argument("--count", type=int, default=1000)
+    p.add_argument("--out", required=True)
+    if with_examples:
+        p.add_argument("--examples", default=str(EXAMPLES))
+    return p.parse_args()
 
 
 def kind_of(line):

@@ -5,10 +5,9 @@ Small domains and problems of every form of condition, expression, effect and du
 rule, with dense plans: few atoms and fluents, ticks close together, so that every kind
 of verdict comes up often.  The same seed gives the same folder."""
 
-import argparse
 import random
 
-from cases import Cases
+from cases import Cases, arguments
 from reader import Fault, read_domain, read_problem
 from task import Task
 
@@ -223,11 +222,7 @@ def plan(task, scale, rng):
 
 
 def main():
-    p = argparse.ArgumentParser()
-    p.add_argument("--seed", type=int, default=1)
-    p.add_argument("--count", type=int, default=1000)
-    p.add_argument("--out", required=True)
-    w = p.parse_args()
+    w = arguments()
     rng = random.Random(w.seed)
     cases, number = Cases(w.out), 0
     while cases.count < w.count:

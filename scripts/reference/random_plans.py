@@ -5,11 +5,10 @@ Perturbs the plans of the example domains: shifted, aligned and swapped ticks, o
 durations, swapped lines, dropped, doubled and invented steps, other arguments, other
 spellings, now and then a line at fault.  The same seed gives the same folder."""
 
-import argparse
 import random
 from pathlib import Path
 
-from cases import Cases
+from cases import Cases, arguments
 from check import load, load_task
 from reader import read_plan
 
@@ -141,12 +140,7 @@ def plan_text(lines, scale, rng):
 
 
 def main():
-    p = argparse.ArgumentParser()
-    p.add_argument("--seed", type=int, default=1)
-    p.add_argument("--count", type=int, default=1000)
-    p.add_argument("--out", required=True)
-    p.add_argument("--examples", default=str(Path(__file__).resolve().parents[2] / "examples"))
-    w = p.parse_args()
+    w = arguments(with_examples=True)
     rng = random.Random(w.seed)
     cases = Cases(w.out)
     worlds = []

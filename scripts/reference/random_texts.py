@@ -5,12 +5,11 @@ Domains and problems with words or lists taken out, doubled, swapped or replaced
 checked with an empty plan.  Where a text is refused the table tells the fault found here;
 where a text has several faults another may be named (`compare.py` counts those apart)."""
 
-import argparse
 import random
 from pathlib import Path
 
 import random_domains
-from cases import Cases
+from cases import Cases, arguments
 from check import load_task
 from reader import Fault, tokens
 from rows import CHARGE, MATCH, MIX, TANK, TOGGLE
@@ -107,12 +106,7 @@ def bases(examples, rng):
 
 
 def main():
-    p = argparse.ArgumentParser()
-    p.add_argument("--seed", type=int, default=1)
-    p.add_argument("--count", type=int, default=1000)
-    p.add_argument("--out", required=True)
-    p.add_argument("--examples", default=str(Path(__file__).resolve().parents[2] / "examples"))
-    w = p.parse_args()
+    w = arguments(with_examples=True)
     rng = random.Random(w.seed)
     cases = Cases(w.out)
     of = bases(w.examples, rng)

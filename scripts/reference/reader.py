@@ -301,21 +301,20 @@ class Formulas:
                 raise types_fault(a)
         return [t for t, _ in read]
 
-    def atom(self, tree, scope):
+    def applied(self, tree, declared, scope):
+        """The name, one of those declared, and the terms of `(NAME TERM ..)`."""
         if not isinstance(tree, List) or not tree.items or not is_name(tree.items[0]):
             raise shape(tree)
         name = tree.items[0].text
-        if name not in self.predicates:
+        if name not in declared:
             raise unknown(tree.items[0])
-        return name, self.terms(tree, self.predicates[name], scope)
+        return name, self.terms(tree, declared[name], scope)
+
+    def atom(self, tree, scope):
+        return self.applied(tree, self.predicates, scope)
 
     def fluent(self, tree, scope):
-        if not isinstance(tree, List) or not tree.items or not is_name(tree.items[0]):
-            raise shape(tree)
-        name = tree.items[0].text
-        if name not in self.functions:
-            raise unknown(tree.items[0])
-        return name, self.terms(tree, self.functions[name], scope)
+        return self.applied(tree, self.functions, scope)
 
     def variables(self, tree, scope):
         if not isinstance(tree, List):

@@ -69,33 +69,26 @@ class Task:
             g.effects["only"] = self.effects(a.effect, env)
             return g
         parts = {"start": [], "all": [], "end": []}
-        self.timed_conditions(a.condition, env, parts)
+        for moment, condition, inner in self.timed(a.condition, env):
+            parts[moment].append(self.condition(condition, inner))
         g.conditions = {p: ("and", parts[p]) for p in ("start", "end")}
         g.invariant = ("and", parts["all"])
         g.effects = {"start": [], "end": []}
-        self.timed_effects(a.effect, env, g.effects)
+        for moment, effect, inner in self.timed(a.effect, env):
+            g.effects[moment] += self.effects(effect, inner)
         self.rule(a.rule, env, g.rule)
         return g
 
-    def timed_conditions(self, t, env, parts):
+    def timed(self, t, env):
+        """What stands at a moment, with the moment and what variables stand for there."""
         if t[0] == "and":
             for x in t[1]:
-                self.timed_conditions(x, env, parts)
+                yield from self.timed(x, env)
         elif t[0] == "forall":
             for inner in self.bindings(t[1], env):
-                self.timed_conditions(t[2], inner, parts)
+                yield from self.timed(t[2], inner)
         else:
-            parts[t[1]].append(self.condition(t[2], env))
-
-    def timed_effects(self, t, env, out):
-        if t[0] == "and":
-            for x in t[1]:
-                self.timed_effects(x, env, out)
-        elif t[0] == "forall":
-            for inner in self.bindings(t[1], env):
-                self.timed_effects(t[2], inner, out)
-        else:
-            out[t[1]] += self.effects(t[2], env)
+            yield t[1], t[2], env
 
     def rule(self, r, env, out):
         if r[0] == "and":
