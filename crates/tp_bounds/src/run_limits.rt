@@ -119,7 +119,8 @@ impl Limits {
 
     /// The most ground actions.
     pub fn actions(&self) -> u32
-        ensures { result ≡ self.now.actions }
+        ensures actions { result ≡ self.now.actions }
+        ensures few { result ≤ MOST_ACTIONS }
     {
         self.actions
     }

@@ -1,7 +1,7 @@
 -- Bodies of ground actions, numbered one after another.
-use Rattle.std.proofs.Common.{◌≡◌, ℕ, ◌+◌, ◌<◌, ◌≤◌, List, [], ◌∷◌, ◌++◌, length, take, drop, get_or, map, Result, IsErrAnd, Bor, Vec, Global, refl, sym, ap, subst, ◌∙◌, append-nil}
+use Rattle.std.proofs.Common.{◌≡◌, ℕ, ◌+◌, ◌<◌, List, [], ◌∷◌, ◌++◌, length, take, drop, get_or, map, Result, IsErrAnd, Bor, Vec, Global, refl, sym, ap, subst, ◌∙◌, append-nil}
 use Rattle.std.specs.List.{flat_map}
-use Rattle.std.proofs.lemmas.List.{map-append, take_more, take_all, take-append-drop}
+use Rattle.std.proofs.lemmas.List.{map-append, take_more, take-append-drop}
 use Rattle.tp_syntax.specs.Symbols.{Name, Declared, typed_view}
 use Rattle.tp_syntax.specs.Actions as actions
 use Rattle.tp_syntax.specs.DomainViews.{action_view}
@@ -20,7 +20,7 @@ use Rattle.tp_ground.specs.declared.fault.GroundFault.{GroundFault}
 use Rattle.tp_ground.proofs.Along.{next, map_next}
 use Rattle.tp_ground.proofs.OnEntries.{empty_env}
 use Rattle.tp_ground.proofs.OnInner.{names_of, inner_env}
-use Rattle.tp_ground.proofs.OnLowered.{then_assoc, of_each-append, of_each_one, lowered_none, lowered_same, lowered_both, overflows_first, overflows_then, failed}
+use Rattle.tp_ground.proofs.OnLowered.{then_assoc, of_each-append, of_each_one, lowered_same, lowered_both, overflows_first, overflows_then, failed}
 
 module _ {X : Type 0} (of : X → Mentions) (xs : List X) (i : ℕ) (x : X) (lt : i < length xs) (item : x ≡ get_or xs i x) where
   pub each_next : of_each of (take (i + 1) xs) ≡ (of_each of (take i xs) then of x)

@@ -1,5 +1,5 @@
 -- Entries of ':init' that cannot be numbered.
-use Rattle.std.proofs.Common.{◌≡◌, ℕ, ℤ, List, [], sym, subst, rules}
+use Rattle.std.proofs.Common.{◌≡◌, ℤ, [], sym, subst, rules}
 use Rattle.tp_syntax.specs.Terms.{atom_view}
 use Rattle.tp_syntax.specs.DomainViews.{initial_view}
 use Rattle.tp_syntax.specs.declared.term.Atom.{Atom}

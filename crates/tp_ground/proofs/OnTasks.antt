@@ -1,19 +1,25 @@
 -- What is written out of a problem, numbered one after another, and the task of it.
-use Rattle.std.proofs.Common.{◌≡◌, ℕ, ◌+◌, ◌<◌, ◌≤◌, true, false, None, List, [], ◌∷◌, ◌++◌, length, get_or, map, Result, Vec, Global, refl, sym, ap, ap₂, subst, ◌∙◌, arith, append-nil}
-use Rattle.std.specs.List.{AllByRecursion, IsDistinct, list_all, flat_map}
+use Rattle.std.proofs.Common.{◌≡◌, ◌<◌, ◌≤◌, true, false, None, List, [], ◌∷◌, ◌++◌, length, map, Result, Vec, Global, refl, sym, ap, ap₂, subst, ◌∙◌, arith, append-nil}
+use Rattle.std.specs.List.{AllByRecursion, IsDistinct, list_all}
 use Rattle.std.proofs.lemmas.Bool.{and_from}
+use Rattle.std.proofs.lemmas.List.{length-map, get_or-map}
 use Rattle.tp_syntax.specs.Symbols.{Name}
 use Rattle.tp_syntax.specs.Conditions.{Condition}
 use Rattle.tp_syntax.specs.Actions as actions
+use Rattle.tp_syntax.specs.Domains.{Domain}
+use Rattle.tp_syntax.specs.Problems.{Problem}
 use Rattle.tp_syntax.specs.DomainViews.{initial_view, action_view}
 use Rattle.tp_syntax.specs.declared.action.Action.{Action}
 use Rattle.tp_syntax.specs.declared.problem.Initial.{Initial}
+use Rattle.tp_bounds.specs.RunLimits.{RunLimits}
+use Rattle.tp_text.specs.declared.number.Scale.{Scale}
+use Rattle.tp_ground.specs.Words.{Words, same_words, with_all, firsts}
 use Rattle.tp_ground.specs.Views.{env_view}
 use Rattle.tp_ground.specs.Bindings.{Universe, Env, bindings, bound}
 use Rattle.tp_ground.specs.Fits.{body_fits}
 use Rattle.tp_ground.specs.Tables.{Tables, CannotNumber}
 use Rattle.tp_ground.specs.Written.{GroundCondition, GroundBody, GroundAction, condition_in, body_in}
-use Rattle.tp_ground.specs.Mentions.{Mentions, ◌then◌, of_condition, of_each}
+use Rattle.tp_ground.specs.Mentions.{Mentions, of_condition, of_each}
 use Rattle.tp_ground.specs.ReadBack.{named_condition, named_body}
 use Rattle.tp_ground.specs.Initially.{GroundInitial, initial_in, of_initial, named_initial, is_initially_true, initial_value}
 use Rattle.tp_ground.specs.Lowered.{Notes, Extends, IsLowered, Overflows, Lowers}
@@ -22,12 +28,16 @@ use Rattle.tp_ground.specs.WrittenTasks.{WrittenTask, written_task, named_task, 
 use Rattle.tp_ground.specs.declared.environment.Env.{Empty}
 use Rattle.tp_ground.specs.declared.beginning.NumberedInitial.{NumberedInitial}
 use Rattle.tp_ground.specs.declared.grounder.LoweredTask.{LoweredTask}
+use Rattle.tp_ground.specs.declared.task.Task.{Task}
 use Rattle.tp_ground.specs.declared.fault.GroundFault.{GroundFault}
+use Rattle.tp_ground.specs.declared.fault.GroundFault.TheVariants as faults
+use Rattle.tp_ground.specs.declared.fault.TooManyKind.TheVariants as kinds
 use Rattle.tp_ground.specs.declared.Cond.{Cond}
 use Rattle.tp_ground.specs.declared.Body.{Body}
 use Rattle.tp_ground.proofs.OnBodies.{at_first, at_second, at_third}
 use Rattle.tp_ground.proofs.OnEntries.{empty_env}
 use Rattle.tp_ground.proofs.OnFits.{body_fits_of}
+use Rattle.tp_ground.proofs.OnInitially.{with_all_distinct, true_there, value_there, same_reads}
 use Rattle.tp_ground.proofs.OnLowered.{lowered_both, lowered_same}
 
 entries_view : (is : List Initial) → map (λ i. initial_in (initial_view i)) is ≡ map initial_in (map initial_view is)
@@ -113,3 +123,102 @@ module _ (u : Universe) where
 
   pub bodies_fit : (t : Tables) (bs : List Body) (each : List actions.Action) → map (named_body t) bs ≡ map (λ g. g.body) (ground_actions u each) → list_all (body_fits (length t.atoms) (length t.fluents)) bs ≡ true
   bodies_fit t bs each e = fit t bs (map (λ g. g.body) (ground_actions u each)) (all_written each) e
+
+-- ---- the task
+
+-- tables to which only actions came
+pub same_extend : (a b : Tables) → b.atoms ≡ a.atoms → b.fluents ≡ a.fluents → Extends a b
+same_extend a b atoms fluents = record { atoms = ([], atoms ∙ sym (append-nil a.atoms)); fluents = ([], fluents ∙ sym (append-nil a.fluents)) }
+
+module _ (limits : RunLimits) (scale : Scale) (d : Domain) (p : Problem) (none new later : Tables) (l : LoweredTask)
+    (empty : none ≡ record { atoms = []; fluents = []; actions = []; most = limits.atoms })
+    (lowered : IsLowered named_task none new l (written_task (universe_of d p) p.initial p.goal d.actions) (mentioned d p))
+    (names : later.actions ≡ new.actions ++ map (λ a. a.words) (ground_actions (universe_of d p) d.actions))
+    (atoms : later.atoms ≡ new.atoms) (fluents : later.fluents ≡ new.fluents) (most : later.most ≡ new.most) where
+  pub said : named_task later l ≡ written_task (universe_of d p) p.initial p.goal d.actions
+  said = lowered.says later (same_extend new later atoms fluents)
+
+  bodies : map (named_body later) l.actions.items ≡ map (λ a. a.body) (ground_actions (universe_of d p) d.actions)
+  bodies = ap (λ (w : WrittenTask). w.bodies) said
+
+  entries : map (named_initial later) l.entries.items ≡ map initial_in p.initial
+  entries = ap (λ (w : WrittenTask). w.initial) said
+
+  all_names : later.actions ≡ map (λ a. a.words) (ground_actions (universe_of d p) d.actions)
+  all_names = names ∙ ap (λ (ws : List Words). ws ++ map (λ a. a.words) (ground_actions (universe_of d p) d.actions)) (lowered.notes.actions ∙ ap (λ (t : Tables). t.actions) empty)
+
+  all_atoms : later.atoms ≡ firsts (mentioned d p).atoms
+  all_atoms = atoms ∙ lowered.notes.atoms ∙ ap (λ (t : Tables). with_all t.atoms (mentioned d p).atoms) empty
+
+  all_fluents : later.fluents ≡ firsts (mentioned d p).fluents
+  all_fluents = fluents ∙ lowered.notes.fluents ∙ ap (λ (t : Tables). with_all t.fluents (mentioned d p).fluents) empty
+
+  how_many : length l.actions.items ≡ length (ground_actions (universe_of d p) d.actions)
+  how_many = sym (length-map l.actions.items (named_body later)) ∙ ap length bodies ∙ length-map (ground_actions (universe_of d p) d.actions) (λ a. a.body)
+
+  pub few_here : length (ground_actions (universe_of d p) d.actions) ≤ 65_535 → length l.actions.items ≤ 65_535
+  few_here h = let e : length l.actions.items ≡ length (ground_actions (universe_of d p) d.actions) = how_many in omega arith
+
+  pub fits_here : list_all (body_fits (length later.atoms) (length later.fluents)) l.actions.items ≡ true
+  fits_here = bodies_fit (universe_of d p) later l.actions.items d.actions bodies
+
+  pub named_here : length later.actions ≡ length l.actions.items
+  named_here = ap length all_names ∙ length-map (ground_actions (universe_of d p) d.actions) (λ a. a.words) ∙ sym how_many
+
+  atoms_distinct : IsDistinct same_words later.atoms
+  unfolding IsDistinct
+  atoms_distinct = subst (IsDistinct same_words) (sym all_atoms) (with_all_distinct [] (mentioned d p).atoms tt)
+
+  fluents_distinct : IsDistinct same_words later.fluents
+  unfolding IsDistinct
+  fluents_distinct = subst (IsDistinct same_words) (sym all_fluents) (with_all_distinct [] (mentioned d p).fluents tt)
+
+  module _ (t : Task) (made : IsMade limits scale later l t) where
+    atoms_then : t.initial_atoms.items ≡ map (is_initially_true (map initial_in p.initial)) later.atoms
+    atoms_then =
+        same_reads false t.initial_atoms.items (map (is_initially_true (map initial_in p.initial)) later.atoms)
+        (made.atom_count ∙ sym (length-map later.atoms (is_initially_true (map initial_in p.initial))))
+        (λ j lt.
+        let below : j < length later.atoms = subst (λ n. j < n) (length-map later.atoms (is_initially_true (map initial_in p.initial))) lt in
+        made.atoms j below
+        ∙ true_there later atoms_distinct j below l.entries.items p.initial entries
+        ∙ sym (get_or-map (is_initially_true (map initial_in p.initial)) later.atoms j [] false below))
+
+    numbers_then : t.initial_numbers.items ≡ map (initial_value (map initial_in p.initial)) later.fluents
+    numbers_then =
+        same_reads None t.initial_numbers.items (map (initial_value (map initial_in p.initial)) later.fluents)
+        (made.fluent_count ∙ sym (length-map later.fluents (initial_value (map initial_in p.initial))))
+        (λ j lt.
+        let below : j < length later.fluents = subst (λ n. j < n) (length-map later.fluents (initial_value (map initial_in p.initial))) lt in
+        made.numbers j below
+        ∙ value_there later fluents_distinct j below l.entries.items p.initial entries
+        ∙ sym (get_or-map (initial_value (map initial_in p.initial)) later.fluents j [] None below))
+
+    pub is_task : IsTask limits scale d p t
+    is_task = record {
+      same_limits = made.same_limits;
+      same_scale = made.same_scale;
+      atoms = ap (λ (n : Tables). n.atoms) made.same_numbering ∙ all_atoms;
+      fluents = ap (λ (n : Tables). n.fluents) made.same_numbering ∙ all_fluents;
+      names = ap (λ (n : Tables). n.actions) made.same_numbering ∙ all_names;
+      bodies = ap₂ (λ (n : Tables) (v : Vec Body Global). map (named_body n) v.items) made.same_numbering made.same_actions ∙ bodies;
+      goal = ap₂ (λ (n : Tables) (g : Cond). named_condition n g) made.same_numbering made.same_goal ∙ ap (λ (w : WrittenTask). w.goal) said;
+      initial_atoms = atoms_then ∙ sym (ap (λ (n : Tables). map (is_initially_true (map initial_in p.initial)) n.atoms) made.same_numbering);
+      initial_numbers = numbers_then ∙ sym (ap (λ (n : Tables). map (initial_value (map initial_in p.initial)) n.fluents) made.same_numbering);
+    }
+
+-- what cannot be numbered is too much
+pub overflowed : (limits : RunLimits) (d : Domain) (p : Problem) (none : Tables) (e : GroundFault) → none ≡ record { atoms = []; fluents = []; actions = []; most = limits.atoms } → Overflows none (mentioned d p) e → HasNoTask limits d p e
+overflowed limits d p none e empty h = by e (subst (λ (t : Tables). Overflows t (mentioned d p) e) empty h)
+  where
+    by : (f : GroundFault) → CannotNumber limits.atoms (firsts (mentioned d p).atoms) (firsts (mentioned d p).fluents) f → HasNoTask limits d p f
+    by faults.Memory k = tt
+    by (faults.TooMany kinds.Atoms) k = k
+    by (faults.TooMany kinds.Fluents) k = k
+    by (faults.TooMany kinds.Objects) k = absurd k
+    by (faults.TooMany kinds.Actions) k = absurd k
+    by faults.Range k = absurd k
+
+-- the names of all actions, where the universe and the actions are told in other words
+pub names_then : (new later : List Words) (u v : Universe) (each bs : List Action) → u ≡ v → each ≡ bs → later ≡ new ++ map (λ a. a.words) (ground_actions u (map action_view each)) → later ≡ new ++ map (λ a. a.words) (ground_actions v (map action_view bs))
+names_then new later u v each bs p q e = e ∙ ap₂ (λ (w : Universe) (xs : List Action). new ++ map (λ a. a.words) (ground_actions w (map action_view xs))) p q

@@ -8,13 +8,13 @@ ghost use Rattle.tp_syntax.specs.DomainViews.{initial_view, action_view, domain_
 ghost use Rattle.tp_ground.specs.Fits.{body_fits};
 ghost use Rattle.tp_ground.specs.Views.{universe_view};
 ghost use Rattle.tp_ground.specs.Lowered.{Lowers};
-ghost use Rattle.tp_ground.specs.Grounding.{universe_of, ground_actions, mentioned, HasNoTask};
+ghost use Rattle.tp_ground.specs.Grounding.{universe_of, ground_actions, mentioned, IsTask, HasNoTask};
 ghost use Rattle.tp_ground.specs.WrittenTasks.{written_task, named_task, of_task, IsMade};
 
 use crate::beginning::{NumberedInitial, entries, numbers, truths};
 use crate::environment::Env;
 use crate::fault::{GroundFault, TooManyKind};
-use crate::grounding::{actions_fit, lower_actions};
+use crate::grounding::{actions_fit, lower_actions, name_actions};
 use crate::lowering::condition;
 use crate::numbering::Numbering;
 use crate::numbers::has_great_number;
@@ -57,6 +57,7 @@ fn universe_of<'a>(domain: &'a Domain, problem: &'a Problem) -> Universe<'a>
 
 // What can be told before anything is written out.
 fn check(domain: &Domain, problem: &Problem, limits: &Limits) -> Result<(), GroundFault>
+    ensures most { OnOk result (limits.now.actions ≤ 65_535) }
     ensures few { OnOk result (length (ground_actions (universe_of (domain_view domain.now) (problem_view problem.now)) (domain_view domain.now).actions) ≤ limits.now.actions) }
     ensures err { IfErr result (HasNoTask limits.now (domain_view domain.now) (problem_view problem.now)) }
 {
@@ -141,4 +142,24 @@ fn task_of(
         initial_numbers,
         goal,
     })
+}
+
+/// The task of a problem of a domain: its actions written out over its objects, atoms and fluents numbered in the order in
+/// which `:init`, the goal and the ground actions mention them.
+pub fn ground(
+    alloc: Global,
+    domain: &Domain,
+    problem: &Problem,
+    limits: &Limits,
+    scale: Scale,
+) -> Result<Task, GroundFault>
+    ensures ok { IfOk result (IsTask limits.now scale (domain_view domain.now) (problem_view problem.now)) }
+    ensures err { IfErr result (HasNoTask limits.now (domain_view domain.now) (problem_view problem.now)) }
+{
+    check(domain, problem, limits)?;
+    let mut numbering = Numbering::new(alloc, limits.atoms());
+    let lowered = lower_task(alloc, &mut numbering, domain, problem)?;
+    let universe = universe_of(domain, problem);
+    name_actions(alloc, &universe, &mut numbering, &domain.actions)?;
+    Ok(task_of(alloc, *limits, scale, numbering, lowered)?)
 }

@@ -22,10 +22,13 @@ mod numbering;
 mod numbers;
 mod task;
 #[cfg(test)]
+mod task_tests;
+#[cfg(test)]
 mod tests;
 mod universe;
 
 pub use fault::{GroundFault, TooManyKind};
+pub use grounder::ground;
 pub use numbering::Numbering;
 pub use numbers::has_great_number;
 pub use task::{ActionId, AtomId, FluentId, Task};
