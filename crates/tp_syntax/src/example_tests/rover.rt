@@ -1,4 +1,4 @@
-//! The texts of two rovers, as they stand in the folder of examples.
+//! The texts of two rovers and a lander, as they stand in the folder of examples.
 
 pub const DOMAIN: &str =
     "; Two rovers and a lander.  Time is in minutes; energy is counted so that full
