@@ -19,6 +19,7 @@ mod joined;
 mod lists;
 mod once;
 mod print;
+mod print_parts;
 mod problem;
 mod problem_parts;
 mod rule;
@@ -51,6 +52,8 @@ pub use words::{Comparison, Mark, Writing};
 
 #[cfg(test)]
 mod domain_tests;
+#[cfg(test)]
+mod example_tests;
 #[cfg(test)]
 mod print_tests;
 #[cfg(test)]

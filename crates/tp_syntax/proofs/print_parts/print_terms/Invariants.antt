@@ -3,7 +3,7 @@ use Rattle.tp_text.specs.Texts.{more_text}
 use Rattle.tp_syntax.specs.Terms.{term_view}
 use Rattle.tp_syntax.specs.Printing.{argument_shapes}
 use Rattle.tp_syntax.specs.DomainTexts.{Took}
-use Rattle.tp_syntax.proofs.print.print_terms.Given as goal
+use Rattle.tp_syntax.proofs.print_parts.print_terms.Given as goal
 
 abbrev pub invariant-loop-term : goal.invariant-loop-term
 invariant-loop-term g l =

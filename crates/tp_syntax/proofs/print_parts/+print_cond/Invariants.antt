@@ -4,7 +4,7 @@ use Rattle.tp_syntax.specs.Conditions.{conditions}
 use Rattle.tp_syntax.specs.CondViews.{cond_view}
 use Rattle.tp_syntax.specs.Printing.{condition_shapes}
 use Rattle.tp_syntax.specs.DomainTexts.{Took}
-use Rattle.tp_syntax.proofs.print.+print_cond.Given as goal
+use Rattle.tp_syntax.proofs.print_parts.+print_cond.Given as goal
 
 abbrev pub invariant-print_conds-loop-cond : goal.invariant-print_conds-loop-cond
 invariant-print_conds-loop-cond g l =

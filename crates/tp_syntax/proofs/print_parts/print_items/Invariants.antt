@@ -3,7 +3,7 @@ use Rattle.tp_text.specs.Texts.{more_text}
 use Rattle.tp_syntax.specs.Symbols.{typed_view}
 use Rattle.tp_syntax.specs.Printing.{typed_shapes}
 use Rattle.tp_syntax.specs.DomainTexts.{Took}
-use Rattle.tp_syntax.proofs.print.print_items.Given as goal
+use Rattle.tp_syntax.proofs.print_parts.print_items.Given as goal
 
 abbrev pub invariant-loop-item : goal.invariant-loop-item
 invariant-loop-item g l =

@@ -4,7 +4,7 @@ use Rattle.tp_syntax.specs.Parts.{parts}
 use Rattle.tp_syntax.specs.PartViews.{joined_view}
 use Rattle.tp_syntax.specs.Printing.{joined_shape, part_shapes}
 use Rattle.tp_syntax.proofs.OnPrinting.{ok_is, and_then, took_more, goes_on, and_text, forall_text}
-use Rattle.tp_syntax.proofs.print.+print_joined.Goals as goal
+use Rattle.tp_syntax.proofs.print_parts.+print_joined.Goals as goal
 
 pub print_joined-returns-in_ok-print_parts-in-And-clause-bytes : goal.print_joined-returns-in_ok-print_parts-in-And-clause-bytes
 print_joined-returns-in_ok-print_parts-in-And-clause-bytes g t c =

@@ -2,7 +2,7 @@ use Rattle.std.proofs.Common.{◌≡◌, ℕ, List, map, drop, Option, string_by
 use Rattle.tp_text.specs.Texts.{more_text}
 use Rattle.tp_syntax.specs.Printing.{name_shapes}
 use Rattle.tp_syntax.specs.DomainTexts.{Took}
-use Rattle.tp_syntax.proofs.print.print_names.Given as goal
+use Rattle.tp_syntax.proofs.print_parts.print_names.Given as goal
 
 abbrev pub invariant-loop-name : goal.invariant-loop-name
 invariant-loop-name g l =

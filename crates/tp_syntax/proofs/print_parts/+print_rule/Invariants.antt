@@ -4,7 +4,7 @@ use Rattle.tp_syntax.specs.Effects.{rules_in}
 use Rattle.tp_syntax.specs.RuleViews.{rule_view}
 use Rattle.tp_syntax.specs.Printing.{rule_shapes}
 use Rattle.tp_syntax.specs.DomainTexts.{Took}
-use Rattle.tp_syntax.proofs.print.+print_rule.Given as goal
+use Rattle.tp_syntax.proofs.print_parts.+print_rule.Given as goal
 
 abbrev pub invariant-print_rules-loop-rule : goal.invariant-print_rules-loop-rule
 invariant-print_rules-loop-rule g l =

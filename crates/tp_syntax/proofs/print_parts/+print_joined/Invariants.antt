@@ -4,7 +4,7 @@ use Rattle.tp_syntax.specs.Parts.{parts}
 use Rattle.tp_syntax.specs.PartViews.{joined_view}
 use Rattle.tp_syntax.specs.Printing.{part_shapes}
 use Rattle.tp_syntax.specs.DomainTexts.{Took}
-use Rattle.tp_syntax.proofs.print.+print_joined.Given as goal
+use Rattle.tp_syntax.proofs.print_parts.+print_joined.Given as goal
 
 abbrev pub invariant-print_parts-loop-part : goal.invariant-print_parts-loop-part
 invariant-print_parts-loop-part g l =
