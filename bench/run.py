@@ -1,11 +1,12 @@
 #!/usr/bin/env python3
-"""Times `tempo bare` on long lists of commands. It prints numbers and judges nothing.
+"""Times `tempo bare` on long lists of commands, and `tempo check` on large plans, tasks and texts. It prints numbers and judges nothing.
 
-    bench/run.py [--full] [PROGRAM]
+    bench/run.py [--full] [--check] [PROGRAM]
 
 PROGRAM is a built `tempo`; without it, the program is proved and built by `rt run` first. `--full` also brings 65,535 bounds into
-force, which takes a while. Each list is read from a file by a process of its own; the times of single commands are from
-writing the command to reading its answer, the mean of all of them.
+force, which takes a while; `--check` times the plans alone. Each list is read from a file by a process of its own; the times of single
+commands are from writing the command to reading its answer, the mean of all of them. A verdict's time is that of the whole
+process, the best of three.
 """
 import pathlib
 import random
@@ -114,9 +115,97 @@ def loose(count):
     return lines
 
 
+def judged(program, name, domain, problem, plan):
+    """A verdict on a plan."""
+    with tempfile.TemporaryDirectory() as room:
+        files = [pathlib.Path(room, part) for part in ("domain", "problem", "plan")]
+        for file, text in zip(files, (domain, problem, plan)):
+            file.write_text(text)
+        best = None
+        for _ in range(3):
+            begin = time.perf_counter()
+            ran = subprocess.run([str(program), "check", *map(str, files)], capture_output=True, text=True)
+            took = time.perf_counter() - begin
+            best = took if best is None else min(best, took)
+        size = sum(file.stat().st_size for file in files)
+    print(f"{name:58} {best:8.3f} s  {size:9} bytes  {(ran.stdout + ran.stderr).strip()}", flush=True)
+
+
+PLACES = """(define (domain places)
+ (:types robot place)
+ (:predicates (free ?r - robot) (open ?p - place) (seen ?r - robot ?p - place))
+ (:functions (energy ?r - robot) (visits ?p - place))
+ (:action mark :parameters (?r - robot ?p - place) :precondition (not (seen ?r ?p)) :effect (seen ?r ?p))
+ (:durative-action visit :parameters (?r - robot ?p - place) :duration (and (>= ?duration 2) (<= ?duration (energy ?r)))
+  :condition (and (at start (free ?r)) (over all (open ?p)) (over all (>= (energy ?r) 1)) (at end (not (seen ?r ?p))))
+  :effect (and (at start (not (free ?r))) (at start (increase (visits ?p) 1)) (at end (free ?r)) (at end (decrease (energy ?r) 1))
+   (at end (seen ?r ?p)))))
+"""
+ROBOTS, ROOMS = 32, 125
+
+
+def places_problem():
+    """Robots that see each place once: some 4,000 atoms, and two actions for each robot and place."""
+    robots = [f"r{k}" for k in range(ROBOTS)]
+    rooms = [f"p{k}" for k in range(ROOMS)]
+    initial = [f"(free {r}) (= (energy {r}) 1000)" for r in robots] + [f"(open {p}) (= (visits {p}) 0)" for p in rooms]
+    objects = f"{' '.join(robots)} - robot {' '.join(rooms)} - place"
+    return f"(define (problem q) (:domain places) (:objects {objects}) (:init {' '.join(initial)}) (:goal (seen r0 p0)))"
+
+
+def visits():
+    """512 durative steps: each robot visits one place after another, all robots side by side."""
+    return "".join(f"{6 * (k // ROBOTS)}: (visit r{k % ROBOTS} p{k // ROBOTS}) [5]\n" for k in range(512))
+
+
+def marks():
+    """512 instantaneous steps at one tick, none of which touches another."""
+    return "".join(f"0: (mark r{k % ROBOTS} p{k // ROBOTS})\n" for k in range(512))
+
+
+TRIPLES = """(define (domain triples)
+ (:predicates (p ?x ?y - object))
+ (:action a :parameters (?x ?y ?z - object) :precondition (and (p ?x ?y) (not (p ?y ?z))) :effect (p ?x ?z)))
+"""
+
+
+def triples_problem(count):
+    """Each action binds three of so many objects."""
+    names = " ".join(f"o{k}" for k in range(count))
+    return f"(define (problem q) (:domain triples) (:objects {names}) (:init (p o0 o1)) (:goal (p o0 o2)))"
+
+
+def long_domain(most):
+    """As many actions as fit in so many bytes, each over a few of 100 predicates."""
+    draw = random.Random(3)
+    head = "(define (domain long)\n (:predicates " + " ".join(f"(q{k})" for k in range(100)) + ")\n"
+    parts, size = [head], len(head) + 2
+    while True:
+        a, b, c, d = (draw.randrange(100) for _ in range(4))
+        action = f" (:action act-{len(parts)} :precondition (and (q{a}) (or (q{b}) (not (q{c})))) :effect (q{d}))\n"
+        size += len(action)
+        if size > most:
+            return "".join(parts) + ")\n"
+        parts.append(action)
+
+
+def checks(program):
+    """Verdicts on large plans, tasks and texts."""
+    problem = places_problem()
+    judged(program, "512 steps side by side, 4,000 atoms, 8,000 actions", PLACES, problem, visits())
+    judged(program, "512 steps at one tick, on the same task", PLACES, problem, marks())
+    judged(program, "no step, on the same task", PLACES, problem, "")
+    judged(program, "59,319 ground actions of three objects, one step", TRIPLES, triples_problem(39), "0: (a o0 o1 o2)\n")
+    long_problem = "(define (problem q) (:domain long) (:init (q0)) (:goal (q0)))"
+    judged(program, "a domain of a megabyte, no step", long_domain(1_048_576), long_problem, "")
+
+
 def main():
-    words = [word for word in sys.argv[1:] if word != "--full"]
+    words = [word for word in sys.argv[1:] if not word.startswith("--")]
     program = pathlib.Path(words[0]) if words else built()
+    checks(program)
+    if "--check" in sys.argv:
+        return
 
     batch(program, "20,000 windows of a network without bounds", [f"window {k % EVENTS}" for k in range(20_000)])
     batch(program, "20,000 lines, up to 400 bounds with the origin in force", mixed(20_000))

@@ -1,18 +1,23 @@
 -- What a parse asks for.
-use Rattle.std.proofs.Common.{◌≡◌, ◌∷◌, inl, inr, refl, sym, ap, subst, List, [], Option, Some, None, true, codes}
-use Rattle.std.specs.Prelude.{Box, Result, Ok, Err, OnOk, IfOk, option_map, ◌⊎◌}
+use Rattle.std.proofs.Common.{◌≡◌, ◌∙◌, ap, arith, ℕ, ◌∷◌, inl, inr, refl, sym, subst, List, [], Option, Some, None, true, codes}
+use Rattle.std.specs.Prelude.{Box, Result, Ok, Err, option_map}
 use Rattle.std.specs.Box.{box_value}
-use Rattle.clap.specs.Words.{FailsBy, HasMatchesOf, IsAmong, Row, Text, fault_of, is_simple, is_simple_and_free, kind_of, rows_of, found_of, subcommand_name_of, subcommand_of, subcommand_rows, subcommand_rows_of}
+use Rattle.clap.specs.Words.{FailsBy, IsAmong, ReadsOne, Row, Text, fault_of, one_of, one_text, is_simple, is_simple_and_free, kind_of, rows_of, subcommand_name_of, subcommand_of, subcommand_rows, subcommand_rows_of}
 use Rattle.clap.specs.declared.error.Error.{Error}
 use Rattle.clap.specs.declared.error.kind.ErrorKind.TheVariants.{DisplayHelp, OutOfMemory}
 use Rattle.clap.specs.declared.parser.matches.ArgMatches.{ArgMatches}
 use Rattle.clap.specs.declared.parser.matches.ArgMatches.TheViews.{out-ArgMatches, out-SubCommand}
 use Rattle.clap.specs.declared.parser.matches.SubCommand.{SubCommand}
 use Rattle.clap.proofs.OnLiterals.{clap_on_literals}
+use Rattle.clap.proofs.WalkLemmas.{one_text-rows}
+use Rattle.std.specs.Str.Parse.{digits_value, without_leading_plus}
+use Rattle.clap.specs.declared.parser.matches.Found.{Found}
 use Rattle.tempo.specs.Commands.{tempo_app}
-use Rattle.tempo.specs.Requests.{AsksBy, AsksFor, NamesBare}
+use Rattle.tempo.specs.Requests.{AsksBy, AsksFor, NamesBare, Spells}
+use Rattle.tp_text.specs.Scales.{scale_ticks}
+use Rattle.tempo.specs.declared.requests.PlanWords.{PlanWords}
 use Rattle.tempo.specs.declared.requests.Request.{Request}
-use Rattle.tempo.specs.declared.requests.Request.TheVariants.{Bare, Help}
+use Rattle.tempo.specs.declared.requests.Request.TheVariants.{Bare, Check, Help}
 
 module _ {Z : Type 0} where
   none_rows : (s : Option (Box SubCommand Z)) → option_map (λ b. (out-SubCommand (box_value b)).name.now) s ≡ None → subcommand_rows s ≡ None
@@ -42,6 +47,7 @@ simple_and_free = refl
 -- what matches ask for, the words ask for
 pub asks_by : (words : List Text) (named : Option (Text × List Row)) (r : Request) → fault_of tempo_app words ≡ [] → named ≡ subcommand_of tempo_app words → AsksBy named r → AsksFor words r
 asks_by words named Bare free is h = (free, subst (λ n. NamesBare n) is h)
+asks_by words named (Check w) free is h = (free, subst (λ n. AsksBy n (Check w)) is h)
 asks_by words named (Help text) free is h = absurd h
 
 -- an error that is a call for help
@@ -68,3 +74,30 @@ no_words = (refl, tt)
 pub bare_word : AsksFor (codes "bare" ∷ []) Bare
 unfolding clap_on_literals
 bare_word = (refl, refl)
+
+-- a number that was read is spelled by its text
+pub number_spelled : {E : Type 0} (gives : List ℕ → Result ℕ E → Type 0) (f : Found) (id : Text) (n : ℕ) (o : Option (List ℕ)) → one_text f id ≡ o → (one_text f id ≡ None → Some n ≡ None) → ((t : List ℕ) → one_text f id ≡ Some t → ReadsOne gives t (Some n)) → ((t : List ℕ) → gives t (Ok n) → n ≡ digits_value 10 (without_leading_plus t)) → Spells (one_of id (rows_of f)) n
+number_spelled gives f id n None e none value told =
+    let no : Some n ≡ None = none e in
+    cc
+number_spelled gives f id n (Some t) e none value told =
+    (t, sym (one_text-rows f id) ∙ e, sym (told t (value t e)))
+
+-- the three files, the scale that is given, and the horizon where none is given
+pub check_words : (w : PlanWords) → w.domain.now ≡ codes "d" → w.problem.now ≡ codes "p" → w.plan.now ≡ codes "l" → scale_ticks w.scale ≡ 1000 → w.horizon ≡ 1000000 → AsksFor (codes "check" ∷ codes "d" ∷ codes "p" ∷ codes "--scale" ∷ codes "1000" ∷ codes "l" ∷ []) (Check w)
+unfolding clap_on_literals
+check_words w domain problem plan scale horizon = (
+  refl,
+  (
+    _,
+    refl,
+    record {
+      domain = ap Some (sym domain);
+      problem = ap Some (sym problem);
+      plan = ap Some (sym plan);
+      scale = (codes "1000", refl, sym scale);
+      horizon = (codes "1000000", refl, sym horizon);
+      within = omega (arith, horizon);
+    },
+  ),
+)

@@ -1,6 +1,38 @@
 -- The commands of the program and their words, as a parse reads them.
-use Rattle.std.specs.Prelude.{true, codes}
-use Rattle.clap.specs.Words.{App, new_app, with_subcommand}
+use Rattle.std.specs.Prelude.{[], ◌∷◌, Some, true, pos, codes}
+use Rattle.clap.specs.Words.{App, Rule, Text, new_app, new_rule, with_rule, with_subcommand}
+use Rattle.clap.specs.declared.builder.ArgAction.TheVariants.{Set}
+use Rattle.clap.specs.declared.builder.value_parser.ValueParser.TheVariants as vp
+
+-- a file that has to be named
+abbrev pub file_rule : Text → Rule
+file_rule id = record (new_rule id) { action = Some Set; required = true }
+
+-- `--scale`, from 1 to 1000, by default 1
+abbrev pub scale_rule : Rule
+scale_rule = record (new_rule (codes "scale")) {
+  long = Some (codes "scale");
+  action = Some Set;
+  value_names = 1;
+  defaults = codes "1" ∷ [];
+  parser = Some (vp.Signed (pos 1) (pos 1000));
+}
+
+-- `--horizon`, from 0 to 1000000000, by default 1000000
+abbrev pub horizon_rule : Rule
+horizon_rule = record (new_rule (codes "horizon")) {
+  long = Some (codes "horizon");
+  action = Some Set;
+  value_names = 1;
+  defaults = codes "1000000" ∷ [];
+  parser = Some (vp.Signed (pos 0) (pos 1000000000));
+}
+
+-- the files of a plan, and how its time is measured
+abbrev pub check_app : App
+check_app =
+    let files = with_rule (with_rule (with_rule (new_app (codes "check")) (file_rule (codes "DOMAIN"))) (file_rule (codes "PROBLEM"))) (file_rule (codes "PLAN")) in
+    with_rule (with_rule files scale_rule) horizon_rule
 
 -- the program's words begin after its name
 abbrev pub start_app : App
@@ -9,4 +41,4 @@ start_app =
     record named { top = record named.top { no_binary_name = true } }
 
 abbrev pub tempo_app : App
-tempo_app = with_subcommand start_app (new_app (codes "bare")).top
+tempo_app = with_subcommand (with_subcommand start_app (new_app (codes "bare")).top) check_app.top

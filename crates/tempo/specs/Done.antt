@@ -3,17 +3,26 @@ use Rattle.std.specs.Prelude.{ℕ, List, Option}
 use Rattle.std.specs.Io.KnownBytes.{Appends}
 use Rattle.std.specs.String.{string_bytes}
 use Rattle.tempo.specs.Bare.{AnswersAll}
+use Rattle.tempo.specs.Checks.{SaysInvalid, SaysValid}
 use Rattle.tempo.specs.Requests.{AsksFor}
+use Rattle.tempo.specs.declared.requests.PlanWords.{PlanWords}
 use Rattle.tempo.specs.declared.requests.Request.{Request}
-use Rattle.tempo.specs.declared.requests.Request.TheVariants.{Bare, Help}
+use Rattle.tempo.specs.declared.requests.Request.TheVariants.{Bare, Check, Help}
 
--- all commands of the input were answered, or the help was written
-abbrev pub IsDone : Request → Option (List ℕ) → Option (List ℕ) → Option (List ℕ) → Type 0
-IsDone Bare input held now = AnswersAll input held now
-IsDone (Help text) input held now = Appends held now (string_bytes text)
+-- all commands of the input were answered, the plan is valid and that was written, or the help was written
+abbrev pub IsDone : Request → (List ℕ → Option (List ℕ)) → Option (List ℕ) → Option (List ℕ) → Option (List ℕ) → Type 0
+IsDone Bare files input held now = AnswersAll input held now
+IsDone (Check w) files input held now = SaysValid files w held now
+IsDone (Help text) files input held now = Appends held now (string_bytes text)
 
 -- the words ask for something, and it was done
-pub record DoesWhatIsAsked (words : List (List ℕ)) (input held now : Option (List ℕ)) : Type 0 where
+pub record DoesWhatIsAsked (words : List (List ℕ)) (files : List ℕ → Option (List ℕ)) (input held now : Option (List ℕ)) : Type 0 where
   pub request : Request
   pub asked : AsksFor words request
-  pub done : IsDone request input held now
+  pub done : IsDone request files input held now
+
+-- the words ask for the verdict on a plan, and its first fault was written
+pub record AnswersNo (words : List (List ℕ)) (files : List ℕ → Option (List ℕ)) (held now : Option (List ℕ)) : Type 0 where
+  pub plan : PlanWords
+  pub asked : AsksFor words (Check plan)
+  pub said : SaysInvalid files plan held now

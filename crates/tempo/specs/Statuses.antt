@@ -1,5 +1,9 @@
 -- The exit statuses of faults: 3 for want of memory or of a device, and else 2.
 use Rattle.std.specs.Prelude.{ℕ}
+use Rattle.tp_ground.specs.declared.fault.GroundFault.{GroundFault}
+use Rattle.tp_ground.specs.declared.fault.GroundFault.TheVariants as ground_fault
+use Rattle.tp_happen.specs.declared.reading.PlanFault.{PlanFault}
+use Rattle.tp_happen.specs.declared.reading.PlanFault.TheVariants as plan_fault
 use Rattle.tp_script.specs.declared.serving.ServeFault.{ServeFault}
 use Rattle.tp_script.specs.declared.serving.ServeFault.TheVariants as serving
 use Rattle.tp_syntax.specs.declared.fault.SyntaxFault.{SyntaxFault}
@@ -30,3 +34,11 @@ serve_status serving.Write = 3
 serve_status serving.Memory = 3
 serve_status serving.TooLong = 2
 serve_status serving.Head = 2
+
+abbrev pub ground_status : GroundFault → ℕ
+ground_status ground_fault.Memory = 3
+ground_status _ = 2
+
+abbrev pub plan_status : PlanFault → ℕ
+plan_status plan_fault.Memory = 3
+plan_status _ = 2

@@ -41,7 +41,8 @@ pub fn run_bare<I: Source + Drop, O: Sink, F: Sink>(
     ensures all { result ≡ 0 → AnswersAll (I.left input) (O.held output.old) (O.held output.new) }
     ensures part { result ≢ 0 → AnswersPart (I.left input) (O.held output.old) (O.held output.new) }
 
-    // A write that failed is always told.
+    // No status says no, and a write that failed is always told.
+    ensures no { result ≢ 1 }
     ensures told { result ≢ OUT_OF_ORDER → O.failures output.new ≡ O.failures output.old }
 {
     match bare(alloc, input, output) {

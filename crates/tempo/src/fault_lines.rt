@@ -1,10 +1,12 @@
 // The lines of faults, and the exit statuses that go with them.
 ghost use Rattle.std.specs.Prelude.{◌≡◌, ◌≤◌};
-ghost use Rattle.tempo.specs.Statuses.{file_status, serve_status, syntax_status, text_status};
+ghost use Rattle.tempo.specs.Statuses.{file_status, ground_status, plan_status, serve_status, syntax_status, text_status};
 
 use crate::files::FileFault;
 use itoa::Buffer;
 use tp_device::{Failed, Sink, push_all};
+use tp_ground::{GroundFault, TooManyKind};
+use tp_happen::PlanFault;
 use tp_script::ServeFault;
 use tp_syntax::{LeftOutPart, SyntaxFault};
 use tp_text::TextFault;
@@ -29,6 +31,7 @@ pub const NO_MEMORY: &[u8] = b"fault script 3 memory\n";
 enum Detail<'w> {
     Nothing,
     Number(u32),
+    Line(usize),
     Construct(u32, &'static str),
     Name(&'w str),
 }
@@ -171,6 +174,44 @@ impl<'w> FaultLine<'w> {
         FaultLine::of_file("plan", fault, name)
     }
 
+    /// The line of a task that is too large, or has too great a number.
+    pub fn of_task(fault: GroundFault) -> Self
+        ensures { result.status ≡ ground_status fault }
+    {
+        match fault {
+            GroundFault::Memory => FaultLine::out_of_order("ground", "1 memory"),
+            GroundFault::TooMany(kind) => {
+                FaultLine::refused("ground", "2 too-many").named(kind_word(kind))
+            }
+            GroundFault::Range => FaultLine::refused("ground", "3 range"),
+        }
+    }
+
+    /// The line of what is refused on a line of a plan.
+    fn on_line(words: &'static str, line: usize) -> Self
+        ensures { result.status ≡ REFUSED }
+    {
+        FaultLine {
+            detail: Detail::Line(line),
+            ..FaultLine::refused("plan", words)
+        }
+    }
+
+    /// The line of a plan that could not be read.
+    pub fn of_plan(fault: PlanFault) -> Self
+        ensures { result.status ≡ plan_status fault }
+    {
+        match fault {
+            PlanFault::Memory => FaultLine::out_of_order("plan", "1 memory"),
+            PlanFault::Line(line) => FaultLine::on_line("2 line", line),
+            PlanFault::NoAction(line) => FaultLine::on_line("3 no-action", line),
+            PlanFault::NotTicks(line) => FaultLine::on_line("4 not-ticks", line),
+            PlanFault::TooMany => FaultLine::refused("plan", "5 too-many"),
+            PlanFault::NoDuration(line) => FaultLine::on_line("6 no-duration", line),
+            PlanFault::Horizon(line) => FaultLine::on_line("7 horizon", line),
+        }
+    }
+
     /// The line of commands that could not be read or answered.
     pub fn of_serving(fault: ServeFault) -> Self
         ensures { result.status ≡ serve_status fault }
@@ -192,9 +233,10 @@ impl<'w> FaultLine<'w> {
         push_all(faults, self.words.as_bytes())?;
         match self.detail {
             Detail::Nothing => {}
-            Detail::Number(n) => push_number(faults, n)?,
+            Detail::Number(n) => push_word(faults, Buffer::new().format(n))?,
+            Detail::Line(n) => push_word(faults, Buffer::new().format(n))?,
             Detail::Construct(at, what) => {
-                push_number(faults, at)?;
+                push_word(faults, Buffer::new().format(at))?;
                 push_word(faults, what)?;
             }
             Detail::Name(name) => push_word(faults, name)?,
@@ -209,10 +251,14 @@ fn push_word<F: Sink>(faults: &mut F, word: &str) -> Result<(), Failed> {
     push_all(faults, word.as_bytes())
 }
 
-/// Writes a number after a space.
-fn push_number<F: Sink>(faults: &mut F, n: u32) -> Result<(), Failed> {
-    let mut buffer = Buffer::new();
-    push_word(faults, buffer.format(n))
+/// The word of what there are too many of.
+fn kind_word(kind: TooManyKind) -> &'static str {
+    match kind {
+        TooManyKind::Objects => "objects",
+        TooManyKind::Atoms => "atoms",
+        TooManyKind::Fluents => "fluents",
+        TooManyKind::Actions => "actions",
+    }
 }
 
 /// The word of a construct that is left out.

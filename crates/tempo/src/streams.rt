@@ -88,7 +88,7 @@ pub fn run_streams<N: Files, R: Read + Drop, W: Write + Drop, V: Write + Drop>(
         Counted::new(&mut faults),
     );
     match output.flush() {
-        Err(_) if status == 0 => {
+        Err(_) if status <= 1 => {
             let _ = faults.write_all(NO_WRITE);
             OUT_OF_ORDER
         }

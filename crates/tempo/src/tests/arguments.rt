@@ -53,6 +53,12 @@ fn words_that_are_no_command_are_refused(rt: HostRuntime) -> Result<(), Fail> {
         &["bare", "--journal", "log"],
         "error: unexpected argument '--journal' found",
     )?;
+    refuses(&rt, &["check", "d", "p"], "<PLAN>")?;
+    refuses(
+        &rt,
+        &["check", "d", "p", "l", "o"],
+        "error: unexpected argument 'o' found",
+    )?;
     refuses(&rt, &[""], "error: ")?;
     refuses(&rt, &["help", "plan"], "error: ")?;
     Ok(())
@@ -67,5 +73,15 @@ fn help_goes_to_the_output(rt: HostRuntime) -> Result<(), Fail> {
     let bare = ["Usage: tempo bare", "network N H", "window E", "Example:"];
     helps(&rt, &["bare", "--help"], &bare)?;
     helps(&rt, &["help", "bare"], &bare)?;
+    let check = [
+        "Usage: tempo check",
+        "TIME: (NAME ARG ..) [DURATION]",
+        "--scale",
+        "--horizon",
+        "1000000",
+        "Example:",
+    ];
+    helps(&rt, &["check", "--help"], &check)?;
+    helps(&rt, &["help", "check"], &check)?;
     Ok(())
 }

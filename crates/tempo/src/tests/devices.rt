@@ -128,6 +128,7 @@ pub struct Outcome {
     pub answers: Vec<u8>,
     pub faults: Vec<u8>,
     pub starved: bool,
+    pub opened: u64,
 }
 
 impl Outcome {
@@ -135,7 +136,8 @@ impl Outcome {
     fn wants_memory(&self) -> bool {
         self.starved
             || self.faults.as_slice() == b"fault script 3 memory\n".as_slice()
-            || self.faults.as_slice() == b"fault arguments 2 memory\n".as_slice()
+            || self.faults.as_slice().ends_with(b" 1 memory\n")
+            || self.faults.as_slice().ends_with(b" 2 memory\n")
             || self
                 .answers
                 .as_slice()
@@ -148,6 +150,7 @@ impl Outcome {
 fn attempt(
     alloc: Global,
     words: &[&str],
+    stored: &[(&str, &[u8])],
     input: Feed<'_>,
     room: Room,
 ) -> Result<Outcome, AllocError> {
@@ -156,7 +159,7 @@ fn attempt(
         owned.push(String::from_str(alloc, word)?)?;
     }
     let mut files = Shelf {
-        files: &[],
+        files: stored,
         opened: 0,
     };
     let mut output = Page::new(alloc, room);
@@ -172,6 +175,7 @@ fn attempt(
     Ok(Outcome {
         status,
         starved: output.starved || faults.starved,
+        opened: files.opened,
         answers: output.text,
         faults: faults.text,
     })
@@ -184,9 +188,22 @@ pub fn run(
     input: Feed<'_>,
     room: Room,
 ) -> Result<Outcome, AllocError> {
-    match attempt(alloc, words, input, room) {
+    match attempt(alloc, words, &[], input, room) {
         Ok(outcome) if !outcome.wants_memory() => Ok(outcome),
-        _ => attempt(alloc, words, input, room),
+        _ => attempt(alloc, words, &[], input, room),
+    }
+}
+
+/// What a run on files comes to, without input. A run that memory was refused in is made once more.
+pub fn run_on(
+    alloc: Global,
+    words: &[&str],
+    files: &[(&str, &[u8])],
+    room: Room,
+) -> Result<Outcome, AllocError> {
+    match attempt(alloc, words, files, whole(""), room) {
+        Ok(outcome) if !outcome.wants_memory() => Ok(outcome),
+        _ => attempt(alloc, words, files, whole(""), room),
     }
 }
 

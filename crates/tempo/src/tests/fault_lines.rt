@@ -10,6 +10,8 @@ use std::marker::Brand;
 use std::process::Abort;
 use std::sync::ledger::{Blank, Ledger};
 use tp_device::ToWrite;
+use tp_ground::{GroundFault, TooManyKind};
+use tp_happen::PlanFault;
 use tp_script::ServeFault;
 use tp_syntax::{LeftOutPart, SyntaxFault};
 use tp_text::TextFault;
@@ -263,5 +265,72 @@ fn faults_of_serving(rt: HostRuntime) {
     ];
     for (fault, text, status) in faults {
         spells(&rt, FaultLine::of_serving(fault), text, status);
+    }
+}
+
+#[test]
+fn faults_of_tasks(rt: HostRuntime) {
+    let faults: [(GroundFault, &[u8], u8); 6] = [
+        (
+            GroundFault::Memory,
+            b"fault ground 1 memory\n".as_slice(),
+            3,
+        ),
+        (
+            GroundFault::TooMany(TooManyKind::Objects),
+            b"fault ground 2 too-many objects\n".as_slice(),
+            2,
+        ),
+        (
+            GroundFault::TooMany(TooManyKind::Atoms),
+            b"fault ground 2 too-many atoms\n".as_slice(),
+            2,
+        ),
+        (
+            GroundFault::TooMany(TooManyKind::Fluents),
+            b"fault ground 2 too-many fluents\n".as_slice(),
+            2,
+        ),
+        (
+            GroundFault::TooMany(TooManyKind::Actions),
+            b"fault ground 2 too-many actions\n".as_slice(),
+            2,
+        ),
+        (GroundFault::Range, b"fault ground 3 range\n".as_slice(), 2),
+    ];
+    for (fault, text, status) in faults {
+        spells(&rt, FaultLine::of_task(fault), text, status);
+    }
+}
+
+#[test]
+fn faults_of_plans(rt: HostRuntime) {
+    let faults: [(PlanFault, &[u8], u8); 7] = [
+        (PlanFault::Memory, b"fault plan 1 memory\n".as_slice(), 3),
+        (PlanFault::Line(1), b"fault plan 2 line 1\n".as_slice(), 2),
+        (
+            PlanFault::NoAction(20),
+            b"fault plan 3 no-action 20\n".as_slice(),
+            2,
+        ),
+        (
+            PlanFault::NotTicks(3),
+            b"fault plan 4 not-ticks 3\n".as_slice(),
+            2,
+        ),
+        (PlanFault::TooMany, b"fault plan 5 too-many\n".as_slice(), 2),
+        (
+            PlanFault::NoDuration(5),
+            b"fault plan 6 no-duration 5\n".as_slice(),
+            2,
+        ),
+        (
+            PlanFault::Horizon(1048576),
+            b"fault plan 7 horizon 1048576\n".as_slice(),
+            2,
+        ),
+    ];
+    for (fault, text, status) in faults {
+        spells(&rt, FaultLine::of_plan(fault), text, status);
     }
 }

@@ -16,7 +16,7 @@ fn read(alloc: Global, files: &[(&str, &[u8])], name: &str) -> Result<String, Fi
 }
 
 /// So many blanks. Where memory is refused, it is asked for once more.
-fn blanks(alloc: Global, count: usize) -> Result<Vec<u8>, AllocError> {
+pub fn blanks(alloc: Global, count: usize) -> Result<Vec<u8>, AllocError> {
     match vec![in alloc; b' '; count] {
         Ok(bytes) => Ok(bytes),
         Err(_) => vec![in alloc; b' '; count],

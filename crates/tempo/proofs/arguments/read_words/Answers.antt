@@ -1,10 +1,9 @@
-use Rattle.std.proofs.Common.{◌≡◌, ◌∙◌, ap, refl, sym, subst, inr, map, true}
+use Rattle.std.proofs.Common.{◌∙◌, ap, sym, subst, inr, map}
 use Rattle.std.specs.String.{string_bytes}
 use Rattle.std.specs.Prelude.{Err}
 use Rattle.std.proofs.lemmas.Result.{IfOk-weaker}
 use Rattle.clap.specs.Words.{App, FailsBy, fault_of, is_simple, is_simple_and_free, subcommand_of}
 use Rattle.clap.specs.declared.parser.matches.ArgMatches.{ArgMatches}
-use Rattle.tempo.specs.Commands.{tempo_app}
 use Rattle.tempo.proofs.ArgumentLemmas.{asks_by, asks_help, only_memory, simple, simple_and_free}
 use Rattle.tempo.proofs.arguments.read_words.Goals as goal
 

@@ -1,0 +1,62 @@
+// A short line that is put together before it is written.
+ghost use Rattle.std.specs.Prelude.{◌≡◌, ℕ, ◌+◌, ◌≤◌, List, ◌++◌, length, take, decimal};
+
+use itoa::Buffer;
+use std::marker::Model;
+
+/// At most 64 bytes. Nothing here takes memory.
+#[derive(Drop)]
+pub struct Line {
+    bytes: [u8; 64],
+    len: usize,
+}
+
+impl Model for Line {
+    ghost Value = { List ℕ };
+
+    ghost view = { λ t. take t.len t.bytes };
+
+    ghost invariant = { λ t. t.len ≤ 64 };
+}
+
+impl Line {
+    /// A line that begins so.
+    pub fn new(first: &[u8]) -> Line
+        requires { length first.now ≤ 64 }
+        ensures { result ≡ first.now }
+    {
+        let mut bytes = [0; 64];
+        bytes[..first.len()].copy_from_slice(first);
+        Line {
+            bytes,
+            len: first.len(),
+        }
+    }
+
+    /// Puts more at the end.
+    pub fn put(&mut self, more: &[u8])
+        requires { length self.old + length more.now ≤ 64 }
+        ensures { self.new ≡ self.old ++ more.now }
+    {
+        let end = self.len + more.len();
+        self.bytes[self.len..end].copy_from_slice(more);
+        self.len = end;
+    }
+
+    /// Puts a number at the end.
+    pub fn put_number(&mut self, n: u32)
+        requires { length self.old + 10 ≤ 64 }
+        ensures text { self.new ≡ self.old ++ decimal n }
+        ensures short { length self.new ≤ length self.old + 10 }
+    {
+        let mut buffer = Buffer::new();
+        self.put(buffer.format(n).as_bytes());
+    }
+
+    /// Its bytes.
+    pub fn as_slice(&self) -> &[u8]
+        ensures { result.now ≡ self.now }
+    {
+        &self.bytes[..self.len]
+    }
+}
