@@ -43,20 +43,27 @@ fn has_too_many_objects(constants: &[Typed], objects: &[Typed]) -> bool
     constants.len() + objects.len() > MOST_OBJECTS
 }
 
-fn universe_of<'a>(domain: &'a Domain, problem: &'a Problem) -> Universe<'a>
-    ensures { universe_view result ≡ universe_of (domain_view domain.now) (problem_view problem.now) }
+fn universe_of<'a>(
+    alloc: Global,
+    domain: &'a Domain,
+    problem: &'a Problem,
+) -> Result<Universe<'a>, AllocError>
+    ensures { IfOk result (λ u. universe_view u ≡ universe_of (domain_view domain.now) (problem_view problem.now)) }
 {
-    Universe {
-        types: Types {
-            declared: &domain.types,
-        },
+    Ok(Universe {
+        types: Types::new(alloc, &domain.types)?,
         constants: &domain.constants,
         objects: &problem.objects,
-    }
+    })
 }
 
 // What can be told before anything is written out.
-fn check(domain: &Domain, problem: &Problem, limits: &Limits) -> Result<(), GroundFault>
+fn check(
+    alloc: Global,
+    domain: &Domain,
+    problem: &Problem,
+    limits: &Limits,
+) -> Result<(), GroundFault>
     ensures most { OnOk result (limits.now.actions ≤ 65_535) }
     ensures few { OnOk result (length (ground_actions (universe_of (domain_view domain.now) (problem_view problem.now)) (domain_view domain.now).actions) ≤ limits.now.actions) }
     ensures err { IfErr result (HasNoTask limits.now (domain_view domain.now) (problem_view problem.now)) }
@@ -67,7 +74,7 @@ fn check(domain: &Domain, problem: &Problem, limits: &Limits) -> Result<(), Grou
     if has_too_many_objects(&domain.constants, &problem.objects) {
         return Err(GroundFault::TooMany(TooManyKind::Objects));
     }
-    let universe = universe_of(domain, problem);
+    let universe = universe_of(alloc, domain, problem)?;
     if !actions_fit(&universe, &domain.actions, limits.actions()) {
         return Err(GroundFault::TooMany(TooManyKind::Actions));
     }
@@ -103,7 +110,7 @@ fn lower_task(
 ) -> Result<LoweredTask, GroundFault>
     ensures { Lowers named_task numbering.old result numbering.new (written_task (universe_of (domain_view domain.now) (problem_view problem.now)) (problem_view problem.now).initial (problem_view problem.now).goal (domain_view domain.now).actions) (mentioned (domain_view domain.now) (problem_view problem.now)) }
 {
-    let universe = universe_of(domain, problem);
+    let universe = universe_of(alloc, domain, problem)?;
     lower(
         alloc,
         &universe,
@@ -156,10 +163,10 @@ pub fn ground(
     ensures ok { IfOk result (IsTask limits.now scale (domain_view domain.now) (problem_view problem.now)) }
     ensures err { IfErr result (HasNoTask limits.now (domain_view domain.now) (problem_view problem.now)) }
 {
-    check(domain, problem, limits)?;
+    check(alloc, domain, problem, limits)?;
     let mut numbering = Numbering::new(alloc, limits.atoms());
     let lowered = lower_task(alloc, &mut numbering, domain, problem)?;
-    let universe = universe_of(domain, problem);
+    let universe = universe_of(alloc, domain, problem)?;
     name_actions(alloc, &universe, &mut numbering, &domain.actions)?;
     Ok(task_of(alloc, *limits, scale, numbering, lowered)?)
 }

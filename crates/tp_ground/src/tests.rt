@@ -52,7 +52,7 @@ fn the_first_variable_varies_slowest(rt: HostRuntime) -> Result<(), Fail> {
     let constants = [typed(alloc, "v", "van")?];
     let objects = [typed(alloc, "p", "place")?, typed(alloc, "c", "car")?];
     let universe = Universe {
-        types: Types { declared: &types },
+        types: Types::listed(&types),
         constants: &constants,
         objects: &objects,
     };

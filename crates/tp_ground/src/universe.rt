@@ -10,7 +10,7 @@ use std::alloc::{AllocError, Global};
 use tp_syntax::{Typed, Types, types_fit};
 
 /// The types, and all objects: the domain's constants, then the problem's objects.
-#[derive(Clone, Copy)]
+#[derive(Drop)]
 pub struct Universe<'a> {
     pub types: Types<'a>,
     pub constants: &'a [Typed],

@@ -15,6 +15,7 @@ pub mod OnSections
 pub mod OnForms
 pub mod OnTypes
 pub mod OnCircles
+pub mod OnJumps
 pub mod OnReadings
 pub mod OnDomains
 pub mod OnExpressions

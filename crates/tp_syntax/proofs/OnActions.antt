@@ -1,11 +1,10 @@
 -- Fields and actions.
-use Rattle.std.proofs.Common.{◌≡◌, ℕ, ◌<◌, ◌≤◌, ◌-◌, List, [], ◌∷◌, ◌++◌, length, take, drop, get_or, map, Bool, true, false, ◌&&◌, Option, Some, None, option_map, refl, sym, ap, ◌∙◌, subst, arith, rules, append_assoc, append-nil, Bor}
+use Rattle.std.proofs.Common.{◌≡◌, ℕ, ◌<◌, ◌≤◌, ◌-◌, List, [], ◌∷◌, ◌++◌, length, take, drop, get_or, map, Bool, true, false, ◌&&◌, Option, Some, None, option_map, refl, sym, ap, ◌∙◌, arith, rules, append_assoc, append-nil, Bor}
 use Rattle.tp_text.specs.Shapes.{Shape, leaf, node, Shapes, no_shapes, shape}
 use Rattle.tp_text.specs.Trees.{shape_of}
 use Rattle.tp_text.specs.declared.tree.Tree.{Tree}
 use Rattle.tp_syntax.specs.Gives.{◌>>=◌, provided, with_front, Fails}
 use Rattle.tp_syntax.specs.Terms.{shapes, name_of}
-use Rattle.tp_syntax.specs.Words.{key_of}
 use Rattle.tp_syntax.specs.Symbols.{Name, Declared, Symbols, typed_view, scope_view}
 use Rattle.tp_syntax.specs.declared.symbols.Typed.{Typed}
 use Rattle.tp_syntax.specs.declared.symbols.Scope.{Scope, Inner, Empty, the_lemmas}
@@ -22,7 +21,6 @@ use Rattle.tp_syntax.specs.declared.fault.SyntaxFault.{SyntaxFault}
 use Rattle.tp_syntax.proofs.OnGives.{fails_same, fails_bind}
 use Rattle.tp_syntax.proofs.OnSymbols.{scope_Inner}
 use Rattle.tp_syntax.proofs.OnFaults.{fails_from}
-use Rattle.tp_syntax.proofs.OnLists.{peel}
 use Rattle.tp_syntax.proofs.OnFirsts.{no_trees, a_first}
 
 pub bind_bind : {A B C : Type 0} (o : Option A) (f : A → Option B) (g : B → Option C) → ((o >>= f) >>= g) ≡ (o >>= λ x. f x >>= g)

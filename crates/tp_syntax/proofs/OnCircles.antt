@@ -1,5 +1,5 @@
 -- Circles of types.
-use Rattle.std.proofs.Common.{◌≡◌, ℕ, ◌+◌, ◌-◌, ◌<◌, ◌≤◌, zero, suc, List, [], ◌∷◌, map, length, get_or, Bool, true, false, ◌&&◌, ◌||◌, cond, Option, Some, None, option_map, refl, sym, ap, ◌∙◌, subst, arith, add-one, string_bytes}
+use Rattle.std.proofs.Common.{◌≡◌, ℕ, ◌+◌, ◌-◌, ◌<◌, ◌≤◌, zero, suc, List, [], ◌∷◌, map, length, get_or, Bool, true, false, ◌&&◌, ◌||◌, cond, Option, Some, None, option_map, refl, sym, ap, ◌∙◌, arith, add-one, string_bytes}
 use Rattle.std.specs.Prelude.{nat_le, nat_lt, slice_get}
 use Rattle.std.specs.List.{list_all}
 use Rattle.std.specs.Str.{bytes_eq}
@@ -91,12 +91,12 @@ module _ {C : Type 0} (g : Name → Option ℕ) (own : Option ℕ) (limit r : �
       let lt : nat_lt s r ≡ true = and_first (nat_lt s r) (nat_le r limit) e in
       then s is (grind (arith, nat_tests))
 
-  from_ranked : (o : Option Name) → fits_above (o >>= g) own limit ≡ true → ((q : Name) (s : ℕ) → o ≡ Some q → g q ≡ Some s → s < r → C) → C
+  pub from_ranked : (o : Option Name) → fits_above (o >>= g) own limit ≡ true → ((q : Name) (s : ℕ) → o ≡ Some q → g q ≡ Some s → s < r → C) → C
   from_ranked None h then = absurd (let e : false ≡ true = h in cc)
   from_ranked (Some q) h then = parent_ranked q (g q) refl h (λ s is lt. then q s refl is lt)
 
 -- a rank that fits is within the limit
-within : (x own : Option ℕ) (limit : ℕ) {C : Type 0} → fits_above x own limit ≡ true → ((r : ℕ) → own ≡ Some r → r ≤ limit → C) → C
+pub within : (x own : Option ℕ) (limit : ℕ) {C : Type 0} → fits_above x own limit ≡ true → ((r : ℕ) → own ≡ Some r → r ≤ limit → C) → C
 within None own limit h then = absurd (let e : false ≡ true = h in cc)
 within (Some s) None limit h then = absurd (let e : false ≡ true = h in cc)
 within (Some s) (Some r) limit h then = let le : nat_le r limit ≡ true = and_second (nat_lt s r) (nat_le r limit) h in then r refl (grind (arith, nat_tests))

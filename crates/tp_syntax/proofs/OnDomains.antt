@@ -15,7 +15,7 @@ use Rattle.tp_syntax.specs.Gives.{◌>>=◌, provided, with_front, Fails}
 use Rattle.tp_syntax.specs.Symbols.{Name, Parent, Declared, Form, Symbols}
 use Rattle.tp_syntax.specs.TypedLists.{has_twice}
 use Rattle.tp_syntax.specs.Actions.{Action}
-use Rattle.tp_syntax.specs.Domains.{Domain, Part, requirements_in, types_in, objects_in, forms_of, numeric_forms, named_once, section, action_at, actions_in, sections_of, each_once, named, defined, domain_with, domain_of}
+use Rattle.tp_syntax.specs.Domains.{Domain, Part, requirements_in, types_in, objects_in, section, action_at, actions_in, sections_of, each_once, named, defined, domain_with, domain_of}
 use Rattle.tp_syntax.specs.FormViews.{predicates_in, functions_in}
 use Rattle.tp_syntax.specs.SectionViews.{part_view, action_kind, actions_once, checked_sections, domain_symbols}
 use Rattle.tp_syntax.specs.declared.words.Section.{Section}

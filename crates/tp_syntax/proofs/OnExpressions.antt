@@ -1,8 +1,8 @@
-use Rattle.std.proofs.Common.{◌≡◌, ℕ, List, Bool, true, false, Option, Some, None, option_map, refl, sym, ap, ◌∙◌, rules}
-use Rattle.tp_text.specs.Shapes.{Shape, leaf, node, Shapes, no_shapes, shape}
+use Rattle.std.proofs.Common.{◌≡◌, ℕ, List, Bool, true, false, Option, None, option_map, refl, sym, ap, ◌∙◌, rules}
+use Rattle.tp_text.specs.Shapes.{leaf, node, Shapes, no_shapes, shape}
 use Rattle.tp_text.specs.Trees.{shape_of}
 use Rattle.tp_text.specs.declared.tree.Tree.{Tree}
-use Rattle.tp_syntax.specs.Gives.{◌>>=◌, Fails}
+use Rattle.tp_syntax.specs.Gives.{◌>>=◌}
 use Rattle.tp_syntax.specs.Terms.{shapes, atom_view}
 use Rattle.tp_syntax.proofs.Loops.{IsEach}
 use Rattle.tp_syntax.specs.Words.{operator_of}
@@ -12,9 +12,7 @@ use Rattle.tp_syntax.specs.declared.words.Operator.{Operator}
 use Rattle.tp_syntax.specs.ExprViews.{expr_view}
 use Rattle.tp_syntax.specs.declared.expr.Expr.{the_lemmas}
 use Rattle.tp_syntax.specs.declared.term.Atom.{Atom}
-use Rattle.tp_syntax.specs.declared.fault.SyntaxFault.{SyntaxFault}
 use Rattle.tp_syntax.specs.declared.expr.Expr as exprs
-use Rattle.tp_syntax.specs.declared.fault.SyntaxFault.TheVariants as faults
 
 pub fluent_view : (a : Atom) → expr_view (exprs.Fluent a) ≡ fluent (atom_view a)
 fluent_view a = search (rules, the_lemmas)

@@ -1,5 +1,5 @@
 -- What a refusal of one step means for those that follow.
-use Rattle.std.proofs.Common.{◌≡◌, Option, Some, None, option_map, Result, sym, ap, subst}
+use Rattle.std.proofs.Common.{◌≡◌, Option, None, option_map, Result, sym, ap, subst}
 use Rattle.tp_syntax.specs.Gives.{◌>>=◌, Fails, Gives, IsKept}
 use Rattle.tp_syntax.specs.declared.fault.SyntaxFault.{SyntaxFault}
 use Rattle.tp_syntax.specs.declared.fault.SyntaxFault.TheVariants as faults

@@ -1,4 +1,4 @@
-use Rattle.std.proofs.Common.{◌≡◌, List, Option, refl}
+use Rattle.std.proofs.Common.{refl}
 use Rattle.tp_text.specs.Trees.{shape_of}
 use Rattle.tp_text.specs.declared.tree.Tree.{Tree}
 use Rattle.tp_syntax.specs.Terms.{shapes}

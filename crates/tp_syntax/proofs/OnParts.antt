@@ -1,6 +1,6 @@
-use Rattle.std.proofs.Common.{◌≡◌, ℕ, ◌<◌, ◌≤◌, ◌-◌, List, [], ◌∷◌, ◌++◌, length, take, drop, get_or, Bool, true, false, map, Option, Some, None, option_map, Vec, Box, Global, refl, sym, ap, ◌∙◌, rules, arith}
+use Rattle.std.proofs.Common.{◌≡◌, ℕ, ◌<◌, ◌≤◌, ◌-◌, List, [], ◌∷◌, ◌++◌, length, take, drop, get_or, map, Option, Some, None, option_map, Vec, Box, Global, refl, sym, ap, ◌∙◌, rules, arith}
 use Rattle.std.proofs.lemmas.List.{take_rest}
-use Rattle.tp_text.specs.Shapes.{Shape, leaf, node, Shapes, no_shapes, shape}
+use Rattle.tp_text.specs.Shapes.{leaf, node, Shapes, no_shapes, shape}
 use Rattle.tp_text.specs.Trees.{shape_of}
 use Rattle.tp_text.specs.declared.tree.Tree.{Tree}
 use Rattle.tp_syntax.specs.Gives.{◌>>=◌}
@@ -8,7 +8,7 @@ use Rattle.tp_syntax.specs.Terms.{shapes}
 use Rattle.tp_syntax.specs.Symbols.{Parent, Declared, typed_view}
 use Rattle.tp_syntax.specs.Words.{joint_of}
 use Rattle.tp_syntax.specs.TypedLists.{parameters_at}
-use Rattle.tp_syntax.specs.Parts.{Joined, Parts, Reader, all_parts, for_each, one, no_parts, parts, joined_of, parts_of, bound_parts, only_part}
+use Rattle.tp_syntax.specs.Parts.{Joined, Reader, all_parts, for_each, one, no_parts, parts, joined_of, parts_of, bound_parts, only_part}
 use Rattle.tp_syntax.specs.PartViews.{joined_view}
 use Rattle.tp_syntax.specs.declared.joined.Joined as the_joined
 use Rattle.tp_syntax.specs.declared.joined.Joined.{the_lemmas}

@@ -14,7 +14,7 @@ use Rattle.tp_syntax.specs.Symbols.{Name, Declared, Parent, Form}
 use Rattle.tp_syntax.specs.TypedLists.{is_dash, parameters_of, has_twice}
 use Rattle.tp_syntax.specs.Domains.{requirement_at, requirements_in, form_at, forms_of, is_number, numeric_forms, after_number, named_once}
 use Rattle.tp_syntax.specs.Printing.{name_shapes, typed_shapes, form_shape, form_shapes}
-use Rattle.tp_syntax.proofs.OnPrintingWords.{some_is, bind_some, map_some, provided_some, no_some, cond_some, lower_lower, name_read, name_again, name_word}
+use Rattle.tp_syntax.proofs.OnPrintingWords.{some_is, bind_some, map_some, provided_some, no_some, lower_lower, name_read, name_again, name_word}
 use Rattle.tp_syntax.proofs.OnPrintingLists.{parameters_again}
 
 -- ---- requirements

@@ -1,9 +1,8 @@
-use Rattle.std.proofs.Common.{◌≡◌, ℕ, ◌<◌, ◌≤◌, ◌-◌, List, [], ◌∷◌, ◌++◌, length, take, drop, get_or, Bool, true, false, map, Option, Some, None, option_map, Vec, Global, refl, sym, ap, ◌∙◌, rules, arith}
+use Rattle.std.proofs.Common.{◌≡◌, ℕ, ◌<◌, ◌≤◌, ◌-◌, List, [], ◌∷◌, length, take, drop, get_or, Bool, true, false, map, Option, Some, None, option_map, Vec, Global, refl, sym, ap, ◌∙◌, rules, arith}
 use Rattle.std.proofs.lemmas.List.{take_rest}
-use Rattle.tp_text.specs.Shapes.{Shape, leaf, node, Shapes, no_shapes, shape}
+use Rattle.tp_text.specs.Shapes.{leaf, node, Shapes, no_shapes, shape}
 use Rattle.tp_text.specs.Trees.{shape_of}
 use Rattle.tp_text.specs.declared.tree.Tree.{Tree}
-use Rattle.tp_syntax.specs.Gives.{◌>>=◌}
 use Rattle.tp_syntax.specs.Terms.{shapes}
 use Rattle.tp_syntax.specs.Symbols.{Declared, Symbols}
 use Rattle.tp_syntax.specs.Words.{rule_form_of}

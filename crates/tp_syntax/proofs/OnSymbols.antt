@@ -1,6 +1,9 @@
-use Rattle.std.proofs.Common.{◌≡◌, ℕ, List, [], ◌∷◌, ◌++◌, map, Bool, true, false, cond, Option, Some, None, Bor, refl, sym, ap, ◌∙◌, subst, rules}
+use Rattle.std.proofs.Common.{◌≡◌, List, [], ◌∷◌, ◌++◌, map, Bool, true, false, cond, Option, Some, None, option_map, string_bytes, Bor, refl, sym, ap, ◌∙◌, rules}
 use Rattle.std.specs.Str.{bytes_eq}
-use Rattle.tp_syntax.specs.Symbols.{Name, Declared, typed_view, types_of, scope_view}
+use Rattle.tp_syntax.specs.Symbols.{Name, Declared, typed_view, form_view, types_of, form_of, scope_view}
+use Rattle.tp_syntax.specs.Tables.{item_of}
+use Rattle.tp_syntax.specs.declared.symbols.Signature.{Signature}
+use Rattle.tp_syntax.proofs.OnTables.{seen}
 use Rattle.tp_syntax.specs.declared.symbols.Typed.{Typed}
 use Rattle.tp_syntax.specs.declared.symbols.Scope.{Scope, Empty, Inner, the_lemmas}
 
@@ -28,3 +31,18 @@ in_scope n s vars outer o is found =
 
 pub scope_Empty : scope_view Empty ≡ []
 scope_Empty = search (rules, the_lemmas)
+
+-- ---- what is found by a name
+
+pub types_of_found : (n : Name) (ds : List Typed) → types_of n (map typed_view ds) ≡ option_map (λ (d : Typed). map string_bytes d.types.items) (item_of (λ (d : Typed). string_bytes d.name) n ds)
+types_of_found n [] = refl
+types_of_found n (d ∷ ds) =
+    let view : Typed → List Name = λ e. map string_bytes e.types.items in
+    let found = item_of (λ (e : Typed). string_bytes e.name) n ds in
+    ap (cond (bytes_eq (string_bytes d.name) n) (Some (view d))) (types_of_found n ds) ∙ sym (seen view (bytes_eq (string_bytes d.name) n) d found)
+
+pub form_found : (n : Name) (fs : List Signature) → form_of n (map form_view fs) ≡ option_map form_view (item_of (λ (f : Signature). string_bytes f.name) n fs)
+form_found n [] = refl
+form_found n (f ∷ fs) =
+    let found = item_of (λ (g : Signature). string_bytes g.name) n fs in
+    ap (cond (bytes_eq (string_bytes f.name) n) (Some (form_view f))) (form_found n fs) ∙ sym (seen form_view (bytes_eq (string_bytes f.name) n) f found)

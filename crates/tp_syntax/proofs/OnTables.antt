@@ -1,12 +1,13 @@
-use Rattle.std.proofs.Common.{◌≡◌, ℕ, ◌+◌, ◌<◌, ◌≤◌, List, [], ◌∷◌, ◌++◌, length, map, take, get_or, Bool, true, false, ◌||◌, cond, Option, Some, None, option_map, refl, sym, ap, ◌∙◌, add-one, arith}
+use Rattle.std.proofs.Common.{◌≡◌, ℕ, ◌+◌, ◌<◌, ◌≤◌, List, [], ◌∷◌, ◌++◌, length, map, take, get_or, Bool, true, false, ◌||◌, cond, Option, Some, None, option_map, Bor, refl, sym, ap, ◌∙◌, add-one, arith}
 use Rattle.std.proofs.lemmas.List.{take_more, map-append, length-map, length-take-le}
-use Rattle.std.specs.List.{list_any}
+use Rattle.std.specs.List.{list_any, slice_get}
 use Rattle.std.specs.Option.{is_some}
 use Rattle.std.specs.Str.{bytes_eq}
 use Rattle.std.specs.Cmp.Lexicographic.{bytes_decides}
 use Rattle.std.proofs.lemmas.List.Folds.{list_any-append}
+use Rattle.tp_syntax.specs.Gives.{◌>>=◌}
 use Rattle.tp_syntax.specs.Symbols.{Name}
-use Rattle.tp_syntax.specs.Tables.{place_of, or_place}
+use Rattle.tp_syntax.specs.Tables.{place_of, or_place, item_of}
 use Rattle.tp_syntax.specs.TypedLists.{has_twice}
 
 one_more : (b e : Bool) (o : Option ℕ) (l : ℕ) → cond b (Some 0) (option_map (λ k. k + 1) (elim o as (λ v. Option ℕ) [ Some k ↦ Some k | None ↦ cond e (Some l) None ])) ≡ elim (cond b (Some 0) (option_map (λ k. k + 1) o)) as (λ v. Option ℕ) [ Some k ↦ Some k | None ↦ cond e (Some (l + 1)) None ]
@@ -75,3 +76,31 @@ some_twice {X} named xs ys o i is same some = ap (λ (zs : List X). has_twice (m
 
 pub none_twice : {X : Type 0} (named : X → Name) (xs ys : List X) (o : Option ℕ) → is_some o ≡ has_twice (map named ys) → ys ≡ xs → o ≡ None → has_twice (map named xs) ≡ false
 none_twice {X} named xs ys o is same none = ap (λ (zs : List X). has_twice (map named zs)) (sym same) ∙ sym is ∙ ap is_some none
+
+-- ---- items by their places
+
+module _ {X : Type 0} (named : X → Name) where
+  moved_on : (x : X) (xs : List X) (b : Bool) (o : Option ℕ) (r : Option X) → r ≡ (o >>= slice_get xs) → cond b (Some x) r ≡ (cond b (Some 0) (option_map (λ k. k + 1) o) >>= slice_get (x ∷ xs))
+  moved_on x xs true o r h = refl
+  moved_on x xs false None r h = h
+  moved_on x xs false (Some k) r h = h ∙ ap (slice_get (x ∷ xs)) (sym (add-one k))
+
+  item_by_place : (xs : List X) (n : Name) → item_of named n xs ≡ (place_of n (map named xs) >>= slice_get xs)
+  item_by_place [] n = refl
+  item_by_place (x ∷ xs) n = moved_on x xs (bytes_eq (named x) n) (place_of n (map named xs)) (item_of named n xs) (item_by_place xs n)
+
+  pub no_item : (xs : List X) (n : Name) → place_of n (map named xs) ≡ None → item_of named n xs ≡ None
+  no_item xs n none = item_by_place xs n ∙ ap (λ (o : Option ℕ). o >>= slice_get xs) none
+
+  pub item_at_place : (xs : List X) (n : Name) (k : ℕ) (o : Option X) → place_of n (map named xs) ≡ Some k → slice_get xs k ≡ o → item_of named n xs ≡ o
+  item_at_place xs n k o is at = item_by_place xs n ∙ ap (λ (p : Option ℕ). p >>= slice_get xs) is ∙ at
+
+-- ---- items as they are seen
+
+pub seen : {X Y : Type 0} (view : X → Y) (b : Bool) (x : X) (o : Option X) → option_map view (cond b (Some x) o) ≡ cond b (Some (view x)) (option_map view o)
+seen view true x o = refl
+seen view false x o = refl
+
+pub behind : {X Y : Type 0} (view : X → Y) (o : Option (Bor X)) → option_map (λ x. view x.now) o ≡ option_map view (option_map (λ x. x.now) o)
+behind view None = refl
+behind view (Some x) = refl

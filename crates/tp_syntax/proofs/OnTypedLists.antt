@@ -1,18 +1,17 @@
 -- The loop over a typed list.
-use Rattle.std.proofs.Common.{◌≡◌, ℕ, ◌-◌, ◌<◌, ◌≤◌, List, [], ◌∷◌, ◌++◌, length, take, drop, get_or, map, Bool, true, false, Option, Some, None, option_map, codes, refl, sym, ap, ◌∙◌, subst, arith, append_assoc, append-nil, Vec, String, Global, vec_len, string_bytes, eqb}
+use Rattle.std.proofs.Common.{◌≡◌, ◌-◌, ◌<◌, ◌≤◌, List, [], ◌∷◌, ◌++◌, length, take, drop, get_or, map, Bool, true, false, Option, Some, None, option_map, codes, refl, sym, ap, ◌∙◌, subst, arith, append_assoc, append-nil, Vec, String, Global, vec_len, string_bytes, eqb}
 use Rattle.std.proofs.lemmas.Bool.{eqb-false}
 use Rattle.std.proofs.lemmas.List.{length-map}
-use Rattle.std.proofs.lemmas.List.{take_rest, map-append}
-use Rattle.tp_text.specs.Shapes.{Shape, Shapes, no_shapes, shape}
+use Rattle.std.proofs.lemmas.List.{map-append}
+use Rattle.tp_text.specs.Shapes.{Shape, Shapes, shape}
 use Rattle.tp_text.specs.Trees.{shape_of}
 use Rattle.tp_text.specs.declared.tree.Tree.{Tree}
 use Rattle.tp_syntax.specs.Gives.{◌>>=◌, Fails}
 use Rattle.tp_syntax.specs.Terms.{shapes}
 use Rattle.tp_syntax.specs.Symbols.{Name, Declared}
-use Rattle.tp_syntax.specs.TypedLists.{is_dash, begins_dash, given, joined, unless, Typing, outcome, item_at, type_at, typing_of, after_dash, run_of, typed_list, waiting}
+use Rattle.tp_syntax.specs.TypedLists.{is_dash, given, joined, unless, Typing, outcome, item_at, type_at, typing_of, after_dash, run_of, typed_list, waiting}
 use Rattle.tp_syntax.specs.declared.words.Items.{Items}
 use Rattle.tp_syntax.specs.declared.fault.SyntaxFault.{SyntaxFault}
-use Rattle.tp_syntax.specs.declared.fault.SyntaxFault.TheVariants as faults
 use Rattle.tp_syntax.proofs.OnGives.{fails_bind, fails_map}
 use Rattle.tp_syntax.proofs.OnLists.{peel}
 

@@ -1,5 +1,5 @@
 -- Types that are declared by their mention alone.
-use Rattle.std.proofs.Common.{◌≡◌, ℕ, List, [], ◌∷◌, ◌++◌, map, Bool, true, false, ◌||◌, ◌&&◌, cond, not, filter, Option, Some, None, Bor, refl, sym, ap, ◌∙◌, subst, append_assoc, ◌+◌, ◌<◌, length, take, get_or, string_bytes}
+use Rattle.std.proofs.Common.{◌≡◌, ℕ, List, [], ◌∷◌, ◌++◌, map, Bool, true, false, ◌||◌, ◌&&◌, cond, not, filter, Some, None, Bor, refl, sym, ap, ◌∙◌, subst, append_assoc, ◌+◌, ◌<◌, length, take, get_or, string_bytes}
 use Rattle.std.proofs.lemmas.List.{take_more, map-append}
 use Rattle.std.specs.List.{list_any, list_all}
 use Rattle.tp_syntax.specs.Gives.{provided}

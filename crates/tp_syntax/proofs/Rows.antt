@@ -1,7 +1,7 @@
 -- The rows' domains and problems are spelled.
-use Rattle.std.proofs.Common.{◌≡◌, ℕ, List, [], ◌∷◌, map, Bool, true, false, codes, Option, Some, None, option_map, refl}
+use Rattle.std.proofs.Common.{◌≡◌, true, codes, None, refl}
 use Rattle.std.specs.Option.{is_some}
-use Rattle.tp_text.specs.Shapes.{Shape, leaf, node, Shapes, no_shapes, shape}
+use Rattle.tp_text.specs.Shapes.{Shape, leaf, node, no_shapes, shape}
 use Rattle.tp_text.specs.Numbers.{signed}
 use Rattle.tp_syntax.specs.Gives.{◌>>=◌}
 use Rattle.tp_syntax.specs.Words.{rule_form_of, is_word, head_of, operator_of, change_of, joint_of, mark_of, key_of, section_of, problem_section_of}
@@ -14,7 +14,7 @@ use Rattle.tp_syntax.specs.Parts.{joined_of}
 use Rattle.tp_syntax.specs.Lists.{only, both, first_of}
 use Rattle.tp_syntax.specs.Effects.{atom_at, deleted, written, changed, outcome_of, mark_at, marked_tree, marked, is_duration, limited, is_start, rule_of}
 use Rattle.tp_syntax.specs.Actions.{fields_of, body_of, action_of}
-use Rattle.tp_syntax.specs.Domains.{Domain, defined, types_in, requirement_at, requirements_in, kind_and_name, named, objects_in, form_at, forms_of, numeric_forms, sections_of, actions_in, domain_with, domain_of}
+use Rattle.tp_syntax.specs.Domains.{defined, types_in, requirement_at, requirements_in, kind_and_name, named, objects_in, form_at, forms_of, numeric_forms, sections_of, actions_in, domain_with, domain_of}
 use Rattle.tp_syntax.specs.Problems.{denied, valued, initial_list, initial_at, initial_of, goal_in, new_objects, stated, problem_with, own_name, once_each, problem_of}
 use Rattle.tp_syntax.specs.Problems as problems
 

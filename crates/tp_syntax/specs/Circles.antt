@@ -1,8 +1,8 @@
 -- Ranks of types: where each type is above its parent, there is no circle.
-use Rattle.std.specs.Prelude.{◌≡◌, ℕ, ◌+◌, List, map, length, Bool, true, false, ◌&&◌, nat_le, nat_lt, slice_get, if◌then◌else◌, Option, Some, None, string_bytes}
+use Rattle.std.specs.Prelude.{ℕ, List, map, length, Bool, false, ◌&&◌, nat_le, nat_lt, slice_get, if◌then◌else◌, Option, Some, None, string_bytes}
 use Rattle.std.specs.Str.{bytes_eq}
 use Rattle.tp_syntax.specs.Gives.{◌>>=◌}
-use Rattle.tp_syntax.specs.Symbols.{Name, Parent, parent_view, parent_of}
+use Rattle.tp_syntax.specs.Symbols.{Name, parent_view, parent_of}
 use Rattle.tp_syntax.specs.Domains.{object}
 use Rattle.tp_syntax.specs.Tables.{place_of}
 use Rattle.tp_syntax.specs.declared.types.TypeName.{TypeName}

@@ -1,5 +1,5 @@
 -- What a `Cond` shows.
-use Rattle.std.specs.Prelude.{◌≡◌, ℕ, List, map}
+use Rattle.std.specs.Prelude.{map}
 use Rattle.tp_syntax.specs.Terms.{term_view, atom_view}
 use Rattle.tp_syntax.specs.Symbols.{typed_view}
 use Rattle.tp_syntax.specs.ExprViews.{expr_view}

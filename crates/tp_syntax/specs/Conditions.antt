@@ -1,18 +1,18 @@
 -- Conditions, and what spells them.
-use Rattle.std.specs.Prelude.{◌≡◌, ℕ, List, [], ◌∷◌, ◌++◌, map, Bool, true, false, ◌&&◌, ◌||◌, if◌then◌else◌, Option, Some, None, option_map}
+use Rattle.std.specs.Prelude.{ℕ, List, [], ◌∷◌, ◌++◌, Bool, true, false, ◌&&◌, ◌||◌, if◌then◌else◌, Option, Some, None, option_map}
 use Rattle.std.specs.Option.{is_some}
 use Rattle.tp_text.specs.Shapes.{Shape, leaf, node, Shapes, no_shapes, shape}
 use Rattle.tp_syntax.specs.Gives.{◌>>=◌, provided}
 use Rattle.tp_syntax.specs.Terms.{Argument, Fact, is_name, is_variable, terms_of}
 use Rattle.tp_syntax.specs.Symbols.{Declared, argument_types, Symbols, atom_in}
 use Rattle.tp_syntax.specs.Words.{head_of, comparison}
-use Rattle.tp_syntax.specs.Expressions.{Expression, Terms, expressions_of}
+use Rattle.tp_syntax.specs.Expressions.{Expression, expressions_of}
 use Rattle.tp_syntax.specs.TypedLists.{parameters_at}
 use Rattle.tp_syntax.specs.declared.words.Comparison.{Comparison}
 use Rattle.tp_syntax.specs.declared.words.Kind.{Kind}
 use Rattle.tp_syntax.specs.declared.words.Kind.TheVariants.{Joined, Bound, Simple}
 use Rattle.tp_syntax.specs.declared.words.Head.{Head}
-use Rattle.tp_syntax.specs.declared.words.Head.TheVariants.{And, Or, Not, Imply, Forall, Exists, Equal, Less, AtMost, AtLeast, More, Preference, Other}
+use Rattle.tp_syntax.specs.declared.words.Head.TheVariants.{And, Or, Not, Imply, Forall, Exists, Equal, Less, AtMost, AtLeast, More, Other}
 
 mutual
   pub data Condition : Type 0 where

@@ -1,5 +1,5 @@
 -- What an `Action`, a `Domain` and a `Problem` show.
-use Rattle.std.specs.Prelude.{◌≡◌, ℕ, List, map, string_bytes}
+use Rattle.std.specs.Prelude.{map, string_bytes}
 use Rattle.tp_syntax.specs.Terms.{atom_view}
 use Rattle.tp_syntax.specs.Symbols.{typed_view, parent_view, form_view}
 use Rattle.tp_syntax.specs.CondViews.{cond_view}

@@ -1,5 +1,4 @@
 -- What the parts of an effect and of a timed condition or effect show.
-use Rattle.std.specs.Prelude.{◌≡◌, ℕ, List, map}
 use Rattle.tp_syntax.specs.Terms.{atom_view}
 use Rattle.tp_syntax.specs.ExprViews.{expr_view}
 use Rattle.tp_syntax.specs.CondViews.{cond_view}

@@ -1,5 +1,5 @@
 -- Effects, timed conditions and effects, and rules of durations.
-use Rattle.std.specs.Prelude.{◌≡◌, ℕ, List, [], ◌∷◌, ◌++◌, Bool, true, false, codes, if◌then◌else◌, Option, Some, None, option_map}
+use Rattle.std.specs.Prelude.{ℕ, List, [], ◌∷◌, Bool, true, false, codes, Option, Some, None, option_map}
 use Rattle.tp_text.specs.Shapes.{Shape, leaf, node, Shapes, no_shapes, shape}
 use Rattle.tp_syntax.specs.Gives.{◌>>=◌, provided}
 use Rattle.tp_syntax.specs.Words.{is_word, change_of, mark_of, head_of, rule_form_of, duration_comparison}

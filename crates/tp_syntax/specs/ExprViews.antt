@@ -1,5 +1,4 @@
 -- What an `Expr` shows.
-use Rattle.std.specs.Prelude.{◌≡◌, ℕ, List, map}
 use Rattle.tp_syntax.specs.Terms.{atom_view}
 use Rattle.tp_syntax.specs.Expressions.{Expression, number, fluent, sum, negative, difference, product, the_duration}
 use Rattle.tp_syntax.specs.declared.expr.Expr.{Expr, fold-Expr}

@@ -1,5 +1,5 @@
 -- Atoms and expressions, and what spells them.
-use Rattle.std.specs.Prelude.{◌≡◌, ℕ, List, [], ◌∷◌, Bool, true, false, ◌&&◌, codes, if◌then◌else◌, Option, Some, None, option_map}
+use Rattle.std.specs.Prelude.{ℕ, List, [], ◌∷◌, Bool, true, false, ◌&&◌, codes, if◌then◌else◌, Option, Some, None, option_map}
 use lib.IntN.{ℤ}
 use Rattle.tp_text.specs.Shapes.{Shape, leaf, node, Shapes, no_shapes, shape}
 use Rattle.tp_text.specs.Numbers.{whole_of}
@@ -8,7 +8,7 @@ use Rattle.tp_syntax.specs.Words.{is_word, operator_of}
 use Rattle.tp_syntax.specs.Terms.{Fact}
 use Rattle.tp_syntax.specs.Symbols.{Declared, Symbols, atom_in}
 use Rattle.tp_syntax.specs.declared.words.Operator.{Operator}
-use Rattle.tp_syntax.specs.declared.words.Operator.TheVariants.{Plus, Minus, Times, Divide, Other}
+use Rattle.tp_syntax.specs.declared.words.Operator.TheVariants.{Plus, Minus, Times, Other}
 
 pub data Expression : Type 0 where
   number : ℤ → Expression

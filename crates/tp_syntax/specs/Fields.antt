@@ -1,5 +1,5 @@
 -- An action's fields as they are read.
-use Rattle.std.specs.Prelude.{◌≡◌, List, Bool, ◌&&◌, Option, Some, None}
+use Rattle.std.specs.Prelude.{List, Bool, ◌&&◌, Option, None}
 use Rattle.std.specs.List.{list_all}
 use Rattle.tp_text.specs.Shapes.{Shape, leaf, node, Shapes}
 use Rattle.tp_text.specs.Trees.{shape_of}

@@ -17,6 +17,8 @@ pub mod SectionViews
 pub mod Refusals
 pub mod FormViews
 pub mod Circles
+pub mod Jumps
+pub mod TypeTables
 pub mod Problems
 pub mod ExprViews
 pub mod CondViews

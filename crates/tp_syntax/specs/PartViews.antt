@@ -1,5 +1,5 @@
 -- What a `Joined` shows.
-use Rattle.std.specs.Prelude.{◌≡◌, ℕ, List, map}
+use Rattle.std.specs.Prelude.{map}
 use Rattle.tp_syntax.specs.Symbols.{typed_view}
 use Rattle.tp_syntax.specs.Parts as specs
 use Rattle.tp_syntax.specs.Parts.{all_parts, for_each, one, parts}

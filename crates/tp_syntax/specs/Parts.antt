@@ -1,5 +1,5 @@
 -- What is joined by 'and' and 'forall': effects, timed conditions and timed effects.
-use Rattle.std.specs.Prelude.{◌≡◌, ℕ, List, [], ◌∷◌, ◌++◌, Option, Some, None, option_map}
+use Rattle.std.specs.Prelude.{ℕ, List, [], ◌∷◌, ◌++◌, Option, Some, None, option_map}
 use Rattle.tp_text.specs.Shapes.{Shape, leaf, node, Shapes, no_shapes, shape}
 use Rattle.tp_syntax.specs.Gives.{◌>>=◌}
 use Rattle.tp_syntax.specs.Symbols.{Declared, Parent}

@@ -1,9 +1,8 @@
 -- Problems of a domain.
-use Rattle.std.specs.Prelude.{◌≡◌, ℕ, List, [], ◌∷◌, ◌++◌, map, Bool, true, false, ◌&&◌, ◌||◌, ◌==◌, not, codes, if◌then◌else◌, Option, Some, None, option_map}
-use Rattle.std.specs.List.{list_all, list_any}
+use Rattle.std.specs.Prelude.{◌≡◌, ℕ, List, [], ◌∷◌, ◌++◌, map, Bool, true, false, ◌&&◌, ◌==◌, not, codes, if◌then◌else◌, Option, Some, None, option_map}
+use Rattle.std.specs.List.{list_any}
 use Rattle.std.specs.Str.{bytes_eq}
 use lib.IntN.{ℤ}
-use Rattle.std.specs.Option.{is_some}
 use Rattle.tp_text.specs.Shapes.{Shape, leaf, node, Shapes, no_shapes, shape, Spells}
 use Rattle.tp_text.specs.Numbers.{whole_of}
 use Rattle.tp_syntax.specs.Gives.{◌>>=◌, provided}

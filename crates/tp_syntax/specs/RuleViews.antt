@@ -1,5 +1,4 @@
 -- What a `DurationRule` shows.
-use Rattle.std.specs.Prelude.{◌≡◌, ℕ, List}
 use Rattle.tp_syntax.specs.ExprViews.{expr_view}
 use Rattle.tp_syntax.specs.Effects.{Rule, all_rules, rule, rules_in}
 use Rattle.tp_syntax.specs.declared.rule.DurationRule.{DurationRule, fold-DurationRule}

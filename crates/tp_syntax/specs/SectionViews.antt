@@ -1,5 +1,5 @@
 -- A domain's sections as they are read.
-use Rattle.std.specs.Prelude.{◌≡◌, ℕ, List, map, Bool, true, false, not, Option, Some, None, option_map, Result, Ok, Err}
+use Rattle.std.specs.Prelude.{◌≡◌, List, map, Bool, true, false, not, Option, Some, None, option_map, Result, Ok, Err}
 use Rattle.tp_text.specs.Shapes.{Shape, leaf, node, Shapes, no_shapes, shape}
 use Rattle.tp_syntax.specs.Gives.{◌>>=◌, provided, with_front, Fails}
 use Rattle.tp_syntax.specs.declared.fault.SyntaxFault.{SyntaxFault}

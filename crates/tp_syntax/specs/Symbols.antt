@@ -1,5 +1,5 @@
 -- What a domain declares, and which arguments an atom may have.
-use Rattle.std.specs.Prelude.{◌≡◌, ℕ, zero, suc, List, [], ◌∷◌, ◌++◌, map, length, Bool, true, false, ◌&&◌, ◌||◌, if◌then◌else◌, Option, Some, None, option_map, string_bytes}
+use Rattle.std.specs.Prelude.{ℕ, zero, suc, List, [], ◌∷◌, ◌++◌, map, length, Bool, true, false, ◌&&◌, ◌||◌, if◌then◌else◌, Option, Some, None, string_bytes}
 use Rattle.std.specs.List.{list_all, list_any}
 use Rattle.std.specs.Str.{bytes_eq}
 use Rattle.tp_text.specs.Shapes.{Shapes}
@@ -36,7 +36,7 @@ abbrev pub parent_view : TypeName → Parent
 parent_view t = record { name = string_bytes t.name; parent = string_bytes t.parent }
 
 abbrev pub types_view : Types → List Parent
-types_view t = map parent_view t.declared.now
+types_view t = map parent_view t
 
 abbrev pub form_view : Signature → Form
 form_view s = record { name = string_bytes s.name; parameters = map typed_view s.parameters.items }
@@ -97,7 +97,7 @@ pub record Symbols : Type 0 where
   pub functions : List Form
 
 abbrev pub symbols_view : declared.Symbols → Symbols
-symbols_view s = record { types = types_view s.types; objects = map typed_view s.constants.now ++ map typed_view s.objects.now; predicates = map form_view s.predicates.now; functions = map form_view s.functions.now }
+symbols_view s = record { types = types_view s.types; objects = map typed_view s.constants ++ map typed_view s.objects; predicates = map form_view s.predicates; functions = map form_view s.functions }
 
 abbrev pub form_of : Name → List Form → Option Form
 form_of n [] = None

@@ -3,7 +3,9 @@ use Rattle.std.specs.Prelude.{◌≡◌, ℕ, ◌+◌, List, [], ◌∷◌, if�
 use Rattle.std.specs.Borrow.{Bor}
 use Rattle.std.specs.HashMap.{HashMap, get_by}
 use Rattle.std.specs.Str.{bytes_eq}
-use Rattle.tp_syntax.specs.Symbols.{Name}
+
+abbrev pub Name : Type 0
+Name = List ℕ
 
 -- the first place of a name
 abbrev pub place_of : Name → List Name → Option ℕ
@@ -19,6 +21,15 @@ found t n = get_by (λ k. bytes_eq n k.now) t
 -- it has the first place of each name
 abbrev pub IsTable : {S : Type 0} → Table S → List Name → Type 0
 IsTable t ns = (n : Name) → found t n ≡ place_of n ns
+
+abbrev pub IsTableIfAny : {S : Type 0} → Option (Table S) → List Name → Type 0
+IsTableIfAny (Some t) ns = IsTable t ns
+IsTableIfAny None ns = Unit {0}
+
+-- the first item of a name
+abbrev pub item_of : {X : Type 0} → (X → Name) → Name → List X → Option X
+item_of named n [] = None
+item_of named n (x ∷ xs) = if bytes_eq (named x) n then Some x else item_of named n xs
 
 -- what is found, or else the place of a name
 abbrev pub or_place : Option ℕ → Name → ℕ → Name → Option ℕ

@@ -1,5 +1,5 @@
 -- Typed lists: items, of which runs end in '-' and a type.
-use Rattle.std.specs.Prelude.{◌≡◌, ℕ, List, [], ◌∷◌, ◌++◌, map, Bool, true, false, ◌&&◌, ◌||◌, not, codes, if◌then◌else◌, Option, Some, None, option_map}
+use Rattle.std.specs.Prelude.{List, [], ◌∷◌, ◌++◌, map, Bool, true, false, ◌&&◌, ◌||◌, not, codes, if◌then◌else◌, Option, Some, None, option_map}
 use Rattle.std.specs.List.{list_all, list_any}
 use Rattle.std.specs.Str.{bytes_eq}
 use Rattle.std.specs.Option.{is_some}
@@ -7,7 +7,7 @@ use Rattle.tp_text.specs.Shapes.{Shape, leaf, node, Shapes, no_shapes, shape}
 use Rattle.tp_syntax.specs.Gives.{◌>>=◌, provided}
 use Rattle.tp_syntax.specs.Words.{is_word}
 use Rattle.tp_syntax.specs.Terms.{name_of, variable_of}
-use Rattle.tp_syntax.specs.Symbols.{Name, Declared, Parent, Form, parent_of, at_or_below, Symbols}
+use Rattle.tp_syntax.specs.Symbols.{Name, Declared, Parent, parent_of}
 use Rattle.tp_syntax.specs.declared.words.Items.{Items}
 use Rattle.tp_syntax.specs.declared.words.Items.TheVariants.{Variables, Names}
 

@@ -1,5 +1,5 @@
 -- Words, whose case is not significant, and the words that forms begin with.
-use Rattle.std.specs.Prelude.{◌≡◌, ℕ, List, [], ◌∷◌, map, Bool, true, false, codes, if◌then◌else◌, Option, Some, None}
+use Rattle.std.specs.Prelude.{◌≡◌, ℕ, List, map, Bool, codes, if◌then◌else◌, Option, Some, None}
 use Rattle.std.specs.Char.{to_ascii_lowercase}
 use Rattle.std.specs.Str.{bytes_eq}
 use Rattle.tp_syntax.specs.declared.words.Head as heads

@@ -12,7 +12,7 @@ use crate::types::TypeName;
 use indexmap::IndexMap;
 use std::alloc::{AllocError, Global};
 
-fn parent_of<'a>(
+pub fn parent_of<'a>(
     types: &'a [TypeName],
     places: &IndexMap<&'a str, usize>,
     name: &str,
@@ -66,7 +66,7 @@ fn are_below_object<'a>(types: &'a [TypeName], places: &IndexMap<&'a str, usize>
 }
 
 // The rank of a type by its first place; that of `object` is 0.
-fn rank_of<'a>(
+pub fn rank_of<'a>(
     types: &'a [TypeName],
     places: &IndexMap<&'a str, usize>,
     ranks: &[usize],
@@ -107,7 +107,7 @@ fn is_ranked<'a>(
     above < own && own <= types.len()
 }
 
-fn are_ranked<'a>(types: &'a [TypeName], places: &IndexMap<&'a str, usize>, ranks: &[usize]) -> bool
+pub fn are_ranked<'a>(types: &'a [TypeName], places: &IndexMap<&'a str, usize>, ranks: &[usize]) -> bool
     requires { IsTable places.now (map type_name types.now) }
     ensures { result ≡ list_all (is_ranked types.now ranks.now) (map type_name types.now) }
 {
@@ -166,7 +166,7 @@ fn rank_up<'a>(
 }
 
 // Ranks for types: steps from `object`, as far as no circle is met.
-fn ranks<'a>(
+pub fn ranks<'a>(
     alloc: Global,
     types: &'a [TypeName],
     places: &IndexMap<&'a str, usize>,

@@ -218,7 +218,7 @@ fn fact(
 ) -> Result<Cond, SyntaxFault>
     ensures { Gives cond_view result (option_map fact (atom_in (symbols_view symbols.now) (symbols_view symbols.now).predicates (scope_view scope.now) word.now.text.now (shapes args.now))) }
 {
-    let atom = atom_in(alloc, symbols, symbols.predicates, scope, word, args, at)?;
+    let atom = atom_in(alloc, symbols, &symbols.predicates, scope, word, args, at)?;
     Ok(Cond::Atom(atom))
 }
 

@@ -18,6 +18,7 @@ use crate::domain::Domain;
 use crate::fault::{SyntaxFault, text_fault, tree_fault};
 use crate::forms::{functions_in, predicates_in};
 use crate::head::{defined, named, requirements_in};
+use crate::lookup::Lookup;
 use crate::sections::{SectionBody, find_section, read_sections};
 use crate::symbols::{Signature, Symbols, Typed};
 use crate::table::{Named, second_named};
@@ -152,20 +153,20 @@ fn functions(
 // The actions over what the other sections declare.
 fn actions_over(
     alloc: Global,
-    types: &[TypeName],
+    types: Types,
     constants: &[Typed],
     predicates: &[Signature],
     functions: &[Signature],
     parts: &[SectionBody],
 ) -> Result<Vec<Action>, SyntaxFault>
-    ensures { Gives (λ v. map action_view v.items) result (actions_once (domain_symbols (map parent_view types.now) (map typed_view constants.now) (map form_view predicates.now) (map form_view functions.now)) (map part_view parts.now)) }
+    ensures { Gives (λ v. map action_view v.items) result (actions_once (domain_symbols (types_view types.entry) (map typed_view constants.now) (map form_view predicates.now) (map form_view functions.now)) (map part_view parts.now)) }
 {
     let symbols = Symbols {
-        types: Types { declared: types },
-        constants,
-        objects: &[],
-        predicates,
-        functions,
+        types,
+        constants: Lookup::new(alloc, constants)?,
+        objects: Lookup::listed(&[]),
+        predicates: Lookup::new(alloc, predicates)?,
+        functions: Lookup::new(alloc, functions)?,
     };
     actions_once(alloc, &symbols, parts)
 }
@@ -175,11 +176,11 @@ fn domain_with(alloc: Global, name: String, parts: &[SectionBody]) -> Result<Dom
 {
     let requirements = requirements(alloc, parts)?;
     let types = types(alloc, parts)?;
-    let known = Types { declared: &types };
+    let known = Types::new(alloc, &types)?;
     let constants = constants(alloc, &known, parts)?;
     let predicates = predicates(alloc, &known, parts)?;
     let functions = functions(alloc, &known, parts)?;
-    let actions = actions_over(alloc, &types, &constants, &predicates, &functions, parts)?;
+    let actions = actions_over(alloc, known, &constants, &predicates, &functions, parts)?;
     Ok(Domain {
         name,
         requirements,

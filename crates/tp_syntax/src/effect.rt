@@ -13,6 +13,7 @@ use crate::expr::{Expr, read_value};
 use crate::fault::{LeftOutPart, SyntaxFault};
 use crate::joined::{Joined, Part, read_joined};
 use crate::lists::{both, only};
+use crate::lookup::Lookup;
 use crate::symbols::{Scope, Signature, Symbols, atom_in};
 use crate::term::Atom;
 use crate::words::{Change, Writing, change_of};
@@ -34,7 +35,7 @@ pub type Effect = Joined<Outcome>;
 pub fn atom_at(
     alloc: Global,
     symbols: &Symbols,
-    forms: &[Signature],
+    forms: &Lookup<Signature>,
     scope: &Scope,
     tree: &Tree,
 ) -> Result<Atom, SyntaxFault>
@@ -66,7 +67,7 @@ fn deleted(
     let Some(tree) = only(args) else {
         return Err(SyntaxFault::Shape(at));
     };
-    let atom = atom_at(alloc, symbols, symbols.predicates, scope, tree)?;
+    let atom = atom_at(alloc, symbols, &symbols.predicates, scope, tree)?;
     Ok(Outcome::Delete(atom))
 }
 
@@ -85,7 +86,7 @@ fn written(
     let Some((fluent, value)) = both(args) else {
         return Err(SyntaxFault::Shape(at));
     };
-    let atom = atom_at(alloc, symbols, symbols.functions, scope, fluent)?;
+    let atom = atom_at(alloc, symbols, &symbols.functions, scope, fluent)?;
     let value = read_value(alloc, value, symbols, scope, duration, at)?;
     Ok(Outcome::Write(writing, atom, value))
 }
@@ -105,7 +106,7 @@ fn changed(
 {
     let writing = match change {
         Change::Other => {
-            let atom = atom_in(alloc, symbols, symbols.predicates, scope, word, args, at)?;
+            let atom = atom_in(alloc, symbols, &symbols.predicates, scope, word, args, at)?;
             return Ok(Outcome::Add(atom));
         }
         Change::Not => return deleted(alloc, symbols, scope, args, at),

@@ -176,7 +176,7 @@ pub fn read_expr(
         let exprs = read_exprs(alloc, args, symbols, scope, duration, at)?;
         computed(alloc, operator, exprs, at)
     } else {
-        let atom = atom_in(alloc, symbols, symbols.functions, scope, word, args, at)?;
+        let atom = atom_in(alloc, symbols, &symbols.functions, scope, word, args, at)?;
         Ok(Expr::Fluent(atom))
     }
 }

@@ -11,7 +11,7 @@ ghost use Rattle.tp_syntax.specs.Gives.{Gives};
 
 use crate::fault::{LeftOutPart, SyntaxFault};
 use crate::symbols::Signature;
-use crate::table::{Named, second_named};
+use crate::table::second_named;
 use crate::term::name_of;
 use crate::typed::{is_dash, parameters_of, place};
 use crate::types::Types;
@@ -153,12 +153,4 @@ pub fn functions_in(
 {
     let forms = numeric_forms(alloc, types, trees, at)?;
     named_once(alloc, forms, trees, at)
-}
-
-impl Named for Signature {
-    ghost named = { λ s. string_bytes s.name };
-
-    fn name(&self) -> &str {
-        self.name.as_str()
-    }
 }

@@ -41,7 +41,7 @@ fn denied(alloc: Global, symbols: &Symbols, args: &[Tree], at: u32) -> Result<In
         return Err(SyntaxFault::Shape(at));
     };
     let none = Scope::Empty;
-    let atom = atom_at(alloc, symbols, symbols.predicates, &none, tree)?;
+    let atom = atom_at(alloc, symbols, &symbols.predicates, &none, tree)?;
     Ok(Initial::Fails(atom))
 }
 
@@ -54,7 +54,7 @@ fn valued(alloc: Global, symbols: &Symbols, args: &[Tree], at: u32) -> Result<In
         return Err(SyntaxFault::Shape(at));
     };
     let none = Scope::Empty;
-    let fact = atom_at(alloc, symbols, symbols.functions, &none, fluent)?;
+    let fact = atom_at(alloc, symbols, &symbols.functions, &none, fluent)?;
     initial_number(fact, number, at)
 }
 
@@ -96,7 +96,7 @@ fn held(
     ensures { Gives initial_view result (option_map holds (atom_in (symbols_view symbols.now) (symbols_view symbols.now).predicates [] word.now.text.now (shapes args.now))) }
 {
     let none = Scope::Empty;
-    match atom_in(alloc, symbols, symbols.predicates, &none, word, args, at) {
+    match atom_in(alloc, symbols, &symbols.predicates, &none, word, args, at) {
         Ok(atom) => Ok(Initial::Holds(atom)),
         Err(fault) => Err(atom_fault(fault, word, args, at)),
     }

@@ -16,7 +16,9 @@ mod forms;
 mod head;
 mod initial;
 mod joined;
+mod jumps;
 mod lists;
+mod lookup;
 mod once;
 mod print;
 mod print_parts;
@@ -58,3 +60,5 @@ mod example_tests;
 mod print_tests;
 #[cfg(test)]
 mod problem_tests;
+#[cfg(test)]
+mod types_tests;

@@ -20,6 +20,7 @@ use crate::head::{defined, name_place, named, requirements_in};
 use crate::initial::initial_of;
 use crate::lists::{first_of, only};
 use crate::once::second_mention;
+use crate::lookup::Lookup;
 use crate::problem_parts::{Part, body_of, find_section, once_each};
 use crate::symbols::{Scope, Symbols, Typed};
 use crate::term::Atom;
@@ -93,9 +94,7 @@ fn new_objects(
 ) -> Result<Vec<Typed>, SyntaxFault>
     ensures { Gives (λ v. map typed_view v.items) result (new_objects (domain_view domain.now) (shapes trees.now)) }
 {
-    let types = Types {
-        declared: &domain.types,
-    };
+    let types = Types::new(alloc, &domain.types)?;
     let objects = objects_in(alloc, &types, trees, at)?;
     if let Some(number) = named_again(alloc, &domain.constants, &objects)? {
         let object = number.saturating_sub(domain.constants.len());
@@ -144,18 +143,20 @@ fn stated(
 }
 
 // What a domain declares, and these objects.
-fn symbols_with<'d>(domain: &'d Domain, objects: &'d [Typed]) -> Symbols<'d>
-    ensures { symbols_view result ≡ symbols_with (domain_view domain.now) (map typed_view objects.now) }
+fn symbols_with<'d>(
+    alloc: Global,
+    domain: &'d Domain,
+    objects: &'d [Typed],
+) -> Result<Symbols<'d>, AllocError>
+    ensures { IfOk result (λ s. symbols_view s ≡ symbols_with (domain_view domain.now) (map typed_view objects.now)) }
 {
-    Symbols {
-        types: Types {
-            declared: &domain.types,
-        },
-        constants: &domain.constants,
-        objects,
-        predicates: &domain.predicates,
-        functions: &domain.functions,
-    }
+    Ok(Symbols {
+        types: Types::new(alloc, &domain.types)?,
+        constants: Lookup::new(alloc, &domain.constants)?,
+        objects: Lookup::new(alloc, objects)?,
+        predicates: Lookup::new(alloc, &domain.predicates)?,
+        functions: Lookup::new(alloc, &domain.functions)?,
+    })
 }
 
 fn stated_of(
@@ -167,7 +168,7 @@ fn stated_of(
 ) -> Result<(Vec<Initial>, Cond), SyntaxFault>
     ensures { Gives (λ r. (map initial_view r.0.items, cond_view r.1)) result (stated (symbols_with (domain_view domain.now) (map typed_view objects.now)) (map part_view parts.now)) }
 {
-    let symbols = symbols_with(domain, objects);
+    let symbols = symbols_with(alloc, domain, objects)?;
     stated(alloc, &symbols, parts, at)
 }
 

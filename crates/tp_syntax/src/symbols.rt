@@ -7,6 +7,8 @@ ghost use Rattle.tp_syntax.specs.Symbols.{typed_view, types_of, scope_view, form
 ghost use Rattle.tp_syntax.specs.Gives.{Gives};
 
 use crate::fault::SyntaxFault;
+use crate::lookup::Lookup;
+use crate::table::Named;
 use crate::term::{Atom, Term, name_of, terms_of};
 use crate::typed::place;
 use crate::types::{Types, types_fit};
@@ -27,6 +29,22 @@ pub struct Signature {
     pub parameters: Vec<Typed>,
 }
 
+impl Named for Typed {
+    ghost named = { λ t. string_bytes t.name };
+
+    fn name(&self) -> &str {
+        self.name.as_str()
+    }
+}
+
+impl Named for Signature {
+    ghost named = { λ s. string_bytes s.name };
+
+    fn name(&self) -> &str {
+        self.name.as_str()
+    }
+}
+
 /// The variables in scope. An inner one hides an outer one of the same name.
 #[derive(Clone, Copy)]
 pub enum Scope<'a> {
@@ -45,7 +63,16 @@ pub fn types_of<'a>(name: &str, declared: &'a [Typed]) -> Option<&'a [String]>
     None
 }
 
-pub fn variable_types<'a>(name: &str, scope: &Scope<'a>) -> Option<&'a [String]>
+fn types_found<'a>(name: &str, declared: &'a Lookup<Typed>) -> Option<&'a [String]>
+    ensures { option_map (λ ts. map string_bytes ts.now) result ≡ types_of name.now (map typed_view declared.now) }
+{
+    match declared.find(name) {
+        Some(typed) => Some(typed.types.as_slice()),
+        None => None,
+    }
+}
+
+pub fn variable_types<'a>(name: &str, scope: &'a Scope) -> Option<&'a [String]>
     ensures { option_map (λ ts. map string_bytes ts.now) result ≡ types_of name.now (scope_view scope.now) }
 {
     match scope {
@@ -58,40 +85,35 @@ pub fn variable_types<'a>(name: &str, scope: &Scope<'a>) -> Option<&'a [String]>
 }
 
 /// What may be named: what a domain declares, and in a problem its objects too.
-#[derive(Clone, Copy)]
+#[derive(Drop)]
 pub struct Symbols<'a> {
     pub types: Types<'a>,
-    pub constants: &'a [Typed],
-    pub objects: &'a [Typed],
-    pub predicates: &'a [Signature],
-    pub functions: &'a [Signature],
+    pub constants: Lookup<'a, Typed>,
+    pub objects: Lookup<'a, Typed>,
+    pub predicates: Lookup<'a, Signature>,
+    pub functions: Lookup<'a, Signature>,
 }
 
-fn form_of<'a>(name: &str, forms: &'a [Signature]) -> Option<&'a Signature>
+fn form_of<'a>(name: &str, forms: &Lookup<'a, Signature>) -> Option<&'a Signature>
     ensures { option_map (λ f. form_view f.now) result ≡ form_of name.now (map form_view forms.now) }
 {
-    for form in forms {
-        if form.name.as_str() == name {
-            return Some(form);
-        }
-    }
-    None
+    forms.find(name)
 }
 
 // The types of an object that is declared.
-fn object_types<'a>(symbols: &Symbols<'a>, name: &str) -> Option<&'a [String]>
+fn object_types<'a>(symbols: &'a Symbols, name: &str) -> Option<&'a [String]>
     ensures { option_map (λ ts. map string_bytes ts.now) result ≡ types_of name.now (symbols_view symbols.now).objects }
 {
-    match types_of(name, symbols.constants) {
+    match types_found(name, &symbols.constants) {
         Some(types) => Some(types),
-        None => types_of(name, symbols.objects),
+        None => types_found(name, &symbols.objects),
     }
 }
 
 // The types of an object that is declared, or of a variable in scope.
 fn argument_types<'a>(
-    symbols: &Symbols<'a>,
-    scope: &Scope<'a>,
+    symbols: &'a Symbols,
+    scope: &'a Scope,
     argument: &Term,
 ) -> Option<&'a [String]>
     ensures { option_map (λ ts. map string_bytes ts.now) result ≡ argument_types (symbols_view symbols.now).objects (scope_view scope.now) (term_view argument.now) }
@@ -103,9 +125,9 @@ fn argument_types<'a>(
 }
 
 // Whether an argument may stand for a parameter.
-fn argument_fits<'a>(
-    symbols: &Symbols<'a>,
-    scope: &Scope<'a>,
+fn argument_fits(
+    symbols: &Symbols,
+    scope: &Scope,
     argument: &Term,
     parameter: &[String],
 ) -> bool
@@ -118,9 +140,9 @@ fn argument_fits<'a>(
 }
 
 // As many arguments as parameters, each of which fits.
-fn arguments_fit<'a>(
-    symbols: &Symbols<'a>,
-    scope: &Scope<'a>,
+fn arguments_fit(
+    symbols: &Symbols,
+    scope: &Scope,
     arguments: &[Term],
     parameters: &[Typed],
 ) -> bool
@@ -162,7 +184,7 @@ fn arguments_fault(
 pub fn atom_in(
     alloc: Global,
     symbols: &Symbols,
-    forms: &[Signature],
+    forms: &Lookup<Signature>,
     scope: &Scope,
     word: &Token,
     args: &[Tree],

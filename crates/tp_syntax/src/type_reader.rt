@@ -12,21 +12,13 @@ ghost use Rattle.tp_syntax.specs.Gives.{Gives};
 use crate::circles::no_circle;
 use crate::fault::SyntaxFault;
 use crate::symbols::Typed;
-use crate::table::{Named, second_named};
+use crate::table::second_named;
 use crate::typed::{item_place, typed_list};
 use crate::types::TypeName;
 use crate::words::Items;
 use indexmap::IndexSet;
 use std::alloc::{AllocError, Global};
 use tp_text::Tree;
-
-impl Named for TypeName {
-    ghost named = { λ t. string_bytes t.name };
-
-    fn name(&self) -> &str {
-        self.name.as_str()
-    }
-}
 
 // The type that is named first, or `object`.
 fn above(alloc: Global, types: &[String]) -> Result<String, AllocError>

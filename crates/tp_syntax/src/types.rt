@@ -1,9 +1,16 @@
 //! Types and the order among them.
 
-ghost use Rattle.std.specs.Prelude.{◌≡◌, map, option_map, string_bytes, length};
+ghost use Rattle.std.specs.Prelude.{◌≡◌, map, option_map, string_bytes, length, IfOk, IfSome};
 ghost use Rattle.std.specs.List.{list_any, list_all};
-ghost use Rattle.tp_syntax.specs.Symbols.{types_view, parent_of, at_or_below, types_fit};
+ghost use Rattle.tp_syntax.specs.Symbols.{parent_view, types_view, parent_of, at_or_below, types_fit};
 ghost use Rattle.tp_syntax.specs.TypedLists.{is_type};
+
+use crate::circles::{are_ranked, parent_of as parent_in, ranks};
+use crate::jumps::{are_jumps, climb, jumps, own_name};
+use crate::table::{Named, places};
+use indexmap::IndexMap;
+use std::alloc::{AllocError, Global};
+use std::marker::Model;
 
 /// A type and the one above it.
 #[derive(Debug, PartialEq, Drop)]
@@ -12,21 +19,123 @@ pub struct TypeName {
     pub parent: String,
 }
 
-/// The types that a domain declares.
-#[derive(Clone, Copy)]
-pub struct Types<'a> {
-    pub declared: &'a [TypeName],
+impl Named for TypeName {
+    ghost named = { λ t. string_bytes t.name };
+
+    fn name(&self) -> &str {
+        self.name.as_str()
+    }
 }
 
-fn parent_of<'a>(name: &str, types: &Types<'a>) -> Option<&'a String>
-    ensures { option_map (λ p. string_bytes p.now) result ≡ parent_of name.now (types_view types.now) }
+/// The types that a domain declares.
+#[derive(Drop)]
+pub struct Types<'a> {
+    declared: &'a [TypeName],
+    table: Option<TypeTable<'a>>,
+}
+
+// Where each type stands, its rank, and the place of a type further up.
+#[derive(Drop)]
+pub struct TypeTable<'a> {
+    pub places: IndexMap<&'a str, usize>,
+    pub ranks: Vec<usize>,
+    pub jumps: Vec<usize>,
+}
+
+impl<'a> Model for Types<'a> {
+    ghost use Rattle.std.specs.Prelude.{List};
+    ghost use Rattle.tp_syntax.specs.declared.types.TypeName.{TypeName};
+
+    ghost Value = { List TypeName };
+
+    ghost use Rattle.tp_syntax.specs.TypeTables.{IsTypeTableIfAny};
+
+    ghost view = { λ t. t.declared.now };
+
+    ghost invariant = { λ t. IsTypeTableIfAny t.declared.now t.table };
+}
+
+impl<'a> Types<'a> {
+    /// Types with no table, for which no memory is wanted: each look-up walks over them.
+    pub fn listed(declared: &'a [TypeName]) -> Types<'a>
+        ensures { types_view result ≡ map parent_view declared.now }
+    {
+        Types {
+            declared,
+            table: None,
+        }
+    }
+
+    /// Types with a table: a parent is found as fast however many there are, and a climb takes few steps.
+    pub fn new(alloc: Global, declared: &'a [TypeName]) -> Result<Types<'a>, AllocError>
+        ensures { IfOk result (λ t. types_view t ≡ map parent_view declared.now) }
+    {
+        let places = places(alloc, declared)?;
+        let ranks = ranks(alloc, declared, &places)?;
+        let jumps = jumps(alloc, declared, &places, &ranks)?;
+        // Types that lead round in a circle have no ranks: they are walked over.
+        if !are_ranked(declared, &places, &ranks) {
+            return Ok(Types::listed(declared));
+        }
+        if !are_jumps(declared, &places, &jumps) {
+            return Ok(Types::listed(declared));
+        }
+        let table = TypeTable {
+            places,
+            ranks,
+            jumps,
+        };
+        Ok(Types {
+            declared,
+            table: Some(table),
+        })
+    }
+
+    fn len(&self) -> usize
+        ensures { result ≡ length self.now }
+    {
+        self.declared.len()
+    }
+}
+
+fn parent_among<'a>(name: &str, types: &'a [TypeName]) -> Option<&'a String>
+    ensures { option_map (λ p. string_bytes p.now) result ≡ parent_of name.now (map parent_view types.now) }
 {
-    for declared in types.declared {
+    for declared in types {
         if declared.name.as_str() == name {
             return Some(&declared.parent);
         }
     }
     None
+}
+
+fn parent_of<'a>(name: &str, types: &Types<'a>) -> Option<&'a String>
+    ensures { option_map (λ p. string_bytes p.now) result ≡ parent_of name.now (types_view types.now) }
+{
+    match &types.table {
+        Some(table) => parent_in(types.declared, &table.places, name),
+        None => parent_among(name, types.declared),
+    }
+}
+
+// What a climb by jumps tells, if there is a table: whether a type is another, or stands below it.
+fn climbed(types: &Types, below: &str, above: &str) -> Option<bool>
+    ensures { IfSome result (λ b. b ≡ at_or_below (types_view types.now) (length types.now) below.now above.now) }
+{
+    let Some(table) = &types.table else {
+        return None;
+    };
+    let Some(start) = own_name(types.declared, &table.places, below) else {
+        return None;
+    };
+    climb(
+        types.declared,
+        &table.places,
+        &table.ranks,
+        &table.jumps,
+        start.as_str(),
+        above,
+    )
 }
 
 fn climbs(types: &Types, steps: usize, below: &String, above: &str) -> bool
@@ -63,12 +172,22 @@ fn at_or_below(types: &Types, steps: usize, below: &str, above: &str) -> bool
     }
 }
 
+// Whether a type is another, or stands below it.
+fn is_below(types: &Types, below: &str, above: &str) -> bool
+    ensures { result ≡ at_or_below (types_view types.now) (length types.now) below.now above.now }
+{
+    match climbed(types, below, above) {
+        Some(is_below) => is_below,
+        None => at_or_below(types, types.len(), below, above),
+    }
+}
+
 // Whether a type is at or below one of these.
 fn type_fits(types: &Types, below: &str, parameter: &[String]) -> bool
-    ensures { result ≡ list_any (λ p. at_or_below (types_view types.now) (length types.now.declared.now) below.now p) (map string_bytes parameter.now) }
+    ensures { result ≡ list_any (λ p. at_or_below (types_view types.now) (length types.now) below.now p) (map string_bytes parameter.now) }
 {
     for above in parameter {
-        if at_or_below(types, types.declared.len(), below, above.as_str()) {
+        if is_below(types, below, above.as_str()) {
             return true;
         }
     }

@@ -8,19 +8,19 @@ task_of-requires-clause-few c =
     let few = c.in_ok-check.ensures.few in
     let most = c.in_ok-check.ensures.most in
     few_here c.args.limits.now c.args.scale (domain_view c.args.domain.now) (problem_view c.args.problem.now) _ _ _ _ (c.new-numbering.ensures ∙ ap (λ (n : ℕ). record { atoms = []; fluents = []; actions = []; most = n }) c.atoms.ensures) c.in_ok-lowered.ensures
-    (names_then _ _ _ _ _ _ c.universe_of-universe.ensures c.deref.ensures.value c.in_ok-name_actions.ensures.actions) c.name_actions.ensures.atoms c.name_actions.ensures.fluents c.name_actions.ensures.most (omega (arith, few, most))
+    (names_then _ _ _ _ _ _ c.in_ok-universe.ensures c.deref.ensures.value c.in_ok-name_actions.ensures.actions) c.name_actions.ensures.atoms c.name_actions.ensures.fluents c.name_actions.ensures.most (omega (arith, few, most))
 
 pub task_of-requires-clause-fits : goal.task_of-requires-clause-fits
 task_of-requires-clause-fits c =
     fits_here c.args.limits.now c.args.scale (domain_view c.args.domain.now) (problem_view c.args.problem.now) _ _ _ _ (c.new-numbering.ensures ∙ ap (λ (n : ℕ). record { atoms = []; fluents = []; actions = []; most = n }) c.atoms.ensures) c.in_ok-lowered.ensures
-    (names_then _ _ _ _ _ _ c.universe_of-universe.ensures c.deref.ensures.value c.in_ok-name_actions.ensures.actions) c.name_actions.ensures.atoms c.name_actions.ensures.fluents c.name_actions.ensures.most
+    (names_then _ _ _ _ _ _ c.in_ok-universe.ensures c.deref.ensures.value c.in_ok-name_actions.ensures.actions) c.name_actions.ensures.atoms c.name_actions.ensures.fluents c.name_actions.ensures.most
 
 pub task_of-requires-clause-all_named : goal.task_of-requires-clause-all_named
 task_of-requires-clause-all_named c =
     named_here c.args.limits.now c.args.scale (domain_view c.args.domain.now) (problem_view c.args.problem.now) _ _ _ _ (c.new-numbering.ensures ∙ ap (λ (n : ℕ). record { atoms = []; fluents = []; actions = []; most = n }) c.atoms.ensures) c.in_ok-lowered.ensures
-    (names_then _ _ _ _ _ _ c.universe_of-universe.ensures c.deref.ensures.value c.in_ok-name_actions.ensures.actions) c.name_actions.ensures.atoms c.name_actions.ensures.fluents c.name_actions.ensures.most
+    (names_then _ _ _ _ _ _ c.in_ok-universe.ensures c.deref.ensures.value c.in_ok-name_actions.ensures.actions) c.name_actions.ensures.atoms c.name_actions.ensures.fluents c.name_actions.ensures.most
 
 pub returns-clause-ok : goal.returns-clause-ok
 returns-clause-ok c =
     is_task c.args.limits.now c.args.scale (domain_view c.args.domain.now) (problem_view c.args.problem.now) _ _ _ _ (c.new-numbering.ensures ∙ ap (λ (n : ℕ). record { atoms = []; fluents = []; actions = []; most = n }) c.atoms.ensures) c.in_ok-lowered.ensures
-    (names_then _ _ _ _ _ _ c.universe_of-universe.ensures c.deref.ensures.value c.in_ok-name_actions.ensures.actions) c.name_actions.ensures.atoms c.name_actions.ensures.fluents c.name_actions.ensures.most _ c.in_ok-task_of.ensures
+    (names_then _ _ _ _ _ _ c.in_ok-universe.ensures c.deref.ensures.value c.in_ok-name_actions.ensures.actions) c.name_actions.ensures.atoms c.name_actions.ensures.fluents c.name_actions.ensures.most _ c.in_ok-task_of.ensures

@@ -1,10 +1,9 @@
-use Rattle.std.proofs.Common.{◌≡◌, ◌-◌, List, Option, length, take, drop, map, option_map, string_bytes, ap, sym, subst, ◌∙◌}
+use Rattle.std.proofs.Common.{◌-◌, List, Option, length, take, drop, map, option_map, string_bytes, ap, sym, ◌∙◌}
 use Rattle.std.proofs.lemmas.Result.{err_from_is_err_and}
 use Rattle.tp_text.specs.Shapes.{Shapes}
 use Rattle.tp_syntax.specs.Gives.{◌>>=◌}
-use Rattle.tp_syntax.specs.Terms.{shapes, name_of}
-use Rattle.tp_syntax.specs.TypedLists.{parameters_at}
-use Rattle.tp_syntax.specs.Actions.{Action, Field, Body, action_of, body_of, field, or_missing}
+use Rattle.tp_syntax.specs.Terms.{shapes}
+use Rattle.tp_syntax.specs.Actions.{Field, action_of, body_of}
 use Rattle.tp_syntax.specs.Fields.{field_view, checked_fields}
 use Rattle.tp_syntax.specs.Symbols.{Name, Declared, typed_view, symbols_view}
 use Rattle.tp_syntax.proofs.OnGives.{fails_same, fails_bind, fails_map}

@@ -1,9 +1,8 @@
-use Rattle.std.proofs.Common.{List, Some, map, option_map, [], ◌∷◌, ap, sym, ◌∙◌}
+use Rattle.std.proofs.Common.{Some, map, option_map, [], ◌∷◌, ap, sym, ◌∙◌}
 use Rattle.std.proofs.lemmas.List.{map-append}
 use Rattle.std.proofs.lemmas.Result.{err_from_is_err_and}
 use Rattle.tp_syntax.specs.Gives.{with_front}
 use Rattle.tp_syntax.specs.Symbols.{symbols_view}
-use Rattle.tp_syntax.specs.Terms.{shapes}
 use Rattle.tp_syntax.specs.Actions.{Action}
 use Rattle.tp_syntax.specs.DomainViews.{action_view}
 use Rattle.tp_syntax.proofs.OnGives.{fails_same, fails_map}

@@ -1,14 +1,8 @@
-use Rattle.std.proofs.Common.{◌≡◌, List, Option, Some, map, option_map, string_bytes, ap, sym, ◌∙◌}
+use Rattle.std.proofs.Common.{List, Some, map, option_map, string_bytes, ap, sym, refl, ◌∙◌}
 use Rattle.std.proofs.lemmas.Result.{err_from_is_err_and}
-use Rattle.tp_text.specs.Shapes.{Shapes}
-use Rattle.tp_syntax.specs.Gives.{◌>>=◌}
-use Rattle.tp_syntax.specs.Symbols.{Name, Parent, Declared, Form, parent_view, typed_view, form_view}
-use Rattle.tp_syntax.specs.Actions.{Action}
-use Rattle.tp_syntax.specs.Domains.{objects_in, section}
-use Rattle.tp_syntax.specs.FormViews.{predicates_in, functions_in}
+use Rattle.tp_syntax.specs.Symbols.{Name, Parent, Declared, Form, parent_view, types_view, typed_view, form_view}
 use Rattle.tp_syntax.specs.SectionViews.{part_view}
 use Rattle.tp_syntax.specs.DomainViews.{action_view}
-use Rattle.tp_syntax.specs.declared.words.Section.TheVariants as sections
 use Rattle.tp_syntax.proofs.OnGives.{fails_same, fails_bind, fails_map}
 use Rattle.tp_syntax.proofs.OnDomains.{in_order, at_types, at_constants, at_predicates, at_functions, after_all, after_requirements, after_types, after_constants, after_predicates, after_functions, made, symbols_same}
 use Rattle.tp_syntax.proofs.domain_reader.domain_with.Goals as goal
@@ -34,10 +28,10 @@ returns-in_err-constants c =
     let parts = map part_view c.args.parts.now in
     let rs : List Name = map string_bytes c.in_ok-requirements.requirements.items in
     let ts : List Parent = map parent_view c.in_ok-types.types.items in
-    let e = ap (map parent_view) c.deref.ensures.value in
+    let e = c.in_ok-known.ensures ∙ ap (map parent_view) c.deref.ensures.value in
     let so_far = at_constants n parts rs ts (at_types n parts rs c.in_ok-requirements.ensures) c.in_ok-types.ensures ∙ ap (after_types n parts rs) (sym e) in
     let p = err_from_is_err_and c.from_residual-in_err-constants.result c.from_residual-in_err-constants.ensures.1 in
-    rw (p.1, p.2) (fails_same c.in_err-constants.field-0.0 _ _ so_far (fails_bind c.in_err-constants.field-0.0 _ (after_constants n parts rs (map parent_view c.deref.result.now)) c.in_err-constants.ensures))
+    rw (p.1, p.2) (fails_same c.in_err-constants.field-0.0 _ _ so_far (fails_bind c.in_err-constants.field-0.0 _ (after_constants n parts rs (types_view c.in_ok-known.known)) c.in_err-constants.ensures))
 
 pub returns-in_err-predicates : goal.returns-in_err-predicates
 returns-in_err-predicates c =
@@ -45,9 +39,9 @@ returns-in_err-predicates c =
     let parts = map part_view c.args.parts.now in
     let rs : List Name = map string_bytes c.in_ok-requirements.requirements.items in
     let ts : List Parent = map parent_view c.in_ok-types.types.items in
-    let us : List Parent = map parent_view c.deref.result.now in
+    let us : List Parent = types_view c.in_ok-known.known in
     let cs : List Declared = map typed_view c.in_ok-constants.constants.items in
-    let e = ap (map parent_view) c.deref.ensures.value in
+    let e = c.in_ok-known.ensures ∙ ap (map parent_view) c.deref.ensures.value in
     let so_far = at_predicates n parts rs us cs (at_constants n parts rs ts (at_types n parts rs c.in_ok-requirements.ensures) c.in_ok-types.ensures ∙ ap (after_types n parts rs) (sym e)) c.in_ok-constants.ensures in
     let p = err_from_is_err_and c.from_residual-in_err-predicates.result c.from_residual-in_err-predicates.ensures.1 in
     rw (p.1, p.2) (fails_same c.in_err-predicates.field-0.0 _ _ so_far (fails_bind c.in_err-predicates.field-0.0 _ (after_predicates n parts rs us cs) c.in_err-predicates.ensures))
@@ -58,10 +52,10 @@ returns-in_err-functions c =
     let parts = map part_view c.args.parts.now in
     let rs : List Name = map string_bytes c.in_ok-requirements.requirements.items in
     let ts : List Parent = map parent_view c.in_ok-types.types.items in
-    let us : List Parent = map parent_view c.deref.result.now in
+    let us : List Parent = types_view c.in_ok-known.known in
     let cs : List Declared = map typed_view c.in_ok-constants.constants.items in
     let ps : List Form = map form_view c.in_ok-predicates.predicates.items in
-    let e = ap (map parent_view) c.deref.ensures.value in
+    let e = c.in_ok-known.ensures ∙ ap (map parent_view) c.deref.ensures.value in
     let so_far = at_functions n parts rs us cs ps (at_predicates n parts rs us cs (at_constants n parts rs ts (at_types n parts rs c.in_ok-requirements.ensures) c.in_ok-types.ensures ∙ ap (after_types n parts rs) (sym e)) c.in_ok-constants.ensures) c.in_ok-predicates.ensures in
     let p = err_from_is_err_and c.from_residual-in_err-functions.result c.from_residual-in_err-functions.ensures.1 in
     rw (p.1, p.2) (fails_same c.in_err-functions.field-0.0 _ _ so_far (fails_bind c.in_err-functions.field-0.0 _ (after_functions n parts rs us cs ps) c.in_err-functions.ensures))
@@ -72,13 +66,13 @@ returns-in_err-actions c =
     let parts = map part_view c.args.parts.now in
     let rs : List Name = map string_bytes c.in_ok-requirements.requirements.items in
     let ts : List Parent = map parent_view c.in_ok-types.types.items in
-    let us : List Parent = map parent_view c.deref.result.now in
+    let us : List Parent = types_view c.in_ok-known.known in
     let cs : List Declared = map typed_view c.in_ok-constants.constants.items in
     let ps : List Form = map form_view c.in_ok-predicates.predicates.items in
     let fs : List Form = map form_view c.in_ok-functions.functions.items in
-    let e = ap (map parent_view) c.deref.ensures.value in
+    let e = c.in_ok-known.ensures ∙ ap (map parent_view) c.deref.ensures.value in
     let so_far = after_all n parts rs us cs ps fs (at_functions n parts rs us cs ps (at_predicates n parts rs us cs (at_constants n parts rs ts (at_types n parts rs c.in_ok-requirements.ensures) c.in_ok-types.ensures ∙ ap (after_types n parts rs) (sym e)) c.in_ok-constants.ensures) c.in_ok-predicates.ensures) c.in_ok-functions.ensures
-    ∙ ap (option_map (made n parts rs us cs ps fs)) (symbols_same parts _ _ _ _ _ _ _ _ (e ∙ sym (ap (map parent_view) c.deref-2.ensures.value)) (sym (ap (map typed_view) c.deref-3.ensures.value)) (sym (ap (map form_view) c.deref-4.ensures.value)) (sym (ap (map form_view) c.deref-5.ensures.value))) in
+    ∙ ap (option_map (made n parts rs us cs ps fs)) (symbols_same parts _ _ _ _ _ _ _ _ refl (sym (ap (map typed_view) c.deref-2.ensures.value)) (sym (ap (map form_view) c.deref-3.ensures.value)) (sym (ap (map form_view) c.deref-4.ensures.value))) in
     let p = err_from_is_err_and c.from_residual-in_err-actions.result c.from_residual-in_err-actions.ensures.1 in
     rw (p.1, p.2) (fails_same c.in_err-actions.field-0.0 _ _ so_far (fails_map (made n parts rs us cs ps fs) c.in_err-actions.field-0.0 _ c.in_err-actions.ensures))
 
@@ -88,12 +82,12 @@ returns c =
     let parts = map part_view c.args.parts.now in
     let rs : List Name = map string_bytes c.in_ok-requirements.requirements.items in
     let ts : List Parent = map parent_view c.in_ok-types.types.items in
-    let us : List Parent = map parent_view c.deref.result.now in
+    let us : List Parent = types_view c.in_ok-known.known in
     let cs : List Declared = map typed_view c.in_ok-constants.constants.items in
     let ps : List Form = map form_view c.in_ok-predicates.predicates.items in
     let fs : List Form = map form_view c.in_ok-functions.functions.items in
-    let e = ap (map parent_view) c.deref.ensures.value in
+    let e = c.in_ok-known.ensures ∙ ap (map parent_view) c.deref.ensures.value in
     after_all n parts rs us cs ps fs (at_functions n parts rs us cs ps (at_predicates n parts rs us cs (at_constants n parts rs ts (at_types n parts rs c.in_ok-requirements.ensures) c.in_ok-types.ensures ∙ ap (after_types n parts rs) (sym e)) c.in_ok-constants.ensures) c.in_ok-predicates.ensures) c.in_ok-functions.ensures
-    ∙ ap (option_map (made n parts rs us cs ps fs)) (symbols_same parts _ _ _ _ _ _ _ _ (e ∙ sym (ap (map parent_view) c.deref-2.ensures.value)) (sym (ap (map typed_view) c.deref-3.ensures.value)) (sym (ap (map form_view) c.deref-4.ensures.value)) (sym (ap (map form_view) c.deref-5.ensures.value))
+    ∙ ap (option_map (made n parts rs us cs ps fs)) (symbols_same parts _ _ _ _ _ _ _ _ refl (sym (ap (map typed_view) c.deref-2.ensures.value)) (sym (ap (map form_view) c.deref-3.ensures.value)) (sym (ap (map form_view) c.deref-4.ensures.value))
     ∙ c.in_ok-actions.ensures)
     ∙ ap (λ (vs : List Parent). Some (made n parts rs vs cs ps fs (map action_view c.in_ok-actions.actions.items))) e

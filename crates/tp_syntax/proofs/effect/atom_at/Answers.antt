@@ -1,4 +1,4 @@
-use Rattle.std.proofs.Common.{map, ap, sym, ◌∙◌}
+use Rattle.std.proofs.Common.{map, ◌∙◌}
 use Rattle.tp_text.specs.Shapes.{Shape}
 use Rattle.tp_syntax.specs.Symbols.{scope_view, symbols_view, form_view}
 use Rattle.tp_syntax.specs.Terms.{atom_view}

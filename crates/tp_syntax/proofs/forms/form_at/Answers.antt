@@ -1,9 +1,8 @@
-use Rattle.std.proofs.Common.{◌-◌, List, Option, length, take, drop, map, option_map, string_bytes, ap, ◌∙◌}
+use Rattle.std.proofs.Common.{◌-◌, Option, length, take, drop, option_map, string_bytes, ap, ◌∙◌}
 use Rattle.std.proofs.lemmas.Result.{err_from_is_err_and}
-use Rattle.tp_text.specs.Shapes.{Shape}
 use Rattle.tp_syntax.specs.Gives.{◌>>=◌}
 use Rattle.tp_syntax.specs.Terms.{shapes}
-use Rattle.tp_syntax.specs.Symbols.{Name, Declared, Form, types_view}
+use Rattle.tp_syntax.specs.Symbols.{Name, types_view}
 use Rattle.tp_syntax.specs.TypedLists.{parameters_of}
 use Rattle.tp_syntax.specs.Domains.{form_at}
 use Rattle.tp_syntax.proofs.OnGives.{fails_same, fails_bind, fails_map}

@@ -1,4 +1,4 @@
-use Rattle.std.proofs.Common.{List, map, not, string_bytes, ap, ◌∙◌}
+use Rattle.std.proofs.Common.{map, not, string_bytes, ap, ◌∙◌}
 use Rattle.tp_syntax.specs.Gives.{provided}
 use Rattle.tp_syntax.specs.Symbols.{Form, form_view}
 use Rattle.tp_syntax.specs.TypedLists.{has_twice}

@@ -1,10 +1,8 @@
-use Rattle.std.proofs.Common.{◌-◌, List, length, take, drop, Some, map, option_map, ap, sym, subst, ◌∙◌}
+use Rattle.std.proofs.Common.{◌-◌, List, length, take, drop, Some, map, option_map, ap, sym, ◌∙◌}
 use Rattle.std.proofs.lemmas.List.{map-append}
 use Rattle.std.proofs.lemmas.Bool.{eqb-true, eqb-false}
 use Rattle.std.proofs.lemmas.Result.{err_from_is_err_and}
 use Rattle.tp_text.specs.Shapes.{Shape}
-use Rattle.tp_text.specs.Trees.{shape_of}
-use Rattle.tp_syntax.specs.Gives.{◌>>=◌, Fails}
 use Rattle.tp_syntax.specs.Symbols.{scope_view, symbols_view}
 use Rattle.tp_syntax.specs.Effects.{Rule, all_rules, rules_in, rule_of}
 use Rattle.tp_syntax.specs.RuleViews.{rule_view}

@@ -1,5 +1,4 @@
-use Rattle.std.proofs.Common.{◌≡◌, ap, sym, ◌∙◌}
-use Rattle.tp_text.specs.Shapes.{Shape}
+use Rattle.std.proofs.Common.{◌∙◌}
 use Rattle.tp_syntax.specs.SectionViews.{part_at}
 use Rattle.tp_syntax.proofs.OnGives.{fails_with}
 use Rattle.tp_syntax.proofs.OnLists.{a_word, empty_list, list_first, word_first}

@@ -1,6 +1,6 @@
 use Rattle.std.proofs.Common.{◌≡◌, map, length}
 use Rattle.tp_syntax.specs.Terms.{term_view}
-use Rattle.tp_syntax.specs.Symbols.{typed_view, parent_view, scope_view, symbols_view, arguments_fit}
+use Rattle.tp_syntax.specs.Symbols.{typed_view, scope_view, symbols_view, arguments_fit}
 use Rattle.tp_syntax.proofs.symbols.arguments_fit.Given as goal
 
 abbrev pub invariant-pairs : goal.invariant-pairs

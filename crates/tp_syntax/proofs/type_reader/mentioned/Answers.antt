@@ -1,4 +1,4 @@
-use Rattle.std.proofs.Common.{List, ℕ, ◌+◌, ◌∷◌, ◌++◌, map, drop, ap, sym, ◌∙◌}
+use Rattle.std.proofs.Common.{List, ◌+◌, ◌∷◌, ◌++◌, map, drop, ap, sym, ◌∙◌}
 use Rattle.std.proofs.lemmas.List.{at_drop_more}
 use Rattle.tp_syntax.specs.Symbols.{parent_view}
 use Rattle.tp_syntax.specs.Domains.{mentioned}

@@ -1,8 +1,7 @@
-use Rattle.std.proofs.Common.{◌≡◌, map, drop, length, string_bytes, codes}
-use Rattle.std.specs.List.{list_all, list_any}
-use Rattle.std.specs.Str.{bytes_eq}
-use Rattle.tp_syntax.specs.Symbols.{typed_view, types_view}
-use Rattle.tp_syntax.specs.TypedLists.{is_type, has_twice}
+use Rattle.std.proofs.Common.{◌≡◌, map, drop, string_bytes}
+use Rattle.std.specs.List.{list_all}
+use Rattle.tp_syntax.specs.Symbols.{types_view}
+use Rattle.tp_syntax.specs.TypedLists.{is_type}
 use Rattle.tp_syntax.proofs.types.are_types.Given as goal
 
 abbrev pub invariant-loop-name : goal.invariant-loop-name

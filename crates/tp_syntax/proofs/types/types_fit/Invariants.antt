@@ -1,6 +1,5 @@
-use Rattle.std.proofs.Common.{◌≡◌, map, drop, length, string_bytes}
-use Rattle.std.specs.List.{list_any}
-use Rattle.tp_syntax.specs.Symbols.{types_view, at_or_below, types_fit}
+use Rattle.std.proofs.Common.{◌≡◌, map, drop, string_bytes}
+use Rattle.tp_syntax.specs.Symbols.{types_view, types_fit}
 use Rattle.tp_syntax.proofs.types.types_fit.Given as goal
 
 abbrev pub invariant-loop-below : goal.invariant-loop-below

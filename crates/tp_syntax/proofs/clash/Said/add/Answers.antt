@@ -1,4 +1,4 @@
-use Rattle.std.proofs.Common.{◌≡◌, ◌||◌, Bool, not, Bor, refl, sym, ap, ◌∙◌}
+use Rattle.std.proofs.Common.{◌||◌, Bool, Bor, refl, sym, ap, ◌∙◌}
 use Rattle.tp_syntax.specs.Problems.{clash}
 use Rattle.tp_syntax.specs.Clashes.{clashes}
 use Rattle.tp_syntax.specs.DomainViews.{initial_view}
