@@ -107,7 +107,11 @@ fn is_ranked<'a>(
     above < own && own <= types.len()
 }
 
-pub fn are_ranked<'a>(types: &'a [TypeName], places: &IndexMap<&'a str, usize>, ranks: &[usize]) -> bool
+pub fn are_ranked<'a>(
+    types: &'a [TypeName],
+    places: &IndexMap<&'a str, usize>,
+    ranks: &[usize],
+) -> bool
     requires { IsTable places.now (map type_name types.now) }
     ensures { result ≡ list_all (is_ranked types.now ranks.now) (map type_name types.now) }
 {

@@ -182,7 +182,7 @@ pub fn read_expr(
 }
 
 // `?duration` is left out by name in conditions alone.
-fn outside_conditions(fault: SyntaxFault) -> SyntaxFault
+pub fn outside_conditions(fault: SyntaxFault) -> SyntaxFault
     ensures { IsKept fault result }
 {
     match fault {

@@ -10,7 +10,7 @@ ghost use Rattle.tp_syntax.specs.DomainViews.{initial_view};
 ghost use Rattle.tp_syntax.specs.Gives.{Gives, IsKept};
 
 use crate::effect::atom_at;
-use crate::expr::{begins_number, number_fault};
+use crate::expr::{begins_number, number_fault, outside_conditions};
 use crate::fault::{LeftOutPart, SyntaxFault};
 use crate::lists::{both, only};
 use crate::problem::Initial;
@@ -28,7 +28,7 @@ fn initial_number(fact: Atom, tree: &Tree, at: u32) -> Result<Initial, SyntaxFau
     };
     match read_whole(word.text) {
         Some(number) => Ok(Initial::HasValue(fact, number)),
-        None => Err(number_fault(word, at)),
+        None => Err(outside_conditions(number_fault(word, at))),
     }
 }
 

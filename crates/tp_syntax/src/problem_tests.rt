@@ -188,6 +188,10 @@ fn objects_are_refused(rt: HostRuntime) -> Result<(), Fail> {
             SyntaxFault::LeftOut(50, LeftOutPart::Either),
         ),
         (
+            "(define (problem p) (:domain match) (:objects a - (match fuse)) (:goal ()))",
+            SyntaxFault::Shape(50),
+        ),
+        (
             "(define (problem p) (:domain match) (:objects a 5) (:goal ()))",
             SyntaxFault::Shape(36),
         ),
@@ -277,6 +281,10 @@ fn initial_entries_are_refused(rt: HostRuntime) -> Result<(), Fail> {
         ),
         (
             "(define (problem p) (:domain match) (:init (= (level) spare)) (:goal ()))",
+            SyntaxFault::Shape(43),
+        ),
+        (
+            "(define (problem p) (:domain match) (:init (= (level) ?duration)) (:goal ()))",
             SyntaxFault::Shape(43),
         ),
         (

@@ -125,12 +125,7 @@ fn argument_types<'a>(
 }
 
 // Whether an argument may stand for a parameter.
-fn argument_fits(
-    symbols: &Symbols,
-    scope: &Scope,
-    argument: &Term,
-    parameter: &[String],
-) -> bool
+fn argument_fits(symbols: &Symbols, scope: &Scope, argument: &Term, parameter: &[String]) -> bool
     ensures { result ≡ argument_fits (symbols_view symbols.now).types (symbols_view symbols.now).objects (scope_view scope.now) (term_view argument.now) (map string_bytes parameter.now) }
 {
     match argument_types(symbols, scope, argument) {
@@ -140,12 +135,7 @@ fn argument_fits(
 }
 
 // As many arguments as parameters, each of which fits.
-fn arguments_fit(
-    symbols: &Symbols,
-    scope: &Scope,
-    arguments: &[Term],
-    parameters: &[Typed],
-) -> bool
+fn arguments_fit(symbols: &Symbols, scope: &Scope, arguments: &[Term], parameters: &[Typed]) -> bool
     ensures { result ≡ arguments_fit (symbols_view symbols.now).types (symbols_view symbols.now).objects (scope_view scope.now) (map term_view arguments.now) (map typed_view parameters.now) }
 {
     let mut left = arguments;

@@ -98,6 +98,14 @@ fn either_of(alloc: Global, trees: &[Tree], at: u32) -> Result<Vec<String>, Synt
     Ok(names)
 }
 
+// What is wrong with a list where a type's name has to stand.
+fn list_fault(members: &[Tree], at: u32) -> SyntaxFault {
+    match members {
+        [first, ..] if is_either(first) => SyntaxFault::LeftOut(at, LeftOutPart::Either),
+        _ => SyntaxFault::Shape(at),
+    }
+}
+
 #[tactic(auto, unfolding(crate::specs::TypedLists::type_at))]
 fn type_at(alloc: Global, items: Items, tree: &Tree, at: u32) -> Result<Vec<String>, SyntaxFault>
     ensures { Gives (λ v. map string_bytes v.items) result (type_at items (shape_of tree.now)) }
@@ -114,7 +122,7 @@ fn type_at(alloc: Global, items: Items, tree: &Tree, at: u32) -> Result<Vec<Stri
             span,
         } => match items {
             Items::Variables => either_of(alloc, members, span.start),
-            Items::Names => Err(SyntaxFault::LeftOut(span.start, LeftOutPart::Either)),
+            Items::Names => Err(list_fault(members, span.start)),
         },
     }
 }
