@@ -62,8 +62,10 @@ fn a_file_without_text_has_a_fault(rt: HostRuntime) -> Result<(), Fail> {
 #[test]
 fn a_text_has_at_most_1048576_bytes(rt: HostRuntime) -> Result<(), Fail> {
     let full = blanks(rt.alloc(), 1_048_576)?;
-    let mut long = blanks(rt.alloc(), 1_048_576)?;
-    long.push(0xff)?;
+    let mut long = blanks(rt.alloc(), 1_048_577)?;
+    if let Some(last) = long.last_mut() {
+        *last = 0xff;
+    }
     let files: [(&str, &[u8]); 2] = [("long", long.as_slice()), ("full", full.as_slice())];
     refuses(&rt, files.as_slice(), "long", FileFault::TooLong);
     let text = read(rt.alloc(), files.as_slice(), "full").map_err(|_| Fail::from("full"))?;
