@@ -7,4 +7,4 @@ pub mod Runs
 pub mod Judging
 pub mod Lawful
 pub mod AtPlace
-pub mod Covering
+pub mod Ordered

@@ -11,7 +11,7 @@ ghost use Rattle.tp_validate.specs.Tick.{renumbered, invariant_small, PassesAt};
 ghost use Rattle.tp_validate.specs.Found.{told, IsFound};
 
 use crate::durations::first_unlawful;
-use crate::placing::{PlacedEvent, PlannedStep, events_at, number_at};
+use crate::placing::{PlacedEvent, PlannedStep, event_refs, number_at};
 use std::alloc::Global;
 use tp_ground::Body;
 use tp_happen::{ApplyFault, Outcome, Range, State, Why, apply, holds};
@@ -35,16 +35,16 @@ pub enum Judged {
     Next(State),
 }
 
-// A fault of the events at a moment, named by their numbers.
-fn named(events: &[PlacedEvent<'_>], moment: u32, place: usize, why: Why) -> Fault
-    ensures { told result ≡ renumbered (numbers (here moment events.now)) place why }
+// A fault of the events of a tick, named by their numbers.
+fn named(there: &[PlacedEvent<'_>], place: usize, why: Why) -> Fault
+    ensures { told result ≡ renumbered (numbers there.now) place why }
 {
-    let event = number_at(events, moment, place);
+    let event = number_at(there, place);
     match why {
         Why::Condition => Fault::Condition(event),
         Why::Undefined => Fault::Undefined(event),
         Why::Clash => Fault::Clash(event),
-        Why::Interferes(other) => Fault::Interferes(event, number_at(events, moment, other)),
+        Why::Interferes(other) => Fault::Interferes(event, number_at(there, other)),
     }
 }
 
@@ -84,26 +84,26 @@ fn first_broken(
     Ok(None)
 }
 
-/// What the events at a moment make of the state before it, or the first fault there.
+/// What the events of a tick make of the state before it, or the first fault there.
 pub fn judge_tick(
     alloc: Global,
     state: &State,
     steps: &[PlannedStep<'_>],
-    placed: &[PlacedEvent<'_>],
+    there: &[PlacedEvent<'_>],
     moment: u32,
 ) -> Result<Judged, ApplyFault>
     requires few { length steps.now ≤ 512 }
-    requires placed { placed.now ≡ events steps.now }
-    requires fits { list_all (fits_in state.now) (at moment placed.now) ≡ true }
-    ensures found { IfOk result (IsFound state.now moment steps.now placed.now) }
-    ensures range { IfErr result (λ e. OnRange e (PassesAt state.now.scale (state_of state.now) moment steps.now placed.now)) }
+    requires there { there.now ≡ here moment (events steps.now) }
+    requires fits { list_all (fits_in state.now) (at moment (events steps.now)) ≡ true }
+    ensures found { IfOk result (IsFound state.now moment steps.now (events steps.now)) }
+    ensures range { IfErr result (λ e. OnRange e (PassesAt state.now.scale (state_of state.now) moment steps.now (events steps.now))) }
 {
     if let Some(step) = first_unlawful(state, steps, moment)? {
         return Ok(Judged::Faulty(Fault::Duration(step as u16)));
     }
-    let there = events_at(alloc, placed, moment)?;
-    match apply(alloc, state, &there)? {
-        Outcome::Fails(place, why) => Ok(Judged::Faulty(named(placed, moment, place, why))),
+    let happening = event_refs(alloc, there)?;
+    match apply(alloc, state, &happening)? {
+        Outcome::Fails(place, why) => Ok(Judged::Faulty(named(there, place, why))),
         Outcome::Next(next) => match first_broken(&next, steps, moment)? {
             Some(step) => Ok(Judged::Faulty(Fault::OverAll(step as u16))),
             None => Ok(Judged::Next(next)),
