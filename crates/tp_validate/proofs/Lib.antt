@@ -8,3 +8,4 @@ pub mod Judging
 pub mod Lawful
 pub mod AtPlace
 pub mod Ordered
+pub mod Running

@@ -195,7 +195,7 @@ module _ (es : List Placed) (from : ℕ) (agenda : List Placed) (h : IsAgenda es
       (left_all (λ (e : Placed). e.moment) es agenda from h (λ _. ⊥) (subst (λ xs. All (λ (e : Placed). ⊥) xs) (sym q) (All-nil (λ (e : Placed). ⊥))))
 
 -- the rest of a list as an open range takes it
-tail_is : {X : Type 0} (n : ℕ) (xs : List X) → take (length xs - n) (drop n xs) ≡ drop n xs
+pub tail_is : {X : Type 0} (n : ℕ) (xs : List X) → take (length xs - n) (drop n xs) ≡ drop n xs
 tail_is n xs = ap (λ k. take k (drop n xs)) (sym (length-drop n xs)) ∙ take-length (drop n xs)
 
 -- the same where so many events of an agenda are done

@@ -3,6 +3,7 @@
 //! - `placing`: the steps of a plan with what their actions do, and their events
 //! - `agenda`: the events in the order of their moments, tick after tick
 //! - `durations`: whether a step's duration is lawful
+//! - `rosters`: the steps in the order of their starts, and those that run
 //! - `ticks`: what happens at one tick, or the first fault there
 //! - `verdicts`: tick after tick, `validate`
 #![tactic(auto)]
@@ -10,6 +11,7 @@
 mod agenda;
 mod durations;
 mod placing;
+mod rosters;
 mod ticks;
 mod verdicts;
 

@@ -1,6 +1,6 @@
 //! The steps of a plan with what their actions do, and their events in order.
 
-ghost use Rattle.std.specs.Prelude.{◌≡◌, ℕ, ◌+◌, ◌*◌, ◌<◌, ◌≤◌, ◌++◌, true, nat_le, length, map, option_map, slice_get, slice_index_or, IfOk, OnOk};
+ghost use Rattle.std.specs.Prelude.{◌≡◌, ℕ, ◌+◌, ◌*◌, ◌<◌, ◌≤◌, ◌++◌, true, nat_le, nat_lt, length, map, option_map, slice_get, slice_index_or, IfOk, OnOk};
 ghost use Rattle.std.specs.List.{list_all};
 ghost use Rattle.tp_ground.specs.Valid.{events, events_of, count_of};
 ghost use Rattle.tp_validate.specs.OfTask.{plan_of, step_of};
@@ -29,6 +29,33 @@ impl<'t> Model for PlannedStep<'t> {
     ghost coded = { Prim.hlevel (codes, ground_body.the_row.coded) };
 
     ghost view = { λ s. record { moment = s.tick; duration = s.duration; body = s.body.now } };
+}
+
+impl<'t> PlannedStep<'t> {
+    /// The moment at which it starts.
+    pub fn start(&self) -> u32
+        ensures { result ≡ self.now.moment }
+    {
+        self.tick
+    }
+
+    /// Whether it ends after a moment.
+    pub fn ends_after(&self, moment: u32) -> bool
+        ensures { result ≡ nat_lt moment (self.now.moment + self.now.duration) }
+    {
+        moment < self.tick || moment - self.tick < self.duration
+    }
+
+    /// The same step once more.
+    pub fn again(&self) -> PlannedStep<'t>
+        ensures { result ≡ self.now }
+    {
+        PlannedStep {
+            tick: self.tick,
+            duration: self.duration,
+            body: self.body,
+        }
+    }
 }
 
 /// An event of a plan: its number, the numbers of its step's first and last event, and the moment at which it happens.

@@ -9,12 +9,13 @@ ghost use Rattle.tp_happen.specs.Fault.{OnRange};
 ghost use Rattle.tp_happen.specs.Steps.{IsPlan};
 ghost use Rattle.tp_validate.specs.OfTask.{IsOfTask, plan_of, IsValidPlan};
 ghost use Rattle.tp_validate.specs.Verdict.{IsSound, PassesIn};
-ghost use Rattle.tp_validate.specs.Agenda.{IsAgenda};
+ghost use Rattle.tp_validate.specs.Agenda.{IsAgenda, IsRoster};
 ghost use Rattle.tp_validate.specs.Reached.{IsRan, PassesBy};
 ghost use Rattle.tp_validate.specs.Answers.{IsFirst, IsVerdict, IsFault};
 
 use crate::agenda::{agenda_of, next_tick};
 use crate::placing::{PlacedEvent, PlannedStep, placed_events, planned_steps};
+use crate::rosters::{count_started, go_on, roster_of};
 use crate::ticks::{Fault, Judged, judge_tick};
 use std::alloc::Global;
 use std::marker::Model;
@@ -94,9 +95,11 @@ fn run(
     alloc: Global,
     task: &Task,
     steps: &[PlannedStep<'_>],
+    roster: &[PlannedStep<'_>],
     agenda: &[PlacedEvent<'_>],
 ) -> Result<Ran, ApplyFault>
     requires few { length steps.now ≤ 512 }
+    requires roster { IsRoster steps.now 0 roster.now }
     requires agenda { IsAgenda (events steps.now) 0 agenda.now }
     requires fits { list_all (λ p. body_fits (length task.now.initial_atoms.items) (length task.now.initial_numbers.items) p.body) steps.now ≡ true }
     requires ends { last_moment (events steps.now) ≤ 1000000000 }
@@ -106,13 +109,20 @@ fn run(
     let mut state = State::initial(alloc, task)?;
     let mut from = 0;
     let mut done = 0;
+    let mut started = 0;
+    let mut running = Vec::new(alloc);
     while let Some(tick) = next_tick(&agenda[done..]) {
-        match judge_tick(alloc, &state, steps, tick.there, tick.moment)? {
-            Judged::Faulty(why) => return Ok(Ran::Faulty(tick.moment, why)),
+        let moment = tick.moment;
+        let waiting = &roster[started..];
+        let (starting, _) = waiting.split_at(count_started(waiting, moment));
+        go_on(&mut running, starting, moment)?;
+        match judge_tick(alloc, &state, steps, starting, &running, tick.there, moment)? {
+            Judged::Faulty(why) => return Ok(Ran::Faulty(moment, why)),
             Judged::Next(next) => state = next,
         }
-        from = tick.moment + 1;
+        from = moment + 1;
         done += tick.there.len();
+        started += starting.len();
     }
     Ok(Ran::Done(from, state))
 }
@@ -125,7 +135,8 @@ fn judge(alloc: Global, task: &Task, steps: &[Step]) -> Result<Option<(u32, Faul
 {
     let planned = planned_steps(alloc, task, steps)?;
     let agenda = agenda_of(placed_events(alloc, &planned)?)?;
-    match run(alloc, task, &planned, &agenda)? {
+    let roster = roster_of(planned_steps(alloc, task, steps)?)?;
+    match run(alloc, task, &planned, &roster, &agenda)? {
         Ran::Faulty(tick, why) => Ok(Some((tick, why))),
         Ran::Done(from, state) => {
             if holds(&state, &task.goal)? {

@@ -1,7 +1,7 @@
--- The run has come to a moment, the rest of the agenda has the events from there on, and the bound on the moment falls.
+-- The run has come to a moment, the rests of the agenda and of the roster are those from there on, and the bound on the moment falls.
 use Rattle.std.proofs.Common.{◌-◌, ◌≤◌, length, drop}
 use Rattle.tp_ground.specs.Valid.{events}
-use Rattle.tp_validate.specs.Agenda.{IsAgenda}
+use Rattle.tp_validate.specs.Agenda.{IsAgenda, IsRoster, IsRunning}
 use Rattle.tp_validate.specs.Reached.{Reached}
 use Rattle.tp_validate.proofs.verdicts.run.Given as goal
 
@@ -11,6 +11,9 @@ invariant-loop-tick l =
       reached : Reached l.task l.steps l.from l.state;
       left : IsAgenda (events l.steps) l.from (drop l.done l.agenda);
       within : l.done ≤ length l.agenda;
+      waiting : IsRoster l.steps l.from (drop l.started l.roster);
+      begun : l.started ≤ length l.roster;
+      running : IsRunning l.steps l.from l.running.items;
     }
 
 abbrev pub decreases-loop-tick : goal.decreases-loop-tick
