@@ -7,4 +7,5 @@ pub mod Runs
 pub mod Judging
 pub mod Lawful
 pub mod AtPlace
-pub mod Covering
+pub mod Ordered
+pub mod Running

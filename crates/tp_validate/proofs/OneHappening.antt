@@ -1,9 +1,9 @@
 -- The kinds of faults that one happening can have, by the places of its events and by their numbers.
-use Rattle.std.proofs.Common.{◌≡◌, ℕ, ◌-◌, ◌<◌, Bool, true, false, not, ◌&&◌, ◌==◌, List, [], ◌∷◌, length, get_or, Option, Some, None, refl, sym, ap, ap₂, ◌∙◌, subst, arith}
+use Rattle.std.proofs.Common.{◌≡◌, ℕ, ◌-◌, Bool, true, false, not, ◌&&◌, ◌==◌, List, [], ◌∷◌, get_or, Option, Some, None, refl, ap, ap₂, ◌∙◌, arith}
 use Rattle.std.specs.List.{position_from, AllByRecursion}
 use Rattle.std.proofs.lemmas.Bool.{not_from_true}
 use Rattle.tp_ground.specs.State.{State, holds}
-use Rattle.tp_ground.specs.Event.{interferes, mixes}
+use Rattle.tp_ground.specs.Event.{mixes}
 use Rattle.tp_ground.specs.Happens.{Timed, is_defined, Happens}
 use Rattle.tp_ground.specs.Valid.{Placed, at}
 use Rattle.tp_ground.specs.Verdict as fault
@@ -13,7 +13,7 @@ use Rattle.tp_happen.specs.declared.faults.Why.TheVariants.{Condition, Undefined
 use Rattle.tp_happen.specs.Fault as happening
 use Rattle.tp_validate.specs.Places.{here, numbers}
 use Rattle.tp_validate.specs.Tick.{of_events, renumbered}
-use Rattle.tp_validate.proofs.Numbers.{IsNumbered, times, first_number, by_number, place_of, none_of, none_first, first_numbers, by_numbers, places_of, none_pairs}
+use Rattle.tp_validate.proofs.Numbers.{IsNumbered, times, by_number, place_of, none_of, none_first, by_numbers, places_of, none_pairs}
 
 from_zero : (i : ℕ) → i - 0 ≡ i
 from_zero i = omega arith

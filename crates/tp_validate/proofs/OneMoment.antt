@@ -1,8 +1,7 @@
 -- What is found at one moment, from what is looked at there in turn.
-use Rattle.std.proofs.Common.{◌≡◌, ℕ, ◌+◌, Bool, true, false, not, ◌&&◌, ◌||◌, ◌==◌, cond, List, [], ◌∷◌, ◌++◌, map, filter, Option, Some, None, ⊎_elim, inl, inr, refl, sym, ap, ◌∙◌, subst}
+use Rattle.std.proofs.Common.{◌≡◌, ℕ, ◌+◌, Bool, true, false, not, ◌&&◌, ◌==◌, cond, List, [], ◌∷◌, ◌++◌, map, filter, Option, Some, None, ⊎_elim, inl, inr, sym, ap, ◌∙◌, subst}
 use Rattle.std.specs.List.{list_all, position_from}
-use Rattle.std.proofs.lemmas.Bool.{and_left, and_right, and_cases, or_parts, not_from_false, not-false, cond-true}
-use Rattle.tp_ground.specs.declared.GroundEvent.{GroundEvent}
+use Rattle.std.proofs.lemmas.Bool.{and_left, and_right, and_cases, or_parts, not-false, cond-true}
 use Rattle.tp_ground.specs.declared.Body.{Body}
 use Rattle.tp_ground.specs.declared.Body.TheVariants.{Instant, Durative}
 use Rattle.tp_ground.specs.State.{State}

@@ -1,5 +1,5 @@
 -- Between two moments with events nothing happens: the state stays, and there is no new fault.
-use Rattle.std.proofs.Common.{◌≡◌, ◌≢◌, ℕ, zero, suc, ◌+◌, ◌≤◌, ◌<◌, Bool, true, false, not, ◌&&◌, ◌==◌, nat_le, nat_lt, List, [], ◌∷◌, ◌++◌, Option, Some, None, ⊎_elim, inl, inr, refl, sym, ap, ◌∙◌, subst, arith}
+use Rattle.std.proofs.Common.{◌≡◌, ◌≢◌, ℕ, zero, suc, ◌+◌, ◌≤◌, ◌<◌, Bool, true, false, ◌&&◌, ◌==◌, nat_le, nat_lt, List, [], ◌∷◌, Option, Some, None, ⊎_elim, inl, inr, refl, sym, ap, ◌∙◌, subst, arith}
 use Rattle.std.specs.List.{position_from}
 use Rattle.std.proofs.lemmas.Bool.{cases_Bool, cases_lt, and_left, and_right, and_cases, cond-true, cond-false, leb-true, ltb-true, le-leb, lt-ltb, eqb-true, ne_eqb, not_from_true, not-false, true≢false}
 use Rattle.tp_ground.specs.declared.Body.{Body}
@@ -7,7 +7,7 @@ use Rattle.tp_ground.specs.declared.Body.TheVariants.{Instant, Durative}
 use Rattle.tp_ground.specs.declared.Cond.{Cond}
 use Rattle.tp_ground.specs.declared.GroundEvent.{GroundEvent}
 use Rattle.tp_ground.specs.State.{State, holds}
-use Rattle.tp_ground.specs.Happens.{Timed, Happens, atom_after, number_after}
+use Rattle.tp_ground.specs.Happens.{Happens, atom_after, number_after}
 use Rattle.tp_ground.specs.Valid.{Planned, Placed, events, events_of, events_from, count_of, at}
 use Rattle.tp_ground.specs.Bounds.{In}
 use Rattle.tp_ground.specs.Verdict as fault
@@ -16,8 +16,8 @@ use Rattle.tp_ground.proofs.Bridge.{plus_zero}
 use Rattle.tp_ground.proofs.Picked.{picked_no}
 use Rattle.tp_ground.proofs.Numbered.{in_left, in_right}
 use Rattle.tp_happen.specs.Bounded.{StaysSmall}
-use Rattle.tp_validate.specs.Tick.{after_of, of_events, fault_from}
-use Rattle.tp_validate.proofs.Numbers.{IsNumbered, numbered}
+use Rattle.tp_validate.specs.Tick.{after_of, of_events}
+use Rattle.tp_validate.proofs.Numbers.{numbered}
 use Rattle.tp_validate.proofs.OneHappening.{happens}
 
 none_found : {X : Type 0} (p : X → Bool) (i : ℕ) (xs : List X) → ((x : X) → In x xs → p x ≡ false) → position_from p i xs ≡ None

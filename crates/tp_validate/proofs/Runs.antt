@@ -1,22 +1,21 @@
 -- How a run goes from one moment with events to the next, and what it comes to.
-use Rattle.std.proofs.Common.{◌≡◌, ◌≢◌, ℕ, zero, suc, ◌+◌, ◌-◌, ◌≤◌, ◌<◌, Bool, true, false, List, [], ◌∷◌, length, get_or, max, Option, Some, None, ⊎_elim, inl, inr, refl, sym, ap, ap₂, ◌∙◌, subst, arith, add-one, All}
+use Rattle.std.proofs.Common.{◌≡◌, ◌≢◌, ℕ, suc, ◌+◌, ◌-◌, ◌≤◌, ◌<◌, true, List, [], ◌∷◌, length, get_or, Option, Some, None, ⊎_elim, inl, inr, refl, sym, ap, ap₂, ◌∙◌, subst, arith, add-one, All}
 use Rattle.std.specs.List.{list_all}
 use Rattle.std.proofs.lemmas.Bool.{cases_lt}
 use Rattle.tp_ground.specs.declared.task.Task.{Task}
-use Rattle.tp_ground.specs.State.{State, holds}
+use Rattle.tp_ground.specs.State.{State}
 use Rattle.tp_ground.specs.Happens.{Timed}
 use Rattle.tp_ground.specs.Fits.{event_fits}
 use Rattle.tp_ground.specs.Valid.{Planned, Placed, events, at}
 use Rattle.tp_ground.specs.Bounds.{In}
 use Rattle.tp_ground.specs.Verdict.{Fault, states, fault_at, last_moment}
-use Rattle.tp_ground.proofs.Sound.{at_most_last}
-use Rattle.tp_happen.specs.Stored.{Stored, state_of, first_of, fits_in, OfOneTask}
+use Rattle.tp_happen.specs.Stored.{Stored, state_of, first_of, fits_in}
 use Rattle.tp_happen.specs.Bounded.{StaysSmall}
 use Rattle.tp_validate.specs.OfTask.{scale_of, begin}
 use Rattle.tp_validate.specs.Tick.{after_of, fault_from, PassesAt}
 use Rattle.tp_validate.specs.Found.{GoesOn}
 use Rattle.tp_validate.specs.Reached.{Reached, IsCovered, PassesBy}
-use Rattle.tp_validate.proofs.Planning.{fits, timed_fits, events_fit}
+use Rattle.tp_validate.proofs.Planning.{fits, events_fit}
 use Rattle.tp_validate.proofs.Quiet.{same_until, quiet_until, small_at_rest}
 
 index_in : {X : Type 0} (xs : List X) (x : X) → In x xs → (k : ℕ) × (k < length xs) × (get_or xs k x ≡ x)

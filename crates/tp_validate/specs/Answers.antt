@@ -1,10 +1,10 @@
 -- What the validator answers.
-use Rattle.std.specs.Prelude.{◌≡◌, ℕ, List, Option, Some, None}
+use Rattle.std.specs.Prelude.{◌≡◌, ℕ, List}
 use Rattle.tp_ground.specs.declared.task.Task.{Task}
 use Rattle.tp_ground.specs.Verdict.{IsFirstFault}
 use Rattle.tp_happen.specs.declared.plans.Step.{Step}
 use Rattle.tp_validate.specs.OfTask.{scale_of, begin, plan_of, IsValidPlan}
-use Rattle.tp_validate.specs.Verdict.{IsSound, PassesIn}
+use Rattle.tp_validate.specs.Verdict.{PassesIn}
 use Rattle.tp_validate.specs.Found.{told}
 use Rattle.tp_validate.specs.declared.ticks.Fault.{Fault}
 use Rattle.tp_validate.specs.declared.verdicts.Verdict.{Verdict}

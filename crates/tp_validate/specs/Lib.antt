@@ -1,5 +1,6 @@
 pub mod OfTask
 pub mod Places
+pub mod Agenda
 pub mod Tick
 pub mod Rules
 pub mod Found

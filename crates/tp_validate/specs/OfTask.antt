@@ -1,5 +1,5 @@
 -- The plans of a task: what their steps do, their run, and when they are valid.
-use Rattle.std.specs.Prelude.{◌≡◌, ℕ, suc, Bool, true, nat_lt, List, [], ◌∷◌, ◌++◌, length, slice_get, option_map, Option}
+use Rattle.std.specs.Prelude.{◌≡◌, ℕ, suc, true, nat_lt, List, [], ◌∷◌, ◌++◌, length, slice_get, option_map, Option}
 use Rattle.std.specs.Option.{option_to_list}
 use Rattle.std.specs.List.{list_all}
 use Rattle.tp_text.specs.Scales.{scale_ticks}

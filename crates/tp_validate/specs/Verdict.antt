@@ -1,13 +1,12 @@
 -- What a verdict on a plan means, and when a number passes the limit before it.
-use Rattle.std.specs.Prelude.{◌≡◌, ℕ, suc, ◌<◌, Bool, true, false, List, None, ◌⊎◌}
+use Rattle.std.specs.Prelude.{◌≡◌, ℕ, ◌<◌, true, false, List, None, ◌⊎◌}
 use Rattle.tp_ground.specs.declared.task.Task.{Task}
 use Rattle.tp_ground.specs.State.{holds}
 use Rattle.tp_ground.specs.Valid.{at}
-use Rattle.tp_ground.specs.Verdict.{IsFirstFault, last_moment}
 use Rattle.tp_happen.specs.declared.plans.Step.{Step}
 use Rattle.tp_happen.specs.Small.{all_small}
 use Rattle.tp_happen.specs.Bounded.{StaysSmall}
-use Rattle.tp_validate.specs.OfTask.{scale_of, begin, plan_of, events_of, state_at, last_state, fault_in, IsValidPlan}
+use Rattle.tp_validate.specs.OfTask.{scale_of, plan_of, events_of, state_at, last_state, fault_in}
 use Rattle.tp_validate.specs.Tick.{PassesAt}
 
 -- A plan has no fault at any moment, it reaches the goal, and its run is worked out in small numbers.

@@ -1,13 +1,17 @@
 //! The validator: whether a plan is valid for a task, and its first fault where it is not.
 //!
 //! - `placing`: the steps of a plan with what their actions do, and their events
+//! - `agenda`: the events in the order of their moments, tick after tick
 //! - `durations`: whether a step's duration is lawful
+//! - `rosters`: the steps in the order of their starts, and those that run
 //! - `ticks`: what happens at one tick, or the first fault there
 //! - `verdicts`: tick after tick, `validate`
 #![tactic(auto)]
 
+mod agenda;
 mod durations;
 mod placing;
+mod rosters;
 mod ticks;
 mod verdicts;
 

@@ -1,10 +1,10 @@
 //! The steps of a plan with what their actions do, and their events in order.
 
-ghost use Rattle.std.specs.Prelude.{◌≡◌, ℕ, ◌+◌, ◌*◌, ◌<◌, ◌≤◌, ◌++◌, true, nat_le, length, option_map, slice_get, slice_index_or, IfOk, OnOk};
+ghost use Rattle.std.specs.Prelude.{◌≡◌, ℕ, ◌+◌, ◌*◌, ◌<◌, ◌≤◌, ◌++◌, true, nat_le, nat_lt, length, map, option_map, slice_get, slice_index_or, IfOk, OnOk};
 ghost use Rattle.std.specs.List.{list_all};
-ghost use Rattle.tp_ground.specs.Valid.{events, events_of, count_of, at};
+ghost use Rattle.tp_ground.specs.Valid.{events, events_of, count_of};
 ghost use Rattle.tp_validate.specs.OfTask.{plan_of, step_of};
-ghost use Rattle.tp_validate.specs.Places.{here, numbers};
+ghost use Rattle.tp_validate.specs.Places.{numbers};
 
 use std::alloc::{AllocError, Global};
 use std::marker::Model;
@@ -29,6 +29,33 @@ impl<'t> Model for PlannedStep<'t> {
     ghost coded = { Prim.hlevel (codes, ground_body.the_row.coded) };
 
     ghost view = { λ s. record { moment = s.tick; duration = s.duration; body = s.body.now } };
+}
+
+impl<'t> PlannedStep<'t> {
+    /// The moment at which it starts.
+    pub fn start(&self) -> u32
+        ensures { result ≡ self.now.moment }
+    {
+        self.tick
+    }
+
+    /// Whether it ends after a moment.
+    pub fn ends_after(&self, moment: u32) -> bool
+        ensures { result ≡ nat_lt moment (self.now.moment + self.now.duration) }
+    {
+        moment < self.tick || moment - self.tick < self.duration
+    }
+
+    /// The same step once more.
+    pub fn again(&self) -> PlannedStep<'t>
+        ensures { result ≡ self.now }
+    {
+        PlannedStep {
+            tick: self.tick,
+            duration: self.duration,
+            body: self.body,
+        }
+    }
 }
 
 /// An event of a plan: its number, the numbers of its step's first and last event, and the moment at which it happens.
@@ -158,35 +185,26 @@ pub fn placed_events<'t>(
     Ok(events)
 }
 
-/// The events at a moment, in order.
-pub fn events_at<'t>(
+/// What happens at some events, in order.
+pub fn event_refs<'t>(
     alloc: Global,
     events: &[PlacedEvent<'t>],
-    moment: u32,
 ) -> Result<Vec<EventRef<'t>>, AllocError>
-    ensures { IfOk result (λ v. v.items ≡ at moment events.now) }
+    ensures { IfOk result (λ v. v.items ≡ map (λ e. e.timed) events.now) }
 {
-    let mut there = Vec::new(alloc);
+    let mut refs = Vec::new(alloc);
     for event in events {
-        if event.moment == moment {
-            there.push(EventRef::new(Event::new(event.event), event.ticks))?;
-        }
+        refs.push(EventRef::new(Event::new(event.event), event.ticks))?;
     }
-    Ok(there)
+    Ok(refs)
 }
 
-/// The number of the event at a place among those at a moment, 0 past the last.
-pub fn number_at(events: &[PlacedEvent<'_>], moment: u32, place: usize) -> u16
-    ensures { result ≡ slice_index_or (numbers (here moment events.now)) place 0 }
+/// The number of the event at a place, 0 past the last.
+pub fn number_at(events: &[PlacedEvent<'_>], place: usize) -> u16
+    ensures { result ≡ slice_index_or (numbers events.now) place 0 }
 {
-    let mut left = place;
-    for event in events {
-        if event.moment == moment {
-            if left == 0 {
-                return event.number;
-            }
-            left -= 1;
-        }
+    match events.get(place) {
+        Some(event) => event.number,
+        None => 0,
     }
-    0
 }

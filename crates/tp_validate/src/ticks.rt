@@ -1,17 +1,18 @@
 //! What happens at one tick of a plan, or the first fault there.
 
-ghost use Rattle.std.specs.Prelude.{◌≡◌, ◌<◌, ◌≤◌, true, false, length, IfOk, IfErr, IfSome, OnErr};
+ghost use Rattle.std.specs.Prelude.{◌≡◌, ◌+◌, ◌<◌, ◌≤◌, true, false, length, IfOk, IfErr, IfSome, OnErr};
 ghost use Rattle.std.specs.List.{list_all, position_from};
 ghost use Rattle.tp_ground.specs.Valid.{events, at};
 ghost use Rattle.tp_ground.specs.Verdict as verdict;
 ghost use Rattle.tp_happen.specs.Stored.{state_of, fits_in};
 ghost use Rattle.tp_happen.specs.Fault.{OnRange};
+ghost use Rattle.tp_validate.specs.Agenda.{starting_at, IsRunning};
 ghost use Rattle.tp_validate.specs.Places.{here, numbers};
 ghost use Rattle.tp_validate.specs.Tick.{renumbered, invariant_small, PassesAt};
 ghost use Rattle.tp_validate.specs.Found.{told, IsFound};
 
 use crate::durations::first_unlawful;
-use crate::placing::{PlacedEvent, PlannedStep, events_at, number_at};
+use crate::placing::{PlacedEvent, PlannedStep, event_refs, number_at};
 use std::alloc::Global;
 use tp_ground::Body;
 use tp_happen::{ApplyFault, Outcome, Range, State, Why, apply, holds};
@@ -35,16 +36,16 @@ pub enum Judged {
     Next(State),
 }
 
-// A fault of the events at a moment, named by their numbers.
-fn named(events: &[PlacedEvent<'_>], moment: u32, place: usize, why: Why) -> Fault
-    ensures { told result ≡ renumbered (numbers (here moment events.now)) place why }
+// A fault of the events of a tick, named by their numbers.
+fn named(there: &[PlacedEvent<'_>], place: usize, why: Why) -> Fault
+    ensures { told result ≡ renumbered (numbers there.now) place why }
 {
-    let event = number_at(events, moment, place);
+    let event = number_at(there, place);
     match why {
         Why::Condition => Fault::Condition(event),
         Why::Undefined => Fault::Undefined(event),
         Why::Clash => Fault::Clash(event),
-        Why::Interferes(other) => Fault::Interferes(event, number_at(events, moment, other)),
+        Why::Interferes(other) => Fault::Interferes(event, number_at(there, other)),
     }
 }
 
@@ -66,8 +67,8 @@ fn is_broken(after: &State, step: &PlannedStep<'_>, moment: u32) -> Result<bool,
     }
 }
 
-/// The first step whose invariant runs past a moment and does not hold after it.
-fn first_broken(
+// The first of some steps whose invariant runs past a moment and does not hold after it.
+fn broken_among(
     after: &State,
     steps: &[PlannedStep<'_>],
     moment: u32,
@@ -84,27 +85,50 @@ fn first_broken(
     Ok(None)
 }
 
-/// What the events at a moment make of the state before it, or the first fault there.
+// The first step whose invariant runs past a moment and does not hold after it. It is looked for among all only where one
+// of those that run is such a step.
+fn first_broken(
+    after: &State,
+    steps: &[PlannedStep<'_>],
+    running: &[PlannedStep<'_>],
+    moment: u32,
+) -> Result<Option<usize>, Range>
+    requires running { IsRunning steps.now (moment + 1) running.now }
+    ensures ok { IfOk result (λ r. r ≡ position_from (λ p. verdict.is_broken (state_of after.now) moment p p.body) 0 steps.now) }
+    ensures place { IfOk result (λ r. IfSome r (λ i. i < length steps.now)) }
+    ensures err { OnErr result (list_all (λ p. invariant_small (state_of after.now) moment p p.body) steps.now ≡ false) }
+{
+    match broken_among(after, running, moment)? {
+        Some(_) => broken_among(after, steps, moment),
+        None => Ok(None),
+    }
+}
+
+/// What the events of a tick make of the state before it, or the first fault there.
 pub fn judge_tick(
     alloc: Global,
     state: &State,
     steps: &[PlannedStep<'_>],
-    placed: &[PlacedEvent<'_>],
+    starting: &[PlannedStep<'_>],
+    running: &[PlannedStep<'_>],
+    there: &[PlacedEvent<'_>],
     moment: u32,
 ) -> Result<Judged, ApplyFault>
     requires few { length steps.now ≤ 512 }
-    requires placed { placed.now ≡ events steps.now }
-    requires fits { list_all (fits_in state.now) (at moment placed.now) ≡ true }
-    ensures found { IfOk result (IsFound state.now moment steps.now placed.now) }
-    ensures range { IfErr result (λ e. OnRange e (PassesAt state.now.scale (state_of state.now) moment steps.now placed.now)) }
+    requires starting { starting_at moment starting.now ≡ starting_at moment steps.now }
+    requires running { IsRunning steps.now (moment + 1) running.now }
+    requires there { there.now ≡ here moment (events steps.now) }
+    requires fits { list_all (fits_in state.now) (at moment (events steps.now)) ≡ true }
+    ensures found { IfOk result (IsFound state.now moment steps.now (events steps.now)) }
+    ensures range { IfErr result (λ e. OnRange e (PassesAt state.now.scale (state_of state.now) moment steps.now (events steps.now))) }
 {
-    if let Some(step) = first_unlawful(state, steps, moment)? {
+    if let Some(step) = first_unlawful(state, steps, starting, moment)? {
         return Ok(Judged::Faulty(Fault::Duration(step as u16)));
     }
-    let there = events_at(alloc, placed, moment)?;
-    match apply(alloc, state, &there)? {
-        Outcome::Fails(place, why) => Ok(Judged::Faulty(named(placed, moment, place, why))),
-        Outcome::Next(next) => match first_broken(&next, steps, moment)? {
+    let happening = event_refs(alloc, there)?;
+    match apply(alloc, state, &happening)? {
+        Outcome::Fails(place, why) => Ok(Judged::Faulty(named(there, place, why))),
+        Outcome::Next(next) => match first_broken(&next, steps, running, moment)? {
             Some(step) => Ok(Judged::Faulty(Fault::OverAll(step as u16))),
             None => Ok(Judged::Next(next)),
         },

@@ -9,10 +9,13 @@ ghost use Rattle.tp_happen.specs.Fault.{OnRange};
 ghost use Rattle.tp_happen.specs.Steps.{IsPlan};
 ghost use Rattle.tp_validate.specs.OfTask.{IsOfTask, plan_of, IsValidPlan};
 ghost use Rattle.tp_validate.specs.Verdict.{IsSound, PassesIn};
-ghost use Rattle.tp_validate.specs.Reached.{IsCovered, IsRan, PassesBy};
+ghost use Rattle.tp_validate.specs.Agenda.{IsAgenda, IsRoster};
+ghost use Rattle.tp_validate.specs.Reached.{IsRan, PassesBy};
 ghost use Rattle.tp_validate.specs.Answers.{IsFirst, IsVerdict, IsFault};
 
+use crate::agenda::{agenda_of, next_tick};
 use crate::placing::{PlacedEvent, PlannedStep, placed_events, planned_steps};
+use crate::rosters::{count_started, go_on, roster_of};
 use crate::ticks::{Fault, Judged, judge_tick};
 use std::alloc::Global;
 use std::marker::Model;
@@ -87,55 +90,39 @@ enum Ran {
     Done(u32, State),
 }
 
-// The earlier of a moment and another, if there is one.
-fn earlier(best: Option<u32>, moment: u32) -> u32
-    ensures least { result ≤ moment }
-    ensures best { IfSome best (λ m. result ≤ m) }
-    ensures either { MatchOption best (result ≡ moment) (λ m. (result ≡ m) ⊎ (result ≡ moment)) }
-{
-    match best {
-        Some(other) if other < moment => other,
-        _ => moment,
-    }
-}
-
-// The first moment with an event from a moment on.
-fn next_moment(placed: &[PlacedEvent<'_>], from: u32) -> Option<u32>
-    ensures covered { All (IsCovered from result) placed.now }
-    ensures within { IfSome result (λ m. (from ≤ m) × (m ≤ last_moment placed.now)) }
-{
-    let mut next = None;
-    for event in placed {
-        let moment = event.moment();
-        if from <= moment {
-            next = Some(earlier(next, moment));
-        }
-    }
-    next
-}
-
 // Carries out the events of a plan, up to the first fault or to the last of them.
 fn run(
     alloc: Global,
     task: &Task,
     steps: &[PlannedStep<'_>],
-    placed: &[PlacedEvent<'_>],
+    roster: &[PlannedStep<'_>],
+    agenda: &[PlacedEvent<'_>],
 ) -> Result<Ran, ApplyFault>
     requires few { length steps.now ≤ 512 }
-    requires placed { placed.now ≡ events steps.now }
+    requires roster { IsRoster steps.now 0 roster.now }
+    requires agenda { IsAgenda (events steps.now) 0 agenda.now }
     requires fits { list_all (λ p. body_fits (length task.now.initial_atoms.items) (length task.now.initial_numbers.items) p.body) steps.now ≡ true }
-    requires ends { last_moment placed.now ≤ 1000000000 }
+    requires ends { last_moment (events steps.now) ≤ 1000000000 }
     ensures ran { IfOk result (IsRan task.now steps.now) }
     ensures range { IfErr result (λ e. OnRange e (PassesBy task.now steps.now)) }
 {
     let mut state = State::initial(alloc, task)?;
     let mut from = 0;
-    while let Some(moment) = next_moment(placed, from) {
-        match judge_tick(alloc, &state, steps, placed, moment)? {
+    let mut done = 0;
+    let mut started = 0;
+    let mut running = Vec::new(alloc);
+    while let Some(tick) = next_tick(&agenda[done..]) {
+        let moment = tick.moment;
+        let waiting = &roster[started..];
+        let (starting, _) = waiting.split_at(count_started(waiting, moment));
+        go_on(&mut running, starting, moment)?;
+        match judge_tick(alloc, &state, steps, starting, &running, tick.there, moment)? {
             Judged::Faulty(why) => return Ok(Ran::Faulty(moment, why)),
             Judged::Next(next) => state = next,
         }
         from = moment + 1;
+        done += tick.there.len();
+        started += starting.len();
     }
     Ok(Ran::Done(from, state))
 }
@@ -147,8 +134,9 @@ fn judge(alloc: Global, task: &Task, steps: &[Step]) -> Result<Option<(u32, Faul
     ensures range { IfErr result (λ e. OnRange e (PassesIn task.now steps.now)) }
 {
     let planned = planned_steps(alloc, task, steps)?;
-    let placed = placed_events(alloc, &planned)?;
-    match run(alloc, task, &planned, &placed)? {
+    let agenda = agenda_of(placed_events(alloc, &planned)?)?;
+    let roster = roster_of(planned_steps(alloc, task, steps)?)?;
+    match run(alloc, task, &planned, &roster, &agenda)? {
         Ran::Faulty(tick, why) => Ok(Some((tick, why))),
         Ran::Done(from, state) => {
             if holds(&state, &task.goal)? {

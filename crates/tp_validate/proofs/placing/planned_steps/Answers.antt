@@ -1,4 +1,4 @@
-use Rattle.std.proofs.Common.{◌≡◌, ◌+◌, ◌++◌, drop, Vec, Global, sym, ap, ◌∙◌}
+use Rattle.std.proofs.Common.{◌+◌, ◌++◌, drop, Vec, Global, sym, ap, ◌∙◌}
 use Rattle.tp_ground.specs.Valid.{Planned}
 use Rattle.tp_validate.specs.OfTask.{planned}
 use Rattle.tp_validate.proofs.AtPlace.{with_one, with_none}

@@ -8,6 +8,7 @@ use Rattle.tp_happen.proofs.Answered.{on_range, on_range_weaker}
 use Rattle.tp_validate.specs.declared.verdicts.Ran.TheVariants.{Faulty, Done}
 use Rattle.tp_validate.specs.OfTask.{plan_of}
 use Rattle.tp_validate.specs.Verdict.{PassesIn}
+use Rattle.tp_validate.specs.Agenda.{IsAgenda, IsRoster}
 use Rattle.tp_validate.specs.Reached.{IsRan, PassesBy}
 use Rattle.tp_validate.proofs.Planning.{planned_few, ends, planned_ends, fits, planned_fits, last_ends}
 use Rattle.tp_validate.proofs.Judging.{first_fault, run_range, sound, goal_fault, goal_range}
@@ -32,9 +33,19 @@ run-requires-clause-fits c =
     subst (λ (ps : List Planned). list_all (fits (length c.args.task.now.initial_atoms.items) (length c.args.task.now.initial_numbers.items)) ps ≡ true) (sym (c.deref-2.ensures.value ∙ c.in_ok-planned.ensures))
     (planned_fits (length c.args.task.now.initial_atoms.items) (length c.args.task.now.initial_numbers.items) c.args.task.now.actions.items c.args.steps.now c.args.task.now.fits)
 
+pub run-requires-clause-roster : goal.run-requires-clause-roster
+run-requires-clause-roster c =
+    subst (λ (xs : List Planned). IsRoster c.deref-2.result.now 0 xs) (sym c.deref-3.ensures.value)
+    (subst (λ (ps : List Planned). IsRoster ps 0 c.in_ok-roster.roster.items) (c.in_ok-planned_steps.ensures ∙ sym (c.deref-2.ensures.value ∙ c.in_ok-planned.ensures)) c.in_ok-roster.ensures)
+
+pub run-requires-clause-agenda : goal.run-requires-clause-agenda
+run-requires-clause-agenda c =
+    subst (λ (xs : List Placed). IsAgenda (events c.deref-2.result.now) 0 xs) (sym c.deref-4.ensures.value)
+    (subst (λ (es : List Placed). IsAgenda es 0 c.in_ok-agenda.agenda.items) (c.in_ok-placed_events.ensures ∙ ap events (c.deref.ensures.value ∙ sym c.deref-2.ensures.value)) c.in_ok-agenda.ensures)
+
 pub run-requires-clause-ends : goal.run-requires-clause-ends
 run-requires-clause-ends c =
-    subst (λ (es : List Placed). last_moment es ≤ 1000000000) (sym (c.deref-3.ensures.value ∙ (c.in_ok-placed.ensures ∙ ap events (c.deref.ensures.value ∙ c.in_ok-planned.ensures))))
+    subst (λ (ps : List Planned). last_moment (events ps) ≤ 1000000000) (sym (c.deref-2.ensures.value ∙ c.in_ok-planned.ensures))
     (last_ends 0 (plan_of c.args.task.now c.args.steps.now) (planned_ends c.args.task.now.actions.items c.args.steps.now c.requires.ends))
 
 pub returns-in_err-tick-clause-range : goal.returns-in_err-tick-clause-range

@@ -1,44 +1,87 @@
-use Rattle.std.proofs.Common.{◌≡◌, true, Some, List, sym, subst, All}
+use Rattle.std.proofs.Common.{List, sym, ◌∙◌, ◌+◌, subst, arith, rules}
 use Rattle.std.proofs.lemmas.Result.{err_from_is_err_and}
-use Rattle.std.specs.List.{list_all}
-use Rattle.tp_ground.specs.Valid.{Placed, at}
-use Rattle.tp_ground.specs.Verdict.{last_moment}
-use Rattle.tp_happen.specs.Stored.{state_of, fits_in}
+use Rattle.tp_ground.specs.Valid.{Planned, events}
 use Rattle.tp_happen.proofs.Answered.{on_range_weaker}
-use Rattle.tp_validate.specs.Tick.{fault_from, PassesAt}
-use Rattle.tp_validate.specs.Found.{IsFound, GoesOn, told}
-use Rattle.tp_validate.specs.Reached.{IsCovered}
+use Rattle.tp_validate.specs.Found.{IsFound, told}
+use Rattle.tp_validate.specs.Agenda.{IsRunning}
+use Rattle.tp_validate.proofs.Running.{in_order_after, starts_after, begun_after, none_runs}
+use Rattle.tp_validate.proofs.Ordered.{turn_after, rest_after, within_after, all_done_after}
 use Rattle.tp_validate.proofs.Runs.{before, fault_here, passes_here, fits_here, next}
 use Rattle.tp_validate.proofs.verdicts.run.Goals as goal
 
+pub judge_tick-requires-clause-there : goal.judge_tick-requires-clause-there
+judge_tick-requires-clause-there c = (turn_after (events c.args.steps.now) c.loop-tick.from c.args.agenda.now c.loop-tick.done c.loop-tick.invariant.left c.in-Some.tick.moment c.in-Some.tick.there.now c.in-Some.ensures).found
+
+pub count_started-requires : goal.count_started-requires
+count_started-requires c = in_order_after c.args.steps.now c.loop-tick.from c.args.roster.now c.loop-tick.started c.loop-tick.invariant.waiting
+
+pub judge_tick-requires-clause-starting : goal.judge_tick-requires-clause-starting
+judge_tick-requires-clause-starting c =
+    let t = turn_after (events c.args.steps.now) c.loop-tick.from c.args.agenda.now c.loop-tick.done c.loop-tick.invariant.left c.in-Some.tick.moment c.in-Some.tick.there.now c.in-Some.ensures in
+    let s = starts_after c.args.steps.now c.loop-tick.from c.args.roster.now c.loop-tick.started c.loop-tick.invariant.waiting c.loop-tick.running.items c.loop-tick.invariant.running c.in-Some.tick.moment t.onward c.count_started.result
+    c.split_at.result.0.now c.split_at.ensures.front c.split_at.ensures.front_len c.count_started.ensures.until c.count_started.ensures.after in
+    s.starts
+
+pub judge_tick-requires-clause-running : goal.judge_tick-requires-clause-running
+judge_tick-requires-clause-running c =
+    let t = turn_after (events c.args.steps.now) c.loop-tick.from c.args.agenda.now c.loop-tick.done c.loop-tick.invariant.left c.in-Some.tick.moment c.in-Some.tick.there.now c.in-Some.ensures in
+    let s = starts_after c.args.steps.now c.loop-tick.from c.args.roster.now c.loop-tick.started c.loop-tick.invariant.waiting c.loop-tick.running.items c.loop-tick.invariant.running c.in-Some.tick.moment t.onward c.count_started.result
+    c.split_at.result.0.now c.split_at.ensures.front c.split_at.ensures.front_len c.count_started.ensures.until c.count_started.ensures.after in
+    subst (λ (ps : List Planned). IsRunning c.args.steps.now (c.in-Some.tick.moment + 1) ps) (sym (c.deref.ensures.value ∙ c.in_ok-go_on.ensures)) s.runs
+
 pub judge_tick-requires-clause-fits : goal.judge_tick-requires-clause-fits
 judge_tick-requires-clause-fits c =
-    subst (λ (es : List Placed). list_all (fits_in c.loop-moment.state) (at c.in-Some.moment es) ≡ true) (sym c.requires.placed)
-    (fits_here c.args.task.now c.args.steps.now c.loop-moment.from c.in-Some.moment c.loop-moment.state c.loop-moment.invariant c.in-Some.ensures.within.0
-    (subst (λ (es : List Placed). All (IsCovered c.loop-moment.from (Some c.in-Some.moment)) es) c.requires.placed c.in-Some.ensures.covered) c.requires.fits)
+    let t = turn_after (events c.args.steps.now) c.loop-tick.from c.args.agenda.now c.loop-tick.done c.loop-tick.invariant.left c.in-Some.tick.moment c.in-Some.tick.there.now c.in-Some.ensures in
+    fits_here c.args.task.now c.args.steps.now c.loop-tick.from c.in-Some.tick.moment c.loop-tick.state c.loop-tick.invariant.reached t.onward t.covered c.requires.fits
 
 pub returns-in_err-why-clause-range : goal.returns-in_err-why-clause-range
 returns-in_err-why-clause-range c =
+    let t = turn_after (events c.args.steps.now) c.loop-tick.from c.args.agenda.now c.loop-tick.done c.loop-tick.invariant.left c.in-Some.tick.moment c.in-Some.tick.there.now c.in-Some.ensures in
     let p = err_from_is_err_and c.from_residual-in_err-why.result c.from_residual-in_err-why.ensures.1 in
     rw (p.1, p.2) (on_range_weaker c.in_err-why.field-0.0 _ _
-    (λ h. passes_here c.args.task.now c.args.steps.now c.loop-moment.from c.in-Some.moment c.loop-moment.state c.loop-moment.invariant c.in-Some.ensures.within.0
-    (subst (λ (es : List Placed). All (IsCovered c.loop-moment.from (Some c.in-Some.moment)) es) c.requires.placed c.in-Some.ensures.covered)
-    (subst (λ (es : List Placed). PassesAt c.loop-moment.state.scale (state_of c.loop-moment.state) c.in-Some.moment c.args.steps.now es) c.requires.placed h))
+    (λ h. passes_here c.args.task.now c.args.steps.now c.loop-tick.from c.in-Some.tick.moment c.loop-tick.state c.loop-tick.invariant.reached t.onward t.covered h)
     c.in_err-why.ensures.range)
 
 pub returns-in-Faulty-clause-ran : goal.returns-in-Faulty-clause-ran
 returns-in-Faulty-clause-ran c =
-    let cov = subst (λ (es : List Placed). All (IsCovered c.loop-moment.from (Some c.in-Some.moment)) es) c.requires.placed c.in-Some.ensures.covered in (
-      before c.args.task.now c.args.steps.now c.loop-moment.from c.in-Some.moment c.loop-moment.state c.loop-moment.invariant c.in-Some.ensures.within.0 cov,
-      fault_here c.args.task.now c.args.steps.now c.loop-moment.from c.in-Some.moment c.loop-moment.state c.loop-moment.invariant c.in-Some.ensures.within.0 cov (told c.in-Faulty.why)
-          (subst (λ (es : List Placed). fault_from c.loop-moment.state.scale (state_of c.loop-moment.state) c.in-Some.moment c.args.steps.now es ≡ Some (told c.in-Faulty.why)) c.requires.placed
-          (subst (λ j. IsFound c.loop-moment.state c.in-Some.moment c.args.steps.now c.args.placed.now j) c.in-Faulty.is c.in_ok-why.ensures.found)),
+    let t = turn_after (events c.args.steps.now) c.loop-tick.from c.args.agenda.now c.loop-tick.done c.loop-tick.invariant.left c.in-Some.tick.moment c.in-Some.tick.there.now c.in-Some.ensures in (
+      before c.args.task.now c.args.steps.now c.loop-tick.from c.in-Some.tick.moment c.loop-tick.state c.loop-tick.invariant.reached t.onward t.covered,
+      fault_here c.args.task.now c.args.steps.now c.loop-tick.from c.in-Some.tick.moment c.loop-tick.state c.loop-tick.invariant.reached t.onward t.covered (told c.in-Faulty.why)
+          (subst (λ j. IsFound c.loop-tick.state c.in-Some.tick.moment c.args.steps.now (events c.args.steps.now) j) c.in-Faulty.is c.in_ok-why.ensures.found),
     )
 
-pub loop-moment-preserved : goal.loop-moment-preserved
-loop-moment-preserved c =
-    let cov = subst (λ (es : List Placed). All (IsCovered c.loop-moment.from (Some c.in-Some.moment)) es) c.requires.placed c.in-Some.ensures.covered in
-    next c.args.task.now c.args.steps.now c.loop-moment.from c.in-Some.moment c.loop-moment.state c.loop-moment.invariant c.in-Some.ensures.within.0 cov c.in-Next.next
-    (rw c.requires.placed at c.in-Some.ensures.within.1)
-    (subst (λ (es : List Placed). GoesOn c.loop-moment.state c.in-Some.moment c.args.steps.now es c.in-Next.next) c.requires.placed
-    (subst (λ j. IsFound c.loop-moment.state c.in-Some.moment c.args.steps.now c.args.placed.now j) c.in-Next.is c.in_ok-why.ensures.found))
+pub loop-tick-preserved : goal.loop-tick-preserved
+loop-tick-preserved c =
+    let t = turn_after (events c.args.steps.now) c.loop-tick.from c.args.agenda.now c.loop-tick.done c.loop-tick.invariant.left c.in-Some.tick.moment c.in-Some.tick.there.now c.in-Some.ensures in
+    let s = starts_after c.args.steps.now c.loop-tick.from c.args.roster.now c.loop-tick.started c.loop-tick.invariant.waiting c.loop-tick.running.items c.loop-tick.invariant.running c.in-Some.tick.moment t.onward c.count_started.result
+    c.split_at.result.0.now c.split_at.ensures.front c.split_at.ensures.front_len c.count_started.ensures.until c.count_started.ensures.after in
+    record {
+      reached = next c.args.task.now c.args.steps.now c.loop-tick.from c.in-Some.tick.moment c.loop-tick.state c.loop-tick.invariant.reached t.onward t.covered c.in-Next.next t.last
+          (subst (λ j. IsFound c.loop-tick.state c.in-Some.tick.moment c.args.steps.now (events c.args.steps.now) j) c.in-Next.is c.in_ok-why.ensures.found);
+      left = rest_after (events c.args.steps.now) c.loop-tick.from c.args.agenda.now c.loop-tick.done c.loop-tick.invariant.left c.in-Some.tick.moment c.in-Some.tick.there.now t;
+      within = within_after (events c.args.steps.now) c.loop-tick.from c.args.agenda.now c.loop-tick.done c.loop-tick.invariant.left c.in-Some.tick.moment c.in-Some.tick.there.now c.loop-tick.invariant.within t;
+      waiting = s.rest;
+      begun = begun_after c.args.steps.now c.loop-tick.from c.args.roster.now c.loop-tick.started c.loop-tick.invariant.waiting c.loop-tick.running.items c.loop-tick.invariant.running c.in-Some.tick.moment t.onward c.count_started.result
+          c.split_at.result.0.now c.split_at.ensures.front c.split_at.ensures.front_len c.count_started.ensures.until c.count_started.ensures.after c.loop-tick.invariant.begun;
+      running = subst (λ (ps : List Planned). IsRunning c.args.steps.now (c.in-Some.tick.moment + 1) ps) (sym c.in_ok-go_on.ensures) s.runs;
+    }
+
+pub overflow_add-from : goal.overflow_add-from
+overflow_add-from c = let t = turn_after (events c.args.steps.now) c.loop-tick.from c.args.agenda.now c.loop-tick.done c.loop-tick.invariant.left c.in-Some.tick.moment c.in-Some.tick.there.now c.in-Some.ensures in let l = t.last in omega (arith, l, c.requires.ends)
+
+pub loop-tick-smaller : goal.loop-tick-smaller
+loop-tick-smaller c = let t = turn_after (events c.args.steps.now) c.loop-tick.from c.args.agenda.now c.loop-tick.done c.loop-tick.invariant.left c.in-Some.tick.moment c.in-Some.tick.there.now c.in-Some.ensures in let l = t.last in let o = t.onward in omega (arith, l, o, c.requires.ends)
+
+pub returns-clause-ran : goal.returns-clause-ran
+returns-clause-ran c = (c.loop-tick.invariant.reached, all_done_after (events c.args.steps.now) c.loop-tick.from c.args.agenda.now c.loop-tick.done c.loop-tick.invariant.left c.in_default.ensures)
+
+pub loop-tick-init : goal.loop-tick-init
+loop-tick-init c =
+    record {
+      reached = search rules;
+      left = c.requires.agenda;
+      within = omega arith;
+      waiting = c.requires.roster;
+      begun = omega arith;
+      running = subst (λ (ps : List Planned). IsRunning c.args.steps.now 0 ps) (sym c.new-running.ensures.items) (none_runs c.args.steps.now);
+    }

@@ -1,10 +1,20 @@
--- The run has come to a moment, and the bound on it falls.
-use Rattle.std.proofs.Common.{◌-◌}
+-- The run has come to a moment, the rests of the agenda and of the roster are those from there on, and the bound on the moment falls.
+use Rattle.std.proofs.Common.{◌-◌, ◌≤◌, length, drop}
+use Rattle.tp_ground.specs.Valid.{events}
+use Rattle.tp_validate.specs.Agenda.{IsAgenda, IsRoster, IsRunning}
 use Rattle.tp_validate.specs.Reached.{Reached}
 use Rattle.tp_validate.proofs.verdicts.run.Given as goal
 
-abbrev pub invariant-loop-moment : goal.invariant-loop-moment
-invariant-loop-moment l = Reached l.task l.steps l.from l.state
+abbrev pub invariant-loop-tick : goal.invariant-loop-tick
+invariant-loop-tick l =
+    record {
+      reached : Reached l.task l.steps l.from l.state;
+      left : IsAgenda (events l.steps) l.from (drop l.done l.agenda);
+      within : l.done ≤ length l.agenda;
+      waiting : IsRoster l.steps l.from (drop l.started l.roster);
+      begun : l.started ≤ length l.roster;
+      running : IsRunning l.steps l.from l.running.items;
+    }
 
-abbrev pub decreases-loop-moment : goal.decreases-loop-moment
-decreases-loop-moment l = 1000000001 - l.from
+abbrev pub decreases-loop-tick : goal.decreases-loop-tick
+decreases-loop-tick l = 1000000001 - l.from

@@ -3,7 +3,7 @@ use Rattle.std.specs.List.{position_from}
 use Rattle.tp_ground.specs.Valid.{Planned}
 use Rattle.tp_ground.specs.Verdict.{is_unlawful}
 use Rattle.tp_happen.specs.Stored.{state_of}
-use Rattle.tp_validate.proofs.durations.first_unlawful.Given as goal
+use Rattle.tp_validate.proofs.durations.unlawful_among.Given as goal
 
 abbrev pub invariant-loop-i : goal.invariant-loop-i
 invariant-loop-i l =

@@ -1,0 +1,36 @@
+-- The events and the steps of a plan in the order of their moments, gone through tick after tick.
+use Rattle.std.specs.Prelude.{◌≡◌, ℕ, ◌≤◌, ◌<◌, ◌==◌, List, length, take, drop, ◌+◌}
+use Rattle.std.specs.List.{All, Contains, filter}
+use Rattle.std.specs.List.Sorted.{IsNonDecreasingBy}
+use Rattle.tp_ground.specs.Valid.{Planned, Placed}
+
+-- What is left of xs from a moment on, in the order of its moments; those of one moment stand as they do in xs.
+pub record IsLeft {X : Type 0} (n : X → ℕ) (xs : List X) (from : ℕ) (left : List X) : Type 0 where
+  pub in_order : IsNonDecreasingBy n left
+  pub later : All (λ x. from ≤ n x) left
+  pub same : (m : ℕ) → from ≤ m → filter (λ x. n x == m) left ≡ filter (λ x. n x == m) xs
+
+-- what is left of the events from a moment on
+abbrev pub IsAgenda : List Placed → ℕ → List Placed → Type 0
+IsAgenda es from agenda = IsLeft (λ e. e.moment) es from agenda
+
+-- The events of an agenda at its first moment: they stand before all others.
+pub record IsNextTick (agenda : List Placed) (m : ℕ) (there : List Placed) : Type 0 where
+  pub front : there ≡ take (length there) agenda
+  pub first : All (λ e. e.moment ≡ m) there
+  pub after : All (λ e. m < e.moment) (drop (length there) agenda)
+  pub some : 0 < length there
+
+-- what is left of the steps from a moment on
+abbrev pub IsRoster : List Planned → ℕ → List Planned → Type 0
+IsRoster ps from roster = IsLeft (λ p. p.moment) ps from roster
+
+-- the steps that start at a moment
+abbrev pub starting_at : ℕ → List Planned → List Planned
+starting_at m ps = filter (λ p. p.moment == m) ps
+
+-- All steps of a plan that start before a moment and end no earlier; none is another's, and each ends no earlier.
+pub record IsRunning (ps : List Planned) (from : ℕ) (running : List Planned) : Type 0 where
+  pub known : All (Contains ps) running
+  pub unended : All (λ p. from ≤ p.moment + p.duration) running
+  pub covers : All (λ p. p.moment < from → from ≤ p.moment + p.duration → Contains running p) ps
