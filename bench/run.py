@@ -4,7 +4,7 @@
     bench/run.py [--full] [--check] [PROGRAM]
 
 PROGRAM is a built `tempo`; without it, the program is proved and built by `rt run` first. `--full` also brings 65,535 bounds into
-force, which takes a while; `--check` times the plans alone. Each list is read from a file by a process of its own; the times of single
+force, which takes a while; `--check` times plans, tasks and texts alone. Each list is read from a file by a process of its own; the times of single
 commands are from writing the command to reading its answer, the mean of all of them. A verdict's time is that of the whole
 process, the best of three.
 """
@@ -200,10 +200,57 @@ def checks(program):
     judged(program, "a domain of a megabyte, no step", long_domain(1_048_576), long_problem, "")
 
 
+def named(count):
+    """Constants, each named in an atom of one action's condition."""
+    names = " ".join(f"c{k}" for k in range(count))
+    facts = " ".join(f"(p c{k})" for k in range(count))
+    return f"(define (domain d) (:constants {names}) (:predicates (p ?x)) (:action a :precondition (and {facts}) :effect ()))"
+
+
+def formed(count):
+    """Predicates, each named in an atom of one action's condition."""
+    forms = " ".join(f"(p{k})" for k in range(count))
+    return f"(define (domain d) (:predicates {forms}) (:action a :precondition (and {forms}) :effect ()))"
+
+
+def chained(count):
+    """Types, each below the one before it, and atoms whose object is of the last one where the first is asked for."""
+    types = " ".join(f"t{k + 1} - t{k}" for k in range(count - 1))
+    facts = " ".join("(p c)" for _ in range(count))
+    return (
+        f"(define (domain d) (:types {types} t0) (:constants c - t{count - 1}) (:predicates (p ?x - t0))"
+        f" (:action a :precondition (and {facts}) :effect ()))"
+    )
+
+
+def typed(count):
+    """Types, and a constant of each."""
+    types = " ".join(f"t{k}" for k in range(count))
+    constants = " ".join(f"c{k} - t{k}" for k in range(count))
+    return f"(define (domain d) (:types {types}) (:constants {constants}))"
+
+
+def objects(count):
+    """A problem with many objects, each in one fact of its initial state."""
+    names = " ".join(f"o{k}" for k in range(count))
+    facts = " ".join(f"(p o{k})" for k in range(count))
+    return f"(define (problem q) (:domain d) (:objects {names}) (:init {facts}) (:goal ()))"
+
+
+def reads(program):
+    """Texts of about a megabyte. The task of some is too large; the time is that of reading all the same."""
+    judged(program, "59,000 constants, each in an atom", named(59_000), "(define (problem q) (:domain d) (:goal ()))", "")
+    judged(program, "59,000 predicates, each in an atom", formed(59_000), "(define (problem q) (:domain d) (:goal ()))", "")
+    judged(program, "a chain of 45,000 types, 45,000 atoms over it", chained(45_000), "(define (problem q) (:domain d) (:goal ()))", "")
+    judged(program, "40,000 types with a constant each", typed(40_000), "(define (problem q) (:domain d) (:goal ()))", "")
+    judged(program, "59,000 objects, each in a fact", "(define (domain d) (:predicates (p ?x)))", objects(59_000), "")
+
+
 def main():
     words = [word for word in sys.argv[1:] if not word.startswith("--")]
     program = pathlib.Path(words[0]) if words else built()
     checks(program)
+    reads(program)
     if "--check" in sys.argv:
         return
 
