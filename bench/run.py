@@ -189,8 +189,18 @@ def long_domain(most):
         parts.append(action)
 
 
+def wide(count):
+    """A domain with one action that asks for so many atoms, and a problem in which they are true."""
+    atoms = " ".join(f"(q{k})" for k in range(count))
+    domain = f"(define (domain wide) (:predicates {atoms} (r)) (:action a :precondition (and {atoms}) :effect (r)))"
+    return domain, f"(define (problem q) (:domain wide) (:init {atoms}) (:goal (r)))"
+
+
 def checks(program):
     """Verdicts on large plans, tasks and texts."""
+    domain, problem = wide(1000)
+    judged(program, "512 steps that ask for 1,000 atoms each", domain, problem, "".join(f"{k}: (a)\n" for k in range(512)))
+    judged(program, "one such step", domain, problem, "0: (a)\n")
     problem = places_problem()
     judged(program, "512 steps side by side, 4,000 atoms, 8,000 actions", PLACES, problem, visits())
     judged(program, "512 steps at one tick, on the same task", PLACES, problem, marks())

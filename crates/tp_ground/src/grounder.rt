@@ -1,10 +1,11 @@
 //! The task of a problem.
 
-ghost use Rattle.std.specs.Prelude.{◌≡◌, ◌≤◌, ◌++◌, true, map, length, nat_lt, IfOk, IfErr, OnOk};
+ghost use Rattle.std.specs.Prelude.{◌≡◌, ◌≤◌, ◌++◌, true, map, length, nat_lt, false, IfOk, IfErr, OnOk};
 ghost use Rattle.std.specs.List.{list_all};
 ghost use Rattle.tp_syntax.specs.Symbols.{typed_view};
 ghost use Rattle.tp_syntax.specs.CondViews.{cond_view};
 ghost use Rattle.tp_syntax.specs.DomainViews.{initial_view, action_view, domain_view, problem_view};
+ghost use Rattle.tp_ground.specs.Great.{has_great_number};
 ghost use Rattle.tp_ground.specs.Fits.{body_fits};
 ghost use Rattle.tp_ground.specs.Views.{universe_view};
 ghost use Rattle.tp_ground.specs.Lowered.{Lowers};
@@ -65,6 +66,8 @@ fn check(
     limits: &Limits,
 ) -> Result<(), GroundFault>
     ensures most { OnOk result (limits.now.actions ≤ 65_535) }
+    ensures numbers { OnOk result (has_great_number (domain_view domain.now) (problem_view problem.now) ≡ false) }
+    ensures objects { OnOk result (nat_lt 65_535 (length ((domain_view domain.now).constants ++ (problem_view problem.now).objects)) ≡ false) }
     ensures few { OnOk result (length (ground_actions (universe_of (domain_view domain.now) (problem_view problem.now)) (domain_view domain.now).actions) ≤ limits.now.actions) }
     ensures err { IfErr result (HasNoTask limits.now (domain_view domain.now) (problem_view problem.now)) }
 {
@@ -161,6 +164,9 @@ pub fn ground(
     scale: Scale,
 ) -> Result<Task, GroundFault>
     ensures ok { IfOk result (IsTask limits.now scale (domain_view domain.now) (problem_view problem.now)) }
+    ensures numbers { OnOk result (has_great_number (domain_view domain.now) (problem_view problem.now) ≡ false) }
+    ensures objects { OnOk result (nat_lt 65_535 (length ((domain_view domain.now).constants ++ (problem_view problem.now).objects)) ≡ false) }
+    ensures few { OnOk result (length (ground_actions (universe_of (domain_view domain.now) (problem_view problem.now)) (domain_view domain.now).actions) ≤ limits.now.actions) }
     ensures err { IfErr result (HasNoTask limits.now (domain_view domain.now) (problem_view problem.now)) }
 {
     check(alloc, domain, problem, limits)?;

@@ -55,8 +55,6 @@ pub use words::{Comparison, Mark, Writing};
 #[cfg(test)]
 mod domain_tests;
 #[cfg(test)]
-mod example_tests;
-#[cfg(test)]
 mod print_tests;
 #[cfg(test)]
 mod problem_tests;

@@ -25,8 +25,8 @@ fn print_to<L: Ledger, W: Write + Drop>(
 }
 
 /// A domain's text.
-pub fn printed(alloc: Global, domain: &Domain) -> Result<String, Fail> {
-    let mut room = vec![in alloc; 0u8; 32768]?;
+fn printed(alloc: Global, domain: &Domain) -> Result<String, Fail> {
+    let mut room = vec![in alloc; 0u8; 4096]?;
     print_to::<Brand, _>(domain, room.as_mut_slice(), Blank::new(1)).map_err(|_| "no room")?;
     let mut text = String::new(alloc);
     for byte in room {

@@ -17,3 +17,6 @@ mod verdicts;
 
 pub use ticks::Fault;
 pub use verdicts::{ValidPlan, ValidateFault, Verdict, validate};
+
+#[cfg(test)]
+mod tests;

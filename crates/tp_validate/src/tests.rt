@@ -1,0 +1,5 @@
+//! Verdicts on plans of the worked domains.
+
+mod numbers;
+mod verdicts;
+mod worlds;
