@@ -210,50 +210,30 @@ def checks(program):
     judged(program, "a domain of a megabyte, no step", long_domain(1_048_576), long_problem, "")
 
 
-def named(count):
-    """Constants, each named in an atom of one action's condition."""
-    names = " ".join(f"c{k}" for k in range(count))
-    facts = " ".join(f"(p c{k})" for k in range(count))
-    return f"(define (domain d) (:constants {names}) (:predicates (p ?x)) (:action a :precondition (and {facts}) :effect ()))"
+def each(form, count):
+    """So many texts with a number in the place of #, one after another."""
+    return " ".join(form.replace("#", str(k)) for k in range(count))
 
 
-def formed(count):
-    """Predicates, each named in an atom of one action's condition."""
-    forms = " ".join(f"(p{k})" for k in range(count))
-    return f"(define (domain d) (:predicates {forms}) (:action a :precondition (and {forms}) :effect ()))"
-
-
-def chained(count):
-    """Types, each below the one before it, and atoms whose object is of the last one where the first is asked for."""
-    types = " ".join(f"t{k + 1} - t{k}" for k in range(count - 1))
-    facts = " ".join("(p c)" for _ in range(count))
-    return (
-        f"(define (domain d) (:types {types} t0) (:constants c - t{count - 1}) (:predicates (p ?x - t0))"
-        f" (:action a :precondition (and {facts}) :effect ()))"
-    )
-
-
-def typed(count):
-    """Types, and a constant of each."""
-    types = " ".join(f"t{k}" for k in range(count))
-    constants = " ".join(f"c{k} - t{k}" for k in range(count))
-    return f"(define (domain d) (:types {types}) (:constants {constants}))"
-
-
-def objects(count):
-    """A problem with many objects, each in one fact of its initial state."""
-    names = " ".join(f"o{k}" for k in range(count))
-    facts = " ".join(f"(p o{k})" for k in range(count))
-    return f"(define (problem q) (:domain d) (:objects {names}) (:init {facts}) (:goal ()))"
+def asking(declared, atoms):
+    """A domain that declares something, with one action that asks for atoms."""
+    return f"(define (domain d) {declared} (:action a :precondition (and {atoms}) :effect ()))"
 
 
 def reads(program):
     """Texts of about a megabyte. The task of some is too large; the time is that of reading all the same."""
-    judged(program, "59,000 constants, each in an atom", named(59_000), "(define (problem q) (:domain d) (:goal ()))", "")
-    judged(program, "59,000 predicates, each in an atom", formed(59_000), "(define (problem q) (:domain d) (:goal ()))", "")
-    judged(program, "a chain of 45,000 types, 45,000 atoms over it", chained(45_000), "(define (problem q) (:domain d) (:goal ()))", "")
-    judged(program, "40,000 types with a constant each", typed(40_000), "(define (problem q) (:domain d) (:goal ()))", "")
-    judged(program, "59,000 objects, each in a fact", "(define (domain d) (:predicates (p ?x)))", objects(59_000), "")
+    problem = "(define (problem q) (:domain d) (:goal ()))"
+    constants = asking(f"(:constants {each('c#', 59_000)}) (:predicates (p ?x))", each("(p c#)", 59_000))
+    judged(program, "59,000 constants, each in an atom", constants, problem, "")
+    predicates = asking(f"(:predicates {each('(p#)', 59_000)})", each("(p#)", 59_000))
+    judged(program, "59,000 predicates, each in an atom", predicates, problem, "")
+    below = " ".join(f"t{k + 1} - t{k}" for k in range(44_999))
+    chain = f"(:types {below} t0) (:constants c - t44999) (:predicates (p ?x - t0))"
+    judged(program, "a chain of 45,000 types, 45,000 atoms over it", asking(chain, each("(p c)", 45_000)), problem, "")
+    types = f"(define (domain d) (:types {each('t#', 40_000)}) (:constants {each('c# - t#', 40_000)}))"
+    judged(program, "40,000 types with a constant each", types, problem, "")
+    objects = f"(define (problem q) (:domain d) (:objects {each('o#', 59_000)}) (:init {each('(p o#)', 59_000)}) (:goal ()))"
+    judged(program, "59,000 objects, each in a fact", "(define (domain d) (:predicates (p ?x)))", objects, "")
 
 
 def main():
