@@ -6,8 +6,9 @@
 PROGRAM is a built `tempo`; without it, the program is proved and built by `rt run` first. `--full` also brings 65,535 bounds into
 force, which takes a while; `--check` times plans, tasks and texts alone. Each list is read from a file by a process of its own; the times of single
 commands are from writing the command to reading its answer, the mean of all of them. A verdict's time is that of the whole
-process, the best of three.
+process, the best of three; its memory is the greatest that the process held.
 """
+import os
 import pathlib
 import random
 import subprocess
@@ -124,11 +125,13 @@ def judged(program, name, domain, problem, plan):
         best = None
         for _ in range(3):
             begin = time.perf_counter()
-            ran = subprocess.run([str(program), "check", *map(str, files)], capture_output=True, text=True)
+            child = subprocess.Popen([str(program), "check", *map(str, files)], stdout=subprocess.PIPE, stderr=subprocess.STDOUT, text=True)
+            said = child.stdout.read().strip()
+            _, _, used = os.wait4(child.pid, 0)
             took = time.perf_counter() - begin
             best = took if best is None else min(best, took)
         size = sum(file.stat().st_size for file in files)
-    print(f"{name:58} {best:8.3f} s  {size:9} bytes  {(ran.stdout + ran.stderr).strip()}", flush=True)
+    print(f"{name:58} {best:8.3f} s  {size:9} bytes  {used.ru_maxrss // 1024:4} MB  {said}", flush=True)
 
 
 PLACES = """(define (domain places)
@@ -232,6 +235,11 @@ def reads(program):
     judged(program, "a chain of 45,000 types, 45,000 atoms over it", asking(chain, each("(p c)", 45_000)), problem, "")
     types = f"(define (domain d) (:types {each('t#', 40_000)}) (:constants {each('c# - t#', 40_000)}))"
     judged(program, "40,000 types with a constant each", types, problem, "")
+    many = f"(define (domain d) (:predicates (p ?x)) (:action a :parameters ({each('?v#', 30_000)}) :precondition (and {each('(p ?v#)', 30_000)}) :effect ()))"
+    judged(program, "an action of 30,000 parameters, each in an atom", many, problem, "")
+    name = "t" * 4_000
+    judged(program, "100,000 constants of a type of 4,000 letters", f"(define (domain d) (:types {name}) (:constants {each('c#', 100_000)} - {name}))", problem, "")
+    judged(program, "100,000 types below one of 4,000 letters", f"(define (domain d) (:types {each('t#', 100_000)} - {name}))", problem, "")
     objects = f"(define (problem q) (:domain d) (:objects {each('o#', 59_000)}) (:init {each('(p o#)', 59_000)}) (:goal ()))"
     judged(program, "59,000 objects, each in a fact", "(define (domain d) (:predicates (p ?x)))", objects, "")
 

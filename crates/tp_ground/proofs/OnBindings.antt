@@ -27,7 +27,7 @@ chosen true d ds = refl
 chosen false d ds = refl
 
 -- an object that fits stands before those that are left
-pub fit_step : (types : List Parent) (v : Declared) (objects : List Typed) (i : ℕ) (x : Typed) (b : Bool) → i < length objects → x ≡ get_or objects i x → b ≡ types_fit types (map string_bytes x.types.items) v.types → fitting types (map typed_view (drop i objects)) v ≡ cond b (string_bytes x.name ∷ fitting types (map typed_view (drop (i + 1) objects)) v) (fitting types (map typed_view (drop (i + 1) objects)) v)
+pub fit_step : (types : List Parent) (v : Declared) (objects : List Typed) (i : ℕ) (x : Typed) (b : Bool) → i < length objects → x ≡ get_or objects i x → b ≡ types_fit types (map string_bytes x.types.value.items) v.types → fitting types (map typed_view (drop i objects)) v ≡ cond b (string_bytes x.name ∷ fitting types (map typed_view (drop (i + 1) objects)) v) (fitting types (map typed_view (drop (i + 1) objects)) v)
 fit_step types v objects i x b lt item is =
     at_drop_more (λ ys. fitting types (map typed_view ys) v) objects i x lt
     ∙ ap (λ (y : Typed). fitting types (map typed_view (y ∷ drop (i + 1) objects)) v) (sym item)

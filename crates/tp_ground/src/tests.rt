@@ -4,6 +4,7 @@ use crate::environment::{Env, object_for};
 use crate::universe::{Universe, bindings, count_bindings};
 use crate::{GroundFault, Numbering, TooManyKind};
 use std::alloc::{AllocError, Global};
+use std::rc::Rc;
 use std::test::Fail;
 use tp_syntax::{Term, TypeName, Typed, Types};
 
@@ -11,12 +12,13 @@ fn typed(alloc: Global, name: &str, kind: &str) -> Result<Typed, AllocError> {
     let mut types = Vec::new(alloc);
     types.push(String::from_str(alloc, kind)?)?;
     let name = String::from_str(alloc, name)?;
+    let types = Rc::new(alloc, types)?;
     Ok(Typed { name, types })
 }
 
 fn type_below(alloc: Global, name: &str, parent: &str) -> Result<TypeName, AllocError> {
     let name = String::from_str(alloc, name)?;
-    let parent = String::from_str(alloc, parent)?;
+    let parent = Rc::new(alloc, String::from_str(alloc, parent)?)?;
     Ok(TypeName { name, parent })
 }
 

@@ -24,7 +24,7 @@ fn count_fitting(types: &Types, objects: &[Typed], variable: &Typed) -> usize
 {
     let mut count = 0;
     for object in objects {
-        if types_fit(types, &object.types, &variable.types) {
+        if types_fit(types, object.type_names(), variable.type_names()) {
             count += 1;
         }
     }
@@ -41,7 +41,7 @@ fn push_fitting<'a>(
     ensures { OnOk result (map (λ o. o.now) names.new.items ≡ map (λ o. o.now) names.old.items ++ fitting (types_view types.now) (map typed_view objects.now) (typed_view variable.now)) }
 {
     for object in objects {
-        if types_fit(types, &object.types, &variable.types) {
+        if types_fit(types, object.type_names(), variable.type_names()) {
             names.push(object.name.as_str())?;
         }
     }

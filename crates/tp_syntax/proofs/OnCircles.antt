@@ -37,23 +37,23 @@ no_step ps left t p e = ap (λ (n : ℕ). at_or_below ps n t p) e
 -- ---- parents by their places
 
 module _ (d : TypeName) (ts : List TypeName) where
-  shifted : (b : Bool) (o : Option ℕ) (r : Option Name) → r ≡ (o >>= λ k. option_map (λ (u : TypeName). string_bytes u.parent) (slice_get ts k)) → cond b (Some (string_bytes d.parent)) r ≡ (cond b (Some 0) (option_map (λ k. k + 1) o) >>= λ k. option_map (λ (u : TypeName). string_bytes u.parent) (slice_get (d ∷ ts) k))
+  shifted : (b : Bool) (o : Option ℕ) (r : Option Name) → r ≡ (o >>= λ k. option_map (λ (u : TypeName). string_bytes u.parent.value) (slice_get ts k)) → cond b (Some (string_bytes d.parent.value)) r ≡ (cond b (Some 0) (option_map (λ k. k + 1) o) >>= λ k. option_map (λ (u : TypeName). string_bytes u.parent.value) (slice_get (d ∷ ts) k))
   shifted true o r h = refl
   shifted false None r h = h
-  shifted false (Some k) r h = h ∙ ap (λ (i : ℕ). option_map (λ (u : TypeName). string_bytes u.parent) (slice_get (d ∷ ts) i)) (sym (add-one k))
+  shifted false (Some k) r h = h ∙ ap (λ (i : ℕ). option_map (λ (u : TypeName). string_bytes u.parent.value) (slice_get (d ∷ ts) i)) (sym (add-one k))
 
-pub parent_by_place : (ts : List TypeName) (t : Name) → parent_of t (map parent_view ts) ≡ (place_of t (map type_name ts) >>= λ k. option_map (λ (u : TypeName). string_bytes u.parent) (slice_get ts k))
+pub parent_by_place : (ts : List TypeName) (t : Name) → parent_of t (map parent_view ts) ≡ (place_of t (map type_name ts) >>= λ k. option_map (λ (u : TypeName). string_bytes u.parent.value) (slice_get ts k))
 parent_by_place [] t = refl
 parent_by_place (d ∷ ts) t = shifted d ts (bytes_eq (string_bytes d.name) t) (place_of t (map type_name ts)) (parent_of t (map parent_view ts)) (parent_by_place ts t)
 
 pub no_place : (ts : List TypeName) (t : Name) → place_of t (map type_name ts) ≡ None → parent_of t (map parent_view ts) ≡ None
-no_place ts t none = parent_by_place ts t ∙ ap (λ (o : Option ℕ). o >>= λ k. option_map (λ (u : TypeName). string_bytes u.parent) (slice_get ts k)) none
+no_place ts t none = parent_by_place ts t ∙ ap (λ (o : Option ℕ). o >>= λ k. option_map (λ (u : TypeName). string_bytes u.parent.value) (slice_get ts k)) none
 
-pub at_the_place : (ts : List TypeName) (t : Name) (k : ℕ) (o : Option TypeName) → place_of t (map type_name ts) ≡ Some k → slice_get ts k ≡ o → parent_of t (map parent_view ts) ≡ option_map (λ (u : TypeName). string_bytes u.parent) o
+pub at_the_place : (ts : List TypeName) (t : Name) (k : ℕ) (o : Option TypeName) → place_of t (map type_name ts) ≡ Some k → slice_get ts k ≡ o → parent_of t (map parent_view ts) ≡ option_map (λ (u : TypeName). string_bytes u.parent.value) o
 at_the_place ts t k o is at =
     parent_by_place ts t
-    ∙ ap (λ (p : Option ℕ). p >>= λ i. option_map (λ (u : TypeName). string_bytes u.parent) (slice_get ts i)) is
-    ∙ ap (option_map (λ (u : TypeName). string_bytes u.parent)) at
+    ∙ ap (λ (p : Option ℕ). p >>= λ i. option_map (λ (u : TypeName). string_bytes u.parent.value) (slice_get ts i)) is
+    ∙ ap (option_map (λ (u : TypeName). string_bytes u.parent.value)) at
 
 pub slice_at : (ts : List TypeName) (k : ℕ) (d : TypeName) → k < length ts → d ≡ get_or ts k d → slice_get ts k ≡ Some d
 slice_at [] k d lt is = absurd (omega arith)

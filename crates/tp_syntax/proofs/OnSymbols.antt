@@ -34,10 +34,10 @@ scope_Empty = search (rules, the_lemmas)
 
 -- ---- what is found by a name
 
-pub types_of_found : (n : Name) (ds : List Typed) → types_of n (map typed_view ds) ≡ option_map (λ (d : Typed). map string_bytes d.types.items) (item_of (λ (d : Typed). string_bytes d.name) n ds)
+pub types_of_found : (n : Name) (ds : List Typed) → types_of n (map typed_view ds) ≡ option_map (λ (d : Typed). map string_bytes d.types.value.items) (item_of (λ (d : Typed). string_bytes d.name) n ds)
 types_of_found n [] = refl
 types_of_found n (d ∷ ds) =
-    let view : Typed → List Name = λ e. map string_bytes e.types.items in
+    let view : Typed → List Name = λ e. map string_bytes e.types.value.items in
     let found = item_of (λ (e : Typed). string_bytes e.name) n ds in
     ap (cond (bytes_eq (string_bytes d.name) n) (Some (view d))) (types_of_found n ds) ∙ sym (seen view (bytes_eq (string_bytes d.name) n) d found)
 

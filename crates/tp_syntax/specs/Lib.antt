@@ -5,6 +5,7 @@ pub mod Lists
 pub mod Readings
 pub mod Symbols
 pub mod TypedLists
+pub mod VariableTables
 pub mod Tables
 pub mod Expressions
 pub mod Conditions

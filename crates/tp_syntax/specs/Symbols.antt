@@ -30,10 +30,10 @@ pub record Form : Type 0 where
   pub parameters : List Declared
 
 abbrev pub typed_view : Typed → Declared
-typed_view t = record { name = string_bytes t.name; types = map string_bytes t.types.items }
+typed_view t = record { name = string_bytes t.name; types = map string_bytes t.types.value.items }
 
 abbrev pub parent_view : TypeName → Parent
-parent_view t = record { name = string_bytes t.name; parent = string_bytes t.parent }
+parent_view t = record { name = string_bytes t.name; parent = string_bytes t.parent.value }
 
 abbrev pub types_view : Types → List Parent
 types_view t = map parent_view t

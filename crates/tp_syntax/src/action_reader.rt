@@ -28,6 +28,7 @@ use crate::term::name_of;
 use crate::timed::{TimedCond, TimedEffect, read_timed_cond, read_timed_effect};
 use crate::typed::parameters_at;
 use crate::types::Types;
+use crate::variables::Variables;
 use crate::words::Key;
 use std::alloc::Global;
 use tp_text::Tree;
@@ -152,7 +153,7 @@ fn body(
     alloc: Global,
     lasts: bool,
     symbols: &Symbols,
-    parameters: &[Typed],
+    parameters: &Variables,
     fields: &[Field],
     at: u32,
 ) -> Result<Body, SyntaxFault>
@@ -186,10 +187,11 @@ pub fn read_action(
     let name = name_of(alloc, word.text, at)?;
     let fields = read_fields(alloc, lasts, rest, at)?;
     let parameters = parameters(alloc, &symbols.types, &fields)?;
-    let body = body(alloc, lasts, symbols, &parameters, &fields, at)?;
+    let known = Variables::new(alloc, parameters)?;
+    let body = body(alloc, lasts, symbols, &known, &fields, at)?;
     Ok(Action {
         name,
-        parameters,
+        parameters: known.into_items(),
         body,
     })
 }

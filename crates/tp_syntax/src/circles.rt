@@ -26,7 +26,7 @@ pub fn parent_of<'a>(
     let Some(declared) = types.get(*place) else {
         return None;
     };
-    Some(&declared.parent)
+    Some(declared.parent.as_ref())
 }
 
 // Whether a type is below `object`, in as many steps at the most as there are types.

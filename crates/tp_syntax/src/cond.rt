@@ -16,6 +16,7 @@ use crate::fault::{LeftOutPart, SyntaxFault};
 use crate::symbols::{Scope, Symbols, Typed, argument_known, atom_in};
 use crate::term::{Atom, Term, is_name, is_variable, terms_of};
 use crate::typed::{parameters_at, place};
+use crate::variables::Variables;
 use crate::words::{Comparison, Head, Kind, head_of};
 use std::alloc::Global;
 use tp_text::{Token, Tree};
@@ -310,9 +311,10 @@ fn read_bound(
     if !more.is_empty() {
         return Err(SyntaxFault::Shape(at));
     }
-    let wider = Scope::Inner(&vars, &*scope);
+    let known = Variables::new(alloc, vars)?;
+    let wider = Scope::Inner(&known, &*scope);
     let inner = read_cond(alloc, tree, symbols, &wider)?;
-    bound(alloc, head, vars, inner)
+    bound(alloc, head, known.into_items(), inner)
 }
 
 /// The condition that a tree spells.

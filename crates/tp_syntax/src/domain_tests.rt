@@ -1,7 +1,7 @@
 //! Tests of domains.
 
 use crate::{Body, Cond, Domain, Joined, LeftOutPart, SyntaxFault, read_domain};
-use std::alloc::Global;
+use std::alloc::{AllocError, Global};
 use std::str::from_utf8;
 use std::test::Fail;
 use tp_text::TextFault;
@@ -103,7 +103,7 @@ fn sections_are_kept_in_order(rt: HostRuntime) -> Result<(), Fail> {
     for (constant, (name, kind)) in domain.constants.iter().zip(constants.iter()) {
         assert_eq!(rt; constant.name.as_str(), *name);
         assert_eq!(rt; constant.types.len(), 1);
-        assert_eq!(rt; constant.types[0].as_str(), *kind);
+        assert_eq!(rt; constant.type_names()[0].as_str(), *kind);
     }
     let words = [":a", ":b"];
     assert_eq!(rt; domain.requirements.len(), words.len());
@@ -223,6 +223,47 @@ fn types_must_fit(rt: HostRuntime) -> Result<(), Fail> {
             refusal(alloc, text.as_str()),
             Some(SyntaxFault::Types(place)),
             "in {marked}"
+        );
+    }
+    Ok(())
+}
+
+// An action of ten parameters, the last of them of another type, with this effect.
+fn ten_parameters(alloc: Global, effect: &str) -> Result<String, AllocError> {
+    let mut text = String::from_str(
+        alloc,
+        "(define (domain d) (:types t u) (:predicates (p ?x - t))",
+    )?;
+    text.push_str(" (:action n :parameters (?a ?b ?c ?d ?e ?f ?g ?h ?i - u ?j - t) :effect ")?;
+    text.push_str(effect)?;
+    text.push_str("))")?;
+    Ok(text)
+}
+
+#[test]
+fn many_variables_are_found(rt: HostRuntime) -> Result<(), Fail> {
+    let alloc = rt.alloc();
+    for effect in [
+        "(p ?j)",
+        "(forall (?a ?b - t) (p ?b))",
+        "(forall (?i - t) (and (p ?i) (p ?j)))",
+    ] {
+        let text = ten_parameters(alloc, effect)?;
+        assert_eq!(rt; refusal(alloc, text.as_str()), None, "in {effect}");
+    }
+    Ok(())
+}
+
+#[test]
+fn many_variables_keep_their_types(rt: HostRuntime) -> Result<(), Fail> {
+    let alloc = rt.alloc();
+    for marked in ["^(p ?a)", "^(p ?i)", "(forall (?j - u) ^(p ?j))"] {
+        let marked = ten_parameters(alloc, marked)?;
+        let (place, text) = unmarked(alloc, marked.as_str())?;
+        assert_eq!(rt;
+            refusal(alloc, text.as_str()),
+            Some(SyntaxFault::Types(place)),
+            "in {text}"
         );
     }
     Ok(())

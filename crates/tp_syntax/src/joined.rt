@@ -12,6 +12,7 @@ ghost use Rattle.tp_syntax.specs.Gives.{Gives};
 use crate::fault::SyntaxFault;
 use crate::symbols::{Scope, Symbols, Typed};
 use crate::typed::parameters_at;
+use crate::variables::Variables;
 use crate::words::{Joint, joint_of};
 use std::alloc::Global;
 use tp_text::{Token, Tree};
@@ -87,9 +88,10 @@ fn read_bound<P: Part>(
     if !more.is_empty() {
         return Err(SyntaxFault::Shape(at));
     }
-    let wider = Scope::Inner(&vars, &*scope);
+    let known = Variables::new(alloc, vars)?;
+    let wider = Scope::Inner(&known, &*scope);
     let inner = read_joined(alloc, tree, symbols, duration, &wider)?;
-    Ok(Joined::Forall(vars, Box::new(alloc, inner)?))
+    Ok(Joined::Forall(known.into_items(), Box::new(alloc, inner)?))
 }
 
 /// The parts that a tree spells.

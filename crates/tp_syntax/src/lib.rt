@@ -33,6 +33,7 @@ mod timed;
 mod type_reader;
 mod typed;
 mod types;
+mod variables;
 mod words;
 
 pub use action::{Action, Body};

@@ -27,7 +27,8 @@ impl<'a, T: Named> Model for Lookup<'a, T> {
     ghost invariant = { λ l. IsTableIfAny l.places (map T.named l.items.now) };
 }
 
-fn first_named<'a, T: Named>(items: &'a [T], name: &str) -> Option<&'a T>
+/// The first item of a name, by a walk.
+pub fn first_named<'a, T: Named>(items: &'a [T], name: &str) -> Option<&'a T>
     ensures { option_map (λ t. t.now) result ≡ item_of T.named name.now items.now }
 {
     for item in items {

@@ -70,7 +70,7 @@ fn print_item<W: Sink>(writer: &mut W, item: &Typed) -> Result<(), Failed>
 {
     put(writer, item.name.as_bytes())?;
     put(writer, b" - ")?;
-    print_types(writer, &item.types)
+    print_types(writer, item.type_names())
 }
 
 // A typed list, each item after a space.

@@ -6,6 +6,7 @@ use crate::{
     Atom, Comparison, Cond, Domain, Expr, Initial, LeftOutPart, SyntaxFault, Term, read_problem,
 };
 use std::alloc::{AllocError, Global};
+use std::rc::Rc;
 use std::str::from_utf8;
 use std::test::Fail;
 use tp_text::TextFault;
@@ -14,6 +15,7 @@ fn typed(alloc: Global, name: &str, kind: &str) -> Result<Typed, AllocError> {
     let mut types = Vec::new(alloc);
     types.push(String::from_str(alloc, kind)?)?;
     let name = String::from_str(alloc, name)?;
+    let types = Rc::new(alloc, types)?;
     Ok(Typed { name, types })
 }
 
@@ -45,7 +47,7 @@ fn fuses(alloc: Global) -> Result<Domain, AllocError> {
     let mut domain = empty(alloc, "match")?;
     for kind in ["match", "fuse"] {
         let name = String::from_str(alloc, kind)?;
-        let parent = String::from_str(alloc, "object")?;
+        let parent = Rc::new(alloc, String::from_str(alloc, "object")?)?;
         domain.types.push(TypeName { name, parent })?;
     }
     domain.constants.push(typed(alloc, "spare", "fuse")?)?;

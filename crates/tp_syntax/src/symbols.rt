@@ -12,14 +12,25 @@ use crate::table::Named;
 use crate::term::{Atom, Term, name_of, terms_of};
 use crate::typed::place;
 use crate::types::{Types, types_fit};
+use crate::variables::Variables;
 use std::alloc::Global;
+use std::rc::Rc;
 use tp_text::{Token, Tree};
 
-/// A name with its types: an object or parameter is of one of them.
+/// A name with its types: an object or parameter is of one of them. Items that were given their types together share them.
 #[derive(Debug, PartialEq, Drop)]
 pub struct Typed {
     pub name: String,
-    pub types: Vec<String>,
+    pub types: Rc<Vec<String>>,
+}
+
+impl Typed {
+    /// The names of its types.
+    pub fn type_names(&self) -> &[String]
+        ensures { result.now ≡ self.now.types.value.items }
+    {
+        self.types.as_slice()
+    }
 }
 
 /// A predicate or function with its parameters.
@@ -49,25 +60,23 @@ impl Named for Signature {
 #[derive(Clone, Copy)]
 pub enum Scope<'a> {
     Empty,
-    Inner(&'a [Typed], &'a Scope<'a>),
-}
-
-pub fn types_of<'a>(name: &str, declared: &'a [Typed]) -> Option<&'a [String]>
-    ensures { option_map (λ ts. map string_bytes ts.now) result ≡ types_of name.now (map typed_view declared.now) }
-{
-    for typed in declared {
-        if typed.name.as_str() == name {
-            return Some(typed.types.as_slice());
-        }
-    }
-    None
+    Inner(&'a Variables, &'a Scope<'a>),
 }
 
 fn types_found<'a>(name: &str, declared: &'a Lookup<Typed>) -> Option<&'a [String]>
     ensures { option_map (λ ts. map string_bytes ts.now) result ≡ types_of name.now (map typed_view declared.now) }
 {
     match declared.find(name) {
-        Some(typed) => Some(typed.types.as_slice()),
+        Some(typed) => Some(typed.type_names()),
+        None => None,
+    }
+}
+
+fn types_among<'a>(name: &str, vars: &'a Variables) -> Option<&'a [String]>
+    ensures { option_map (λ ts. map string_bytes ts.now) result ≡ types_of name.now (map typed_view vars.now) }
+{
+    match vars.find(name) {
+        Some(typed) => Some(typed.type_names()),
         None => None,
     }
 }
@@ -77,7 +86,7 @@ pub fn variable_types<'a>(name: &str, scope: &'a Scope) -> Option<&'a [String]>
 {
     match scope {
         Scope::Empty => None,
-        Scope::Inner(vars, outer) => match types_of(name, vars) {
+        Scope::Inner(vars, outer) => match types_among(name, vars) {
             Some(types) => Some(types),
             None => variable_types(name, outer),
         },
@@ -144,7 +153,7 @@ fn arguments_fit(symbols: &Symbols, scope: &Scope, arguments: &[Term], parameter
         let [parameter, others @ ..] = open else {
             return false;
         };
-        if !argument_fits(symbols, scope, argument, &parameter.types) {
+        if !argument_fits(symbols, scope, argument, parameter.type_names()) {
             return false;
         }
         left = more;

@@ -18,6 +18,7 @@ use crate::types::TypeName;
 use crate::words::Items;
 use indexmap::IndexSet;
 use std::alloc::{AllocError, Global};
+use std::rc::Rc;
 use tp_text::Tree;
 
 // The type that is named first, or `object`.
@@ -30,11 +31,28 @@ fn above(alloc: Global, types: &[String]) -> Result<String, AllocError>
     }
 }
 
-fn type_below(alloc: Global, item: &Typed) -> Result<TypeName, AllocError>
+// A name, shared with the type before where that is below the same.
+fn shared(alloc: Global, name: String, before: Option<&TypeName>) -> Result<Rc<String>, AllocError>
+    ensures { IfOk result (λ s. string_bytes s.value ≡ string_bytes name) }
+{
+    if let Some(declared) = before {
+        if declared.parent.as_str() == name.as_str() {
+            return declared.parent.clone();
+        }
+    }
+    Ok(Rc::new(alloc, name)?)
+}
+
+fn type_below(
+    alloc: Global,
+    item: &Typed,
+    before: Option<&TypeName>,
+) -> Result<TypeName, AllocError>
     ensures { IfOk result (λ t. parent_view t ≡ type_below (typed_view item.now)) }
 {
     let name = item.name.clone()?;
-    let parent = above(alloc, &item.types)?;
+    let parent = above(alloc, item.type_names())?;
+    let parent = shared(alloc, parent, before)?;
     Ok(TypeName { name, parent })
 }
 
@@ -43,7 +61,8 @@ fn types_below(alloc: Global, items: &[Typed]) -> Result<Vec<TypeName>, AllocErr
 {
     let mut types = Vec::new(alloc);
     for item in items {
-        types.push(type_below(alloc, item)?)?;
+        let declared = type_below(alloc, item, types.last())?;
+        types.push(declared)?;
     }
     Ok(types)
 }
@@ -96,7 +115,7 @@ fn below_object(alloc: Global, name: &str) -> Result<TypeName, AllocError>
     ensures { IfOk result (λ t. parent_view t ≡ record { name = name.now; parent = object }) }
 {
     let name = String::from_str(alloc, name)?;
-    let parent = String::from_str(alloc, "object")?;
+    let parent = Rc::new(alloc, String::from_str(alloc, "object")?)?;
     Ok(TypeName { name, parent })
 }
 

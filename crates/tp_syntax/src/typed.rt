@@ -18,6 +18,7 @@ use crate::term::{name_of, variable_of};
 use crate::types::{Types, are_types, is_type};
 use crate::words::{Items, is_word};
 use std::alloc::{AllocError, Global};
+use std::rc::Rc;
 use tp_text::Tree;
 
 /// Where a tree begins.
@@ -136,28 +137,19 @@ fn object_type(alloc: Global) -> Result<Vec<String>, AllocError>
     Ok(types)
 }
 
-fn copied(alloc: Global, names: &[String]) -> Result<Vec<String>, AllocError>
-    ensures { IfOk result (λ v. map string_bytes v.items ≡ map string_bytes names.now) }
-{
-    let mut copies = Vec::new(alloc);
-    for name in names {
-        copies.push(name.clone()?)?;
-    }
-    Ok(copies)
-}
-
-// Gives each of some names these types.
+// Gives each of some names these types, which they share.
 fn give(
     alloc: Global,
     done: &mut Vec<Typed>,
     names: &[String],
-    types: &[String],
+    types: Vec<String>,
 ) -> Result<(), AllocError>
-    ensures { OnOk result (map typed_view done.new.items ≡ map typed_view done.old.items ++ map (given (map string_bytes types.now)) (map string_bytes names.now)) }
+    ensures { OnOk result (map typed_view done.new.items ≡ map typed_view done.old.items ++ map (given (map string_bytes types.items)) (map string_bytes names.now)) }
 {
+    let shared = Rc::new(alloc, types)?;
     for name in names {
         let name = name.clone()?;
-        let types = copied(alloc, types)?;
+        let types = shared.clone()?;
         done.push(Typed { name, types })?;
     }
     Ok(())
@@ -184,7 +176,7 @@ pub fn typed_list(
                 return Err(SyntaxFault::Shape(at));
             };
             let types = type_at(alloc, items, kind, at)?;
-            give(alloc, &mut done, &waiting, &types)?;
+            give(alloc, &mut done, &waiting, types)?;
             waiting = Vec::new(alloc);
             rest = more;
         } else {
@@ -193,7 +185,7 @@ pub fn typed_list(
         }
     }
     let object = object_type(alloc)?;
-    give(alloc, &mut done, &waiting, &object)?;
+    give(alloc, &mut done, &waiting, object)?;
     Ok(done)
 }
 
@@ -201,7 +193,7 @@ fn have_types(types: &Types, items: &[Typed]) -> bool
     ensures { result ≡ list_all (λ d. list_all (is_type (types_view types.now)) d.types) (map typed_view items.now) }
 {
     for item in items {
-        if !are_types(types, &item.types) {
+        if !are_types(types, item.type_names()) {
             return false;
         }
     }
@@ -286,10 +278,10 @@ fn undeclared(types: &Types, names: &[String], tree: Option<&Tree>, at: u32) -> 
 // What is wrong with items of which one has a type that is not declared.
 fn undeclared_type(types: &Types, items: &[Typed], trees: &[Tree], at: u32) -> SyntaxFault {
     for (number, item) in items.iter().enumerate() {
-        if !are_types(types, &item.types) {
+        if !are_types(types, item.type_names()) {
             return SyntaxFault::Unknown(undeclared(
                 types,
-                &item.types,
+                item.type_names(),
                 type_tree(trees, number),
                 at,
             ));

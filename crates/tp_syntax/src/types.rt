@@ -11,12 +11,13 @@ use crate::table::{Named, places};
 use indexmap::IndexMap;
 use std::alloc::{AllocError, Global};
 use std::marker::Model;
+use std::rc::Rc;
 
-/// A type and the one above it.
+/// A type and the one above it, whose name types that were declared together share.
 #[derive(Debug, PartialEq, Drop)]
 pub struct TypeName {
     pub name: String,
-    pub parent: String,
+    pub parent: Rc<String>,
 }
 
 impl Named for TypeName {
@@ -103,7 +104,7 @@ fn parent_among<'a>(name: &str, types: &'a [TypeName]) -> Option<&'a String>
 {
     for declared in types {
         if declared.name.as_str() == name {
-            return Some(&declared.parent);
+            return Some(declared.parent.as_ref());
         }
     }
     None

@@ -5,12 +5,13 @@ use crate::jumps::jumps;
 use crate::table::places;
 use crate::types::{TypeName, Types, types_fit};
 use std::alloc::{AllocError, Global};
+use std::rc::Rc;
 use std::test::Fail;
 
 fn below(alloc: Global, name: &str, parent: &str) -> Result<TypeName, AllocError> {
     Ok(TypeName {
         name: String::from_str(alloc, name)?,
-        parent: String::from_str(alloc, parent)?,
+        parent: Rc::new(alloc, String::from_str(alloc, parent)?)?,
     })
 }
 

@@ -6,10 +6,10 @@ use Rattle.tp_ground.proofs.universe.count_fitting.Goals.{then-types_fit, else-t
 
 pub loop-object-preserved : goal.loop-object-preserved
 loop-object-preserved c =
-    let fits : c.types_fit.result ≡ types_fit (types_view c.args.types.now) (map string_bytes c.object-item.result.types.items) (map string_bytes c.args.variable.now.types.items) =
+    let fits : c.types_fit.result ≡ types_fit (types_view c.args.types.now) (map string_bytes c.object-item.result.types.value.items) (map string_bytes c.args.variable.now.types.value.items) =
     c.types_fit.ensures
-    ∙ ap (λ ts. types_fit (types_view c.args.types.now) (map string_bytes ts) (map string_bytes c.deref-in-loop-object.result.now)) c.deref.ensures.value
-    ∙ ap (λ ts. types_fit (types_view c.args.types.now) (map string_bytes c.object-item.result.types.items) (map string_bytes ts)) c.deref-in-loop-object.ensures.value in
+    ∙ ap (λ ts. types_fit (types_view c.args.types.now) (map string_bytes ts) (map string_bytes c.type_names-in-loop-object.result.now)) c.type_names.ensures
+    ∙ ap (λ ts. types_fit (types_view c.args.types.now) (map string_bytes c.object-item.result.types.value.items) (map string_bytes ts)) c.type_names-in-loop-object.ensures in
     let step = fit_step (types_view c.args.types.now) (typed_view c.args.variable.now) c.args.objects.now c.loop-object.object-index c.object-item.result c.types_fit.result c.loop-object-test.true c.object-item.is fits in
     elim c.if-types_fit.branch [
       | then-types_fit w ↦ let one = ap length (rw w.if-types_fit.true at step) in record { counted = omega (arith, one, c.loop-object.invariant.counted, w.count-is); few = omega (arith, c.loop-object.invariant.few, w.count-is) }

@@ -131,7 +131,7 @@ read_bound-returns-in_err-inner t c =
     let ys = take (length c.args.args.now - 1) (drop 1 c.args.args.now) in
     let read = bound_first σ scope h c.args.args.now c.list-item.result c.in-len1-up.len_at_least c.list-item.is ∙ ap (λ o. o >>= λ (ws : List Declared). option_map (bound h ws) (only_condition σ (ws ++ scope) (shapes ys))) c.in_ok-vars.ensures in
     let p = err_from_is_err_and c.from_residual-in_err-inner.result c.from_residual-in_err-inner.ensures.1 in
-    let same = only_one σ (vs ++ scope) ys c.tree-item.result c.in-len1-up-body.len_at_least c.tree-item.is (eqb-true (length (take (length ys - 1) (drop 1 ys))) 0 (sym c.is_empty.ensures ∙ c.if-not-is_empty.false)) ∙ ap (λ (ds : List Declared). condition_of σ ds (shape_of c.tree-item.result)) (sym (scope_Inner _ _ ∙ ap (λ (ts : List Typed). map typed_view ts ++ scope) c.deref.ensures.value)) in
+    let same = only_one σ (vs ++ scope) ys c.tree-item.result c.in-len1-up-body.len_at_least c.tree-item.is (eqb-true (length (take (length ys - 1) (drop 1 ys))) 0 (sym c.is_empty.ensures ∙ c.if-not-is_empty.false)) ∙ ap (λ (ds : List Declared). condition_of σ ds (shape_of c.tree-item.result)) (sym (scope_Inner _ _ ∙ ap (λ (ts : List Typed). map typed_view ts ++ scope) c.in_ok-known.ensures)) in
     rw (p.1, p.2) (subst (λ o. Fails c.in_err-inner.field-0.0 o) (sym (read ∙ ap (option_map (bound h vs)) same)) (fails_map (bound h vs) c.in_err-inner.field-0.0 _ c.in_err-inner.ensures))
 
 pub read_bound-returns : goal.read_bound-returns
@@ -142,4 +142,5 @@ read_bound-returns t c =
     let vs : List Declared = map typed_view c.in_ok-vars.vars.items in
     let ys = take (length c.args.args.now - 1) (drop 1 c.args.args.now) in
     let read = bound_first σ scope h c.args.args.now c.list-item.result c.in-len1-up.len_at_least c.list-item.is ∙ ap (λ o. o >>= λ (ws : List Declared). option_map (bound h ws) (only_condition σ (ws ++ scope) (shapes ys))) c.in_ok-vars.ensures in
-    gives_same cond_view c.bound.result _ _ (read ∙ ap (option_map (bound h vs)) (only_one σ (vs ++ scope) ys c.tree-item.result c.in-len1-up-body.len_at_least c.tree-item.is (eqb-true (length (take (length ys - 1) (drop 1 ys))) 0 (sym c.is_empty.ensures ∙ c.if-not-is_empty.false)) ∙ ap (λ (ds : List Declared). condition_of σ ds (shape_of c.tree-item.result)) (sym (scope_Inner _ _ ∙ ap (λ (ts : List Typed). map typed_view ts ++ scope) c.deref.ensures.value)) ∙ c.in_ok-inner.ensures)) c.bound.ensures
+    gives_same cond_view c.bound.result _ _ (read ∙ ap (option_map (bound h vs)) (only_one σ (vs ++ scope) ys c.tree-item.result c.in-len1-up-body.len_at_least c.tree-item.is (eqb-true (length (take (length ys - 1) (drop 1 ys))) 0 (sym c.is_empty.ensures ∙ c.if-not-is_empty.false)) ∙ ap (λ (ds : List Declared). condition_of σ ds (shape_of c.tree-item.result)) (sym (scope_Inner _ _ ∙ ap (λ (ts : List Typed). map typed_view ts ++ scope) c.in_ok-known.ensures)) ∙ c.in_ok-inner.ensures)
+    ∙ ap (λ (ts : List Typed). Some (bound h (map typed_view ts) (cond_view c.in_ok-inner.inner))) (sym (c.into_items.ensures ∙ c.in_ok-known.ensures))) c.bound.ensures

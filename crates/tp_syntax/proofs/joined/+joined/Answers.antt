@@ -151,7 +151,7 @@ read_bound-returns-in_err-inner g t c =
     let ys = take (length c.args.args.now - 1) (drop 1 c.args.args.now) in
     let first = bound_first σ.types read scope c.args.args.now c.list-item.result c.in-len1-up.len_at_least c.list-item.is ∙ ap (λ o. o >>= λ (ws : List Declared). option_map (for_each ws) (only_part σ.types read (ws ++ scope) (shapes ys))) c.in_ok-vars.ensures in
     let p = err_from_is_err_and c.from_residual-in_err-inner.result c.from_residual-in_err-inner.ensures.1 in
-    let same = only_one σ.types read (vs ++ scope) ys c.tree-item.result c.in-len1-up-body.len_at_least c.tree-item.is (eqb-true (length (take (length ys - 1) (drop 1 ys))) 0 (sym c.is_empty.ensures ∙ c.if-not-is_empty.false)) ∙ ap (λ (ds : List Declared). joined_of σ.types read ds (shape_of c.tree-item.result)) (sym (scope_Inner _ _ ∙ ap (λ (ts : List Typed). map typed_view ts ++ scope) c.deref.ensures.value)) in
+    let same = only_one σ.types read (vs ++ scope) ys c.tree-item.result c.in-len1-up-body.len_at_least c.tree-item.is (eqb-true (length (take (length ys - 1) (drop 1 ys))) 0 (sym c.is_empty.ensures ∙ c.if-not-is_empty.false)) ∙ ap (λ (ds : List Declared). joined_of σ.types read ds (shape_of c.tree-item.result)) (sym (scope_Inner _ _ ∙ ap (λ (ts : List Typed). map typed_view ts ++ scope) c.in_ok-known.ensures)) in
     rw (p.1, p.2) (fails_same c.in_err-inner.field-0.0 _ _ (first ∙ ap (option_map (for_each vs)) same) (fails_map (for_each vs) c.in_err-inner.field-0.0 _ c.in_err-inner.ensures))
 
 pub read_bound-returns : goal.read_bound-returns
@@ -162,6 +162,6 @@ read_bound-returns g t c =
     let vs : List Declared = map typed_view c.in_ok-vars.vars.items in
     let ys = take (length c.args.args.now - 1) (drop 1 c.args.args.now) in
     let first = bound_first σ.types read scope c.args.args.now c.list-item.result c.in-len1-up.len_at_least c.list-item.is ∙ ap (λ o. o >>= λ (ws : List Declared). option_map (for_each ws) (only_part σ.types read (ws ++ scope) (shapes ys))) c.in_ok-vars.ensures in
-    let same = only_one σ.types read (vs ++ scope) ys c.tree-item.result c.in-len1-up-body.len_at_least c.tree-item.is (eqb-true (length (take (length ys - 1) (drop 1 ys))) 0 (sym c.is_empty.ensures ∙ c.if-not-is_empty.false)) ∙ ap (λ (ds : List Declared). joined_of σ.types read ds (shape_of c.tree-item.result)) (sym (scope_Inner _ _ ∙ ap (λ (ts : List Typed). map typed_view ts ++ scope) c.deref.ensures.value)) in
+    let same = only_one σ.types read (vs ++ scope) ys c.tree-item.result c.in-len1-up-body.len_at_least c.tree-item.is (eqb-true (length (take (length ys - 1) (drop 1 ys))) 0 (sym c.is_empty.ensures ∙ c.if-not-is_empty.false)) ∙ ap (λ (ds : List Declared). joined_of σ.types read ds (shape_of c.tree-item.result)) (sym (scope_Inner _ _ ∙ ap (λ (ts : List Typed). map typed_view ts ++ scope) c.in_ok-known.ensures)) in
     first ∙ ap (option_map (for_each vs)) (same ∙ c.in_ok-inner.ensures)
-    ∙ ap Some (sym (forall_view g.P.Part.seen c.in_ok-vars.vars c.in_ok-new.field-0 ∙ ap (for_each vs) (ap (joined_view g.P.Part.seen) c.in_ok-new.ensures.ok)))
+    ∙ ap Some (sym (forall_view g.P.Part.seen c.into_items.result c.in_ok-new.field-0 ∙ ap (λ (ts : List Typed). for_each (map typed_view ts) (joined_view g.P.Part.seen c.in_ok-new.field-0.value)) (c.into_items.ensures ∙ c.in_ok-known.ensures) ∙ ap (for_each vs) (ap (joined_view g.P.Part.seen) c.in_ok-new.ensures.ok)))

@@ -5,11 +5,11 @@ use Rattle.tp_syntax.proofs.symbols.types_found.Goals as goal
 
 pub returns-in-Some : goal.returns-in-Some
 returns-in-Some c =
-    ap (λ ts. Some (map string_bytes ts)) c.as_slice.ensures.value
-    ∙ ap (option_map (λ (d : Typed). map string_bytes d.types.items)) c.in-Some.ensures
+    ap (λ ts. Some (map string_bytes ts)) c.type_names.ensures
+    ∙ ap (option_map (λ (d : Typed). map string_bytes d.types.value.items)) c.in-Some.ensures
     ∙ sym (types_of_found c.args.name.now c.args.declared.now)
 
 pub returns-in-None : goal.returns-in-None
 returns-in-None c =
-    ap (option_map (λ (d : Typed). map string_bytes d.types.items)) c.in-None.ensures
+    ap (option_map (λ (d : Typed). map string_bytes d.types.value.items)) c.in-None.ensures
     ∙ sym (types_of_found c.args.name.now c.args.declared.now)

@@ -1,4 +1,4 @@
-use Rattle.std.proofs.Common.{List, ◌+◌, ◌∷◌, ◌++◌, map, drop, ap, sym, ◌∙◌}
+use Rattle.std.proofs.Common.{List, String, Global, string_bytes, ◌+◌, ◌∷◌, ◌++◌, map, drop, ap, sym, ◌∙◌}
 use Rattle.std.proofs.lemmas.List.{at_drop_more}
 use Rattle.tp_syntax.specs.Symbols.{parent_view}
 use Rattle.tp_syntax.specs.Domains.{mentioned}
@@ -15,7 +15,7 @@ loop-declared-init c =
 pub loop-declared-preserved : goal.loop-declared-preserved
 loop-declared-preserved c =
     let left = λ (ts : List TypeName). to_mention c.loop-declared.done.items c.loop-declared.known.keys (map parent_view ts) in
-    c.in_ok-mention.ensures (parent_view c.declared-item.result) (map parent_view (drop (c.loop-declared.declared-index + 1) c.args.types.now)) (sym c.as_str.ensures.value)
+    c.in_ok-mention.ensures (parent_view c.declared-item.result) (map parent_view (drop (c.loop-declared.declared-index + 1) c.args.types.now)) (sym (c.as_str.ensures.value ∙ ap (λ (s : String Global). string_bytes s) c.deref.ensures))
     ∙ ap (λ (t : TypeName). left (t ∷ drop (c.loop-declared.declared-index + 1) c.args.types.now)) c.declared-item.is
     ∙ sym (at_drop_more left c.args.types.now c.loop-declared.declared-index c.declared-item.result c.loop-declared-test.true)
     ∙ c.loop-declared.invariant

@@ -21,10 +21,10 @@ returns-in_err-types c =
 
 pub runs-preserved-then-is_dash : goal.runs-preserved-then-is_dash
 runs-preserved-then-is_dash c =
-    dash_goes_on c.args.items _ _ c.runs.rest.now c.first-item.result _ c.in-len1-up.len_at_least c.first-item.is c.runs.invariant _ c.kind-item.result (map string_bytes c.deref-then-is_dash.result.now) _ _ refl
+    dash_goes_on c.args.items _ _ c.runs.rest.now c.first-item.result _ c.in-len1-up.len_at_least c.first-item.is c.runs.invariant _ c.kind-item.result (map string_bytes c.in_ok-types.types.items) _ _ refl
     (sym c.is_dash.ensures ∙ c.if-is_dash.true) (some_names c.args.items c.runs.waiting c.if-is_empty.ensures) c.in-len1-up-others.len_at_least c.kind-item.is
-    (c.in_ok-types.ensures ∙ ap (λ (ss : List (String Global)). Some (map string_bytes ss)) (sym c.deref-then-is_dash.ensures.value))
-    (c.in_ok-give.ensures ∙ ap (λ (ss : List (String Global)). map typed_view c.runs.done.items ++ map (given (map string_bytes c.deref-then-is_dash.result.now)) (map string_bytes ss)) c.deref.ensures.value)
+    c.in_ok-types.ensures
+    (c.in_ok-give.ensures ∙ ap (λ (ss : List (String Global)). map typed_view c.runs.done.items ++ map (given (map string_bytes c.in_ok-types.types.items)) (map string_bytes ss)) c.deref.ensures.value)
     (ap (map string_bytes) c.new-waiting-then-is_dash.ensures.items)
 
 pub returns-in_err-item_at : goal.returns-in_err-item_at
@@ -40,5 +40,5 @@ runs-preserved c =
 pub returns : goal.returns
 returns c = over c.args.items _ _ _ c.runs.rest.now _ c.in_default.len_below c.runs.invariant (
     c.in_ok-give-2.ensures
-    ∙ ap (λ (ss : List (String Global)). map typed_view c.runs.done.items ++ map (given (map string_bytes c.deref-3.result.now)) (map string_bytes ss)) c.deref-2.ensures.value
-    ∙ ap (λ (ts : List (List ℕ)). map typed_view c.runs.done.items ++ map (given ts) (map string_bytes c.runs.waiting.items)) (ap (λ (ss : List (String Global)). map string_bytes ss) c.deref-3.ensures.value ∙ c.in_ok-object.ensures))
+    ∙ ap (λ (ss : List (String Global)). map typed_view c.runs.done.items ++ map (given (map string_bytes c.in_ok-object.object.items)) (map string_bytes ss)) c.deref-2.ensures.value
+    ∙ ap (λ (ts : List (List ℕ)). map typed_view c.runs.done.items ++ map (given ts) (map string_bytes c.runs.waiting.items)) c.in_ok-object.ensures)
