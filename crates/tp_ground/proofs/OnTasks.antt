@@ -159,6 +159,15 @@ module _ (limits : RunLimits) (scale : Scale) (d : Domain) (p : Problem) (none n
   pub few_here : length (ground_actions (universe_of d p) d.actions) ≤ 65_535 → length l.actions.items ≤ 65_535
   few_here h = let e : length l.actions.items ≡ length (ground_actions (universe_of d p) d.actions) = how_many in omega arith
 
+  most_atoms : later.most ≡ limits.atoms
+  most_atoms = most ∙ lowered.notes.most ∙ ap (λ (t : Tables). t.most) empty
+
+  pub few_atoms : length later.atoms ≤ later.most → length (firsts (mentioned d p).atoms) ≤ limits.atoms
+  few_atoms h = let e : length later.atoms ≡ length (firsts (mentioned d p).atoms) = ap length all_atoms in let m = most_atoms in omega arith
+
+  pub few_fluents : length later.fluents ≤ later.most → length (firsts (mentioned d p).fluents) ≤ limits.atoms
+  few_fluents h = let e : length later.fluents ≡ length (firsts (mentioned d p).fluents) = ap length all_fluents in let m = most_atoms in omega arith
+
   pub fits_here : list_all (body_fits (length later.atoms) (length later.fluents)) l.actions.items ≡ true
   fits_here = bodies_fit (universe_of d p) later l.actions.items d.actions bodies
 

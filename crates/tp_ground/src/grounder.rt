@@ -7,6 +7,7 @@ ghost use Rattle.tp_syntax.specs.CondViews.{cond_view};
 ghost use Rattle.tp_syntax.specs.DomainViews.{initial_view, action_view, domain_view, problem_view};
 ghost use Rattle.tp_ground.specs.Great.{has_great_number};
 ghost use Rattle.tp_ground.specs.Fits.{body_fits};
+ghost use Rattle.tp_ground.specs.Words.{firsts};
 ghost use Rattle.tp_ground.specs.Views.{universe_view};
 ghost use Rattle.tp_ground.specs.Lowered.{Lowers};
 ghost use Rattle.tp_ground.specs.Grounding.{universe_of, ground_actions, mentioned, IsTask, HasNoTask};
@@ -134,7 +135,9 @@ fn task_of(
     requires few { length lowered.actions.items ≤ 65_535 }
     requires fits { list_all (body_fits (length numbering.atoms) (length numbering.fluents)) lowered.actions.items ≡ true }
     requires all_named { length numbering.actions ≡ length lowered.actions.items }
-    ensures { IfOk result (IsMade limits scale numbering lowered) }
+    ensures made { IfOk result (IsMade limits scale numbering lowered) }
+    ensures atoms { OnOk result (length numbering.atoms ≤ numbering.most) }
+    ensures fluents { OnOk result (length numbering.fluents ≤ numbering.most) }
 {
     let LoweredTask {
         entries,
@@ -164,6 +167,8 @@ pub fn ground(
     scale: Scale,
 ) -> Result<Task, GroundFault>
     ensures ok { IfOk result (IsTask limits.now scale (domain_view domain.now) (problem_view problem.now)) }
+    ensures atoms { OnOk result (length (firsts (mentioned (domain_view domain.now) (problem_view problem.now)).atoms) ≤ limits.now.atoms) }
+    ensures fluents { OnOk result (length (firsts (mentioned (domain_view domain.now) (problem_view problem.now)).fluents) ≤ limits.now.atoms) }
     ensures numbers { OnOk result (has_great_number (domain_view domain.now) (problem_view problem.now) ≡ false) }
     ensures objects { OnOk result (nat_lt 65_535 (length ((domain_view domain.now).constants ++ (problem_view problem.now).objects)) ≡ false) }
     ensures few { OnOk result (length (ground_actions (universe_of (domain_view domain.now) (problem_view problem.now)) (domain_view domain.now).actions) ≤ limits.now.actions) }

@@ -107,14 +107,16 @@ impl Numbering {
 
     /// How many atoms there are.
     pub fn atom_count(&self) -> usize
-        ensures { result ≡ length self.now.atoms }
+        ensures count { result ≡ length self.now.atoms }
+        ensures few { result ≤ self.now.most }
     {
         self.atoms.len()
     }
 
     /// How many fluents there are.
     pub fn fluent_count(&self) -> usize
-        ensures { result ≡ length self.now.fluents }
+        ensures count { result ≡ length self.now.fluents }
+        ensures few { result ≤ self.now.most }
     {
         self.fluents.len()
     }

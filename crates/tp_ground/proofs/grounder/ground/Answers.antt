@@ -1,6 +1,6 @@
 use Rattle.std.proofs.Common.{ℕ, [], ap, ◌∙◌, arith}
 use Rattle.tp_syntax.specs.DomainViews.{domain_view, problem_view}
-use Rattle.tp_ground.proofs.OnTasks.{names_then, few_here, fits_here, named_here, is_task}
+use Rattle.tp_ground.proofs.OnTasks.{names_then, few_here, few_atoms, few_fluents, fits_here, named_here, is_task}
 use Rattle.tp_ground.proofs.grounder.ground.Goals as goal
 
 pub task_of-requires-clause-few : goal.task_of-requires-clause-few
@@ -23,4 +23,14 @@ task_of-requires-clause-all_named c =
 pub returns-clause-ok : goal.returns-clause-ok
 returns-clause-ok c =
     is_task c.args.limits.now c.args.scale (domain_view c.args.domain.now) (problem_view c.args.problem.now) _ _ _ _ (c.new-numbering.ensures ∙ ap (λ (n : ℕ). record { atoms = []; fluents = []; actions = []; most = n }) c.atoms.ensures) c.in_ok-lowered.ensures
-    (names_then _ _ _ _ _ _ c.in_ok-universe.ensures c.deref.ensures.value c.in_ok-name_actions.ensures.actions) c.name_actions.ensures.atoms c.name_actions.ensures.fluents c.name_actions.ensures.most _ c.in_ok-task_of.ensures
+    (names_then _ _ _ _ _ _ c.in_ok-universe.ensures c.deref.ensures.value c.in_ok-name_actions.ensures.actions) c.name_actions.ensures.atoms c.name_actions.ensures.fluents c.name_actions.ensures.most _ c.in_ok-task_of.ensures.made
+
+pub returns-clause-atoms : goal.returns-clause-atoms
+returns-clause-atoms c =
+    few_atoms c.args.limits.now c.args.scale (domain_view c.args.domain.now) (problem_view c.args.problem.now) _ _ _ _ (c.new-numbering.ensures ∙ ap (λ (n : ℕ). record { atoms = []; fluents = []; actions = []; most = n }) c.atoms.ensures) c.in_ok-lowered.ensures
+    (names_then _ _ _ _ _ _ c.in_ok-universe.ensures c.deref.ensures.value c.in_ok-name_actions.ensures.actions) c.name_actions.ensures.atoms c.name_actions.ensures.fluents c.name_actions.ensures.most c.in_ok-task_of.ensures.atoms
+
+pub returns-clause-fluents : goal.returns-clause-fluents
+returns-clause-fluents c =
+    few_fluents c.args.limits.now c.args.scale (domain_view c.args.domain.now) (problem_view c.args.problem.now) _ _ _ _ (c.new-numbering.ensures ∙ ap (λ (n : ℕ). record { atoms = []; fluents = []; actions = []; most = n }) c.atoms.ensures) c.in_ok-lowered.ensures
+    (names_then _ _ _ _ _ _ c.in_ok-universe.ensures c.deref.ensures.value c.in_ok-name_actions.ensures.actions) c.name_actions.ensures.atoms c.name_actions.ensures.fluents c.name_actions.ensures.most c.in_ok-task_of.ensures.fluents
