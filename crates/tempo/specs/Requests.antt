@@ -38,3 +38,7 @@ abbrev pub AsksFor : List Text → Request → Type 0
 AsksFor words (Help text) = IsAmong DisplayHelp (fault_of tempo_app words)
 AsksFor words Bare = (fault_of tempo_app words ≡ []) × AsksBy (subcommand_of tempo_app words) Bare
 AsksFor words (Check w) = (fault_of tempo_app words ≡ []) × AsksBy (subcommand_of tempo_app words) (Check w)
+
+-- the words ask for no network of bounds: for something else, or for nothing
+abbrev pub AsksForNoNetwork : List Text → Type 0
+AsksForNoNetwork words = AsksFor words Bare → ⊥
