@@ -1,12 +1,15 @@
 -- Bindings, and how many there are.
-use Rattle.std.proofs.Common.{◌≡◌, ℕ, zero, suc, ◌+◌, ◌-◌, ◌*◌, ◌<◌, ◌≤◌, Bool, true, false, cond, List, [], ◌∷◌, ◌++◌, map, filter, length, get_or, take, drop, nat_lt, string_bytes, refl, sym, ap, ◌∙◌, arith, length-append, length-drop, append_assoc}
-use Rattle.std.specs.List.{flat_map}
+use Rattle.std.proofs.Common.{◌≡◌, ℕ, zero, suc, ◌+◌, ◌*◌, ◌<◌, ◌≤◌, Bool, true, false, ◌||◌, cond, List, [], ◌∷◌, ◌++◌, map, filter, length, get_or, drop, nat_lt, nat_eq, string_bytes, refl, sym, ap, ap₂, ◌∙◌, arith, length-append, append_assoc, append-nil}
+use Rattle.std.proofs.Math.Dec.{eqb-suc-zero}
+use Rattle.std.proofs.Math.Nat.{mul_comm, mul_assoc}
+use Rattle.std.proofs.lemmas.Grind.{flat_map-append}
+use Rattle.std.specs.List.{flat_map, list_any}
 use Rattle.std.proofs.lemmas.Bool.{ltb-true, ltb-false}
-use Rattle.std.proofs.lemmas.List.{map-append, length-map, at_drop_more, take_all}
+use Rattle.std.proofs.lemmas.List.{map-append, length-map, at_drop_more}
 use Rattle.std.proofs.lemmas.List.Elements.{filter-append}
 use Rattle.tp_syntax.specs.Symbols.{Name, Declared, Parent, typed_view, types_fit}
 use Rattle.tp_syntax.specs.declared.symbols.Typed.{Typed}
-use Rattle.tp_ground.specs.Bindings.{Universe, fitting, choices, bindings}
+use Rattle.tp_ground.specs.Bindings.{Universe, fitting, choices, has_no_choice, extended, bindings}
 
 pub fitting-append : (types : List Parent) (xs ys : List Declared) (p : Declared) → fitting types (xs ++ ys) p ≡ fitting types xs p ++ fitting types ys p
 fitting-append types xs ys p =
@@ -44,28 +47,97 @@ kept_on front now rest total is so_far = ap (λ xs. front ++ xs) (sym is) ∙ so
 pub length-bindings : (u : Universe) (p : Declared) (ps : List Declared) → length (bindings u (p ∷ ps)) ≡ length (choices u p) * length (bindings u ps)
 length-bindings u p ps = length-under (choices u p) (bindings u ps)
 
-split : {Y : Type 0} (F : List Typed → Y) (xs : List Typed) (x : Typed) → 1 ≤ length xs → x ≡ get_or xs 0 x → F xs ≡ F (x ∷ drop 1 xs)
-split F xs x le item = at_drop_more F xs 0 x (omega arith) ∙ ap (λ y. F (y ∷ drop 1 xs)) (sym item)
+split : {Y : Type 0} (F : List Typed → Y) (xs : List Typed) (i : ℕ) (x : Typed) → i < length xs → x ≡ get_or xs i x → F (drop i xs) ≡ F (x ∷ drop (i + 1) xs)
+split F xs i x lt item = at_drop_more F xs i x lt ∙ ap (λ y. F (y ∷ drop (i + 1) xs)) (sym item)
 
-others : (xs : List Typed) → take (length xs - 1) (drop 1 xs) ≡ drop 1 xs
-others xs = let n : length (drop 1 xs) ≡ length xs - 1 = length-drop 1 xs in take_all (length xs - 1) (drop 1 xs) (omega arith)
+-- ---- bindings made longer by a name
 
--- the bindings of a first variable and those of the others
-pub bound_all : (u : Universe) (variables : List Typed) (x : Typed) (names : List Name) (rests : List (List Name)) → 1 ≤ length variables → x ≡ get_or variables 0 x → names ≡ choices u (typed_view x) → rests ≡ bindings u (map typed_view (take (length variables - 1) (drop 1 variables))) → flat_map (λ n. map (λ ns. n ∷ ns) rests) names ≡ bindings u (map typed_view variables)
-bound_all u variables x names rests le item first after =
-    ap (λ ns. flat_map (λ n. map (λ more. n ∷ more) rests) ns) first
-    ∙ ap (λ bs. flat_map (λ n. map (λ more. n ∷ more) bs) (choices u (typed_view x))) (after ∙ ap (λ vs. bindings u (map typed_view vs)) (others variables))
-    ∙ sym (split (λ vs. bindings u (map typed_view vs)) variables x le item)
+-- each of some bindings with each of these behind it
+abbrev pub completed : List (List Name) → List (List Name) → List (List Name)
+completed all rests = flat_map (λ b. map (λ r. b ++ r) rests) all
 
-pub count_all : (u : Universe) (variables : List Typed) (x : Typed) → 1 ≤ length variables → x ≡ get_or variables 0 x → length (bindings u (map typed_view variables)) ≡ length (choices u (typed_view x)) * length (bindings u (map typed_view (take (length variables - 1) (drop 1 variables))))
-count_all u variables x le item =
-    split (λ vs. length (bindings u (map typed_view vs))) variables x le item ∙ length-bindings u (typed_view x) (map typed_view (drop 1 variables))
-    ∙ ap (λ vs. length (choices u (typed_view x)) * length (bindings u (map typed_view vs))) (sym (others variables))
+moved : (b : List Name) (n : Name) (rests : List (List Name)) → map (λ r. b ++ r) (map (λ r. n ∷ r) rests) ≡ map (λ r. (b ++ n ∷ []) ++ r) rests
+moved b n [] = refl
+moved b n (r ∷ rs) = ap₂ (λ (x : List Name) (xs : List (List Name)). x ∷ xs) (sym (append_assoc b (n ∷ []) r)) (moved b n rs)
 
--- where one factor is too large and the other is not 0
-pub beyond : (most h r n : ℕ) → n ≡ h * r → (h ≡ 0 → ⊥) → most < r → most < n
-beyond most zero r n e some lt = absurd (some refl)
-beyond most (suc h) r n e some lt = omega arith
+one_longer : (b names : List Name) (rests : List (List Name)) → map (λ r. b ++ r) (flat_map (λ n. map (λ r. n ∷ r) rests) names) ≡ completed (map (λ n. b ++ n ∷ []) names) rests
+one_longer b [] rests = refl
+one_longer b (n ∷ ns) rests =
+    map-append (λ r. b ++ r) (map (λ r. n ∷ r) rests) (flat_map (λ m. map (λ r. m ∷ r) rests) ns)
+    ∙ ap₂ (λ (xs ys : List (List Name)). xs ++ ys) (moved b n rests) (one_longer b ns rests)
+
+pub all_longer : (all : List (List Name)) (names : List Name) (rests : List (List Name)) → completed all (flat_map (λ n. map (λ r. n ∷ r) rests) names) ≡ completed (extended all names) rests
+all_longer [] names rests = refl
+all_longer (b ∷ bs) names rests =
+    ap₂ (λ (xs ys : List (List Name)). xs ++ ys) (one_longer b names rests) (all_longer bs names rests)
+    ∙ sym (flat_map-append (λ c. map (λ r. c ++ r) rests) (map (λ n. b ++ n ∷ []) names) (extended bs names))
+
+unchanged : (rests : List (List Name)) → map (λ r. [] ++ r) rests ≡ rests
+unchanged [] = refl
+unchanged (r ∷ rs) = ap (λ (xs : List (List Name)). r ∷ xs) (unchanged rs)
+
+pub completed_first : (rests : List (List Name)) → completed ([] ∷ []) rests ≡ rests
+completed_first rests = append-nil (map (λ r. [] ++ r) rests) ∙ unchanged rests
+
+pub completed_last : (all : List (List Name)) → completed all ([] ∷ []) ≡ all
+completed_last [] = refl
+completed_last (b ∷ bs) = ap₂ (λ (x : List Name) (xs : List (List Name)). x ∷ xs) (append-nil b) (completed_last bs)
+
+-- a variable whose objects were put behind all bindings
+pub bound_on : (u : Universe) (variables : List Typed) (i : ℕ) (x : Typed) (all : List (List Name)) (names : List Name) (total : List (List Name)) → i < length variables → x ≡ get_or variables i x → names ≡ choices u (typed_view x) → completed all (bindings u (map typed_view (drop i variables))) ≡ total → completed (extended all names) (bindings u (map typed_view (drop (i + 1) variables))) ≡ total
+bound_on u variables i x all names total lt item is so_far =
+    sym (all_longer all names (bindings u (map typed_view (drop (i + 1) variables))))
+    ∙ ap (λ ns. completed all (flat_map (λ n. map (λ r. n ∷ r) (bindings u (map typed_view (drop (i + 1) variables)))) ns)) is
+    ∙ sym (split (λ vs. completed all (bindings u (map typed_view vs))) variables i x lt item)
+    ∙ so_far
+
+-- ---- variables that may stand for no object
+
+none_under : (names : List Name) → flat_map (λ n. map (λ r. n ∷ r) []) names ≡ []
+none_under [] = refl
+none_under (n ∷ ns) = none_under ns
+
+without : (names : List Name) (rests : List (List Name)) (b : Bool) → (nat_eq (length names) 0 || b) ≡ true → (b ≡ true → rests ≡ []) → flat_map (λ n. map (λ r. n ∷ r) rests) names ≡ []
+without [] rests b h f = refl
+without (n ∷ ns) rests b h f = ap (λ (rs : List (List Name)). flat_map (λ m. map (λ r. m ∷ r) rs) (n ∷ ns)) (f (ap (λ a. a || b) (sym (eqb-suc-zero (length ns))) ∙ h)) ∙ none_under (n ∷ ns)
+
+pub no_bindings : (u : Universe) (ps : List Declared) → list_any (has_no_choice u) ps ≡ true → bindings u ps ≡ []
+no_bindings u [] h = cc
+no_bindings u (p ∷ ps) h = without (choices u p) (bindings u ps) (list_any (has_no_choice u) ps) h (no_bindings u ps)
+
+with_some : (names : List Name) (rests : List (List Name)) (b : Bool) → (nat_eq (length names) 0 || b) ≡ false → (b ≡ false → 1 ≤ length rests) → 1 ≤ length (flat_map (λ n. map (λ r. n ∷ r) rests) names)
+with_some [] rests b h f = cc
+with_some (n ∷ ns) rests b h f =
+    let le = f (ap (λ a. a || b) (sym (eqb-suc-zero (length ns))) ∙ h) in
+    let whole = length-append (map (λ r. n ∷ r) rests) (flat_map (λ m. map (λ r. m ∷ r) rests) ns) in
+    let front : length (map (λ r. n ∷ r) rests) ≡ length rests = length-map rests (λ r. n ∷ r) in
+    omega (arith, le, whole, front)
+
+pub some_bindings : (u : Universe) (ps : List Declared) → list_any (has_no_choice u) ps ≡ false → 1 ≤ length (bindings u ps)
+some_bindings u [] h = omega arith
+some_bindings u (p ∷ ps) h = with_some (choices u p) (bindings u ps) (list_any (has_no_choice u) ps) h (some_bindings u ps)
+
+second : (a b : Bool) → (a || b) ≡ false → b ≡ false
+second true b h = cc
+second false b h = h
+
+pub choices_on : (u : Universe) (variables : List Typed) (i : ℕ) (x : Typed) → i < length variables → x ≡ get_or variables i x → list_any (has_no_choice u) (map typed_view (drop i variables)) ≡ false → list_any (has_no_choice u) (map typed_view (drop (i + 1) variables)) ≡ false
+choices_on u variables i x lt item h =
+    second (has_no_choice u (typed_view x)) _ (sym (split (λ vs. list_any (has_no_choice u) (map typed_view vs)) variables i x lt item) ∙ h)
+
+-- ---- how many
+
+pub counted_on : (u : Universe) (variables : List Typed) (i : ℕ) (x : Typed) (here count total : ℕ) → i < length variables → x ≡ get_or variables i x → here ≡ length (choices u (typed_view x)) → length (bindings u (map typed_view (drop i variables))) * count ≡ total → length (bindings u (map typed_view (drop (i + 1) variables))) * (here * count) ≡ total
+counted_on u variables i x here count total lt item is so_far =
+    let left : ℕ = length (bindings u (map typed_view (drop (i + 1) variables))) in
+    sym (mul_assoc left here count)
+    ∙ ap (λ k. k * count) (mul_comm left here ∙ ap (λ k. k * left) is ∙ sym (length-bindings u (typed_view x) (map typed_view (drop (i + 1) variables))))
+    ∙ ap (λ k. k * count) (sym (split (λ vs. length (bindings u (map typed_view vs))) variables i x lt item))
+    ∙ so_far
+
+pub too_many : (most left product total : ℕ) → left * product ≡ total → 1 ≤ left → most < product → most < total
+too_many most zero product total e le lt = absurd (omega (arith, le))
+too_many most (suc left) product total e le lt = omega (arith, e, lt)
 
 pub past : (most p n : ℕ) → n ≡ p → (p < 18446744073709551616 → ⊥) → most < 4294967296 → most < n
 past most p n e big lt = by (nat_lt most n) refl

@@ -22,6 +22,9 @@ pub enum Numbers<'a> {
     Next(usize, &'a Numbers<'a>),
 }
 
+// The most arguments whose numbers are kept in a chain, one call of `find_by_numbers` each.
+const MOST_CHAINED: usize = 64;
+
 // Whether a label has exactly these numbers.
 fn is_label(numbers: &Numbers, label: &[usize]) -> bool
     ensures { result ≡ pointwise nat_eq (numbers_view numbers.now) label.now }
@@ -47,8 +50,8 @@ fn position_of(numbers: &Numbers, labels: &[Label]) -> Option<usize>
     None
 }
 
-/// Where the first label of these words stands: a name, the objects that are left, and those whose numbers are known.
-pub fn find(
+// Where the first label of these words stands: a name, the objects that are left, and those whose numbers are known.
+fn find_by_numbers(
     names: &IndexSet<String>,
     labels: &[Label],
     name: &str,
@@ -65,7 +68,75 @@ pub fn find(
         return position_of(&Numbers::Next(number, &*known), labels);
     };
     let number = names.get_index_of(*last)?;
-    find(names, labels, name, others, &Numbers::Next(number, &*known))
+    find_by_numbers(names, labels, name, others, &Numbers::Next(number, &*known))
+}
+
+// Whether a number's name is this word.
+fn is_name(names: &IndexSet<String>, number: usize, word: &str) -> bool
+    ensures { result ≡ bytes_eq word.now (slice_index_or (map string_bytes names.now.keys) number []) }
+{
+    match names.get_index(number) {
+        Some(name) => word == name.as_str(),
+        None => word.is_empty(),
+    }
+}
+
+// Whether numbers' names are these words.
+fn are_names(names: &IndexSet<String>, numbers: &[usize], words: &[&str]) -> bool
+    ensures { result ≡ same_words (map (λ w. w.now) words.now) (named (map string_bytes names.now.keys) numbers.now) }
+{
+    let mut left = words;
+    let mut open = numbers;
+    'pairs: while let [word, more @ ..] = left {
+        let [number, others @ ..] = open else {
+            return false;
+        };
+        if !is_name(names, *number, *word) {
+            return false;
+        }
+        left = more;
+        open = others;
+    }
+    open.is_empty()
+}
+
+// Whether a label has exactly these words: a name and its objects.
+fn is_called(names: &IndexSet<String>, label: &[usize], name: &str, args: &[&str]) -> bool
+    ensures { result ≡ same_words (name.now ∷ map (λ w. w.now) args.now) (named (map string_bytes names.now.keys) label.now) }
+{
+    match label {
+        [first, rest @ ..] => is_name(names, *first, name) && are_names(names, rest, args),
+        [] => false,
+    }
+}
+
+// Where the first label of these words stands: a name and its objects.
+fn find_by_names(
+    names: &IndexSet<String>,
+    labels: &[Label],
+    name: &str,
+    args: &[&str],
+) -> Option<usize>
+    ensures { result ≡ position_from (same_words (name.now ∷ map (λ w. w.now) args.now)) 0 (map (named (map string_bytes names.now.keys)) (map (λ l. l.items) labels.now)) }
+{
+    for (place, label) in labels.iter().enumerate() {
+        if is_called(names, label.as_slice(), name, args) {
+            return Some(place);
+        }
+    }
+    None
+}
+
+/// Where the first label of these words stands: a name and its objects.
+pub fn find(names: &IndexSet<String>, labels: &[Label], name: &str, args: &[&str]) -> Option<usize>
+    requires distinct { IsDistinct bytes_eq (map string_bytes names.now.keys) }
+    requires named { AllByRecursion (AreNamed (length (map string_bytes names.now.keys))) (map (λ l. l.items) labels.now) }
+    ensures { result ≡ position_from (same_words (name.now ∷ map (λ w. w.now) args.now)) 0 (map (named (map string_bytes names.now.keys)) (map (λ l. l.items) labels.now)) }
+{
+    if args.len() > MOST_CHAINED {
+        return find_by_names(names, labels, name, args);
+    }
+    find_by_numbers(names, labels, name, args, &Numbers::Done)
 }
 
 /// The label at a number, empty past the end.

@@ -8,7 +8,7 @@ ghost use Rattle.tp_ground.specs.Labels.{named, with_label, Grows, AreNamed};
 ghost use Rattle.tp_ground.specs.Tables.{words_at, IsFull, CannotNumber};
 
 use crate::fault::{GroundFault, TooManyKind};
-use crate::lookup::{Label, Numbers, find, label_at, text_of, word_of};
+use crate::lookup::{Label, find, label_at, text_of, word_of};
 use indexmap::IndexSet;
 use smallvec::SmallVec;
 use std::alloc::{AllocError, Global};
@@ -166,7 +166,7 @@ impl Numbering {
     pub fn find_action(&self, name: &str, args: &[&str]) -> Option<usize>
         ensures { result ≡ position_from (same_words (name.now ∷ map (λ a. a.now) args.now)) 0 self.now.actions }
     {
-        find(&self.names, &self.actions, name, args, &Numbers::Done)
+        find(&self.names, &self.actions, name, args)
     }
 
     /// An atom as text.

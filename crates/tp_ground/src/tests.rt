@@ -70,6 +70,59 @@ fn the_first_variable_varies_slowest(rt: HostRuntime) -> Result<(), Fail> {
     Ok(())
 }
 
+// So many variables of type `object`.
+fn variables(alloc: Global, count: usize) -> Result<Vec<Typed>, AllocError> {
+    let mut all = Vec::new(alloc);
+    for _ in 0..count {
+        all.push(typed(alloc, "?x", "object")?)?;
+    }
+    Ok(all)
+}
+
+#[test]
+fn many_variables_take_no_deep_stack(rt: HostRuntime) -> Result<(), Fail> {
+    let alloc = rt.alloc();
+    let types = [type_below(alloc, "van", "object")?];
+    let constants = [typed(alloc, "v", "van")?];
+    let universe = Universe {
+        types: Types::listed(&types),
+        constants: &constants,
+        objects: &[],
+    };
+    let variables = variables(alloc, 100_000)?;
+    assert_eq!(rt; count_bindings(&universe, &variables, 1), Some(1));
+    let all = bindings(alloc, &universe, &variables)?;
+    assert_eq!(rt; all.len(), 1);
+    assert_eq!(rt; name_at(&all, 0, 99_999), Some("v"));
+    Ok(())
+}
+
+// A name, and then an object so many times.
+fn call(alloc: Global, name: &'static str, count: usize) -> Result<Vec<&'static str>, AllocError> {
+    let mut words = Vec::new(alloc);
+    words.push(name)?;
+    for _ in 0..count {
+        words.push("o")?;
+    }
+    Ok(words)
+}
+
+#[test]
+fn long_calls_are_found(rt: HostRuntime) -> Result<(), Fail> {
+    let alloc = rt.alloc();
+    let mut numbering = Numbering::new(alloc, 1);
+    numbering.push_action(&["go", "o"])?;
+    let long = call(alloc, "go", 100)?;
+    numbering.push_action(&long)?;
+    let longer = call(alloc, "go", 100_000)?;
+    let long_args = long.get(1..).unwrap_or(&[]);
+    let longer_args = longer.get(1..).unwrap_or(&[]);
+    assert_eq!(rt; numbering.find_action("go", &["o"]), Some(0));
+    assert_eq!(rt; numbering.find_action("go", long_args), Some(1));
+    assert_eq!(rt; numbering.find_action("go", longer_args), None);
+    Ok(())
+}
+
 #[test]
 fn an_inner_variable_hides_an_outer_one(rt: HostRuntime) -> Result<(), Fail> {
     let alloc = rt.alloc();

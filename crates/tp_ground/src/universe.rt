@@ -1,9 +1,9 @@
 //! The objects, and what variables may stand for.
 
 ghost use Rattle.std.specs.Prelude.{◌≡◌, ◌≤◌, ◌<◌, ◌++◌, ◌∷◌, [], map, length, filter, IfOk, OnOk, MatchOption, string_bytes};
-ghost use Rattle.std.specs.List.{flat_map};
+ghost use Rattle.std.specs.List.{list_any};
 ghost use Rattle.tp_syntax.specs.Symbols.{typed_view, types_view, types_fit};
-ghost use Rattle.tp_ground.specs.Bindings.{fitting, choices, bindings};
+ghost use Rattle.tp_ground.specs.Bindings.{fitting, choices, has_no_choice, extended, bindings};
 ghost use Rattle.tp_ground.specs.Views.{universe_view};
 
 use std::alloc::{AllocError, Global};
@@ -76,56 +76,56 @@ pub fn with_first<'a>(
     Ok(names)
 }
 
-// A name before each of some bindings.
-fn push_under<'a>(
+/// The names of a binding, and then another.
+fn with_last<'a>(
+    alloc: Global,
+    binding: &[&'a str],
+    name: &'a str,
+) -> Result<Vec<&'a str>, AllocError>
+    ensures { IfOk result (λ v. map (λ o. o.now) v.items ≡ map (λ o. o.now) binding.now ++ name.now ∷ []) }
+{
+    let mut names = Vec::new(alloc);
+    names.extend_from_slice(binding)?;
+    names.push(name)?;
+    Ok(names)
+}
+
+// A binding with each of these names behind it, after other bindings.
+fn push_with<'a>(
     alloc: Global,
     all: &mut Vec<Vec<&'a str>>,
-    name: &'a str,
-    rests: &[Vec<&'a str>],
+    binding: Vec<&'a str>,
+    names: &[&'a str],
 ) -> Result<(), AllocError>
-    ensures { OnOk result (map (λ b. map (λ o. o.now) b.items) all.new.items ≡ map (λ b. map (λ o. o.now) b.items) all.old.items ++ map (λ ns. name.now ∷ ns) (map (λ b. map (λ o. o.now) b.items) rests.now)) }
+    ensures { OnOk result (map (λ b. map (λ o. o.now) b.items) all.new.items ≡ map (λ b. map (λ o. o.now) b.items) all.old.items ++ map (λ n. map (λ o. o.now) binding.entry.items ++ n ∷ []) (map (λ o. o.now) names.now)) }
 {
-    for rest in rests {
-        let names = with_first(alloc, name, rest)?;
-        all.push(names)?;
+    let [others @ .., last] = names else {
+        return Ok(());
+    };
+    for name in others {
+        let longer = with_last(alloc, &binding, *name)?;
+        all.push(longer)?;
     }
+    // No copy for the last: with one name each, many variables take no more memory than their names.
+    let mut longer = binding;
+    longer.push(*last)?;
+    all.push(longer)?;
     Ok(())
 }
 
-// Each of these names before each of some bindings: the name varies slowest.
-fn each_under<'a>(
+// Each of some bindings with each of these names behind it: the name varies fastest.
+fn each_with<'a>(
     alloc: Global,
+    bindings: Vec<Vec<&'a str>>,
     names: &[&'a str],
-    rests: &[Vec<&'a str>],
 ) -> Result<Vec<Vec<&'a str>>, AllocError>
-    ensures { IfOk result (λ v. map (λ b. map (λ o. o.now) b.items) v.items ≡ flat_map (λ n. map (λ ns. n ∷ ns) (map (λ b. map (λ o. o.now) b.items) rests.now)) (map (λ o. o.now) names.now)) }
+    ensures { IfOk result (λ v. map (λ b. map (λ o. o.now) b.items) v.items ≡ extended (map (λ b. map (λ o. o.now) b.items) bindings.entry.items) (map (λ o. o.now) names.now)) }
 {
     let mut all = Vec::new(alloc);
-    for name in names {
-        push_under(alloc, &mut all, name, rests)?;
+    for binding in bindings {
+        push_with(alloc, &mut all, binding, names)?;
     }
     Ok(all)
-}
-
-/// All type-correct bindings of variables, the first of which varies slowest.
-pub fn bindings<'a>(
-    alloc: Global,
-    universe: &Universe<'a>,
-    variables: &[Typed],
-) -> Result<Vec<Vec<&'a str>>, AllocError>
-    ensures { IfOk result (λ v. map (λ b. map (λ o. o.now) b.items) v.items ≡ bindings (universe_view universe.now) (map typed_view variables.now)) }
-{
-    let [first, others @ ..] = variables else {
-        let mut none = Vec::new(alloc);
-        none.push(Vec::new(alloc))?;
-        return Ok(none);
-    };
-    let names = choices(alloc, universe, first)?;
-    if names.is_empty() {
-        return Ok(Vec::new(alloc));
-    }
-    let rests = bindings(alloc, universe, others)?;
-    each_under(alloc, &names, &rests)
 }
 
 // How many objects a variable may stand for.
@@ -136,22 +136,62 @@ fn count_choices(universe: &Universe, variable: &Typed) -> usize
         + count_fitting(&universe.types, universe.objects, variable)
 }
 
-// How many bindings variables have, if there are no more than so many.
+fn has_no_choice(universe: &Universe, variable: &Typed) -> bool
+    ensures { result ≡ has_no_choice (universe_view universe.now) (typed_view variable.now) }
+{
+    count_choices(universe, variable) == 0
+}
+
+// Whether one of the variables may stand for no object.
+fn one_has_no_choice(universe: &Universe, variables: &[Typed]) -> bool
+    ensures { result ≡ list_any (has_no_choice (universe_view universe.now)) (map typed_view variables.now) }
+{
+    for variable in variables {
+        if has_no_choice(universe, variable) {
+            return true;
+        }
+    }
+    false
+}
+
+/// All type-correct bindings of variables, the first of which varies slowest.
+pub fn bindings<'a>(
+    alloc: Global,
+    universe: &Universe<'a>,
+    variables: &[Typed],
+) -> Result<Vec<Vec<&'a str>>, AllocError>
+    ensures { IfOk result (λ v. map (λ b. map (λ o. o.now) b.items) v.items ≡ bindings (universe_view universe.now) (map typed_view variables.now)) }
+{
+    let mut all = Vec::new(alloc);
+    if one_has_no_choice(universe, variables) {
+        return Ok(all);
+    }
+    all.push(Vec::new(alloc))?;
+    for variable in variables {
+        let names = choices(alloc, universe, variable)?;
+        all = each_with(alloc, all, &names)?;
+    }
+    Ok(all)
+}
+
+/// How many bindings variables have, if there are no more than so many.
 pub fn count_bindings(universe: &Universe, variables: &[Typed], most: u32) -> Option<u32>
     ensures { MatchOption result (most < length (bindings (universe_view universe.now) (map typed_view variables.now))) (λ n. (n ≡ length (bindings (universe_view universe.now) (map typed_view variables.now))) × (n ≤ most)) }
 {
-    let [first, others @ ..] = variables else {
-        return if most > 0 { Some(1) } else { None };
-    };
-    let here = count_choices(universe, first);
-    if here == 0 {
+    if one_has_no_choice(universe, variables) {
         return Some(0);
     }
-    let rest = count_bindings(universe, others, most)?;
-    let count = here.checked_mul(rest as usize)?;
-    if count <= most as usize {
-        Some(count as u32)
-    } else {
-        None
+    if most == 0 {
+        return None;
     }
+    let mut count = 1u32;
+    for variable in variables {
+        let here = count_choices(universe, variable);
+        let product = here.checked_mul(count as usize)?;
+        if product > most as usize {
+            return None;
+        }
+        count = product as u32;
+    }
+    Some(count)
 }

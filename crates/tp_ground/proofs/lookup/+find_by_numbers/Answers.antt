@@ -10,7 +10,7 @@ use Rattle.tp_ground.specs.NumberViews.{numbers_view}
 use Rattle.tp_ground.proofs.OnKeys.{list_any_map, position_map}
 use Rattle.tp_ground.proofs.OnLabels.{last_split}
 use Rattle.tp_ground.proofs.OnLookups.{no_position, no_last, found_first, last_known, numbers_Next}
-use Rattle.tp_ground.proofs.lookup.+find.Goals as goal
+use Rattle.tp_ground.proofs.lookup.+find_by_numbers.Goals as goal
 
 pub returns-in_err-number : goal.returns-in_err-number
 returns-in_err-number t c =
@@ -33,7 +33,7 @@ returns-in_err-number-2 t c =
 
 pub returns : goal.returns
 returns t c =
-    c.find.ensures
+    c.find_by_numbers.ensures
     ∙ ap (λ ks. position_from (same_words (c.args.name.now ∷ (map (λ (w : Bor (List ℕ)). w.now) (take (length c.args.left.now - 1) c.args.left.now) ++ named (map string_bytes c.args.names.now.keys) ks))) 0 (map (named (map string_bytes c.args.names.now.keys)) (map (λ (l : SmallVec ℕ). l.items) c.args.labels.now))) (numbers_Next c.in_ok-number-2.number _)
     ∙ ap (λ ws. position_from (same_words (c.args.name.now ∷ ws)) 0 (map (named (map string_bytes c.args.names.now.keys)) (map (λ (l : SmallVec ℕ). l.items) c.args.labels.now)))
     (last_known (map string_bytes c.args.names.now.keys) (map (λ (w : Bor (List ℕ)). w.now) c.args.left.now) _ _ c.in_ok-number-2.number (numbers_view c.args.known.now) (last_split (λ (w : Bor (List ℕ)). w.now) c.args.left.now _ c.in-len1-up.len_at_least) (position_map string_bytes (bytes_eq _) c.args.names.now.keys ∙ sym c.in_ok-number-2.ensures.index))
