@@ -1,4 +1,4 @@
-use Rattle.tp_device.proofs.tests.each_error_is_a_failure.Given as goal
+use Rattle.tp_device_tests.proofs.streams.each_error_is_a_failure.Given as goal
 
 abbrev pub ghosts-pulls : goal.ghosts-pulls
 ghosts-pulls g a = record { name = a.blank.name; parts = a.blank.parts }

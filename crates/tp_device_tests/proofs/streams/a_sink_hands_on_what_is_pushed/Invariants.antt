@@ -1,4 +1,4 @@
-use Rattle.tp_device.proofs.tests.a_sink_hands_on_what_is_pushed.Given as goal
+use Rattle.tp_device_tests.proofs.streams.a_sink_hands_on_what_is_pushed.Given as goal
 
 abbrev pub ghosts-pushes : goal.ghosts-pushes
 ghosts-pushes g a = record { name = a.blank.name; parts = a.blank.parts }
