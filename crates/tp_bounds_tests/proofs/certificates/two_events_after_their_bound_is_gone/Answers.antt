@@ -4,7 +4,7 @@ use Rattle.std.specs.Cmp.{nat_cmp_total}
 use Rattle.std.specs.FinMap.{get, empty, get-insert}
 use Rattle.tp_bounds.specs.declared.Point.TheVariants.{Event}
 use Rattle.tp_bounds.specs.Situation.{Situation}
-use Rattle.tp_bounds.proofs.tests.two_events_after_their_bound_is_gone.Goals as goal
+use Rattle.tp_bounds_tests.proofs.certificates.two_events_after_their_bound_is_gone.Goals as goal
 
 pub take-requires : goal.take-requires
 take-requires g c =

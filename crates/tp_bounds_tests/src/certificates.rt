@@ -3,11 +3,11 @@
 ghost use Rattle.std.specs.Prelude.{◌≡◌, IfOk, negsuc};
 ghost use Rattle.tp_bounds.specs.Changes.{fresh, with_bound};
 
-use crate::{
-    Bound, BoundId, Broken, Edge, Limits, Point, Reason, Setting, check_reason, check_schedule,
-};
 use std::alloc::{AllocError, Global};
 use std::test::Fail;
+use tp_bounds::{
+    Bound, BoundId, Broken, Edge, Point, Reason, Setting, check_reason, check_schedule,
+};
 
 /// Two events under a horizon of 10, the second at least 2 ticks after the first.
 fn two_apart(alloc: Global) -> Result<Setting, AllocError>
@@ -48,14 +48,37 @@ fn is_reason(alloc: Global, setting: &Setting, edges: &[Edge]) -> Result<bool, A
     Ok(check_reason(setting, &reason))
 }
 
+/// Whether the check says this of each of these lists of edges.
+fn each_is(
+    alloc: Global,
+    setting: &Setting,
+    lists: &[&[Edge]],
+    wanted: bool,
+) -> Result<bool, AllocError> {
+    for edges in lists {
+        if is_reason(alloc, setting, edges)? != wanted {
+            return Ok(false);
+        }
+    }
+    Ok(true)
+}
+
+fn keeps_its_distance(setting: &Setting) -> bool {
+    check_schedule(setting, &[0, 2]) == Ok(())
+        && check_schedule(setting, &[0, 1]) == Err(Broken::Bound(BoundId(0)))
+}
+
+/// Whether the first event is known to have happened at 0, and the second not before 3.
+fn keeps_the_past(setting: &Setting) -> bool {
+    check_schedule(setting, &[0, 2]) == Err(Broken::Event(1))
+        && check_schedule(setting, &[1, 3]) == Err(Broken::Event(0))
+        && check_schedule(setting, &[0]) == Err(Broken::Length)
+}
+
 #[test]
 fn two_events_keep_their_distance(rt: HostRuntime) -> Result<(), Fail> {
     let setting = two_apart(rt.alloc())?;
-    assert_eq!(rt; check_schedule(&setting, &[0, 2]), Ok(()));
-    assert_eq!(rt;
-        check_schedule(&setting, &[0, 1]),
-        Err(Broken::Bound(BoundId(0)))
-    );
+    assert!(rt; keeps_its_distance(&setting));
     Ok(())
 }
 
@@ -63,13 +86,10 @@ fn two_events_keep_their_distance(rt: HostRuntime) -> Result<(), Fail> {
 fn two_events_after_their_bound_is_gone(rt: HostRuntime) -> Result<(), Fail> {
     let mut setting = two_apart(rt.alloc())?;
     setting.take(BoundId(0));
-    assert_eq!(rt; check_schedule(&setting, &[0, 1]), Ok(()));
+    assert!(rt; check_schedule(&setting, &[0, 1]) == Ok(()));
     setting.fix(0, 0);
     setting.raise(3);
-    assert_eq!(rt; setting.floor(1), 3);
-    assert_eq!(rt; check_schedule(&setting, &[0, 2]), Err(Broken::Event(1)));
-    assert_eq!(rt; check_schedule(&setting, &[1, 3]), Err(Broken::Event(0)));
-    assert_eq!(rt; check_schedule(&setting, &[0]), Err(Broken::Length));
+    assert!(rt; setting.floor(1) == 3 && keeps_the_past(&setting));
     Ok(())
 }
 
@@ -79,32 +99,22 @@ fn two_events_each_before_the_other(rt: HostRuntime) -> Result<(), Fail> {
     let setting = before_each_other(alloc)?;
     let own = Edge::Own(BoundId(0));
     let other = Edge::Own(BoundId(1));
-    assert!(rt; is_reason(alloc, &setting, &[Edge::New, own])?);
-    assert!(rt; is_reason(alloc, &setting, &[own, Edge::New])?);
-    assert!(rt; !is_reason(alloc, &setting, &[])?);
-    assert!(rt; !is_reason(alloc, &setting, &[Edge::New])?);
-    assert!(rt; !is_reason(alloc, &setting, &[own])?);
-    assert!(rt; !is_reason(alloc, &setting, &[Edge::New, other])?);
-    assert!(rt; !is_reason(alloc, &setting, &[Edge::New, own, Edge::New, own])?);
-    assert_eq!(rt; check_schedule(&setting, &[5, 4]), Err(Broken::Proposed));
+    assert!(rt;
+        each_is(
+            alloc,
+            &setting,
+            &[&[Edge::New, own], &[own, Edge::New]],
+            true
+        )?
+    );
+    let no_reasons: [&[Edge]; 5] = [
+        &[],
+        &[Edge::New],
+        &[own],
+        &[Edge::New, other],
+        &[Edge::New, own, Edge::New, own],
+    ];
+    assert!(rt; each_is(alloc, &setting, &no_reasons, false)?);
+    assert!(rt; check_schedule(&setting, &[5, 4]) == Err(Broken::Proposed));
     Ok(())
-}
-
-#[test]
-fn limits_are_told(rt: HostRuntime) {
-    let limits = Limits::new(1, 2, 3, 4, 5, 6, 7);
-    assert_eq!(rt; (limits.events(), limits.bounds(), limits.ids()), (1, 2, 3));
-    assert_eq!(rt;
-        (
-            limits.horizon(),
-            limits.atoms(),
-            limits.actions(),
-            limits.expansions()
-        ),
-        (4, 5, 6, 7)
-    );
-    assert_eq!(rt;
-        Limits::greatest(9),
-        Limits::new(1_024, 65_535, 1_048_576, 9, 65_535, 65_535, 1_000_000)
-    );
 }
