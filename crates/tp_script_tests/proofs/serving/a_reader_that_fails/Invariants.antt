@@ -1,4 +1,4 @@
-use Rattle.tp_script.proofs.tests.a_session_with_bounds_of_an_event_with_itself.Given as goal
+use Rattle.tp_script_tests.proofs.serving.a_reader_that_fails.Given as goal
 
 abbrev pub ghosts-session-I-Ledger : goal.ghosts-session-I-Ledger
 ghosts-session-I-Ledger g a = record { name = a.reads.name; parts = a.reads.parts }
