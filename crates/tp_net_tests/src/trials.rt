@@ -2,8 +2,8 @@
 ghost use Rattle.std.specs.Prelude.{IsTrue};
 ghost use Rattle.tp_bounds.specs.Situation.{HasPoint, IsInRange};
 
-use crate::{Net, NetFault};
 use tp_bounds::{Bound, BoundId, Edge, Point};
+use tp_net::{Net, NetFault};
 
 /// A change of a network: a bound under an identifier, no bound there, a later moment, or an event at a moment.
 #[derive(Clone, Copy, Debug)]

@@ -2,8 +2,8 @@
 ghost use Rattle.std.specs.Prelude.{ℕ, ◌<◌};
 
 use crate::trials::{Answer, Change, ask, window};
-use crate::{BoxNet, Net, ScratchNet};
 use tp_bounds::{Bound, BoundId, Edge, Point};
+use tp_net::{BoxNet, Net, ScratchNet};
 
 /// A network as the tests keep it: at most three events, a horizon of at most 6, identifiers below 4.
 #[derive(Clone, Copy, Debug)]
