@@ -117,9 +117,9 @@ def dispatches(count, now):
     return [line for event in range(count) for line in (f"advance {now + event}", f"dispatch {event}")]
 
 
-def dense(count):
-    """The chain, and bounds that it leaves room for: so many in all."""
-    return chain() + loose(count - 2 * (EVENTS - 1))
+def dense(bounds, count):
+    """Those bounds of the chain, and others that it leaves room for: so many in all."""
+    return bounds + loose(count - len(bounds))
 
 
 def loose(count):
@@ -304,9 +304,10 @@ def main():
     if "--check" not in sys.argv:
         network(program)
     if "--full" in sys.argv:
-        whole_run(program, "chain", chain())
-        changes(program, "dense", dense(MOST_BOUNDS - 20), 5)
-        whole_run(program, "dense", dense(MOST_BOUNDS))
+        whole_run(program, "chain from its end", chain_from_its_end())
+        changes(program, "dense", dense(chain(), MOST_BOUNDS - 20), 5)
+        changes(program, "dense from its end", dense(chain_from_its_end(), MOST_BOUNDS - 20), 5)
+        whole_run(program, "dense from its end", dense(chain_from_its_end(), MOST_BOUNDS))
 
 
 if __name__ == "__main__":
