@@ -169,9 +169,25 @@ fn keeps_the_distance(setting: &Setting) -> bool {
         && check_schedule(setting, &[0, 1]) == Err(Broken::Bound(BoundId(0)))
 }
 
+/// Whether the bound that was copied is all that keeps the events apart.
+fn is_free_without_the_bound(executive: &Executive<ScratchNet>) -> bool {
+    if executive.net().bound(BoundId(0)).is_none() {
+        return false;
+    }
+    match executive.setting() {
+        Ok(mut setting) => {
+            setting.take(BoundId(0));
+            check_schedule(&setting, &[0, 1]) == Ok(())
+        }
+        Err(_) => false,
+    }
+}
+
 /// Whether the setting has the first event at 0, and the second waiting at 3.
 fn keeps_the_past(setting: &Setting) -> bool {
     check_schedule(setting, &[0, 2]) == Err(Broken::Event(1))
+        && check_schedule(setting, &[1, 3]) == Err(Broken::Event(0))
+        && check_schedule(setting, &[0]) == Err(Broken::Length)
         && check_schedule(setting, &[0, 3]) == Ok(())
 }
 
@@ -180,6 +196,7 @@ fn a_copied_setting_tells_schedules_from_others(rt: HostRuntime) -> Result<(), F
     let mut executive = start(rt.alloc(), Limits::greatest(10), 2, 10)?;
     assert!(rt; adds(&mut executive, Point::Event(1), Point::Event(0), -2, 0));
     assert!(rt; matches!(&executive.setting(), Ok(setting) if keeps_the_distance(setting)));
+    assert!(rt; is_free_without_the_bound(&executive));
     assert!(rt; executive.dispatch(0).is_ok() && executive.advance(3).is_ok());
     assert!(rt; matches!(&executive.setting(), Ok(setting) if keeps_the_past(setting)));
     Ok(())
