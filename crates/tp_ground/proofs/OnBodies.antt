@@ -17,6 +17,8 @@ use Rattle.tp_ground.specs.Written.{GroundCondition, GroundOutcome, GroundLimit,
 use Rattle.tp_ground.specs.Mentions.{Mentions, ◌then◌, of_condition, of_outcome, of_limit, of_each, of_start, of_end, of_body}
 use Rattle.tp_ground.specs.ReadBack.{named_condition, named_limit, named_event, named_body}
 use Rattle.tp_ground.specs.NumberedOutcomes.{named_outcome}
+use Rattle.tp_ground.specs.NumberedEnds.{named_ends}
+use Rattle.tp_ground.specs.declared.lowering.bodies.Ends.{Ends}
 use Rattle.tp_ground.specs.Lowered.{Notes, IsLowered, Overflows, Lowers}
 use Rattle.tp_ground.specs.declared.fault.GroundFault.{GroundFault}
 use Rattle.tp_ground.specs.declared.Cond.{Cond}
@@ -58,39 +60,41 @@ module _ (a b d : Tables) (c : Cond) (os : Vec NumberedOutcome Global) (e : Grou
   pub plain_lowered : (ls : List Limit) → ls ≡ [] → Assembled e c os.items ls → IsLowered named_event a d e (happening cond outs []) (of_condition cond then of_each of_outcome outs)
   plain_lowered ls none h = lowered_as (λ (p : GroundCondition × List GroundOutcome). with_rule p []) e (λ t. h t ∙ ap (λ (zs : List Limit). happening (named_condition t c) (map (named_outcome t) os.items) (map (named_limit t) zs)) none) pair_lowered
 
-abbrev named_ends : Tables → GroundEvent × GroundEvent → GroundHappening × GroundHappening
-named_ends t p = (named_event t p.0, named_event t p.1)
+-- a start and an end, one after the other
+module _ (a b c : Tables) (start end : GroundHappening) (m n : Mentions) where
+  pub start_stopped : (res : Result Ends GroundFault) (e : GroundFault) → IsErrAnd res (λ g. g ≡ e) → Overflows a m e → Lowers named_ends a res c (start, end) (m then n)
+  start_stopped res e err h = failed named_ends a c (start, end) (m then n) res e err (overflows_first a m n e h)
 
-pub durative_lowered : (a b c d : Tables) (first last : GroundEvent) (between : Cond) (start end : GroundHappening) (kept : GroundCondition) (m n k : Mentions) → IsLowered named_event a b first start m → IsLowered named_event b c last end n → IsLowered named_condition c d between kept k → IsLowered named_body a d (Durative first last between) (durative start end kept) (m then n then k)
-durative_lowered a b c d first last between start end kept m n k l g h =
-    lowered_both (λ (p : GroundHappening × GroundHappening) (q : GroundCondition). durative p.0 p.1 q) (Durative first last between) (λ t. refl)
-    (lowered_both {named = named_ends} (λ (p q : GroundHappening). (p, q)) (first, last) (λ t. refl) l g) h
+  pub end_stopped : (res : Result Ends GroundFault) (e : GroundFault) → IsErrAnd res (λ g. g ≡ e) → Notes a b m → Overflows b n e → Lowers named_ends a res c (start, end) (m then n)
+  end_stopped res e err l h = failed named_ends a c (start, end) (m then n) res e err (overflows_then a b m n e l h)
+
+  pub ends_lowered : (first last : GroundEvent) (x : Ends) → x ≡ record { first = first; last = last } → IsLowered named_event a b first start m → IsLowered named_event b c last end n → IsLowered named_ends a c x (start, end) (m then n)
+  ends_lowered first last x is l k = subst (λ y. IsLowered named_ends a c y (start, end) (m then n)) (sym is) (lowered_both (λ (p q : GroundHappening). (p, q)) (record { first = first; last = last }) (λ t. refl) l k)
 
 pub instant_lowered : (a b : Tables) (e : GroundEvent) (h : GroundHappening) (m : Mentions) → IsLowered named_event a b e h m → IsLowered named_body a b (Instant e) (instant h) m
 instant_lowered a b e h m l = lowered_as instant (Instant e) (λ t. refl) l
 
--- a durative action, its start, its end and its invariant numbered one after another
+-- a durative action, its ends and its invariant numbered one after another
 module _ (u : Universe) (env : Env) (x : syntax.Body) (r : DurationRule) (c : Joined (Timed syntax_conds.Cond)) (f : Joined (Timed (Joined Outcome))) (is : x ≡ bodies.Durative r c f) where
-  abbrev of_first : Mentions
-  of_first = of_start u env (rule_view r) (timed_condition_view c) (timed_effect_view f)
-
-  abbrev of_last : Mentions
-  of_last = of_end u env (timed_condition_view c) (timed_effect_view f)
+  abbrev of_ends : Mentions
+  of_ends = of_start u env (rule_view r) (timed_condition_view c) (timed_effect_view f) then of_end u env (timed_condition_view c) (timed_effect_view f)
 
   abbrev of_between : Mentions
   of_between = of_condition (condition_at u OverAll env (timed_condition_view c))
 
-  stopped : (a b : Tables) (res : Result Body GroundFault) (e : GroundFault) → IsErrAnd res (λ g. g ≡ e) → Overflows a (of_first then of_last then of_between) e → Lowers named_body a res b (body_in u env (body_view x)) (of_body u env (body_view x))
+  abbrev both_ends : GroundHappening × GroundHappening
+  both_ends = (start_in u env (rule_view r) (timed_condition_view c) (timed_effect_view f), end_in u env (timed_condition_view c) (timed_effect_view f))
+
+  stopped : (a b : Tables) (res : Result Body GroundFault) (e : GroundFault) → IsErrAnd res (λ g. g ≡ e) → Overflows a (of_ends then of_between) e → Lowers named_body a res b (body_in u env (body_view x)) (of_body u env (body_view x))
   stopped a b res e err h = failed named_body a b (body_in u env (body_view x)) (of_body u env (body_view x)) res e err (subst (λ y. Overflows a (of_body u env (body_view y)) e) (sym is) h)
 
-  pub first_stopped : (a b : Tables) (res : Result Body GroundFault) (e : GroundFault) → IsErrAnd res (λ g. g ≡ e) → Overflows a of_first e → Lowers named_body a res b (body_in u env (body_view x)) (of_body u env (body_view x))
-  first_stopped a b res e err h = stopped a b res e err (at_first a of_first of_last of_between e h)
+  pub ends_stopped : (a b : Tables) (res : Result Body GroundFault) (e : GroundFault) → IsErrAnd res (λ g. g ≡ e) → Overflows a of_ends e → Lowers named_body a res b (body_in u env (body_view x)) (of_body u env (body_view x))
+  ends_stopped a b res e err h = stopped a b res e err (overflows_first a of_ends of_between e h)
 
-  pub last_stopped : (a b d : Tables) (res : Result Body GroundFault) (e : GroundFault) → IsErrAnd res (λ g. g ≡ e) → Notes a d of_first → Overflows d of_last e → Lowers named_body a res b (body_in u env (body_view x)) (of_body u env (body_view x))
-  last_stopped a b d res e err l h = stopped a b res e err (at_second a of_first of_last of_between e d l h)
+  pub between_stopped : (a b d : Tables) (res : Result Body GroundFault) (e : GroundFault) → IsErrAnd res (λ g. g ≡ e) → Notes a d of_ends → Overflows d of_between e → Lowers named_body a res b (body_in u env (body_view x)) (of_body u env (body_view x))
+  between_stopped a b d res e err l h = stopped a b res e err (overflows_then a d of_ends of_between e l h)
 
-  pub between_stopped : (a b d k : Tables) (res : Result Body GroundFault) (e : GroundFault) → IsErrAnd res (λ g. g ≡ e) → Notes a d of_first → Notes d k of_last → Overflows k of_between e → Lowers named_body a res b (body_in u env (body_view x)) (of_body u env (body_view x))
-  between_stopped a b d k res e err l g h = stopped a b res e err (at_third a of_first of_last of_between e d k l g h)
-
-  pub whole_lowered : (a b d k : Tables) (first last : GroundEvent) (between : Cond) → IsLowered named_event a d first (start_in u env (rule_view r) (timed_condition_view c) (timed_effect_view f)) of_first → IsLowered named_event d k last (end_in u env (timed_condition_view c) (timed_effect_view f)) of_last → IsLowered named_condition k b between (condition_at u OverAll env (timed_condition_view c)) of_between → IsLowered named_body a b (Durative first last between) (body_in u env (body_view x)) (of_body u env (body_view x))
-  whole_lowered a b d k first last between l g h = subst (λ y. IsLowered named_body a b (Durative first last between) (body_in u env (body_view y)) (of_body u env (body_view y))) (sym is) (durative_lowered a d k b first last between _ _ _ _ _ _ l g h)
+  pub whole_lowered : (a b d : Tables) (ends : Ends) (between : Cond) → IsLowered named_ends a d ends both_ends of_ends → IsLowered named_condition d b between (condition_at u OverAll env (timed_condition_view c)) of_between → IsLowered named_body a b (Durative ends.first ends.last between) (body_in u env (body_view x)) (of_body u env (body_view x))
+  whole_lowered a b d ends between l h =
+      subst (λ y. IsLowered named_body a b (Durative ends.first ends.last between) (body_in u env (body_view y)) (of_body u env (body_view y))) (sym is)
+      (lowered_both (λ (p : GroundHappening × GroundHappening) (q : GroundCondition). durative p.0 p.1 q) (Durative ends.first ends.last between) (λ t. refl) l h)

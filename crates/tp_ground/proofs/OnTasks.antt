@@ -1,5 +1,5 @@
 -- What is written out of a problem, numbered one after another, and the task of it.
-use Rattle.std.proofs.Common.{◌≡◌, ◌<◌, ◌≤◌, true, false, None, List, [], ◌∷◌, ◌++◌, length, map, Result, Vec, Global, refl, sym, ap, ap₂, subst, ◌∙◌, arith, append-nil}
+use Rattle.std.proofs.Common.{◌≡◌, ◌<◌, ◌≤◌, true, false, None, List, [], ◌∷◌, ◌++◌, length, map, Result, Ok, Err, IfErr, IsErrAnd, Vec, Global, refl, sym, ap, ap₂, subst, ◌∙◌, arith, append-nil}
 use Rattle.std.specs.List.{AllByRecursion, IsDistinct, list_all}
 use Rattle.std.proofs.lemmas.Bool.{and_from}
 use Rattle.std.proofs.lemmas.List.{length-map, get_or-map}
@@ -231,3 +231,8 @@ overflowed limits d p none e empty h = by e (subst (λ (t : Tables). Overflows t
 -- the names of all actions, where the universe and the actions are told in other words
 pub names_then : (new later : List Words) (u v : Universe) (each bs : List Action) → u ≡ v → each ≡ bs → later ≡ new ++ map (λ a. a.words) (ground_actions u (map action_view each)) → later ≡ new ++ map (λ a. a.words) (ground_actions v (map action_view bs))
 names_then new later u v each bs p q e = e ∙ ap₂ (λ (w : Universe) (xs : List Action). new ++ map (λ a. a.words) (ground_actions w (map action_view xs))) p q
+
+-- a fault that was passed on
+pub not_made : {X : Type 0} (limits : RunLimits) (d : Domain) (p : Problem) (r : Result X GroundFault) (f : GroundFault) → IsErrAnd r (λ e. e ≡ f) → HasNoTask limits d p f → IfErr r (HasNoTask limits d p)
+not_made limits d p (Ok x) f is h = absurd is
+not_made limits d p (Err e) f is h = subst (λ g. HasNoTask limits d p g) (sym is) h

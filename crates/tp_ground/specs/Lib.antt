@@ -20,5 +20,6 @@ pub mod Mentions
 pub mod ReadBack
 pub mod Lowered
 pub mod NumberedOutcomes
+pub mod NumberedEnds
 pub mod Grounding
 pub mod WrittenTasks

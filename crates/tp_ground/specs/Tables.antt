@@ -25,6 +25,10 @@ coded_tables =
     (λ p. record { atoms = p.0; fluents = p.1.0; actions = p.1.1.0; most = p.1.1.1 })
     (λ _. refl)
 
+-- tables of the same atoms and fluents, with these actions
+abbrev pub with_actions : Tables → List Words → Tables
+with_actions t actions = record { atoms = t.atoms; fluents = t.fluents; actions = actions; most = t.most }
+
 -- the words at a number
 abbrev pub words_at : List Words → ℕ → Words
 words_at ws i = slice_index_or ws i []

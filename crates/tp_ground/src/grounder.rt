@@ -1,16 +1,21 @@
 //! The task of a problem.
 
-ghost use Rattle.std.specs.Prelude.{◌≡◌, ◌≤◌, ◌++◌, true, map, length, nat_lt, false, IfOk, IfErr, OnOk};
+ghost use Rattle.std.specs.Prelude.{◌≡◌, ◌≤◌, ◌<◌, ◌++◌, ℕ, true, None, map, length, nat_lt, slice_index_or, false, IfOk, IfErr, OnOk};
 ghost use Rattle.std.specs.List.{list_all};
 ghost use Rattle.tp_syntax.specs.Symbols.{typed_view};
 ghost use Rattle.tp_syntax.specs.CondViews.{cond_view};
 ghost use Rattle.tp_syntax.specs.DomainViews.{initial_view, action_view, domain_view, problem_view};
+ghost use Rattle.tp_bounds.specs.RunLimits.{RunLimits};
 ghost use Rattle.tp_ground.specs.Great.{has_great_number};
 ghost use Rattle.tp_ground.specs.Fits.{body_fits};
 ghost use Rattle.tp_ground.specs.Words.{firsts};
 ghost use Rattle.tp_ground.specs.Views.{universe_view};
 ghost use Rattle.tp_ground.specs.Lowered.{Lowers};
 ghost use Rattle.tp_ground.specs.Grounding.{universe_of, ground_actions, mentioned, IsTask, HasNoTask};
+ghost use Rattle.tp_ground.specs.Tables.{with_actions};
+ghost use Rattle.tp_ground.specs.Initially.{true_at, value_at};
+ghost use Rattle.tp_ground.specs.declared.fault.GroundFault.TheVariants.{TooMany};
+ghost use Rattle.tp_ground.specs.declared.fault.TooManyKind.TheVariants.{Actions};
 ghost use Rattle.tp_ground.specs.WrittenTasks.{written_task, named_task, of_task, IsMade};
 
 use crate::beginning::{NumberedInitial, entries, numbers, truths};
@@ -39,6 +44,13 @@ pub struct LoweredTask {
     pub actions: Vec<Body>,
 }
 
+// What there is at first, by number.
+#[derive(Drop)]
+struct Beginning {
+    truths: Vec<bool>,
+    numbers: Vec<Option<i64>>,
+}
+
 fn has_too_many_objects(constants: &[Typed], objects: &[Typed]) -> bool
     ensures { result ≡ nat_lt 65_535 (length (map typed_view constants.now ++ map typed_view objects.now)) }
 {
@@ -59,18 +71,11 @@ fn universe_of<'a>(
     })
 }
 
-// What can be told before anything is written out.
-fn check(
-    alloc: Global,
-    domain: &Domain,
-    problem: &Problem,
-    limits: &Limits,
-) -> Result<(), GroundFault>
-    ensures most { OnOk result (limits.now.actions ≤ 65_535) }
+// What can be told before the types are looked at, whatever the limits.
+fn check(domain: &Domain, problem: &Problem) -> Result<(), GroundFault>
     ensures numbers { OnOk result (has_great_number (domain_view domain.now) (problem_view problem.now) ≡ false) }
     ensures objects { OnOk result (nat_lt 65_535 (length ((domain_view domain.now).constants ++ (problem_view problem.now).objects)) ≡ false) }
-    ensures few { OnOk result (length (ground_actions (universe_of (domain_view domain.now) (problem_view problem.now)) (domain_view domain.now).actions) ≤ limits.now.actions) }
-    ensures err { IfErr result (HasNoTask limits.now (domain_view domain.now) (problem_view problem.now)) }
+    ensures err { IfErr result (λ e. (limits : RunLimits) → HasNoTask limits (domain_view domain.now) (problem_view problem.now) e) }
 {
     if has_great_number(domain, problem) {
         return Err(GroundFault::Range);
@@ -78,8 +83,16 @@ fn check(
     if has_too_many_objects(&domain.constants, &problem.objects) {
         return Err(GroundFault::TooMany(TooManyKind::Objects));
     }
-    let universe = universe_of(alloc, domain, problem)?;
-    if !actions_fit(&universe, &domain.actions, limits.actions()) {
+    Ok(())
+}
+
+// Whether there are no more ground actions than there may be.
+fn check_actions(universe: &Universe, domain: &Domain, limits: &Limits) -> Result<(), GroundFault>
+    ensures most { limits.now.actions ≤ 65_535 }
+    ensures few { OnOk result (length (ground_actions (universe_view universe.now) (domain_view domain.now).actions) ≤ limits.now.actions) }
+    ensures err { IfErr result (λ e. (e ≡ TooMany Actions) × (limits.now.actions < length (ground_actions (universe_view universe.now) (domain_view domain.now).actions))) }
+{
+    if !actions_fit(universe, &domain.actions, limits.actions()) {
         return Err(GroundFault::TooMany(TooManyKind::Actions));
     }
     Ok(())
@@ -108,21 +121,57 @@ fn lower(
 
 fn lower_task(
     alloc: Global,
+    universe: &Universe,
     numbering: &mut Numbering,
     domain: &Domain,
     problem: &Problem,
 ) -> Result<LoweredTask, GroundFault>
+    requires of_problem { universe_view universe.now ≡ universe_of (domain_view domain.now) (problem_view problem.now) }
     ensures { Lowers named_task numbering.old result numbering.new (written_task (universe_of (domain_view domain.now) (problem_view problem.now)) (problem_view problem.now).initial (problem_view problem.now).goal (domain_view domain.now).actions) (mentioned (domain_view domain.now) (problem_view problem.now)) }
 {
-    let universe = universe_of(alloc, domain, problem)?;
     lower(
         alloc,
-        &universe,
+        universe,
         numbering,
         &problem.initial,
         &problem.goal,
         &domain.actions,
     )
+}
+
+// All that is mentioned by number, and then the words of the ground actions.
+fn prepare(
+    alloc: Global,
+    universe: &Universe,
+    numbering: &mut Numbering,
+    domain: &Domain,
+    problem: &Problem,
+) -> Result<LoweredTask, GroundFault>
+    requires of_problem { universe_view universe.now ≡ universe_of (domain_view domain.now) (problem_view problem.now) }
+    ensures lowered { Lowers named_task numbering.old result (with_actions numbering.new numbering.old.actions) (written_task (universe_of (domain_view domain.now) (problem_view problem.now)) (problem_view problem.now).initial (problem_view problem.now).goal (domain_view domain.now).actions) (mentioned (domain_view domain.now) (problem_view problem.now)) }
+    ensures names { OnOk result (numbering.new.actions ≡ numbering.old.actions ++ map (λ a. a.words) (ground_actions (universe_of (domain_view domain.now) (problem_view problem.now)) (domain_view domain.now).actions)) }
+{
+    let lowered = lower_task(alloc, &*universe, numbering, domain, problem)?;
+    name_actions(alloc, universe, numbering, &domain.actions)?;
+    Ok(lowered)
+}
+
+// What is true at first, and which values there are.
+fn beginning_of(
+    alloc: Global,
+    numbering: &Numbering,
+    entries: &[NumberedInitial],
+) -> Result<Beginning, AllocError>
+    ensures atom_count { IfOk result (λ b. length b.truths.items ≡ length numbering.now.atoms) }
+    ensures atoms { IfOk result (λ b. (j : ℕ) → j < length numbering.now.atoms → slice_index_or b.truths.items j false ≡ true_at entries.now j) }
+    ensures fluent_count { IfOk result (λ b. length b.numbers.items ≡ length numbering.now.fluents) }
+    ensures numbers { IfOk result (λ b. (j : ℕ) → j < length numbering.now.fluents → slice_index_or b.numbers.items j None ≡ value_at entries.now j) }
+    ensures few_atoms { OnOk result (length numbering.now.atoms ≤ numbering.now.most) }
+    ensures few_fluents { OnOk result (length numbering.now.fluents ≤ numbering.now.most) }
+{
+    let truths = truths(alloc, numbering.atom_count(), entries)?;
+    let numbers = numbers(alloc, numbering.fluent_count(), entries)?;
+    Ok(Beginning { truths, numbers })
 }
 
 fn task_of(
@@ -139,22 +188,37 @@ fn task_of(
     ensures atoms { OnOk result (length numbering.atoms ≤ numbering.most) }
     ensures fluents { OnOk result (length numbering.fluents ≤ numbering.most) }
 {
-    let LoweredTask {
-        entries,
-        goal,
-        actions,
-    } = lowered;
-    let initial_atoms = truths(alloc, numbering.atom_count(), &entries)?;
-    let initial_numbers = numbers(alloc, numbering.fluent_count(), &entries)?;
+    let beginning = beginning_of(alloc, &numbering, &lowered.entries)?;
     Ok(Task {
         limits,
         scale,
         numbering,
-        actions,
-        initial_atoms,
-        initial_numbers,
-        goal,
+        actions: lowered.actions,
+        initial_atoms: beginning.truths,
+        initial_numbers: beginning.numbers,
+        goal: lowered.goal,
     })
+}
+
+// The task of a problem with few enough ground actions.
+fn made(
+    alloc: Global,
+    universe: &Universe,
+    domain: &Domain,
+    problem: &Problem,
+    limits: &Limits,
+    scale: Scale,
+) -> Result<Task, GroundFault>
+    requires of_problem { universe_view universe.now ≡ universe_of (domain_view domain.now) (problem_view problem.now) }
+    requires few { length (ground_actions (universe_of (domain_view domain.now) (problem_view problem.now)) (domain_view domain.now).actions) ≤ 65_535 }
+    ensures ok { IfOk result (IsTask limits.now scale (domain_view domain.now) (problem_view problem.now)) }
+    ensures atoms { OnOk result (length (firsts (mentioned (domain_view domain.now) (problem_view problem.now)).atoms) ≤ limits.now.atoms) }
+    ensures fluents { OnOk result (length (firsts (mentioned (domain_view domain.now) (problem_view problem.now)).fluents) ≤ limits.now.atoms) }
+    ensures err { IfErr result (HasNoTask limits.now (domain_view domain.now) (problem_view problem.now)) }
+{
+    let mut numbering = Numbering::new(alloc, limits.atoms());
+    let lowered = prepare(alloc, universe, &mut numbering, domain, problem)?;
+    Ok(task_of(alloc, *limits, scale, numbering, lowered)?)
 }
 
 /// The task of a problem of a domain: its actions written out over its objects, atoms and fluents numbered in the order in
@@ -174,10 +238,8 @@ pub fn ground(
     ensures few { OnOk result (length (ground_actions (universe_of (domain_view domain.now) (problem_view problem.now)) (domain_view domain.now).actions) ≤ limits.now.actions) }
     ensures err { IfErr result (HasNoTask limits.now (domain_view domain.now) (problem_view problem.now)) }
 {
-    check(alloc, domain, problem, limits)?;
-    let mut numbering = Numbering::new(alloc, limits.atoms());
-    let lowered = lower_task(alloc, &mut numbering, domain, problem)?;
+    check(domain, problem)?;
     let universe = universe_of(alloc, domain, problem)?;
-    name_actions(alloc, &universe, &mut numbering, &domain.actions)?;
-    Ok(task_of(alloc, *limits, scale, numbering, lowered)?)
+    check_actions(&universe, domain, limits)?;
+    made(alloc, &universe, domain, problem, limits, scale)
 }

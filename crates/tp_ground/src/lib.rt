@@ -21,10 +21,6 @@ mod lowering;
 mod numbering;
 mod numbers;
 mod task;
-#[cfg(test)]
-mod task_tests;
-#[cfg(test)]
-mod tests;
 mod universe;
 
 pub use fault::{GroundFault, TooManyKind};

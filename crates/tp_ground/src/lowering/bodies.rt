@@ -5,11 +5,13 @@ ghost use Rattle.tp_syntax.specs.CondViews.{cond_view};
 ghost use Rattle.tp_syntax.specs.RuleViews.{rule_view};
 ghost use Rattle.tp_syntax.specs.EffectViews.{effect_view, timed_condition_view, timed_effect_view};
 ghost use Rattle.tp_syntax.specs.DomainViews.{body_view};
+ghost use Rattle.tp_syntax.specs.Actions.{durative};
 ghost use Rattle.tp_ground.specs.Views.{env_view, universe_view};
 ghost use Rattle.tp_ground.specs.Tables.{Tables};
 ghost use Rattle.tp_ground.specs.Written.{happening, condition_at, start_in, end_in, instant_in, body_in};
-ghost use Rattle.tp_ground.specs.Mentions.{of_condition, of_start, of_end, of_instant, of_body};
+ghost use Rattle.tp_ground.specs.Mentions.{◌then◌, of_condition, of_start, of_end, of_instant, of_body};
 ghost use Rattle.tp_ground.specs.ReadBack.{named_condition, named_limit, named_event, named_body};
+ghost use Rattle.tp_ground.specs.NumberedEnds.{named_ends};
 ghost use Rattle.tp_ground.specs.NumberedOutcomes.{named_outcome, AreSplit};
 ghost use Rattle.tp_ground.specs.Lowered.{Lowers};
 
@@ -136,6 +138,46 @@ fn instant(
     Ok(event(alloc, condition, outcomes, Vec::new(alloc))?)
 }
 
+// A start and an end.
+#[derive(Drop)]
+struct Ends {
+    first: GroundEvent,
+    last: GroundEvent,
+}
+
+fn ends_of(
+    alloc: Global,
+    universe: &Universe,
+    env: &Env,
+    numbering: &mut Numbering,
+    duration: &DurationRule,
+    condition: &TimedCond,
+    effect: &TimedEffect,
+) -> Result<Ends, GroundFault>
+    ensures { Lowers named_ends numbering.old result numbering.new (start_in (universe_view universe.now) (env_view env.now) (rule_view duration.now) (timed_condition_view condition.now) (timed_effect_view effect.now), end_in (universe_view universe.now) (env_view env.now) (timed_condition_view condition.now) (timed_effect_view effect.now)) (of_start (universe_view universe.now) (env_view env.now) (rule_view duration.now) (timed_condition_view condition.now) (timed_effect_view effect.now) then of_end (universe_view universe.now) (env_view env.now) (timed_condition_view condition.now) (timed_effect_view effect.now)) }
+{
+    let first = start(alloc, universe, env, numbering, duration, condition, effect)?;
+    let last = end(alloc, universe, env, numbering, condition, effect)?;
+    Ok(Ends { first, last })
+}
+
+// A start, an end, and what holds between them.
+fn durative(
+    alloc: Global,
+    universe: &Universe,
+    env: &Env,
+    numbering: &mut Numbering,
+    duration: &DurationRule,
+    condition: &TimedCond,
+    effect: &TimedEffect,
+) -> Result<Body, GroundFault>
+    ensures { Lowers named_body numbering.old result numbering.new (body_in (universe_view universe.now) (env_view env.now) (durative (rule_view duration.now) (timed_condition_view condition.now) (timed_effect_view effect.now))) (of_body (universe_view universe.now) (env_view env.now) (durative (rule_view duration.now) (timed_condition_view condition.now) (timed_effect_view effect.now))) }
+{
+    let ends = ends_of(alloc, universe, env, numbering, duration, condition, effect)?;
+    let between = condition_at(alloc, universe, env, Mark::OverAll, numbering, condition)?;
+    Ok(Body::Durative(ends.first, ends.last, between))
+}
+
 /// The body of an action, under a binding of its parameters.
 pub fn body(
     alloc: Global,
@@ -158,11 +200,6 @@ pub fn body(
             duration,
             condition,
             effect,
-        } => {
-            let first = start(alloc, universe, env, numbering, duration, condition, effect)?;
-            let last = end(alloc, universe, env, numbering, condition, effect)?;
-            let between = condition_at(alloc, universe, env, Mark::OverAll, numbering, condition)?;
-            Ok(Body::Durative(first, last, between))
-        }
+        } => durative(alloc, universe, env, numbering, duration, condition, effect),
     }
 }

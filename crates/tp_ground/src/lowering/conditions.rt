@@ -8,7 +8,8 @@ ghost use Rattle.tp_syntax.specs.CondViews.{cond_view};
 ghost use Rattle.tp_ground.specs.Bindings.{words_in};
 ghost use Rattle.tp_ground.specs.Views.{env_view, universe_view};
 ghost use Rattle.tp_ground.specs.Tables.{Tables, words_at};
-ghost use Rattle.tp_ground.specs.Written.{condition_in, same_in, compared_in, either, negation, inner};
+ghost use Rattle.tp_ground.specs.Written.{condition_in, same_in, compared_in, either, negation, inner, all_of, any_of, conditions_from};
+ghost use Rattle.tp_ground.specs.Written.{atom as cond_atom};
 ghost use Rattle.tp_ground.specs.Mentions.{an_atom, of_condition, of_each};
 ghost use Rattle.tp_ground.specs.ReadBack.{named_condition};
 ghost use Rattle.tp_ground.specs.Lowered.{Lowers};
@@ -33,6 +34,18 @@ pub fn atom(
 {
     let words = words_in(alloc, env, atom)?;
     numbering.atom(&words)
+}
+
+fn fact(
+    alloc: Global,
+    env: &Env,
+    numbering: &mut Numbering,
+    fact: &Atom,
+) -> Result<Cond, GroundFault>
+    ensures { Lowers named_condition numbering.old result numbering.new (cond_atom (words_in (env_view env.now) (atom_view fact.now))) (an_atom (words_in (env_view env.now) (atom_view fact.now))) }
+{
+    let number = atom(alloc, env, numbering, fact)?;
+    Ok(Cond::Atom(number))
 }
 
 // An equality of objects: the empty conjunction holds, the empty disjunction doesn't.
@@ -123,6 +136,60 @@ fn negated(
     Ok(Cond::Not(Box::new(alloc, lowered)?))
 }
 
+#[cycle(condition)]
+fn conjunction(
+    alloc: Global,
+    universe: &Universe,
+    env: &Env,
+    numbering: &mut Numbering,
+    conds: &[tp_syntax::Cond],
+) -> Result<Cond, GroundFault>
+    ensures { Lowers named_condition numbering.old result numbering.new (all_of (conditions_from (map (λ c. condition_in (universe_view universe.now) (env_view env.now) (cond_view c)) conds.now))) (of_condition (all_of (conditions_from (map (λ c. condition_in (universe_view universe.now) (env_view env.now) (cond_view c)) conds.now)))) }
+{
+    Ok(Cond::And(conditions(alloc, universe, env, numbering, conds)?))
+}
+
+#[cycle(condition)]
+fn disjunction(
+    alloc: Global,
+    universe: &Universe,
+    env: &Env,
+    numbering: &mut Numbering,
+    conds: &[tp_syntax::Cond],
+) -> Result<Cond, GroundFault>
+    ensures { Lowers named_condition numbering.old result numbering.new (any_of (conditions_from (map (λ c. condition_in (universe_view universe.now) (env_view env.now) (cond_view c)) conds.now))) (of_condition (any_of (conditions_from (map (λ c. condition_in (universe_view universe.now) (env_view env.now) (cond_view c)) conds.now)))) }
+{
+    Ok(Cond::Or(conditions(alloc, universe, env, numbering, conds)?))
+}
+
+#[cycle(condition)]
+fn for_all(
+    alloc: Global,
+    universe: &Universe,
+    env: &Env,
+    numbering: &mut Numbering,
+    variables: &[Typed],
+    cond: &tp_syntax::Cond,
+) -> Result<Cond, GroundFault>
+    ensures { Lowers named_condition numbering.old result numbering.new (all_of (conditions_from (map (λ e. condition_in (universe_view universe.now) e (cond_view cond.now)) (inner (universe_view universe.now) (env_view env.now) (map typed_view variables.now))))) (of_condition (all_of (conditions_from (map (λ e. condition_in (universe_view universe.now) e (cond_view cond.now)) (inner (universe_view universe.now) (env_view env.now) (map typed_view variables.now)))))) }
+{
+    Ok(Cond::And(under_each(alloc, universe, env, numbering, variables, cond)?))
+}
+
+#[cycle(condition)]
+fn for_some(
+    alloc: Global,
+    universe: &Universe,
+    env: &Env,
+    numbering: &mut Numbering,
+    variables: &[Typed],
+    cond: &tp_syntax::Cond,
+) -> Result<Cond, GroundFault>
+    ensures { Lowers named_condition numbering.old result numbering.new (any_of (conditions_from (map (λ e. condition_in (universe_view universe.now) e (cond_view cond.now)) (inner (universe_view universe.now) (env_view env.now) (map typed_view variables.now))))) (of_condition (any_of (conditions_from (map (λ e. condition_in (universe_view universe.now) e (cond_view cond.now)) (inner (universe_view universe.now) (env_view env.now) (map typed_view variables.now)))))) }
+{
+    Ok(Cond::Or(under_each(alloc, universe, env, numbering, variables, cond)?))
+}
+
 /// The condition over numbers, its quantifiers written out.
 #[cycle(condition)]
 pub fn condition(
@@ -135,12 +202,8 @@ pub fn condition(
     ensures { Lowers named_condition numbering.old result numbering.new (condition_in (universe_view universe.now) (env_view env.now) (cond_view cond.now)) (of_condition (condition_in (universe_view universe.now) (env_view env.now) (cond_view cond.now))) }
 {
     match cond {
-        tp_syntax::Cond::And(conds) => {
-            Ok(Cond::And(conditions(alloc, universe, env, numbering, conds)?))
-        }
-        tp_syntax::Cond::Or(conds) => {
-            Ok(Cond::Or(conditions(alloc, universe, env, numbering, conds)?))
-        }
+        tp_syntax::Cond::And(conds) => conjunction(alloc, universe, env, numbering, conds),
+        tp_syntax::Cond::Or(conds) => disjunction(alloc, universe, env, numbering, conds),
         tp_syntax::Cond::Not(inner) => negated(alloc, universe, env, numbering, inner),
         tp_syntax::Cond::Imply(a, b) => {
             let first = negated(alloc, universe, env, numbering, a)?;
@@ -148,17 +211,12 @@ pub fn condition(
             Ok(either(alloc, first, second)?)
         }
         tp_syntax::Cond::Forall(variables, inner) => {
-            let all = under_each(alloc, universe, env, numbering, variables, inner)?;
-            Ok(Cond::And(all))
+            for_all(alloc, universe, env, numbering, variables, inner)
         }
         tp_syntax::Cond::Exists(variables, inner) => {
-            let any = under_each(alloc, universe, env, numbering, variables, inner)?;
-            Ok(Cond::Or(any))
+            for_some(alloc, universe, env, numbering, variables, inner)
         }
-        tp_syntax::Cond::Atom(a) => {
-            let number = atom(alloc, env, numbering, a)?;
-            Ok(Cond::Atom(number))
-        }
+        tp_syntax::Cond::Atom(a) => fact(alloc, env, numbering, a),
         tp_syntax::Cond::Same(a, b) => Ok(same(alloc, env, a, b)),
         tp_syntax::Cond::Compare(comparison, a, b) => {
             compared(alloc, env, numbering, *comparison, a, b)

@@ -1,36 +1,6 @@
-use Rattle.std.proofs.Common.{ℕ, [], ap, ◌∙◌, arith}
 use Rattle.tp_syntax.specs.DomainViews.{domain_view, problem_view}
-use Rattle.tp_ground.proofs.OnTasks.{names_then, few_here, few_atoms, few_fluents, fits_here, named_here, is_task}
+use Rattle.tp_ground.proofs.OnTasks.{not_made}
 use Rattle.tp_ground.proofs.grounder.ground.Goals as goal
 
-pub task_of-requires-clause-few : goal.task_of-requires-clause-few
-task_of-requires-clause-few c =
-    let few = c.in_ok-check.ensures.few in
-    let most = c.in_ok-check.ensures.most in
-    few_here c.args.limits.now c.args.scale (domain_view c.args.domain.now) (problem_view c.args.problem.now) _ _ _ _ (c.new-numbering.ensures ∙ ap (λ (n : ℕ). record { atoms = []; fluents = []; actions = []; most = n }) c.atoms.ensures) c.in_ok-lowered.ensures
-    (names_then _ _ _ _ _ _ c.in_ok-universe.ensures c.deref.ensures.value c.in_ok-name_actions.ensures.actions) c.name_actions.ensures.atoms c.name_actions.ensures.fluents c.name_actions.ensures.most (omega (arith, few, most))
-
-pub task_of-requires-clause-fits : goal.task_of-requires-clause-fits
-task_of-requires-clause-fits c =
-    fits_here c.args.limits.now c.args.scale (domain_view c.args.domain.now) (problem_view c.args.problem.now) _ _ _ _ (c.new-numbering.ensures ∙ ap (λ (n : ℕ). record { atoms = []; fluents = []; actions = []; most = n }) c.atoms.ensures) c.in_ok-lowered.ensures
-    (names_then _ _ _ _ _ _ c.in_ok-universe.ensures c.deref.ensures.value c.in_ok-name_actions.ensures.actions) c.name_actions.ensures.atoms c.name_actions.ensures.fluents c.name_actions.ensures.most
-
-pub task_of-requires-clause-all_named : goal.task_of-requires-clause-all_named
-task_of-requires-clause-all_named c =
-    named_here c.args.limits.now c.args.scale (domain_view c.args.domain.now) (problem_view c.args.problem.now) _ _ _ _ (c.new-numbering.ensures ∙ ap (λ (n : ℕ). record { atoms = []; fluents = []; actions = []; most = n }) c.atoms.ensures) c.in_ok-lowered.ensures
-    (names_then _ _ _ _ _ _ c.in_ok-universe.ensures c.deref.ensures.value c.in_ok-name_actions.ensures.actions) c.name_actions.ensures.atoms c.name_actions.ensures.fluents c.name_actions.ensures.most
-
-pub returns-clause-ok : goal.returns-clause-ok
-returns-clause-ok c =
-    is_task c.args.limits.now c.args.scale (domain_view c.args.domain.now) (problem_view c.args.problem.now) _ _ _ _ (c.new-numbering.ensures ∙ ap (λ (n : ℕ). record { atoms = []; fluents = []; actions = []; most = n }) c.atoms.ensures) c.in_ok-lowered.ensures
-    (names_then _ _ _ _ _ _ c.in_ok-universe.ensures c.deref.ensures.value c.in_ok-name_actions.ensures.actions) c.name_actions.ensures.atoms c.name_actions.ensures.fluents c.name_actions.ensures.most _ c.in_ok-task_of.ensures.made
-
-pub returns-clause-atoms : goal.returns-clause-atoms
-returns-clause-atoms c =
-    few_atoms c.args.limits.now c.args.scale (domain_view c.args.domain.now) (problem_view c.args.problem.now) _ _ _ _ (c.new-numbering.ensures ∙ ap (λ (n : ℕ). record { atoms = []; fluents = []; actions = []; most = n }) c.atoms.ensures) c.in_ok-lowered.ensures
-    (names_then _ _ _ _ _ _ c.in_ok-universe.ensures c.deref.ensures.value c.in_ok-name_actions.ensures.actions) c.name_actions.ensures.atoms c.name_actions.ensures.fluents c.name_actions.ensures.most c.in_ok-task_of.ensures.atoms
-
-pub returns-clause-fluents : goal.returns-clause-fluents
-returns-clause-fluents c =
-    few_fluents c.args.limits.now c.args.scale (domain_view c.args.domain.now) (problem_view c.args.problem.now) _ _ _ _ (c.new-numbering.ensures ∙ ap (λ (n : ℕ). record { atoms = []; fluents = []; actions = []; most = n }) c.atoms.ensures) c.in_ok-lowered.ensures
-    (names_then _ _ _ _ _ _ c.in_ok-universe.ensures c.deref.ensures.value c.in_ok-name_actions.ensures.actions) c.name_actions.ensures.atoms c.name_actions.ensures.fluents c.name_actions.ensures.most c.in_ok-task_of.ensures.fluents
+pub returns-in_err-check-clause-err : goal.returns-in_err-check-clause-err
+returns-in_err-check-clause-err c = not_made c.args.limits.now (domain_view c.args.domain.now) (problem_view c.args.problem.now) _ _ c.from_residual.ensures.1 (c.in_err-check.ensures.err c.args.limits.now)

@@ -6,6 +6,6 @@ use Rattle.tp_ground.proofs.grounder.task_of.Goals as goal
 pub invariant_of-result : goal.invariant_of-result
 invariant_of-result c = record {
   few_actions = c.requires.few;
-  fits = ap₂ (λ (n m : ℕ). list_all (body_fits n m) c.args.lowered.actions.items) (c.in_ok-initial_atoms.ensures.length ∙ c.atom_count.ensures.count) (c.in_ok-initial_numbers.ensures.length ∙ c.fluent_count.ensures.count) ∙ c.requires.fits;
+  fits = ap₂ (λ (n m : ℕ). list_all (body_fits n m) c.args.lowered.actions.items) c.in_ok-beginning.ensures.atom_count c.in_ok-beginning.ensures.fluent_count ∙ c.requires.fits;
   all_named = c.requires.all_named;
 }

@@ -12,7 +12,7 @@ use Rattle.tp_ground.proofs.Along.{map_next, map_ended}
 use Rattle.tp_ground.proofs.Stopped.{map_stopped, map_stopped_as}
 use Rattle.tp_ground.proofs.OnInner.{names_of, map_under, inner_env}
 use Rattle.tp_ground.proofs.OnConditions.{and_of, or_of, imply_of, forall_of, exists_of, same_of, named_Not, all_lowered, any_lowered, all_failed, any_failed, same_lowered, either_mentions}
-use Rattle.tp_ground.proofs.OnLowered.{lowered_as, as_written, all_push, all_same, first_failed, second_failed, both_lowered}
+use Rattle.tp_ground.proofs.OnLowered.{lowered_as, as_written, written_as, all_push, all_same, first_failed, second_failed, both_lowered}
 use Rattle.tp_ground.proofs.lowering.conditions.+condition.Goals as goal
 
 pub conditions-loop-cond-preserved : goal.conditions-loop-cond-preserved
@@ -63,38 +63,41 @@ under_each-returns t c =
 pub negated-returns : goal.negated-returns
 negated-returns t c = lowered_as negation _ (λ u. named_Not u _ ∙ ap (λ z. negation (named_condition u z)) c.in_ok-new.ensures.ok) c.in_ok-lowered.ensures
 
-pub condition-returns-in_err-conditions-in-And : goal.condition-returns-in_err-conditions-in-And
-condition-returns-in_err-conditions-in-And t c = all_failed _ _ _ _ _ _ c.from_residual.ensures.1 c.in_err-conditions-in-And.ensures (and_of (universe_view c.args.universe.now) (env_view c.args.env.now) c.args.cond.now c.in-And.conds c.deref.result.now c.in-And.is c.deref.ensures.value)
+pub conjunction-returns-in_err-conditions : goal.conjunction-returns-in_err-conditions
+conjunction-returns-in_err-conditions t c = all_failed _ _ _ _ _ _ c.from_residual.ensures.1 c.in_err-conditions.ensures refl
 
-pub condition-returns-in_ok-conditions-in-And : goal.condition-returns-in_ok-conditions-in-And
-condition-returns-in_ok-conditions-in-And t c = all_lowered _ _ _ _ _ (and_of (universe_view c.args.universe.now) (env_view c.args.env.now) c.args.cond.now c.in-And.conds c.deref.result.now c.in-And.is c.deref.ensures.value) c.in_ok-conditions-in-And.ensures
+pub conjunction-returns : goal.conjunction-returns
+conjunction-returns t c = all_lowered _ _ _ _ _ refl c.in_ok-conditions.ensures
 
-pub condition-returns-in_err-conditions-in-Or : goal.condition-returns-in_err-conditions-in-Or
-condition-returns-in_err-conditions-in-Or t c = any_failed _ _ _ _ _ _ c.from_residual-in_err-conditions-in-Or.ensures.1 c.in_err-conditions-in-Or.ensures (or_of (universe_view c.args.universe.now) (env_view c.args.env.now) c.args.cond.now c.in-Or.conds c.deref-in-Or.result.now c.in-Or.is c.deref-in-Or.ensures.value)
+pub disjunction-returns-in_err-conditions : goal.disjunction-returns-in_err-conditions
+disjunction-returns-in_err-conditions t c = any_failed _ _ _ _ _ _ c.from_residual.ensures.1 c.in_err-conditions.ensures refl
 
-pub condition-returns-in_ok-conditions-in-Or : goal.condition-returns-in_ok-conditions-in-Or
-condition-returns-in_ok-conditions-in-Or t c = any_lowered _ _ _ _ _ (or_of (universe_view c.args.universe.now) (env_view c.args.env.now) c.args.cond.now c.in-Or.conds c.deref-in-Or.result.now c.in-Or.is c.deref-in-Or.ensures.value) c.in_ok-conditions-in-Or.ensures
+pub disjunction-returns : goal.disjunction-returns
+disjunction-returns t c = any_lowered _ _ _ _ _ refl c.in_ok-conditions.ensures
 
-pub condition-returns-in_err-all-in-Forall : goal.condition-returns-in_err-all-in-Forall
-condition-returns-in_err-all-in-Forall t c = all_failed _ _ _ _ _ _ c.from_residual-in_err-all-in-Forall.ensures.1 c.in_err-all-in-Forall.ensures (forall_of (universe_view c.args.universe.now) (env_view c.args.env.now) c.args.cond.now c.in-Forall.variables c.in-Forall.inner c.deref-in-Forall.result.now c.deref-in-Forall-2.result.now c.in-Forall.is c.deref-in-Forall.ensures.value c.deref-in-Forall-2.ensures)
+pub for_all-returns-in_err-under_each : goal.for_all-returns-in_err-under_each
+for_all-returns-in_err-under_each t c = all_failed _ _ _ _ _ _ c.from_residual.ensures.1 c.in_err-under_each.ensures refl
 
-pub condition-returns-in_ok-all-in-Forall : goal.condition-returns-in_ok-all-in-Forall
-condition-returns-in_ok-all-in-Forall t c = all_lowered _ _ _ _ _ (forall_of (universe_view c.args.universe.now) (env_view c.args.env.now) c.args.cond.now c.in-Forall.variables c.in-Forall.inner c.deref-in-Forall.result.now c.deref-in-Forall-2.result.now c.in-Forall.is c.deref-in-Forall.ensures.value c.deref-in-Forall-2.ensures) c.in_ok-all-in-Forall.ensures
+pub for_all-returns : goal.for_all-returns
+for_all-returns t c = all_lowered _ _ _ _ _ refl c.in_ok-under_each.ensures
 
-pub condition-returns-in_err-any-in-Exists : goal.condition-returns-in_err-any-in-Exists
-condition-returns-in_err-any-in-Exists t c = any_failed _ _ _ _ _ _ c.from_residual-in_err-any-in-Exists.ensures.1 c.in_err-any-in-Exists.ensures (exists_of (universe_view c.args.universe.now) (env_view c.args.env.now) c.args.cond.now c.in-Exists.variables c.in-Exists.inner c.deref-in-Exists.result.now c.deref-in-Exists-2.result.now c.in-Exists.is c.deref-in-Exists.ensures.value c.deref-in-Exists-2.ensures)
+pub for_some-returns-in_err-under_each : goal.for_some-returns-in_err-under_each
+for_some-returns-in_err-under_each t c = any_failed _ _ _ _ _ _ c.from_residual.ensures.1 c.in_err-under_each.ensures refl
 
-pub condition-returns-in_ok-any-in-Exists : goal.condition-returns-in_ok-any-in-Exists
-condition-returns-in_ok-any-in-Exists t c = any_lowered _ _ _ _ _ (exists_of (universe_view c.args.universe.now) (env_view c.args.env.now) c.args.cond.now c.in-Exists.variables c.in-Exists.inner c.deref-in-Exists.result.now c.deref-in-Exists-2.result.now c.in-Exists.is c.deref-in-Exists.ensures.value c.deref-in-Exists-2.ensures) c.in_ok-any-in-Exists.ensures
+pub for_some-returns : goal.for_some-returns
+for_some-returns t c = any_lowered _ _ _ _ _ refl c.in_ok-under_each.ensures
 
-pub condition-returns-in-Same : goal.condition-returns-in-Same
-condition-returns-in-Same t c = as_written of_condition _ _ (same_of (universe_view c.args.universe.now) (env_view c.args.env.now) c.args.cond.now c.in-Same.a c.in-Same.b c.in-Same.is) (same_lowered _ _ (env_view c.args.env.now) (term_view c.in-Same.a) (term_view c.in-Same.b) c.same.ensures)
+pub condition-returns-in-And : goal.condition-returns-in-And
+condition-returns-in-And t c = written_as named_condition of_condition _ _ _ _ _ (and_of (universe_view c.args.universe.now) (env_view c.args.env.now) c.args.cond.now c.in-And.conds c.deref.result.now c.in-And.is c.deref.ensures.value) c.conjunction.ensures
+
+pub condition-returns-in-Or : goal.condition-returns-in-Or
+condition-returns-in-Or t c = written_as named_condition of_condition _ _ _ _ _ (or_of (universe_view c.args.universe.now) (env_view c.args.env.now) c.args.cond.now c.in-Or.conds c.deref-in-Or.result.now c.in-Or.is c.deref-in-Or.ensures.value) c.disjunction.ensures
 
 pub condition-returns-in_err-first-in-Imply : goal.condition-returns-in_err-first-in-Imply
 condition-returns-in_err-first-in-Imply t c =
     let u = universe_view c.args.universe.now in
     let env = env_view c.args.env.now in
-    first_failed named_condition named_condition named_condition of_condition of_condition of_condition either either_mentions _ _ _ (imply_of u env c.args.cond.now c.in-Imply.a c.in-Imply.b c.deref-in-Imply.result.now c.in-Imply.b.value c.in-Imply.is c.deref-in-Imply.ensures refl) _ _ _ _ c.from_residual-in_err-first-in-Imply.ensures.1 c.in_err-first-in-Imply.ensures
+    first_failed named_condition named_condition named_condition of_condition of_condition of_condition either either_mentions _ _ _ (imply_of u env c.args.cond.now c.in-Imply.a c.in-Imply.b c.deref-in-Imply.result.now c.in-Imply.b.value c.in-Imply.is c.deref-in-Imply.ensures refl) _ _ _ _ c.from_residual.ensures.1 c.in_err-first-in-Imply.ensures
 
 pub condition-returns-in_err-second-in-Imply : goal.condition-returns-in_err-second-in-Imply
 condition-returns-in_err-second-in-Imply t c =
@@ -107,3 +110,12 @@ condition-returns-in_ok-either-in-Imply t c =
     let u = universe_view c.args.universe.now in
     let env = env_view c.args.env.now in
     both_lowered named_condition named_condition named_condition of_condition of_condition of_condition either either_mentions _ _ _ (imply_of u env c.args.cond.now c.in-Imply.a c.in-Imply.b c.deref-in-Imply.result.now c.deref-in-Imply-2.result.now c.in-Imply.is c.deref-in-Imply.ensures c.deref-in-Imply-2.ensures) _ _ _ _ _ _ c.in_ok-either-in-Imply.ensures c.in_ok-first-in-Imply.ensures c.in_ok-second-in-Imply.ensures
+
+pub condition-returns-in-Forall : goal.condition-returns-in-Forall
+condition-returns-in-Forall t c = written_as named_condition of_condition _ _ _ _ _ (forall_of (universe_view c.args.universe.now) (env_view c.args.env.now) c.args.cond.now c.in-Forall.variables c.in-Forall.inner c.deref-in-Forall.result.now c.deref-in-Forall-2.result.now c.in-Forall.is c.deref-in-Forall.ensures.value c.deref-in-Forall-2.ensures) c.for_all.ensures
+
+pub condition-returns-in-Exists : goal.condition-returns-in-Exists
+condition-returns-in-Exists t c = written_as named_condition of_condition _ _ _ _ _ (exists_of (universe_view c.args.universe.now) (env_view c.args.env.now) c.args.cond.now c.in-Exists.variables c.in-Exists.inner c.deref-in-Exists.result.now c.deref-in-Exists-2.result.now c.in-Exists.is c.deref-in-Exists.ensures.value c.deref-in-Exists-2.ensures) c.for_some.ensures
+
+pub condition-returns-in-Same : goal.condition-returns-in-Same
+condition-returns-in-Same t c = as_written of_condition _ _ (same_of (universe_view c.args.universe.now) (env_view c.args.env.now) c.args.cond.now c.in-Same.a c.in-Same.b c.in-Same.is) (same_lowered _ _ (env_view c.args.env.now) (term_view c.in-Same.a) (term_view c.in-Same.b) c.same.ensures)
