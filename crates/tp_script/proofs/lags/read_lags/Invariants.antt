@@ -1,0 +1,17 @@
+use Rattle.std.proofs.Common.{◌≡◌, ◌-◌, ℕ, List}
+use Rattle.tp_bounds.specs.Situation.{Situation}
+use Rattle.tp_script.specs.Lags.{TakesLags}
+use Rattle.tp_script.proofs.lags.read_lags.Given as goal
+
+abbrev pub invariant-loop-e : goal.invariant-loop-e
+invariant-loop-e g l =
+    record {
+      lags : (lines : List (List ℕ)) × TakesLags l.fn.lines l.lines (g.N.Net.seen l.fn.net) (g.N.Net.seen l.net) lines;
+      start : (g.N.Net.seen l.net).clock ≡ 0;
+      longest : l.lines.longest ≡ l.fn.lines.longest;
+      most : l.lines.most ≡ l.fn.lines.most;
+      failures : l.lines.failures ≡ l.fn.lines.failures;
+    }
+
+abbrev pub decreases-loop-e : goal.decreases-loop-e
+decreases-loop-e g l = l.lines.most - l.lines.taken
