@@ -1,10 +1,11 @@
 #!/usr/bin/env python3
 """Times `tempo bare` on long lists of commands, and `tempo check` on large plans, tasks and texts. It prints numbers and judges nothing.
 
-    bench/run.py [--full] [--check] [PROGRAM]
+    bench/run.py [--full] [--check | --network] [PROGRAM]
 
 PROGRAM is a built `tempo`; without it, the program is proved and built by `rt run` first. `--full` also brings 65,535 bounds into
-force, which takes a while; `--check` times plans, tasks and texts alone. Each list is read from a file by a process of its own; the times of single
+force, and dispatches 1,024 events one tick after another, which takes minutes; `--check` times plans, tasks and texts alone,
+`--network` lists of commands alone. Each list is read from a file by a process of its own; the times of single
 commands are from writing the command to reading its answer, the mean of all of them. A verdict's time is that of the whole
 process, the best of three; its memory is the greatest that the process held.
 """
@@ -103,6 +104,22 @@ def chain():
         lines.append(f"add {event} {event + 1} 10")
         lines.append(f"add {event + 1} {event} -1")
     return lines
+
+
+def chain_from_its_end():
+    """The same bounds, the last events first: what one round moves on the chain takes a round for each event here."""
+    lines = chain()
+    return [line for event in reversed(range(EVENTS - 1)) for line in lines[2 * event : 2 * event + 2]]
+
+
+def dispatches(count, now):
+    """So many events, each dispatched one tick after the one before: two commands an event."""
+    return [line for event in range(count) for line in (f"advance {now + event}", f"dispatch {event}")]
+
+
+def dense(bounds, count):
+    """Those bounds of the chain, and others that it leaves room for: so many in all."""
+    return bounds + loose(count - len(bounds))
 
 
 def loose(count):
@@ -244,39 +261,53 @@ def reads(program):
     judged(program, "59,000 objects, each in a fact", "(define (domain d) (:predicates (p ?x)))", objects, "")
 
 
-def main():
-    words = [word for word in sys.argv[1:] if not word.startswith("--")]
-    program = pathlib.Path(words[0]) if words else built()
-    checks(program)
-    reads(program)
-    if "--check" in sys.argv:
-        return
+def changes(program, name, bounds, count):
+    """Single commands over bounds that are in force already: so many of each kind, and each kind at its worst."""
+    session = Session(program)
+    session.timed(f"{name}: {len(bounds):,} bounds", bounds)
+    session.timed(f"{name}: bounds that change nothing", loose(count))
+    session.timed(f"{name}: bounds that narrow each window", [f"add o {EVENTS - 1} {HORIZON - 20_000 * (k + 1)}" for k in range(count)])
+    session.timed(f"{name}: bounds that are refused", [f"add {EVENTS - 1} 0 -{20_000 + k}" for k in range(count)])
+    session.timed(f"{name}: windows", [f"window {k}" for k in range(10 * count)])
+    session.timed(f"{name}: steps to the same moment", ["advance 0"] * count)
+    session.timed(f"{name}: steps of now", [f"advance {k + 1}" for k in range(count)])
+    session.timed(f"{name}: withdrawals", [f"withdraw {2 * k}" for k in range(count)])
+    session.timed(f"{name}: steps of now and dispatches", dispatches(count, count))
+    session.close()
 
+
+def whole_run(program, name, bounds):
+    """Each event dispatched in its turn, until the run is done."""
+    session = Session(program)
+    for line in bounds:
+        session.ask(line)
+    session.timed(f"{name}: each event dispatched", dispatches(EVENTS, 0))
+    session.close()
+
+
+def network(program):
+    """Long lists of commands on the network."""
     batch(program, "20,000 windows of a network without bounds", [f"window {k % EVENTS}" for k in range(20_000)])
     batch(program, "20,000 lines, up to 400 bounds with the origin in force", mixed(20_000))
     batch(program, "100 reports of 1,024 events", ["report"] * 100)
     batch(program, "a chain of 1,024 events, 2,046 bounds", chain())
+    changes(program, "chain", chain(), 20)
+    changes(program, "chain from its end", chain_from_its_end(), 20)
 
-    session = Session(program)
-    for line in chain():
-        session.ask(line)
-    session.timed("on that chain: bounds that change nothing", loose(20))
-    session.timed("on that chain: bounds that narrow each window", [f"add o {EVENTS - 1} {HORIZON - 20_000 * (k + 1)}" for k in range(20)])
-    session.timed("on that chain: bounds that are refused", [f"add {EVENTS - 1} 0 -{20_000 + k}" for k in range(20)])
-    session.timed("on that chain: windows", [f"window {k}" for k in range(200)])
-    session.timed("on that chain: steps of now", [f"advance {k + 1}" for k in range(20)])
-    session.timed("on that chain: withdrawals", [f"withdraw {2 * k}" for k in range(20)])
-    session.close()
 
+def main():
+    words = [word for word in sys.argv[1:] if not word.startswith("--")]
+    program = pathlib.Path(words[0]) if words else built()
+    if "--network" not in sys.argv:
+        checks(program)
+        reads(program)
+    if "--check" not in sys.argv:
+        network(program)
     if "--full" in sys.argv:
-        session = Session(program)
-        session.timed("bounds up to 65,515 in force", chain() + loose(MOST_BOUNDS - 2 * (EVENTS - 1) - 20))
-        session.timed("with those: bounds that change nothing", loose(5))
-        session.timed("with those: bounds that narrow each window", [f"add o {EVENTS - 1} {HORIZON - 20_000 * (k + 1)}" for k in range(5)])
-        session.timed("with those: bounds that are refused", [f"add {EVENTS - 1} 0 -{20_000 + k}" for k in range(5)])
-        session.timed("with those: steps of now", [f"advance {k + 1}" for k in range(5)])
-        session.timed("with those: withdrawals", [f"withdraw {2 * k}" for k in range(5)])
-        session.close()
+        whole_run(program, "chain from its end", chain_from_its_end())
+        changes(program, "dense", dense(chain(), MOST_BOUNDS - 20), 5)
+        changes(program, "dense from its end", dense(chain_from_its_end(), MOST_BOUNDS - 20), 5)
+        whole_run(program, "dense from its end", dense(chain_from_its_end(), MOST_BOUNDS))
 
 
 if __name__ == "__main__":

@@ -17,6 +17,3 @@ pub use lexing::tokens;
 pub use number::{Scale, has_time_form, read_ticks, read_whole};
 pub use token::{Span, Token};
 pub use tree::{Tree, read_tree};
-
-#[cfg(test)]
-mod tests;
