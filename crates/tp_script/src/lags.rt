@@ -1,6 +1,8 @@
 //! Lines of lags, which stand behind the head of a network.
 
 ghost use Rattle.std.specs.Prelude.{◌≡◌, ◌↔◌, IsTrue};
+ghost use Rattle.tp_bounds.specs.Situation.{event_count};
+ghost use Rattle.tp_exec.specs.Machine.{IsFresh};
 ghost use Rattle.tp_script.specs.Lags.{lag_spelled, MaySet, ReadsLags};
 ghost use Rattle.tp_script.specs.Serving.{read_failures};
 
@@ -44,6 +46,11 @@ pub fn read_lags<N: Net, R: Source>(lines: &mut Lines<R>, net: &mut N) -> Result
     requires longest { lines.old.longest ≡ 256 }
     requires start { (N.seen net.old).clock ≡ 0 }
     ensures lags { ReadsLags lines.old lines.new (N.seen net.old) (N.seen net.new) result }
+
+    // What no lag changes: a new network is new but for lags.
+    ensures new { IsFresh (N.seen net.old) → IsFresh (N.seen net.new) }
+    ensures events { event_count (N.seen net.new) ≡ event_count (N.seen net.old) }
+    ensures horizon { (N.seen net.new).horizon ≡ (N.seen net.old).horizon }
     ensures longest { lines.new.longest ≡ lines.old.longest }
     ensures most { lines.new.most ≡ lines.old.most }
     ensures read { lines.new.failures ≡ read_failures lines.old.failures result }
