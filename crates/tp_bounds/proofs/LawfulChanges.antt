@@ -8,7 +8,7 @@ use Rattle.tp_bounds.specs.declared.Point.{Point}
 use Rattle.tp_bounds.specs.declared.Point.TheVariants.{Origin, Event}
 use Rattle.tp_bounds.specs.declared.Bound.{Bound}
 use Rattle.tp_bounds.specs.Situation.{Situation, event_count, HasPoint}
-use Rattle.tp_bounds.specs.Changes.{fresh, with_bound, without_bound, asking, at_moment, with_fixed}
+use Rattle.tp_bounds.specs.Changes.{fresh, with_bound, without_bound, asking, at_moment, with_fixed, with_lag}
 use Rattle.tp_bounds.specs.Lawful.{Suits, IsLawful}
 use Rattle.tp_bounds.proofs.HeldMaps.{inserted, removed}
 
@@ -36,6 +36,11 @@ replicate_none zero k = refl
 replicate_none (suc n) zero = refl
 replicate_none (suc n) (suc k) = replicate_none n k
 
+replicate_zero : (n k : ℕ) → get_or (replicate {A = ℕ} n 0) k 0 ≡ 0
+replicate_zero zero k = refl
+replicate_zero (suc n) zero = refl
+replicate_zero (suc n) (suc k) = replicate_zero n k
+
 pub lawful_fresh : (events horizon : ℕ) → events ≤ 1_024 → horizon ≤ 1_000_000_000 → IsLawful (fresh events horizon)
 lawful_fresh events horizon few soon =
     record {
@@ -43,6 +48,8 @@ lawful_fresh events horizon few soon =
       horizon = soon;
       in_time = omega arith;
       past = λ e m is. let f : None ≡ Some m = sym (replicate_none events e) ∙ is in let g : ⊥ = cc in absurd g;
+      lags = length-replicate {A = ℕ} events 0 ∙ sym (length-replicate {A = Option ℕ} events None);
+      lag = λ e. omega (arith, replicate_zero events e);
       in_force = λ id b is. absurd (none_held id b is);
       proposed = λ b is. let g : ⊥ = cc in absurd g;
     }
@@ -54,6 +61,8 @@ lawful_put s id b h new =
       horizon = h.horizon;
       in_time = h.in_time;
       past = h.past;
+      lags = h.lags;
+      lag = h.lag;
       in_force = λ q c is. suits s (with_bound s id b) refl c (elim (inserted s.bounds id q b c is) [ inl p ↦ subst (Suits s) p.1 new | inr p ↦ h.in_force q c p ]);
       proposed = λ c is. suits s (with_bound s id b) refl c (h.proposed c is);
     }
@@ -65,6 +74,8 @@ lawful_taken s id h =
       horizon = h.horizon;
       in_time = h.in_time;
       past = h.past;
+      lags = h.lags;
+      lag = h.lag;
       in_force = λ q c is. suits s (without_bound s id) refl c (h.in_force q c (removed s.bounds id q c is));
       proposed = λ c is. suits s (without_bound s id) refl c (h.proposed c is);
     }
@@ -80,6 +91,8 @@ lawful_asking s o h new =
       horizon = h.horizon;
       in_time = h.in_time;
       past = h.past;
+      lags = h.lags;
+      lag = h.lag;
       in_force = λ q c is. suits s (asking s o) refl c (h.in_force q c is);
       proposed = λ c is. suits s (asking s o) refl c (from_if s o c new is);
     }
@@ -91,6 +104,8 @@ lawful_raised s now h soon =
       horizon = h.horizon;
       in_time = soon;
       past = h.past;
+      lags = h.lags;
+      lag = h.lag;
       in_force = λ q c is. suits s (at_moment s now) refl c (h.in_force q c is);
       proposed = λ c is. suits s (at_moment s now) refl c (h.proposed c is);
     }
@@ -114,6 +129,33 @@ lawful_fixed s e moment h lt soon =
       horizon = h.horizon;
       in_time = h.in_time;
       past = past_set s.fixed e moment s.horizon lt soon h.past;
+      lags = h.lags ∙ same;
+      lag = h.lag;
       in_force = λ q c is. suits s (with_fixed s e moment) same c (h.in_force q c is);
       proposed = λ c is. suits s (with_fixed s e moment) same c (h.proposed c is);
+    }
+
+pub lag_set : (lags : List ℕ) (e lag last : ℕ) → e < length lags → lag ≤ last → ((k : ℕ) → get_or lags k 0 ≤ last) → (k : ℕ) → get_or (set lags e lag) k 0 ≤ last
+lag_set lags e lag last lt few old k =
+    elim (cases_eq k e) [
+      | inl same ↦
+          let at : get_or (set lags e lag) k 0 ≡ lag = ap (λ i. get_or (set lags e lag) i 0) same ∙ get_or-set_same lags e lag 0 lt in
+          omega arith
+      | inr ne ↦
+          let at : get_or (set lags e lag) k 0 ≡ get_or lags k 0 = get_or-set_other lags e k lag 0 ne in
+          let was : get_or lags k 0 ≤ last = old k in
+          omega arith
+    ]
+
+pub lawful_lagged : (s : Situation) (e lag : ℕ) → IsLawful s → e < event_count s → lag ≤ 1_000_000_000 → IsLawful (with_lag s e lag)
+lawful_lagged s e lag h lt few =
+    record {
+      events = h.events;
+      horizon = h.horizon;
+      in_time = h.in_time;
+      past = h.past;
+      lags = length-set s.lags e lag ∙ h.lags;
+      lag = lag_set s.lags e lag 1_000_000_000 (omega (arith, h.lags)) few h.lag;
+      in_force = λ q c is. suits s (with_lag s e lag) refl c (h.in_force q c is);
+      proposed = λ c is. suits s (with_lag s e lag) refl c (h.proposed c is);
     }

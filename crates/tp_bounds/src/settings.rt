@@ -2,25 +2,26 @@
 
 ghost use Rattle.std.specs.Prelude.{◌≡◌, ◌≢◌, ◌≤◌, ◌<◌, Some, None, IfOk, IfSome, OnOk, OnErr, pos, ◌-ℤ◌};
 ghost use Rattle.std.specs.FinMap as map;
-ghost use Rattle.tp_bounds.specs.Situation.{event_count, fixed_at, floor_of, HasPoint, IsInRange};
+ghost use Rattle.tp_bounds.specs.Situation.{event_count, fixed_at, lag_of, floor_of, HasPoint, IsInRange};
 ghost use Rattle.tp_bounds.specs.Reasons.{at_most, at_least, is_open, bound_of};
-ghost use Rattle.tp_bounds.specs.Changes.{fresh, with_bound, without_bound, asking, at_moment, with_fixed};
+ghost use Rattle.tp_bounds.specs.Changes.{fresh, with_bound, without_bound, asking, at_moment, with_fixed, with_lag};
 ghost use Rattle.tp_bounds.specs.Held.{held, AreInRange};
 ghost use Rattle.tp_bounds.specs.Lawful.{Suits};
 
-use crate::{Bound, BoundId, Edge, MOST_EVENTS, MOST_HORIZON, Point};
+use crate::{Bound, BoundId, Edge, MOST_EVENTS, MOST_HORIZON, MOST_LAG, Point};
 use std::alloc::{AllocError, Global};
 use std::collections::BTreeMap;
 use std::marker::Model;
 
-/// Events, the horizon, the bounds in force, the moments at which events were dispatched, the time, and a bound that is
-/// asked for. Nothing is worked out from them: a setting may have no schedule.
+/// Events, the horizon, the bounds in force, the moments at which events were dispatched, how late their reports may come,
+/// the time, and a bound that is asked for. Nothing is worked out from them: a setting may have no schedule.
 #[derive(Drop)]
 pub struct Setting {
     horizon: u32,
     clock: u32,
     bounds: BTreeMap<u32, Bound>,
     fixed: Vec<Option<u32>>,
+    lags: Vec<u32>,
     proposed: Option<Bound>,
 }
 
@@ -34,13 +35,13 @@ impl Model for Setting {
 
     ghost coded = { coded_situation };
 
-    ghost view = { λ a. record { horizon = a.horizon; clock = a.clock; bounds = held a.bounds.entries; fixed = a.fixed.items; proposed = a.proposed } };
+    ghost view = { λ a. record { horizon = a.horizon; clock = a.clock; bounds = held a.bounds.entries; fixed = a.fixed.items; lags = a.lags.items; proposed = a.proposed } };
 
-    ghost invariant = { λ a. IsLawful (record { horizon = a.horizon; clock = a.clock; bounds = held a.bounds.entries; fixed = a.fixed.items; proposed = a.proposed }) };
+    ghost invariant = { λ a. IsLawful (record { horizon = a.horizon; clock = a.clock; bounds = held a.bounds.entries; fixed = a.fixed.items; lags = a.lags.items; proposed = a.proposed }) };
 }
 
 impl Setting {
-    /// A setting at 0 of so many events, with a horizon in ticks and no bound.
+    /// A setting at 0 of so many events, with a horizon in ticks, no bound, and no event that is reported late.
     pub fn new(alloc: Global, events: u16, horizon: u32) -> Result<Setting, AllocError>
         requires events { events ≤ MOST_EVENTS }
         requires horizon { horizon ≤ MOST_HORIZON }
@@ -51,6 +52,7 @@ impl Setting {
             clock: 0,
             bounds: BTreeMap::new(alloc),
             fixed: vec![in alloc; None; events as usize]?,
+            lags: vec![in alloc; 0; events as usize]?,
             proposed: None,
         })
     }
@@ -93,6 +95,25 @@ impl Setting {
         self.clock = now;
     }
 
+    /// Lets the report of an event come so many ticks late, at most 1,000,000,000. It is still 0, so that the same schedules
+    /// remain.
+    pub fn set_lag(&mut self, e: u16, lag: u32)
+        requires event { e < event_count self.old }
+        requires start { self.old.clock ≡ 0 }
+        requires lag { lag ≤ MOST_LAG }
+        ensures { self.new ≡ with_lag self.old e lag }
+    {
+        self.lags[e as usize] = lag;
+    }
+
+    /// How many ticks after an event its report may come.
+    pub fn lag(&self, e: u16) -> u32
+        requires { e < event_count self.now }
+        ensures { result ≡ lag_of self.now e }
+    {
+        self.lags[e as usize]
+    }
+
     /// Dispatches an event at a moment from its floor to the horizon.
     pub fn fix(&mut self, e: u16, moment: u32)
         requires event { e < event_count self.old }
@@ -104,13 +125,14 @@ impl Setting {
         self.fixed[e as usize] = Some(moment);
     }
 
-    /// The moment before which an event that is not dispatched can't happen any more.
+    /// The moment before which an event that is not dispatched can't have happened any more: now less its lag, 0 where the
+    /// lag is more.
     pub fn floor(&self, e: u16) -> u32
         requires event { e < event_count self.now }
         requires free { fixed_at self.now e ≡ None }
         ensures { result ≡ floor_of self.now e }
     {
-        self.clock
+        self.clock.saturating_sub(self.lag(e))
     }
 
     /// How many events there are.

@@ -93,6 +93,28 @@ fn two_events_after_their_bound_is_gone(rt: HostRuntime) -> Result<(), Fail> {
     Ok(())
 }
 
+/// Whether an event that may be reported two ticks late can't have happened more than that ago.
+fn waits_for_its_report(setting: &Setting) -> bool {
+    setting.lag(0) == 0
+        && setting.lag(1) == 2
+        && setting.floor(0) == 5
+        && setting.floor(1) == 3
+        && check_schedule(setting, &[5, 3]) == Ok(())
+        && check_schedule(setting, &[5, 2]) == Err(Broken::Event(1))
+}
+
+#[test]
+fn an_event_that_is_reported_late(rt: HostRuntime) -> Result<(), Fail> {
+    let mut setting = Setting::new(rt.alloc(), 2, 10)?;
+    setting.set_lag(1, 2);
+    assert!(rt; setting.floor(1) == 0);
+    setting.raise(5);
+    assert!(rt; waits_for_its_report(&setting));
+    setting.fix(1, 3);
+    assert!(rt; check_schedule(&setting, &[5, 3]) == Ok(()));
+    Ok(())
+}
+
 #[test]
 fn two_events_each_before_the_other(rt: HostRuntime) -> Result<(), Fail> {
     let alloc = rt.alloc();

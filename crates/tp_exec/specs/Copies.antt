@@ -1,7 +1,7 @@
 -- How far a situation has been copied into another.
-use Rattle.std.specs.Prelude.{◌≡◌, ℕ, ◌<◌, ◌≤◌, None}
+use Rattle.std.specs.Prelude.{◌≡◌, ℕ, ◌<◌, ◌≤◌, length, None}
 use Rattle.std.specs.FinMap.{get}
-use Rattle.tp_bounds.specs.Situation.{Situation, event_count, fixed_at}
+use Rattle.tp_bounds.specs.Situation.{Situation, event_count, fixed_at, lag_of}
 
 -- the bounds under identifiers below the number are in force, and nothing else is changed
 pub record HasBoundsBelow (s start copy : Situation) (number : ℕ) : Type 0 where
@@ -15,3 +15,9 @@ pub record HasPastBelow (s start copy : Situation) (number : ℕ) : Type 0 where
   pub events : event_count copy ≡ event_count s
   pub below : (e : ℕ) → e < number → fixed_at copy e ≡ fixed_at s e
   pub above : (e : ℕ) → number ≤ e → fixed_at copy e ≡ None
+
+-- the events below the number have the lags that they had, and nothing else is changed
+pub record HasLagsBelow (s start copy : Situation) (number : ℕ) : Type 0 where
+  pub same : copy ≡ record start { lags = copy.lags }
+  pub events : length copy.lags ≡ length s.lags
+  pub below : (e : ℕ) → e < number → lag_of copy e ≡ lag_of s e

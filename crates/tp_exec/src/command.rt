@@ -23,6 +23,8 @@ pub enum Command {
     Window(u16),
     /// Fix this event at the moment that is now.
     Dispatch(u16),
+    /// This event happened at this moment, as was observed.
+    Happened(u16, u32),
     /// Tell the state of the run.
     Report,
 }
@@ -31,7 +33,7 @@ pub enum Command {
 #[derive(Debug, Drop)]
 pub struct Report {
     /// The moment that is now, in ticks.
-    pub moment: u32,
+    pub now: u32,
     /// Where the bounds come from.
     pub kind: Kind,
     /// For each event its moment, dispatched or that of the pointwise least schedule, and whether it is dispatched.

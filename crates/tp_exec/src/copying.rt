@@ -1,6 +1,6 @@
 //! What a network holds, copied into a setting.
 
-ghost use Rattle.std.specs.Prelude.{◌≡◌, ℕ, ◌≤◌, None, OnOk};
+ghost use Rattle.std.specs.Prelude.{◌≡◌, ℕ, ◌≤◌, length, None, OnOk};
 ghost use Rattle.std.specs.FinMap as map;
 ghost use Rattle.tp_bounds.specs.Situation.{event_count, fixed_at};
 ghost use Rattle.tp_bounds.specs.Lawful.{IsLawful};
@@ -29,6 +29,19 @@ pub(crate) fn copy_bounds<N: Net>(
         setting.put(id, bound)?;
     }
     Ok(())
+}
+
+/// Gives the events the lags that they have in the network. In the setting it is still 0.
+pub(crate) fn copy_lags<N: Net>(net: &N, setting: &mut Setting)
+    requires lawful { IsLawful (N.seen net.now) }
+    requires start { setting.old.clock ≡ 0 }
+    requires events { event_count setting.old ≡ event_count (N.seen net.now) }
+    requires room { length setting.old.lags ≡ length (N.seen net.now).lags }
+    ensures { setting.new ≡ record setting.old { lags = (N.seen net.now).lags } }
+{
+    for e in 0..net.events() {
+        setting.set_lag(e, net.lag(e));
+    }
 }
 
 /// Dispatches the events that the network has dispatched, each at its moment. In the setting it is still 0, so that no

@@ -1,15 +1,15 @@
 //! A network that takes commands.
 
-ghost use Rattle.std.specs.Prelude.{◌≡◌, ◌↔◌, ℕ, ◌≤◌, true, IfOk};
-ghost use Rattle.tp_bounds.specs.Situation.{event_count};
+ghost use Rattle.std.specs.Prelude.{◌≡◌, ◌↔◌, ℕ, ◌<◌, ◌≤◌, true, IfOk};
+ghost use Rattle.tp_bounds.specs.Situation.{event_count, lag_of};
 ghost use Rattle.tp_bounds.specs.Schedule.{IsMoment};
 ghost use Rattle.tp_exec.specs.Machine.{IsFresh, new_machine};
 ghost use Rattle.tp_exec.specs.declared.command.Answer.TheVariants.{Accepted, Named, Told, Reported};
-ghost use Rattle.tp_exec.specs.declared.command.Command.TheVariants.{Advance, Add, Withdraw, Window, Dispatch, Report as Tell};
+ghost use Rattle.tp_exec.specs.declared.command.Command.TheVariants.{Advance, Add, Withdraw, Window, Dispatch, Happened, Report as Tell};
 ghost use Rattle.tp_exec.specs.Step.{Step, answer_of, is_point_of, AreMoments};
 
 use crate::command::{Kind, Report};
-use crate::copying::{copy_bounds, copy_past};
+use crate::copying::{copy_bounds, copy_lags, copy_past};
 use crate::refusal::{Refusal, refused_by};
 use std::alloc::{AllocError, Global};
 use std::marker::Model;
@@ -42,7 +42,7 @@ impl<N: Net> Model for Executive<N> {
 }
 
 impl<N: Net> Executive<N> {
-    /// An executive over a new network, whose bounds are all still to be added. It takes no memory.
+    /// An executive over a network that is new but for lags, whose bounds are all still to be added. It takes no memory.
     pub fn bare(alloc: Global, limits: Limits, net: N) -> Executive<N>
         requires between { N.takes_between ≡ true }
         requires fresh { IsFresh (N.seen net) }
@@ -85,6 +85,14 @@ impl<N: Net> Executive<N> {
         ensures { result ≡ self.now.kind }
     {
         self.kind
+    }
+
+    /// How many ticks after an event its report may come.
+    pub fn lag(&self, e: u16) -> u32
+        requires { e < event_count self.now.setting }
+        ensures { result ≡ lag_of self.now.setting e }
+    {
+        self.net.lag(e)
     }
 
     /// Goes on to a moment, in ticks, which may be the one that is now.
@@ -169,6 +177,30 @@ impl<N: Net> Executive<N> {
         }
     }
 
+    /// An event happened, as was observed, at a moment from its floor to now. From then on it counts as dispatched at that
+    /// moment.
+    pub fn happened(&mut self, e: u16, moment: u32) -> Result<(), Refusal>
+        ensures { Step self.old (Happened e moment) (answer_of (λ _. Accepted) result) self.new }
+    {
+        if self.net.events() <= e {
+            return Err(Refusal::NoEvent);
+        }
+        if self.net.fixed(e).is_some() {
+            return Err(Refusal::Done);
+        }
+        let now = self.net.now();
+        if moment < now.saturating_sub(self.net.lag(e)) {
+            return Err(Refusal::Back);
+        }
+        if now < moment {
+            return Err(Refusal::Moment);
+        }
+        match self.net.fix(e, moment) {
+            Ok(()) => Ok(()),
+            Err(fault) => Err(refused_by(fault)),
+        }
+    }
+
     /// The state of the run. It can be refused for want of memory alone.
     pub fn report(&self) -> Result<Report, Refusal>
         ensures { Step self.now Tell (answer_of Reported result) self.now }
@@ -176,18 +208,19 @@ impl<N: Net> Executive<N> {
         let moments = moments_of(self.alloc, &self.net)?;
         let done = moments.iter().all(|moment| moment.1);
         Ok(Report {
-            moment: self.net.now(),
+            now: self.net.now(),
             kind: self.kind,
             moments,
             done,
         })
     }
 
-    /// A copy of the setting: the events, the horizon, the bounds in force, what was dispatched, and now.
+    /// A copy of the setting: the events, the horizon, the lags, the bounds in force, what was dispatched, and now.
     pub fn setting(&self) -> Result<Setting, AllocError>
         ensures { IfOk result (λ setting. setting ≡ self.now.setting) }
     {
         let mut setting = Setting::new(self.alloc, self.net.events(), self.net.horizon())?;
+        copy_lags(&self.net, &mut setting);
         copy_bounds(&self.net, self.next, &mut setting)?;
         copy_past(&self.net, &mut setting);
         setting.raise(self.net.now());

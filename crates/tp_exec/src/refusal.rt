@@ -24,11 +24,11 @@ pub enum Refusal {
     /// The weight is over 2,000,000,000 ticks, one way or the other.
     #[error("the weight is out of range")]
     Weight,
-    /// The moment is before now.
-    #[error("before now")]
+    /// The moment is before now, or that of a reported event before its floor.
+    #[error("too early a moment")]
     Back,
-    /// The moment is past the horizon.
-    #[error("past the horizon")]
+    /// The moment is past the horizon, or that of a reported event after now.
+    #[error("too late a moment")]
     Moment,
     /// As many bounds are in force as the limits allow.
     #[error("as many bounds in force as the limit")]

@@ -37,6 +37,10 @@ pub fn perform<N: Net>(executive: &mut Executive<N>, command: Command) -> Answer
             Ok(()) => Answer::Accepted,
             Err(refusal) => Answer::Refused(refusal),
         },
+        Command::Happened(e, moment) => match executive.happened(e, moment) {
+            Ok(()) => Answer::Accepted,
+            Err(refusal) => Answer::Refused(refusal),
+        },
         Command::Report => match executive.report() {
             Ok(report) => Answer::Reported(report),
             Err(refusal) => Answer::Refused(refusal),

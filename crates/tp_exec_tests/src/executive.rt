@@ -121,7 +121,7 @@ fn tell_the_windows(answers: &[Answer]) -> bool {
 }
 
 fn is_of_the_least_schedule(report: &Report) -> bool {
-    report.moment == 4
+    report.now == 4
         && report.moments.as_slice() == [(4, true), (6, false)].as_slice()
         && !report.done
 }
@@ -199,5 +199,50 @@ fn a_copied_setting_tells_schedules_from_others(rt: HostRuntime) -> Result<(), F
     assert!(rt; is_free_without_the_bound(&executive));
     assert!(rt; executive.dispatch(0).is_ok() && executive.advance(3).is_ok());
     assert!(rt; matches!(&executive.setting(), Ok(setting) if keeps_the_past(setting)));
+    Ok(())
+}
+
+/// An executive over two events up to 10, of which the first may be reported three ticks late.
+fn start_late(alloc: Global) -> Result<Executive<ScratchNet>, AllocError> {
+    let mut net = ScratchNet::new(alloc, 2, 10)?;
+    net.set_lag(0, 3);
+    Ok(Executive::bare(alloc, Limits::greatest(10), net))
+}
+
+/// Whether it goes on to 4 with the second event at most five ticks after the first, which may have happened at 1.
+fn goes_on_before_the_report(executive: &mut Executive<ScratchNet>) -> bool {
+    executive.lag(0) == 3
+        && executive.lag(1) == 0
+        && adds(executive, Point::Event(0), Point::Event(1), 5, 0)
+        && executive.advance(4).is_ok()
+        && has_window(executive, 0, 1, 10)
+        && has_window(executive, 1, 4, 10)
+}
+
+/// Whether the first event is taken to have happened at 2, and at no moment that is too early or too late.
+fn takes_the_report(executive: &mut Executive<ScratchNet>) -> bool {
+    matches!(executive.happened(2, 2), Err(Refusal::NoEvent))
+        && matches!(executive.happened(0, 0), Err(Refusal::Back))
+        && matches!(executive.happened(0, 5), Err(Refusal::Moment))
+        && executive.happened(0, 2).is_ok()
+        && has_window(executive, 0, 2, 2)
+        && has_window(executive, 1, 4, 7)
+        && matches!(executive.happened(0, 2), Err(Refusal::Done))
+}
+
+/// Whether a copy of its setting has the lag and the first event at 2.
+fn is_copied_with_its_lag(executive: &Executive<ScratchNet>) -> bool {
+    match executive.setting() {
+        Ok(setting) => setting.lag(0) == 3 && check_schedule(&setting, &[2, 4]) == Ok(()),
+        Err(_) => false,
+    }
+}
+
+#[test]
+fn an_event_that_is_reported_late(rt: HostRuntime) -> Result<(), Fail> {
+    let mut executive = start_late(rt.alloc())?;
+    assert!(rt; goes_on_before_the_report(&mut executive));
+    assert!(rt; takes_the_report(&mut executive));
+    assert!(rt; is_copied_with_its_lag(&executive));
     Ok(())
 }

@@ -63,8 +63,9 @@ module _ (s : Situation) (e m : ℕ) (lt : e < event_count s) (free : fixed_at s
           | inl same ↦
               (let test : nat_eq k e ≡ true = grind (arith, nat_tests, same) in
               let at : fixed_at (with_fixed s e m) k ≡ Some m = ap (fixed_at (with_fixed s e m)) same ∙ now_is in
-              let w : pos 0 -ℤ pos s.clock ≡ b.w = ap (λ (c : Bound). c.w) p.1 in
-              (at_least k m, rw test (ap (option_map (at_least k)) at), ap (λ (c : Bound). c.from) p.1, ap (λ (c : Bound). c.to) p.1, omega (arith, ints, w, floor)))
+              let w : pos 0 -ℤ pos (floor_of s k) ≡ b.w = ap (λ (c : Bound). c.w) p.1 in
+              let level : floor_of s k ≡ floor_of s e = ap (floor_of s) same in
+              (at_least k m, rw test (ap (option_map (at_least k)) at), ap (λ (c : Bound). c.from) p.1, ap (λ (c : Bound). c.to) p.1, omega (arith, ints, w, level, floor)))
           | inr ne ↦
               (let test : nat_eq k e ≡ false = grind (arith, nat_tests, ne) in
               let o : is_open (with_fixed s e m) k ≡ is_open s k = still_open s e k m ne in
@@ -218,6 +219,8 @@ module _ (s : Situation) (e m : ℕ) (lt : e < event_count s) (free : fixed_at s
             | inl same ↦ (let f : Some m ≡ Some n = sym (at_event k same) ∙ is in let g : m ≡ n = cc in omega (arith, g, soon))
             | inr ne ↦ h.past k n (sym (get_or-set_other s.fixed e k (Some m) None ne) ∙ is)
           ]);
+      lags = h.lags ∙ sym (length-set s.fixed e (Some m));
+      lag = h.lag;
       events = subst (λ n. n ≤ 1024) (sym (length-set s.fixed e (Some m))) h.events;
       horizon = h.horizon;
       in_time = h.in_time;

@@ -8,7 +8,7 @@ use Rattle.std.proofs.lemmas.Int.{ints}
 use Rattle.tp_bounds.specs.declared.Bound.{Bound}
 use Rattle.tp_bounds.specs.declared.Edge.{Edge}
 use Rattle.tp_bounds.specs.declared.Edge.TheVariants.{Own, New, PastHigh, PastLow, Now, End}
-use Rattle.tp_bounds.specs.Situation.{Situation, event_count, fixed_at}
+use Rattle.tp_bounds.specs.Situation.{Situation, event_count, fixed_at, floor_of}
 use Rattle.tp_bounds.specs.Schedule as bounds
 use Rattle.tp_bounds.specs.Reasons.{bound_of, at_least, at_most, is_open}
 use Rattle.tp_bounds.proofs.Chains.{from_map, from_cond, opened}
@@ -45,11 +45,20 @@ fit_new events horizon few soon =
       to = λ id b is. absurd (none_held id b is);
       weight = λ id b is. absurd (none_held id b is);
       past = λ e m is. let f : None ≡ Some m = sym (replicate_none events e) ∙ is in let g : ⊥ = cc in absurd g;
+      lags = length-replicate {A = ℕ} events 0 ∙ sym (length-replicate {A = Option ℕ} events None);
+      lag = λ e. omega (arith, replicate_zero events e);
       events = omega (arith, few, length-replicate {A = Option ℕ} events None);
       horizon = soon;
       in_time = omega arith;
       asks_nothing = refl;
     }
+
+-- at 0 the floor of each event is 0
+zero_edge : (events horizon e : ℕ) → e < events → bound_of (new_situation events horizon) (Now e) ≡ Some (at_least e 0)
+zero_edge events horizon e lt =
+    let s : Situation = new_situation events horizon in
+    let level : floor_of s e ≡ 0 = omega arith in
+    now_edge s e (omega (arith, lt, length-replicate {A = Option ℕ} events None)) (replicate_none events e) ∙ ap (λ m. Some (at_least e m)) level
 
 -- the edge is of an event below n
 abbrev pub IsBelow : ℕ → Edge → Type 0
@@ -92,7 +101,7 @@ star_more events horizon n names arcs lt a =
     let free : fixed_at s n ≡ None = replicate_none events n in
     listed_among (λ f. (f ≡ End n) ⊎ ((f ≡ Now n) ⊎ IsBelow n f)) (IsBelow (n + 1)) s ((names ++ Now n ∷ []) ++ End n ∷ []) ((arcs ++ arc_of (at_least n 0) ∷ []) ++ arc_of (at_most n horizon) ∷ [])
     (listed_more (λ f. (f ≡ Now n) ⊎ IsBelow n f) s (names ++ Now n ∷ []) (arcs ++ arc_of (at_least n 0) ∷ []) (End n) (at_most n horizon)
-    (listed_more (IsBelow n) s names arcs (Now n) (at_least n 0) a (now_edge s n inside free))
+    (listed_more (IsBelow n) s names arcs (Now n) (at_least n 0) a (zero_edge events horizon n lt))
     (end_edge s n inside free))
     (λ e b is below. later n e below)
 
@@ -108,7 +117,7 @@ within_star events horizon (PastLow e) b is =
     let f : None ≡ Some m.0 = sym (replicate_none events e) ∙ m.1 in
     let g : ⊥ = cc in g
 within_star events horizon (Now e) b is =
-    let m = from_cond (is_open (new_situation events horizon) e) (at_least e 0) b is in
+    let m = from_cond (is_open (new_situation events horizon) e) (at_least e (floor_of (new_situation events horizon) e)) b is in
     omega (arith, (opened (new_situation events horizon) e m.0).0, length-replicate {A = Option ℕ} events None)
 within_star events horizon (End e) b is =
     let m = from_cond (is_open (new_situation events horizon) e) (at_most e horizon) b is in
@@ -132,7 +141,7 @@ new_schedule events horizon t le =
 star_low : (events horizon : ℕ) (names : List Edge) (arcs : List Arc) → AreArcs (new_situation events horizon) names arcs → (t : ℕ → ℤ) → IsSolution arcs t → (e : ℕ) → e < events → pos 0 ≤ℤ t (suc e)
 star_low events horizon names arcs a t sch e lt =
     let s : Situation = new_situation events horizon in
-    let is = now_edge s e (omega (arith, lt, length-replicate {A = Option ℕ} events None)) (replicate_none events e) in
+    let is = zero_edge events horizon e lt in
     let x = a.all (Now e) (at_least e 0) is tt in
     let h : MeetsArc t (arc_of (at_least e 0)) = subst (MeetsArc t) (arc_named (λ _. Unit {0}) s names arcs a (Now e) (at_least e 0) is x.0 x.1 x.2) (sch.1 x.0 no_arc x.1) in
     let o = sch.0 in

@@ -1,8 +1,8 @@
 -- How moments come nearer to the least, or to the greatest, solution, arc by arc.
-use Rattle.std.proofs.Common.{◌≡◌, ◌≢◌, ℕ, zero, suc, ◌+◌, ◌-◌, ◌<◌, ◌≤◌, ◌^◌, inl, inr, Bool, true, false, IsTrue, List, [], ◌∷◌, length, set, get_or, replicate, refl, sym, ap, subst, ◌∙◌, arith, get_or-set_same, get_or-set_other, length-set}
-use Rattle.std.specs.Prelude.{All, ℤ, pos, ◌+ℤ◌, ◌-ℤ◌, ◌≤ℤ◌, ◌<ℤ◌}
+use Rattle.std.proofs.Common.{◌≡◌, ℕ, zero, suc, ◌+◌, ◌<◌, ◌≤◌, ◌^◌, inl, inr, Bool, false, IsTrue, List, [], ◌∷◌, length, set, get_or, replicate, refl, ap, ◌∙◌, arith, get_or-set_same, get_or-set_other, length-set}
+use Rattle.std.specs.Prelude.{All, ℤ, pos, ◌+ℤ◌, ◌≤ℤ◌}
 use Rattle.std.proofs.lemmas.Int.{ints}
-use Rattle.std.proofs.lemmas.List.{get_or_default, length-replicate}
+use Rattle.std.proofs.lemmas.List.{length-replicate}
 use Rattle.tp_net.specs.declared.slacks.Arc.{Arc}
 use Rattle.tp_net.specs.Graph.{MeetsArc, IsSolution, IsLeast, IsGreatest, arc_at, no_arc, moment}
 use Rattle.tp_net.specs.Slacks.{JoinsPoints, IsGap}

@@ -1,5 +1,5 @@
 -- The edges of a situation as arcs between numbered points: the origin is 0, an event comes one after its number.
-use Rattle.std.specs.Prelude.{◌≡◌, ℕ, suc, ◌<◌, ◌≤◌, cond, nat_eq, List, [], ◌∷◌, ◌++◌, length, map, slice_index, slice_index_or, Option, Some, None, pos, ◌-ℤ◌, ◌≤ℤ◌}
+use Rattle.std.specs.Prelude.{◌≡◌, ℕ, suc, ◌-◌, ◌<◌, ◌≤◌, cond, nat_eq, List, [], ◌∷◌, ◌++◌, length, map, slice_index, slice_index_or, Option, Some, None, pos, ◌-ℤ◌, ◌≤ℤ◌}
 use Rattle.tp_bounds.specs.declared.Point.{Point}
 use Rattle.tp_bounds.specs.declared.Point.TheVariants.{Origin, Event}
 use Rattle.tp_bounds.specs.declared.Bound.{Bound}
@@ -42,19 +42,23 @@ Stand asked names arcs =
     (k : ℕ) → k < length arcs
     → (b : Bound) × (bound_of asked (name_at names k) ≡ Some b) × (number_of b.from ≡ (arc_at arcs k).from) × (number_of b.to ≡ (arc_at arcs k).to) × (b.w ≤ℤ (arc_at arcs k).weight)
 
--- an arc when now is raised
-abbrev pub raised_by : ℕ → Edge → Arc → Arc
-raised_by now (Own id) a = a
-raised_by now New a = a
-raised_by now (PastHigh e) a = a
-raised_by now (PastLow e) a = a
-raised_by now (Now e) a = record { from = a.from; to = a.to; weight = pos 0 -ℤ pos now }
-raised_by now (End e) a = a
+-- the floor of an event at this moment, where these are the lags
+abbrev pub floor_at : ℕ → List ℕ → ℕ → ℕ
+floor_at now lags e = now - slice_index_or lags e 0
+
+-- an arc when now is raised: that of a floor moves along
+abbrev pub raised_by : ℕ → List ℕ → Edge → Arc → Arc
+raised_by now lags (Own id) a = a
+raised_by now lags New a = a
+raised_by now lags (PastHigh e) a = a
+raised_by now lags (PastLow e) a = a
+raised_by now lags (Now e) a = record { from = a.from; to = a.to; weight = pos 0 -ℤ pos (floor_at now lags e) }
+raised_by now lags (End e) a = a
 
 -- the arcs when now is raised, in the same order
-pub record AreRaised (now : ℕ) (names : List Edge) (arcs raised : List Arc) : Type 0 where
+pub record AreRaised (now : ℕ) (lags : List ℕ) (names : List Edge) (arcs raised : List Arc) : Type 0 where
   pub len : length raised ≡ length arcs
-  pub each : (k : ℕ) → k < length arcs → arc_at raised k ≡ raised_by now (name_at names k) (arc_at arcs k)
+  pub each : (k : ℕ) → k < length arcs → arc_at raised k ≡ raised_by now lags (name_at names k) (arc_at arcs k)
 
 -- the name of an edge when e is dispatched: its floor and its end give way to its moment
 abbrev pub past_name : ℕ → Edge → Edge
@@ -84,15 +88,16 @@ pub record AreArcsPast (e moment : ℕ) (names : List Edge) (arcs past : List Ar
   pub len : length past ≡ length arcs
   pub each : (k : ℕ) → k < length arcs → arc_at past k ≡ past_arc e moment (name_at names k) (arc_at arcs k)
 
--- every event that is not dispatched can wait until now
-abbrev pub AllWait : List (Option ℕ) → List ℕ → ℕ → Type 0
-AllWait fixed high now = (k : ℕ) → k < length fixed → slice_index_or fixed k None ≡ None → now ≤ slice_index high (suc k)
+-- every event that is not dispatched can wait until its floor
+abbrev pub AllWait : List (Option ℕ) → List ℕ → List ℕ → ℕ → Type 0
+AllWait fixed high lags now =
+    (k : ℕ) → k < length fixed → slice_index_or fixed k None ≡ None → floor_at now lags k ≤ slice_index high (suc k)
 
--- the event is not dispatched, and has to happen before now
-pub record CannotWait (fixed : List (Option ℕ)) (high : List ℕ) (now e : ℕ) : Type 0 where
+-- the event is not dispatched, and has to happen before its floor
+pub record CannotWait (fixed : List (Option ℕ)) (high lags : List ℕ) (now e : ℕ) : Type 0 where
   pub event : e < length fixed
   pub free : slice_index_or fixed e None ≡ None
-  pub early : slice_index high (suc e) < now
+  pub early : slice_index high (suc e) < floor_at now lags e
 
 -- no solution of the arcs meets the new one too
 pub record IsContrary (names : List Edge) (arcs : List Arc) (low : List ℕ) (new : Arc) : Type 0 where

@@ -3,7 +3,7 @@ use Rattle.std.specs.Prelude.{◌≡◌, ℕ, suc, ◌≤◌, List, length, Some
 use Rattle.std.specs.FinMap.{get}
 use Rattle.tp_bounds.specs.declared.Bound.{Bound}
 use Rattle.tp_bounds.specs.declared.Edge.{Edge}
-use Rattle.tp_bounds.specs.Situation.{Situation, event_count, fixed_at, HasPoint, IsInRange}
+use Rattle.tp_bounds.specs.Situation.{Situation, event_count, fixed_at, lag_of, HasPoint, IsInRange}
 use Rattle.tp_net.specs.declared.slacks.Arc.{Arc}
 use Rattle.tp_net.specs.Moments.{AreExact}
 use Rattle.tp_net.specs.Arcs.{AreArcs}
@@ -14,6 +14,8 @@ pub record IsFit (s : Situation) : Type 0 where
   pub to : (id : ℕ) (b : Bound) → get s.bounds id ≡ Some b → HasPoint s b.to
   pub weight : (id : ℕ) (b : Bound) → get s.bounds id ≡ Some b → IsInRange b.w
   pub past : (e m : ℕ) → fixed_at s e ≡ Some m → m ≤ s.horizon
+  pub lags : length s.lags ≡ event_count s
+  pub lag : (e : ℕ) → lag_of s e ≤ 1_000_000_000
   pub events : event_count s ≤ 1024
   pub horizon : s.horizon ≤ 1_000_000_000
   pub in_time : s.clock ≤ s.horizon

@@ -1,5 +1,5 @@
 -- Moments that come nearer to the least, or to the greatest, solution of a distance graph from one side.
-use Rattle.std.specs.Prelude.{◌≡◌, ℕ, ◌+◌, ◌<◌, ◌^◌, List, [], ◌∷◌, length, All, slice_index, ℤ, pos, ◌≤ℤ◌}
+use Rattle.std.specs.Prelude.{ℕ, ◌+◌, ◌<◌, ◌^◌, List, [], ◌∷◌, length, All, slice_index, ℤ, ◌≤ℤ◌}
 use Rattle.tp_net.specs.declared.slacks.Arc.{Arc}
 use Rattle.tp_net.specs.Graph.{IsSolution, moment}
 use Rattle.tp_net.specs.Slacks.{JoinsPoints}

@@ -3,7 +3,7 @@ ghost use Rattle.std.specs.Prelude.{◌≡◌, ℕ, ◌<◌, ◌≤◌, ◌++◌
 ghost use Rattle.tp_bounds.specs.Situation.{Situation};
 ghost use Rattle.tp_bounds.specs.Changes.{without_bound};
 ghost use Rattle.tp_bounds.specs.Reasons.{at_least, at_most};
-ghost use Rattle.tp_net.specs.Arcs.{number_of, arc_of, name_at, AreArcs, raised_by, AreRaised, past_name, past_arc, AreNamesPast, AreArcsPast, IsContrary, NamesCycle};
+ghost use Rattle.tp_net.specs.Arcs.{number_of, arc_of, name_at, AreArcs, floor_at, raised_by, AreRaised, past_name, past_arc, AreNamesPast, AreArcsPast, IsContrary, NamesCycle};
 ghost use Rattle.tp_net.specs.NewNet.{new_situation};
 
 use crate::moments::contrary_cycle;
@@ -90,28 +90,42 @@ pub fn without(
     Ok((left_names, left_arcs))
 }
 
+/// The floor of an event at a moment, where these are the lags.
+pub fn floor(lags: &[u32], e: u16, now: u32) -> u32
+    ensures { result ≡ floor_at now lags.now e }
+{
+    let lag = lags.get(e as usize).copied().unwrap_or(0);
+    now.saturating_sub(lag)
+}
+
 /// An arc when now is raised: that of a floor moves along.
-fn raised_arc(name: Edge, arc: Arc, now: u32) -> Arc
-    ensures { result ≡ raised_by now name arc }
+fn raised_arc(name: Edge, arc: Arc, lags: &[u32], now: u32) -> Arc
+    ensures { result ≡ raised_by now lags.now name arc }
 {
     match name {
-        Edge::Now(_) => Arc {
+        Edge::Now(e) => Arc {
             from: arc.from,
             to: arc.to,
-            weight: -i64::from(now),
+            weight: -i64::from(floor(lags, e, now)),
         },
         _ => arc,
     }
 }
 
 /// The arcs when now is raised. The names stay.
-pub fn raised(alloc: Global, names: &[Edge], arcs: &[Arc], now: u32) -> Result<Vec<Arc>, AllocError>
+pub fn raised(
+    alloc: Global,
+    names: &[Edge],
+    arcs: &[Arc],
+    lags: &[u32],
+    now: u32,
+) -> Result<Vec<Arc>, AllocError>
     requires { length names.now ≡ length arcs.now }
-    ensures { IfOk result (λ r. AreRaised now names.now arcs.now r.items) }
+    ensures { IfOk result (λ r. AreRaised now lags.now names.now arcs.now r.items) }
 {
     let mut raised = Vec::new(alloc);
     for k in 0..names.len() {
-        raised.push(raised_arc(names[k], arcs[k], now))?;
+        raised.push(raised_arc(names[k], arcs[k], lags, now))?;
     }
     Ok(raised)
 }

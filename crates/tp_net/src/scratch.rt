@@ -8,8 +8,8 @@ ghost use Rattle.tp_net.specs.Held.{held};
 ghost use Rattle.tp_net.specs.NewNet.{new_situation};
 
 use crate::edges::{
-    arc, arcs_past, named, names_past, number, raised, refutation, star, start_arc, stop_arc,
-    without,
+    arc, arcs_past, floor, named, names_past, number, raised, refutation, star, start_arc,
+    stop_arc, without,
 };
 use crate::moments::{Added, add as add_arc, solve};
 use crate::slacks::Arc;
@@ -27,6 +27,7 @@ pub struct ScratchNet {
     clock: u32,
     bounds: BTreeMap<u32, Bound>,
     fixed: Vec<Option<u32>>,
+    lags: Vec<u32>,
     names: Vec<Edge>,
     arcs: Vec<Arc>,
     low: Vec<u64>,
@@ -44,9 +45,9 @@ impl Model for ScratchNet {
 
     ghost coded = { coded_situation };
 
-    ghost view = { λ a. record { horizon = a.horizon; clock = a.clock; bounds = held a.bounds.entries; fixed = a.fixed.items; proposed = None } };
+    ghost view = { λ a. record { horizon = a.horizon; clock = a.clock; bounds = held a.bounds.entries; fixed = a.fixed.items; lags = a.lags.items; proposed = None } };
 
-    ghost invariant = { λ a. IsKept (record { horizon = a.horizon; clock = a.clock; bounds = held a.bounds.entries; fixed = a.fixed.items; proposed = None }) a.names.items a.arcs.items a.low.items a.high.items };
+    ghost invariant = { λ a. IsKept (record { horizon = a.horizon; clock = a.clock; bounds = held a.bounds.entries; fixed = a.fixed.items; lags = a.lags.items; proposed = None }) a.names.items a.arcs.items a.low.items a.high.items };
 }
 
 /// The greatest moments of the origin and of events that nothing keeps from the horizon.
@@ -60,14 +61,14 @@ fn tops(alloc: Global, events: u16, horizon: u32) -> Result<Vec<u64>, AllocError
     Ok(tops)
 }
 
-/// An event that is not dispatched and can't wait until now, if there is one.
-fn late(fixed: &[Option<u32>], high: &[u64], now: u32) -> Option<u16>
+/// An event that is not dispatched and can't wait until the floor that it has at the moment, if there is one.
+fn late(fixed: &[Option<u32>], high: &[u64], lags: &[u32], now: u32) -> Option<u16>
     requires events { length fixed.now ≤ 1024 }
     requires points { length high.now ≡ suc (length fixed.now) }
-    ensures { MatchOption result (AllWait fixed.now high.now now) (CannotWait fixed.now high.now now) }
+    ensures { MatchOption result (AllWait fixed.now high.now lags.now now) (CannotWait fixed.now high.now lags.now now) }
 {
     for e in 0..fixed.len() {
-        if fixed[e].is_none() && high[e + 1] < u64::from(now) {
+        if fixed[e].is_none() && high[e + 1] < u64::from(floor(lags, e as u16, now)) {
             return Some(e as u16);
         }
     }
@@ -128,6 +129,7 @@ impl ScratchNet {
             clock: 0,
             bounds: BTreeMap::new(alloc),
             fixed: vec![in alloc; None; events as usize]?,
+            lags: vec![in alloc; 0; events as usize]?,
             names,
             arcs,
             low: vec![in alloc; 0; events as usize + 1]?,
@@ -159,6 +161,10 @@ impl Net for ScratchNet {
         self.fixed[e as usize]
     }
 
+    fn lag(&self, e: u16) -> u32 {
+        self.lags[e as usize]
+    }
+
     fn bound(&self, id: BoundId) -> Option<Bound> {
         self.bounds.get(&id.0).copied()
     }
@@ -169,6 +175,10 @@ impl Net for ScratchNet {
 
     fn between(&self) -> bool {
         true
+    }
+
+    fn set_lag(&mut self, e: u16, lag: u32) {
+        self.lags[e as usize] = lag;
     }
 
     fn add(&mut self, id: BoundId, bound: Bound) -> Result<(), NetFault> {
@@ -208,13 +218,16 @@ impl Net for ScratchNet {
     }
 
     fn raise(&mut self, now: u32) -> Result<(), NetFault> {
+        if now == self.clock {
+            return Ok(());
+        }
         let alloc = *self.names.allocator();
-        if let Some(e) = late(&self.fixed, &self.high, now) {
-            let new = start_arc(e, now);
+        if let Some(e) = late(&self.fixed, &self.high, &self.lags, now) {
+            let new = start_arc(e, floor(&self.lags, e, now));
             let reason = refutation(alloc, &self.names, &self.arcs, &self.low, Edge::Now(e), new)?;
             return Err(NetFault::Conflict(reason));
         }
-        let arcs = raised(alloc, &self.names, &self.arcs, now)?;
+        let arcs = raised(alloc, &self.names, &self.arcs, &self.lags, now)?;
         let (low, high) = solve(alloc, &arcs, &self.high, u64::from(self.horizon) + 1)?;
         self.clock = now;
         self.arcs = arcs;

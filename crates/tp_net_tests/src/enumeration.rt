@@ -12,6 +12,7 @@ struct Sketch {
     horizon: u32,
     now: u32,
     fixed: [Option<u32>; 3],
+    lags: [u32; 3],
     bounds: [Option<Bound>; 4],
 }
 
@@ -35,6 +36,7 @@ impl Sketch {
             horizon,
             now: 0,
             fixed: [None; 3],
+            lags: [0; 3],
             bounds: [None; 4],
         }
     }
@@ -46,12 +48,12 @@ impl Sketch {
         }
     }
 
-    /// Whether each event has its moment, or one from now to the horizon.
+    /// Whether each event has its moment, or one from its floor, now less its lag, to the horizon.
     fn is_timely(&self, t: &[u32; 3]) -> bool {
         for e in 0..3usize {
             let in_time = match self.fixed[e] {
                 Some(moment) => t[e] == moment,
-                None => self.now <= t[e] && t[e] <= self.horizon,
+                None => self.now.saturating_sub(self.lags[e]) <= t[e] && t[e] <= self.horizon,
             };
             if e < usize::from(self.events) && !in_time {
                 return false;
@@ -117,26 +119,33 @@ impl Sketch {
                 next.now = now;
             }
             Change::Fix(e, moment) => {
-                if e >= 3 || self.events <= e || moment < self.now || self.horizon < moment {
+                if e >= 3 || self.events <= e || self.fixed[e as usize].is_some() {
                     return None;
                 }
-                if self.fixed[e as usize].is_some() {
+                let floor = self.now.saturating_sub(self.lags[e as usize]);
+                if moment < floor || self.horizon < moment {
                     return None;
                 }
                 next.fixed[e as usize] = Some(moment);
+            }
+            Change::Lag(e, lag) => {
+                if e >= 3 || self.events <= e || self.now != 0 {
+                    return None;
+                }
+                next.lags[e as usize] = lag;
             }
         }
         Some(next)
     }
 
-    /// Whether a network tells all this: its bounds, its dispatched moments and its windows.
+    /// Whether a network tells all this: its bounds, its lags, its dispatched moments and its windows.
     fn is_told_by<N: Net>(&self, net: &N) -> bool {
         let Some(windows) = self.windows() else {
             return false;
         };
         for e in 0..3u16 {
             if e < net.events() {
-                if net.fixed(e) != self.fixed[e as usize] {
+                if net.fixed(e) != self.fixed[e as usize] || net.lag(e) != self.lags[e as usize] {
                     return false;
                 }
                 if window(net, e) != Some(windows[e as usize]) {
@@ -183,7 +192,7 @@ fn is_between(change: Change) -> bool {
 fn brings(change: Change, edge: Edge) -> bool {
     match change {
         Change::Add(_, _) => edge == Edge::New,
-        Change::Remove(_) => false,
+        Change::Remove(_) | Change::Lag(_, _) => false,
         Change::Raise(_) => match edge {
             Edge::Now(_) => true,
             _ => false,
@@ -228,10 +237,11 @@ impl Draws {
     }
 
     fn change(&mut self) -> Change {
-        match self.below(8) {
+        match self.below(9) {
             0 | 1 | 2 | 3 => Change::Add(self.below(4), self.bound()),
             4 => Change::Remove(self.below(4)),
             5 => Change::Raise(self.below(7)),
+            6 => Change::Lag(self.below(3) as u16, self.below(7)),
             _ => Change::Fix(self.below(3) as u16, self.below(7)),
         }
     }

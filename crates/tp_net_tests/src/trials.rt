@@ -5,13 +5,15 @@ ghost use Rattle.tp_bounds.specs.Situation.{HasPoint, IsInRange};
 use tp_bounds::{Bound, BoundId, Edge, Point};
 use tp_net::{Net, NetFault};
 
-/// A change of a network: a bound under an identifier, no bound there, a later moment, or an event at a moment.
+/// A change of a network: a bound under an identifier, no bound there, a later moment, an event at a moment, or how late one may be
+/// reported.
 #[derive(Clone, Copy, Debug)]
 pub enum Change {
     Add(u32, Bound),
     Remove(u32),
     Raise(u32),
     Fix(u16, u32),
+    Lag(u16, u32),
 }
 
 /// What a network answers. Of the reason of a conflict the first edge is kept, and how many there are.
@@ -108,10 +110,19 @@ fn ask_fix<N: Net>(net: &mut N, e: u16, moment: u32) -> Answer {
     if net.events() <= e {
         return Answer::Unasked;
     }
-    if net.fixed(e).is_some() || moment < net.now() || net.horizon() < moment {
+    let floor = net.now().saturating_sub(net.lag(e));
+    if net.fixed(e).is_some() || moment < floor || net.horizon() < moment {
         return Answer::Unasked;
     }
     answer_of(net.fix(e, moment))
+}
+
+fn ask_lag<N: Net>(net: &mut N, e: u16, lag: u32) -> Answer {
+    if net.events() <= e || net.now() != 0 || 1_000_000_000 < lag {
+        return Answer::Unasked;
+    }
+    net.set_lag(e, lag);
+    Answer::Done
 }
 
 fn ask_once<N: Net>(net: &mut N, change: Change) -> Answer {
@@ -120,6 +131,7 @@ fn ask_once<N: Net>(net: &mut N, change: Change) -> Answer {
         Change::Remove(id) => ask_remove(net, BoundId(id)),
         Change::Raise(now) => ask_raise(net, now),
         Change::Fix(e, moment) => ask_fix(net, e, moment),
+        Change::Lag(e, lag) => ask_lag(net, e, lag),
     }
 }
 

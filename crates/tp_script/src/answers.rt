@@ -131,10 +131,10 @@ fn write_moments<W: Sink>(writer: &mut W, moments: &[(u32, bool)]) -> Result<(),
 
 /// A report's line up to its moments.
 fn report_head(report: &Report) -> Text
-    ensures { result ≡ codes "report " ++ decimal report.now.moment ++ codes " " ++ kind_text report.now.kind }
+    ensures { result ≡ codes "report " ++ decimal report.entry.now.now ++ codes " " ++ kind_text report.entry.now.kind }
 {
     let mut text = Text::new(b"report ");
-    text.put_number(report.moment);
+    text.put_number(report.now);
     text.put(b" ");
     text.put(kind_word(report.kind));
     text
@@ -142,7 +142,7 @@ fn report_head(report: &Report) -> Text
 
 /// Writes the line of a report.
 fn write_report<W: Sink>(writer: &mut W, report: &Report) -> Result<(), Failed>
-    ensures bytes { Writes (W.held writer.old) (W.held writer.new) (line_of (Reported report.now)) result }
+    ensures bytes { Writes (W.held writer.old) (W.held writer.new) (line_of (Reported report.entry.now)) result }
     ensures cause { W.failures writer.new ≡ failures_after (W.failures writer.old) result }
 {
     let head = report_head(report);

@@ -3,7 +3,7 @@
 ghost use Rattle.std.specs.Prelude.{◌≡◌};
 ghost use Rattle.std.specs.Option.{option_copied};
 ghost use Rattle.tp_script.specs.Words.{words_of};
-ghost use Rattle.tp_script.specs.Commands.{event_of, moment_of, point_of, weight_of, the_only, bound_spelled, command_of};
+ghost use Rattle.tp_script.specs.Commands.{event_of, moment_of, point_of, weight_of, the_only, bound_spelled, pair_spelled, command_of};
 
 use crate::words::{next_word, read_number};
 use tp_bounds::{Bound, BoundId, Point};
@@ -86,6 +86,19 @@ fn read_bound(line: &[u8]) -> Option<Bound>
     })
 }
 
+/// The event and the moment, or the number of ticks, that two words spell.
+pub(crate) fn read_pair(line: &[u8]) -> Option<(u16, u32)>
+    ensures { result ≡ pair_spelled (words_of line.now) }
+{
+    let (event, rest) = next_word(line);
+    let (moment, rest) = next_word(rest);
+    let (more, _) = next_word(rest);
+    if event.is_empty() || moment.is_empty() || !more.is_empty() {
+        return None;
+    }
+    Some((read_event(event)?, read_moment(moment)?))
+}
+
 /// The command that a line spells.
 pub fn read_command(line: &[u8]) -> Option<Command>
     ensures { result ≡ command_of line.now }
@@ -101,6 +114,9 @@ pub fn read_command(line: &[u8]) -> Option<Command>
         Some(Command::Window(read_event(only_word(rest)?)?))
     } else if name == b"dispatch".as_slice() {
         Some(Command::Dispatch(read_event(only_word(rest)?)?))
+    } else if name == b"happened".as_slice() {
+        let (event, moment) = read_pair(rest)?;
+        Some(Command::Happened(event, moment))
     } else if name == b"report".as_slice() {
         let (more, _) = next_word(rest);
         if more.is_empty() {

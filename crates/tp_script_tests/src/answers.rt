@@ -32,7 +32,7 @@ fn write_all<W: Write + Drop, L: Ledger>(
 /// The report of two events at moment 4, of which one is dispatched.
 fn a_report(alloc: Global) -> Result<Answer, AllocError> {
     Ok(Answer::Reported(Report {
-        moment: 4,
+        now: 4,
         kind: Kind::Bare,
         moments: Vec::from_slice(alloc, &[(4, true), (6, false)])?,
         done: false,

@@ -14,7 +14,7 @@ fn spells(line: &[u8], command: Command) -> bool {
 
 #[test]
 fn lines_that_spell_commands(rt: HostRuntime) {
-    let lines: [(&[u8], Command); 7] = [
+    let lines: [(&[u8], Command); 9] = [
         (b"advance 7", Command::Advance(7)),
         (b"advance 0000000007", Command::Advance(7)),
         (b" \tadvance\t 7 \r", Command::Advance(7)),
@@ -22,6 +22,11 @@ fn lines_that_spell_commands(rt: HostRuntime) {
         (b"withdraw 12", Command::Withdraw(BoundId(12))),
         (b"window 0", Command::Window(0)),
         (b"dispatch 3", Command::Dispatch(3)),
+        (b"happened 3 7", Command::Happened(3, 7)),
+        (
+            b"happened 65535 4294967295",
+            Command::Happened(65_535, 4_294_967_295),
+        ),
     ];
     for (line, command) in lines {
         assert!(rt; spells(line, command));
@@ -52,6 +57,11 @@ fn lines_that_spell_none(rt: HostRuntime) {
         b"add 65536 0 1",
         b"add 1 0 99999999999",
         b"report 0",
+        b"happened 0",
+        b"happened 0 1 2",
+        b"happened o 1",
+        b"happened 0 -1",
+        b"lag 0 3",
         b"\xff",
     ];
     for line in lines {

@@ -6,5 +6,5 @@ use Rattle.tp_net.proofs.edges.raised.Given as goal
 abbrev pub invariant-loop-k : goal.invariant-loop-k
 invariant-loop-k l = record {
   len : length l.raised.items ≡ l.k;
-  each : (j : ℕ) → j < l.k → arc_at l.raised.items j ≡ raised_by l.now (name_at l.names j) (arc_at l.arcs j);
+  each : (j : ℕ) → j < l.k → arc_at l.raised.items j ≡ raised_by l.now l.lags (name_at l.names j) (arc_at l.arcs j);
 }

@@ -1,4 +1,4 @@
-use Rattle.std.proofs.Common.{◌≡◌, ℕ, List, length, get_or, ap, subst, sym}
+use Rattle.std.proofs.Common.{ℕ, List, subst, sym}
 use Rattle.tp_net.specs.Rounds.{AreHigh}
 use Rattle.tp_net.proofs.Settling.{none_after}
 use Rattle.tp_net.proofs.moments.solve_high.Goals as goal

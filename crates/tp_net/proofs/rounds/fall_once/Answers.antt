@@ -1,4 +1,4 @@
-use Rattle.std.proofs.Common.{◌<◌, length, subst, arith}
+use Rattle.std.proofs.Common.{length, subst, arith}
 use Rattle.std.proofs.lemmas.List.{get_or_default}
 use Rattle.tp_net.specs.Graph.{MeetsArc, arc_at, no_arc, moment}
 use Rattle.tp_net.specs.Slacks.{JoinsPoints}

@@ -16,6 +16,8 @@ fit_lawful s h =
       horizon = h.horizon;
       in_time = h.in_time;
       past = h.past;
+      lags = h.lags;
+      lag = h.lag;
       in_force = λ id b is. record { from = h.from id b is; to = h.to id b is; weight = h.weight id b is };
       proposed = λ b is. let f : None ≡ Some b = sym h.asks_nothing ∙ is in let g : ⊥ = cc in absurd g;
     }
