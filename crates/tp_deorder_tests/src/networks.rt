@@ -1,9 +1,10 @@
 //! Which bounds the plans of the small worlds have.
 
-use crate::worlds::{CHARGES, FUSES, LINES, SWITCHES, TANKS, World, lines_of, network, task_of};
+use crate::worlds::{CHARGES, FUSES, LINES, SWITCHES, TANKS, World, network, task_of};
 use std::alloc::Global;
 use std::process::Abort;
 use std::test::Fail;
+use tp_net_lines::network_text;
 
 fn shows(
     rt: &impl Abort,
@@ -14,7 +15,7 @@ fn shows(
 ) -> Result<(), Fail> {
     let task = task_of(alloc, world)?;
     let net = network(alloc, &task, plan, &task.limits)?;
-    let shown = lines_of(alloc, &net)?;
+    let shown = network_text(alloc, &net)?;
     assert_eq!(rt; shown.as_str(), lines);
     Ok(())
 }

@@ -1,11 +1,8 @@
-//! Plans of the small worlds, and their networks as lines.
+//! Plans of the small worlds, and their networks.
 
-ghost use Rattle.std.specs.Prelude.{◌<◌, length};
-
-use std::alloc::{AllocError, Global};
-use std::fmt::Write;
+use std::alloc::Global;
 use std::test::Fail;
-use tp_bounds::{Bound, Limits, PlanNet, Point};
+use tp_bounds::{Limits, PlanNet};
 use tp_deorder::deorder;
 use tp_ground::{Task, ground};
 use tp_happen::read_plan;
@@ -76,36 +73,4 @@ pub(crate) fn network(
             why: _,
         } => Err("the plan is not valid".into()),
     }
-}
-
-fn put_point(text: &mut String, point: Point) -> Result<(), AllocError> {
-    match point {
-        Point::Origin => write!(text, " o"),
-        Point::Event(e) => write!(text, " {e}"),
-    }
-}
-
-fn put_bound(text: &mut String, number: usize, bound: Bound) -> Result<(), AllocError> {
-    write!(text, "bound {number}")?;
-    put_point(text, bound.from)?;
-    put_point(text, bound.to)?;
-    writeln!(text, " {}", bound.w)
-}
-
-fn put_event(text: &mut String, net: &PlanNet, e: usize) -> Result<(), AllocError>
-    requires { e < length net.now.events.items }
-{
-    writeln!(text, "event {e} {}", net.event_text(e as u16))
-}
-
-/// The events of a network, and then its bounds, a line each.
-pub(crate) fn lines_of(alloc: Global, net: &PlanNet) -> Result<String, Fail> {
-    let mut text = String::new(alloc);
-    for e in 0..net.events.len() {
-        put_event(&mut text, net, e)?;
-    }
-    for (number, bound) in net.bounds.iter().enumerate() {
-        put_bound(&mut text, number, *bound)?;
-    }
-    Ok(text)
 }
