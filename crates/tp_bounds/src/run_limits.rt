@@ -105,7 +105,8 @@ impl Limits {
 
     /// The latest moment, in ticks.
     pub fn horizon(&self) -> u32
-        ensures { result ≡ self.now.horizon }
+        ensures horizon { result ≡ self.now.horizon }
+        ensures in_time { result ≤ MOST_HORIZON }
     {
         self.horizon
     }

@@ -1,0 +1,10 @@
+pub mod Each
+pub mod Durations
+pub mod Listed
+pub mod OnSteps
+pub mod OnWalks
+pub mod OnNets
+pub mod OnRunPlans
+pub mod OnPlanNets
+pub mod Every
+pub mod Suited

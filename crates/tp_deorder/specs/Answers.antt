@@ -1,0 +1,54 @@
+-- What the network of a plan is, and when it is refused.
+use Rattle.std.specs.Prelude.{◌≡◌, ℕ, ◌<◌, ◌≤◌, ◌⊎◌, ◌↔◌, List, length, map, slice_index_or, string_bytes}
+use Rattle.tp_bounds.specs.declared.Bound.{Bound}
+use Rattle.tp_bounds.specs.Schedule.{IsSchedule}
+use Rattle.tp_ground.specs.declared.task.Task.{Task}
+use Rattle.tp_ground.specs.Bounds.{MeetsBounds}
+use Rattle.tp_happen.specs.declared.plans.Step.{Step}
+use Rattle.tp_validate.specs.OfTask.{scale_of, plan_of, state_at, IsValidPlan}
+use Rattle.tp_deorder.specs.RunPlans.{run_steps}
+use Rattle.std.specs.List.{All}
+use Rattle.tp_bounds.specs.declared.plan_nets.PlanNet.{PlanNet}
+use Rattle.tp_bounds.specs.Nets.{SuitsNet}
+use Rattle.tp_bounds.specs.OwnBounds.{situation_of, IsWithin}
+use Rattle.tp_bounds.specs.RunLimits.{RunLimits}
+use Rattle.tp_ground.specs.Valid.{Planned, events}
+use Rattle.tp_ground.specs.Verdict.{last_moment}
+use Rattle.tp_deorder.specs.declared.DeorderFault.{DeorderFault}
+use Rattle.tp_deorder.specs.declared.DeorderFault.TheVariants.{Memory, TooMany}
+use Rattle.tp_deorder.specs.EventTexts.{event_lines}
+use Rattle.tp_deorder.specs.Inequalities.{event_count_of, bound_count}
+
+-- a fact of the fault, if it is not want of memory
+abbrev pub OnTooMany : DeorderFault → Type 0 → Type 0
+OnTooMany Memory P = Unit {0}
+OnTooMany TooMany P = P
+
+-- The plan has more events than the limits allow, ends past their horizon, or has more bounds than they allow.
+abbrev pub PassesLimits : RunLimits → List Planned → Type 0
+PassesLimits l plan = (l.events < length (events plan)) ⊎ ((l.horizon < last_moment (events plan)) ⊎ (l.bounds < bound_count plan))
+
+-- the plan's own ticks: the moment of each event, by its number
+abbrev pub own_ticks : List Planned → ℕ → ℕ
+own_ticks plan e = slice_index_or (map (λ x. x.moment) (events plan)) e 0
+
+-- The schedules of the network are exactly the assignments from 0 to the horizon that meet the bounds of the plan; the plan's
+-- own ticks are one; and the plan of a run at each is valid.
+pub record IsNetOf (t : Task) (steps : List Step) (horizon : ℕ) (bounds : List Bound) : Type 0 where
+  pub exact : (m : ℕ → ℕ) → IsSchedule (situation_of (event_count_of (plan_of t steps)) horizon bounds) m
+      ↔ (IsWithin (event_count_of (plan_of t steps)) horizon m × MeetsBounds (scale_of t) (state_at t steps) (plan_of t steps) m)
+  pub own : IsSchedule (situation_of (event_count_of (plan_of t steps)) horizon bounds) (own_ticks (plan_of t steps))
+  pub valid : (m : ℕ → ℕ) → IsSchedule (situation_of (event_count_of (plan_of t steps)) horizon bounds) m
+      → IsValidPlan t (run_steps t m steps)
+  -- it is one that a network takes: `horizon` is at most that of the limits
+  pub suit : horizon ≤ 1_000_000_000 → All (SuitsNet (event_count_of (plan_of t steps))) bounds
+
+-- A network of a plan within limits: its horizon is theirs, its events are the plan's, told as text, its bounds are the plan's,
+-- and there are no more of either than the limits allow.
+pub record IsPlanNetOf (t : Task) (steps : List Step) (l : RunLimits) (n : PlanNet) : Type 0 where
+  pub horizon : n.horizon ≡ l.horizon
+  pub texts : map string_bytes n.events.items ≡ event_lines t steps
+  pub events : length n.events.items ≡ event_count_of (plan_of t steps)
+  pub few_events : length n.events.items ≤ l.events
+  pub few_bounds : length n.bounds.items ≤ l.bounds
+  pub net : IsNetOf t steps l.horizon n.bounds.items

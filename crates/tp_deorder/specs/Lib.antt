@@ -1,0 +1,5 @@
+pub mod Spans
+pub mod Inequalities
+pub mod Answers
+pub mod RunPlans
+pub mod EventTexts

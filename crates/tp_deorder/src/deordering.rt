@@ -1,0 +1,174 @@
+//! The network of a validated plan.
+
+ghost use Rattle.std.specs.Prelude.{◌≡◌, ℕ, ◌+◌, ◌++◌, ◌≤◌, ◌<◌, true, false, ◌||◌, None, nat_le, nat_lt, length, pos, ◌≤ℤ◌, IfOk, IfErr};
+ghost use Rattle.std.specs.List.{list_all, All};
+ghost use Rattle.tp_ground.specs.Fits.{body_fits};
+ghost use Rattle.tp_ground.specs.Valid.{events, at};
+ghost use Rattle.tp_ground.specs.Verdict.{states, fault_at, last_moment};
+ghost use Rattle.tp_happen.specs.Bounded.{StaysSmall};
+ghost use Rattle.tp_happen.specs.Steps.{IsPlan};
+ghost use Rattle.tp_validate.specs.Verdict.{IsSound};
+ghost use Rattle.tp_validate.specs.OfTask.{scale_of, begin, plan_of};
+ghost use Rattle.tp_deorder.specs.Spans.{plan_ticks};
+ghost use Rattle.tp_deorder.specs.Inequalities.{orders, steps_by, plan_bounds, bound_count, event_count_of};
+ghost use Rattle.tp_deorder.specs.Answers.{OnTooMany, PassesLimits, IsNetOf, IsPlanNetOf};
+
+use crate::DeorderFault;
+use crate::event_texts::event_texts;
+use crate::orders::note_orders;
+use crate::spans::Ticks;
+use crate::steps::note_steps;
+use crate::walk::walk;
+use std::alloc::Global;
+use tp_bounds::{Bound, Limits, PlanNet};
+use tp_ground::Task;
+use tp_happen::Step;
+use tp_validate::{PlacedEvent, PlannedStep, ValidPlan, agenda_of, placed_events, planned_steps};
+
+/// The bounds of steps that may take these numbers of ticks. TooMany where they are more than `most`.
+fn note_all(
+    alloc: Global,
+    events: &[PlacedEvent<'_>],
+    steps: &[PlannedStep<'_>],
+    kept: &[Ticks],
+    horizon: u32,
+    most: u32,
+) -> Result<Vec<Bound>, DeorderFault>
+    requires few { length steps.now ≤ 512 }
+    requires each { length kept.now ≡ length steps.now }
+    requires least { All (λ w. pos 0 ≤ℤ w.least) kept.now }
+    requires ends { All (λ p. p.moment + p.duration ≤ 1000000000) steps.now }
+    ensures ok { IfOk result (λ v. v.items ≡ orders events.now events.now ++ steps_by horizon events.now 0 steps.now kept.now) }
+    ensures few { IfOk result (λ v. length v.items ≤ most) }
+    ensures err { IfErr result (λ e. OnTooMany e (most < length (orders events.now events.now ++ steps_by horizon events.now 0 steps.now kept.now))) }
+{
+    let mut bounds = Vec::new(alloc);
+    note_orders(&mut bounds, events)?;
+    note_steps(alloc, &mut bounds, events, steps, kept, horizon, most)?;
+    if bounds.len() > most as usize {
+        return Err(DeorderFault::TooMany);
+    }
+    Ok(bounds)
+}
+
+/// How many ticks each step of a valid plan may take.
+fn ticks_of(
+    alloc: Global,
+    task: &Task,
+    horizon: u32,
+    steps: &[PlannedStep<'_>],
+) -> Result<Vec<Ticks>, DeorderFault>
+    requires few { length steps.now ≤ 512 }
+    requires ends { list_all (λ p. nat_le (p.moment + p.duration) 1000000000) steps.now ≡ true }
+    requires fits { list_all (λ p. body_fits (length task.now.initial_atoms.items) (length task.now.initial_numbers.items) p.body) steps.now ≡ true }
+    requires clear { (m : ℕ) → fault_at (scale_of task.now) (begin task.now) steps.now m ≡ None }
+    requires small { (m : ℕ) → StaysSmall (scale_of task.now) (states (scale_of task.now) (begin task.now) (events steps.now) m) (at m (events steps.now)) }
+    ensures ok { IfOk result (λ v. v.items ≡ plan_ticks horizon (scale_of task.now) (states (scale_of task.now) (begin task.now) (events steps.now)) steps.now) }
+    ensures err { IfErr result (λ e. OnTooMany e ⊥) }
+{
+    let agenda = agenda_of(placed_events(alloc, steps)?)?;
+    walk(alloc, task, horizon, steps, &agenda)
+}
+
+/// The bounds of a valid plan. TooMany where they are more than `most`.
+fn bounds_of(
+    alloc: Global,
+    task: &Task,
+    steps: &[PlannedStep<'_>],
+    horizon: u32,
+    most: u32,
+) -> Result<Vec<Bound>, DeorderFault>
+    requires few { length steps.now ≤ 512 }
+    requires ends { list_all (λ p. nat_le (p.moment + p.duration) 1000000000) steps.now ≡ true }
+    requires fits { list_all (λ p. body_fits (length task.now.initial_atoms.items) (length task.now.initial_numbers.items) p.body) steps.now ≡ true }
+    requires clear { (m : ℕ) → fault_at (scale_of task.now) (begin task.now) steps.now m ≡ None }
+    requires small { (m : ℕ) → StaysSmall (scale_of task.now) (states (scale_of task.now) (begin task.now) (events steps.now) m) (at m (events steps.now)) }
+    ensures ok { IfOk result (λ v. v.items ≡ plan_bounds horizon (scale_of task.now) (states (scale_of task.now) (begin task.now) (events steps.now)) steps.now) }
+    ensures few { IfOk result (λ v. length v.items ≤ most) }
+    ensures err { IfErr result (λ e. OnTooMany e (most < bound_count steps.now)) }
+{
+    let kept = ticks_of(alloc, task, horizon, steps)?;
+    let events = placed_events(alloc, steps)?;
+    note_all(alloc, &events, steps, &kept, horizon, most)
+}
+
+/// The last moment with an event, 0 if there is none.
+fn last_tick(events: &[PlacedEvent<'_>]) -> u32
+    ensures { result ≡ last_moment events.now }
+{
+    let mut last = 0;
+    for event in events {
+        last = event.moment().max(last);
+    }
+    last
+}
+
+/// Whether a plan has too many events for the limits, or ends past their horizon.
+fn passes(alloc: Global, steps: &[PlannedStep<'_>], limits: &Limits) -> Result<bool, DeorderFault>
+    requires few { length steps.now ≤ 512 }
+    requires ends { list_all (λ p. nat_le (p.moment + p.duration) 1000000000) steps.now ≡ true }
+    ensures ok { IfOk result (λ r. r ≡ (nat_lt limits.now.events (length (events steps.now)) || nat_lt limits.now.horizon (last_moment (events steps.now)))) }
+    ensures err { IfErr result (λ e. OnTooMany e ⊥) }
+{
+    let events = placed_events(alloc, steps)?;
+    Ok((limits.events() as usize) < events.len() || limits.horizon() < last_tick(&events))
+}
+
+/// The bounds of a sound plan of a task, within limits.
+fn bounds_within(
+    alloc: Global,
+    task: &Task,
+    steps: &[Step],
+    limits: &Limits,
+) -> Result<Vec<Bound>, DeorderFault>
+    requires plan { IsPlan steps.now }
+    requires sound { IsSound task.now steps.now }
+    ensures net { IfOk result (λ v. IsNetOf task.now steps.now limits.now.horizon v.items) }
+    ensures events { IfOk result (λ _. event_count_of (plan_of task.now steps.now) ≤ limits.now.events) }
+    ensures few { IfOk result (λ v. length v.items ≤ limits.now.bounds) }
+    ensures err { IfErr result (λ e. OnTooMany e (PassesLimits limits.now (plan_of task.now steps.now))) }
+{
+    let planned = planned_steps(alloc, task, steps)?;
+    if passes(alloc, &planned, limits)? {
+        return Err(DeorderFault::TooMany);
+    }
+    bounds_of(alloc, task, &planned, limits.horizon(), limits.bounds())
+}
+
+/// The network of a sound plan of a task, within limits.
+fn net_within(
+    alloc: Global,
+    task: &Task,
+    steps: &[Step],
+    limits: &Limits,
+) -> Result<PlanNet, DeorderFault>
+    requires plan { IsPlan steps.now }
+    requires sound { IsSound task.now steps.now }
+    ensures net { IfOk result (IsPlanNetOf task.now steps.now limits.now) }
+    ensures err { IfErr result (λ e. OnTooMany e (PassesLimits limits.now (plan_of task.now steps.now))) }
+{
+    let bounds = bounds_within(alloc, task, steps, limits)?;
+    let events = event_texts(alloc, task, steps)?;
+    Ok(PlanNet {
+        horizon: limits.horizon(),
+        events,
+        bounds,
+    })
+}
+
+/// The network of a validated plan: its schedules are exactly the assignments that meet the bounds of the plan, and the plan
+/// of a run at each of them is valid. TooMany where the plan has more events or bounds than the limits allow, or ends past
+/// their horizon.
+///
+/// It looks at each pair of events, and for each durative step at each event and each pair of those that write into its
+/// invariant. Which bounds express the schedules is this function's own choice.
+pub fn deorder(
+    alloc: Global,
+    plan: &ValidPlan<'_>,
+    limits: &Limits,
+) -> Result<PlanNet, DeorderFault>
+    ensures net { IfOk result (IsPlanNetOf plan.now.task plan.now.steps limits.now) }
+    ensures err { IfErr result (λ e. OnTooMany e (PassesLimits limits.now (plan_of plan.now.task plan.now.steps))) }
+{
+    net_within(alloc, plan.task(), plan.plan().steps(), limits)
+}

@@ -1,0 +1,67 @@
+//! Deordering: the network of all schedules of a validated plan.
+//!
+//! - `walk`: how many ticks each step may take, by the states that the plan's run goes through
+//! - `spans`: how many ticks a duration rule allows in a state
+//! - `orders`: bounds that keep the order of interfering events
+//! - `invariants`: bounds that keep what writes into an invariant in its place
+//! - `steps`: bounds that keep the steps' lengths and their invariants
+//! - `event_texts`: the texts of the events
+//! - `deordering`: all of it, `deorder`
+#![tactic(auto)]
+
+ghost use Rattle.std.specs.Prelude.{◌≡◌, ℕ, List, ◌↔◌};
+ghost use Rattle.tp_ground.specs.State.{State};
+ghost use Rattle.tp_ground.specs.Valid.{Planned};
+ghost use Rattle.tp_ground.specs.Bounds.{MeetsBounds, retimed};
+ghost use Rattle.tp_ground.specs.declared.task.Task.{Task};
+ghost use Rattle.tp_happen.specs.declared.plans.Step.{Step};
+ghost use Rattle.tp_validate.specs.OfTask.{plan_of};
+ghost use Rattle.tp_deorder.specs.RunPlans.{run_steps};
+ghost use Rattle.tp_bounds.specs.Schedule.{IsSchedule};
+ghost use Rattle.tp_bounds.specs.OwnBounds.{situation_of, IsWithin};
+ghost use Rattle.tp_deorder.specs.Inequalities.{plan_bounds, event_count_of};
+
+mod deordering;
+mod event_texts;
+mod invariants;
+mod orders;
+mod spans;
+mod steps;
+mod walk;
+
+pub use deordering::deorder;
+use std::alloc::AllocError;
+use thiserror::Error;
+
+/// What keeps a plan from having a network: want of memory, or too many events, ticks or bounds for the limits.
+#[derive(Clone, Copy, Debug, PartialEq, Eq, Error)]
+pub enum DeorderFault {
+    #[error("out of memory")]
+    Memory,
+    #[error("the plan passes the limits")]
+    TooMany,
+}
+
+impl From<AllocError> for DeorderFault {
+    ghost use Rattle.std.specs.Prelude.{◌≡◌};
+    ghost use Rattle.tp_deorder.specs.declared.DeorderFault.TheVariants.{Memory};
+
+    ghost from_gives = { λ _ fault. fault ≡ Memory };
+
+    fn from(_fault: AllocError) -> DeorderFault {
+        DeorderFault::Memory
+    }
+}
+
+/// The schedules of the list of a plan's bounds are exactly the assignments from 0 to the horizon that meet the bounds
+/// of the plan.
+pub fn bounds_are_listed()
+    ensures { (horizon scale : ℕ) (trace : ℕ → State) (plan : List Planned) (t : ℕ → ℕ)
+        → (IsSchedule (situation_of (event_count_of plan) horizon (plan_bounds horizon scale trace plan)) t
+        ↔ (IsWithin (event_count_of plan) horizon t × MeetsBounds scale trace plan t)) }
+{}
+
+/// What the steps of a run's plan do is what the validated ones do, retimed.
+pub fn runs_are_retimed()
+    ensures { (task : Task) (t : ℕ → ℕ) (steps : List Step) → plan_of task (run_steps task t steps) ≡ retimed t (plan_of task steps) }
+{}
