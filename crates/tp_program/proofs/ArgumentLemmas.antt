@@ -1,0 +1,103 @@
+-- What a parse asks for.
+use Rattle.std.proofs.Common.{◌≡◌, ◌∙◌, ap, arith, ℕ, ◌∷◌, inl, inr, refl, sym, subst, List, [], Option, Some, None, true, codes}
+use Rattle.std.specs.Prelude.{Box, Result, Ok, Err, option_map}
+use Rattle.std.specs.Box.{box_value}
+use Rattle.clap.specs.Words.{FailsBy, IsAmong, ReadsOne, Row, Text, fault_of, one_of, one_text, is_simple, is_simple_and_free, kind_of, rows_of, subcommand_name_of, subcommand_of, subcommand_rows, subcommand_rows_of}
+use Rattle.clap.specs.declared.error.Error.{Error}
+use Rattle.clap.specs.declared.error.kind.ErrorKind.TheVariants.{DisplayHelp, OutOfMemory}
+use Rattle.clap.specs.declared.parser.matches.ArgMatches.{ArgMatches}
+use Rattle.clap.specs.declared.parser.matches.ArgMatches.TheViews.{out-ArgMatches, out-SubCommand}
+use Rattle.clap.specs.declared.parser.matches.SubCommand.{SubCommand}
+use Rattle.clap.proofs.OnLiterals.{clap_on_literals}
+use Rattle.clap.proofs.WalkLemmas.{one_text-rows}
+use Rattle.std.specs.Str.Parse.{digits_value, without_leading_plus}
+use Rattle.clap.specs.declared.parser.matches.Found.{Found}
+use Rattle.tp_program.specs.Commands.{tempo_app}
+use Rattle.tp_program.specs.Requests.{AsksBy, AsksFor, NamesBare, Spells}
+use Rattle.tp_text.specs.Scales.{scale_ticks}
+use Rattle.tp_program.specs.declared.requests.PlanWords.{PlanWords}
+use Rattle.tp_program.specs.declared.requests.Request.{Request}
+use Rattle.tp_program.specs.declared.requests.Request.TheVariants.{Bare, Check, Help}
+
+module _ {Z : Type 0} where
+  none_rows : (s : Option (Box SubCommand Z)) → option_map (λ b. (out-SubCommand (box_value b)).name.now) s ≡ None → subcommand_rows s ≡ None
+  none_rows None e = refl
+  none_rows (Some b) e = cc
+
+  some_rows : (s : Option (Box SubCommand Z)) (name : Text) (rows : List Row) → option_map (λ b. (out-SubCommand (box_value b)).name.now) s ≡ Some name → option_map (λ p. p.1) (subcommand_rows s) ≡ Some rows → subcommand_rows s ≡ Some (name, rows)
+  some_rows None name rows e f = cc
+  some_rows (Some b) name rows e f = cc
+
+-- a parse that named no command
+pub none_named : (m : ArgMatches) → subcommand_name_of m ≡ None → subcommand_rows_of m ≡ None
+none_named m e = none_rows (out-ArgMatches m).subcommand e
+
+-- a parse that named one
+pub some_named : (m : ArgMatches) (name : Text) (rows : List Row) → subcommand_name_of m ≡ Some name → option_map (λ p. p.1) (subcommand_rows (out-ArgMatches m).subcommand) ≡ Some rows → subcommand_rows_of m ≡ Some (name, rows)
+some_named m name rows e f = some_rows (out-ArgMatches m).subcommand name rows e f
+
+pub simple : is_simple tempo_app ≡ true
+unfolding clap_on_literals
+simple = refl
+
+pub simple_and_free : is_simple_and_free tempo_app ≡ true
+unfolding clap_on_literals
+simple_and_free = refl
+
+-- what matches ask for, the words ask for
+pub asks_by : (words : List Text) (named : Option (Text × List Row)) (r : Request) → fault_of tempo_app words ≡ [] → named ≡ subcommand_of tempo_app words → AsksBy named r → AsksFor words r
+asks_by words named Bare free is h = (free, subst (λ n. NamesBare n) is h)
+asks_by words named (Check w) free is h = (free, subst (λ n. AsksBy n (Check w)) is h)
+asks_by words named (Help text) free is h = absurd h
+
+-- an error that is a call for help
+pub asks_help : (words : List Text) (e : Error) (r : Request) → FailsBy {T = ArgMatches} (fault_of tempo_app words) (Err e) → ((text : _) × (r ≡ Help text)) × (kind_of e ≡ DisplayHelp) → AsksFor words r
+asks_help words e r fails is =
+    subst (λ q. AsksFor words q) (sym is.0.1) (elim fails [
+      | inl memory ↦ cc
+      | inr among ↦ subst (λ k. IsAmong k (fault_of tempo_app words)) is.1 among
+    ])
+
+-- without a fault only memory is wanting
+pub only_memory : (words : List Text) (e : Error) → fault_of tempo_app words ≡ [] → FailsBy {T = ArgMatches} (fault_of tempo_app words) (Err e) → kind_of e ≡ OutOfMemory
+only_memory words e free fails = elim fails [
+  | inl memory ↦ memory
+  | inr among ↦
+      let no : ⊥ = subst (λ ks. IsAmong (kind_of e) ks) free among in
+      absurd no
+]
+
+pub no_words : AsksFor [] Bare
+unfolding clap_on_literals
+no_words = (refl, tt)
+
+pub bare_word : AsksFor (codes "bare" ∷ []) Bare
+unfolding clap_on_literals
+bare_word = (refl, refl)
+
+-- a number that was read is spelled by its text
+pub number_spelled : {E : Type 0} (gives : List ℕ → Result ℕ E → Type 0) (f : Found) (id : Text) (n : ℕ) (o : Option (List ℕ)) → one_text f id ≡ o → (one_text f id ≡ None → Some n ≡ None) → ((t : List ℕ) → one_text f id ≡ Some t → ReadsOne gives t (Some n)) → ((t : List ℕ) → gives t (Ok n) → n ≡ digits_value 10 (without_leading_plus t)) → Spells (one_of id (rows_of f)) n
+number_spelled gives f id n None e none value told =
+    let no : Some n ≡ None = none e in
+    cc
+number_spelled gives f id n (Some t) e none value told =
+    (t, sym (one_text-rows f id) ∙ e, sym (told t (value t e)))
+
+-- the three files, the scale that is given, and the horizon where none is given
+pub check_words : (w : PlanWords) → w.domain.now ≡ codes "d" → w.problem.now ≡ codes "p" → w.plan.now ≡ codes "l" → scale_ticks w.scale ≡ 1000 → w.horizon ≡ 1000000 → AsksFor (codes "check" ∷ codes "d" ∷ codes "p" ∷ codes "--scale" ∷ codes "1000" ∷ codes "l" ∷ []) (Check w)
+unfolding clap_on_literals
+check_words w domain problem plan scale horizon = (
+  refl,
+  (
+    _,
+    refl,
+    record {
+      domain = ap Some (sym domain);
+      problem = ap Some (sym problem);
+      plan = ap Some (sym plan);
+      scale = (codes "1000", refl, sym scale);
+      horizon = (codes "1000000", refl, sym horizon);
+      within = omega (arith, horizon);
+    },
+  ),
+)

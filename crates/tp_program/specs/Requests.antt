@@ -1,0 +1,44 @@
+-- What the words of a call ask for.
+use Rattle.std.specs.Prelude.{◌≡◌, ◌≤◌, ℕ, List, [], Option, Some, None, codes}
+use Rattle.std.specs.Str.Parse.{digits_value, without_leading_plus}
+use Rattle.clap.specs.Words.{IsAmong, Row, Text, fault_of, first_of, one_of, subcommand_of}
+use Rattle.clap.specs.declared.error.kind.ErrorKind.TheVariants.{DisplayHelp}
+use Rattle.tp_text.specs.Scales.{scale_ticks}
+use Rattle.tp_program.specs.Commands.{tempo_app}
+use Rattle.tp_program.specs.declared.requests.PlanWords.{PlanWords}
+use Rattle.tp_program.specs.declared.requests.Request.{Request}
+use Rattle.tp_program.specs.declared.requests.Request.TheVariants.{Bare, Check, Help}
+
+-- the text is there, and its digits make the number
+abbrev pub Spells : Option Text → ℕ → Type 0
+Spells text n = (t : Text) × (text ≡ Some t) × (digits_value 10 (without_leading_plus t) ≡ n)
+
+-- the values of `check`, or their defaults
+pub record IsPlanWords (rows : List Row) (w : PlanWords) : Type 0 where
+  pub domain : first_of (codes "DOMAIN") rows ≡ Some w.domain.now
+  pub problem : first_of (codes "PROBLEM") rows ≡ Some w.problem.now
+  pub plan : first_of (codes "PLAN") rows ≡ Some w.plan.now
+  pub scale : Spells (one_of (codes "scale") rows) (scale_ticks w.scale)
+  pub horizon : Spells (one_of (codes "horizon") rows) w.horizon
+  pub within : w.horizon ≤ 1000000000
+
+-- no command is named, or `bare`
+abbrev pub NamesBare : Option (Text × List Row) → Type 0
+NamesBare None = Unit {0}
+NamesBare (Some named) = named.0 ≡ codes "bare"
+
+-- what a command with its values asks for
+abbrev pub AsksBy : Option (Text × List Row) → Request → Type 0
+AsksBy named Bare = NamesBare named
+AsksBy named (Check w) = (rows : List Row) × (named ≡ Some (codes "check", rows)) × IsPlanWords rows w
+AsksBy named (Help text) = ⊥
+
+-- the words of a call ask for it: they are words of a command, or call for help
+abbrev pub AsksFor : List Text → Request → Type 0
+AsksFor words (Help text) = IsAmong DisplayHelp (fault_of tempo_app words)
+AsksFor words Bare = (fault_of tempo_app words ≡ []) × AsksBy (subcommand_of tempo_app words) Bare
+AsksFor words (Check w) = (fault_of tempo_app words ≡ []) × AsksBy (subcommand_of tempo_app words) (Check w)
+
+-- the words ask for no network of bounds: for something else, or for nothing
+abbrev pub AsksForNoNetwork : List Text → Type 0
+AsksForNoNetwork words = AsksFor words Bare → ⊥

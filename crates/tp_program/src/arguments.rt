@@ -1,0 +1,144 @@
+// The reading of the words of a call.
+ghost use Rattle.std.specs.Prelude.{◌≡◌, ◌≢◌, ◌⊎◌, ◌∷◌, [], List, Some, None, Ok, Err, IfOk, IfErr, IfSome, map, option_map, codes};
+ghost use Rattle.std.specs.String.{string_bytes};
+ghost use Rattle.clap.specs.Words.{Text, Row, first_of, found_of, kind_of, one_of, rows_of, subcommand_rows_of};
+ghost use Rattle.clap.specs.declared.error.kind.ErrorKind.TheVariants as kinds;
+ghost use Rattle.tp_text.specs.Scales.{scale_ticks};
+ghost use Rattle.tp_program.specs.declared.requests.PlanWords.{PlanWords};
+ghost use Rattle.tp_program.specs.Requests.{AsksBy, AsksFor, IsPlanWords, NamesBare, Spells};
+
+use crate::commands::tempo_command;
+use crate::requests::{PlanWords, Request};
+use clap::error::ErrorKind;
+use clap::{ArgMatches, Error};
+use std::alloc::{AllocError, Global};
+use tp_text::Scale;
+
+/// Why a call's words ask for nothing.
+#[derive(Drop)]
+pub enum Refusal {
+    /// A growth was refused.
+    Memory,
+    /// They are no words of a command. The text says more, where there is one.
+    Words(Option<String>),
+}
+
+impl From<AllocError> for Refusal {
+    ghost use Rattle.tp_program.specs.declared.arguments.Refusal.TheVariants.{Memory};
+
+    ghost from_gives = { λ _ e. e ≡ Memory };
+
+    fn from(_e: AllocError) -> Refusal {
+        Refusal::Memory
+    }
+}
+
+/// The greatest horizon.
+const GREATEST_HORIZON: u32 = 1_000_000_000;
+
+/// The value of a word.
+fn word<'w>(matches: &ArgMatches<'w>, id: &str) -> Option<&'w str>
+    ensures { option_map (λ s. s.now) result ≡ first_of id.now (rows_of (found_of matches.now)) }
+{
+    matches.get_str(id)
+}
+
+/// The number that the value of a word spells.
+fn number(matches: &ArgMatches<'_>, id: &str) -> Option<u32>
+    ensures { IfSome result (Spells (one_of id.now (rows_of (found_of matches.now)))) }
+{
+    matches.get_one::<u32>(id)
+}
+
+/// The scale that `--scale` asks for, if there is such a one.
+fn scale(matches: &ArgMatches<'_>) -> Option<Scale>
+    ensures { IfSome result (λ s. Spells (one_of (codes "scale") (rows_of (found_of matches.now))) (scale_ticks s)) }
+{
+    Scale::from_number(number(matches, "scale")?)
+}
+
+/// The files of a plan and how its time is measured.
+fn plan_words<'w>(matches: &ArgMatches<'w>) -> Option<PlanWords<'w>>
+    ensures { IfSome result (IsPlanWords (rows_of (found_of matches.now))) }
+{
+    let domain = word(matches, "DOMAIN")?;
+    let problem = word(matches, "PROBLEM")?;
+    let plan = word(matches, "PLAN")?;
+    let scale = scale(matches)?;
+    let horizon = number(matches, "horizon")?;
+    if horizon > GREATEST_HORIZON {
+        return None;
+    }
+    Some(PlanWords {
+        domain,
+        problem,
+        plan,
+        scale,
+        horizon,
+    })
+}
+
+/// What a command with its values asks for.
+fn asked_by<'w>(name: &str, matches: &ArgMatches<'w>) -> Result<Request<'w>, Refusal>
+    ensures asked { IfOk result (AsksBy (Some (name.now, rows_of (found_of matches.now)))) }
+    ensures bare { name.now ≡ codes "bare" → result ≡ Ok Request.Bare }
+{
+    if name == "bare" {
+        return Ok(Request::Bare);
+    }
+    if name == "check" {
+        if let Some(words) = plan_words(matches) {
+            return Ok(Request::Check(words));
+        }
+    }
+    Err(Refusal::Words(None))
+}
+
+/// What a parse asks for.
+fn asked<'w>(matches: &ArgMatches<'w>) -> Result<Request<'w>, Refusal>
+    ensures asked { IfOk result (AsksBy (subcommand_rows_of matches.now)) }
+    ensures bare { NamesBare (subcommand_rows_of matches.now) → result ≡ Ok Request.Bare }
+{
+    match matches.subcommand() {
+        None => Ok(Request::Bare),
+        Some((name, inner)) => asked_by(name, inner),
+    }
+}
+
+/// What is left where a parse gave no matches: help that was called for, or a refusal.
+fn without_matches<'w>(alloc: Global, error: &Error) -> Result<Request<'w>, Refusal>
+    ensures help { IfOk result (λ r. ((text : _) × (r ≡ Request.Help text)) × (kind_of error.now ≡ kinds.DisplayHelp)) }
+    ensures memory { kind_of error.now ≡ kinds.OutOfMemory → result ≡ Err Refusal.Memory }
+{
+    match error.kind() {
+        ErrorKind::OutOfMemory => Err(Refusal::Memory),
+        ErrorKind::DisplayHelp => Ok(Request::Help(format!(in alloc; "{error}")?)),
+        _ => Err(Refusal::Words(Some(format!(in alloc; "{error}")?))),
+    }
+}
+
+/// Reads the words of a call.
+pub fn read_words<'w>(alloc: Global, words: &'w [String]) -> Result<Request<'w>, Refusal>
+    ensures asked { IfOk result (AsksFor (map string_bytes words.now)) }
+    ensures bare { AsksFor (map string_bytes words.now) Request.Bare
+        → (result ≡ Ok Request.Bare) ⊎ (result ≡ Err Refusal.Memory) }
+{
+    let command = tempo_command(alloc)?;
+    match command.try_get_matches_from(words) {
+        Ok(matches) => asked(&matches),
+        Err(error) => without_matches(alloc, &error),
+    }
+}
+
+/// A call without words, and one with the word `bare` alone, ask for the same.
+pub fn bare_calls()
+    ensures none { AsksFor [] Request.Bare }
+    ensures bare { AsksFor (codes "bare" ∷ []) Request.Bare }
+{}
+
+/// Files and options of `check`, in the order in which they may stand, with a horizon of 1000000 where none is given.
+pub fn check_calls()
+    ensures { (w : PlanWords) → w.domain.now ≡ codes "d" → w.problem.now ≡ codes "p" → w.plan.now ≡ codes "l"
+        → scale_ticks w.scale ≡ 1000 → w.horizon ≡ 1000000
+        → AsksFor (codes "check" ∷ codes "d" ∷ codes "p" ∷ codes "--scale" ∷ codes "1000" ∷ codes "l" ∷ []) (Request.Check w) }
+{}

@@ -1,0 +1,150 @@
+// The commands of the program, their words and their help, as `clap` is told of them.
+ghost use Rattle.std.specs.Prelude.{◌≡◌, false, IfOk, codes};
+ghost use Rattle.clap.specs.Words.{app_of, new_app, rule_of};
+ghost use Rattle.clap.specs.declared.builder.command.Command.TheViews.{out-Command as fields_of};
+ghost use Rattle.tp_program.specs.Commands.{check_app, file_rule, horizon_rule, scale_rule, start_app, tempo_app};
+
+use clap::{Arg, ArgAction, Command, value_parser};
+use std::alloc::{AllocError, Global};
+
+const ABOUT: &str =
+    "Plans over time: judges them, and answers commands on networks of events and bounds";
+
+const EXIT: &str = "Without words it does what `tempo bare` does.
+
+Exit status: 0 yes, 1 an answer of no, 2 refused input, 3 memory or a device.
+For 2 and 3 a line `fault PART NUMBER WORD ..` goes to standard error.
+
+Examples:
+  printf 'network 1 5\\nwindow 0\\n' | tempo bare
+  tempo check domain.pddl problem.pddl plan.txt";
+
+const BARE_ABOUT: &str = "Answers commands on a network of events and bounds";
+
+const BARE_HELP: &str =
+    "Standard input has the line `network N H`, N events up to the tick H, and then commands, one a line:
+
+  advance T      now becomes T
+  add F T W      a bound: the moment of T is at most W after that of F
+  withdraw ID    the bound is no longer in force
+  window E       the least and the greatest moment of an event
+  dispatch E     the event happens now
+  report         now, and each event's moment
+
+F and T are events from 0 up, or `o` for moment 0. Standard output has one answer a line:
+`ok`, `bound ID`, `window LO HI`, `report NOW KIND M ..` or `refused WHY`.
+
+Example:
+  printf 'network 2 100\\nadd 0 1 5\\nwindow 1\\n' | tempo bare
+prints
+  bound 0
+  window 0 100";
+
+const CHECK_ABOUT: &str = "Says whether a plan is valid, and if not, its first fault";
+
+const CHECK_HELP: &str = "Reads a domain and a problem of PDDL 2.1 and a plan, one step a line:
+
+  TIME: (NAME ARG ..) [DURATION]
+
+Prints `valid`, or `invalid TICK WHY`, with WHY one of
+  condition E, undefined E, clash E, interferes E F, over-all STEP, duration STEP, goal
+
+Steps are numbered from 0 in the order of the plan, and events from 0 by step, the start of a step before its end.
+
+Example:
+  tempo check domain.pddl problem.pddl plan.txt --scale 1000
+prints
+  valid";
+
+/// A file that has to be named.
+fn file_argument<'a>(alloc: Global, id: &'a str, help: &'a str) -> Arg<'a>
+    ensures rule { rule_of result ≡ file_rule id.entry.now }
+    ensures local { result.global ≡ false }
+{
+    Arg::new(alloc, id)
+        .required(true)
+        .action(ArgAction::Set)
+        .help(help)
+}
+
+/// The ticks of a unit of time.
+fn scale_option<'a>(alloc: Global) -> Arg<'a>
+    ensures rule { rule_of result ≡ scale_rule }
+    ensures local { result.global ≡ false }
+{
+    Arg::new(alloc, "scale")
+        .long("scale")
+        .value_name("S")
+        .action(ArgAction::Set)
+        .value_parser(value_parser!(u32).range(1..=1000))
+        .default_value("1")
+        .help("How many ticks a unit of time has: 1, 10, 100 or 1000")
+}
+
+/// The tick that no step may end past.
+fn horizon_option<'a>(alloc: Global) -> Arg<'a>
+    ensures rule { rule_of result ≡ horizon_rule }
+    ensures local { result.global ≡ false }
+{
+    Arg::new(alloc, "horizon")
+        .long("horizon")
+        .value_name("H")
+        .action(ArgAction::Set)
+        .value_parser(value_parser!(u32).range(0..=1000000000))
+        .default_value("1000000")
+        .help("The tick that no step may end past, from 0 to 1000000000")
+}
+
+/// The command `bare`.
+fn bare_command<'a>(alloc: Global) -> Command<'a>
+    ensures app { app_of result ≡ new_app (codes "bare") }
+    ensures local { (fields_of result).has_globals ≡ false }
+{
+    Command::new(alloc, "bare")
+        .about(BARE_ABOUT)
+        .after_help(BARE_HELP)
+}
+
+/// The command `check` before it has arguments.
+fn check_start<'a>(alloc: Global) -> Command<'a>
+    ensures app { app_of result ≡ new_app (codes "check") }
+    ensures local { (fields_of result).has_globals ≡ false }
+{
+    Command::new(alloc, "check")
+        .about(CHECK_ABOUT)
+        .after_help(CHECK_HELP)
+}
+
+/// The command `check`.
+fn check_command<'a>(alloc: Global) -> Result<Command<'a>, AllocError>
+    ensures app { IfOk result (λ c. app_of c ≡ check_app) }
+    ensures local { IfOk result (λ c. (fields_of c).has_globals ≡ false) }
+{
+    check_start(alloc)
+        .arg(file_argument(alloc, "DOMAIN", "The file of the domain"))?
+        .arg(file_argument(alloc, "PROBLEM", "The file of the problem"))?
+        .arg(file_argument(alloc, "PLAN", "The file of the plan"))?
+        .arg(scale_option(alloc))?
+        .arg(horizon_option(alloc))
+}
+
+/// The program before it has commands. Its words begin after its name.
+fn tempo_start<'a>(alloc: Global) -> Result<Command<'a>, AllocError>
+    ensures { IfOk result (λ c. app_of c ≡ start_app) }
+{
+    Command::new(alloc, "tempo")
+        .no_binary_name(true)
+        .about(ABOUT)
+        .after_help(EXIT)
+        .bin_name("tempo")
+}
+
+/// The program with all its commands.
+pub fn tempo_command<'a>(alloc: Global) -> Result<Command<'a>, AllocError>
+    ensures { IfOk result (λ c. app_of c ≡ tempo_app) }
+{
+    let check = check_command(alloc)?;
+    tempo_start(alloc)?
+        .subcommand(bare_command(alloc))?
+        .subcommand(check)
+}

@@ -1,0 +1,73 @@
+// What the words of a call ask for, and the doing of it.
+ghost use Rattle.std.specs.Prelude.{◌≡◌, ◌≢◌, map};
+ghost use Rattle.std.specs.String.{string_bytes};
+ghost use Rattle.std.specs.Io.KnownBytes.{Appends};
+ghost use Rattle.tp_program.specs.Bare.{AnswersAll, AnswersPart};
+ghost use Rattle.tp_program.specs.Done.{AnswersNo, DoesWhatIsAsked};
+ghost use Rattle.tp_program.specs.Requests.{AsksFor, AsksForNoNetwork};
+
+use crate::arguments::{Refusal, read_words};
+use crate::bare::run_bare;
+use crate::check::run_check;
+use crate::fault_lines::{FaultLine, OUT_OF_ORDER, REFUSED, complain};
+use crate::files::Files;
+use crate::requests::Request;
+use std::alloc::Global;
+use tp_device::{Sink, Source, push_all};
+
+/// Does what the words ask for. Answers the exit status, and for another than 0 and 1 writes one fault line.
+pub fn run_words<N: Files, I: Source + Drop, O: Sink, F: Sink>(
+    alloc: Global,
+    words: &[String],
+    files: &mut N,
+    input: I,
+    output: &mut O,
+    faults: &mut F,
+) -> u8
+    ensures done { result ≡ 0 → DoesWhatIsAsked (map string_bytes words.now) (N.held files.old) (I.left input) (O.held output.old) (O.held output.new) }
+    ensures no { result ≡ 1 → AnswersNo (map string_bytes words.now) (N.held files.old) (O.held output.old) (O.held output.new) }
+
+    // Of a network of bounds alone all is answered, or where the status tells otherwise a first part.
+    ensures all { AsksFor (map string_bytes words.now) Request.Bare → result ≡ 0
+        → AnswersAll (I.left input) (O.held output.old) (O.held output.new) }
+    ensures part { AsksFor (map string_bytes words.now) Request.Bare → result ≢ 0
+        → AnswersPart (I.left input) (O.held output.old) (O.held output.new) }
+
+    // Where nothing else is asked for than a verdict or help, nothing is written for what is refused.
+    ensures kept { AsksForNoNetwork (map string_bytes words.now) → result ≡ REFUSED → O.held output.new ≡ O.held output.old }
+
+    // A write that failed is always told.
+    ensures told { result ≢ OUT_OF_ORDER → O.failures output.new ≡ O.failures output.old }
+{
+    match read_words(alloc, words) {
+        Ok(Request::Bare) => run_bare(alloc, input, output, faults),
+        Ok(Request::Check(plan)) => run_check(alloc, files, plan, output, faults),
+        Ok(Request::Help(text)) => show(text.as_str(), output, faults),
+        Err(Refusal::Words(text)) => refuse_words(text, faults),
+        Err(Refusal::Memory) => complain(faults, FaultLine::out_of_order("arguments", "2 memory")),
+    }
+}
+
+/// Writes a text of help. Answers the exit status.
+fn show<O: Sink, F: Sink>(text: &str, output: &mut O, faults: &mut F) -> u8
+    ensures shown { result ≡ 0 → Appends (O.held output.old) (O.held output.new) text.now }
+    ensures no { result ≢ 1 }
+    ensures written { result ≢ REFUSED }
+    ensures told { result ≢ OUT_OF_ORDER → O.failures output.new ≡ O.failures output.old }
+{
+    match push_all(output, text.as_bytes()) {
+        Ok(()) => 0,
+        Err(_) => complain(faults, FaultLine::out_of_order("script", "2 write")),
+    }
+}
+
+/// Writes that the words are refused, and what `clap` says of them. Answers the exit status.
+fn refuse_words<F: Sink>(text: Option<String>, faults: &mut F) -> u8
+    ensures { result ≡ REFUSED }
+{
+    let status = complain(faults, FaultLine::refused("arguments", "1 words"));
+    if let Some(text) = text {
+        let _ = push_all(faults, text.as_bytes());
+    }
+    status
+}

@@ -1,0 +1,513 @@
+// Verdicts on plans in files, worked by hand.
+use super::devices::{Outcome, Room, Told, WIDE, gives, run, whole};
+use super::files::blanks;
+use std::alloc::{AllocError, Global};
+
+const MATCH_DOMAIN: &[u8] = b"(define (domain match)
+ (:requirements :typing :durative-actions)
+ (:types match fuse)
+ (:predicates (light) (unused ?m - match) (mended ?f - fuse))
+ (:durative-action light-match :parameters (?m - match)
+  :duration (= ?duration 8)
+  :condition (and (at start (unused ?m)))
+  :effect (and (at start (not (unused ?m))) (at start (light))
+               (at end (not (light)))))
+ (:durative-action mend-fuse :parameters (?f - fuse)
+  :duration (= ?duration 5)
+  :condition (over all (light))
+  :effect (at end (mended ?f))))
+";
+
+const MATCH_PROBLEM: &[u8] = b"(define (problem p) (:domain match) (:objects m1 - match f1 - fuse)
+ (:init (unused m1)) (:goal (mended f1)))
+";
+
+const TOGGLE_DOMAIN: &[u8] = b"(define (domain toggle)
+ (:predicates (p) (q) (done))
+ (:action need :parameters () :precondition (p) :effect (done))
+ (:action drop :parameters () :effect (not (p)))
+ (:action give :parameters () :effect (q))
+ (:durative-action watch :parameters () :duration (= ?duration 5)
+  :condition (over all (or (p) (q))) :effect (at end (done))))
+";
+
+const TOGGLE_PROBLEM: &[u8] = b"(define (problem p) (:domain toggle) (:init (p)) (:goal (done)))
+";
+
+const SUPPLY_DOMAIN: &[u8] = b"(define (domain supply)
+ (:functions (stock))
+ (:action empty-and-fill :parameters () :effect (and (assign (stock) 0) (increase (stock) 5)))
+ (:action square :parameters () :effect (increase (stock) (* (stock) (stock)))))
+";
+
+const SUPPLY_PROBLEM: &[u8] = b"(define (problem p) (:domain supply)
+ (:init (= (stock) 1000000000)) (:goal (> (stock) 0)))
+";
+
+const CHARGE_DOMAIN: &[u8] = b"(define (domain charge)
+ (:predicates (full))
+ (:functions (e))
+ (:durative-action charge :parameters ()
+  :duration (and (>= ?duration 2) (<= ?duration 6))
+  :effect (at end (increase (e) (* ?duration 2))))
+ (:durative-action rest :parameters ()
+  :duration (and (>= ?duration 2) (<= ?duration 6))
+  :effect (at end (full))))
+";
+
+const CHARGE_PROBLEM: &[u8] = b"(define (problem p) (:domain charge)
+ (:init (= (e) 0)) (:goal (or (>= (e) 8) (full))))
+";
+
+/// A domain and a problem.
+#[derive(Clone, Copy)]
+struct Example {
+    domain: &'static [u8],
+    problem: &'static [u8],
+}
+
+const MATCH: Example = Example {
+    domain: MATCH_DOMAIN,
+    problem: MATCH_PROBLEM,
+};
+
+const TOGGLE: Example = Example {
+    domain: TOGGLE_DOMAIN,
+    problem: TOGGLE_PROBLEM,
+};
+
+const CHARGE: Example = Example {
+    domain: CHARGE_DOMAIN,
+    problem: CHARGE_PROBLEM,
+};
+
+const SUPPLY: Example = Example {
+    domain: SUPPLY_DOMAIN,
+    problem: SUPPLY_PROBLEM,
+};
+
+/// An empty plan reaches this goal.
+const MET: Example = Example {
+    problem: b"(define (problem p) (:domain toggle) (:init (p)) (:goal (p)))",
+    ..TOGGLE
+};
+
+/// One number of this problem is past 10^15.
+const GREAT: Example = Example {
+    problem: b"(define (problem p) (:domain supply)
+ (:init (= (stock) 1000000000000001)) (:goal (> (stock) 0)))",
+    ..SUPPLY
+};
+
+/// The list of this domain does not end.
+const CUT: Example = Example {
+    domain: b"(define (domain d)",
+    ..CHARGE
+};
+
+/// This problem is another domain's.
+const OTHER: Example = Example {
+    problem: TOGGLE_PROBLEM,
+    ..CHARGE
+};
+
+/// One number of this problem has a fraction.
+const FRACTION: Example = Example {
+    problem: b"(define (problem p) (:domain charge)
+ (:init (= (e) 2.5)) (:goal (full)))",
+    ..CHARGE
+};
+
+/// The one action of this domain has 131,072 bindings.
+const LARGE: Example = Example {
+    domain: b"(define (domain d) (:action a
+ :parameters (?a ?b ?c ?d ?e ?f ?g ?h ?i ?j ?k ?l ?m ?n ?o ?p ?q - object)))",
+    problem: b"(define (problem p) (:domain d) (:objects x y) (:goal (and)))",
+};
+
+/// A domain and a problem, a plan of theirs, the options of the call, and the line that it writes.
+type Row = (
+    Example,
+    &'static [u8],
+    &'static [&'static str],
+    &'static [u8],
+);
+
+/// The words of a call with those options.
+fn words_with<'w>(alloc: Global, options: &[&'w str]) -> Result<Vec<&'w str>, AllocError> {
+    let mut words = Vec::new(alloc);
+    for word in ["check", "domain", "problem", "plan"] {
+        words.push(word)?;
+    }
+    for option in options {
+        words.push(*option)?;
+    }
+    Ok(words)
+}
+
+/// The same. Where memory is refused, it is asked for once more.
+fn call_with<'w>(alloc: Global, options: &[&'w str]) -> Result<Vec<&'w str>, AllocError> {
+    match words_with(alloc, options) {
+        Ok(words) => Ok(words),
+        Err(_) => words_with(alloc, options),
+    }
+}
+
+/// What a call comes to that writes that line: a verdict goes to the output, and a fault ends with status 2.
+fn told_by(line: &[u8]) -> Told<'_> {
+    let (answers, faults, status): (&[u8], &[u8], u8) = if line.starts_with(b"fault ") {
+        (b"", line, 2)
+    } else {
+        (line, b"", if line == b"valid\n".as_slice() { 0 } else { 1 })
+    };
+    Told {
+        answers,
+        faults,
+        status,
+    }
+}
+
+/// Whether a call with those files and options writes that line, and ends with its status.
+fn writes(alloc: Global, example: Example, plan: &[u8], options: &[&str], line: &[u8]) -> bool {
+    let files: [(&str, &[u8]); 3] = [
+        ("domain", example.domain),
+        ("problem", example.problem),
+        ("plan", plan),
+    ];
+    match call_with(alloc, options) {
+        Ok(words) => gives(
+            alloc,
+            words.as_slice(),
+            &files,
+            whole(""),
+            WIDE,
+            told_by(line),
+        ),
+        Err(_) => false,
+    }
+}
+
+/// The place of the first row that does not come to its line.
+fn first_wrong(alloc: Global, rows: &[Row]) -> Option<usize> {
+    for (at, row) in rows.iter().enumerate() {
+        if !writes(alloc, row.0, row.1, row.2, row.3) {
+            return Some(at);
+        }
+    }
+    None
+}
+
+const TENTHS: &[&str] = &["--scale", "10", "--horizon", "35"];
+
+const THOUSANDTHS: &[&str] = &["--scale", "1000"];
+
+const FUSES: [Row; 3] = [
+    (
+        MATCH,
+        b"0: (light-match m1) [8]\n0: (mend-fuse f1) [5]\n",
+        &[],
+        b"valid\n",
+    ),
+    (
+        MATCH,
+        b"0: (light-match m1) [8]\n3: (mend-fuse f1) [5]\n",
+        &[],
+        b"valid\n",
+    ),
+    (
+        MATCH,
+        b"0: (light-match m1) [8]\n4: (mend-fuse f1) [5]\n",
+        &[],
+        b"invalid 8 over-all 1\n",
+    ),
+];
+
+const SWITCHES: [Row; 4] = [
+    (
+        TOGGLE,
+        b"3: (need)\n3: (drop)\n",
+        &[],
+        b"invalid 3 interferes 0 1\n",
+    ),
+    (TOGGLE, b"3: (need)\n4: (drop)\n", &[], b"valid\n"),
+    (
+        TOGGLE,
+        b"3: (drop)\n4: (need)\n",
+        &[],
+        b"invalid 4 condition 1\n",
+    ),
+    (
+        TOGGLE,
+        b"0: (watch) [5]\n2: (give)\n3: (drop)\n",
+        &[],
+        b"valid\n",
+    ),
+];
+
+const EMPTY: [Row; 2] = [
+    (TOGGLE, b"", &[], b"invalid 0 goal\n"),
+    (MET, b"", &[], b"valid\n"),
+];
+
+const CLASHES: [Row; 1] = [(
+    SUPPLY,
+    b"2: (empty-and-fill)\n",
+    &[],
+    b"invalid 2 clash 0\n",
+)];
+
+const RANGES: [Row; 2] = [
+    (SUPPLY, b"0: (square)\n", &[], b"fault check 2 range\n"),
+    (GREAT, b"", &[], b"fault ground 3 range\n"),
+];
+
+const HORIZONS: [Row; 6] = [
+    (CHARGE, b"999998: (rest) [2]\n", &[], b"valid\n"),
+    (
+        CHARGE,
+        b"999999: (rest) [2]\n",
+        &[],
+        b"fault plan 7 horizon 1\n",
+    ),
+    (
+        CHARGE,
+        b"999999: (rest) [2]\n",
+        &["--horizon", "1000001"],
+        b"valid\n",
+    ),
+    (
+        CHARGE,
+        b"999999: (rest) [2]\n",
+        &["--horizon=1000000000"],
+        b"valid\n",
+    ),
+    (CHARGE, b"0.5: (rest) [3]\n", TENTHS, b"valid\n"),
+    (
+        CHARGE,
+        b"0.6: (rest) [3]\n",
+        TENTHS,
+        b"fault plan 7 horizon 1\n",
+    ),
+];
+
+const DURATIONS: [Row; 4] = [
+    (CHARGE, b"0: (charge) [4]\n", &[], b"valid\n"),
+    (CHARGE, b"0: (rest) [4]\n", &[], b"valid\n"),
+    (CHARGE, b"0: (charge) [7]\n", &[], b"invalid 0 duration 0\n"),
+    (CHARGE, b"0: (rest) [0]\n", &[], b"invalid 0 duration 0\n"),
+];
+
+const FRACTIONS: [Row; 4] = [
+    (
+        CHARGE,
+        b"0.001: (charge) [2.000]\n",
+        THOUSANDTHS,
+        b"invalid 2001 goal\n",
+    ),
+    (
+        CHARGE,
+        b"0.001: (charge) [4.000]\n",
+        THOUSANDTHS,
+        b"valid\n",
+    ),
+    (
+        CHARGE,
+        b"0.001: (charge) [4.5]\n",
+        THOUSANDTHS,
+        b"invalid 4501 undefined 1\n",
+    ),
+    (
+        CHARGE,
+        b"0.0005: (charge) [4]\n",
+        THOUSANDTHS,
+        b"fault plan 4 not-ticks 1\n",
+    ),
+];
+
+const PLANS: [Row; 4] = [
+    (
+        CHARGE,
+        b"0: (charge)\n",
+        &[],
+        b"fault plan 6 no-duration 1\n",
+    ),
+    (CHARGE, b"x: (rest) [2]\n", &[], b"fault plan 2 line 1\n"),
+    (
+        CHARGE,
+        b"\n0: (dash) [1]\n",
+        &[],
+        b"fault plan 3 no-action 2\n",
+    ),
+    (
+        CHARGE,
+        b"4: (rest) [2]\n",
+        &["--horizon", "5"],
+        b"fault plan 7 horizon 1\n",
+    ),
+];
+
+const TEXTS: [Row; 3] = [
+    (CUT, b"", &[], b"fault domain 2 text 4 unclosed 0\n"),
+    (OTHER, b"", &[], b"fault problem 4 unknown 29\n"),
+    (FRACTION, b"", &[], b"fault problem 7 left-out 52 number\n"),
+];
+
+const TASKS: [Row; 1] = [(LARGE, b"", &[], b"fault ground 2 too-many actions\n")];
+
+#[test]
+fn a_fuse_is_mended_by_the_light_of_a_match(rt: HostRuntime) {
+    assert_eq!(rt; first_wrong(rt.alloc(), &FUSES), None);
+}
+
+#[test]
+fn what_is_needed_is_not_dropped_at_the_same_tick(rt: HostRuntime) {
+    assert_eq!(rt; first_wrong(rt.alloc(), &SWITCHES), None);
+}
+
+#[test]
+fn an_empty_plan_is_judged_by_its_goal(rt: HostRuntime) {
+    assert_eq!(rt; first_wrong(rt.alloc(), &EMPTY), None);
+}
+
+#[test]
+fn a_number_is_set_or_changed_but_not_both(rt: HostRuntime) {
+    assert_eq!(rt; first_wrong(rt.alloc(), &CLASHES), None);
+}
+
+#[test]
+fn numbers_past_10_to_the_15_are_not_judged(rt: HostRuntime) {
+    assert_eq!(rt; first_wrong(rt.alloc(), &RANGES), None);
+}
+
+#[test]
+fn no_step_ends_past_the_horizon(rt: HostRuntime) {
+    assert_eq!(rt; first_wrong(rt.alloc(), &HORIZONS), None);
+}
+
+#[test]
+fn durations_keep_their_rule(rt: HostRuntime) {
+    assert_eq!(rt; first_wrong(rt.alloc(), &DURATIONS), None);
+}
+
+#[test]
+fn times_may_have_fractions(rt: HostRuntime) {
+    assert_eq!(rt; first_wrong(rt.alloc(), &FRACTIONS), None);
+}
+
+#[test]
+fn domains_and_problems_that_cannot_be_read(rt: HostRuntime) {
+    assert_eq!(rt; first_wrong(rt.alloc(), &TEXTS), None);
+}
+
+#[test]
+fn tasks_that_are_too_large(rt: HostRuntime) {
+    assert_eq!(rt; first_wrong(rt.alloc(), &TASKS), None);
+}
+
+/// The same text so many times. Where memory is refused, it is asked for once more.
+fn repeated(alloc: Global, text: &[u8], count: usize) -> Result<Vec<u8>, AllocError> {
+    match text.repeat(alloc, count) {
+        Ok(bytes) => Ok(bytes),
+        Err(_) => text.repeat(alloc, count),
+    }
+}
+
+/// Whether so many steps are too many.
+fn are_too_many(alloc: Global, count: usize) -> bool {
+    match repeated(alloc, b"0: (rest) [2]\n", count) {
+        Ok(plan) => writes(
+            alloc,
+            CHARGE,
+            plan.as_slice(),
+            &[],
+            b"fault plan 5 too-many\n",
+        ),
+        Err(_) => false,
+    }
+}
+
+#[test]
+fn plans_that_cannot_be_read(rt: HostRuntime) {
+    assert_eq!(rt; first_wrong(rt.alloc(), &PLANS), None);
+    assert!(rt; are_too_many(rt.alloc(), 513));
+}
+
+/// Whether a plan of so many blanks is too long.
+fn is_too_long(alloc: Global, count: usize) -> bool {
+    match blanks(alloc, count) {
+        Ok(plan) => writes(
+            alloc,
+            CHARGE,
+            plan.as_slice(),
+            &[],
+            b"fault file 3 too-long plan\n",
+        ),
+        Err(_) => false,
+    }
+}
+
+#[test]
+fn bytes_that_are_no_text_and_texts_that_are_too_long(rt: HostRuntime) {
+    let line = b"fault file 2 utf8 plan\n".as_slice();
+    assert!(rt; writes(rt.alloc(), CHARGE, b"; \xe4\n", &[], line));
+    assert!(rt; is_too_long(rt.alloc(), 1_048_577));
+}
+
+const CALL: &[&str] = &["check", "domain", "problem", "plan"];
+
+const DOMAIN: (&str, &[u8]) = ("domain", CHARGE_DOMAIN);
+
+const PROBLEM: (&str, &[u8]) = ("problem", CHARGE_PROBLEM);
+
+/// Files, the line of what is wrong with them, its status, and how many files were asked for.
+const OPENED: [(&[(&str, &[u8])], &[u8], u8, u64); 4] = [
+    (&[], b"fault file 1 read domain\n", 3, 1),
+    (
+        &[("domain", b"(")],
+        b"fault domain 2 text 4 unclosed 0\n",
+        2,
+        1,
+    ),
+    (&[DOMAIN], b"fault file 1 read problem\n", 3, 2),
+    (&[DOMAIN, PROBLEM], b"fault file 1 read plan\n", 3, 3),
+];
+
+/// Whether so many files were asked for, before that line was written.
+fn asked_for(outcome: &Outcome, line: &[u8], status: u8, opened: u64) -> bool {
+    let told = Told {
+        answers: b"",
+        faults: line,
+        status,
+    };
+    outcome.is(told) && outcome.opened == opened
+}
+
+/// Whether a call with those files asks for so many of them, before it writes that line.
+fn asks_for(alloc: Global, files: &[(&str, &[u8])], line: &[u8], status: u8, opened: u64) -> bool {
+    match run(alloc, CALL, files, whole(""), WIDE) {
+        Some(outcome) => asked_for(&outcome, line, status, opened),
+        None => false,
+    }
+}
+
+#[test]
+fn a_file_is_opened_only_when_what_stands_before_it_is_done(rt: HostRuntime) {
+    for (files, line, status, opened) in OPENED {
+        assert!(rt;
+            asks_for(rt.alloc(), files, line, status, opened),
+            "{status} {opened}"
+        );
+    }
+}
+
+#[test]
+fn a_verdict_that_cannot_be_written(rt: HostRuntime) {
+    let files: [(&str, &[u8]); 3] = [DOMAIN, PROBLEM, ("plan", b"0: (rest) [4]\n")];
+    let room = Room { most: 1, calls: 2 };
+    let told = Told {
+        answers: b"va",
+        faults: b"fault script 2 write\n",
+        status: 3,
+    };
+    assert!(rt; gives(rt.alloc(), CALL, &files, whole(""), room, told));
+}

@@ -1,0 +1,285 @@
+// Worked examples: commands and their answers.
+use super::devices::shows;
+
+#[test]
+fn a_window_between_two_bounds_of_the_origin(rt: HostRuntime) {
+    assert!(rt;
+        shows(
+            rt.alloc(),
+            "network 2 100\n\
+         add o 0 10\n\
+         add 0 o -3\n\
+         window 0\n\
+         window 1\n",
+            "bound 0\n\
+         bound 1\n\
+         window 3 10\n\
+         window 0 100\n",
+        )
+    );
+}
+
+#[test]
+fn a_refused_bound_leaves_no_trace(rt: HostRuntime) {
+    assert!(rt;
+        shows(
+            rt.alloc(),
+            "network 2 100\n\
+         add o 0 10\n\
+         add 0 o -3\n\
+         window 0\n\
+         window 1\n\
+         add 0 o -11\n\
+         window 0\n\
+         add o 1 7\n",
+            "bound 0\n\
+         bound 1\n\
+         window 3 10\n\
+         window 0 100\n\
+         refused conflict new b0\n\
+         window 3 10\n\
+         bound 2\n",
+        )
+    );
+}
+
+#[test]
+fn a_bound_between_events_moves_both_windows(rt: HostRuntime) {
+    assert!(rt;
+        shows(
+            rt.alloc(),
+            "network 2 100\n\
+         add 0 1 5\n\
+         add 1 0 -2\n\
+         add o 0 10\n\
+         window 1\n\
+         advance 4\n\
+         dispatch 0\n\
+         window 1\n",
+            "bound 0\n\
+         bound 1\n\
+         bound 2\n\
+         window 2 15\n\
+         ok\n\
+         ok\n\
+         window 6 9\n",
+        )
+    );
+}
+
+#[test]
+fn now_waits_for_a_bound_to_be_withdrawn(rt: HostRuntime) {
+    assert!(rt;
+        shows(
+            rt.alloc(),
+            "network 2 100\n\
+         add 0 1 5\n\
+         add 1 0 -2\n\
+         add o 0 10\n\
+         window 1\n\
+         advance 4\n\
+         dispatch 0\n\
+         window 1\n\
+         advance 10\n\
+         withdraw 0\n\
+         advance 10\n\
+         window 1\n",
+            "bound 0\n\
+         bound 1\n\
+         bound 2\n\
+         window 2 15\n\
+         ok\n\
+         ok\n\
+         window 6 9\n\
+         refused conflict now1 past0+ b0\n\
+         ok\n\
+         ok\n\
+         window 10 100\n",
+        )
+    );
+}
+
+#[test]
+fn two_bounds_round_a_loop(rt: HostRuntime) {
+    assert!(rt;
+        shows(
+            rt.alloc(),
+            "network 2 1000000000\n\
+         add 0 1 -1\n\
+         add 1 0 0\n",
+            "bound 0\n\
+         refused conflict new b0\n",
+        )
+    );
+}
+
+#[test]
+fn no_events_at_all(rt: HostRuntime) {
+    assert!(rt;
+        shows(
+            rt.alloc(),
+            "network 0 0\n\
+         report\n\
+         advance 0\n\
+         window 0\n",
+            "report 0 bare\n\
+         ok\n\
+         refused event\n",
+        )
+    );
+}
+
+#[test]
+fn an_event_is_dispatched_once_and_now_never_goes_back(rt: HostRuntime) {
+    assert!(rt;
+        shows(
+            rt.alloc(),
+            "network 1 5\n\
+         advance 6\n\
+         advance 5\n\
+         window 0\n\
+         dispatch 0\n\
+         dispatch 0\n\
+         advance 4\n\
+         report\n",
+            "refused moment\n\
+         ok\n\
+         window 5 5\n\
+         ok\n\
+         refused done\n\
+         refused back\n\
+         report 5 bare 5!\n",
+        )
+    );
+}
+
+#[test]
+fn weights_at_their_limits(rt: HostRuntime) {
+    assert!(rt;
+        shows(
+            rt.alloc(),
+            "network 1 5\n\
+         add o 0 2000000000\n\
+         add o 0 2000000001\n\
+         add o 0 -2000000000\n\
+         add 0 o -6\n\
+         add 1 0 5000000000\n\
+         add o 0 99999999999\n",
+            "bound 0\n\
+         refused weight\n\
+         refused conflict new now0\n\
+         refused conflict new end0\n\
+         refused event\n\
+         refused line\n",
+        )
+    );
+}
+
+#[test]
+fn the_dispatched_past_is_a_reason(rt: HostRuntime) {
+    assert!(rt;
+        shows(
+            rt.alloc(),
+            "network 1 5\n\
+         add 0 o -2\n\
+         dispatch 0\n\
+         advance 3\n\
+         dispatch 0\n\
+         add o 0 2\n",
+            "bound 0\n\
+         refused conflict past0+ b0\n\
+         ok\n\
+         ok\n\
+         refused conflict new past0-\n",
+        )
+    );
+}
+
+#[test]
+fn an_event_bound_to_itself_and_lines_that_are_no_commands(rt: HostRuntime) {
+    assert!(rt;
+        shows(
+            rt.alloc(),
+            "network 1 5\n\
+         add 0 0 0\n\
+         add 0 0 -1\n\
+         withdraw 0\n\
+         withdraw 0\n\
+         \n\
+         windo 0\n\
+         window 0",
+            "bound 0\n\
+         refused conflict new\n\
+         ok\n\
+         refused bound\n\
+         refused line\n\
+         window 0 5\n",
+        )
+    );
+}
+
+#[test]
+fn the_event_is_looked_at_before_the_weight(rt: HostRuntime) {
+    assert!(rt;
+        shows(
+            rt.alloc(),
+            "network 2 5\n\
+         add 0 1 2000000001\n\
+         add 0 1 3\n\
+         add 2 0 1\n",
+            "refused weight\n\
+         bound 0\n\
+         refused event\n",
+        )
+    );
+}
+
+#[test]
+fn a_night_at_a_telescope(rt: HostRuntime) {
+    assert!(rt;
+        shows(
+            rt.alloc(),
+            "network 4 3600\n\
+         add 0 1 90\n\
+         add 1 0 -60\n\
+         add 1 2 120\n\
+         add 2 1 -20\n\
+         add 2 3 300\n\
+         add 3 2 -300\n\
+         add o 3 500\n\
+         window 0\n\
+         window 2\n\
+         advance 100\n\
+         dispatch 0\n\
+         window 2\n\
+         advance 175\n\
+         dispatch 1\n\
+         add 2 o -210\n\
+         withdraw 6\n\
+         add o 3 520\n\
+         add 2 o -210\n\
+         window 2\n\
+         report\n",
+            "bound 0\n\
+         bound 1\n\
+         bound 2\n\
+         bound 3\n\
+         bound 4\n\
+         bound 5\n\
+         bound 6\n\
+         window 0 120\n\
+         window 80 200\n\
+         ok\n\
+         ok\n\
+         window 180 200\n\
+         ok\n\
+         ok\n\
+         refused conflict new b6 b5\n\
+         ok\n\
+         bound 7\n\
+         bound 8\n\
+         window 210 220\n\
+         report 175 bare 100! 175! 210 510\n",
+        )
+    );
+}

@@ -1,0 +1,297 @@
+// The line of each fault, and its exit status.
+ghost use Rattle.std.specs.Prelude.{◌≡◌, ◌<◌};
+
+use super::devices::{Page, WIDE};
+use std::alloc::Global;
+use std::io::Write;
+use std::marker::Brand;
+use std::sync::ledger::{Blank, Ledger};
+use tp_device::ToWrite;
+use tp_ground::{GroundFault, TooManyKind};
+use tp_happen::PlanFault;
+use tp_program::{FaultLine, FileFault, complain};
+use tp_script::ServeFault;
+use tp_syntax::{LeftOutPart, SyntaxFault};
+use tp_text::TextFault;
+
+/// Writes a line. Answers the exit status.
+fn write<L: Ledger, W: Write + Drop>(writer: W, blank: Blank, line: FaultLine<'_>) -> u8
+    requires name { blank.name ≡ L.name }
+    requires parts { blank.parts ≡ L.parts }
+    requires some { 0 < blank.parts }
+{
+    let mut sink = ToWrite::<W, L>::new(writer, blank);
+    complain(&mut sink, line)
+}
+
+/// A page with the line on it, and the exit status.
+fn written(alloc: Global, line: FaultLine<'_>) -> (Page, u8) {
+    let mut page = Page::new(alloc, WIDE);
+    let status = write::<Brand, _>(&mut page, Blank::new(1), line);
+    (page, status)
+}
+
+/// Whether the line is spelled so, and goes with that status. Where memory was refused to the page, it is written once more.
+fn spells(alloc: Global, line: FaultLine<'_>, text: &[u8], status: u8) -> bool {
+    let mut outcome = written(alloc, line);
+    if outcome.0.starved {
+        outcome = written(alloc, line);
+    }
+    outcome.0.text.as_slice() == text && outcome.1 == status
+}
+
+/// Whether the lines of a file's fault for a domain, a problem and a plan are spelled so, and go with that status.
+fn spell(alloc: Global, fault: FileFault, texts: [&[u8]; 3], status: u8) -> bool {
+    spells(
+        alloc,
+        FaultLine::of_domain_file(fault, "x y"),
+        texts[0],
+        status,
+    ) && spells(
+        alloc,
+        FaultLine::of_problem_file(fault, "x y"),
+        texts[1],
+        status,
+    ) && spells(
+        alloc,
+        FaultLine::of_plan_file(fault, "x y"),
+        texts[2],
+        status,
+    )
+}
+
+const TEXTS: [(TextFault, &[u8], u8); 7] = [
+    (TextFault::Memory, b"fault domain 2 text 1 memory\n", 3),
+    (TextFault::TooLong, b"fault domain 2 text 2 too-long\n", 2),
+    (
+        TextFault::BadByte(7),
+        b"fault domain 2 text 3 bad-byte 7\n",
+        2,
+    ),
+    (
+        TextFault::Unclosed(0),
+        b"fault domain 2 text 4 unclosed 0\n",
+        2,
+    ),
+    (TextFault::Extra(20), b"fault domain 2 text 5 extra 20\n", 2),
+    (TextFault::Depth(64), b"fault domain 2 text 6 depth 64\n", 2),
+    (TextFault::Empty, b"fault domain 2 text 7 empty\n", 2),
+];
+
+const PROBLEMS: [(SyntaxFault, &[u8], u8); 7] = [
+    (SyntaxFault::Memory, b"fault problem 1 memory\n", 3),
+    (
+        SyntaxFault::Text(TextFault::Empty),
+        b"fault problem 2 text 7 empty\n",
+        2,
+    ),
+    (SyntaxFault::Shape(3), b"fault problem 3 shape 3\n", 2),
+    (SyntaxFault::Unknown(4), b"fault problem 4 unknown 4\n", 2),
+    (
+        SyntaxFault::Twice(1048575),
+        b"fault problem 5 twice 1048575\n",
+        2,
+    ),
+    (SyntaxFault::Types(6), b"fault problem 6 types 6\n", 2),
+    (
+        SyntaxFault::LeftOut(9, LeftOutPart::TimedLiteral),
+        b"fault problem 7 left-out 9 timed-literal\n",
+        2,
+    ),
+];
+
+const CONSTRUCTS: [(LeftOutPart, &[u8]); 14] = [
+    (LeftOutPart::When, b"fault domain 7 left-out 1 when\n"),
+    (
+        LeftOutPart::Division,
+        b"fault domain 7 left-out 1 division\n",
+    ),
+    (
+        LeftOutPart::ScaleDown,
+        b"fault domain 7 left-out 1 scale-down\n",
+    ),
+    (LeftOutPart::Number, b"fault domain 7 left-out 1 number\n"),
+    (
+        LeftOutPart::AtEndDuration,
+        b"fault domain 7 left-out 1 at-end-duration\n",
+    ),
+    (
+        LeftOutPart::DurationInCondition,
+        b"fault domain 7 left-out 1 duration-in-condition\n",
+    ),
+    (
+        LeftOutPart::Continuous,
+        b"fault domain 7 left-out 1 continuous\n",
+    ),
+    (
+        LeftOutPart::TimedLiteral,
+        b"fault domain 7 left-out 1 timed-literal\n",
+    ),
+    (LeftOutPart::Derived, b"fault domain 7 left-out 1 derived\n"),
+    (
+        LeftOutPart::Preference,
+        b"fault domain 7 left-out 1 preference\n",
+    ),
+    (
+        LeftOutPart::Constraint,
+        b"fault domain 7 left-out 1 constraint\n",
+    ),
+    (
+        LeftOutPart::ObjectFluent,
+        b"fault domain 7 left-out 1 object-fluent\n",
+    ),
+    (LeftOutPart::Either, b"fault domain 7 left-out 1 either\n"),
+    (
+        LeftOutPart::Operands,
+        b"fault domain 7 left-out 1 operands\n",
+    ),
+];
+
+const FILES: [(FileFault, [&[u8]; 3], u8); 4] = [
+    (
+        FileFault::Memory,
+        [
+            b"fault domain 1 memory\n",
+            b"fault problem 1 memory\n",
+            b"fault plan 1 memory\n",
+        ],
+        3,
+    ),
+    (
+        FileFault::Read,
+        [
+            b"fault file 1 read x y\n",
+            b"fault file 1 read x y\n",
+            b"fault file 1 read x y\n",
+        ],
+        3,
+    ),
+    (
+        FileFault::Utf8,
+        [
+            b"fault file 2 utf8 x y\n",
+            b"fault file 2 utf8 x y\n",
+            b"fault file 2 utf8 x y\n",
+        ],
+        2,
+    ),
+    (
+        FileFault::TooLong,
+        [
+            b"fault domain 2 text 2 too-long\n",
+            b"fault problem 2 text 2 too-long\n",
+            b"fault file 3 too-long x y\n",
+        ],
+        2,
+    ),
+];
+
+const SERVING: [(ServeFault, &[u8], u8); 5] = [
+    (ServeFault::Read, b"fault script 1 read\n", 3),
+    (ServeFault::Write, b"fault script 2 write\n", 3),
+    (ServeFault::Memory, b"fault script 3 memory\n", 3),
+    (ServeFault::TooLong, b"fault script 4 too-long\n", 2),
+    (ServeFault::Head, b"fault script 5 head\n", 2),
+];
+
+const TASKS: [(GroundFault, &[u8], u8); 6] = [
+    (GroundFault::Memory, b"fault ground 1 memory\n", 3),
+    (
+        GroundFault::TooMany(TooManyKind::Objects),
+        b"fault ground 2 too-many objects\n",
+        2,
+    ),
+    (
+        GroundFault::TooMany(TooManyKind::Atoms),
+        b"fault ground 2 too-many atoms\n",
+        2,
+    ),
+    (
+        GroundFault::TooMany(TooManyKind::Fluents),
+        b"fault ground 2 too-many fluents\n",
+        2,
+    ),
+    (
+        GroundFault::TooMany(TooManyKind::Actions),
+        b"fault ground 2 too-many actions\n",
+        2,
+    ),
+    (GroundFault::Range, b"fault ground 3 range\n", 2),
+];
+
+const PLANS: [(PlanFault, &[u8], u8); 7] = [
+    (PlanFault::Memory, b"fault plan 1 memory\n", 3),
+    (PlanFault::Line(1), b"fault plan 2 line 1\n", 2),
+    (PlanFault::NoAction(20), b"fault plan 3 no-action 20\n", 2),
+    (PlanFault::NotTicks(3), b"fault plan 4 not-ticks 3\n", 2),
+    (PlanFault::TooMany, b"fault plan 5 too-many\n", 2),
+    (PlanFault::NoDuration(5), b"fault plan 6 no-duration 5\n", 2),
+    (
+        PlanFault::Horizon(1048576),
+        b"fault plan 7 horizon 1048576\n",
+        2,
+    ),
+];
+
+#[test]
+fn faults_of_texts(rt: HostRuntime) {
+    for (fault, text, status) in TEXTS {
+        assert!(rt;
+            spells(
+                rt.alloc(),
+                FaultLine::of_domain(SyntaxFault::Text(fault)),
+                text,
+                status
+            )
+        );
+    }
+}
+
+#[test]
+fn faults_of_domains_and_problems(rt: HostRuntime) {
+    for (fault, text, status) in PROBLEMS {
+        assert!(rt; spells(rt.alloc(), FaultLine::of_problem(fault), text, status));
+    }
+}
+
+#[test]
+fn constructs_that_are_left_out(rt: HostRuntime) {
+    for (what, text) in CONSTRUCTS {
+        assert!(rt;
+            spells(
+                rt.alloc(),
+                FaultLine::of_domain(SyntaxFault::LeftOut(1, what)),
+                text,
+                2
+            )
+        );
+    }
+}
+
+#[test]
+fn faults_of_files(rt: HostRuntime) {
+    for (fault, texts, status) in FILES {
+        assert!(rt; spell(rt.alloc(), fault, texts, status), "{status}");
+    }
+}
+
+#[test]
+fn faults_of_serving(rt: HostRuntime) {
+    for (fault, text, status) in SERVING {
+        assert!(rt; spells(rt.alloc(), FaultLine::of_serving(fault), text, status));
+    }
+}
+
+#[test]
+fn faults_of_tasks(rt: HostRuntime) {
+    for (fault, text, status) in TASKS {
+        assert!(rt; spells(rt.alloc(), FaultLine::of_task(fault), text, status));
+    }
+}
+
+#[test]
+fn faults_of_plans(rt: HostRuntime) {
+    for (fault, text, status) in PLANS {
+        assert!(rt; spells(rt.alloc(), FaultLine::of_plan(fault), text, status));
+    }
+}

@@ -1,0 +1,24 @@
+//! Tests of the program `tempo`: runs over files, readers and writers in memory.
+//!
+//! - `devices`: the files, readers and writers, and what a run over them comes to
+//! - `arguments`: calls for help, and words that are refused
+//! - `examples`, `faults`: networks, worked by hand, and what ends them early
+//! - `check`: verdicts on plans in files, worked by hand
+//! - `files`: texts that are read of files
+//! - `fault_lines`: the line of each fault, and its exit status
+#![tactic(auto)]
+
+#[cfg(test)]
+mod arguments;
+#[cfg(test)]
+mod check;
+#[cfg(test)]
+mod devices;
+#[cfg(test)]
+mod examples;
+#[cfg(test)]
+mod fault_lines;
+#[cfg(test)]
+mod faults;
+#[cfg(test)]
+mod files;
