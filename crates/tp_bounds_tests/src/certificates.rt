@@ -1,6 +1,7 @@
 //! Worked examples of settings, of what they leave, and of reasons why nothing is left.
 
-ghost use Rattle.std.specs.Prelude.{◌≡◌, IfOk, negsuc};
+ghost use Rattle.std.specs.Prelude.{◌≡◌, IfOk, None, negsuc};
+ghost use Rattle.tp_bounds.specs.Situation.{event_count, fixed_at};
 ghost use Rattle.tp_bounds.specs.Changes.{fresh, with_bound};
 
 use std::alloc::{AllocError, Global};
@@ -94,7 +95,11 @@ fn two_events_after_their_bound_is_gone(rt: HostRuntime) -> Result<(), Fail> {
 }
 
 /// Whether an event that may be reported two ticks late can't have happened more than that ago.
-fn waits_for_its_report(setting: &Setting) -> bool {
+fn waits_for_its_report(setting: &Setting) -> bool
+    requires events { event_count setting.now ≡ 2 }
+    requires first { fixed_at setting.now 0 ≡ None }
+    requires second { fixed_at setting.now 1 ≡ None }
+{
     setting.lag(0) == 0
         && setting.lag(1) == 2
         && setting.floor(0) == 5

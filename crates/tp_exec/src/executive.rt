@@ -1,7 +1,7 @@
 //! A network that takes commands.
 
-ghost use Rattle.std.specs.Prelude.{◌≡◌, ◌↔◌, ℕ, ◌<◌, ◌≤◌, true, IfOk};
-ghost use Rattle.tp_bounds.specs.Situation.{event_count, lag_of};
+ghost use Rattle.std.specs.Prelude.{◌≡◌, ◌↔◌, ℕ, ◌<◌, ◌≤◌, true, None, IfOk};
+ghost use Rattle.tp_bounds.specs.Situation.{event_count, fixed_at, lag_of};
 ghost use Rattle.tp_bounds.specs.Schedule.{IsMoment};
 ghost use Rattle.tp_exec.specs.Machine.{IsFresh, new_machine};
 ghost use Rattle.tp_exec.specs.declared.command.Answer.TheVariants.{Accepted, Named, Told, Reported};
@@ -185,9 +185,18 @@ impl<N: Net> Executive<N> {
         if self.net.events() <= e {
             return Err(Refusal::NoEvent);
         }
-        if self.net.fixed(e).is_some() {
-            return Err(Refusal::Done);
+        match self.net.fixed(e) {
+            Some(_) => Err(Refusal::Done),
+            None => self.observe(e, moment),
         }
+    }
+
+    /// The same for an event that is not dispatched.
+    fn observe(&mut self, e: u16, moment: u32) -> Result<(), Refusal>
+        requires event { e < event_count self.old.setting }
+        requires free { fixed_at self.old.setting e ≡ None }
+        ensures { Step self.old (Happened e moment) (answer_of (λ _. Accepted) result) self.new }
+    {
         let now = self.net.now();
         if moment < now.saturating_sub(self.net.lag(e)) {
             return Err(Refusal::Back);

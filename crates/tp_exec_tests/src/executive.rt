@@ -211,7 +211,8 @@ fn start_late(alloc: Global) -> Result<Executive<ScratchNet>, AllocError> {
 
 /// Whether it goes on to 4 with the second event at most five ticks after the first, which may have happened at 1.
 fn goes_on_before_the_report(executive: &mut Executive<ScratchNet>) -> bool {
-    executive.lag(0) == 3
+    executive.net().events() == 2
+        && executive.lag(0) == 3
         && executive.lag(1) == 0
         && adds(executive, Point::Event(0), Point::Event(1), 5, 0)
         && executive.advance(4).is_ok()
@@ -232,6 +233,9 @@ fn takes_the_report(executive: &mut Executive<ScratchNet>) -> bool {
 
 /// Whether a copy of its setting has the lag and the first event at 2.
 fn is_copied_with_its_lag(executive: &Executive<ScratchNet>) -> bool {
+    if executive.net().events() != 2 {
+        return false;
+    }
     match executive.setting() {
         Ok(setting) => setting.lag(0) == 3 && check_schedule(&setting, &[2, 4]) == Ok(()),
         Err(_) => false,

@@ -110,7 +110,12 @@ impl Read for ByteByByte<'_> {
 }
 
 /// Whether a session answers so, and writes nothing else. The reader gives one byte a call.
-fn answers(alloc: Global, input: &[u8], text: &[u8], wanted: Result<u64, ServeFault>) -> bool {
+fn answers(
+    alloc: Global,
+    input: &'static [u8],
+    text: &[u8],
+    wanted: Result<u64, ServeFault>,
+) -> bool {
     let mut room = [0; 160];
     let reader = ByteByByte { bytes: input };
     let served = session::<_, _, Brand, Brand>(
@@ -129,7 +134,7 @@ fn answers(alloc: Global, input: &[u8], text: &[u8], wanted: Result<u64, ServeFa
 /// Events that are reported late: between which moments they may have happened, at which they did, and why not at others.
 #[test]
 fn sessions_with_events_that_are_reported_late(rt: HostRuntime) {
-    let sessions: [(&[u8], &[u8], u64); 3] = [
+    let sessions: [(&'static [u8], &[u8], u64); 3] = [
         (
             b"network 2 10\nlag 0 3\nadd 0 1 5\nadvance 4\nwindow 0\nwindow 1\nhappened 0 0\nhappened 0 5\nhappened 0 2\nwindow 1\nhappened 0 2\ndispatch 1\nreport\n",
             b"bound 0\nok\nwindow 1 10\nwindow 4 10\nrefused back\nrefused moment\nok\nwindow 4 7\nrefused done\nok\nreport 4 bare 2! 4!\n",
@@ -154,7 +159,7 @@ fn sessions_with_events_that_are_reported_late(rt: HostRuntime) {
 /// The lines of lags end at the first line of another form, which is answered as any other.
 #[test]
 fn sessions_whose_lags_end(rt: HostRuntime) {
-    let sessions: [(&[u8], &[u8], u64); 5] = [
+    let sessions: [(&'static [u8], &[u8], u64); 5] = [
         (
             b"network 1 5\nwindow 0\nlag 0 2\nhappened 1 0\n",
             b"window 0 5\nrefused line\nrefused event\n",
@@ -185,7 +190,7 @@ fn sessions_whose_lags_end(rt: HostRuntime) {
 /// A lag for no event, a second one for an event, and one out of range are no head.
 #[test]
 fn lags_that_do_not_fit(rt: HostRuntime) {
-    let inputs: [&[u8]; 4] = [
+    let inputs: [&'static [u8]; 4] = [
         b"network 1 5\nlag 1 2\n",
         b"network 1 5\nlag 0 2\nlag 0 2\n",
         b"network 1 5\nlag 0 1000000001\n",

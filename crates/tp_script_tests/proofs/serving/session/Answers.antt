@@ -3,5 +3,5 @@ use Rattle.tp_exec.specs.Machine.{IsFresh}
 use Rattle.tp_exec.proofs.Ready.{fresh_new}
 use Rattle.tp_script_tests.proofs.serving.session.Goals as goal
 
-pub bare-requires-clause-fresh : goal.bare-requires-clause-fresh
-bare-requires-clause-fresh g c = c.in_ok-read_lags.ensures.new (subst IsFresh (sym c.in_ok-net.ensures) (fresh_new _ _))
+pub bare-executive-requires-clause-fresh : goal.bare-executive-requires-clause-fresh
+bare-executive-requires-clause-fresh g c = c.in_ok-read_lags.ensures.new (subst IsFresh (sym c.in_ok-net.ensures) (fresh_new _ _))
