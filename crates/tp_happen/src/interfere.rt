@@ -2,7 +2,8 @@
 
 ghost use Rattle.std.specs.Prelude.{◌≡◌, ◌==◌, ◌&&◌, ◌||◌, ◌++◌, not};
 ghost use Rattle.std.specs.List.{list_any, flat_map};
-ghost use Rattle.tp_ground.specs.State.{atoms_in, fluents_in, fluents_of};
+ghost use Rattle.tp_ground.specs.State.{atoms_in, fluents_in, fluents_of, mentions_duration};
+ghost use Rattle.tp_ground.specs.Bounds as bounds;
 ghost use Rattle.tp_ground.specs.Event as spec;
 ghost use Rattle.tp_ground.specs.Event.{has, meets, fluents_read, fluents_written, fluents_set};
 
@@ -222,4 +223,58 @@ pub fn interferes(first: &Event<'_>, second: &Event<'_>) -> bool
     ensures { result ≡ spec.interferes first.now second.now }
 {
     interfere(first.body, second.body)
+}
+
+/// Whether an event adds or deletes an atom that a condition mentions.
+#[tactic(auto, using(crate::proofs::Meets::changes_is))]
+fn changes_atoms(event: &GroundEvent, cond: &Cond) -> bool
+    ensures { result ≡ meets (event.now.adds.items ++ event.now.deletes.items) (atoms_in cond.now) }
+{
+    some_is_mentioned(&event.adds, cond) || some_is_mentioned(&event.deletes, cond)
+}
+
+fn some_is_compared(effects: &[NumericEffect], cond: &Cond) -> bool
+    ensures { result ≡ list_any (λ w. has (fluents_in cond.now) w.fluent) effects.now }
+{
+    effects.iter().any(|w| mentions_fluent(cond, w.fluent))
+}
+
+fn changes_fluents(event: &GroundEvent, cond: &Cond) -> bool
+    ensures { result ≡ meets (fluents_written event.now) (fluents_in cond.now) }
+{
+    some_is_compared(&event.writes, cond)
+}
+
+/// Whether an event writes an atom or a fluent that a condition mentions.
+pub fn writes_into(event: &Event<'_>, cond: &Cond) -> bool
+    ensures { result ≡ bounds.writes_into event.now cond.now }
+{
+    changes_atoms(event.body, cond) || changes_fluents(event.body, cond)
+}
+
+/// Whether an expression mentions the duration.
+fn mentions_duration(expr: &Expr) -> bool
+    ensures { result ≡ mentions_duration expr.now }
+{
+    match expr {
+        Expr::Duration => true,
+        Expr::Number(_) | Expr::Fluent(_) => false,
+        Expr::Negated(x) => mentions_duration(x),
+        Expr::Sum(x, y) | Expr::Difference(x, y) | Expr::Product(x, y) => {
+            mentions_duration(x) || mentions_duration(y)
+        }
+    }
+}
+
+fn some_mentions_duration(effects: &[NumericEffect]) -> bool
+    ensures { result ≡ list_any (λ w. mentions_duration w.value) effects.now }
+{
+    effects.iter().any(|w| mentions_duration(&w.value))
+}
+
+/// Whether an effect of an event mentions the duration.
+pub fn uses_duration(event: &Event<'_>) -> bool
+    ensures { result ≡ bounds.uses_duration event.now }
+{
+    some_mentions_duration(&event.body.writes)
 }

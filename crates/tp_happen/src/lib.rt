@@ -33,7 +33,7 @@ pub use events::{Event, EventRef, Part};
 pub use faults::{Outcome, Why, rule_defined};
 pub use forms::forms_are_written;
 pub use happening::{ApplyFault, apply};
-pub use interfere::interferes;
+pub use interfere::{interferes, uses_duration, writes_into};
 pub use lending::event;
 pub use plans::{Plan, Step};
 pub use printing::plans_are_read;

@@ -6,7 +6,7 @@ use Rattle.tp_ground.specs.Valid.{at}
 use Rattle.tp_happen.specs.declared.plans.Step.{Step}
 use Rattle.tp_happen.specs.Small.{all_small}
 use Rattle.tp_happen.specs.Bounded.{StaysSmall}
-use Rattle.tp_validate.specs.OfTask.{scale_of, plan_of, events_of, state_at, last_state, fault_in}
+use Rattle.tp_validate.specs.OfTask.{IsOfTask, scale_of, plan_of, events_of, state_at, last_state, fault_in}
 use Rattle.tp_validate.specs.Tick.{PassesAt}
 
 -- A plan has no fault at any moment, it reaches the goal, and its run is worked out in small numbers.
@@ -22,3 +22,8 @@ pub record PassesIn (t : Task) (steps : List Step) : Type 0 where
   pub before : (k : ℕ) → k < moment → fault_in t steps k ≡ None
   pub passes : PassesAt (scale_of t) (state_at t steps moment) moment (plan_of t steps) (events_of t steps)
       ⊎ (((k : ℕ) → fault_in t steps k ≡ None) × (all_small (last_state t steps) t.goal ≡ false))
+
+-- What is known of a validated plan: it is of its task, and it is sound.
+pub record IsValidated (t : Task) (steps : List Step) : Type 0 where
+  pub of_task : IsOfTask t steps
+  pub sound : IsSound t steps

@@ -1,6 +1,6 @@
 //! Whether the durations of steps are lawful.
 
-ghost use Rattle.std.specs.Prelude.{◌≡◌, ◌<◌, ◌&&◌, ◌==◌, nat_le, true, false, pos, ◌*ℤ◌, length, Some, IfOk, IfSome, OnErr};
+ghost use Rattle.std.specs.Prelude.{◌≡◌, ◌<◌, ◌&&◌, ◌==◌, nat_le, true, false, pos, ◌*ℤ◌, ◌-ℤ◌, ◌≤ℤ◌, length, Some, IfOk, IfSome, OnErr};
 ghost use Rattle.std.specs.List.{list_all, position_from};
 ghost use Rattle.tp_text.specs.Scales.{scale_ticks};
 ghost use Rattle.tp_ground.specs.Verdict as verdict;
@@ -14,10 +14,12 @@ use tp_ground::{Body, Limit};
 use tp_happen::{Range, State, compares, rule_defined, value};
 use tp_text::Scale;
 
-// Units of time in ticks.
-fn in_ticks(scale: Scale, units: i64) -> i64
+/// Units of time in ticks.
+pub fn in_ticks(scale: Scale, units: i64) -> i64
     requires { is_small (Some units) ≡ true }
-    ensures { result ≡ pos (scale_ticks scale) *ℤ units }
+    ensures ticks { result ≡ pos (scale_ticks scale) *ℤ units }
+    ensures low { (pos 0 -ℤ pos 1000000000000000000) ≤ℤ result }
+    ensures high { result ≤ℤ pos 1000000000000000000 }
 {
     match scale {
         Scale::One => units,

@@ -15,6 +15,9 @@ mod rosters;
 mod ticks;
 mod verdicts;
 
+pub use agenda::{Tick, agenda_of, next_tick};
+pub use durations::in_ticks;
+pub use placing::{PlacedEvent, PlannedStep, event_refs, placed_events, planned_steps};
 pub use ticks::Fault;
 pub use verdicts::{ValidPlan, ValidateFault, Verdict, validate};
 

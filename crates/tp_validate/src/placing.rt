@@ -88,6 +88,34 @@ impl<'t> PlacedEvent<'t> {
     {
         self.moment
     }
+
+    /// Its number among the events of the plan.
+    pub fn number(&self) -> u16
+        ensures { result ≡ self.now.number }
+    {
+        self.number
+    }
+
+    /// What happens.
+    pub fn event(&self) -> Event<'t>
+        ensures { result ≡ self.now.timed.event }
+    {
+        Event::new(self.event)
+    }
+
+    /// The same event once more.
+    pub fn again(&self) -> PlacedEvent<'t>
+        ensures { result ≡ self.now }
+    {
+        PlacedEvent {
+            number: self.number,
+            first: self.first,
+            last: self.last,
+            moment: self.moment,
+            event: self.event,
+            ticks: self.ticks,
+        }
+    }
 }
 
 // A step with what its action does.

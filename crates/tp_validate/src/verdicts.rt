@@ -40,17 +40,18 @@ impl<'t> Model for ValidPlan<'t> {
 
     ghost coded = { Prim.hlevel (codes, a_task.the_row.coded, a_step.the_row.coded) };
 
-    ghost use Rattle.tp_validate.specs.Verdict.{IsSound};
+    ghost use Rattle.tp_validate.specs.Verdict.{IsValidated};
 
     ghost view = { λ v. record { task = v.task.now; steps = v.plan } };
 
-    ghost invariant = { λ v. IsSound v.task.now v.plan };
+    ghost invariant = { λ v. IsValidated v.task.now v.plan };
 }
 
 impl<'t> ValidPlan<'t> {
     /// The plan.
     pub fn plan(&self) -> &Plan
         ensures plan { result.now ≡ self.now.steps }
+        ensures of_task { IsOfTask self.now.task self.now.steps }
         ensures sound { IsSound self.now.task self.now.steps }
         ensures valid { IsValidPlan self.now.task self.now.steps }
     {
@@ -61,6 +62,7 @@ impl<'t> ValidPlan<'t> {
     /// Its task.
     pub fn task(&self) -> &'t Task
         ensures task { result.now ≡ self.now.task }
+        ensures of_task { IsOfTask self.now.task self.now.steps }
         ensures sound { IsSound self.now.task self.now.steps }
     {
         self.task
