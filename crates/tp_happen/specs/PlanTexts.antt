@@ -1,5 +1,5 @@
 -- What a plan text says of a task: the steps that its lines spell, and the first line at fault.
-use Rattle.std.specs.Prelude.{◌≡◌, ℕ, ◌+◌, ◌<◌, ◌==◌, Bool, true, false, nat_le, nat_lt, if◌then◌else◌, List, [], ◌∷◌, map, length, Option, Some, None, Result, Ok, Err}
+use Rattle.std.specs.Prelude.{◌≡◌, ℕ, ◌+◌, ◌<◌, ◌==◌, Bool, true, false, ◌&&◌, ◌||◌, nat_le, nat_lt, if◌then◌else◌, List, [], ◌∷◌, map, length, Option, Some, None, Result, Ok, Err}
 use Rattle.std.specs.Char.{to_ascii_lowercase}
 use Rattle.std.specs.List.{list_all}
 use Rattle.tp_text.specs.Numbers.{ticks_of}
@@ -106,9 +106,12 @@ lines_in text = lines_of (map to_ascii_lowercase text)
 abbrev pub SpellsPlan : Labelled → List ℕ → List Step → Type 0
 SpellsPlan task text steps = LinesSpell task (lines_in text) steps
 
--- the actions of steps are the task's
+-- a step's action is the task's, and if it is instantaneous the step lasts no tick
+abbrev pub is_known : Labelled → Step → Bool
+is_known task s = nat_lt s.action.0 task.count && (task.is_durative s.action || s.duration == 0)
+
 abbrev pub AreKnown : Labelled → List Step → Type 0
-AreKnown task steps = list_all (λ s. nat_lt s.action.0 task.count) steps ≡ true
+AreKnown task steps = list_all (is_known task) steps ≡ true
 
 -- when a text is refused
 abbrev pub IsRefused : Labelled → List ℕ → PlanFault → Type 0

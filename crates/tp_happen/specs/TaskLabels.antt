@@ -1,5 +1,5 @@
 -- A task, as plan texts speak of it.
-use Rattle.std.specs.Prelude.{ℕ, Bool, true, false, List, [], ◌∷◌, length, min, Option, Some, None, option_map, slice_get}
+use Rattle.std.specs.Prelude.{Bool, true, false, List, [], ◌∷◌, length, min, Option, Some, None, option_map, slice_get}
 use Rattle.std.specs.List.{position_from}
 use Rattle.tp_ground.specs.Words.{Words, same_words}
 use Rattle.tp_ground.specs.Tables.{words_at}

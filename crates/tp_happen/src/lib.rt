@@ -41,6 +41,3 @@ pub use reading::PlanFault;
 pub use states::State;
 pub use texts::{print_plan, read_plan};
 pub use values::{Range, value};
-
-#[cfg(test)]
-mod tests;

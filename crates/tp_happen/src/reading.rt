@@ -1,11 +1,11 @@
 //! Plans as texts spell them.
 
-ghost use Rattle.std.specs.Prelude.{◌≡◌, ◌∷◌, ◌<◌, ◌≤◌, ◌+◌, length, IfOk, IfErr, option_map};
+ghost use Rattle.std.specs.Prelude.{◌≡◌, ◌∷◌, ◌<◌, ◌≤◌, ◌+◌, ◌==◌, ◌||◌, true, length, Some, IfOk, IfErr, option_map};
 ghost use Rattle.tp_text.specs.Scales.{scale_ticks};
 ghost use Rattle.tp_happen.specs.Steps.{IsPlan};
 ghost use Rattle.tp_happen.specs.PlanMarks.{marks};
 ghost use Rattle.tp_happen.specs.PlanForms.{form_view};
-ghost use Rattle.tp_happen.specs.PlanTexts.{lines_of, timed, lasting, form_step, step_of, fault_at, LinesSpell, LinesAreRefused, AreKnown, SpellsPlan, IsRefused};
+ghost use Rattle.tp_happen.specs.PlanTexts.{lines_of, timed, lasting, form_step, step_of, fault_at, LinesSpell, LinesAreRefused, is_known, AreKnown, SpellsPlan, IsRefused};
 
 use crate::forms::{Form, is_well_formed, read_form};
 use crate::labels::Labels;
@@ -94,6 +94,7 @@ fn timed(
     ensures value { result ≡ timed horizon action tick duration }
     ensures ends { IfOk result (λ s. s.tick + s.duration ≤ horizon) }
     ensures action { IfOk result (λ s. s.action ≡ action) }
+    ensures lasts { IfOk result (λ s. duration ≡ Some s.duration) }
 {
     let Some(tick) = tick else {
         return Err(Wrong::Ticks);
@@ -121,6 +122,7 @@ fn lasting(
     ensures value { result ≡ lasting (scale_ticks scale) horizon (form_view form.now) action is_durative (form_view form.now).duration }
     ensures ends { IfOk result (λ s. s.tick + s.duration ≤ horizon) }
     ensures action { IfOk result (λ s. s.action ≡ action) }
+    ensures lasts { IfOk result (λ s. (is_durative || s.duration == 0) ≡ true) }
 {
     let tick = read_ticks(form.time, scale);
     if !is_durative {
@@ -136,7 +138,7 @@ fn lasting(
 fn form_step<T: Labels>(task: &T, form: &Form<'_>) -> Result<Step, Wrong>
     ensures value { result ≡ form_step (T.labelled task.now) (form_view form.now) }
     ensures ends { IfOk result (λ s. s.tick + s.duration ≤ 1000000000) }
-    ensures known { IfOk result (λ s. s.action.0 < (T.labelled task.now).count) }
+    ensures known { IfOk result (λ s. is_known (T.labelled task.now) s ≡ true) }
 {
     if !is_well_formed(form) {
         return Err(Wrong::Form);
@@ -156,7 +158,7 @@ fn read_step<T: Labels>(
 ) -> Result<Result<Step, Wrong>, AllocError>
     ensures value { IfOk result (λ r. r ≡ step_of (T.labelled task.now) line.now) }
     ensures ends { IfOk result (λ r. IfOk r (λ s. s.tick + s.duration ≤ 1000000000)) }
-    ensures known { IfOk result (λ r. IfOk r (λ s. s.action.0 < (T.labelled task.now).count)) }
+    ensures known { IfOk result (λ r. IfOk r (λ s. is_known (T.labelled task.now) s ≡ true)) }
 {
     match read_form(alloc, line)? {
         None => Ok(Err(Wrong::Form)),

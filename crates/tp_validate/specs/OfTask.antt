@@ -1,5 +1,5 @@
 -- The plans of a task: what their steps do, their run, and when they are valid.
-use Rattle.std.specs.Prelude.{◌≡◌, ℕ, suc, true, nat_lt, List, [], ◌∷◌, ◌++◌, length, slice_get, option_map, Option}
+use Rattle.std.specs.Prelude.{◌≡◌, ℕ, suc, Bool, true, nat_lt, ◌&&◌, ◌||◌, ◌==◌, List, [], ◌∷◌, ◌++◌, length, slice_get, option_map, Option}
 use Rattle.std.specs.Option.{option_to_list}
 use Rattle.std.specs.List.{list_all}
 use Rattle.tp_text.specs.Scales.{scale_ticks}
@@ -10,10 +10,14 @@ use Rattle.tp_ground.specs.Valid.{Planned, Placed, events, IsValid}
 use Rattle.tp_ground.specs.Verdict.{Fault, states, fault_at, last_moment}
 use Rattle.tp_happen.specs.declared.plans.Step.{Step}
 use Rattle.tp_happen.specs.Stored.{state_of, first_of}
+use Rattle.tp_happen.specs.TaskLabels.{is_durative}
 
--- the actions of the steps are the task's
+-- a step's action is the task's, and if it is instantaneous the step lasts no tick
+abbrev pub is_step_of : Task → Step → Bool
+is_step_of t s = nat_lt s.action.0 (length t.actions.items) && (is_durative (slice_get t.actions.items s.action.0) || s.duration == 0)
+
 abbrev pub IsOfTask : Task → List Step → Type 0
-IsOfTask t steps = list_all (λ s. nat_lt s.action.0 (length t.actions.items)) steps ≡ true
+IsOfTask t steps = list_all (is_step_of t) steps ≡ true
 
 -- a step with what its action does
 abbrev pub step_of : Step → Body → Planned

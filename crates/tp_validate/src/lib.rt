@@ -20,6 +20,3 @@ pub use durations::in_ticks;
 pub use placing::{PlacedEvent, PlannedStep, event_refs, placed_events, planned_steps};
 pub use ticks::Fault;
 pub use verdicts::{ValidPlan, ValidateFault, Verdict, validate};
-
-#[cfg(test)]
-mod tests;

@@ -1,0 +1,160 @@
+//! Fluents of a tank and of a counter: what writes do to them, one by one and at once.
+
+use crate::rows::Named::Only;
+use crate::rows::{Named, Row, Then, are_rows};
+use crate::worlds::{TANKS, World};
+use std::test::Fail;
+use tp_happen::Why;
+use tp_text::Scale;
+
+const COUNTER: &str = "(define (domain counter)
+ (:predicates (on))
+ (:functions (x) (y) (z))
+ (:action set :parameters () :effect (assign (x) 5))
+ (:action up :parameters () :effect (increase (x) (y)))
+ (:action twice :parameters () :effect (scale-up (x) 2))
+ (:action grow :parameters () :effect (increase (y) 1))
+ (:action both :parameters () :effect (and (assign (x) 1) (increase (x) 1)))
+ (:action drain :parameters () :effect (decrease (x) (z)))
+ (:action blink :parameters () :precondition (on) :effect (and (not (on)) (on)))
+ (:action look :parameters () :precondition (not (= (z) 1)) :effect ())
+ (:action spend :parameters () :effect (decrease (x) 1))
+ (:action move :parameters () :effect (and (assign (y) 0) (increase (x) (y)))))";
+
+// The fluents x and y are 3 and 2, z has no value, and (on) is false.
+const COUNTING: &str = "(define (problem p) (:domain counter)
+ (:init (= (x) 3) (= (y) 2)) (:goal (and (on) (= (z) 0))))";
+
+pub(crate) const COUNTERS: World<'static> = World {
+    domain: COUNTER,
+    problem: COUNTING,
+    scale: Scale::One,
+    horizon: 100,
+};
+
+const SHINING: &str = "(define (problem p) (:domain counter) (:init (on)) (:goal (on)))";
+
+const FILLS: [Row<'static>; 2] = [
+    Row(&[&[]], Then::Numbers(&[(0, Some(0)), (1, None)])),
+    Row(
+        &[&[Only("fill-a"), Only("fill-b")]],
+        Then::Numbers(&[(0, Some(3)), (1, None)]),
+    ),
+];
+
+#[test]
+fn both_fills_of_the_tank_add_up(rt: HostRuntime) -> Result<(), Fail> {
+    are_rows(&rt, rt.alloc(), TANKS, &FILLS)
+}
+
+const BRIM: &str = "(define (problem p) (:domain tank)
+ (:init (= (level) 1000000000000000)) (:goal (>= (level) 3)))";
+
+const HOLD: Named<'static> = Named::Start("hold", &[], 1);
+
+const BRIMS: [Row<'static>; 2] = [
+    Row(&[&[Only("fill-a")]], Then::Range),
+    Row(
+        &[&[HOLD]],
+        Then::Numbers(&[(0, Some(1_000_000_000_000_000))]),
+    ),
+];
+
+#[test]
+fn a_level_past_the_limit_is_out_of_range(rt: HostRuntime) -> Result<(), Fail> {
+    let world = World {
+        problem: BRIM,
+        ..TANKS
+    };
+    are_rows(&rt, rt.alloc(), world, &BRIMS)
+}
+
+// Actions of the counter at once at first, and the values of x and y then.
+const SUMS: [Row<'static>; 6] = [
+    Row(
+        &[&[Only("up"), Only("up")]],
+        Then::Numbers(&[(0, Some(7)), (1, Some(2))]),
+    ),
+    Row(
+        &[&[Only("set"), Only("grow")]],
+        Then::Numbers(&[(0, Some(5)), (1, Some(3))]),
+    ),
+    Row(
+        &[&[Only("twice"), Only("grow")]],
+        Then::Numbers(&[(0, Some(6)), (1, Some(3))]),
+    ),
+    Row(
+        &[&[Only("grow"), Only("grow")]],
+        Then::Numbers(&[(0, Some(3)), (1, Some(4))]),
+    ),
+    Row(
+        &[&[Only("up"), Only("spend")]],
+        Then::Numbers(&[(0, Some(4)), (1, Some(2))]),
+    ),
+    Row(
+        &[&[Only("move")]],
+        Then::Numbers(&[(0, Some(5)), (1, Some(0))]),
+    ),
+];
+
+#[test]
+fn what_writes_do_at_once(rt: HostRuntime) -> Result<(), Fail> {
+    are_rows(&rt, rt.alloc(), COUNTERS, &SUMS)
+}
+
+// Writes and reads of one fluent interfere. The first fault is told.
+const FAULTS: [Row<'static>; 10] = [
+    Row(
+        &[&[Only("set"), Only("up")]],
+        Then::Fails(0, Why::Interferes(1)),
+    ),
+    Row(
+        &[&[Only("up"), Only("set")]],
+        Then::Fails(0, Why::Interferes(1)),
+    ),
+    Row(
+        &[&[Only("twice"), Only("twice")]],
+        Then::Fails(0, Why::Interferes(1)),
+    ),
+    Row(
+        &[&[Only("grow"), Only("up")]],
+        Then::Fails(0, Why::Interferes(1)),
+    ),
+    Row(
+        &[&[Only("grow"), Only("grow"), Only("set"), Only("up")]],
+        Then::Fails(0, Why::Interferes(3)),
+    ),
+    Row(&[&[Only("set"), Only("both")]], Then::Fails(1, Why::Clash)),
+    Row(
+        &[&[Only("both"), Only("blink")]],
+        Then::Fails(1, Why::Condition),
+    ),
+    Row(
+        &[&[Only("blink"), Only("look")]],
+        Then::Fails(0, Why::Condition),
+    ),
+    Row(
+        &[&[Only("blink"), Only("drain")]],
+        Then::Fails(1, Why::Undefined),
+    ),
+    Row(
+        &[&[Only("drain"), Only("both")]],
+        Then::Fails(0, Why::Undefined),
+    ),
+];
+
+#[test]
+fn the_first_fault_is_told(rt: HostRuntime) -> Result<(), Fail> {
+    are_rows(&rt, rt.alloc(), COUNTERS, &FAULTS)
+}
+
+const SHINES: [Row<'static>; 1] = [Row(&[&[Only("blink")]], Then::Atoms("(on)"))];
+
+#[test]
+fn an_atom_deleted_and_added_at_once_is_true(rt: HostRuntime) -> Result<(), Fail> {
+    let world = World {
+        problem: SHINING,
+        ..COUNTERS
+    };
+    are_rows(&rt, rt.alloc(), world, &SHINES)
+}
