@@ -138,73 +138,75 @@ fn section_fault(
 }
 
 // One text or more for each construct that is left out.
+const LEFT_OUT: [(&str, LeftOutPart); 18] = [
+    ("(:action a :effect ^(when (p) (q)))", LeftOutPart::When),
+    (
+        "(:durative-action a :duration () :effect (at end ^(when (p) (q))))",
+        LeftOutPart::When,
+    ),
+    (
+        "(:durative-action a :duration () :effect ^(when (p) (at end (q))))",
+        LeftOutPart::When,
+    ),
+    (
+        "(:action a :precondition (< ^(/ (f) 2) 1))",
+        LeftOutPart::Division,
+    ),
+    (
+        "(:action a :effect ^(scale-down (f) 2))",
+        LeftOutPart::ScaleDown,
+    ),
+    (
+        "(:action a :precondition (< (f) ^2.5))",
+        LeftOutPart::Number,
+    ),
+    (
+        "(:action a :precondition (< (f) ^9223372036854775808))",
+        LeftOutPart::Number,
+    ),
+    (
+        "(:durative-action a :duration ^(at end (= ?duration 1)))",
+        LeftOutPart::AtEndDuration,
+    ),
+    (
+        "(:action a :precondition ^(< (f) ?duration))",
+        LeftOutPart::DurationInCondition,
+    ),
+    (
+        "(:durative-action a :duration () :condition (over all ^(<= ?duration 5)))",
+        LeftOutPart::DurationInCondition,
+    ),
+    (
+        "(:durative-action a :duration () :effect (increase (f) ^(* #t 1)))",
+        LeftOutPart::Continuous,
+    ),
+    ("^(:derived (p) (q))", LeftOutPart::Derived),
+    ("^(:constraints ())", LeftOutPart::Constraint),
+    (
+        "(:action a :precondition ^(preference n (p)))",
+        LeftOutPart::Preference,
+    ),
+    (
+        "(:durative-action a :duration () :condition ^(preference n (over all (p))))",
+        LeftOutPart::Preference,
+    ),
+    (
+        "(:constants a - ^(either object object))",
+        LeftOutPart::Either,
+    ),
+    (
+        "(:action a :precondition (< (f) ^(+ 1 2 3)))",
+        LeftOutPart::Operands,
+    ),
+    (
+        "(:action a :precondition (< (f) ^(* 1 2 3)))",
+        LeftOutPart::Operands,
+    ),
+];
+
 #[test]
 fn constructs_are_left_out(rt: HostRuntime) -> Result<(), Fail> {
-    for (section, part) in [
-        ("(:action a :effect ^(when (p) (q)))", LeftOutPart::When),
-        (
-            "(:durative-action a :duration () :effect (at end ^(when (p) (q))))",
-            LeftOutPart::When,
-        ),
-        (
-            "(:durative-action a :duration () :effect ^(when (p) (at end (q))))",
-            LeftOutPart::When,
-        ),
-        (
-            "(:action a :precondition (< ^(/ (f) 2) 1))",
-            LeftOutPart::Division,
-        ),
-        (
-            "(:action a :effect ^(scale-down (f) 2))",
-            LeftOutPart::ScaleDown,
-        ),
-        (
-            "(:action a :precondition (< (f) ^2.5))",
-            LeftOutPart::Number,
-        ),
-        (
-            "(:action a :precondition (< (f) ^9223372036854775808))",
-            LeftOutPart::Number,
-        ),
-        (
-            "(:durative-action a :duration ^(at end (= ?duration 1)))",
-            LeftOutPart::AtEndDuration,
-        ),
-        (
-            "(:action a :precondition ^(< (f) ?duration))",
-            LeftOutPart::DurationInCondition,
-        ),
-        (
-            "(:durative-action a :duration () :condition (over all ^(<= ?duration 5)))",
-            LeftOutPart::DurationInCondition,
-        ),
-        (
-            "(:durative-action a :duration () :effect (increase (f) ^(* #t 1)))",
-            LeftOutPart::Continuous,
-        ),
-        ("^(:derived (p) (q))", LeftOutPart::Derived),
-        ("^(:constraints ())", LeftOutPart::Constraint),
-        (
-            "(:action a :precondition ^(preference n (p)))",
-            LeftOutPart::Preference,
-        ),
-        (
-            "(:durative-action a :duration () :condition ^(preference n (over all (p))))",
-            LeftOutPart::Preference,
-        ),
-        (
-            "(:constants a - ^(either object object))",
-            LeftOutPart::Either,
-        ),
-        (
-            "(:action a :precondition (< (f) ^(+ 1 2 3)))",
-            LeftOutPart::Operands,
-        ),
-        (
-            "(:action a :precondition (< (f) ^(* 1 2 3)))",
-            LeftOutPart::Operands,
-        ),
-    ] {
+    for (section, part) in LEFT_OUT {
         let (fault, place) = section_fault(rt.alloc(), true, section)?;
         assert!(rt;
             fault == Some(SyntaxFault::LeftOut(place, part)),
