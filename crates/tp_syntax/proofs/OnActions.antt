@@ -3,37 +3,26 @@ use Rattle.std.proofs.Common.{◌≡◌, ℕ, ◌<◌, ◌≤◌, ◌-◌, List,
 use Rattle.tp_text.specs.Shapes.{Shape, leaf, node, Shapes, no_shapes, shape}
 use Rattle.tp_text.specs.Trees.{shape_of}
 use Rattle.tp_text.specs.declared.tree.Tree.{Tree}
-use Rattle.tp_syntax.specs.Gives.{◌>>=◌, provided, with_front, Fails}
-use Rattle.tp_syntax.specs.Terms.{shapes, name_of}
-use Rattle.tp_syntax.specs.Symbols.{Name, Declared, Symbols, typed_view, scope_view}
-use Rattle.tp_syntax.specs.declared.symbols.Typed.{Typed}
-use Rattle.tp_syntax.specs.declared.symbols.Scope.{Scope, Inner, Empty, the_lemmas}
-use Rattle.tp_syntax.specs.Conditions.{Condition, all_of, no_conditions, condition_of}
-use Rattle.tp_syntax.specs.Parts.{Joined, all_parts, no_parts}
-use Rattle.tp_syntax.specs.Effects.{Effect, Timed, Rule, effect_of, timed_condition_of, timed_effect_of}
-use Rattle.tp_syntax.specs.TypedLists.{parameters_at}
-use Rattle.tp_syntax.specs.Actions.{Action, Field, Body, instant, durative, fields_of, each_once, field, or_missing, body_of, action_of}
+use Rattle.tp_ast.specs.Gives.{◌>>=◌, provided, with_front, Fails}
+use Rattle.tp_ast.specs.Terms.{shapes, name_of}
+use Rattle.tp_ast.specs.Symbols.{Name, Declared, Symbols, typed_view}
+use Rattle.tp_names.specs.SymbolViews.{scope_view}
+use Rattle.tp_ast.specs.declared.symbols.Typed.{Typed}
+use Rattle.tp_names.specs.declared.symbols.Scope.{Scope, Inner, Empty, the_lemmas}
+use Rattle.tp_ast.specs.Conditions.{Condition, all_of, no_conditions, condition_of}
+use Rattle.tp_ast.specs.Parts.{Joined, all_parts, no_parts}
+use Rattle.tp_ast.specs.Effects.{Effect, Timed, Rule, effect_of, timed_condition_of, timed_effect_of}
+use Rattle.tp_ast.specs.TypedLists.{parameters_at}
+use Rattle.tp_ast.specs.Actions.{Action, Field, Body, instant, durative, fields_of, each_once, field, or_missing, body_of, action_of}
 use Rattle.tp_syntax.specs.Fields.{key_at, are_fields_of, checked_fields, duration_field}
-use Rattle.tp_syntax.specs.declared.words.Key.{Key}
-use Rattle.tp_syntax.specs.declared.words.Key.TheVariants.{Parameters}
-use Rattle.tp_syntax.specs.declared.words.Key.TheVariants as keys
-use Rattle.tp_syntax.specs.declared.fault.SyntaxFault.{SyntaxFault}
-use Rattle.tp_syntax.proofs.OnGives.{fails_same, fails_bind}
-use Rattle.tp_syntax.proofs.OnSymbols.{scope_Inner}
-use Rattle.tp_syntax.proofs.OnFaults.{fails_from}
-use Rattle.tp_syntax.proofs.OnFirsts.{no_trees, a_first}
-
-pub bind_bind : {A B C : Type 0} (o : Option A) (f : A → Option B) (g : B → Option C) → ((o >>= f) >>= g) ≡ (o >>= λ x. f x >>= g)
-bind_bind None f g = refl
-bind_bind (Some x) f g = refl
-
-pub joins_front : {A : Type 0} (front : List A) (x : A) (rest : Option (List A)) → with_front front (option_map (λ xs. x ∷ xs) rest) ≡ with_front (front ++ x ∷ []) rest
-joins_front front x None = refl
-joins_front front x (Some xs) = ap Some (sym (append_assoc front (x ∷ []) xs))
-
-pub keeps_front : {A : Type 0} (rest : Option (List A)) → with_front [] rest ≡ rest
-keeps_front None = refl
-keeps_front (Some xs) = refl
+use Rattle.tp_ast.specs.declared.words.Key.{Key}
+use Rattle.tp_ast.specs.declared.words.Key.TheVariants.{Parameters}
+use Rattle.tp_ast.specs.declared.words.Key.TheVariants as keys
+use Rattle.tp_ast.specs.declared.fault.SyntaxFault.{SyntaxFault}
+use Rattle.tp_ast.proofs.OnGives.{fails_same, fails_bind, bind_bind, joins_front, keeps_front}
+use Rattle.tp_names.proofs.OnSymbols.{scope_Inner}
+use Rattle.tp_ast.proofs.OnFaults.{fails_from}
+use Rattle.tp_ast.proofs.OnFirsts.{no_trees, a_first}
 
 made : Key → Shape → Field
 made k s = record { key = k; value = s }

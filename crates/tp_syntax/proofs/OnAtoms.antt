@@ -3,13 +3,13 @@ use Rattle.std.proofs.Common.{◌≡◌, List, [], ◌∷◌, map, Bool, ◌&&�
 use Rattle.std.specs.Str.{bytes_eq}
 use Rattle.std.specs.String.{string_eq}
 use lib.Pointwise.{pointwise}
-use Rattle.tp_syntax.specs.Terms.{term_view, atom_view}
-use Rattle.tp_syntax.specs.Problems.{same_argument, same_arguments, same_fact}
-use Rattle.tp_syntax.specs.declared.term.Atom.{Atom}
-use Rattle.tp_syntax.specs.declared.term.Term.{Term}
-use Rattle.tp_syntax.specs.declared.term.Term.TheVariants.{Object, Variable}
-use Rattle.tp_syntax.specs.contracts.term.AtomPartialEq.TheImpl as atoms
-use Rattle.tp_syntax.specs.contracts.term.TermPartialEq.TheImpl as terms
+use Rattle.tp_ast.specs.Terms.{term_view, atom_view}
+use Rattle.tp_ast.specs.Problems.{same_argument, same_arguments, same_fact}
+use Rattle.tp_ast.specs.declared.term.Atom.{Atom}
+use Rattle.tp_ast.specs.declared.term.Term.{Term}
+use Rattle.tp_ast.specs.declared.term.Term.TheVariants.{Object, Variable}
+use Rattle.tp_ast.specs.contracts.term.AtomPartialEq.TheImpl as atoms
+use Rattle.tp_ast.specs.contracts.term.TermPartialEq.TheImpl as terms
 
 text_is : (n m : String Global) → string_eq n m ≡ bytes_eq (string_bytes n) (string_bytes m)
 text_is n m = refl

@@ -7,15 +7,15 @@ use Rattle.std.proofs.lemmas.Bool.{and_parts}
 use Rattle.std.proofs.lemmas.Bool.Decides.{same_from_decides}
 use Rattle.std.proofs.lemmas.List.Folds.{list_any-append, list_any_more}
 use Rattle.std.proofs.lemmas.Slice.Eq.{bytes_eq-Decides}
-use Rattle.tp_syntax.specs.Terms.{Argument, object, variable, Fact, atom_view}
-use Rattle.tp_syntax.specs.Problems.{Initial, holds, fails, has_value, same_argument, same_arguments, same_fact, clash, no_clash}
+use Rattle.tp_ast.specs.Terms.{Argument, object, variable, Fact, atom_view}
+use Rattle.tp_ast.specs.Problems.{Initial, holds, fails, has_value, same_argument, same_arguments, same_fact, clash, no_clash}
 use Rattle.indexmap.specs.IndexSet.{insert_key}
 use Rattle.tp_syntax.specs.Clashes.{any_atom, clashes}
 use Rattle.tp_syntax.specs.declared.clash.Said.{Said}
-use Rattle.tp_syntax.specs.DomainViews.{initial_view}
-use Rattle.tp_syntax.specs.declared.problem.Initial.{Initial as Entry}
-use Rattle.tp_syntax.specs.declared.term.Atom.{Atom}
-use Rattle.tp_syntax.proofs.OnPairs.{some_two, two_found, none_more, none_at_end}
+use Rattle.tp_ast.specs.DomainViews.{initial_view}
+use Rattle.tp_ast.specs.declared.problem.Initial.{Initial as Entry}
+use Rattle.tp_ast.specs.declared.term.Atom.{Atom}
+use Rattle.tp_types.proofs.OnPairs.{some_two, two_found, none_more, none_at_end}
 
 -- ---- the same argument, the same fact
 

@@ -3,23 +3,23 @@ use Rattle.std.proofs.Common.{◌≡◌, ℕ, List, [], ◌∷◌, ◌++◌, len
 use Rattle.tp_text.specs.Shapes.{Shape, leaf, node, Shapes, no_shapes, shape}
 use Rattle.std.proofs.Common.{◌+◌, ◌<◌, ◌≤◌, cond, codes}
 use Rattle.std.proofs.lemmas.List.{at_drop_more, at_drop_all}
-use Rattle.tp_syntax.specs.Lists.{first_of}
-use Rattle.tp_syntax.specs.Words.{is_word}
-use Rattle.tp_syntax.specs.Terms.{shapes}
-use Rattle.tp_syntax.specs.Actions.{action_of}
+use Rattle.tp_ast.specs.Lists.{first_of}
+use Rattle.tp_ast.specs.Words.{is_word}
+use Rattle.tp_ast.specs.Terms.{shapes}
+use Rattle.tp_ast.specs.Actions.{action_of}
 use Rattle.tp_syntax.specs.declared.sections.SectionBody.{SectionBody}
-use Rattle.tp_syntax.specs.declared.fault.SyntaxFault.{SyntaxFault}
-use Rattle.tp_syntax.proofs.OnFaults.{fails_from}
-use Rattle.tp_syntax.proofs.OnActions.{bind_bind}
-use Rattle.tp_syntax.specs.Gives.{◌>>=◌, provided, with_front, Fails}
-use Rattle.tp_syntax.specs.Symbols.{Name, Parent, Declared, Form, Symbols}
-use Rattle.tp_syntax.specs.TypedLists.{has_twice}
-use Rattle.tp_syntax.specs.Actions.{Action}
-use Rattle.tp_syntax.specs.Domains.{Domain, Part, requirements_in, types_in, objects_in, section, action_at, actions_in, sections_of, each_once, named, defined, domain_with, domain_of}
-use Rattle.tp_syntax.specs.FormViews.{predicates_in, functions_in}
+use Rattle.tp_ast.specs.declared.fault.SyntaxFault.{SyntaxFault}
+use Rattle.tp_ast.proofs.OnFaults.{fails_from}
+use Rattle.tp_ast.proofs.OnGives.{bind_bind}
+use Rattle.tp_ast.specs.Gives.{◌>>=◌, provided, with_front, Fails}
+use Rattle.tp_ast.specs.Symbols.{Name, Parent, Declared, Form, Symbols}
+use Rattle.tp_ast.specs.TypedLists.{has_twice}
+use Rattle.tp_ast.specs.Actions.{Action}
+use Rattle.tp_ast.specs.Domains.{Domain, Part, requirements_in, types_in, objects_in, section, action_at, actions_in, sections_of, each_once, named, defined, domain_with, domain_of}
+use Rattle.tp_names.specs.FormViews.{predicates_in, functions_in}
 use Rattle.tp_syntax.specs.SectionViews.{part_view, action_kind, actions_once, checked_sections, domain_symbols}
-use Rattle.tp_syntax.specs.declared.words.Section.{Section}
-use Rattle.tp_syntax.specs.declared.words.Section.TheVariants as sections
+use Rattle.tp_ast.specs.declared.words.Section.{Section}
+use Rattle.tp_ast.specs.declared.words.Section.TheVariants as sections
 
 module _ (n : Name) (parts : List Part) where
   abbrev pub made : List Name → List Parent → List Declared → List Form → List Form → List Action → Domain

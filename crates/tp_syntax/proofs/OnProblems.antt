@@ -3,10 +3,10 @@ use Rattle.std.proofs.Common.{◌≡◌, ℕ, List, None, refl}
 use Rattle.tp_text.specs.Shapes.{leaf, node, Shapes, no_shapes, shape}
 use Rattle.tp_text.specs.Trees.{shape_of}
 use Rattle.tp_text.specs.declared.tree.Tree.{Tree}
-use Rattle.tp_syntax.specs.Terms.{shapes}
-use Rattle.tp_syntax.specs.Symbols.{Symbols}
-use Rattle.tp_syntax.specs.Problems.{initial_list, initial_at, initial_of, section_at, sections_of}
-use Rattle.tp_syntax.proofs.Loops.{IsEach}
+use Rattle.tp_ast.specs.Terms.{shapes}
+use Rattle.tp_ast.specs.Symbols.{Symbols}
+use Rattle.tp_ast.specs.Problems.{initial_list, initial_at, initial_of, section_at, sections_of}
+use Rattle.tp_ast.proofs.Loops.{IsEach}
 
 pub each_section : IsEach (λ (t : Tree). section_at (shape_of t)) (λ ts. sections_of (shapes ts))
 unfolding sections_of

@@ -5,10 +5,10 @@ use Rattle.tp_text.specs.Trees.{IsRefused}
 use Rattle.tp_text.specs.declared.fault.TextFault.{TextFault}
 use Rattle.tp_text.specs.declared.fault.TextFault.TheVariants as text_faults
 use Rattle.tp_text.proofs.OnTrees.{spells_one_tree}
-use Rattle.tp_syntax.specs.Gives.{Fails}
-use Rattle.tp_syntax.specs.Readings.{SpellsNone, IsRefusedAs, of_text, of_tree}
-use Rattle.tp_syntax.specs.declared.fault.SyntaxFault.{SyntaxFault}
-use Rattle.tp_syntax.specs.declared.fault.SyntaxFault.TheVariants as faults
+use Rattle.tp_ast.specs.Gives.{Fails}
+use Rattle.tp_ast.specs.Readings.{SpellsNone, IsRefusedAs, of_text, of_tree}
+use Rattle.tp_ast.specs.declared.fault.SyntaxFault.{SyntaxFault}
+use Rattle.tp_ast.specs.declared.fault.SyntaxFault.TheVariants as faults
 
 module _ {Y : Type 0} (meaning : Shape → Option Y) (text : List ℕ) where
   no_meaning : (s : Shape) → Spells text s → meaning s ≡ None → SpellsNone meaning text

@@ -3,13 +3,13 @@ use Rattle.std.proofs.Common.{◌≡◌, ℕ, List, ◌∷◌, Option, Some, Non
 use Rattle.tp_text.specs.Shapes.{Shape, leaf, node, Shapes, no_shapes, shape}
 use Rattle.tp_text.specs.Trees.{shape_of}
 use Rattle.tp_text.specs.declared.tree.Tree.{Tree}
-use Rattle.tp_syntax.specs.Gives.{◌>>=◌}
-use Rattle.tp_syntax.specs.Terms.{shapes}
-use Rattle.tp_syntax.specs.Words.{section_of}
-use Rattle.tp_syntax.specs.Domains.{Part, sections_of}
+use Rattle.tp_ast.specs.Gives.{◌>>=◌}
+use Rattle.tp_ast.specs.Terms.{shapes}
+use Rattle.tp_ast.specs.Words.{section_of}
+use Rattle.tp_ast.specs.Domains.{Part, sections_of}
 use Rattle.tp_syntax.specs.SectionViews.{part_with, part_at}
-use Rattle.tp_syntax.specs.declared.words.Section.{Section}
-use Rattle.tp_syntax.proofs.Loops.{IsEach}
+use Rattle.tp_ast.specs.declared.words.Section.{Section}
+use Rattle.tp_ast.proofs.Loops.{IsEach}
 
 section_then : (o : Option Section) (body : Shapes) (rest : Option (List Part)) → (o >>= λ k. option_map (λ (ps : List Part). record { section = k; body = body } ∷ ps) rest) ≡ (option_map (part_with body) o >>= λ p. option_map (λ ps. p ∷ ps) rest)
 section_then None body rest = refl

@@ -2,9 +2,9 @@
 use Rattle.std.specs.Prelude.{List, Bool}
 use Rattle.std.specs.Borrow.{Bor}
 use Rattle.std.specs.List.{list_any}
-use Rattle.tp_syntax.specs.Terms.{Fact, atom_view}
-use Rattle.tp_syntax.specs.Problems.{Initial, holds, fails, has_value, same_fact}
-use Rattle.tp_syntax.specs.declared.term.Atom.{Atom}
+use Rattle.tp_ast.specs.Terms.{Fact, atom_view}
+use Rattle.tp_ast.specs.Problems.{Initial, holds, fails, has_value, same_fact}
+use Rattle.tp_ast.specs.declared.term.Atom.{Atom}
 use Rattle.tp_syntax.specs.declared.clash.Said.{Said}
 
 -- whether one of these atoms passes

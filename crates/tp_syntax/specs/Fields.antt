@@ -3,14 +3,14 @@ use Rattle.std.specs.Prelude.{List, Bool, ◌&&◌, Option, None}
 use Rattle.std.specs.List.{list_all}
 use Rattle.tp_text.specs.Shapes.{Shape, leaf, node, Shapes}
 use Rattle.tp_text.specs.Trees.{shape_of}
-use Rattle.tp_syntax.specs.Gives.{◌>>=◌, provided}
-use Rattle.tp_syntax.specs.Words.{key_of}
-use Rattle.tp_syntax.specs.Actions as actions
-use Rattle.tp_syntax.specs.Actions.{field, fields_of, each_once, is_field_of}
-use Rattle.tp_syntax.specs.Effects.{Rule, rule_of}
-use Rattle.tp_syntax.specs.Symbols.{Declared, Symbols}
-use Rattle.tp_syntax.specs.declared.words.Key.TheVariants as keys
-use Rattle.tp_syntax.specs.declared.words.Key.{Key}
+use Rattle.tp_ast.specs.Gives.{◌>>=◌, provided}
+use Rattle.tp_ast.specs.Words.{key_of}
+use Rattle.tp_ast.specs.Actions as actions
+use Rattle.tp_ast.specs.Actions.{field, fields_of, each_once, is_field_of}
+use Rattle.tp_ast.specs.Effects.{Rule, rule_of}
+use Rattle.tp_ast.specs.Symbols.{Declared, Symbols}
+use Rattle.tp_ast.specs.declared.words.Key.TheVariants as keys
+use Rattle.tp_ast.specs.declared.words.Key.{Key}
 use Rattle.tp_syntax.specs.declared.fields.Field.{Field}
 
 abbrev pub field_view : Field → actions.Field

@@ -1,6 +1,6 @@
 -- What a section of a problem shows.
-use Rattle.tp_syntax.specs.Terms.{shapes}
-use Rattle.tp_syntax.specs.Problems as problems
+use Rattle.tp_ast.specs.Terms.{shapes}
+use Rattle.tp_ast.specs.Problems as problems
 use Rattle.tp_syntax.specs.declared.problem_parts.Part.{Part}
 
 abbrev pub part_view : Part → problems.Part

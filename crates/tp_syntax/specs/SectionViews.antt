@@ -1,16 +1,16 @@
 -- A domain's sections as they are read.
 use Rattle.std.specs.Prelude.{◌≡◌, List, map, Bool, true, false, not, Option, Some, None, option_map, Result, Ok, Err}
 use Rattle.tp_text.specs.Shapes.{Shape, leaf, node, Shapes, no_shapes, shape}
-use Rattle.tp_syntax.specs.Gives.{◌>>=◌, provided, with_front, Fails}
-use Rattle.tp_syntax.specs.declared.fault.SyntaxFault.{SyntaxFault}
-use Rattle.tp_syntax.specs.Words.{section_of}
-use Rattle.tp_syntax.specs.Terms.{shapes}
-use Rattle.tp_syntax.specs.Symbols.{Parent, Declared, Form, Symbols}
-use Rattle.tp_syntax.specs.TypedLists.{has_twice}
-use Rattle.tp_syntax.specs.Actions.{Action}
-use Rattle.tp_syntax.specs.Domains.{Part, sections_of, each_once, actions_in}
-use Rattle.tp_syntax.specs.declared.words.Section.{Section}
-use Rattle.tp_syntax.specs.declared.words.Section.TheVariants as sections
+use Rattle.tp_ast.specs.Gives.{◌>>=◌, provided, with_front, Fails}
+use Rattle.tp_ast.specs.declared.fault.SyntaxFault.{SyntaxFault}
+use Rattle.tp_ast.specs.Words.{section_of}
+use Rattle.tp_ast.specs.Terms.{shapes}
+use Rattle.tp_ast.specs.Symbols.{Parent, Declared, Form, Symbols}
+use Rattle.tp_ast.specs.TypedLists.{has_twice}
+use Rattle.tp_ast.specs.Actions.{Action}
+use Rattle.tp_ast.specs.Domains.{Part, sections_of, each_once, actions_in}
+use Rattle.tp_ast.specs.declared.words.Section.{Section}
+use Rattle.tp_ast.specs.declared.words.Section.TheVariants as sections
 use Rattle.tp_syntax.specs.declared.sections.SectionBody.{SectionBody}
 
 abbrev pub part_view : SectionBody → Part

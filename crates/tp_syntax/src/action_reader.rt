@@ -1,37 +1,44 @@
 //! From a tree to an action.
 
 ghost use Rattle.std.specs.Prelude.{◌≡◌, [], map, true, false};
-ghost use Rattle.tp_syntax.specs.Actions.{field, or_missing, body_of, action_of};
-ghost use Rattle.tp_syntax.specs.Conditions.{all_of, no_conditions, condition_of};
-ghost use Rattle.tp_syntax.specs.Parts.{all_parts, no_parts};
-ghost use Rattle.tp_syntax.specs.Effects.{effect_of, timed_condition_of, timed_effect_of};
-ghost use Rattle.tp_syntax.specs.TypedLists.{parameters_at};
-ghost use Rattle.tp_syntax.specs.CondViews.{cond_view};
-ghost use Rattle.tp_syntax.specs.RuleViews.{rule_view};
-ghost use Rattle.tp_syntax.specs.EffectViews.{effect_view, timed_condition_view, timed_effect_view};
-ghost use Rattle.tp_syntax.specs.DomainViews.{body_view, action_view};
+ghost use Rattle.tp_ast.specs.Actions.{field, or_missing, body_of, action_of};
+ghost use Rattle.tp_ast.specs.Conditions.{all_of, no_conditions, condition_of};
+ghost use Rattle.tp_ast.specs.Parts.{all_parts, no_parts};
+ghost use Rattle.tp_ast.specs.Effects.{effect_of, timed_condition_of, timed_effect_of};
+ghost use Rattle.tp_ast.specs.TypedLists.{parameters_at};
+ghost use Rattle.tp_ast.specs.CondViews.{cond_view};
+ghost use Rattle.tp_ast.specs.RuleViews.{rule_view};
+ghost use Rattle.tp_ast.specs.EffectViews.{effect_view, timed_condition_view, timed_effect_view};
+ghost use Rattle.tp_ast.specs.DomainViews.{body_view, action_view};
 ghost use Rattle.tp_syntax.specs.Fields.{field_view, duration_field};
-ghost use Rattle.tp_syntax.specs.Terms.{shapes};
-ghost use Rattle.tp_syntax.specs.Symbols.{typed_view, types_view, scope_view, symbols_view};
-ghost use Rattle.tp_syntax.specs.Gives.{Gives};
-ghost use Rattle.tp_syntax.specs.declared.words.Key.TheVariants as keys;
+ghost use Rattle.tp_ast.specs.Terms.{shapes};
+ghost use Rattle.tp_ast.specs.Symbols.{typed_view};
+ghost use Rattle.tp_types.specs.TypeViews.{types_view};
+ghost use Rattle.tp_names.specs.SymbolViews.{scope_view, symbols_view};
+ghost use Rattle.tp_ast.specs.Gives.{Gives};
+ghost use Rattle.tp_ast.specs.declared.words.Key.TheVariants as keys;
 
-use crate::action::{Action, Body};
-use crate::cond::{Cond, read_cond};
-use crate::effect::{Effect, read_effect};
-use crate::fault::SyntaxFault;
 use crate::fields::{Field, find_field, read_fields};
-use crate::joined::Joined;
-use crate::rule::{DurationRule, read_rule};
-use crate::symbols::{Scope, Symbols, Typed};
-use crate::term::name_of;
-use crate::timed::{TimedCond, TimedEffect, read_timed_cond, read_timed_effect};
-use crate::typed::parameters_at;
-use crate::types::Types;
-use crate::variables::Variables;
-use crate::words::Key;
 use std::alloc::Global;
+use tp_ast::action::{Action, Body};
+use tp_ast::cond::Cond;
+use tp_ast::effect::Effect;
+use tp_ast::fault::SyntaxFault;
+use tp_ast::joined::Joined;
+use tp_ast::rule::DurationRule;
+use tp_ast::symbols::Typed;
+use tp_ast::timed::{TimedCond, TimedEffect};
+use tp_ast::words::Key;
+use tp_names::symbols::{Scope, Symbols};
+use tp_names::term::name_of;
+use tp_names::typed::parameters_at;
+use tp_names::variables::Variables;
+use tp_read::cond::read_cond;
+use tp_read::effect::read_effect;
+use tp_read::rule::read_rule;
+use tp_read::timed::{read_timed_cond, read_timed_effect};
 use tp_text::Tree;
+use tp_types::types::Types;
 
 fn parameters(alloc: Global, types: &Types, fields: &[Field]) -> Result<Vec<Typed>, SyntaxFault>
     ensures { Gives (λ v. map typed_view v.items) result (or_missing [] (parameters_at (types_view types.now)) (field keys.Parameters (map field_view fields.now))) }

@@ -2,14 +2,14 @@
 
 ghost use Rattle.std.specs.Prelude.{◌≡◌, ◌||◌, map, IfOk, OnOk, not};
 ghost use Rattle.std.specs.Option.{is_some};
-ghost use Rattle.tp_syntax.specs.Problems.{Initial as InitialEntry, clash, no_clash};
+ghost use Rattle.tp_ast.specs.Problems.{Initial as InitialEntry, clash, no_clash};
 ghost use Rattle.tp_syntax.specs.Clashes.{clashes};
-ghost use Rattle.tp_syntax.specs.DomainViews.{initial_view};
+ghost use Rattle.tp_ast.specs.DomainViews.{initial_view};
 
-use crate::problem::Initial;
-use crate::term::Atom;
 use indexmap::IndexSet;
 use std::alloc::{AllocError, Global};
+use tp_ast::problem::Initial;
+use tp_ast::term::Atom;
 
 // What was said so far.
 #[derive(Drop)]

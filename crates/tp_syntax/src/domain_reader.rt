@@ -2,40 +2,37 @@
 
 ghost use Rattle.std.specs.Prelude.{◌≡◌, map, string_bytes, IfOk, IfErr};
 ghost use Rattle.tp_text.specs.Trees.{shape_of};
-ghost use Rattle.tp_syntax.specs.Domains.{requirements_in, types_in, objects_in, section, action_at, actions_in, domain_with, domain_of, SpellsDomain};
-ghost use Rattle.tp_syntax.specs.DomainViews.{action_view, domain_view};
-ghost use Rattle.tp_syntax.specs.FormViews.{predicates_in, functions_in};
+ghost use Rattle.tp_ast.specs.Domains.{requirements_in, types_in, objects_in, section, action_at, actions_in, domain_with, domain_of, SpellsDomain};
+ghost use Rattle.tp_ast.specs.DomainViews.{action_view, domain_view};
+ghost use Rattle.tp_names.specs.FormViews.{predicates_in, functions_in};
 ghost use Rattle.tp_syntax.specs.SectionViews.{part_view, Adds, action_kind, actions_once, domain_symbols};
 ghost use Rattle.tp_syntax.specs.Refusals.{IsRefusedDomain};
-ghost use Rattle.tp_syntax.specs.Symbols.{symbols_view, types_view, typed_view, parent_view, form_view};
-ghost use Rattle.tp_syntax.specs.Terms.{shapes};
-ghost use Rattle.tp_syntax.specs.Gives.{Gives};
-ghost use Rattle.tp_syntax.specs.declared.words.Section.TheVariants as sections;
+ghost use Rattle.tp_names.specs.SymbolViews.{symbols_view};
+ghost use Rattle.tp_types.specs.TypeViews.{types_view};
+ghost use Rattle.tp_ast.specs.Symbols.{typed_view, parent_view, form_view};
+ghost use Rattle.tp_ast.specs.Terms.{shapes};
+ghost use Rattle.tp_ast.specs.Gives.{Gives};
+ghost use Rattle.tp_ast.specs.declared.words.Section.TheVariants as sections;
 
-use crate::action::Action;
 use crate::action_reader::read_action;
-use crate::domain::Domain;
-use crate::fault::{SyntaxFault, text_fault, tree_fault};
-use crate::forms::{functions_in, predicates_in};
-use crate::head::{defined, named, requirements_in};
-use crate::lookup::Lookup;
+use crate::known::with_signatures;
 use crate::sections::{SectionBody, find_section, read_sections};
-use crate::symbols::{Signature, Symbols, Typed};
-use crate::table::{Named, second_named};
-use crate::type_reader::types_in;
-use crate::typed::{objects_in, place};
-use crate::types::{TypeName, Types};
-use crate::words::Section;
 use std::alloc::Global;
+use tp_ast::action::Action;
+use tp_ast::domain::Domain;
+use tp_ast::fault::{SyntaxFault, text_fault, tree_fault};
+use tp_ast::symbols::{Signature, Typed};
+use tp_ast::types::TypeName;
+use tp_ast::words::Section;
+use tp_names::forms::{functions_in, predicates_in};
+use tp_names::head::{defined, named, requirements_in};
+use tp_names::symbols::Symbols;
+use tp_names::type_reader::types_in;
+use tp_names::typed::{objects_in, place};
 use tp_text::{Tree, read_tree};
-
-impl Named for Action {
-    ghost named = { λ a. string_bytes a.name };
-
-    fn name(&self) -> &str {
-        self.name.as_str()
-    }
-}
+use tp_types::lookup::Lookup;
+use tp_types::table::second_named;
+use tp_types::types::Types;
 
 // Whether the actions of a section last, if it has one.
 fn action_kind(section: Section) -> Option<bool>
@@ -161,13 +158,9 @@ fn actions_over(
 ) -> Result<Vec<Action>, SyntaxFault>
     ensures { Gives (λ v. map action_view v.items) result (actions_once (domain_symbols (types_view types.entry) (map typed_view constants.now) (map form_view predicates.now) (map form_view functions.now)) (map part_view parts.now)) }
 {
-    let symbols = Symbols {
-        types,
-        constants: Lookup::new(alloc, constants)?,
-        objects: Lookup::listed(&[]),
-        predicates: Lookup::new(alloc, predicates)?,
-        functions: Lookup::new(alloc, functions)?,
-    };
+    let constants = Lookup::new(alloc, constants)?;
+    let objects = Lookup::listed(&[]);
+    let symbols = with_signatures(alloc, types, constants, objects, predicates, functions)?;
     actions_once(alloc, &symbols, parts)
 }
 

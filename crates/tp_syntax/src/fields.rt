@@ -3,15 +3,15 @@
 ghost use Rattle.std.specs.Prelude.{◌≡◌, ◌==◌, map, not, option_map};
 ghost use Rattle.std.specs.Option.{is_some};
 ghost use Rattle.tp_text.specs.Trees.{shape_of};
-ghost use Rattle.tp_syntax.specs.Actions.{key_number, field, each_once, is_field_of, fields_of};
+ghost use Rattle.tp_ast.specs.Actions.{key_number, field, each_once, is_field_of, fields_of};
 ghost use Rattle.tp_syntax.specs.Fields.{field_view, key_at, are_fields_of, checked_fields};
-ghost use Rattle.tp_syntax.specs.Terms.{shapes};
-ghost use Rattle.tp_syntax.specs.Gives.{Gives};
+ghost use Rattle.tp_ast.specs.Terms.{shapes};
+ghost use Rattle.tp_ast.specs.Gives.{Gives};
 
-use crate::fault::SyntaxFault;
-use crate::typed::place;
-use crate::words::{Key, key_of};
 use std::alloc::Global;
+use tp_ast::fault::SyntaxFault;
+use tp_ast::words::{Key, key_of};
+use tp_names::typed::place;
 use tp_text::Tree;
 
 /// A field's word, with its place, and its value.

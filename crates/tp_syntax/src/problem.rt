@@ -2,50 +2,39 @@
 
 ghost use Rattle.std.specs.Prelude.{◌≡◌, ◌++◌, map, string_bytes, IfOk, IfErr};
 ghost use Rattle.std.specs.Option.{is_some};
-ghost use Rattle.tp_syntax.specs.TypedLists.{has_twice};
+ghost use Rattle.tp_ast.specs.TypedLists.{has_twice};
 ghost use Rattle.tp_text.specs.Trees.{shape_of};
-ghost use Rattle.tp_syntax.specs.Terms.{shapes};
-ghost use Rattle.tp_syntax.specs.Symbols.{typed_view, symbols_view};
-ghost use Rattle.tp_syntax.specs.Problems.{goal_in, new_objects, stated, symbols_with, problem_with, own_name, problem_of, SpellsProblem, IsRefusedProblem};
-ghost use Rattle.tp_syntax.specs.CondViews.{cond_view};
-ghost use Rattle.tp_syntax.specs.DomainViews.{initial_view, domain_view, problem_view};
+ghost use Rattle.tp_ast.specs.Terms.{shapes};
+ghost use Rattle.tp_ast.specs.Symbols.{typed_view};
+ghost use Rattle.tp_names.specs.SymbolViews.{symbols_view};
+ghost use Rattle.tp_ast.specs.Problems.{initial_of, section, goal_in, new_objects, stated, symbols_with, problem_with, own_name, problem_of, SpellsProblem, IsRefusedProblem};
+ghost use Rattle.tp_ast.specs.CondViews.{cond_view};
+ghost use Rattle.tp_ast.specs.DomainViews.{initial_view, domain_view, problem_view};
 ghost use Rattle.tp_syntax.specs.ProblemViews.{part_view};
-ghost use Rattle.tp_syntax.specs.Gives.{Gives};
+ghost use Rattle.tp_ast.specs.Gives.{Gives};
+ghost use Rattle.tp_ast.specs.declared.words.ProblemSection.TheVariants as sections;
 
 use crate::clash::first_clash;
-use crate::cond::{Cond, read_cond};
-use crate::domain::Domain;
-use crate::fault::{SyntaxFault, text_fault, tree_fault};
-use crate::head::{defined, name_place, named, requirements_in};
 use crate::initial::initial_of;
-use crate::lists::{first_of, only};
-use crate::lookup::Lookup;
-use crate::once::second_mention;
+use crate::known::with_signatures;
 use crate::problem_parts::{Part, body_of, find_section, once_each};
-use crate::symbols::{Scope, Symbols, Typed};
-use crate::term::Atom;
-use crate::typed::{item_place, objects_in, place};
-use crate::types::Types;
-use crate::words::ProblemSection;
 use std::alloc::{AllocError, Global};
+use tp_ast::cond::Cond;
+use tp_ast::domain::Domain;
+use tp_ast::fault::{SyntaxFault, text_fault, tree_fault};
+use tp_ast::problem::{Initial, Problem};
+use tp_ast::symbols::Typed;
+use tp_ast::term::Atom;
+use tp_ast::words::ProblemSection;
+use tp_names::head::{defined, name_place, named, requirements_in};
+use tp_names::lists::{first_of, only};
+use tp_names::symbols::{Scope, Symbols};
+use tp_names::typed::{item_place, objects_in, place};
+use tp_read::cond::read_cond;
 use tp_text::{Tree, read_tree};
-
-/// What a problem says of its initial state.
-#[derive(Debug, PartialEq, Drop)]
-pub enum Initial {
-    Holds(Atom),
-    Fails(Atom),
-    HasValue(Atom, i64),
-}
-
-/// A problem. All names are in lower case.
-#[derive(Debug, PartialEq, Drop)]
-pub struct Problem {
-    pub name: String,
-    pub objects: Vec<Typed>,
-    pub initial: Vec<Initial>,
-    pub goal: Cond,
-}
+use tp_types::lookup::Lookup;
+use tp_types::once::second_mention;
+use tp_types::types::Types;
 
 // Where the section of a kind begins.
 fn start_of(kind: ProblemSection, parts: &[Part], at: u32) -> u32 {
@@ -55,7 +44,7 @@ fn start_of(kind: ProblemSection, parts: &[Part], at: u32) -> u32 {
     }
 }
 
-#[tactic(auto, unfolding(crate::specs::Problems::goal_in))]
+#[tactic(auto, unfolding(tp_ast::specs::Problems::goal_in))]
 fn goal_in(alloc: Global, symbols: &Symbols, trees: &[Tree], at: u32) -> Result<Cond, SyntaxFault>
     ensures { Gives cond_view result (goal_in (symbols_view symbols.now) (shapes trees.now)) }
 {
@@ -85,7 +74,7 @@ fn named_again(
 }
 
 // The objects that the section at `at` declares, none of them a constant.
-#[tactic(auto, unfolding(crate::specs::Problems::new_objects))]
+#[tactic(auto, unfolding(tp_ast::specs::Problems::new_objects))]
 fn new_objects(
     alloc: Global,
     domain: &Domain,
@@ -120,8 +109,31 @@ fn entry_place(trees: &[Tree], number: usize, at: u32) -> u32 {
     }
 }
 
+// What holds at first, by the sections of the problem at `at`.
+fn initial_in(
+    alloc: Global,
+    symbols: &Symbols,
+    parts: &[Part],
+    at: u32,
+) -> Result<Vec<Initial>, SyntaxFault>
+    ensures { Gives (λ v. map initial_view v.items) result (initial_of (symbols_view symbols.now) (section sections.Init (map part_view parts.now))) }
+{
+    let entries = body_of(ProblemSection::Init, parts);
+    let entries_at = start_of(ProblemSection::Init, parts, at);
+    initial_of(alloc, symbols, entries, entries_at)
+}
+
+// What is to hold, by the sections of the problem at `at`.
+fn goal_of(alloc: Global, symbols: &Symbols, parts: &[Part], at: u32) -> Result<Cond, SyntaxFault>
+    ensures { Gives cond_view result (goal_in (symbols_view symbols.now) (section sections.Goal (map part_view parts.now))) }
+{
+    let goals = body_of(ProblemSection::Goal, parts);
+    let goals_at = start_of(ProblemSection::Goal, parts, at);
+    goal_in(alloc, symbols, goals, goals_at)
+}
+
 // What holds at first, and what is to hold. The problem is at `at`.
-#[tactic(auto, unfolding(crate::specs::Problems::stated))]
+#[tactic(auto, unfolding(tp_ast::specs::Problems::stated))]
 fn stated(
     alloc: Global,
     symbols: &Symbols,
@@ -130,13 +142,10 @@ fn stated(
 ) -> Result<(Vec<Initial>, Cond), SyntaxFault>
     ensures { Gives (λ r. (map initial_view r.0.items, cond_view r.1)) result (stated (symbols_view symbols.now) (map part_view parts.now)) }
 {
-    let entries = body_of(ProblemSection::Init, parts);
-    let entries_at = start_of(ProblemSection::Init, parts, at);
-    let initial = initial_of(alloc, symbols, entries, entries_at)?;
-    let goals = body_of(ProblemSection::Goal, parts);
-    let goals_at = start_of(ProblemSection::Goal, parts, at);
-    let goal = goal_in(alloc, symbols, goals, goals_at)?;
+    let initial = initial_in(alloc, symbols, parts, at)?;
+    let goal = goal_of(alloc, symbols, parts, at)?;
     if let Some(number) = first_clash(alloc, &initial)? {
+        let entries = body_of(ProblemSection::Init, parts);
         return Err(SyntaxFault::Twice(entry_place(entries, number, at)));
     }
     Ok((initial, goal))
@@ -150,13 +159,17 @@ fn symbols_with<'d>(
 ) -> Result<Symbols<'d>, AllocError>
     ensures { IfOk result (λ s. symbols_view s ≡ symbols_with (domain_view domain.now) (map typed_view objects.now)) }
 {
-    Ok(Symbols {
-        types: Types::new(alloc, &domain.types)?,
-        constants: Lookup::new(alloc, &domain.constants)?,
-        objects: Lookup::new(alloc, objects)?,
-        predicates: Lookup::new(alloc, &domain.predicates)?,
-        functions: Lookup::new(alloc, &domain.functions)?,
-    })
+    let types = Types::new(alloc, &domain.types)?;
+    let constants = Lookup::new(alloc, &domain.constants)?;
+    let objects = Lookup::new(alloc, objects)?;
+    with_signatures(
+        alloc,
+        types,
+        constants,
+        objects,
+        &domain.predicates,
+        &domain.functions,
+    )
 }
 
 fn stated_of(
@@ -172,7 +185,7 @@ fn stated_of(
     stated(alloc, &symbols, parts, at)
 }
 
-#[tactic(auto, unfolding(crate::specs::Problems::problem_with))]
+#[tactic(auto, unfolding(tp_ast::specs::Problems::problem_with))]
 fn problem_with(
     alloc: Global,
     domain: &Domain,
@@ -198,7 +211,7 @@ fn problem_with(
 }
 
 // The problem's name, beside that of its domain.
-#[tactic(auto, unfolding(crate::specs::Problems::own_name))]
+#[tactic(auto, unfolding(tp_ast::specs::Problems::own_name))]
 fn own_name(
     alloc: Global,
     domain: &Domain,
@@ -216,7 +229,7 @@ fn own_name(
     Ok(name)
 }
 
-#[tactic(auto, unfolding(crate::specs::Problems::problem_of))]
+#[tactic(auto, unfolding(tp_ast::specs::Problems::problem_of))]
 fn problem_of(alloc: Global, domain: &Domain, tree: &Tree) -> Result<Problem, SyntaxFault>
     ensures { Gives problem_view result (problem_of (domain_view domain.now) (shape_of tree.now)) }
 {

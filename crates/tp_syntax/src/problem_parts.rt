@@ -4,14 +4,14 @@ ghost use Rattle.std.specs.Prelude.{◌≡◌, map, option_map, not};
 ghost use Rattle.std.specs.List.{list_any};
 ghost use Rattle.std.specs.Option.{is_some};
 ghost use Rattle.tp_text.specs.Trees.{shape_of};
-ghost use Rattle.tp_syntax.specs.Terms.{shapes};
-ghost use Rattle.tp_syntax.specs.Problems.{section_number, is_section, each_once, section, section_at, sections_of, once_each};
+ghost use Rattle.tp_ast.specs.Terms.{shapes};
+ghost use Rattle.tp_ast.specs.Problems.{section_number, is_section, each_once, section, section_at, sections_of, once_each};
 ghost use Rattle.tp_syntax.specs.ProblemViews.{part_view};
-ghost use Rattle.tp_syntax.specs.Gives.{Gives};
+ghost use Rattle.tp_ast.specs.Gives.{Gives};
 
-use crate::fault::{LeftOutPart, SyntaxFault};
-use crate::words::{ProblemSection, is_word, problem_section_of};
 use std::alloc::Global;
+use tp_ast::fault::{LeftOutPart, SyntaxFault};
+use tp_ast::words::{ProblemSection, is_word, problem_section_of};
 use tp_text::{Token, Tree};
 
 /// A section, with what stands behind its word.
@@ -34,7 +34,7 @@ fn section_fault(word: &Token, at: u32) -> SyntaxFault {
     }
 }
 
-#[tactic(auto, unfolding(crate::specs::Problems::section_at))]
+#[tactic(auto, unfolding(tp_ast::specs::Problems::section_at))]
 fn section_at<'t, 'a>(tree: &'t Tree<'a>, at: u32) -> Result<Part<'t, 'a>, SyntaxFault>
     ensures { Gives part_view result (section_at (shape_of tree.now)) }
 {
@@ -135,7 +135,7 @@ fn again<'p, 't, 'a>(parts: &'p [Part<'t, 'a>]) -> Option<&'p Part<'t, 'a>>
 }
 
 /// The sections that these trees are, each at most once. The problem is at `at`.
-#[tactic(auto, unfolding(crate::specs::Problems::once_each))]
+#[tactic(auto, unfolding(tp_ast::specs::Problems::once_each))]
 pub fn once_each<'t, 'a>(
     alloc: Global,
     trees: &'t [Tree<'a>],

@@ -4,14 +4,14 @@ ghost use Rattle.std.specs.Prelude.{◌≡◌, ◌==◌, map, not};
 ghost use Rattle.std.specs.List.{list_any};
 ghost use Rattle.std.specs.Option.{is_some};
 ghost use Rattle.tp_text.specs.Trees.{shape_of};
-ghost use Rattle.tp_syntax.specs.Domains.{section_number, is_section, section, is_action, each_once, sections_of};
+ghost use Rattle.tp_ast.specs.Domains.{section_number, is_section, section, is_action, each_once, sections_of};
 ghost use Rattle.tp_syntax.specs.SectionViews.{part_view, part_at, checked_sections};
-ghost use Rattle.tp_syntax.specs.Terms.{shapes};
-ghost use Rattle.tp_syntax.specs.Gives.{Gives};
+ghost use Rattle.tp_ast.specs.Terms.{shapes};
+ghost use Rattle.tp_ast.specs.Gives.{Gives};
 
-use crate::fault::{LeftOutPart, SyntaxFault};
-use crate::words::{Section, is_word, section_of};
 use std::alloc::Global;
+use tp_ast::fault::{LeftOutPart, SyntaxFault};
+use tp_ast::words::{Section, is_word, section_of};
 use tp_text::{Token, Tree};
 
 /// What stands in a section, with the places of its list and of its word.

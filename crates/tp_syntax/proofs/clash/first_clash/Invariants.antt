@@ -1,9 +1,9 @@
 use Rattle.std.proofs.Common.{◌≡◌, take, false}
 use Rattle.std.specs.List.{list_any}
-use Rattle.tp_syntax.specs.Problems.{Initial, clash}
+use Rattle.tp_ast.specs.Problems.{Initial, clash}
 use Rattle.tp_syntax.specs.Clashes.{clashes}
-use Rattle.tp_syntax.specs.DomainViews.{initial_view}
-use Rattle.tp_syntax.proofs.OnPairs.{some_two}
+use Rattle.tp_ast.specs.DomainViews.{initial_view}
+use Rattle.tp_types.proofs.OnPairs.{some_two}
 use Rattle.tp_syntax.proofs.clash.first_clash.Given as goal
 
 abbrev pub invariant-loop-number : goal.invariant-loop-number

@@ -1,8 +1,8 @@
 use Rattle.std.proofs.Common.{◌≡◌, map, drop}
-use Rattle.tp_syntax.specs.Gives.{with_front}
-use Rattle.tp_syntax.specs.Symbols.{symbols_view}
-use Rattle.tp_syntax.specs.Domains.{actions_in}
-use Rattle.tp_syntax.specs.DomainViews.{action_view}
+use Rattle.tp_ast.specs.Gives.{with_front}
+use Rattle.tp_names.specs.SymbolViews.{symbols_view}
+use Rattle.tp_ast.specs.Domains.{actions_in}
+use Rattle.tp_ast.specs.DomainViews.{action_view}
 use Rattle.tp_syntax.specs.SectionViews.{part_view}
 use Rattle.tp_syntax.proofs.domain_reader.actions_in.Given as goal
 

@@ -1,7 +1,7 @@
 use Rattle.std.proofs.Common.{◌≡◌, map, length}
-use Rattle.tp_syntax.specs.Gives.{with_front}
-use Rattle.tp_syntax.specs.Terms.{shapes}
-use Rattle.tp_syntax.specs.Actions.{fields_of}
+use Rattle.tp_ast.specs.Gives.{with_front}
+use Rattle.tp_ast.specs.Terms.{shapes}
+use Rattle.tp_ast.specs.Actions.{fields_of}
 use Rattle.tp_syntax.specs.Fields.{field_view}
 use Rattle.tp_syntax.proofs.fields.fields_of.Given as goal
 

@@ -1,5 +1,5 @@
 use Rattle.std.proofs.Common.{◌≡◌, map, drop}
-use Rattle.tp_syntax.specs.Actions.{field}
+use Rattle.tp_ast.specs.Actions.{field}
 use Rattle.tp_syntax.specs.Fields.{field_view}
 use Rattle.tp_syntax.proofs.fields.find_field.Given as goal
 

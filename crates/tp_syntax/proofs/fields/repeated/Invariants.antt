@@ -1,5 +1,5 @@
 use Rattle.std.proofs.Common.{◌≡◌, map, length}
-use Rattle.tp_syntax.specs.Actions.{each_once}
+use Rattle.tp_ast.specs.Actions.{each_once}
 use Rattle.tp_syntax.specs.Fields.{field_view}
 use Rattle.tp_syntax.proofs.fields.repeated.Given as goal
 

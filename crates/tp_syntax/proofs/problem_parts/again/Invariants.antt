@@ -1,5 +1,5 @@
 use Rattle.std.proofs.Common.{◌≡◌, map, length}
-use Rattle.tp_syntax.specs.Problems.{each_once}
+use Rattle.tp_ast.specs.Problems.{each_once}
 use Rattle.tp_syntax.specs.ProblemViews.{part_view}
 use Rattle.tp_syntax.proofs.problem_parts.again.Given as goal
 

@@ -1,5 +1,5 @@
 use Rattle.std.proofs.Common.{◌≡◌, map, drop}
-use Rattle.tp_syntax.specs.Problems.{section}
+use Rattle.tp_ast.specs.Problems.{section}
 use Rattle.tp_syntax.specs.ProblemViews.{part_view}
 use Rattle.tp_syntax.proofs.problem_parts.body_of.Given as goal
 

@@ -1,6 +1,6 @@
 use Rattle.std.proofs.Common.{◌≡◌, map, drop}
 use Rattle.std.specs.List.{list_any}
-use Rattle.tp_syntax.specs.Problems.{is_section}
+use Rattle.tp_ast.specs.Problems.{is_section}
 use Rattle.tp_syntax.specs.ProblemViews.{part_view}
 use Rattle.tp_syntax.proofs.problem_parts.find_section.Given as goal
 

@@ -3,7 +3,7 @@ use Rattle.std.proofs.lemmas.List.{map-append}
 use Rattle.std.proofs.lemmas.Result.{err_from_is_err_and}
 use Rattle.tp_syntax.specs.ProblemViews.{part_view}
 use Rattle.tp_syntax.specs.declared.problem_parts.Part.{Part}
-use Rattle.tp_syntax.proofs.Loops.{goes_on, fails, ends}
+use Rattle.tp_ast.proofs.Loops.{goes_on, fails, ends}
 use Rattle.tp_syntax.proofs.OnProblems.{each_section}
 use Rattle.tp_syntax.proofs.problem_parts.sections_of.Goals as goal
 

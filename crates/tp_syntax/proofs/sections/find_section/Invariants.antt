@@ -1,5 +1,5 @@
 use Rattle.std.proofs.Common.{◌≡◌, map, drop}
-use Rattle.tp_syntax.specs.Domains.{section}
+use Rattle.tp_ast.specs.Domains.{section}
 use Rattle.tp_syntax.specs.SectionViews.{part_view}
 use Rattle.tp_syntax.proofs.sections.find_section.Given as goal
 

@@ -1,6 +1,6 @@
 use Rattle.std.proofs.Common.{◌≡◌, map, drop}
 use Rattle.std.specs.List.{list_any}
-use Rattle.tp_syntax.specs.Domains.{is_section}
+use Rattle.tp_ast.specs.Domains.{is_section}
 use Rattle.tp_syntax.specs.SectionViews.{part_view}
 use Rattle.tp_syntax.proofs.sections.first_of.Given as goal
 

@@ -1,7 +1,7 @@
 use Rattle.std.proofs.Common.{◌∙◌}
 use Rattle.tp_syntax.specs.SectionViews.{part_at}
-use Rattle.tp_syntax.proofs.OnGives.{fails_with}
-use Rattle.tp_syntax.proofs.OnLists.{a_word, empty_list, list_first, word_first}
+use Rattle.tp_ast.proofs.OnGives.{fails_with}
+use Rattle.tp_ast.proofs.OnLists.{a_word, empty_list, list_first, word_first}
 use Rattle.tp_syntax.proofs.OnSections.{at_word, at_nothing, at_list, at_section}
 use Rattle.tp_syntax.proofs.sections.part_at.Goals as goal
 

@@ -1,5 +1,5 @@
 use Rattle.std.proofs.Common.{◌≡◌, map, length}
-use Rattle.tp_syntax.specs.Domains.{each_once}
+use Rattle.tp_ast.specs.Domains.{each_once}
 use Rattle.tp_syntax.specs.SectionViews.{part_view}
 use Rattle.tp_syntax.proofs.sections.repeated.Given as goal
 

@@ -2,7 +2,7 @@ use Rattle.std.proofs.Common.{map, ap, ◌∙◌}
 use Rattle.std.proofs.lemmas.List.{map-append}
 use Rattle.std.proofs.lemmas.Result.{err_from_is_err_and}
 use Rattle.tp_syntax.specs.SectionViews.{part_view}
-use Rattle.tp_syntax.proofs.Loops.{goes_on, fails, ends}
+use Rattle.tp_ast.proofs.Loops.{goes_on, fails, ends}
 use Rattle.tp_syntax.proofs.OnSections.{each_part}
 use Rattle.tp_syntax.proofs.sections.sections_of.Goals as goal
 

@@ -1,7 +1,7 @@
 use Rattle.std.proofs.Common.{◌≡◌, map, drop}
-use Rattle.tp_syntax.specs.Gives.{with_front}
-use Rattle.tp_syntax.specs.Terms.{shapes}
-use Rattle.tp_syntax.specs.Domains.{sections_of}
+use Rattle.tp_ast.specs.Gives.{with_front}
+use Rattle.tp_ast.specs.Terms.{shapes}
+use Rattle.tp_ast.specs.Domains.{sections_of}
 use Rattle.tp_syntax.specs.SectionViews.{part_view}
 use Rattle.tp_syntax.proofs.sections.sections_of.Given as goal
 

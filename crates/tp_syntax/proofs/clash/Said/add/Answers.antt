@@ -1,10 +1,10 @@
 use Rattle.std.proofs.Common.{◌||◌, Bool, Bor, refl, sym, ap, ◌∙◌}
-use Rattle.tp_syntax.specs.Problems.{clash}
+use Rattle.tp_ast.specs.Problems.{clash}
 use Rattle.tp_syntax.specs.Clashes.{clashes}
-use Rattle.tp_syntax.specs.DomainViews.{initial_view}
-use Rattle.tp_syntax.specs.declared.problem.Initial.{Initial}
-use Rattle.tp_syntax.specs.declared.term.Atom.{Atom}
-use Rattle.tp_syntax.specs.contracts.term.AtomPartialEq.TheImpl as atoms
+use Rattle.tp_ast.specs.DomainViews.{initial_view}
+use Rattle.tp_ast.specs.declared.problem.Initial.{Initial}
+use Rattle.tp_ast.specs.declared.term.Atom.{Atom}
+use Rattle.tp_ast.specs.contracts.term.AtomPartialEq.TheImpl as atoms
 use Rattle.tp_syntax.proofs.OnAtoms.{atom_is}
 use Rattle.tp_syntax.proofs.OnClashes.{seen_is, held_put, failed_put, valued_put, not_new}
 use Rattle.tp_syntax.proofs.clash.Said.add.Goals as goal

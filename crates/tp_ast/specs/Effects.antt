@@ -1,0 +1,145 @@
+-- Effects, timed conditions and effects, and rules of durations.
+use Rattle.std.specs.Prelude.{ℕ, List, [], ◌∷◌, Bool, true, false, codes, Option, Some, None, option_map}
+use Rattle.tp_text.specs.Shapes.{Shape, leaf, node, Shapes, no_shapes, shape}
+use Rattle.tp_ast.specs.Gives.{◌>>=◌, provided}
+use Rattle.tp_ast.specs.Words.{is_word, change_of, mark_of, head_of, rule_form_of, duration_comparison}
+use Rattle.tp_ast.specs.Lists.{only, both}
+use Rattle.tp_ast.specs.Terms.{Fact}
+use Rattle.tp_ast.specs.Symbols.{Declared, Form, Symbols, atom_in}
+use Rattle.tp_ast.specs.Expressions.{Expression, Terms, terms_for, expression_of}
+use Rattle.tp_ast.specs.Conditions.{Condition, condition_of}
+use Rattle.tp_ast.specs.Parts.{Joined, joined_of}
+use Rattle.tp_ast.specs.declared.words.Comparison.{Comparison}
+use Rattle.tp_ast.specs.declared.words.Writing.{Writing}
+use Rattle.tp_ast.specs.declared.words.Writing.TheVariants as writings
+use Rattle.tp_ast.specs.declared.words.Mark.{Mark}
+use Rattle.tp_ast.specs.declared.words.Mark.TheVariants.{AtStart, OverAll, AtEnd}
+use Rattle.tp_ast.specs.declared.words.RuleForm.TheVariants.{And, At, Limit}
+use Rattle.tp_ast.specs.declared.words.Change.{Change}
+use Rattle.tp_ast.specs.declared.words.Change.TheVariants.{Not, Assign, Increase, Decrease, ScaleUp, ScaleDown, When, Other}
+
+pub data Outcome : Type 0 where
+  adds : Fact → Outcome
+  deletes : Fact → Outcome
+  writes : Writing → Fact → Expression → Outcome
+
+-- (NAME TERM ..) as a tree
+unfoldable pub atom_at : Symbols → List Form → List Declared → Shape → Option Fact
+atom_at σ forms scope (leaf w) = None
+atom_at σ forms scope (node no_shapes) = None
+atom_at σ forms scope (node (shape (node ss) rest)) = None
+atom_at σ forms scope (node (shape (leaf w) rest)) = atom_in σ forms scope w rest
+
+-- (not ATOM)
+unfoldable pub deleted : Symbols → List Declared → Shapes → Option Outcome
+deleted σ scope rest = only rest >>= λ s. option_map deletes (atom_at σ σ.predicates scope s)
+
+-- (OP F X)
+unfoldable pub written : Symbols → Terms → Writing → Shapes → Option Outcome
+written σ may op rest = both rest >>= λ p. atom_at σ σ.functions may.scope p.0 >>= λ a. option_map (writes op a) (expression_of σ may p.1)
+
+-- what stands behind the word
+unfoldable pub changed : Change → Symbols → Bool → List Declared → List ℕ → Shapes → Option Outcome
+changed Other σ duration scope w rest = option_map adds (atom_in σ σ.predicates scope w rest)
+changed Not σ duration scope w rest = deleted σ scope rest
+changed Assign σ duration scope w rest = written σ (terms_for scope duration) writings.Assign rest
+changed Increase σ duration scope w rest = written σ (terms_for scope duration) writings.Increase rest
+changed Decrease σ duration scope w rest = written σ (terms_for scope duration) writings.Decrease rest
+changed ScaleUp σ duration scope w rest = written σ (terms_for scope duration) writings.ScaleUp rest
+changed ScaleDown σ duration scope w rest = None
+changed When σ duration scope w rest = None
+
+unfoldable pub outcome_of : Symbols → Bool → List Declared → List ℕ → Shapes → Option Outcome
+outcome_of σ duration scope w rest = changed (change_of w) σ duration scope w rest
+
+abbrev pub Effect : Type 0
+Effect = Joined Outcome
+
+-- E, in which '?duration' may stand or not
+abbrev pub effect_of : Symbols → Bool → List Declared → Shape → Option Effect
+effect_of σ duration scope s = joined_of σ.types (outcome_of σ duration) scope s
+
+-- what stands at its moments
+pub record Timed (A : Type 0) : Type 0 where
+  pub mark : Mark
+  pub what : A
+
+-- the word after 'at' or 'over'
+unfoldable pub mark_at : List ℕ → Shape → Option Mark
+mark_at w (leaf v) = mark_of w v
+mark_at w (node ss) = None
+
+unfoldable pub marked_tree : List ℕ → Shapes → Option (Mark × Shape)
+marked_tree w rest = both rest >>= λ p. option_map (λ m. (m, p.1)) (mark_at w p.0)
+
+unfoldable pub marked : {A : Type 0} → (Mark → Shape → Option A) → List ℕ → Shapes → Option (Timed A)
+marked read w rest = marked_tree w rest >>= λ p. option_map (λ x. record { mark = p.0; what = x }) (read p.0 p.1)
+
+-- TC
+abbrev pub timed_condition_of : Symbols → List Declared → Shape → Option (Joined (Timed Condition))
+timed_condition_of σ scope s = joined_of σ.types (λ within. marked (λ m. condition_of σ within)) scope s
+
+-- an effect has a start and an end alone
+abbrev pub effect_at : Symbols → List Declared → Mark → Shape → Option Effect
+effect_at σ scope OverAll s = None
+effect_at σ scope AtStart s = effect_of σ true scope s
+effect_at σ scope AtEnd s = effect_of σ true scope s
+
+-- TE
+abbrev pub timed_effect_of : Symbols → List Declared → Shape → Option (Joined (Timed Effect))
+timed_effect_of σ scope s = joined_of σ.types (λ within. marked (effect_at σ within)) scope s
+
+mutual
+  pub data Rule : Type 0 where
+    all_rules : Rules → Rule
+    rule : Comparison → Expression → Rule
+
+  pub data Rules : Type 0 where
+    no_rules : Rules
+    more_rules : Rule → Rules → Rules
+
+abbrev pub rules_in : List Rule → Rules
+rules_in [] = no_rules
+rules_in (r ∷ rs) = more_rules r (rules_in rs)
+
+unfoldable pub is_duration : Shape → Bool
+is_duration (leaf d) = is_word (codes "?duration") d
+is_duration (node ss) = false
+
+-- ?duration X
+unfoldable pub limited : Symbols → List Declared → List ℕ → Shapes → Option Rule
+limited σ scope w rest = duration_comparison (head_of w) >>= λ op. both rest >>= λ p. provided (is_duration p.0) p.1 >>= λ x.
+    option_map (rule op) (expression_of σ (terms_for scope false) x)
+
+unfoldable pub is_start : Shape → Bool
+is_start (leaf v) = is_word (codes "start") v
+is_start (node ss) = false
+
+-- R
+unfoldable mutual
+  pub rule_of : Symbols → List Declared → Shape → Option Rule
+  rule_of σ scope (leaf w) = None
+  rule_of σ scope (node ss) = list_rule σ scope ss
+
+  pub list_rule : Symbols → List Declared → Shapes → Option Rule
+  list_rule σ scope no_shapes = Some (all_rules no_rules)
+  list_rule σ scope (shape (node ss) rest) = None
+  list_rule σ scope (shape (leaf w) rest) = elim (rule_form_of w) [
+    | And ↦ option_map (λ rs. all_rules (rules_in rs)) (rules_of σ scope rest)
+    | At ↦ start_rule σ scope rest
+    | Limit ↦ limited σ scope w rest
+  ]
+
+  -- 'at start' is not kept
+  pub start_rule : Symbols → List Declared → Shapes → Option Rule
+  start_rule σ scope no_shapes = None
+  start_rule σ scope (shape s rest) = elim (is_start s) [ true ↦ only_rule σ scope rest | false ↦ None ]
+
+  pub only_rule : Symbols → List Declared → Shapes → Option Rule
+  only_rule σ scope no_shapes = None
+  only_rule σ scope (shape s no_shapes) = rule_of σ scope s
+  only_rule σ scope (shape s (shape t ss)) = None
+
+  pub rules_of : Symbols → List Declared → Shapes → Option (List Rule)
+  rules_of σ scope no_shapes = Some []
+  rules_of σ scope (shape s ss) = rule_of σ scope s >>= λ r. option_map (λ rs. r ∷ rs) (rules_of σ scope ss)

@@ -1,0 +1,124 @@
+-- Words, whose case is not significant, and the words that forms begin with.
+use Rattle.std.specs.Prelude.{◌≡◌, ℕ, List, map, Bool, codes, if◌then◌else◌, Option, Some, None}
+use Rattle.std.specs.Char.{to_ascii_lowercase}
+use Rattle.std.specs.Str.{bytes_eq}
+use Rattle.tp_ast.specs.declared.words.Head as heads
+use Rattle.tp_ast.specs.declared.words.Operator as operators
+use Rattle.tp_ast.specs.declared.words.Change as changes
+use Rattle.tp_ast.specs.declared.words.Joint as joints
+use Rattle.tp_ast.specs.declared.words.RuleForm as rule_forms
+use Rattle.tp_ast.specs.declared.words.Comparison as comparisons
+use Rattle.tp_ast.specs.declared.words.Mark as marks
+use Rattle.tp_ast.specs.declared.words.Key as keys
+use Rattle.tp_ast.specs.declared.words.Section as sections
+use Rattle.tp_ast.specs.declared.words.ProblemSection as problem_sections
+
+abbrev pub lower : List ℕ → List ℕ
+lower w = map to_ascii_lowercase w
+
+abbrev pub IsLower : List ℕ → Type 0
+IsLower w = lower w ≡ w
+
+-- the word in any case
+unfoldable pub is_word : List ℕ → List ℕ → Bool
+is_word name w = bytes_eq (lower w) name
+
+unfoldable pub head_of : List ℕ → heads.Head
+head_of w =
+    if is_word (codes "and") w then heads.TheVariants.And
+    else (if is_word (codes "or") w then heads.TheVariants.Or
+    else (if is_word (codes "not") w then heads.TheVariants.Not
+    else (if is_word (codes "imply") w then heads.TheVariants.Imply
+    else (if is_word (codes "forall") w then heads.TheVariants.Forall
+    else (if is_word (codes "exists") w then heads.TheVariants.Exists
+    else (if is_word (codes "=") w then heads.TheVariants.Equal
+    else (if is_word (codes "<") w then heads.TheVariants.Less
+    else (if is_word (codes "<=") w then heads.TheVariants.AtMost
+    else (if is_word (codes ">=") w then heads.TheVariants.AtLeast
+    else (if is_word (codes ">") w then heads.TheVariants.More
+    else (if is_word (codes "preference") w then heads.TheVariants.Preference
+    else heads.TheVariants.Other)))))))))))
+
+unfoldable pub operator_of : List ℕ → operators.Operator
+operator_of w =
+    if is_word (codes "+") w then operators.TheVariants.Plus
+    else (if is_word (codes "-") w then operators.TheVariants.Minus
+    else (if is_word (codes "*") w then operators.TheVariants.Times
+    else (if is_word (codes "/") w then operators.TheVariants.Divide
+    else operators.TheVariants.Other)))
+
+unfoldable pub change_of : List ℕ → changes.Change
+change_of w =
+    if is_word (codes "not") w then changes.TheVariants.Not
+    else (if is_word (codes "assign") w then changes.TheVariants.Assign
+    else (if is_word (codes "increase") w then changes.TheVariants.Increase
+    else (if is_word (codes "decrease") w then changes.TheVariants.Decrease
+    else (if is_word (codes "scale-up") w then changes.TheVariants.ScaleUp
+    else (if is_word (codes "scale-down") w then changes.TheVariants.ScaleDown
+    else (if is_word (codes "when") w then changes.TheVariants.When
+    else changes.TheVariants.Other))))))
+
+unfoldable pub joint_of : List ℕ → joints.Joint
+joint_of w =
+    if is_word (codes "and") w then joints.TheVariants.And
+    else (if is_word (codes "forall") w then joints.TheVariants.Forall
+    else joints.TheVariants.One)
+
+-- of a rule of durations
+unfoldable pub rule_form_of : List ℕ → rule_forms.RuleForm
+rule_form_of w =
+    if is_word (codes "and") w then rule_forms.TheVariants.And
+    else (if is_word (codes "at") w then rule_forms.TheVariants.At
+    else rule_forms.TheVariants.Limit)
+
+-- (OP X X)
+abbrev pub comparison : heads.Head → Option comparisons.Comparison
+comparison heads.TheVariants.Less = Some comparisons.TheVariants.Less
+comparison heads.TheVariants.AtMost = Some comparisons.TheVariants.AtMost
+comparison heads.TheVariants.Equal = Some comparisons.TheVariants.Equal
+comparison heads.TheVariants.AtLeast = Some comparisons.TheVariants.AtLeast
+comparison heads.TheVariants.More = Some comparisons.TheVariants.More
+comparison _ = None
+
+-- (OP ?duration X)
+abbrev pub duration_comparison : heads.Head → Option comparisons.Comparison
+duration_comparison heads.TheVariants.AtMost = Some comparisons.TheVariants.AtMost
+duration_comparison heads.TheVariants.Equal = Some comparisons.TheVariants.Equal
+duration_comparison heads.TheVariants.AtLeast = Some comparisons.TheVariants.AtLeast
+duration_comparison _ = None
+
+-- 'at start', 'over all', 'at end'
+unfoldable pub mark_of : List ℕ → List ℕ → Option marks.Mark
+mark_of w v =
+    if is_word (codes "at") w then (if is_word (codes "start") v then Some marks.TheVariants.AtStart else (if is_word (codes "end") v then Some marks.TheVariants.AtEnd else None))
+    else (if is_word (codes "over") w then (if is_word (codes "all") v then Some marks.TheVariants.OverAll else None) else None)
+
+unfoldable pub key_of : List ℕ → Option keys.Key
+key_of w =
+    if is_word (codes ":parameters") w then Some keys.TheVariants.Parameters
+    else (if is_word (codes ":precondition") w then Some keys.TheVariants.Precondition
+    else (if is_word (codes ":duration") w then Some keys.TheVariants.Duration
+    else (if is_word (codes ":condition") w then Some keys.TheVariants.Condition
+    else (if is_word (codes ":effect") w then Some keys.TheVariants.Effect
+    else None))))
+
+unfoldable pub section_of : List ℕ → Option sections.Section
+section_of w =
+    if is_word (codes ":requirements") w then Some sections.TheVariants.Requirements
+    else (if is_word (codes ":types") w then Some sections.TheVariants.Types
+    else (if is_word (codes ":constants") w then Some sections.TheVariants.Constants
+    else (if is_word (codes ":predicates") w then Some sections.TheVariants.Predicates
+    else (if is_word (codes ":functions") w then Some sections.TheVariants.Functions
+    else (if is_word (codes ":action") w then Some sections.TheVariants.Action
+    else (if is_word (codes ":durative-action") w then Some sections.TheVariants.DurativeAction
+    else None))))))
+
+unfoldable pub problem_section_of : List ℕ → Option problem_sections.ProblemSection
+problem_section_of w =
+    if is_word (codes ":requirements") w then Some problem_sections.TheVariants.Requirements
+    else (if is_word (codes ":objects") w then Some problem_sections.TheVariants.Objects
+    else (if is_word (codes ":init") w then Some problem_sections.TheVariants.Init
+    else (if is_word (codes ":goal") w then Some problem_sections.TheVariants.Goal
+    else (if is_word (codes ":metric") w then Some problem_sections.TheVariants.Metric
+    else (if is_word (codes ":length") w then Some problem_sections.TheVariants.Length
+    else None)))))

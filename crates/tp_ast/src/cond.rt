@@ -1,0 +1,20 @@
+//! Conditions.
+
+use crate::expr::Expr;
+use crate::symbols::Typed;
+use crate::term::{Atom, Term};
+use crate::words::Comparison;
+
+/// A condition. The empty conjunction always holds.
+#[derive(Debug, PartialEq, Drop)]
+pub enum Cond {
+    And(Vec<Cond>),
+    Or(Vec<Cond>),
+    Not(Box<Cond>),
+    Imply(Box<Cond>, Box<Cond>),
+    Forall(Vec<Typed>, Box<Cond>),
+    Exists(Vec<Typed>, Box<Cond>),
+    Atom(Atom),
+    Same(Term, Term),
+    Compare(Comparison, Expr, Expr),
+}

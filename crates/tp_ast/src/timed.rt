@@ -1,0 +1,19 @@
+//! Conditions and effects at the moments of a durative action.
+
+use crate::cond::Cond;
+use crate::effect::Effect;
+use crate::joined::Joined;
+use crate::words::Mark;
+
+/// Something at the start, at the end or all the time between.
+#[derive(Debug, PartialEq, Drop)]
+pub struct Timed<A> {
+    pub mark: Mark,
+    pub what: A,
+}
+
+/// The condition of a durative action.
+pub type TimedCond = Joined<Timed<Cond>>;
+
+/// The effect of a durative action.
+pub type TimedEffect = Joined<Timed<Effect>>;

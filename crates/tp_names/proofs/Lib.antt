@@ -1,0 +1,6 @@
+pub mod OnTerms
+pub mod OnNames
+pub mod OnSymbols
+pub mod OnTypedLists
+pub mod OnForms
+pub mod OnTypes

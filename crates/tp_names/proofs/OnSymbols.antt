@@ -1,0 +1,49 @@
+use Rattle.std.proofs.Common.{◌≡◌, List, [], ◌∷◌, ◌++◌, map, Bool, true, false, cond, Option, Some, None, option_map, string_bytes, Bor, refl, sym, ap, ◌∙◌, rules}
+use Rattle.std.specs.Str.{bytes_eq}
+use Rattle.tp_ast.specs.Symbols.{Name, Declared, typed_view, form_view, types_of, form_of}
+use Rattle.tp_names.specs.SymbolViews.{scope_view}
+use Rattle.tp_types.specs.Tables.{item_of}
+use Rattle.tp_ast.specs.declared.symbols.Signature.{Signature}
+use Rattle.tp_types.proofs.OnTables.{seen}
+use Rattle.tp_ast.specs.declared.symbols.Typed.{Typed}
+use Rattle.tp_names.specs.declared.symbols.Scope.{Scope, Empty, Inner, the_lemmas}
+
+abbrev pub or_else : Option (List Name) → Option (List Name) → Option (List Name)
+or_else (Some ts) o = Some ts
+or_else None o = o
+
+chosen : (b : Bool) (ts : List Name) (x o : Option (List Name)) → cond b (Some ts) (or_else x o) ≡ or_else (cond b (Some ts) x) o
+chosen true ts x o = refl
+chosen false ts x o = refl
+
+pub types_of-append : (n : Name) (ds es : List Declared) → types_of n (ds ++ es) ≡ or_else (types_of n ds) (types_of n es)
+types_of-append n [] es = refl
+types_of-append n (d ∷ ds) es = ap (cond (bytes_eq d.name n) (Some d.types)) (types_of-append n ds es) ∙ chosen (bytes_eq d.name n) d.types (types_of n ds) (types_of n es)
+
+pub scope_Inner : (vars : Bor (List Typed)) (outer : Bor Scope) → scope_view (Inner vars outer) ≡ map typed_view vars.now ++ scope_view outer.now
+scope_Inner vars outer = search (rules, the_lemmas)
+
+pub in_scope : (n : Name) (s : Scope) (vars : Bor (List Typed)) (outer : Bor Scope) (o : Option (List Name)) → s ≡ Inner vars outer → o ≡ types_of n (map typed_view vars.now) → types_of n (scope_view s) ≡ or_else o (types_of n (scope_view outer.now))
+in_scope n s vars outer o is found =
+    ap (λ (t : Scope). types_of n (scope_view t)) is
+    ∙ ap (types_of n) (scope_Inner vars outer)
+    ∙ types_of-append n (map typed_view vars.now) (scope_view outer.now)
+    ∙ ap (λ p. or_else p (types_of n (scope_view outer.now))) (sym found)
+
+pub scope_Empty : scope_view Empty ≡ []
+scope_Empty = search (rules, the_lemmas)
+
+-- ---- what is found by a name
+
+pub types_of_found : (n : Name) (ds : List Typed) → types_of n (map typed_view ds) ≡ option_map (λ (d : Typed). map string_bytes d.types.value.items) (item_of (λ (d : Typed). string_bytes d.name) n ds)
+types_of_found n [] = refl
+types_of_found n (d ∷ ds) =
+    let view : Typed → List Name = λ e. map string_bytes e.types.value.items in
+    let found = item_of (λ (e : Typed). string_bytes e.name) n ds in
+    ap (cond (bytes_eq (string_bytes d.name) n) (Some (view d))) (types_of_found n ds) ∙ sym (seen view (bytes_eq (string_bytes d.name) n) d found)
+
+pub form_found : (n : Name) (fs : List Signature) → form_of n (map form_view fs) ≡ option_map form_view (item_of (λ (f : Signature). string_bytes f.name) n fs)
+form_found n [] = refl
+form_found n (f ∷ fs) =
+    let found = item_of (λ (g : Signature). string_bytes g.name) n fs in
+    ap (cond (bytes_eq (string_bytes f.name) n) (Some (form_view f))) (form_found n fs) ∙ sym (seen form_view (bytes_eq (string_bytes f.name) n) f found)

@@ -1,0 +1,22 @@
+use Rattle.std.proofs.Common.{map, ap, ◌∙◌}
+use Rattle.std.proofs.lemmas.List.{map-append}
+use Rattle.std.proofs.lemmas.Result.{err_from_is_err_and}
+use Rattle.tp_ast.specs.Symbols.{form_view}
+use Rattle.tp_types.specs.TypeViews.{types_view}
+use Rattle.tp_ast.proofs.Loops.{goes_on, fails, ends}
+use Rattle.tp_names.proofs.OnForms.{each_form}
+use Rattle.tp_names.proofs.forms.forms_of.Goals as goal
+
+pub returns-in_err-form_at : goal.returns-in_err-form_at
+returns-in_err-form_at c =
+    let p = err_from_is_err_and c.from_residual.result c.from_residual.ensures.1 in
+    rw (p.1, p.2) (fails (each_form (types_view c.args.types.now)) c.in_err-form_at.field-0.0 _ c.args.trees.now c.loop-tree.tree-index c.tree-item.result _ c.loop-tree-test.true c.tree-item.is c.in_err-form_at.ensures c.loop-tree.invariant)
+
+pub loop-tree-preserved : goal.loop-tree-preserved
+loop-tree-preserved c =
+    goes_on (each_form (types_view c.args.types.now)) _ _ c.args.trees.now c.loop-tree.tree-index c.tree-item.result _ _ c.loop-tree-test.true c.tree-item.is c.in_ok-form_at.ensures
+    (ap (map form_view) c.in_ok-push.ensures.items ∙ map-append form_view _ _)
+    c.loop-tree.invariant
+
+pub returns : goal.returns
+returns c = ends (each_form (types_view c.args.types.now)) _ c.args.trees.now c.loop-tree.tree-index _ c.loop-tree-test.false c.loop-tree.invariant

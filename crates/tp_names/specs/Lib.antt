@@ -1,0 +1,3 @@
+pub mod VariableTables
+pub mod FormViews
+pub mod SymbolViews

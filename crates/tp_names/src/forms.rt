@@ -1,0 +1,157 @@
+//! Predicates and functions as a domain declares them.
+
+ghost use Rattle.std.specs.Prelude.{◌≡◌, ◌&&◌, map, false, string_bytes};
+ghost use Rattle.tp_ast.specs.TypedLists.{is_dash};
+ghost use Rattle.tp_text.specs.Trees.{shape_of};
+ghost use Rattle.tp_ast.specs.Domains.{form_at, forms_of, is_number, numeric_forms, named_once};
+ghost use Rattle.tp_names.specs.FormViews.{predicates_in, functions_in};
+ghost use Rattle.tp_ast.specs.Symbols.{form_view};
+ghost use Rattle.tp_types.specs.TypeViews.{types_view};
+ghost use Rattle.tp_ast.specs.Terms.{shapes};
+ghost use Rattle.tp_ast.specs.Gives.{Gives};
+
+use crate::term::name_of;
+use crate::typed::{is_dash, parameters_of, place};
+use std::alloc::Global;
+use tp_ast::fault::{LeftOutPart, SyntaxFault};
+use tp_ast::symbols::Signature;
+use tp_ast::words::is_word;
+use tp_text::Tree;
+use tp_types::table::second_named;
+use tp_types::types::Types;
+
+// A form in the section at `above`.
+fn form_at(alloc: Global, types: &Types, tree: &Tree, above: u32) -> Result<Signature, SyntaxFault>
+    ensures { Gives form_view result (form_at (types_view types.now) (shape_of tree.now)) }
+{
+    let (items, at) = match tree {
+        Tree::Word(_) => return Err(SyntaxFault::Shape(above)),
+        Tree::List { items, span } => (items.as_slice(), span.start),
+    };
+    let [first, vars @ ..] = items else {
+        return Err(SyntaxFault::Shape(at));
+    };
+    let Tree::Word(word) = first else {
+        return Err(SyntaxFault::Shape(at));
+    };
+    let name = name_of(alloc, word.text, at)?;
+    let parameters = parameters_of(alloc, types, vars, at)?;
+    Ok(Signature { name, parameters })
+}
+
+fn forms_of(
+    alloc: Global,
+    types: &Types,
+    trees: &[Tree],
+    at: u32,
+) -> Result<Vec<Signature>, SyntaxFault>
+    ensures { Gives (λ v. map form_view v.items) result (forms_of (types_view types.now) (shapes trees.now)) }
+{
+    let mut forms = Vec::new(alloc);
+    for tree in trees {
+        forms.push(form_at(alloc, types, tree, at)?)?;
+    }
+    Ok(forms)
+}
+
+fn is_number(tree: &Tree) -> bool
+    ensures { result ≡ is_number (shape_of tree.now) }
+{
+    match tree {
+        Tree::Word(token) => is_word(token.text, "number"),
+        Tree::List { .. } => false,
+    }
+}
+
+// Whether the type of a run begins.
+fn ends_run(may_end: bool, tree: &Tree) -> bool
+    ensures { result ≡ (may_end && is_dash (shape_of tree.now)) }
+{
+    may_end && is_dash(tree)
+}
+
+// Forms, of which runs may end in `- number`.
+fn numeric_forms(
+    alloc: Global,
+    types: &Types,
+    trees: &[Tree],
+    at: u32,
+) -> Result<Vec<Signature>, SyntaxFault>
+    ensures { Gives (λ v. map form_view v.items) result (numeric_forms (types_view types.now) false (shapes trees.now)) }
+{
+    let mut forms = Vec::new(alloc);
+    let mut rest = trees;
+    let mut may_end = false;
+    'forms: while let [first, others @ ..] = rest {
+        if ends_run(may_end, first) {
+            let [kind, more @ ..] = others else {
+                return Err(SyntaxFault::Shape(at));
+            };
+            if !is_number(kind) {
+                return Err(SyntaxFault::LeftOut(at, LeftOutPart::ObjectFluent));
+            }
+            may_end = false;
+            rest = more;
+        } else {
+            forms.push(form_at(alloc, types, first, at)?)?;
+            may_end = true;
+            rest = others;
+        }
+    }
+    Ok(forms)
+}
+
+// Where the form of a number has its name.
+fn name_place(trees: &[Tree], number: usize, at: u32) -> u32 {
+    let mut left = number;
+    for tree in trees {
+        if let Tree::List { items, .. } = tree {
+            if left == 0 {
+                return items.first().map_or(at, |name| place(name));
+            }
+            left -= 1;
+        }
+    }
+    at
+}
+
+// Forms that were read from these trees, each named once.
+fn named_once(
+    alloc: Global,
+    forms: Vec<Signature>,
+    trees: &[Tree],
+    at: u32,
+) -> Result<Vec<Signature>, SyntaxFault>
+    ensures { Gives (λ v. map form_view v.items) result (named_once (map form_view forms.items)) }
+{
+    if let Some(number) = second_named(alloc, &forms)? {
+        return Err(SyntaxFault::Twice(name_place(trees, number, at)));
+    }
+    Ok(forms)
+}
+
+/// Predicates, each once: the members of the section at `at`.
+pub fn predicates_in(
+    alloc: Global,
+    types: &Types,
+    trees: &[Tree],
+    at: u32,
+) -> Result<Vec<Signature>, SyntaxFault>
+    ensures { Gives (λ v. map form_view v.items) result (predicates_in (types_view types.now) (shapes trees.now)) }
+{
+    let forms = forms_of(alloc, types, trees, at)?;
+    named_once(alloc, forms, trees, at)
+}
+
+/// Functions, each once: the members of the section at `at`.
+pub fn functions_in(
+    alloc: Global,
+    types: &Types,
+    trees: &[Tree],
+    at: u32,
+) -> Result<Vec<Signature>, SyntaxFault>
+    ensures { Gives (λ v. map form_view v.items) result (functions_in (types_view types.now) (shapes trees.now)) }
+{
+    let forms = numeric_forms(alloc, types, trees, at)?;
+    named_once(alloc, forms, trees, at)
+}

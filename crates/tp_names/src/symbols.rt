@@ -1,0 +1,174 @@
+//! What a domain declares.
+
+ghost use Rattle.std.specs.Prelude.{◌≡◌, map, option_map, string_bytes};
+ghost use Rattle.std.specs.Option.{is_some};
+ghost use Rattle.tp_ast.specs.Terms.{term_view, shapes, atom_view};
+ghost use Rattle.tp_ast.specs.Symbols.{typed_view, types_of, form_view, form_of, argument_types, argument_fits, arguments_fit, atom_in};
+ghost use Rattle.tp_names.specs.SymbolViews.{scope_view, symbols_view};
+ghost use Rattle.tp_ast.specs.Gives.{Gives};
+
+use crate::term::{name_of, terms_of};
+use crate::typed::place;
+use crate::variables::Variables;
+use std::alloc::Global;
+use std::rc::Rc;
+use tp_ast::fault::SyntaxFault;
+use tp_ast::symbols::{Signature, Typed};
+use tp_ast::term::{Atom, Term};
+use tp_text::{Token, Tree};
+use tp_types::lookup::Lookup;
+use tp_types::table::Named;
+use tp_types::types::{Types, types_fit};
+
+/// The variables in scope. An inner one hides an outer one of the same name.
+#[derive(Clone, Copy)]
+pub enum Scope<'a> {
+    Empty,
+    Inner(&'a Variables, &'a Scope<'a>),
+}
+
+fn types_found<'a>(name: &str, declared: &'a Lookup<Typed>) -> Option<&'a [String]>
+    ensures { option_map (λ ts. map string_bytes ts.now) result ≡ types_of name.now (map typed_view declared.now) }
+{
+    match declared.find(name) {
+        Some(typed) => Some(typed.type_names()),
+        None => None,
+    }
+}
+
+fn types_among<'a>(name: &str, vars: &'a Variables) -> Option<&'a [String]>
+    ensures { option_map (λ ts. map string_bytes ts.now) result ≡ types_of name.now (map typed_view vars.now) }
+{
+    match vars.find(name) {
+        Some(typed) => Some(typed.type_names()),
+        None => None,
+    }
+}
+
+pub fn variable_types<'a>(name: &str, scope: &'a Scope) -> Option<&'a [String]>
+    ensures { option_map (λ ts. map string_bytes ts.now) result ≡ types_of name.now (scope_view scope.now) }
+{
+    match scope {
+        Scope::Empty => None,
+        Scope::Inner(vars, outer) => match types_among(name, vars) {
+            Some(types) => Some(types),
+            None => variable_types(name, outer),
+        },
+    }
+}
+
+/// What may be named: what a domain declares, and in a problem its objects too.
+#[derive(Drop)]
+pub struct Symbols<'a> {
+    pub types: Types<'a>,
+    pub constants: Lookup<'a, Typed>,
+    pub objects: Lookup<'a, Typed>,
+    pub predicates: Lookup<'a, Signature>,
+    pub functions: Lookup<'a, Signature>,
+}
+
+fn form_of<'a>(name: &str, forms: &Lookup<'a, Signature>) -> Option<&'a Signature>
+    ensures { option_map (λ f. form_view f.now) result ≡ form_of name.now (map form_view forms.now) }
+{
+    forms.find(name)
+}
+
+// The types of an object that is declared.
+fn object_types<'a>(symbols: &'a Symbols, name: &str) -> Option<&'a [String]>
+    ensures { option_map (λ ts. map string_bytes ts.now) result ≡ types_of name.now (symbols_view symbols.now).objects }
+{
+    match types_found(name, &symbols.constants) {
+        Some(types) => Some(types),
+        None => types_found(name, &symbols.objects),
+    }
+}
+
+// The types of an object that is declared, or of a variable in scope.
+fn argument_types<'a>(
+    symbols: &'a Symbols,
+    scope: &'a Scope,
+    argument: &Term,
+) -> Option<&'a [String]>
+    ensures { option_map (λ ts. map string_bytes ts.now) result ≡ argument_types (symbols_view symbols.now).objects (scope_view scope.now) (term_view argument.now) }
+{
+    match argument {
+        Term::Object(name) => object_types(symbols, name.as_str()),
+        Term::Variable(name) => variable_types(name.as_str(), scope),
+    }
+}
+
+// Whether an argument may stand for a parameter.
+fn argument_fits(symbols: &Symbols, scope: &Scope, argument: &Term, parameter: &[String]) -> bool
+    ensures { result ≡ argument_fits (symbols_view symbols.now).types (symbols_view symbols.now).objects (scope_view scope.now) (term_view argument.now) (map string_bytes parameter.now) }
+{
+    match argument_types(symbols, scope, argument) {
+        None => false,
+        Some(types) => types_fit(&symbols.types, types, parameter),
+    }
+}
+
+// As many arguments as parameters, each of which fits.
+fn arguments_fit(symbols: &Symbols, scope: &Scope, arguments: &[Term], parameters: &[Typed]) -> bool
+    ensures { result ≡ arguments_fit (symbols_view symbols.now).types (symbols_view symbols.now).objects (scope_view scope.now) (map term_view arguments.now) (map typed_view parameters.now) }
+{
+    let mut left = arguments;
+    let mut open = parameters;
+    'pairs: while let [argument, more @ ..] = left {
+        let [parameter, others @ ..] = open else {
+            return false;
+        };
+        if !argument_fits(symbols, scope, argument, parameter.type_names()) {
+            return false;
+        }
+        left = more;
+        open = others;
+    }
+    open.is_empty()
+}
+
+// What is wrong with arguments that do not fit.
+fn arguments_fault(
+    symbols: &Symbols,
+    scope: &Scope,
+    terms: &[Term],
+    trees: &[Tree],
+    at: u32,
+) -> SyntaxFault {
+    for (term, tree) in terms.iter().zip(trees) {
+        if !argument_known(symbols, scope, term) {
+            return SyntaxFault::Unknown(place(tree));
+        }
+    }
+    SyntaxFault::Types(at)
+}
+
+/// The atom that the list at `at` is: a name, one of these, and arguments that fit.
+#[tactic(auto, unfolding(tp_ast::specs::Symbols::atom_in))]
+pub fn atom_in(
+    alloc: Global,
+    symbols: &Symbols,
+    forms: &Lookup<Signature>,
+    scope: &Scope,
+    word: &Token,
+    args: &[Tree],
+    at: u32,
+) -> Result<Atom, SyntaxFault>
+    ensures { Gives atom_view result (atom_in (symbols_view symbols.now) (map form_view forms.now) (scope_view scope.now) word.now.text.now (shapes args.now)) }
+{
+    let name = name_of(alloc, word.text, at)?;
+    let Some(form) = form_of(name.as_str(), forms) else {
+        return Err(SyntaxFault::Unknown(word.span.start));
+    };
+    let terms = terms_of(alloc, args, at)?;
+    if !arguments_fit(symbols, scope, &terms, &form.parameters) {
+        return Err(arguments_fault(symbols, scope, &terms, args, at));
+    }
+    Ok(Atom { name, terms })
+}
+
+/// Whether an object is declared, or a variable in scope.
+pub fn argument_known(symbols: &Symbols, scope: &Scope, argument: &Term) -> bool
+    ensures { result ≡ is_some (argument_types (symbols_view symbols.now).objects (scope_view scope.now) (term_view argument.now)) }
+{
+    argument_types(symbols, scope, argument).is_some()
+}

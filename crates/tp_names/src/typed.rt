@@ -1,0 +1,362 @@
+//! Typed lists.
+
+ghost use Rattle.std.specs.Prelude.{◌≡◌, ◌∷◌, [], ◌++◌, map, OnOk, IfOk, string_bytes, codes};
+ghost use Rattle.tp_text.specs.Trees.{shape_of};
+ghost use Rattle.tp_ast.specs.Terms.{shapes};
+ghost use Rattle.tp_ast.specs.Symbols.{typed_view};
+ghost use Rattle.tp_types.specs.TypeViews.{types_view};
+ghost use Rattle.std.specs.Option.{is_some};
+ghost use Rattle.tp_ast.specs.Gives.{Gives, provided};
+ghost use Rattle.tp_ast.specs.Domains.{objects_in};
+ghost use Rattle.tp_ast.specs.TypedLists.{is_dash, given, item_at, type_at, typed_list, name_at, names_of, is_either, either_of, is_type, has_twice, are_declared, parameters_of, parameters_at};
+ghost use Rattle.std.specs.List.{list_all, list_any};
+ghost use Rattle.std.specs.Str.{bytes_eq};
+
+use crate::term::{name_of, variable_of};
+use std::alloc::{AllocError, Global};
+use std::rc::Rc;
+use tp_ast::fault::{LeftOutPart, SyntaxFault};
+use tp_ast::symbols::Typed;
+use tp_ast::words::{Items, is_word};
+use tp_text::Tree;
+use tp_types::once::second_mention;
+use tp_types::types::{Types, are_types, is_type};
+
+/// Where a tree begins.
+pub fn place(tree: &Tree) -> u32 {
+    match tree {
+        Tree::Word(token) => token.span.start,
+        Tree::List { span, .. } => span.start,
+    }
+}
+
+#[tactic(auto, unfolding(tp_ast::specs::TypedLists::is_dash))]
+pub fn is_dash(tree: &Tree) -> bool
+    ensures { result ≡ is_dash (shape_of tree.now) }
+{
+    match tree {
+        Tree::Word(token) => token.text == "-",
+        Tree::List { .. } => false,
+    }
+}
+
+#[tactic(auto, unfolding(tp_ast::specs::TypedLists::item_at))]
+fn item_at(alloc: Global, items: Items, tree: &Tree, at: u32) -> Result<String, SyntaxFault>
+    ensures { Gives (λ s. string_bytes s) result (item_at items (shape_of tree.now)) }
+{
+    match tree {
+        Tree::Word(token) => match items {
+            Items::Variables => variable_of(alloc, token.text, at),
+            Items::Names => name_of(alloc, token.text, at),
+        },
+        Tree::List { .. } => Err(SyntaxFault::Shape(at)),
+    }
+}
+
+#[tactic(auto, unfolding(tp_ast::specs::TypedLists::name_at))]
+fn name_at(alloc: Global, tree: &Tree, at: u32) -> Result<String, SyntaxFault>
+    ensures { Gives (λ s. string_bytes s) result (name_at (shape_of tree.now)) }
+{
+    match tree {
+        Tree::Word(token) => name_of(alloc, token.text, at),
+        Tree::List { .. } => Err(SyntaxFault::Shape(at)),
+    }
+}
+
+fn names_of(alloc: Global, trees: &[Tree], at: u32) -> Result<Vec<String>, SyntaxFault>
+    ensures { Gives (λ v. map string_bytes v.items) result (names_of (shapes trees.now)) }
+{
+    let mut names = Vec::new(alloc);
+    for tree in trees {
+        names.push(name_at(alloc, tree, at)?)?;
+    }
+    Ok(names)
+}
+
+#[tactic(auto, unfolding(tp_ast::specs::TypedLists::is_either))]
+fn is_either(tree: &Tree) -> bool
+    ensures { result ≡ is_either (shape_of tree.now) }
+{
+    match tree {
+        Tree::Word(token) => is_word(token.text, "either"),
+        Tree::List { .. } => false,
+    }
+}
+
+#[tactic(auto, unfolding(tp_ast::specs::TypedLists::either_of))]
+fn either_of(alloc: Global, trees: &[Tree], at: u32) -> Result<Vec<String>, SyntaxFault>
+    ensures { Gives (λ v. map string_bytes v.items) result (either_of (shapes trees.now)) }
+{
+    let [first, types @ ..] = trees else {
+        return Err(SyntaxFault::Shape(at));
+    };
+    if !is_either(first) {
+        return Err(SyntaxFault::Shape(at));
+    }
+    let names = names_of(alloc, types, at)?;
+    if names.is_empty() {
+        return Err(SyntaxFault::Shape(at));
+    }
+    Ok(names)
+}
+
+// What is wrong with a list where a type's name has to stand.
+fn list_fault(members: &[Tree], at: u32) -> SyntaxFault {
+    match members {
+        [first, ..] if is_either(first) => SyntaxFault::LeftOut(at, LeftOutPart::Either),
+        _ => SyntaxFault::Shape(at),
+    }
+}
+
+#[tactic(auto, unfolding(tp_ast::specs::TypedLists::type_at))]
+fn type_at(alloc: Global, items: Items, tree: &Tree, at: u32) -> Result<Vec<String>, SyntaxFault>
+    ensures { Gives (λ v. map string_bytes v.items) result (type_at items (shape_of tree.now)) }
+{
+    match tree {
+        Tree::Word(token) => {
+            let name = name_of(alloc, token.text, at)?;
+            let mut types = Vec::new(alloc);
+            types.push(name)?;
+            Ok(types)
+        }
+        Tree::List {
+            items: members,
+            span,
+        } => match items {
+            Items::Variables => either_of(alloc, members, span.start),
+            Items::Names => Err(list_fault(members, span.start)),
+        },
+    }
+}
+
+fn object_type(alloc: Global) -> Result<Vec<String>, AllocError>
+    ensures { IfOk result (λ v. map string_bytes v.items ≡ codes "object" ∷ []) }
+{
+    let name = String::from_str(alloc, "object")?;
+    let mut types = Vec::new(alloc);
+    types.push(name)?;
+    Ok(types)
+}
+
+// Gives each of some names these types, which they share.
+fn give(
+    alloc: Global,
+    done: &mut Vec<Typed>,
+    names: &[String],
+    types: Vec<String>,
+) -> Result<(), AllocError>
+    ensures { OnOk result (map typed_view done.new.items ≡ map typed_view done.old.items ++ map (given (map string_bytes types.items)) (map string_bytes names.now)) }
+{
+    let shared = Rc::new(alloc, types)?;
+    for name in names {
+        let name = name.clone()?;
+        let types = shared.clone()?;
+        done.push(Typed { name, types })?;
+    }
+    Ok(())
+}
+
+/// The items of a typed list, with their types. The list that has these members is at `at`.
+pub fn typed_list(
+    alloc: Global,
+    items: Items,
+    trees: &[Tree],
+    at: u32,
+) -> Result<Vec<Typed>, SyntaxFault>
+    ensures { Gives (λ v. map typed_view v.items) result (typed_list items (shapes trees.now)) }
+{
+    let mut done = Vec::new(alloc);
+    let mut waiting = Vec::new(alloc);
+    let mut rest = trees;
+    'runs: while let [first, others @ ..] = rest {
+        if is_dash(first) {
+            if waiting.is_empty() {
+                return Err(SyntaxFault::Shape(at));
+            }
+            let [kind, more @ ..] = others else {
+                return Err(SyntaxFault::Shape(at));
+            };
+            let types = type_at(alloc, items, kind, at)?;
+            give(alloc, &mut done, &waiting, types)?;
+            waiting = Vec::new(alloc);
+            rest = more;
+        } else {
+            waiting.push(item_at(alloc, items, first, at)?)?;
+            rest = others;
+        }
+    }
+    let object = object_type(alloc)?;
+    give(alloc, &mut done, &waiting, object)?;
+    Ok(done)
+}
+
+fn have_types(types: &Types, items: &[Typed]) -> bool
+    ensures { result ≡ list_all (λ d. list_all (is_type (types_view types.now)) d.types) (map typed_view items.now) }
+{
+    for item in items {
+        if !are_types(types, item.type_names()) {
+            return false;
+        }
+    }
+    true
+}
+
+// The number of the first item whose name stands before it, too.
+fn named_again(alloc: Global, items: &[Typed]) -> Result<Option<usize>, AllocError>
+    ensures { IfOk result (λ o. is_some o ≡ has_twice (map (λ d. d.name) (map typed_view items.now))) }
+{
+    let mut names = Vec::new(alloc);
+    for item in items {
+        names.push(item.name.as_str())?;
+    }
+    second_mention(alloc, &names)
+}
+
+/// Where an item of a typed list stands, by its number.
+pub fn item_place(trees: &[Tree], number: usize, at: u32) -> u32 {
+    let mut left = number;
+    let mut after_dash = false;
+    for tree in trees {
+        if after_dash {
+            after_dash = false;
+        } else if is_dash(tree) {
+            after_dash = true;
+        } else if left == 0 {
+            return place(tree);
+        } else {
+            left -= 1;
+        }
+    }
+    at
+}
+
+// What stands as the type of an item, by the item's number.
+fn type_tree<'t, 'a>(trees: &'t [Tree<'a>], number: usize) -> Option<&'t Tree<'a>> {
+    let mut left = number;
+    let mut passed = false;
+    let mut after_dash = false;
+    for tree in trees {
+        if after_dash {
+            if passed {
+                return Some(tree);
+            }
+            after_dash = false;
+        } else if is_dash(tree) {
+            after_dash = true;
+        } else if left == 0 {
+            passed = true;
+        } else {
+            left -= 1;
+        }
+    }
+    None
+}
+
+// Where a type stands, by its number among those of `(either T ..)`.
+fn type_place(tree: &Tree, number: usize) -> u32 {
+    match tree {
+        Tree::Word(token) => token.span.start,
+        Tree::List { items, span } => match items.as_slice() {
+            [] => span.start,
+            [_, types @ ..] => types.get(number).map_or(span.start, |kind| place(kind)),
+        },
+    }
+}
+
+// The first type of these that is not declared, in the tree that names them.
+fn undeclared(types: &Types, names: &[String], tree: Option<&Tree>, at: u32) -> u32 {
+    let Some(tree) = tree else {
+        return at;
+    };
+    for (number, name) in names.iter().enumerate() {
+        if !is_type(types, name.as_str()) {
+            return type_place(tree, number);
+        }
+    }
+    at
+}
+
+// What is wrong with items of which one has a type that is not declared.
+fn undeclared_type(types: &Types, items: &[Typed], trees: &[Tree], at: u32) -> SyntaxFault {
+    for (number, item) in items.iter().enumerate() {
+        if !are_types(types, item.type_names()) {
+            return SyntaxFault::Unknown(undeclared(
+                types,
+                item.type_names(),
+                type_tree(trees, number),
+                at,
+            ));
+        }
+    }
+    SyntaxFault::Unknown(at)
+}
+
+// Items that were read from these trees, each named once and of declared types.
+fn declared(
+    alloc: Global,
+    types: &Types,
+    items: Vec<Typed>,
+    trees: &[Tree],
+    at: u32,
+) -> Result<Vec<Typed>, SyntaxFault>
+    ensures { let ds = map typed_view items.items in Gives (λ v. map typed_view v.items) result (provided (are_declared (types_view types.now) ds) ds) }
+{
+    if let Some(number) = named_again(alloc, &items)? {
+        return Err(SyntaxFault::Twice(item_place(trees, number, at)));
+    }
+    if !have_types(types, &items) {
+        return Err(undeclared_type(types, &items, trees, at));
+    }
+    Ok(items)
+}
+
+fn has_duration(items: &[Typed]) -> bool
+    ensures { result ≡ list_any (λ v. bytes_eq v.name (codes "?duration")) (map typed_view items.now) }
+{
+    for item in items {
+        if item.name.as_str() == "?duration" {
+            return true;
+        }
+    }
+    false
+}
+
+/// Names, each once and of declared types. The list that has these members is at `at`.
+#[tactic(auto, unfolding(tp_ast::specs::Domains::objects_in))]
+pub fn objects_in(
+    alloc: Global,
+    types: &Types,
+    trees: &[Tree],
+    at: u32,
+) -> Result<Vec<Typed>, SyntaxFault>
+    ensures { Gives (λ v. map typed_view v.items) result (objects_in (types_view types.now) (shapes trees.now)) }
+{
+    let items = typed_list(alloc, Items::Names, trees, at)?;
+    declared(alloc, types, items, trees, at)
+}
+
+/// Variables, each once and of declared types.
+#[tactic(auto, unfolding(tp_ast::specs::TypedLists::parameters_of))]
+pub fn parameters_of(
+    alloc: Global,
+    types: &Types,
+    trees: &[Tree],
+    at: u32,
+) -> Result<Vec<Typed>, SyntaxFault>
+    ensures { Gives (λ v. map typed_view v.items) result (parameters_of (types_view types.now) (shapes trees.now)) }
+{
+    let vars = typed_list(alloc, Items::Variables, trees, at)?;
+    if has_duration(&vars) {
+        return Err(SyntaxFault::Shape(at));
+    }
+    declared(alloc, types, vars, trees, at)
+}
+
+pub fn parameters_at(alloc: Global, types: &Types, tree: &Tree) -> Result<Vec<Typed>, SyntaxFault>
+    ensures { Gives (λ v. map typed_view v.items) result (parameters_at (types_view types.now) (shape_of tree.now)) }
+{
+    match tree {
+        Tree::Word(token) => Err(SyntaxFault::Shape(token.span.start)),
+        Tree::List { items, span } => parameters_of(alloc, types, items, span.start),
+    }
+}

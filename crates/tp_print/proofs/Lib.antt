@@ -1,0 +1,14 @@
+pub mod OnPrinting
+pub mod OnPrintingWords
+pub mod OnPrintingLists
+pub mod OnPrintingNumbers
+pub mod OnPrintingExprs
+pub mod OnPrintingConds
+pub mod OnPrintingParts
+pub mod OnPrintingEffects
+pub mod OnPrintingRules
+pub mod OnPrintingActions
+pub mod OnPrintingTypes
+pub mod OnPrintingForms
+pub mod OnPrintingDomains
+pub mod OnPrintingTexts

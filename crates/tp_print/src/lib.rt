@@ -1,0 +1,5 @@
+//! Prints domains.
+#![tactic(auto)]
+
+pub mod print;
+pub mod print_parts;

@@ -1,0 +1,2 @@
+pub mod OnEffects
+pub mod OnRules

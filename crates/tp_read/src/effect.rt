@@ -1,0 +1,157 @@
+//! Effects.
+
+ghost use Rattle.std.specs.Prelude.{◌≡◌, map, false};
+ghost use Rattle.tp_text.specs.Trees.{shape_of};
+ghost use Rattle.tp_ast.specs.Terms.{shapes, atom_view};
+ghost use Rattle.tp_ast.specs.Symbols.{form_view};
+ghost use Rattle.tp_names.specs.SymbolViews.{scope_view, symbols_view};
+ghost use Rattle.tp_ast.specs.Expressions.{terms_for};
+ghost use Rattle.tp_ast.specs.Effects.{Outcome, atom_at, deleted, written, changed, outcome_of, effect_of};
+ghost use Rattle.tp_ast.specs.EffectViews.{outcome_view, effect_view};
+ghost use Rattle.tp_ast.specs.Gives.{Gives};
+
+use crate::expr::read_value;
+use crate::joined::{Part, read_joined};
+use std::alloc::Global;
+use tp_ast::effect::{Effect, Outcome};
+use tp_ast::expr::Expr;
+use tp_ast::fault::{LeftOutPart, SyntaxFault};
+use tp_ast::joined::Joined;
+use tp_ast::symbols::Signature;
+use tp_ast::term::Atom;
+use tp_ast::words::{Change, Writing, change_of};
+use tp_names::lists::{both, only};
+use tp_names::symbols::{Scope, Symbols, atom_in};
+use tp_text::{Token, Tree};
+use tp_types::lookup::Lookup;
+
+/// The atom that a tree spells, its name one of these.
+pub fn atom_at(
+    alloc: Global,
+    symbols: &Symbols,
+    forms: &Lookup<Signature>,
+    scope: &Scope,
+    tree: &Tree,
+) -> Result<Atom, SyntaxFault>
+    ensures { Gives atom_view result (atom_at (symbols_view symbols.now) (map form_view forms.now) (scope_view scope.now) (shape_of tree.now)) }
+{
+    let (items, at) = match tree {
+        Tree::Word(token) => return Err(SyntaxFault::Shape(token.span.start)),
+        Tree::List { items, span } => (items.as_slice(), span.start),
+    };
+    let [first, args @ ..] = items else {
+        return Err(SyntaxFault::Shape(at));
+    };
+    let Tree::Word(word) = first else {
+        return Err(SyntaxFault::Shape(at));
+    };
+    atom_in(alloc, symbols, forms, scope, word, args, at)
+}
+
+#[tactic(auto, unfolding(tp_ast::specs::Effects::deleted))]
+fn deleted(
+    alloc: Global,
+    symbols: &Symbols,
+    scope: &Scope,
+    args: &[Tree],
+    at: u32,
+) -> Result<Outcome, SyntaxFault>
+    ensures { Gives outcome_view result (deleted (symbols_view symbols.now) (scope_view scope.now) (shapes args.now)) }
+{
+    let Some(tree) = only(args) else {
+        return Err(SyntaxFault::Shape(at));
+    };
+    let atom = atom_at(alloc, symbols, &symbols.predicates, scope, tree)?;
+    Ok(Outcome::Delete(atom))
+}
+
+#[tactic(auto, unfolding(tp_ast::specs::Effects::written))]
+fn written(
+    alloc: Global,
+    symbols: &Symbols,
+    duration: bool,
+    scope: &Scope,
+    writing: Writing,
+    args: &[Tree],
+    at: u32,
+) -> Result<Outcome, SyntaxFault>
+    ensures { Gives outcome_view result (written (symbols_view symbols.now) (terms_for (scope_view scope.now) duration) writing (shapes args.now)) }
+{
+    let Some((fluent, value)) = both(args) else {
+        return Err(SyntaxFault::Shape(at));
+    };
+    let atom = atom_at(alloc, symbols, &symbols.functions, scope, fluent)?;
+    let value = read_value(alloc, value, symbols, scope, duration, at)?;
+    Ok(Outcome::Write(writing, atom, value))
+}
+
+#[tactic(auto, unfolding(tp_ast::specs::Effects::changed))]
+fn changed(
+    alloc: Global,
+    change: Change,
+    symbols: &Symbols,
+    duration: bool,
+    scope: &Scope,
+    word: &Token,
+    args: &[Tree],
+    at: u32,
+) -> Result<Outcome, SyntaxFault>
+    ensures { Gives outcome_view result (changed change (symbols_view symbols.now) duration (scope_view scope.now) word.now.text.now (shapes args.now)) }
+{
+    let writing = match change {
+        Change::Other => {
+            let atom = atom_in(alloc, symbols, &symbols.predicates, scope, word, args, at)?;
+            return Ok(Outcome::Add(atom));
+        }
+        Change::Not => return deleted(alloc, symbols, scope, args, at),
+        Change::When => return Err(SyntaxFault::LeftOut(at, LeftOutPart::When)),
+        Change::ScaleDown => return Err(SyntaxFault::LeftOut(at, LeftOutPart::ScaleDown)),
+        Change::Assign => Writing::Assign,
+        Change::Increase => Writing::Increase,
+        Change::Decrease => Writing::Decrease,
+        Change::ScaleUp => Writing::ScaleUp,
+    };
+    written(alloc, symbols, duration, scope, writing, args, at)
+}
+
+impl Part for Outcome {
+    ghost Seen = { Rattle.tp_ast.specs.Effects.Outcome };
+
+    ghost seen = { outcome_view };
+
+    ghost spelled = { outcome_of };
+
+    #[tactic(auto, unfolding(tp_ast::specs::Effects::outcome_of))]
+    fn read(
+        alloc: Global,
+        symbols: &Symbols,
+        duration: bool,
+        scope: &Scope,
+        word: &Token,
+        args: &[Tree],
+        at: u32,
+    ) -> Result<Outcome, SyntaxFault> {
+        changed(
+            alloc,
+            change_of(word.text),
+            symbols,
+            duration,
+            scope,
+            word,
+            args,
+            at,
+        )
+    }
+}
+
+/// The effect that a tree spells.
+pub fn read_effect(
+    alloc: Global,
+    tree: &Tree,
+    symbols: &Symbols,
+    scope: &Scope,
+) -> Result<Effect, SyntaxFault>
+    ensures { Gives effect_view result (effect_of (symbols_view symbols.now) false (scope_view scope.now) (shape_of tree.now)) }
+{
+    read_joined(alloc, tree, symbols, false, scope)
+}

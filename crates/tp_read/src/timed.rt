@@ -1,0 +1,173 @@
+//! Conditions and effects at the moments of a durative action.
+
+ghost use Rattle.std.specs.Prelude.{◌≡◌, map, option_map};
+ghost use Rattle.tp_text.specs.Trees.{shape_of};
+ghost use Rattle.tp_ast.specs.Terms.{shapes};
+ghost use Rattle.tp_names.specs.SymbolViews.{scope_view, symbols_view};
+ghost use Rattle.tp_ast.specs.Conditions.{Condition, condition_of};
+ghost use Rattle.tp_ast.specs.CondViews.{cond_view};
+ghost use Rattle.tp_ast.specs.Effects.{mark_at, marked_tree, marked, effect_at, timed_condition_of, timed_effect_of};
+ghost use Rattle.tp_ast.specs.EffectViews.{effect_view, timed_view, timed_condition_view, timed_effect_view};
+ghost use Rattle.tp_ast.specs.Gives.{Gives};
+
+use crate::cond::read_cond;
+use crate::joined::{Part, read_joined};
+use std::alloc::Global;
+use tp_ast::cond::Cond;
+use tp_ast::effect::{Effect, Outcome};
+use tp_ast::fault::{LeftOutPart, SyntaxFault};
+use tp_ast::joined::Joined;
+use tp_ast::timed::{Timed, TimedCond, TimedEffect};
+use tp_ast::words::{Mark, is_word, mark_of};
+use tp_names::lists::both;
+use tp_names::symbols::{Scope, Symbols};
+use tp_text::{Token, Tree};
+
+#[tactic(auto, unfolding(tp_ast::specs::Effects::mark_at))]
+fn mark_at(word: &Token, tree: &Tree) -> Option<Mark>
+    ensures { result ≡ mark_at word.now.text.now (shape_of tree.now) }
+{
+    match tree {
+        Tree::Word(token) => mark_of(word.text, token.text),
+        Tree::List { .. } => None,
+    }
+}
+
+// The mark and the tree behind it.
+#[tactic(auto, unfolding(tp_ast::specs::Effects::marked_tree))]
+fn marked_tree<'t, 'a>(word: &Token, args: &'t [Tree<'a>]) -> Option<(Mark, &'t Tree<'a>)>
+    ensures { option_map (λ p. (p.0, shape_of p.1.now)) result ≡ marked_tree word.now.text.now (shapes args.now) }
+{
+    let (moment, tree) = both(args)?;
+    let mark = mark_at(word, moment)?;
+    Some((mark, tree))
+}
+
+// The innermost list that names the time that runs on.
+fn continuous_place(tree: &Tree) -> Option<u32> {
+    let Tree::List { items, span } = tree else {
+        return None;
+    };
+    for item in items {
+        match item {
+            Tree::Word(token) => {
+                if is_word(token.text, "#t") {
+                    return Some(span.start);
+                }
+            }
+            Tree::List { .. } => {
+                if let Some(place) = continuous_place(item) {
+                    return Some(place);
+                }
+            }
+        }
+    }
+    None
+}
+
+// What is wrong with the list at `at` that begins with the word and has no mark.
+fn unmarked_fault(word: &Token, args: &[Tree], at: u32) -> SyntaxFault {
+    if is_word(word.text, "preference") {
+        return SyntaxFault::LeftOut(at, LeftOutPart::Preference);
+    }
+    if is_word(word.text, "when") {
+        return SyntaxFault::LeftOut(at, LeftOutPart::When);
+    }
+    for tree in args {
+        if let Some(place) = continuous_place(tree) {
+            return SyntaxFault::LeftOut(place, LeftOutPart::Continuous);
+        }
+    }
+    SyntaxFault::Shape(at)
+}
+
+impl Part for Timed<Cond> {
+    ghost Seen = { Rattle.tp_ast.specs.Effects.Timed Condition };
+
+    ghost seen = { timed_view cond_view };
+
+    ghost spelled = { λ σ duration within. marked (λ m. condition_of σ within) };
+
+    #[tactic(auto, unfolding(tp_ast::specs::Effects::marked))]
+    fn read(
+        alloc: Global,
+        symbols: &Symbols,
+        _duration: bool,
+        scope: &Scope,
+        word: &Token,
+        args: &[Tree],
+        at: u32,
+    ) -> Result<Timed<Cond>, SyntaxFault> {
+        let Some((mark, tree)) = marked_tree(word, args) else {
+            return Err(unmarked_fault(word, args, at));
+        };
+        let what = read_cond(alloc, tree, symbols, scope)?;
+        Ok(Timed { mark, what })
+    }
+}
+
+// An effect has a start and an end alone.
+fn effect_at(
+    alloc: Global,
+    symbols: &Symbols,
+    scope: &Scope,
+    mark: Mark,
+    tree: &Tree,
+    at: u32,
+) -> Result<Effect, SyntaxFault>
+    ensures { Gives effect_view result (effect_at (symbols_view symbols.now) (scope_view scope.now) mark (shape_of tree.now)) }
+{
+    match mark {
+        Mark::OverAll => Err(SyntaxFault::Shape(at)),
+        Mark::AtStart | Mark::AtEnd => read_joined(alloc, tree, symbols, true, scope),
+    }
+}
+
+impl Part for Timed<Effect> {
+    ghost Seen = { Rattle.tp_ast.specs.Effects.Timed Rattle.tp_ast.specs.Effects.Effect };
+
+    ghost seen = { timed_view effect_view };
+
+    ghost spelled = { λ σ duration within. marked (effect_at σ within) };
+
+    #[tactic(auto, unfolding(tp_ast::specs::Effects::marked))]
+    fn read(
+        alloc: Global,
+        symbols: &Symbols,
+        _duration: bool,
+        scope: &Scope,
+        word: &Token,
+        args: &[Tree],
+        at: u32,
+    ) -> Result<Timed<Effect>, SyntaxFault> {
+        let Some((mark, tree)) = marked_tree(word, args) else {
+            return Err(unmarked_fault(word, args, at));
+        };
+        let what = effect_at(alloc, symbols, scope, mark, tree, at)?;
+        Ok(Timed { mark, what })
+    }
+}
+
+/// The condition of a durative action that a tree spells.
+pub fn read_timed_cond(
+    alloc: Global,
+    tree: &Tree,
+    symbols: &Symbols,
+    scope: &Scope,
+) -> Result<TimedCond, SyntaxFault>
+    ensures { Gives timed_condition_view result (timed_condition_of (symbols_view symbols.now) (scope_view scope.now) (shape_of tree.now)) }
+{
+    read_joined(alloc, tree, symbols, false, scope)
+}
+
+/// The effect of a durative action that a tree spells.
+pub fn read_timed_effect(
+    alloc: Global,
+    tree: &Tree,
+    symbols: &Symbols,
+    scope: &Scope,
+) -> Result<TimedEffect, SyntaxFault>
+    ensures { Gives timed_effect_view result (timed_effect_of (symbols_view symbols.now) (scope_view scope.now) (shape_of tree.now)) }
+{
+    read_joined(alloc, tree, symbols, true, scope)
+}

@@ -1,8 +1,0 @@
-use Rattle.std.proofs.Common.{◌∷◌, map, take}
-use Rattle.tp_syntax.specs.Symbols.{parent_view}
-use Rattle.tp_syntax.specs.Domains.{object}
-use Rattle.tp_syntax.specs.FormViews.{Knows}
-use Rattle.tp_syntax.proofs.type_reader.known_names.Given as goal
-
-abbrev pub invariant-loop-declared : goal.invariant-loop-declared
-invariant-loop-declared l = Knows l.known.keys (object ∷ map (λ p. p.name) (map parent_view (take l.declared-index l.types)))

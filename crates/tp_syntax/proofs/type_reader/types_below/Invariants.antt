@@ -1,7 +1,0 @@
-use Rattle.std.proofs.Common.{◌≡◌, map, take}
-use Rattle.tp_syntax.specs.Symbols.{parent_view, typed_view}
-use Rattle.tp_syntax.specs.Domains.{type_below}
-use Rattle.tp_syntax.proofs.type_reader.types_below.Given as goal
-
-abbrev pub invariant-loop-item : goal.invariant-loop-item
-invariant-loop-item l = map parent_view l.types.items ≡ map type_below (map typed_view (take l.item-index l.items))

@@ -1,7 +1,0 @@
-use Rattle.std.proofs.Common.{◌≡◌, map, filter, not, take}
-use Rattle.tp_syntax.specs.Symbols.{parent_view}
-use Rattle.tp_syntax.specs.Domains.{is_object}
-use Rattle.tp_syntax.proofs.type_reader.without_object.Given as goal
-
-abbrev pub invariant-loop-declared : goal.invariant-loop-declared
-invariant-loop-declared l = map parent_view l.types.items ≡ filter (λ p. not (is_object p)) (map parent_view (take l.declared-index l.listed))

@@ -1,0 +1,35 @@
+//! What the actions of a domain and a problem may name.
+
+ghost use Rattle.std.specs.Prelude.{◌≡◌, ◌++◌, map, IfOk};
+ghost use Rattle.tp_ast.specs.Symbols.{typed_view, form_view};
+ghost use Rattle.tp_types.specs.TypeViews.{types_view};
+ghost use Rattle.tp_names.specs.SymbolViews.{symbols_view};
+ghost use Rattle.tp_syntax.specs.SectionViews.{domain_symbols};
+
+use std::alloc::{AllocError, Global};
+use tp_ast::symbols::{Signature, Typed};
+use tp_names::symbols::Symbols;
+use tp_types::lookup::Lookup;
+use tp_types::types::Types;
+
+/// Types and objects that are found, beside predicates and functions.
+pub fn with_signatures<'d>(
+    alloc: Global,
+    types: Types<'d>,
+    constants: Lookup<'d, Typed>,
+    objects: Lookup<'d, Typed>,
+    predicates: &'d [Signature],
+    functions: &'d [Signature],
+) -> Result<Symbols<'d>, AllocError>
+    ensures { IfOk result (λ s. symbols_view s ≡ domain_symbols (types_view types.entry) (map typed_view constants.entry ++ map typed_view objects.entry) (map form_view predicates.now) (map form_view functions.now)) }
+{
+    let predicates = Lookup::new(alloc, predicates)?;
+    let functions = Lookup::new(alloc, functions)?;
+    Ok(Symbols {
+        types,
+        constants,
+        objects,
+        predicates,
+        functions,
+    })
+}

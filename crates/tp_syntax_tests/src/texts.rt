@@ -1,0 +1,95 @@
+//! Small domains, and what reading answers to a text.
+
+use std::alloc::Global;
+use std::str::from_utf8;
+use std::test::Fail;
+use tp_syntax::{Domain, SyntaxFault, read_domain, read_problem};
+
+pub const MATCH: &str = "(define (domain match)
+ (:requirements :typing :durative-actions)
+ (:types match fuse)
+ (:predicates (light) (unused ?m - match) (mended ?f - fuse))
+ (:durative-action light-match :parameters (?m - match)
+  :duration (= ?duration 8)
+  :condition (and (at start (unused ?m)))
+  :effect (and (at start (not (unused ?m))) (at start (light))
+               (at end (not (light)))))
+ (:durative-action mend-fuse :parameters (?f - fuse)
+  :duration (= ?duration 5)
+  :condition (over all (light))
+  :effect (at end (mended ?f))))";
+
+pub const TOGGLE: &str = "(define (domain toggle)
+ (:predicates (p) (q) (done))
+ (:action need :parameters () :precondition (p) :effect (done))
+ (:action drop :parameters () :effect (not (p)))
+ (:action give :parameters () :effect (q))
+ (:durative-action watch :parameters () :duration (= ?duration 5)
+  :condition (over all (or (p) (q))) :effect (at end (done))))";
+
+pub const TANK: &str = "(define (domain tank)
+ (:functions (level))
+ (:action fill-a :parameters () :effect (increase (level) 1))
+ (:action fill-b :parameters () :effect (increase (level) 2))
+ (:durative-action hold :parameters () :duration (>= ?duration 1)
+  :condition (over all (<= (level) 3)) :effect ()))";
+
+pub const CHARGE: &str = "(define (domain charge)
+ (:predicates (full))
+ (:functions (e))
+ (:durative-action charge :parameters ()
+  :duration (and (>= ?duration 2) (<= ?duration 6))
+  :effect (at end (increase (e) (* ?duration 2))))
+ (:durative-action rest :parameters ()
+  :duration (and (>= ?duration 2) (<= ?duration 6))
+  :effect (at end (full))))";
+
+/// Fuses, matches and two numbers: the domain of the problems.
+pub const FUSES: &str = "(define (domain match)
+ (:types match fuse)
+ (:constants spare - fuse)
+ (:predicates (light) (unused ?m - match) (mended ?f - fuse) (at ?f - fuse ?m - match))
+ (:functions (level) (length ?f - fuse)))";
+
+/// Why a text is no domain, if it is none.
+pub fn refusal(alloc: Global, text: &str) -> Option<SyntaxFault> {
+    match read_domain(alloc, text) {
+        Ok(_) => None,
+        Err(fault) => Some(fault),
+    }
+}
+
+// The bytes but those of marks '^', and where the first mark stands.
+fn without_mark(alloc: Global, marked: &[u8]) -> Result<(u32, Vec<u8>), Fail> {
+    let mut place = 0u32;
+    let mut found = false;
+    let mut text = Vec::new(alloc);
+    for byte in marked {
+        if *byte == b'^' {
+            found = true;
+        } else {
+            if !found {
+                place = place.saturating_add(1);
+            }
+            text.push(*byte)?;
+        }
+    }
+    Ok((place, text))
+}
+
+/// Why a text is no domain, and where it has a mark '^', which stands for nothing.
+pub fn fault_of(alloc: Global, marked: &str) -> Result<(Option<SyntaxFault>, u32), Fail> {
+    let (place, bytes) = without_mark(alloc, marked.as_bytes())?;
+    let text = from_utf8(&bytes).map_err(|_| "no text")?;
+    Ok((refusal(alloc, text), place))
+}
+
+/// The number of the first of these texts that is not refused for its fault as a problem of the domain.
+pub fn first_other(alloc: Global, domain: &Domain, rows: &[(&str, SyntaxFault)]) -> Option<usize> {
+    for (number, (text, fault)) in rows.iter().enumerate() {
+        if read_problem(alloc, *text, domain).err() != Some(*fault) {
+            return Some(number);
+        }
+    }
+    None
+}

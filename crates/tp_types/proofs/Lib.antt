@@ -1,0 +1,4 @@
+pub mod OnPairs
+pub mod OnTables
+pub mod OnCircles
+pub mod OnJumps

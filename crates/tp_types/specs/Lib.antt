@@ -1,0 +1,5 @@
+pub mod Tables
+pub mod Circles
+pub mod Jumps
+pub mod TypeTables
+pub mod TypeViews

@@ -1,0 +1,209 @@
+//! Jumps from types to types further up, by which a climb takes few steps.
+
+ghost use Rattle.std.specs.Prelude.{◌≡◌, map, length, option_map, string_bytes, true, IfSome};
+ghost use Rattle.std.specs.List.{list_all};
+ghost use Rattle.tp_types.specs.Circles.{type_name, is_ranked};
+ghost use Rattle.tp_types.specs.Jumps.{jump_of, is_jump, IsAbove};
+ghost use Rattle.tp_ast.specs.Symbols.{parent_view, at_or_below};
+ghost use Rattle.tp_types.specs.Tables.{IsTable};
+
+use crate::circles::{parent_of, rank_of};
+use indexmap::IndexMap;
+use std::alloc::{AllocError, Global};
+use tp_ast::types::TypeName;
+
+/// The name of a type that is declared, as it stands there.
+pub fn own_name<'a>(
+    types: &'a [TypeName],
+    places: &IndexMap<&'a str, usize>,
+    name: &str,
+) -> Option<&'a String>
+    ensures { IfSome result (λ n. string_bytes n.now ≡ name.now) }
+{
+    let Some(place) = places.get(name) else {
+        return None;
+    };
+    let Some(declared) = types.get(*place) else {
+        return None;
+    };
+    if declared.name.as_str() == name {
+        return Some(&declared.name);
+    }
+    None
+}
+
+fn jump_of<'a>(
+    types: &'a [TypeName],
+    places: &IndexMap<&'a str, usize>,
+    jumps: &[usize],
+    name: &str,
+) -> Option<&'a String>
+    requires { IsTable places.now (map type_name types.now) }
+    ensures { option_map (λ j. string_bytes j.now) result ≡ jump_of types.now jumps.now name.now }
+{
+    let Some(place) = places.get(name) else {
+        return None;
+    };
+    let Some(jump) = jumps.get(*place) else {
+        return None;
+    };
+    let Some(declared) = types.get(*jump) else {
+        return None;
+    };
+    Some(&declared.name)
+}
+
+// Whether a type's jump, if it has one, leads to its parent, or where two jumps from the parent lead.
+fn is_jump<'a>(
+    types: &'a [TypeName],
+    places: &IndexMap<&'a str, usize>,
+    jumps: &[usize],
+    name: &str,
+) -> bool
+    requires { IsTable places.now (map type_name types.now) }
+    ensures { result ≡ is_jump types.now jumps.now name.now }
+{
+    let Some(jump) = jump_of(types, places, jumps, name) else {
+        return true;
+    };
+    let Some(parent) = parent_of(types, places, name) else {
+        return false;
+    };
+    if parent.as_str() == jump.as_str() {
+        return true;
+    }
+    let Some(first) = jump_of(types, places, jumps, parent.as_str()) else {
+        return false;
+    };
+    let Some(second) = jump_of(types, places, jumps, first.as_str()) else {
+        return false;
+    };
+    second.as_str() == jump.as_str()
+}
+
+pub fn are_jumps<'a>(
+    types: &'a [TypeName],
+    places: &IndexMap<&'a str, usize>,
+    jumps: &[usize],
+) -> bool
+    requires { IsTable places.now (map type_name types.now) }
+    ensures { result ≡ list_all (is_jump types.now jumps.now) (map type_name types.now) }
+{
+    for declared in types {
+        if !is_jump(types, places, jumps, declared.name.as_str()) {
+            return false;
+        }
+    }
+    true
+}
+
+// The rank of the type at a place.
+fn rank_at(ranks: &[usize], place: usize) -> usize {
+    ranks.get(place).copied().unwrap_or(0)
+}
+
+// The jump of the type at a place, or else the place.
+fn jump_at(jumps: &[usize], place: usize) -> usize {
+    match jumps.get(place) {
+        Some(jump) if *jump < jumps.len() => *jump,
+        _ => place,
+    }
+}
+
+// Where to jump from a type whose parent is at a place: as far as two jumps from there, if these are of one length.
+fn jump_above(ranks: &[usize], jumps: &[usize], parent: usize) -> usize {
+    let first = jump_at(jumps, parent);
+    let second = jump_at(jumps, first);
+    let near = rank_at(ranks, parent).saturating_sub(rank_at(ranks, first));
+    let far = rank_at(ranks, first).saturating_sub(rank_at(ranks, second));
+    if near == far { second } else { parent }
+}
+
+/// A place further up for each type, so chosen that a climb takes few steps. A type below `object` alone has none.
+pub fn jumps<'a>(
+    alloc: Global,
+    types: &'a [TypeName],
+    places: &IndexMap<&'a str, usize>,
+    ranks: &[usize],
+) -> Result<Vec<usize>, AllocError> {
+    let mut order = Vec::new(alloc);
+    for (place, rank) in ranks.iter().enumerate() {
+        order.push((*rank, place))?;
+    }
+    order.sort()?;
+    let mut jumps = vec![in alloc; types.len(); types.len()]?;
+    for (_, place) in order {
+        let Some(declared) = types.get(place) else {
+            return Ok(jumps);
+        };
+        if let Some(parent) = places.get(declared.parent.as_str()) {
+            let above = jump_above(ranks, &jumps, *parent);
+            if let Some(jump) = jumps.get_mut(place) {
+                *jump = above;
+            }
+        }
+    }
+    Ok(jumps)
+}
+
+// A type above another: where a jump leads, unless that is above a rank, or else the parent.
+fn next_up<'a>(
+    types: &'a [TypeName],
+    places: &IndexMap<&'a str, usize>,
+    ranks: &[usize],
+    jumps: &[usize],
+    name: &str,
+    least: usize,
+) -> Option<&'a String>
+    requires table { IsTable places.now (map type_name types.now) }
+    requires ranked { list_all (is_ranked types.now ranks.now) (map type_name types.now) ≡ true }
+    requires jumps { list_all (is_jump types.now jumps.now) (map type_name types.now) ≡ true }
+    ensures { IfSome result (λ q. IsAbove types.now ranks.now name.now (string_bytes q.now)) }
+{
+    if let Some(jump) = jump_of(types, places, jumps, name) {
+        if let Some(rank) = rank_of(types, places, ranks, jump.as_str()) {
+            if rank >= least {
+                return Some(jump);
+            }
+        }
+    }
+    parent_of(types, places, name)
+}
+
+/// Whether a type is another, or stands below it. Nothing where one of them has no rank.
+pub fn climb<'a>(
+    types: &'a [TypeName],
+    places: &IndexMap<&'a str, usize>,
+    ranks: &[usize],
+    jumps: &[usize],
+    start: &'a str,
+    above: &str,
+) -> Option<bool>
+    requires table { IsTable places.now (map type_name types.now) }
+    requires ranked { list_all (is_ranked types.now ranks.now) (map type_name types.now) ≡ true }
+    requires jumps { list_all (is_jump types.now jumps.now) (map type_name types.now) ≡ true }
+    ensures { IfSome result (λ b. b ≡ at_or_below (map parent_view types.now) (length types.now) start.now above.now) }
+{
+    let Some(least) = rank_of(types, places, ranks, above) else {
+        return None;
+    };
+    let Some(first) = rank_of(types, places, ranks, start) else {
+        return None;
+    };
+    let mut current = start;
+    let mut left = first;
+    'up: while left > least {
+        let Some(next) = next_up(types, places, ranks, jumps, current, least) else {
+            return None;
+        };
+        let Some(rank) = rank_of(types, places, ranks, next.as_str()) else {
+            return None;
+        };
+        if rank < least || left <= rank {
+            return None;
+        }
+        current = next.as_str();
+        left = rank;
+    }
+    Some(current == above)
+}

@@ -1,0 +1,9 @@
+//! Names found by tables, and the order among types.
+#![tactic(auto)]
+
+pub mod circles;
+pub mod jumps;
+pub mod lookup;
+pub mod once;
+pub mod table;
+pub mod types;

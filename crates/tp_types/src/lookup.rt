@@ -1,0 +1,90 @@
+//! What is declared under a name.
+
+ghost use Rattle.std.specs.Prelude.{◌≡◌, map, option_map, IfOk};
+ghost use Rattle.tp_types.specs.Tables.{IsTable, item_of};
+
+use crate::table::{Named, places};
+use indexmap::IndexMap;
+use std::alloc::{AllocError, Global};
+use std::marker::Model;
+
+/// A list whose items are found by their names: in a table, or else by a walk over the list.
+#[derive(Drop)]
+pub struct Lookup<'a, T: Named> {
+    items: &'a [T],
+    places: Option<IndexMap<&'a str, usize>>,
+}
+
+impl<'a, T: Named> Model for Lookup<'a, T> {
+    ghost use Rattle.std.specs.Prelude.{List, map};
+
+    ghost Value = { List T };
+
+    ghost use Rattle.tp_types.specs.Tables.{IsTableIfAny};
+
+    ghost view = { λ l. l.items.now };
+
+    ghost invariant = { λ l. IsTableIfAny l.places (map T.named l.items.now) };
+}
+
+/// The first item of a name, by a walk.
+pub fn first_named<'a, T: Named>(items: &'a [T], name: &str) -> Option<&'a T>
+    ensures { option_map (λ t. t.now) result ≡ item_of T.named name.now items.now }
+{
+    for item in items {
+        if item.name() == name {
+            return Some(item);
+        }
+    }
+    None
+}
+
+fn at_place<'a, T: Named>(
+    items: &'a [T],
+    places: &IndexMap<&'a str, usize>,
+    name: &str,
+) -> Option<&'a T>
+    requires { IsTable places.now (map T.named items.now) }
+    ensures { option_map (λ t. t.now) result ≡ item_of T.named name.now items.now }
+{
+    let Some(place) = places.get(name) else {
+        return None;
+    };
+    let Some(item) = items.get(*place) else {
+        return None;
+    };
+    Some(item)
+}
+
+impl<'a, T: Named> Lookup<'a, T> {
+    /// A list with no table, for which no memory is wanted.
+    pub fn listed(items: &'a [T]) -> Self
+        ensures { result ≡ items.now }
+    {
+        Lookup {
+            items,
+            places: None,
+        }
+    }
+
+    /// A list with a table: a name is found as fast however many there are.
+    pub fn new(alloc: Global, items: &'a [T]) -> Result<Self, AllocError>
+        ensures { IfOk result (λ l. l ≡ items.now) }
+    {
+        let places = places(alloc, items)?;
+        Ok(Lookup {
+            items,
+            places: Some(places),
+        })
+    }
+
+    /// The first item of a name.
+    pub fn find(&self, name: &str) -> Option<&'a T>
+        ensures { option_map (λ t. t.now) result ≡ item_of T.named name.now self.now }
+    {
+        match &self.places {
+            Some(places) => at_place(self.items, places, name),
+            None => first_named(self.items, name),
+        }
+    }
+}

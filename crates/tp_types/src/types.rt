@@ -1,0 +1,213 @@
+//! Types and the order among them.
+
+ghost use Rattle.std.specs.Prelude.{◌≡◌, map, option_map, string_bytes, length, IfOk, IfSome};
+ghost use Rattle.std.specs.List.{list_any, list_all};
+ghost use Rattle.tp_ast.specs.Symbols.{parent_view, parent_of, at_or_below, types_fit};
+ghost use Rattle.tp_types.specs.TypeViews.{types_view};
+ghost use Rattle.tp_ast.specs.TypedLists.{is_type};
+
+use crate::circles::{are_ranked, parent_of as parent_in, ranks};
+use crate::jumps::{are_jumps, climb, jumps, own_name};
+use crate::table::{Named, places};
+use indexmap::IndexMap;
+use std::alloc::{AllocError, Global};
+use std::marker::Model;
+use std::rc::Rc;
+use tp_ast::types::TypeName;
+
+/// The types that a domain declares.
+#[derive(Drop)]
+pub struct Types<'a> {
+    declared: &'a [TypeName],
+    table: Option<TypeTable<'a>>,
+}
+
+// Where each type stands, its rank, and the place of a type further up.
+#[derive(Drop)]
+pub struct TypeTable<'a> {
+    pub places: IndexMap<&'a str, usize>,
+    pub ranks: Vec<usize>,
+    pub jumps: Vec<usize>,
+}
+
+impl<'a> Model for Types<'a> {
+    ghost use Rattle.std.specs.Prelude.{List};
+    ghost use Rattle.tp_ast.specs.declared.types.TypeName.{TypeName};
+
+    ghost Value = { List TypeName };
+
+    ghost use Rattle.tp_types.specs.TypeTables.{IsTypeTableIfAny};
+
+    ghost view = { λ t. t.declared.now };
+
+    ghost invariant = { λ t. IsTypeTableIfAny t.declared.now t.table };
+}
+
+impl<'a> Types<'a> {
+    /// Types with no table, for which no memory is wanted: each look-up walks over them.
+    pub fn listed(declared: &'a [TypeName]) -> Types<'a>
+        ensures { types_view result ≡ map parent_view declared.now }
+    {
+        Types {
+            declared,
+            table: None,
+        }
+    }
+
+    /// Types with a table: a parent is found as fast however many there are, and a climb takes few steps.
+    pub fn new(alloc: Global, declared: &'a [TypeName]) -> Result<Types<'a>, AllocError>
+        ensures { IfOk result (λ t. types_view t ≡ map parent_view declared.now) }
+    {
+        let places = places(alloc, declared)?;
+        let ranks = ranks(alloc, declared, &places)?;
+        let jumps = jumps(alloc, declared, &places, &ranks)?;
+        // Types that lead round in a circle have no ranks: they are walked over.
+        if !are_ranked(declared, &places, &ranks) {
+            return Ok(Types::listed(declared));
+        }
+        if !are_jumps(declared, &places, &jumps) {
+            return Ok(Types::listed(declared));
+        }
+        let table = TypeTable {
+            places,
+            ranks,
+            jumps,
+        };
+        Ok(Types {
+            declared,
+            table: Some(table),
+        })
+    }
+
+    fn len(&self) -> usize
+        ensures { result ≡ length self.now }
+    {
+        self.declared.len()
+    }
+}
+
+fn parent_among<'a>(name: &str, types: &'a [TypeName]) -> Option<&'a String>
+    ensures { option_map (λ p. string_bytes p.now) result ≡ parent_of name.now (map parent_view types.now) }
+{
+    for declared in types {
+        if declared.name.as_str() == name {
+            return Some(declared.parent.as_ref());
+        }
+    }
+    None
+}
+
+fn parent_of<'a>(name: &str, types: &Types<'a>) -> Option<&'a String>
+    ensures { option_map (λ p. string_bytes p.now) result ≡ parent_of name.now (types_view types.now) }
+{
+    match &types.table {
+        Some(table) => parent_in(types.declared, &table.places, name),
+        None => parent_among(name, types.declared),
+    }
+}
+
+// What a climb by jumps tells, if there is a table: whether a type is another, or stands below it.
+fn climbed(types: &Types, below: &str, above: &str) -> Option<bool>
+    ensures { IfSome result (λ b. b ≡ at_or_below (types_view types.now) (length types.now) below.now above.now) }
+{
+    let Some(table) = &types.table else {
+        return None;
+    };
+    let Some(start) = own_name(types.declared, &table.places, below) else {
+        return None;
+    };
+    climb(
+        types.declared,
+        &table.places,
+        &table.ranks,
+        &table.jumps,
+        start.as_str(),
+        above,
+    )
+}
+
+fn climbs(types: &Types, steps: usize, below: &String, above: &str) -> bool
+    ensures { result ≡ at_or_below (types_view types.now) steps (string_bytes below.now) above.now }
+{
+    let mut current = below;
+    let mut left = steps;
+    'up: while left > 0 {
+        if current.as_str() == above {
+            return true;
+        }
+        let Some(parent) = parent_of(current.as_str(), types) else {
+            return false;
+        };
+        current = parent;
+        left -= 1;
+    }
+    current.as_str() == above
+}
+
+// Whether a type is another, or stands below it in at most so many steps.
+fn at_or_below(types: &Types, steps: usize, below: &str, above: &str) -> bool
+    ensures { result ≡ at_or_below (types_view types.now) steps below.now above.now }
+{
+    if below == above {
+        return true;
+    }
+    if steps == 0 {
+        return false;
+    }
+    match parent_of(below, types) {
+        None => false,
+        Some(parent) => climbs(types, steps - 1, parent, above),
+    }
+}
+
+// Whether a type is another, or stands below it.
+fn is_below(types: &Types, below: &str, above: &str) -> bool
+    ensures { result ≡ at_or_below (types_view types.now) (length types.now) below.now above.now }
+{
+    match climbed(types, below, above) {
+        Some(is_below) => is_below,
+        None => at_or_below(types, types.len(), below, above),
+    }
+}
+
+// Whether a type is at or below one of these.
+fn type_fits(types: &Types, below: &str, parameter: &[String]) -> bool
+    ensures { result ≡ list_any (λ p. at_or_below (types_view types.now) (length types.now) below.now p) (map string_bytes parameter.now) }
+{
+    for above in parameter {
+        if is_below(types, below, above.as_str()) {
+            return true;
+        }
+    }
+    false
+}
+
+// Whether each of some types is at or below one of these.
+pub fn types_fit(types: &Types, argument: &[String], parameter: &[String]) -> bool
+    ensures { result ≡ types_fit (types_view types.now) (map string_bytes argument.now) (map string_bytes parameter.now) }
+{
+    for below in argument {
+        if !type_fits(types, below.as_str(), parameter) {
+            return false;
+        }
+    }
+    true
+}
+
+/// Whether a type is declared.
+pub fn is_type(types: &Types, name: &str) -> bool
+    ensures { result ≡ is_type (types_view types.now) name.now }
+{
+    name == "object" || parent_of(name, types).is_some()
+}
+
+pub fn are_types(types: &Types, names: &[String]) -> bool
+    ensures { result ≡ list_all (is_type (types_view types.now)) (map string_bytes names.now) }
+{
+    for name in names {
+        if !is_type(types, name.as_str()) {
+            return false;
+        }
+    }
+    true
+}
