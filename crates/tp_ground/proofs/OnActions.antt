@@ -5,8 +5,8 @@ use Rattle.std.proofs.lemmas.List.{map-append, take_more, take-append-drop}
 use Rattle.tp_syntax.specs.Symbols.{Name, Declared, typed_view}
 use Rattle.tp_syntax.specs.Actions as actions
 use Rattle.tp_syntax.specs.DomainViews.{action_view}
-use Rattle.tp_syntax.specs.declared.symbols.Typed.{Typed}
-use Rattle.tp_syntax.specs.declared.action.Action.{Action}
+use Rattle.tp_ast.specs.declared.symbols.Typed.{Typed}
+use Rattle.tp_ast.specs.declared.action.Action.{Action}
 use Rattle.tp_ground.specs.Views.{env_view}
 use Rattle.tp_ground.specs.Bindings.{Universe, Env, bindings, bound}
 use Rattle.tp_ground.specs.Written.{GroundBody, body_in}

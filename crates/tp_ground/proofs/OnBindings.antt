@@ -8,7 +8,7 @@ use Rattle.std.proofs.lemmas.Bool.{ltb-true, ltb-false}
 use Rattle.std.proofs.lemmas.List.{map-append, length-map, at_drop_more}
 use Rattle.std.proofs.lemmas.List.Elements.{filter-append}
 use Rattle.tp_syntax.specs.Symbols.{Name, Declared, Parent, typed_view, types_fit}
-use Rattle.tp_syntax.specs.declared.symbols.Typed.{Typed}
+use Rattle.tp_ast.specs.declared.symbols.Typed.{Typed}
 use Rattle.tp_ground.specs.Bindings.{Universe, fitting, choices, has_no_choice, extended, bindings}
 
 pub fitting-append : (types : List Parent) (xs ys : List Declared) (p : Declared) → fitting types (xs ++ ys) p ≡ fitting types xs p ++ fitting types ys p

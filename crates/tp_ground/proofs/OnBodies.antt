@@ -3,14 +3,14 @@ use Rattle.std.proofs.Common.{◌≡◌, List, [], map, Result, IsErrAnd, Vec, G
 use Rattle.tp_syntax.specs.RuleViews.{rule_view}
 use Rattle.tp_syntax.specs.EffectViews.{timed_condition_view, timed_effect_view}
 use Rattle.tp_syntax.specs.DomainViews.{body_view}
-use Rattle.tp_syntax.specs.declared.rule.DurationRule.{DurationRule}
-use Rattle.tp_syntax.specs.declared.joined.Joined.{Joined}
-use Rattle.tp_syntax.specs.declared.timed.Timed.{Timed}
-use Rattle.tp_syntax.specs.declared.effect.Outcome.{Outcome}
-use Rattle.tp_syntax.specs.declared.cond.Cond as syntax_conds
-use Rattle.tp_syntax.specs.declared.action.Body as syntax
-use Rattle.tp_syntax.specs.declared.action.Body.TheVariants as bodies
-use Rattle.tp_syntax.specs.declared.words.Mark.TheVariants.{OverAll}
+use Rattle.tp_ast.specs.declared.rule.DurationRule.{DurationRule}
+use Rattle.tp_ast.specs.declared.joined.Joined.{Joined}
+use Rattle.tp_ast.specs.declared.timed.Timed.{Timed}
+use Rattle.tp_ast.specs.declared.effect.Outcome.{Outcome}
+use Rattle.tp_ast.specs.declared.cond.Cond as syntax_conds
+use Rattle.tp_ast.specs.declared.action.Body as syntax
+use Rattle.tp_ast.specs.declared.action.Body.TheVariants as bodies
+use Rattle.tp_ast.specs.declared.words.Mark.TheVariants.{OverAll}
 use Rattle.tp_ground.specs.Bindings.{Universe, Env}
 use Rattle.tp_ground.specs.Tables.{Tables}
 use Rattle.tp_ground.specs.Written.{GroundCondition, GroundOutcome, GroundLimit, GroundHappening, instant, durative, happening, condition_at, start_in, end_in, body_in}

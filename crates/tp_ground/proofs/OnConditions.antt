@@ -5,12 +5,12 @@ use Rattle.tp_syntax.specs.Symbols.{typed_view}
 use Rattle.tp_syntax.specs.Conditions as conditions
 use Rattle.tp_syntax.specs.ExprViews.{expr_view}
 use Rattle.tp_syntax.specs.CondViews.{cond_view}
-use Rattle.tp_syntax.specs.declared.words.Comparison.{Comparison}
-use Rattle.tp_syntax.specs.declared.term.Atom.{Atom}
-use Rattle.tp_syntax.specs.declared.term.Term.{Term}
-use Rattle.tp_syntax.specs.declared.expr.Expr.{Expr}
-use Rattle.tp_syntax.specs.declared.symbols.Typed.{Typed}
-use Rattle.tp_syntax.specs.declared.cond.Cond as syntax
+use Rattle.tp_ast.specs.declared.words.Comparison.{Comparison}
+use Rattle.tp_ast.specs.declared.term.Atom.{Atom}
+use Rattle.tp_ast.specs.declared.term.Term.{Term}
+use Rattle.tp_ast.specs.declared.expr.Expr.{Expr}
+use Rattle.tp_ast.specs.declared.symbols.Typed.{Typed}
+use Rattle.tp_ast.specs.declared.cond.Cond as syntax
 use Rattle.std.specs.Str.{bytes_eq}
 use Rattle.tp_syntax.specs.Terms.{Argument}
 use Rattle.tp_ground.specs.Bindings.{Universe, Env, object_for, words_in}

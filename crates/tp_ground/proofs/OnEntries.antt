@@ -2,9 +2,9 @@
 use Rattle.std.proofs.Common.{◌≡◌, ℤ, [], sym, subst, rules}
 use Rattle.tp_syntax.specs.Terms.{atom_view}
 use Rattle.tp_syntax.specs.DomainViews.{initial_view}
-use Rattle.tp_syntax.specs.declared.term.Atom.{Atom}
-use Rattle.tp_syntax.specs.declared.problem.Initial.{Initial}
-use Rattle.tp_syntax.specs.declared.problem.Initial.TheVariants.{Holds, Fails, HasValue}
+use Rattle.tp_ast.specs.declared.term.Atom.{Atom}
+use Rattle.tp_ast.specs.declared.problem.Initial.{Initial}
+use Rattle.tp_ast.specs.declared.problem.Initial.TheVariants.{Holds, Fails, HasValue}
 use Rattle.tp_ground.specs.Bindings.{Env, words_in}
 use Rattle.tp_ground.specs.Views.{env_view}
 use Rattle.tp_ground.specs.Tables.{Tables}

@@ -2,8 +2,8 @@
 use Rattle.std.proofs.Common.{◌≡◌, ℕ, ℤ, Box, Global, sym, ap, ◌∙◌, rules}
 use Rattle.tp_syntax.specs.Terms.{atom_view}
 use Rattle.tp_syntax.specs.ExprViews.{expr_view}
-use Rattle.tp_syntax.specs.declared.term.Atom.{Atom}
-use Rattle.tp_syntax.specs.declared.expr.Expr as syntax
+use Rattle.tp_ast.specs.declared.term.Atom.{Atom}
+use Rattle.tp_ast.specs.declared.expr.Expr as syntax
 use Rattle.tp_ground.specs.Bindings.{Env, words_in}
 use Rattle.tp_ground.specs.Tables.{Tables, words_at}
 use Rattle.tp_ground.specs.Written.{GroundExpression, number, fluent, the_duration, negative, sum, difference, product, expression_in}

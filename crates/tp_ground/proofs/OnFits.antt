@@ -8,8 +8,8 @@ use Rattle.tp_syntax.specs.Parts.{Joined, Parts, all_parts, for_each, one, no_pa
 use Rattle.tp_syntax.specs.Effects as effects
 use Rattle.tp_syntax.specs.Effects.{Outcome, Effect, Timed}
 use Rattle.tp_syntax.specs.Actions as actions
-use Rattle.tp_syntax.specs.declared.words.Mark.{Mark}
-use Rattle.tp_syntax.specs.declared.words.Mark.TheVariants.{AtStart, AtEnd}
+use Rattle.tp_ast.specs.declared.words.Mark.{Mark}
+use Rattle.tp_ast.specs.declared.words.Mark.TheVariants.{AtStart, AtEnd}
 use Rattle.tp_ground.specs.Words.{Words}
 use Rattle.tp_ground.specs.Bindings.{Universe, Env}
 use Rattle.tp_ground.specs.Tables.{Tables, words_at}

@@ -4,16 +4,16 @@ use Rattle.std.specs.List.{list_any}
 use Rattle.std.proofs.lemmas.List.{at_drop_all}
 use Rattle.tp_syntax.specs.Conditions.{all_of, any_of, conditions}
 use Rattle.tp_syntax.specs.CondViews.{cond_view}
-use Rattle.tp_syntax.specs.declared.cond.Cond as conds
-use Rattle.tp_syntax.specs.declared.cond.Cond.{Cond}
+use Rattle.tp_ast.specs.declared.cond.Cond as conds
+use Rattle.tp_ast.specs.declared.cond.Cond.{Cond}
 use Rattle.tp_syntax.specs.Parts.{all_parts, parts}
 use Rattle.tp_syntax.specs.PartViews.{joined_view}
-use Rattle.tp_syntax.specs.declared.joined.Joined as joins
-use Rattle.tp_syntax.specs.declared.joined.Joined.{Joined}
+use Rattle.tp_ast.specs.declared.joined.Joined as joins
+use Rattle.tp_ast.specs.declared.joined.Joined.{Joined}
 use Rattle.tp_syntax.specs.Effects.{all_rules, rules_in}
 use Rattle.tp_syntax.specs.RuleViews.{rule_view}
-use Rattle.tp_syntax.specs.declared.rule.DurationRule as the_rules
-use Rattle.tp_syntax.specs.declared.rule.DurationRule.{DurationRule}
+use Rattle.tp_ast.specs.declared.rule.DurationRule as the_rules
+use Rattle.tp_ast.specs.declared.rule.DurationRule.{DurationRule}
 use Rattle.tp_ground.specs.Great.{great_condition, great_conditions, great_part, great_parts, great_rule, great_rules}
 
 -- a loop that has seen none so far sees none

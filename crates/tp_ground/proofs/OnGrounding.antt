@@ -4,7 +4,7 @@ use Rattle.std.proofs.lemmas.List.{map-append, at_drop_more}
 use Rattle.tp_syntax.specs.Symbols.{Name, typed_view}
 use Rattle.tp_syntax.specs.Actions as actions
 use Rattle.tp_syntax.specs.DomainViews.{action_view}
-use Rattle.tp_syntax.specs.declared.action.Action.{Action}
+use Rattle.tp_ast.specs.declared.action.Action.{Action}
 use Rattle.tp_ground.specs.Words.{Words}
 use Rattle.tp_ground.specs.Bindings.{Universe, bindings}
 use Rattle.tp_ground.specs.Grounding.{ground_action, ground_actions}

@@ -2,7 +2,7 @@
 use Rattle.std.proofs.Common.{◌≡◌, List, [], ◌∷◌, ◌++◌, map, Bor, Vec, Global, refl, ap, ◌∙◌}
 use Rattle.std.specs.List.{flat_map}
 use Rattle.tp_syntax.specs.Symbols.{Name, Declared, typed_view}
-use Rattle.tp_syntax.specs.declared.symbols.Typed.{Typed}
+use Rattle.tp_ast.specs.declared.symbols.Typed.{Typed}
 use Rattle.tp_ground.specs.Views.{env_view}
 use Rattle.tp_ground.specs.declared.environment.Env as code
 use Rattle.tp_ground.proofs.OnEnvironments.{env_Inner}

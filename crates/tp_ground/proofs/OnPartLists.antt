@@ -9,13 +9,13 @@ use Rattle.tp_syntax.specs.PartViews.{joined_view}
 use Rattle.tp_syntax.specs.Effects.{all_rules, rule, rules_in}
 use Rattle.tp_syntax.specs.ExprViews.{expr_view}
 use Rattle.tp_syntax.specs.RuleViews.{rule_view}
-use Rattle.tp_syntax.specs.declared.words.Comparison.{Comparison}
-use Rattle.tp_syntax.specs.declared.expr.Expr.{Expr}
-use Rattle.tp_syntax.specs.declared.symbols.Typed.{Typed}
-use Rattle.tp_syntax.specs.declared.joined.Joined as joins
-use Rattle.tp_syntax.specs.declared.joined.Joined.{Joined}
-use Rattle.tp_syntax.specs.declared.rule.DurationRule as the_rules
-use Rattle.tp_syntax.specs.declared.rule.DurationRule.{DurationRule}
+use Rattle.tp_ast.specs.declared.words.Comparison.{Comparison}
+use Rattle.tp_ast.specs.declared.expr.Expr.{Expr}
+use Rattle.tp_ast.specs.declared.symbols.Typed.{Typed}
+use Rattle.tp_ast.specs.declared.joined.Joined as joins
+use Rattle.tp_ast.specs.declared.joined.Joined.{Joined}
+use Rattle.tp_ast.specs.declared.rule.DurationRule as the_rules
+use Rattle.tp_ast.specs.declared.rule.DurationRule.{DurationRule}
 use Rattle.tp_ground.specs.Bindings.{Universe, Env, bound}
 use Rattle.tp_ground.proofs.OnInner.{names_of}
 use Rattle.tp_ground.specs.Written.{parts_in, all_parts_in, inner, limits_in, all_limits_in, comparison_of, expression_in}

@@ -9,8 +9,8 @@ use Rattle.tp_syntax.specs.Actions as actions
 use Rattle.tp_syntax.specs.Domains.{Domain}
 use Rattle.tp_syntax.specs.Problems.{Problem}
 use Rattle.tp_syntax.specs.DomainViews.{initial_view, action_view}
-use Rattle.tp_syntax.specs.declared.action.Action.{Action}
-use Rattle.tp_syntax.specs.declared.problem.Initial.{Initial}
+use Rattle.tp_ast.specs.declared.action.Action.{Action}
+use Rattle.tp_ast.specs.declared.problem.Initial.{Initial}
 use Rattle.tp_bounds.specs.RunLimits.{RunLimits}
 use Rattle.tp_text.specs.declared.number.Scale.{Scale}
 use Rattle.tp_ground.specs.Words.{Words, same_words, with_all, firsts}

@@ -8,8 +8,8 @@ use Rattle.tp_syntax.specs.Conditions as conditions
 use Rattle.tp_syntax.specs.Parts.{all_parts, part, no_parts, one}
 use Rattle.tp_syntax.specs.Effects as effects
 use Rattle.tp_syntax.specs.Actions as actions
-use Rattle.tp_syntax.specs.declared.words.Comparison.TheVariants as comparisons
-use Rattle.tp_syntax.specs.declared.words.Mark.TheVariants.{AtStart, AtEnd}
+use Rattle.tp_ast.specs.declared.words.Comparison.TheVariants as comparisons
+use Rattle.tp_ast.specs.declared.words.Mark.TheVariants.{AtStart, AtEnd}
 use Rattle.tp_ground.specs.declared.Comparison.TheVariants.{Equal}
 use Rattle.tp_ground.specs.Words.{firsts}
 use Rattle.tp_ground.specs.Bindings.{Universe, Env, bindings, bound}

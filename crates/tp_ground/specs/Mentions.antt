@@ -4,7 +4,7 @@ use Rattle.tp_syntax.specs.Conditions.{Condition}
 use Rattle.tp_syntax.specs.Parts.{Joined}
 use Rattle.tp_syntax.specs.Effects.{Effect, Timed, Rule}
 use Rattle.tp_syntax.specs.Actions as actions
-use Rattle.tp_syntax.specs.declared.words.Mark.TheVariants.{AtStart, OverAll, AtEnd}
+use Rattle.tp_ast.specs.declared.words.Mark.TheVariants.{AtStart, OverAll, AtEnd}
 use Rattle.tp_ground.specs.Words.{Words}
 use Rattle.tp_ground.specs.Bindings.{Universe, Env}
 use Rattle.tp_ground.specs.Written.{GroundExpression, number, fluent, the_duration, negative, sum, difference, product, GroundCondition, GroundConditions, atom, compared, negation, all_of, any_of, no_conditions, condition, GroundOutcome, adds, deletes, writes, GroundLimit, outcomes_in, outcomes_at, limits_in, condition_in, condition_at}

@@ -13,12 +13,12 @@ use Rattle.tp_syntax.specs.Parts.{Joined, Parts, all_parts, for_each, one, no_pa
 use Rattle.tp_syntax.specs.Effects as effects
 use Rattle.tp_syntax.specs.Effects.{Outcome, Effect, Timed, Rule, Rules, all_rules, no_rules, more_rules}
 use Rattle.tp_syntax.specs.Actions as actions
-use Rattle.tp_syntax.specs.declared.words.Comparison as syntax
-use Rattle.tp_syntax.specs.declared.words.Comparison.TheVariants as comparisons
-use Rattle.tp_syntax.specs.declared.words.Writing.{Writing}
-use Rattle.tp_syntax.specs.declared.words.Writing.TheVariants as writings
-use Rattle.tp_syntax.specs.declared.words.Mark.{Mark}
-use Rattle.tp_syntax.specs.declared.words.Mark.TheVariants.{AtStart, OverAll, AtEnd}
+use Rattle.tp_ast.specs.declared.words.Comparison as syntax
+use Rattle.tp_ast.specs.declared.words.Comparison.TheVariants as comparisons
+use Rattle.tp_ast.specs.declared.words.Writing.{Writing}
+use Rattle.tp_ast.specs.declared.words.Writing.TheVariants as writings
+use Rattle.tp_ast.specs.declared.words.Mark.{Mark}
+use Rattle.tp_ast.specs.declared.words.Mark.TheVariants.{AtStart, OverAll, AtEnd}
 use Rattle.tp_ground.specs.declared.Comparison.{Comparison}
 use Rattle.tp_ground.specs.declared.Comparison.TheVariants.{Less, AtMost, Equal, AtLeast, Greater}
 use Rattle.tp_ground.specs.declared.Change.{Change}

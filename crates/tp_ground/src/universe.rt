@@ -2,7 +2,8 @@
 
 ghost use Rattle.std.specs.Prelude.{◌≡◌, ◌≤◌, ◌<◌, ◌++◌, ◌∷◌, [], map, length, filter, IfOk, OnOk, MatchOption, string_bytes};
 ghost use Rattle.std.specs.List.{list_any};
-ghost use Rattle.tp_syntax.specs.Symbols.{typed_view, types_view, types_fit};
+ghost use Rattle.tp_syntax.specs.Symbols.{typed_view, types_fit};
+ghost use Rattle.tp_syntax.specs.TypeViews.{types_view};
 ghost use Rattle.tp_ground.specs.Bindings.{fitting, choices, has_no_choice, extended, bindings};
 ghost use Rattle.tp_ground.specs.Views.{universe_view};
 

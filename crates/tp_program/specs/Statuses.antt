@@ -6,8 +6,8 @@ use Rattle.tp_happen.specs.declared.reading.PlanFault.{PlanFault}
 use Rattle.tp_happen.specs.declared.reading.PlanFault.TheVariants as plan_fault
 use Rattle.tp_script.specs.declared.serving.ServeFault.{ServeFault}
 use Rattle.tp_script.specs.declared.serving.ServeFault.TheVariants as serving
-use Rattle.tp_syntax.specs.declared.fault.SyntaxFault.{SyntaxFault}
-use Rattle.tp_syntax.specs.declared.fault.SyntaxFault.TheVariants as syntax_fault
+use Rattle.tp_ast.specs.declared.fault.SyntaxFault.{SyntaxFault}
+use Rattle.tp_ast.specs.declared.fault.SyntaxFault.TheVariants as syntax_fault
 use Rattle.tp_text.specs.declared.fault.TextFault.{TextFault}
 use Rattle.tp_text.specs.declared.fault.TextFault.TheVariants as text_fault
 use Rattle.tp_program.specs.declared.files.FileFault.{FileFault}

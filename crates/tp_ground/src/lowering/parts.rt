@@ -4,7 +4,7 @@ ghost use Rattle.std.specs.Prelude.{◌≡◌, List, map};
 ghost use Rattle.std.specs.List.{flat_map};
 ghost use Rattle.tp_syntax.specs.Symbols.{typed_view};
 ghost use Rattle.tp_syntax.specs.PartViews.{joined_view};
-ghost use Rattle.tp_syntax.specs.declared.words.Mark as marks;
+ghost use Rattle.tp_ast.specs.declared.words.Mark as marks;
 ghost use Rattle.tp_ground.specs.Bindings as bindings;
 ghost use Rattle.tp_ground.specs.Views.{env_view, universe_view};
 ghost use Rattle.tp_ground.specs.Tables.{Tables};

@@ -1,6 +1,6 @@
 use Rattle.std.proofs.Common.{refl}
 use Rattle.tp_syntax.specs.DomainViews.{initial_view}
-use Rattle.tp_syntax.specs.declared.problem.Initial.{Initial}
+use Rattle.tp_ast.specs.declared.problem.Initial.{Initial}
 use Rattle.tp_ground.specs.Initially.{initial_in, named_initial, of_initial}
 use Rattle.tp_ground.proofs.Along.{map_next, map_ended}
 use Rattle.tp_ground.proofs.Stopped.{map_stopped}

@@ -3,8 +3,8 @@ use Rattle.std.specs.List.{flat_map}
 use Rattle.std.proofs.lemmas.List.{take_all}
 use Rattle.tp_syntax.specs.Symbols.{typed_view}
 use Rattle.tp_syntax.specs.DomainViews.{action_view, body_view}
-use Rattle.tp_syntax.specs.declared.symbols.Typed.{Typed}
-use Rattle.tp_syntax.specs.declared.action.Action.{Action}
+use Rattle.tp_ast.specs.declared.symbols.Typed.{Typed}
+use Rattle.tp_ast.specs.declared.action.Action.{Action}
 use Rattle.tp_ground.specs.Bindings.{bound, bindings}
 use Rattle.tp_ground.specs.Views.{universe_view}
 use Rattle.tp_ground.specs.Written.{body_in}

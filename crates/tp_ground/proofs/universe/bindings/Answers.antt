@@ -1,7 +1,7 @@
 use Rattle.std.proofs.Common.{ℕ, ◌+◌, List, [], ◌∷◌, ◌++◌, Bor, Vec, Global, map, drop, ap, sym, ◌∙◌}
 use Rattle.std.proofs.lemmas.List.{at_drop_all}
 use Rattle.tp_syntax.specs.Symbols.{Name, typed_view}
-use Rattle.tp_syntax.specs.declared.symbols.Typed.{Typed}
+use Rattle.tp_ast.specs.declared.symbols.Typed.{Typed}
 use Rattle.tp_ground.specs.Bindings.{bindings}
 use Rattle.tp_ground.specs.Views.{universe_view}
 use Rattle.tp_ground.proofs.OnBindings.{completed, completed_first, completed_last, bound_on, no_bindings}

@@ -1,5 +1,5 @@
 use Rattle.std.proofs.Common.{refl}
-use Rattle.tp_syntax.specs.declared.action.Body.TheVariants as bodies
+use Rattle.tp_ast.specs.declared.action.Body.TheVariants as bodies
 use Rattle.tp_ground.specs.Views.{env_view, universe_view}
 use Rattle.tp_ground.proofs.OnBodies.{ends_stopped, between_stopped, whole_lowered}
 use Rattle.tp_ground.proofs.lowering.bodies.durative.Goals as goal

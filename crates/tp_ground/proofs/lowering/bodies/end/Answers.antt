@@ -1,5 +1,5 @@
 use Rattle.tp_syntax.specs.EffectViews.{timed_condition_view, timed_effect_view}
-use Rattle.tp_syntax.specs.declared.words.Mark.TheVariants.{AtEnd}
+use Rattle.tp_ast.specs.declared.words.Mark.TheVariants.{AtEnd}
 use Rattle.tp_ground.specs.Views.{env_view, universe_view}
 use Rattle.tp_ground.specs.Written.{condition_at, outcomes_at}
 use Rattle.tp_ground.specs.Mentions.{of_condition, of_outcome, of_each}

@@ -1,6 +1,6 @@
 use Rattle.tp_syntax.specs.RuleViews.{rule_view}
 use Rattle.tp_syntax.specs.EffectViews.{timed_condition_view, timed_effect_view}
-use Rattle.tp_syntax.specs.declared.words.Mark.TheVariants.{AtStart}
+use Rattle.tp_ast.specs.declared.words.Mark.TheVariants.{AtStart}
 use Rattle.tp_ground.specs.Views.{env_view, universe_view}
 use Rattle.tp_ground.specs.Written.{condition_at, outcomes_at, limits_in}
 use Rattle.tp_ground.specs.Mentions.{of_condition, of_outcome, of_limit, of_each}

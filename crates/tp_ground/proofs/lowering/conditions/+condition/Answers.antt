@@ -2,7 +2,7 @@ use Rattle.std.proofs.Common.{ℕ, List, Vec, Bor, Global, map, ◌++◌, refl, 
 use Rattle.tp_syntax.specs.Terms.{term_view}
 use Rattle.tp_syntax.specs.Symbols.{typed_view}
 use Rattle.tp_syntax.specs.CondViews.{cond_view}
-use Rattle.tp_syntax.specs.declared.cond.Cond as syntax
+use Rattle.tp_ast.specs.declared.cond.Cond as syntax
 use Rattle.tp_ground.specs.Bindings.{Env, bound}
 use Rattle.tp_ground.specs.Views.{env_view, universe_view}
 use Rattle.tp_ground.specs.Written.{negation, either, condition_in}

@@ -1,6 +1,6 @@
 use Rattle.std.proofs.Common.{[], refl, ap}
 use Rattle.tp_syntax.specs.RuleViews.{rule_view}
-use Rattle.tp_syntax.specs.declared.rule.DurationRule.{DurationRule}
+use Rattle.tp_ast.specs.declared.rule.DurationRule.{DurationRule}
 use Rattle.tp_ground.specs.Views.{env_view}
 use Rattle.tp_ground.specs.Written.{GroundExpression, comparison_of, limits_in}
 use Rattle.tp_ground.specs.Mentions.{of_limit, of_each}
