@@ -1,5 +1,5 @@
 -- What a plan text says of a task: the steps that its lines spell, and the first line at fault.
-use Rattle.std.specs.Prelude.{◌≡◌, ℕ, ◌+◌, ◌<◌, ◌==◌, Bool, true, false, ◌&&◌, ◌||◌, nat_le, nat_lt, if◌then◌else◌, List, [], ◌∷◌, map, length, Option, Some, None, Result, Ok, Err}
+use Rattle.std.specs.Prelude.{◌≡◌, ℕ, ◌+◌, ◌==◌, Bool, true, false, ◌&&◌, ◌||◌, nat_le, nat_lt, if◌then◌else◌, List, [], ◌∷◌, map, Option, Some, None, Result, Ok, Err}
 use Rattle.std.specs.Char.{to_ascii_lowercase}
 use Rattle.std.specs.List.{list_all}
 use Rattle.tp_text.specs.Numbers.{ticks_of}
@@ -71,15 +71,6 @@ step_of task line = formed task (form_of (marks line))
 abbrev pub LinesSpell : Labelled → List (List ℕ) → List Step → Type 0
 LinesSpell task ls steps = map (step_of task) (full_lines ls) ≡ map Ok steps
 
-abbrev pub fault_or : ℕ → Result Step Wrong → Option (ℕ × Wrong) → Option (ℕ × Wrong)
-fault_or n (Ok s) others = others
-fault_or n (Err w) others = Some (n, w)
-
--- the first of the lines, numbered from n, that is at fault
-abbrev pub first_fault : Labelled → ℕ → List (List ℕ) → Option (ℕ × Wrong)
-first_fault task n [] = None
-first_fault task n (l ∷ ls) = if is_bare (marks l) then first_fault task (n + 1) ls else fault_or n (step_of task l) (first_fault task (n + 1) ls)
-
 -- what is said of a line at fault
 abbrev pub fault_at : ℕ → Wrong → PlanFault
 fault_at n wrong.Form = Line n
@@ -88,15 +79,26 @@ fault_at n wrong.Duration = NoDuration n
 fault_at n wrong.Ticks = NotTicks n
 fault_at n wrong.Horizon = Horizon n
 
--- When lines are refused: a line is the first at fault, with that fault, or over 512 lines are not empty.
+abbrev pub fault_or : ℕ → Result Step Wrong → Option PlanFault → Option PlanFault
+fault_or n (Ok s) others = others
+fault_or n (Err w) others = Some (fault_at n w)
+
+-- The first refusal of lines that are numbered from n and stand behind so many that are not empty: a line at fault is refused for its
+-- fault, and the 513th that is not empty is one too many, whatever it holds.
+abbrev pub refusal_from : Labelled → ℕ → ℕ → List (List ℕ) → Option PlanFault
+refusal_from task n count [] = None
+refusal_from task n count (l ∷ ls) =
+    if is_bare (marks l) then refusal_from task (n + 1) count ls
+    else (if nat_le 512 count then Some TooMany else fault_or n (step_of task l) (refusal_from task (n + 1) (count + 1) ls))
+
+-- The first refusal of lines, numbered from 1.
+abbrev pub refusal : Labelled → List (List ℕ) → Option PlanFault
+refusal task ls = refusal_from task 1 0 ls
+
+-- A fault is the first refusal of lines, unless it is want of memory.
 abbrev pub LinesAreRefused : Labelled → List (List ℕ) → PlanFault → Type 0
 LinesAreRefused task ls Memory = Unit {0}
-LinesAreRefused task ls (Line n) = first_fault task 1 ls ≡ Some (n, wrong.Form)
-LinesAreRefused task ls (NoAction n) = first_fault task 1 ls ≡ Some (n, wrong.Action)
-LinesAreRefused task ls (NotTicks n) = first_fault task 1 ls ≡ Some (n, wrong.Ticks)
-LinesAreRefused task ls TooMany = 512 < length (full_lines ls)
-LinesAreRefused task ls (NoDuration n) = first_fault task 1 ls ≡ Some (n, wrong.Duration)
-LinesAreRefused task ls (Horizon n) = first_fault task 1 ls ≡ Some (n, wrong.Horizon)
+LinesAreRefused task ls fault = refusal task ls ≡ Some fault
 
 -- the lines of a text, whose case is not significant
 abbrev pub lines_in : List ℕ → List (List ℕ)
@@ -113,6 +115,9 @@ is_known task s = nat_lt s.action.0 task.count && (task.is_durative s.action || 
 abbrev pub AreKnown : Labelled → List Step → Type 0
 AreKnown task steps = list_all (is_known task) steps ≡ true
 
--- when a text is refused
+-- A fault is the first refusal of a text, unless it is want of memory. A text that is read has none.
 abbrev pub IsRefused : Labelled → List ℕ → PlanFault → Type 0
 IsRefused task text fault = LinesAreRefused task (lines_in text) fault
+
+abbrev pub IsAccepted : Labelled → List ℕ → Type 0
+IsAccepted task text = refusal task (lines_in text) ≡ None

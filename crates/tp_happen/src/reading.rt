@@ -1,11 +1,11 @@
 //! Plans as texts spell them.
 
-ghost use Rattle.std.specs.Prelude.{◌≡◌, ◌∷◌, ◌<◌, ◌≤◌, ◌+◌, ◌==◌, ◌||◌, true, length, Some, IfOk, IfErr, option_map};
+ghost use Rattle.std.specs.Prelude.{◌≡◌, ◌∷◌, ◌<◌, ◌≤◌, ◌+◌, ◌==◌, ◌||◌, true, length, None, Some, IfOk, IfErr, OnOk, option_map};
 ghost use Rattle.tp_text.specs.Scales.{scale_ticks};
 ghost use Rattle.tp_happen.specs.Steps.{IsPlan};
 ghost use Rattle.tp_happen.specs.PlanMarks.{marks};
 ghost use Rattle.tp_happen.specs.PlanForms.{form_view};
-ghost use Rattle.tp_happen.specs.PlanTexts.{lines_of, timed, lasting, form_step, step_of, fault_at, LinesSpell, LinesAreRefused, is_known, AreKnown, SpellsPlan, IsRefused};
+ghost use Rattle.tp_happen.specs.PlanTexts.{lines_of, timed, lasting, form_step, step_of, fault_at, LinesSpell, refusal, LinesAreRefused, is_known, AreKnown, SpellsPlan, IsAccepted, IsRefused};
 
 use crate::forms::{Form, is_well_formed, read_form};
 use crate::labels::Labels;
@@ -171,6 +171,7 @@ fn read_steps<T: Labels>(alloc: Global, task: &T, text: &[u8]) -> Result<Vec<Ste
     ensures spelled { IfOk result (λ v. LinesSpell (T.labelled task.now) (lines_of text.now) v.items) }
     ensures plan { IfOk result (λ v. IsPlan v.items) }
     ensures known { IfOk result (λ v. AreKnown (T.labelled task.now) v.items) }
+    ensures accepted { OnOk result (refusal (T.labelled task.now) (lines_of text.now) ≡ None) }
     ensures refused { IfErr result (LinesAreRefused (T.labelled task.now) (lines_of text.now)) }
 {
     let mut steps = Vec::new(alloc);
@@ -198,6 +199,7 @@ fn read_steps<T: Labels>(alloc: Global, task: &T, text: &[u8]) -> Result<Vec<Ste
 pub(crate) fn plan_of<T: Labels>(alloc: Global, text: &str, task: &T) -> Result<Plan, PlanFault>
     ensures spelled { IfOk result (λ p. SpellsPlan (T.labelled task.now) text.now p) }
     ensures known { IfOk result (λ p. AreKnown (T.labelled task.now) p) }
+    ensures accepted { OnOk result (IsAccepted (T.labelled task.now) text.now) }
     ensures refused { IfErr result (IsRefused (T.labelled task.now) text.now) }
 {
     let lowered = text.to_ascii_lowercase(alloc)?;

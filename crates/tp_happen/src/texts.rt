@@ -1,8 +1,8 @@
 //! Plans as text.
 
-ghost use Rattle.std.specs.Prelude.{◌≡◌, IfOk, IfErr};
+ghost use Rattle.std.specs.Prelude.{◌≡◌, IfOk, IfErr, OnOk};
 ghost use Rattle.tp_device.specs.Bytes.{Writes, failures_after};
-ghost use Rattle.tp_happen.specs.PlanTexts.{SpellsPlan, AreKnown, IsRefused};
+ghost use Rattle.tp_happen.specs.PlanTexts.{SpellsPlan, AreKnown, IsAccepted, IsRefused};
 ghost use Rattle.tp_happen.specs.PlanPrints.{plan_text};
 ghost use Rattle.tp_happen.specs.TaskLabels.{labelled};
 
@@ -17,6 +17,7 @@ use tp_ground::Task;
 pub fn read_plan(alloc: Global, text: &str, task: &Task) -> Result<Plan, PlanFault>
     ensures spelled { IfOk result (λ p. SpellsPlan (labelled task.now) text.now p) }
     ensures known { IfOk result (λ p. AreKnown (labelled task.now) p) }
+    ensures accepted { OnOk result (IsAccepted (labelled task.now) text.now) }
     ensures refused { IfErr result (IsRefused (labelled task.now) text.now) }
 {
     plan_of(alloc, text, task)
