@@ -1,11 +1,12 @@
 -- What the refusal of a text's tree says of the text.
-use Rattle.std.proofs.Common.{◌≡◌, ℕ, List, Option, Some, None, sym, ap, ◌∙◌}
-use Rattle.tp_text.specs.Shapes.{Shape, Spells}
+use Rattle.std.proofs.Common.{◌≡◌, ℕ, ◌≤◌, List, Option, Some, None, sym, ap, ◌∙◌, subst}
+use Rattle.tp_text.specs.Shapes.{Shape, Spells, nesting}
 use Rattle.tp_text.specs.Trees.{IsRefused}
 use Rattle.tp_text.specs.declared.fault.TextFault.{TextFault}
 use Rattle.tp_text.specs.declared.fault.TextFault.TheVariants as text_faults
 use Rattle.tp_text.proofs.OnTrees.{spells_one_tree}
 use Rattle.tp_ast.specs.Gives.{Fails}
+use Rattle.tp_syntax.specs.Limits.{NestsUpTo}
 use Rattle.tp_ast.specs.Readings.{SpellsNone, IsRefusedAs, of_text, of_tree}
 use Rattle.tp_ast.specs.declared.fault.SyntaxFault.{SyntaxFault}
 use Rattle.tp_ast.specs.declared.fault.SyntaxFault.TheVariants as faults
@@ -34,3 +35,7 @@ module _ {Y : Type 0} (meaning : Shape → Option Y) (text : List ℕ) where
   refused_text (text_faults.Extra at) h = h
   refused_text (text_faults.Depth at) h = h
   refused_text text_faults.Empty h = h
+
+-- a text spells one tree
+pub nests : (text : List ℕ) (s : Shape) (most : ℕ) → Spells text s → nesting s ≤ most → NestsUpTo text most
+nests text s most is le u other = subst (λ (v : Shape). nesting v ≤ most) (spells_one_tree text s u is other) le

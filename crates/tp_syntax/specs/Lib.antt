@@ -1,6 +1,7 @@
 pub mod Fields
 pub mod SectionViews
 pub mod Refusals
+pub mod Limits
 pub mod ProblemViews
 pub mod Clashes
 pub use Rattle.tp_ast.specs.Words

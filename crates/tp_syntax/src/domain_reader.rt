@@ -1,7 +1,9 @@
 //! From a text to a domain.
 
-ghost use Rattle.std.specs.Prelude.{◌≡◌, map, string_bytes, IfOk, IfErr};
+ghost use Rattle.std.specs.Prelude.{◌≡◌, map, string_bytes, length, ◌≤◌, IfOk, IfErr, OnOk};
+ghost use Rattle.tp_text.specs.Tokens.{max_text};
 ghost use Rattle.tp_text.specs.Trees.{shape_of};
+ghost use Rattle.tp_syntax.specs.Limits.{NestsUpTo};
 ghost use Rattle.tp_ast.specs.Domains.{requirements_in, types_in, objects_in, section, action_at, actions_in, domain_with, domain_of, SpellsDomain};
 ghost use Rattle.tp_ast.specs.DomainViews.{action_view, domain_view};
 ghost use Rattle.tp_names.specs.FormViews.{predicates_in, functions_in};
@@ -200,6 +202,8 @@ fn domain_of(alloc: Global, tree: &Tree) -> Result<Domain, SyntaxFault>
 /// The domain that the text spells.
 pub fn read_domain(alloc: Global, text: &str) -> Result<Domain, SyntaxFault>
     ensures found { IfOk result (λ d. SpellsDomain text.now (domain_view d)) }
+    ensures limited { OnOk result (length text.now ≤ max_text) }
+    ensures nested { OnOk result (NestsUpTo text.now 64) }
     ensures refused { IfErr result (λ e. IsRefusedDomain text.now e) }
 {
     match read_tree(alloc, text) {

@@ -1,9 +1,11 @@
 //! Problems of a domain.
 
-ghost use Rattle.std.specs.Prelude.{◌≡◌, ◌++◌, map, string_bytes, IfOk, IfErr};
+ghost use Rattle.std.specs.Prelude.{◌≡◌, ◌++◌, map, string_bytes, length, ◌≤◌, IfOk, IfErr, OnOk};
 ghost use Rattle.std.specs.Option.{is_some};
 ghost use Rattle.tp_ast.specs.TypedLists.{has_twice};
+ghost use Rattle.tp_text.specs.Tokens.{max_text};
 ghost use Rattle.tp_text.specs.Trees.{shape_of};
+ghost use Rattle.tp_syntax.specs.Limits.{NestsUpTo};
 ghost use Rattle.tp_ast.specs.Terms.{shapes};
 ghost use Rattle.tp_ast.specs.Symbols.{typed_view};
 ghost use Rattle.tp_names.specs.SymbolViews.{symbols_view};
@@ -248,6 +250,8 @@ fn problem_of(alloc: Global, domain: &Domain, tree: &Tree) -> Result<Problem, Sy
 /// The problem of this domain that the text spells.
 pub fn read_problem(alloc: Global, text: &str, domain: &Domain) -> Result<Problem, SyntaxFault>
     ensures found { IfOk result (λ p. SpellsProblem (domain_view domain.now) text.now (problem_view p)) }
+    ensures limited { OnOk result (length text.now ≤ max_text) }
+    ensures nested { OnOk result (NestsUpTo text.now 64) }
     ensures refused { IfErr result (λ e. IsRefusedProblem (domain_view domain.now) text.now e) }
 {
     match read_tree(alloc, text) {
