@@ -1,0 +1,5 @@
+(define (problem one-hole)
+  (:domain numbers)
+  (:init (= (charge) 30) (= (reserve) 5) (= (of-arm) 1) (= (of-drill) 4) (= (of-lamp) 1)
+         (= (depth) 0) (= (depth-wanted) 40))
+  (:goal (dug)))

@@ -1,0 +1,5 @@
+(define (problem both)
+  (:domain objects)
+  (:objects north - dome eye - telescope ear - radio)
+  (:init (holds north eye))
+  (:goal (and (used eye) (used ear))))

@@ -1,0 +1,4 @@
+(define (problem one-picture)
+  (:domain weather)
+  (:init (not-begun))
+  (:goal (observed)))

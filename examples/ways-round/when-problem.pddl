@@ -1,0 +1,4 @@
+(define (problem light)
+  (:domain when)
+  (:init)
+  (:goal (lamp-on)))
