@@ -3,7 +3,7 @@ use Rattle.std.specs.Prelude.{[], ◌++◌, map}
 use Rattle.tp_syntax.specs.Symbols.{typed_view, types_view}
 use Rattle.tp_ground.specs.Bindings as bindings
 use Rattle.tp_ground.specs.Bindings.{bound}
-use Rattle.tp_ground.specs.declared.universe.Universe.{Universe}
+use Rattle.tp_ground.specs.declared.objects.Universe.{Universe}
 use Rattle.tp_ground.specs.declared.environment.Env.{Env, fold-Env}
 use Rattle.tp_ground.specs.declared.environment.Env.TheOpen.{Env-F}
 
