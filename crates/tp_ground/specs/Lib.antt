@@ -12,6 +12,7 @@ pub mod Words
 pub mod Labels
 pub mod Bindings
 pub mod Views
+pub mod KnownChoices
 pub mod Tables
 pub mod Initially
 pub mod NumberViews

@@ -4,7 +4,7 @@ use Rattle.tp_syntax.specs.Symbols.{typed_view}
 use Rattle.tp_syntax.specs.TypeViews.{types_view}
 use Rattle.tp_ground.specs.Bindings as bindings
 use Rattle.tp_ground.specs.Bindings.{bound}
-use Rattle.tp_ground.specs.declared.universe.Universe.{Universe}
+use Rattle.tp_ground.specs.declared.objects.Universe.{Universe}
 use Rattle.tp_ground.specs.declared.environment.Env.{Env, fold-Env}
 use Rattle.tp_ground.specs.declared.environment.Env.TheOpen.{Env-F}
 

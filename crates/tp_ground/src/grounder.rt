@@ -23,11 +23,13 @@ use crate::environment::Env;
 use crate::fault::{GroundFault, TooManyKind};
 use crate::grounding::{actions_fit, lower_actions, name_actions};
 use crate::lowering::condition;
+use crate::noting::{note_actions, note_condition};
 use crate::numbering::Numbering;
 use crate::numbers::has_great_number;
 use crate::task::Task;
 use crate::universe::Universe;
 use crate::{Body, Cond};
+use indexmap::IndexMap;
 use std::alloc::{AllocError, Global};
 use tp_bounds::Limits;
 use tp_syntax::{Action, Domain, Initial, Problem, Typed, Types};
@@ -57,7 +59,8 @@ fn has_too_many_objects(constants: &[Typed], objects: &[Typed]) -> bool
     constants.len() + objects.len() > MOST_OBJECTS
 }
 
-fn universe_of<'a>(
+// The types and objects, before anything is looked for among them.
+fn plain_universe<'a>(
     alloc: Global,
     domain: &'a Domain,
     problem: &'a Problem,
@@ -68,7 +71,22 @@ fn universe_of<'a>(
         types: Types::new(alloc, &domain.types)?,
         constants: &domain.constants,
         objects: &problem.objects,
+        known: Vec::new(alloc),
+        places: IndexMap::new(alloc),
     })
+}
+
+fn universe_of<'a>(
+    alloc: Global,
+    domain: &'a Domain,
+    problem: &'a Problem,
+) -> Result<Universe<'a>, AllocError>
+    ensures { IfOk result (λ u. universe_view u ≡ universe_of (domain_view domain.now) (problem_view problem.now)) }
+{
+    let mut universe = plain_universe(alloc, domain, problem)?;
+    note_actions(alloc, &mut universe, &domain.actions)?;
+    note_condition(alloc, &mut universe, &problem.goal)?;
+    Ok(universe)
 }
 
 // What can be told before the types are looked at, whatever the limits.

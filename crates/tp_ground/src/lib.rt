@@ -18,8 +18,10 @@ mod grounder;
 mod grounding;
 mod lookup;
 mod lowering;
+mod noting;
 mod numbering;
 mod numbers;
+mod objects;
 mod task;
 mod universe;
 

@@ -1,21 +1,65 @@
 //! The objects, and what variables may stand for.
 
+<<<<<<< HEAD
 ghost use Rattle.std.specs.Prelude.{◌≡◌, ◌≤◌, ◌<◌, ◌++◌, ◌∷◌, [], map, length, filter, IfOk, OnOk, MatchOption, string_bytes};
 ghost use Rattle.std.specs.List.{list_any};
 ghost use Rattle.tp_syntax.specs.Symbols.{typed_view, types_fit};
 ghost use Rattle.tp_syntax.specs.TypeViews.{types_view};
+=======
+ghost use Rattle.std.specs.Prelude.{◌≡◌, ◌≤◌, ◌<◌, ◌++◌, ◌∷◌, [], true, map, length, filter, IfOk, OnOk, IfSome, MatchOption, string_bytes};
+ghost use Rattle.std.specs.List.{list_any, list_all};
+ghost use Rattle.tp_syntax.specs.Symbols.{typed_view, types_fit};
+ghost use Rattle.tp_syntax.specs.TypeViews.{types_view};
+>>>>>>> 4bb5d53d753e623728ad58ff51d1810ccc7dc288
 ghost use Rattle.tp_ground.specs.Bindings.{fitting, choices, has_no_choice, extended, bindings};
+ghost use Rattle.tp_ground.specs.Bindings as bindings;
+ghost use Rattle.tp_ground.specs.Words.{same_words};
 ghost use Rattle.tp_ground.specs.Views.{universe_view};
+ghost use Rattle.tp_ground.specs.KnownChoices.{of_types, is_known};
 
+use crate::objects::Known;
+pub use crate::objects::Universe;
+use indexmap::IndexMap;
 use std::alloc::{AllocError, Global};
 use tp_syntax::{Typed, Types, types_fit};
 
-/// The types, and all objects: the domain's constants, then the problem's objects.
-#[derive(Drop)]
-pub struct Universe<'a> {
-    pub types: Types<'a>,
-    pub constants: &'a [Typed],
-    pub objects: &'a [Typed],
+// Whether two lists of types are the same.
+fn are_same(left: &[String], right: &[String]) -> bool
+    ensures { result ≡ same_words (map string_bytes left.now) (map string_bytes right.now) }
+{
+    let mut open = left;
+    let mut others = right;
+    'pairs: while let [first, more @ ..] = open {
+        let [second, rest @ ..] = others else {
+            return false;
+        };
+        if first.as_str() != second.as_str() {
+            return false;
+        }
+        open = more;
+        others = rest;
+    }
+    others.is_empty()
+}
+
+// The objects that fit some types, where they were looked for before.
+fn find_known<'u, 'a>(
+    known: &'u [Known<'a>],
+    places: &IndexMap<&'a str, usize>,
+    types: &[String],
+) -> Option<&'u [&'a str]>
+    ensures { (u : bindings.Universe) → list_all (is_known u) known.now ≡ true → IfSome result (λ ns. map (λ o. o.now) ns.now ≡ choices u (of_types (map string_bytes types.now))) }
+{
+    let first = types.first()?;
+    let mut place = *places.get(first.as_str())?;
+    for _ in 0..known.len() {
+        let entry = known.get(place)?;
+        if are_same(entry.types, types) {
+            return Some(entry.names.as_slice());
+        }
+        place = entry.before?;
+    }
+    None
 }
 
 // How many of these objects fit a variable.
@@ -49,8 +93,8 @@ fn push_fitting<'a>(
     Ok(())
 }
 
-/// The objects that a variable may stand for.
-pub fn choices<'a>(
+// The objects that a variable may stand for, looked for among all.
+fn all_fitting<'a>(
     alloc: Global,
     universe: &Universe<'a>,
     variable: &Typed,
@@ -61,6 +105,68 @@ pub fn choices<'a>(
     push_fitting(&mut names, &universe.types, universe.constants, variable)?;
     push_fitting(&mut names, &universe.types, universe.objects, variable)?;
     Ok(names)
+}
+
+fn copied<'a>(alloc: Global, names: &[&'a str]) -> Result<Vec<&'a str>, AllocError>
+    ensures { IfOk result (λ v. map (λ o. o.now) v.items ≡ map (λ o. o.now) names.now) }
+{
+    let mut copy = Vec::new(alloc);
+    copy.extend_from_slice(names)?;
+    Ok(copy)
+}
+
+/// The objects that a variable may stand for.
+pub fn choices<'a>(
+    alloc: Global,
+    universe: &Universe<'a>,
+    variable: &Typed,
+) -> Result<Vec<&'a str>, AllocError>
+    ensures { IfOk result (λ v. map (λ o. o.now) v.items ≡ choices (universe_view universe.now) (typed_view variable.now)) }
+{
+    match find_known(&universe.known, &universe.places, variable.type_names()) {
+        Some(names) => copied(alloc, names),
+        None => all_fitting(alloc, universe, variable),
+    }
+}
+
+// Keeps the objects that fit a variable's types.
+fn keep<'a>(
+    universe: &mut Universe<'a>,
+    variable: &'a Typed,
+    names: Vec<&'a str>,
+) -> Result<(), AllocError>
+    requires { map (λ o. o.now) names.items ≡ choices (universe_view universe.old) (typed_view variable.now) }
+    ensures { universe_view universe.new ≡ universe_view universe.old }
+{
+    let types = variable.type_names();
+    let Some(first) = types.first() else {
+        return Ok(());
+    };
+    let before = universe.places.get(first.as_str()).copied();
+    universe
+        .places
+        .insert(first.as_str(), universe.known.len())?;
+    universe.known.push(Known {
+        types,
+        names,
+        before,
+    })?;
+    Ok(())
+}
+
+/// Looks for the objects that fit a variable, so that they are known from then on.
+pub fn note<'a>(
+    alloc: Global,
+    universe: &mut Universe<'a>,
+    variable: &'a Typed,
+) -> Result<(), AllocError>
+    ensures { universe_view universe.new ≡ universe_view universe.old }
+{
+    if find_known(&universe.known, &universe.places, variable.type_names()).is_some() {
+        return Ok(());
+    }
+    let names = all_fitting(alloc, &*universe, variable)?;
+    keep(universe, variable, names)
 }
 
 /// A name, and then those of a binding.
@@ -129,12 +235,22 @@ fn each_with<'a>(
     Ok(all)
 }
 
-// How many objects a variable may stand for.
-fn count_choices(universe: &Universe, variable: &Typed) -> usize
+// How many objects a variable may stand for, looked for among all.
+fn count_all(universe: &Universe, variable: &Typed) -> usize
     ensures { result ≡ length (choices (universe_view universe.now) (typed_view variable.now)) }
 {
     count_fitting(&universe.types, universe.constants, variable)
         + count_fitting(&universe.types, universe.objects, variable)
+}
+
+// How many objects a variable may stand for.
+fn count_choices(universe: &Universe, variable: &Typed) -> usize
+    ensures { result ≡ length (choices (universe_view universe.now) (typed_view variable.now)) }
+{
+    match find_known(&universe.known, &universe.places, variable.type_names()) {
+        Some(names) => names.len(),
+        None => count_all(universe, variable),
+    }
 }
 
 fn has_no_choice(universe: &Universe, variable: &Typed) -> bool
