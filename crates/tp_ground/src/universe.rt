@@ -1,16 +1,9 @@
 //! The objects, and what variables may stand for.
 
-<<<<<<< HEAD
-ghost use Rattle.std.specs.Prelude.{◌≡◌, ◌≤◌, ◌<◌, ◌++◌, ◌∷◌, [], map, length, filter, IfOk, OnOk, MatchOption, string_bytes};
-ghost use Rattle.std.specs.List.{list_any};
-ghost use Rattle.tp_syntax.specs.Symbols.{typed_view, types_fit};
-ghost use Rattle.tp_syntax.specs.TypeViews.{types_view};
-=======
 ghost use Rattle.std.specs.Prelude.{◌≡◌, ◌≤◌, ◌<◌, ◌++◌, ◌∷◌, [], true, map, length, filter, IfOk, OnOk, IfSome, MatchOption, string_bytes};
 ghost use Rattle.std.specs.List.{list_any, list_all};
 ghost use Rattle.tp_syntax.specs.Symbols.{typed_view, types_fit};
 ghost use Rattle.tp_syntax.specs.TypeViews.{types_view};
->>>>>>> 4bb5d53d753e623728ad58ff51d1810ccc7dc288
 ghost use Rattle.tp_ground.specs.Bindings.{fitting, choices, has_no_choice, extended, bindings};
 ghost use Rattle.tp_ground.specs.Bindings as bindings;
 ghost use Rattle.tp_ground.specs.Words.{same_words};
