@@ -1,7 +1,7 @@
-// A network of bounds alone: its head, and the commands on it.
-ghost use Rattle.std.specs.Prelude.{◌≡◌, ◌≢◌, OnOk, OnErr};
+// A network of bounds alone: its head, the lags of its events, and the commands on it.
+ghost use Rattle.std.specs.Prelude.{◌≡◌, ◌≢◌, ℕ, IfOk, OnOk, OnErr};
 ghost use Rattle.tp_script.specs.Serving.{write_failures};
-ghost use Rattle.tp_program.specs.Bare.{AnswersAll, AnswersPart};
+ghost use Rattle.tp_program.specs.Bare.{AnswersAll, AnswersPart, Begins};
 
 use crate::fault_lines::{FaultLine, OUT_OF_ORDER, complain};
 use std::alloc::Global;
@@ -9,12 +9,29 @@ use tp_bounds::Limits;
 use tp_device::{Sink, Source};
 use tp_exec::Executive;
 use tp_net::ScratchNet;
-use tp_script::{Lines, ServeFault, Served, read_head, serve};
+use tp_script::{Lines, ServeFault, Served, read_head, read_lags, serve};
 
 /// The most bytes of a command line.
 const LONGEST: usize = 256;
 
-/// Reads the head of a network, and answers the commands that follow it, under the greatest limits.
+/// Reads the head of a network and the lags of its events, and makes an executive under the greatest limits.
+fn begin<I: Source>(
+    alloc: Global,
+    lines: &mut Lines<I>,
+) -> Result<Executive<ScratchNet>, ServeFault>
+    requires { lines.old.longest ≡ 256 }
+    ensures begins { IfOk result (λ executive. Begins lines.old lines.new executive) }
+    ensures longest { lines.new.longest ≡ lines.old.longest }
+    ensures most { lines.new.most ≡ lines.old.most }
+    ensures told { (n : ℕ) → write_failures n result ≡ n }
+{
+    let (events, horizon) = read_head(lines)?;
+    let mut net = ScratchNet::new(alloc, events, horizon)?;
+    read_lags(lines, &mut net)?;
+    Ok(Executive::bare(alloc, Limits::greatest(horizon), net))
+}
+
+/// Reads the head of a network and the lags of its events, and answers the commands that follow.
 fn bare<I: Source + Drop, O: Sink>(
     alloc: Global,
     input: I,
@@ -25,9 +42,7 @@ fn bare<I: Source + Drop, O: Sink>(
     ensures told { O.failures output.new ≡ write_failures (O.failures output.old) result }
 {
     let mut lines = Lines::new(alloc, input, LONGEST)?;
-    let (events, horizon) = read_head(&mut lines)?;
-    let net = ScratchNet::new(alloc, events, horizon)?;
-    let mut executive = Executive::bare(alloc, Limits::greatest(horizon), net);
+    let mut executive = begin(alloc, &mut lines)?;
     serve(&mut executive, &mut lines, output)
 }
 
