@@ -13,7 +13,7 @@ use Rattle.clap.proofs.WalkLemmas.{one_text-rows}
 use Rattle.std.specs.Str.Parse.{digits_value, without_leading_plus}
 use Rattle.clap.specs.declared.parser.matches.Found.{Found}
 use Rattle.tp_program.specs.Commands.{tempo_app}
-use Rattle.tp_program.specs.Requests.{AsksBy, AsksFor, NamesBare, Spells}
+use Rattle.tp_program.specs.Requests.{AskForOneThing, AsksBy, AsksFor, NamesBare, Spells}
 use Rattle.tp_text.specs.Scales.{scale_ticks}
 use Rattle.tp_program.specs.declared.requests.PlanWords.{PlanWords}
 use Rattle.tp_program.specs.declared.requests.Request.{Request}
@@ -101,3 +101,14 @@ check_words w domain problem plan scale horizon = (
     },
   ),
 )
+
+-- no words ask for two kinds of things
+pub distinct : (words : List Text) → AskForOneThing words
+distinct words =
+    record {
+      bare_check = λ w bare check.
+          let no : codes "check" ≡ codes "bare" = subst NamesBare check.1.1 bare.1 in
+          cc;
+      bare_help = λ text bare help. subst (λ ks. IsAmong DisplayHelp ks) bare.0 help;
+      check_help = λ w text check help. subst (λ ks. IsAmong DisplayHelp ks) check.0 help;
+    }

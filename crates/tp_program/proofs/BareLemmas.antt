@@ -1,22 +1,27 @@
 -- A head, lines of lags, and then commands.
-use Rattle.std.proofs.Common.{◌≡◌, ℕ, ◌+◌, ◌-◌, ◌≤◌, List, [], length, take, Bool, true, false, cond, nat_eq, Option, Some, None, refl, subst, sym, ap, ◌∷◌, ◌++◌, ◌∙◌, inl, inr, arith, length-append}
-use Rattle.std.specs.Prelude.{Result, Ok, Err, IfSome, OnOk, OnErr}
-use Rattle.std.specs.Io.KnownBytes.{Appends, Consumes}
-use Rattle.std.proofs.Math.Seq.{take-length}
+use Rattle.std.proofs.Common.{◌≡◌, ◌+◌, ◌-◌, ◌≤◌, ◌<◌, ℕ, List, [], ◌++◌, ◌⊎◌, length-append, length, Bool, true, false, cond, nat_eq, Option, Some, None, refl, subst, sym, ap, ◌∷◌, ◌∙◌, inl, inr, arith}
+use Rattle.std.specs.Prelude.{Result, Ok, Err, IfErr, IfSome, IsErrAnd, OnOk, OnErr}
+use Rattle.std.specs.Io.KnownBytes.{Appends, Consumes, IsAtEnd}
 use Rattle.tp_device.specs.Bytes.{AppendsPart}
-use Rattle.tp_device.proofs.Parts.{appends_is, appends_none}
+use Rattle.tp_device.proofs.Parts.{appends_none}
 use Rattle.tp_bounds.specs.Situation.{Situation}
 use Rattle.tp_exec.specs.Machine.{Machine}
 use Rattle.tp_script.specs.Pending.{Reading}
-use Rattle.tp_script.specs.Reading.{Free, EndsLine}
+use Rattle.tp_script.specs.Reading.{Free, EndsLine, TakesWhole}
 use Rattle.tp_script.specs.Transcript.{lines_of, before_lines, Transcript}
-use Rattle.tp_script.specs.Lags.{SetsLags, NoLagNext}
-use Rattle.tp_script.specs.Serving.{Serves, ServesAll, TakesLines, EndsServing, head_of}
+use Rattle.tp_script.specs.Lags.{lag_spelled, MaySet, SetsLags, TakesLags, NoLagNext, ReadsLags}
+use Rattle.tp_script.specs.Serving.{write_failures, Serves, ServesAll, TakesLines, EndsServing, TakesHead, head_of}
 use Rattle.tp_script.specs.declared.serving.Served.{Served}
 use Rattle.tp_script.specs.declared.serving.ServeFault.{ServeFault}
 use Rattle.tp_script.specs.declared.serving.ServeFault.TheVariants.{Read, Write, Memory, TooLong, Head}
 use Rattle.tp_script.proofs.ServeLemmas.{first_whole}
-use Rattle.tp_program.specs.Bare.{first_setting, first_machine, EndLags, AnswersAll, AnswersPart, Begins}
+use Rattle.tp_script.specs.Reading.{HasMore, SameLimits}
+use Rattle.tp_program.specs.Bare.{first_setting, first_machine, EndLags, AnswersAll, AnswersLines, AnswersPart, TakesAllLags, BeginsLines, HasNoHead, HasBadLag, IsRefused, bare_failures, bare_result}
+use Rattle.tp_program.specs.Statuses.{bare_status, serve_status}
+use Rattle.tp_program.specs.declared.bare.BareFault.{BareFault}
+use Rattle.tp_program.specs.declared.bare.BareFault.TheVariants.{Network, Serving}
+use Rattle.tp_program.proofs.FaultLemmas.{whole_part}
+use Rattle.tp_program.proofs.FileLemmas.{consumes_more}
 
 -- ---- the lines of lags
 
@@ -45,8 +50,8 @@ end_lags xs ys zs text lags may first more stop most = λ line rest is.
     ])
 
 -- how many bytes may be taken behind the head and the lags
-may_take : (before after : Reading) (m : Machine) (b : Begins before after m) → before.taken ≡ 0 → after.most ≡ 4_294_967_296 → 4_294_967_296 ≤ (after.most - after.taken) + (length b.took.text + length b.read.read.text)
-may_take before after m b none most = omega (arith, none, most, b.took.counted, b.read.counted)
+may_take : (before reading mid : Reading) (s t : Situation) (line : List ℕ) (lags : List (List ℕ)) (w : TakesWhole before reading line) (l : TakesLags reading mid s t lags) → before.taken ≡ 0 → mid.most ≡ 4_294_967_296 → 4_294_967_296 ≤ (mid.most - mid.taken) + (length w.text + length l.read.text)
+may_take before reading mid s t line lags w l none most = omega (arith, none, most, w.counted, l.counted)
 
 -- ---- all lines are answered
 
@@ -71,22 +76,7 @@ all_answered (Some xs) (Some ys) (Some zs) held now line text more head setting 
       written = serves.2;
     }
 
-pub answers_all : (r : Result Served ServeFault) (source held now : Option (List ℕ)) (before after : Reading) (first last : Machine) → before.rest ≡ source → before.taken ≡ 0 → after.most ≡ 4_294_967_296 → Begins before after first → OnOk r (ServesAll first last after.rest held now) → OnOk r (AnswersAll source held now)
-answers_all (Err e) source held now before after first last from none most b serves = tt
-answers_all (Ok x) source held now before after first last from none most b serves =
-    subst (λ a. AnswersAll a held now) from
-    (all_answered before.rest b.mid.rest after.rest held now b.line b.took.text b.read.read.text b.head b.setting b.lags last (after.most - after.taken) b.took.free b.took.ends b.took.took b.spelled b.read.read.took b.read.read.split b.read.set b.end (may_take before after first b none most)
-    (subst (λ m. ServesAll m last after.rest held now) b.start serves))
-
 -- ---- some lines are answered
-
-whole_part : (old new : Option (List ℕ)) (xs : List ℕ) → Appends old new xs → AppendsPart old new xs
-whole_part old new xs h =
-    record {
-      count = length xs;
-      within = omega arith;
-      held = appends_is old new xs (take (length xs) xs) (sym (take-length xs)) h;
-    }
 
 part_of_serving : (fault : ServeFault) (after : Reading) (held now : Option (List ℕ)) (lines : List (List ℕ)) (text part : List ℕ) → EndsServing after held now lines text part (Err fault) → AppendsPart held now text
 part_of_serving Read after held now lines text part ended = whole_part held now text ended
@@ -118,15 +108,147 @@ part_answered (Some xs) (Some ys) (Some zs) (Some ws) held now line text more he
       written = part;
     })
 
-pub answers_part : (r : Result Served ServeFault) (source held now : Option (List ℕ)) (before reading after : Reading) (first last : Machine) → before.rest ≡ source → before.taken ≡ 0 → reading.most ≡ 4_294_967_296 → Begins before reading first → Serves first last reading after held now r → OnErr r (AnswersPart source held now)
-answers_part (Ok x) source held now before reading after first last from none most b serves = tt
-answers_part (Err fault) source held now before reading after first last from none most b serves =
-    subst (λ a. AnswersPart a held now) from
-    (part_answered before.rest b.mid.rest reading.rest serves.left held now b.line b.took.text b.read.read.text b.head b.setting b.lags last serves.lines serves.text (reading.most - reading.taken) b.took.free b.took.ends b.took.took b.spelled b.read.read.took b.read.read.split b.read.set b.end (may_take before reading first b none most) serves.read
-    (subst (λ m. Transcript m serves.lines serves.text last) b.start serves.ran)
-    (part_of_serving fault after held now serves.lines serves.text serves.part serves.ended))
-
 -- nothing is written yet
 pub none_written : (source held : Option (List ℕ)) → AnswersPart source held held
 none_written None held = tt
 none_written (Some xs) held = inl (appends_none held)
+
+-- ---- what came of the commands on a network of a head
+
+pub answers_lines : (r : Result Served ServeFault) (q : Result Served BareFault) (head : ℕ × ℕ) (first last : Machine) (before mid after : Reading) (held now : Option (List ℕ)) → q ≡ bare_result r → BeginsLines head before mid (Ok first) → Serves first last mid after held now r → OnOk r (ServesAll first last mid.rest held now) → AnswersLines head before after held now q
+answers_lines (Ok x) q head first last before mid after held now is b serves all =
+    subst (λ o. AnswersLines head before after held now o) (sym is)
+    (b.0, mid, last, b.1, subst (λ m. Serves m last mid after held now (Ok x)) b.2 serves, subst (λ m. ServesAll m last mid.rest held now) b.2 all)
+answers_lines (Err fault) q head first last before mid after held now is b serves all =
+    subst (λ o. AnswersLines head before after held now o) (sym is) (inr (b.0, mid, last, b.1, subst (λ m. Serves m last mid after held now (Err fault)) b.2 serves))
+
+-- no run began
+pub answers_none : (fault : BareFault) (head : ℕ × ℕ) (before after : Reading) (held : Option (List ℕ)) → BeginsLines head before after (Err fault) → AnswersLines head before after held held (Err fault)
+answers_none Network head before after held b = refl
+answers_none (Serving fault) head before after held b = inl (b.0, b.1, refl)
+
+pub no_write : (fault : BareFault) (n : ℕ) → bare_failures {T = Machine} n (Err fault) ≡ bare_failures {T = Served} n (Err fault)
+no_write Network n = refl
+no_write (Serving Read) n = refl
+no_write (Serving Write) n = refl
+no_write (Serving Memory) n = refl
+no_write (Serving TooLong) n = refl
+no_write (Serving Head) n = refl
+
+pub same_failures : (r : Result Served ServeFault) (q : Result Served BareFault) (n : ℕ) → q ≡ bare_result r → write_failures n r ≡ bare_failures n q
+same_failures (Ok x) q n is = ap (bare_failures n) (sym is)
+same_failures (Err Read) q n is = ap (bare_failures n) (sym is)
+same_failures (Err Write) q n is = ap (bare_failures n) (sym is)
+same_failures (Err Memory) q n is = ap (bare_failures n) (sym is)
+same_failures (Err TooLong) q n is = ap (bare_failures n) (sym is)
+same_failures (Err Head) q n is = ap (bare_failures n) (sym is)
+
+pub refused_by : {P : Type 0} (r : Result Served BareFault) (fault : ServeFault) → IsErrAnd r (λ e. e ≡ Serving fault) → (serve_status fault ≡ 2 → P) → IfErr r (λ f. bare_status f ≡ 2 → P)
+refused_by (Ok x) fault is give = absurd is
+refused_by (Err f) fault is give = λ two. give (sym (ap bare_status is) ∙ two)
+
+pub lines_all : (r : Result Served BareFault) (source held now : Option (List ℕ)) (before reading after : Reading) (head : ℕ × ℕ) → before.rest ≡ source → before.taken ≡ 0 → before.most ≡ 4_294_967_296 → TakesHead before reading (Ok head) → reading.most ≡ before.most → AnswersLines head reading after held now r → OnOk r (AnswersAll source held now)
+lines_all (Err e) source held now before reading after head from none most takes same answers = tt
+lines_all (Ok x) source held now before reading after head from none most takes same answers =
+    let mid = answers.1 in
+    let l = answers.3.lags in
+    subst (λ a. AnswersAll a held now) from
+    (all_answered before.rest reading.rest mid.rest held now takes.0 takes.1.text l.1.read.text head answers.0 l.0 answers.2 (mid.most - mid.taken) takes.1.free takes.1.ends takes.1.took takes.3 l.1.read.took l.1.read.split l.1.set l.2
+    (may_take before reading mid (first_setting head) answers.0 takes.0 l.0 takes.1 l.1 none (answers.3.most ∙ (same ∙ most))) answers.5)
+
+pub lines_part : (r : Result Served BareFault) (source held now : Option (List ℕ)) (before reading after : Reading) (head : ℕ × ℕ) → before.rest ≡ source → before.taken ≡ 0 → before.most ≡ 4_294_967_296 → TakesHead before reading (Ok head) → reading.most ≡ before.most → AnswersLines head reading after held now r → OnErr r (AnswersPart source held now)
+lines_part (Ok x) source held now before reading after head from none most takes same answers = tt
+lines_part (Err Network) source held now before reading after head from none most takes same answers = subst (λ n. AnswersPart source held n) (sym answers) (none_written source held)
+lines_part (Err (Serving fault)) source held now before reading after head from none most takes same (inl unread) = subst (λ n. AnswersPart source held n) (sym unread.2) (none_written source held)
+lines_part (Err (Serving fault)) source held now before reading after head from none most takes same (inr answers) =
+    let mid = answers.1 in
+    let l = answers.3.lags in
+    let serves = answers.4 in
+    subst (λ a. AnswersPart a held now) from
+    (part_answered before.rest reading.rest mid.rest serves.left held now takes.0 takes.1.text l.1.read.text head answers.0 l.0 answers.2 serves.lines serves.text (mid.most - mid.taken) takes.1.free takes.1.ends takes.1.took takes.3 l.1.read.took l.1.read.split l.1.set l.2
+    (may_take before reading mid (first_setting head) answers.0 takes.0 l.0 takes.1 l.1 none (answers.3.most ∙ (same ∙ most))) serves.read serves.ran
+    (part_of_serving fault after held now serves.lines serves.text serves.part serves.ended))
+
+-- ---- input that is refused
+
+past : (a c : Option (List ℕ)) (text : List ℕ) → Consumes a c text → HasMore c → length text ≡ 4_294_967_296 → IsRefused a
+past None c text took more is = tt
+past (Some xs) None text took more is = absurd took
+past (Some xs) (Some []) text took more is = absurd more
+past (Some xs) (Some (y ∷ ys)) text took more is = inr (inr (omega (arith, ap length took, length-append text (y ∷ ys), is)))
+
+no_head : (a c : Option (List ℕ)) (line text : List ℕ) → Free line → EndsLine line text c → Consumes a c text → (256 < length line) ⊎ (head_of line ≡ None) → IsRefused a
+no_head None c line text free ends took bad = tt
+no_head (Some xs) None line text free ends took bad = absurd took
+no_head (Some xs) (Some zs) line text free ends took bad = inl (subst HasNoHead (sym (first_whole (Some xs) (Some zs) line text free ends took)) bad)
+
+no_line : (a c : Option (List ℕ)) → Consumes a c [] → IsAtEnd c → IsRefused a
+no_line None c took end = tt
+no_line (Some xs) None took end = absurd took
+no_line (Some xs) (Some zs) took end =
+    let is : xs ≡ [] = took ∙ end in
+    inl (subst (λ bytes. HasNoHead (lines_of bytes)) (sym is) tt)
+
+-- no head was read
+pub head_refused : (fault : ServeFault) (source : Option (List ℕ)) (before after : Reading) → before.rest ≡ source → before.taken ≡ 0 → before.most ≡ 4_294_967_296 → TakesHead before after (Err fault) → SameLimits before after → serve_status fault ≡ 2 → IsRefused source
+head_refused Read source before after from none most takes same is = cc
+head_refused Write source before after from none most takes same is = absurd takes
+head_refused Memory source before after from none most takes same is = absurd takes
+head_refused TooLong source before after from none most takes same is =
+    subst IsRefused from
+    (past before.rest after.rest takes.0.text takes.0.took takes.1 (omega (arith, takes.0.counted, none, takes.2, same.most, most)))
+head_refused Head source before after from none most (inl takes) same is =
+    subst IsRefused from (no_head before.rest after.rest takes.0 takes.1.text takes.1.free takes.1.ends takes.1.took takes.2)
+head_refused Head source before after from none most (inr takes) same is =
+    subst IsRefused from (no_line before.rest after.rest takes.0 takes.1)
+
+serving_refused : (fault : ServeFault) (before reading mid after : Reading) (head : ℕ × ℕ) (setting : Situation) (first last : Machine) (held now : Option (List ℕ)) → before.taken ≡ 0 → before.most ≡ 4_294_967_296 → TakesHead before reading (Ok head) → reading.most ≡ before.most → TakesAllLags head reading mid setting → after.most ≡ reading.most → Serves first last mid after held now (Err fault) → serve_status fault ≡ 2 → IsRefused before.rest
+serving_refused Read before reading mid after head setting first last held now none most takes same lags still serves is = cc
+serving_refused Write before reading mid after head setting first last held now none most takes same lags still serves is = cc
+serving_refused Memory before reading mid after head setting first last held now none most takes same lags still serves is = cc
+serving_refused Head before reading mid after head setting first last held now none most takes same lags still serves is = absurd serves.ended
+serving_refused TooLong before reading mid after head setting first last held now none most takes same lags still serves is =
+    let l = lags.lags.1 in
+    past before.rest after.rest (takes.1.text ++ (l.read.text ++ (serves.read.text ++ serves.part)))
+    (consumes_more before.rest reading.rest after.rest takes.1.text (l.read.text ++ (serves.read.text ++ serves.part)) takes.1.took
+    (consumes_more reading.rest mid.rest after.rest l.read.text (serves.read.text ++ serves.part) l.read.took
+    (consumes_more mid.rest serves.left after.rest serves.read.text serves.part serves.read.took serves.behind)))
+    serves.ended.1
+    (omega (arith, length-append takes.1.text (l.read.text ++ (serves.read.text ++ serves.part)), length-append l.read.text (serves.read.text ++ serves.part), length-append serves.read.text serves.part, serves.counted, l.counted, takes.1.counted, none, serves.ended.2, still, same, most))
+
+bad_lag : (a c d e : Option (List ℕ)) (line text more bad last : List ℕ) (head lag : ℕ × ℕ) (setting : Situation) (lags : List (List ℕ)) → Free line → EndsLine line text c → Consumes a c text → head_of line ≡ Some head → Consumes c d more → IfSome c (λ ys. IfSome d (λ zs. lines_of ys ≡ lags ++ lines_of zs)) → SetsLags (first_setting head) lags setting → Free bad → EndsLine bad last e → Consumes d e last → lag_spelled bad ≡ Some lag → ¬ MaySet setting lag → IsRefused a
+bad_lag None c d e line text more bad last head lag setting lags free ends took spelled took' split set free' ends' took'' names unfit = tt
+bad_lag (Some xs) None d e line text more bad last head lag setting lags free ends took spelled took' split set free' ends' took'' names unfit = absurd took
+bad_lag (Some xs) (Some ys) None e line text more bad last head lag setting lags free ends took spelled took' split set free' ends' took'' names unfit = absurd took'
+bad_lag (Some xs) (Some ys) (Some zs) None line text more bad last head lag setting lags free ends took spelled took' split set free' ends' took'' names unfit = absurd took''
+bad_lag (Some xs) (Some ys) (Some zs) (Some ws) line text more bad last head lag setting lags free ends took spelled took' split set free' ends' took'' names unfit =
+    inr (inl (record {
+      head = head;
+      setting = setting;
+      line = line;
+      lags = lags;
+      bad = bad;
+      lag = lag;
+      rest = lines_of ws;
+      read = first_whole (Some xs) (Some ys) line text free ends took ∙ ap (λ ls. line ∷ ls) (split ∙ ap (λ ls. lags ++ ls) (first_whole (Some zs) (Some ws) bad last free' ends' took''));
+      spelled = spelled;
+      set = set;
+      names = names;
+      unfit = unfit;
+    }))
+
+lags_refused : (fault : ServeFault) (before reading after : Reading) (head : ℕ × ℕ) (setting : Situation) → TakesHead before reading (Ok head) → ReadsLags reading after (first_setting head) setting (Err fault) → serve_status fault ≡ 2 → IsRefused before.rest
+lags_refused Read before reading after head setting takes lags is = cc
+lags_refused Write before reading after head setting takes lags is = absurd lags
+lags_refused Memory before reading after head setting takes lags is = absurd lags
+lags_refused TooLong before reading after head setting takes lags is = absurd lags
+lags_refused Head before reading after head setting takes lags is =
+    bad_lag before.rest reading.rest lags.1.rest after.rest takes.0 takes.1.text lags.4.read.text lags.2 lags.5.text head lags.3 setting lags.0 takes.1.free takes.1.ends takes.1.took takes.3 lags.4.read.took lags.4.read.split lags.4.set lags.5.free lags.5.ends lags.5.took lags.6 lags.7
+
+pub lines_refused : (r : Result Served BareFault) (source held now : Option (List ℕ)) (before reading after : Reading) (head : ℕ × ℕ) → before.rest ≡ source → before.taken ≡ 0 → before.most ≡ 4_294_967_296 → TakesHead before reading (Ok head) → reading.most ≡ before.most → after.most ≡ reading.most → AnswersLines head reading after held now r → IfErr r (λ fault. bare_status fault ≡ 2 → IsRefused source)
+lines_refused (Ok x) source held now before reading after head from none most takes same still answers = tt
+lines_refused (Err Network) source held now before reading after head from none most takes same still answers = λ is. cc
+lines_refused (Err (Serving fault)) source held now before reading after head from none most takes same still (inl unread) =
+    λ is. subst IsRefused from (lags_refused fault before reading after head unread.0 takes unread.1 is)
+lines_refused (Err (Serving fault)) source held now before reading after head from none most takes same still (inr answers) =
+    λ is. subst IsRefused from (serving_refused fault before reading answers.1 after head answers.0 (first_machine head answers.0) answers.2 held now none most takes same answers.3 still answers.4 is)

@@ -42,3 +42,9 @@ AsksFor words (Check w) = (fault_of tempo_app words ≡ []) × AsksBy (subcomman
 -- the words ask for no network of bounds: for something else, or for nothing
 abbrev pub AsksForNoNetwork : List Text → Type 0
 AsksForNoNetwork words = AsksFor words Bare → ⊥
+
+-- words ask for one kind of thing at most: for commands on a network, for a verdict, or for help
+pub record AskForOneThing (words : List Text) : Type 0 where
+  pub bare_check : (w : PlanWords) → AsksFor words Bare → AsksFor words (Check w) → ⊥
+  pub bare_help : (text : _) → AsksFor words Bare → AsksFor words (Help text) → ⊥
+  pub check_help : (w : PlanWords) (text : _) → AsksFor words (Check w) → AsksFor words (Help text) → ⊥
