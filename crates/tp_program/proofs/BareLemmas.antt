@@ -1,40 +1,77 @@
--- A head and then commands.
-use Rattle.std.proofs.Common.{◌≡◌, ◌+◌, ◌<◌, ℕ, List, [], ◌++◌, ◌⊎◌, length-append, length, take, Option, Some, None, subst, sym, ap, ◌∷◌, ◌∙◌, inl, inr, arith}
-use Rattle.std.specs.Prelude.{Result, Ok, Err, IfErr, IsErrAnd, OnOk, OnErr}
+-- A head, lines of lags, and then commands.
+use Rattle.std.proofs.Common.{◌≡◌, ◌+◌, ◌-◌, ◌≤◌, ◌<◌, ℕ, List, [], ◌++◌, ◌⊎◌, length-append, length, Bool, true, false, cond, nat_eq, Option, Some, None, refl, subst, sym, ap, ◌∷◌, ◌∙◌, inl, inr, arith}
+use Rattle.std.specs.Prelude.{Result, Ok, Err, IfErr, IfSome, IsErrAnd, OnOk, OnErr}
 use Rattle.std.specs.Io.KnownBytes.{Appends, Consumes, IsAtEnd}
 use Rattle.tp_device.specs.Bytes.{AppendsPart}
 use Rattle.tp_device.proofs.Parts.{appends_none}
+use Rattle.tp_bounds.specs.Situation.{Situation}
 use Rattle.tp_exec.specs.Machine.{Machine}
 use Rattle.tp_script.specs.Pending.{Reading}
-use Rattle.tp_script.specs.Reading.{Free, EndsLine}
-use Rattle.tp_script.specs.Transcript.{lines_of, Transcript}
+use Rattle.tp_script.specs.Reading.{Free, EndsLine, TakesWhole}
+use Rattle.tp_script.specs.Transcript.{lines_of, before_lines, Transcript}
+use Rattle.tp_script.specs.Lags.{lag_spelled, MaySet, SetsLags, TakesLags, NoLagNext, ReadsLags}
 use Rattle.tp_script.specs.Serving.{write_failures, Serves, ServesAll, TakesLines, EndsServing, TakesHead, head_of}
 use Rattle.tp_script.specs.declared.serving.Served.{Served}
 use Rattle.tp_script.specs.declared.serving.ServeFault.{ServeFault}
 use Rattle.tp_script.specs.declared.serving.ServeFault.TheVariants.{Read, Write, Memory, TooLong, Head}
 use Rattle.tp_script.proofs.ServeLemmas.{first_whole}
 use Rattle.tp_script.specs.Reading.{HasMore, SameLimits}
-use Rattle.tp_program.specs.Bare.{first_machine, AnswersAll, AnswersLines, AnswersPart, HasNoHead, IsRefused, bare_failures, bare_result}
+use Rattle.tp_program.specs.Bare.{first_setting, first_machine, EndLags, AnswersAll, AnswersLines, AnswersPart, TakesAllLags, BeginsLines, HasNoHead, HasBadLag, IsRefused, bare_failures, bare_result}
 use Rattle.tp_program.specs.Statuses.{bare_status, serve_status}
 use Rattle.tp_program.specs.declared.bare.BareFault.{BareFault}
 use Rattle.tp_program.specs.declared.bare.BareFault.TheVariants.{Network, Serving}
 use Rattle.tp_program.proofs.FaultLemmas.{whole_part}
 use Rattle.tp_program.proofs.FileLemmas.{consumes_more}
 
+-- ---- the lines of lags
+
+head_is : (a b : List ℕ) (cs ds : List (List ℕ)) → a ∷ cs ≡ b ∷ ds → a ≡ b
+head_is a b cs ds h = cc
+
+-- a line is no longer than its text
+line_within : (xs line : List ℕ) (rest : List (List ℕ)) → lines_of xs ≡ line ∷ rest → length line ≤ length xs
+line_within [] line rest h = absurd (let f : ⊥ = cc in f)
+line_within (b ∷ bs) line rest h = go (nat_eq b 10) (lines_of bs) h (λ l ls is. line_within bs l ls is)
+  where
+    go : (t : Bool) (ls : List (List ℕ)) → cond t ([] ∷ ls) (before_lines b ls) ≡ line ∷ rest → ((l : List ℕ) (ms : List (List ℕ)) → ls ≡ l ∷ ms → length l ≤ length bs) → length line ≤ length (b ∷ bs)
+    go true ls is tail = let none : [] ≡ line = head_is [] line ls rest is in omega (arith, ap length none)
+    go false [] is tail = let one : b ∷ [] ≡ line = head_is (b ∷ []) line [] rest is in omega (arith, ap length one)
+    go false (l ∷ ls) is tail =
+        let more : b ∷ l ≡ line = head_is (b ∷ l) line ls rest is in
+        let behind : length l ≤ length bs = tail l ls refl in
+        omega (arith, ap length more, behind)
+
+end_lags : (xs ys zs text lags : List ℕ) (may : ℕ) → xs ≡ text ++ ys → ys ≡ lags ++ zs → NoLagNext (Some zs) may → 4_294_967_296 ≤ may + (length text + length lags) → EndLags xs (lines_of zs)
+end_lags xs ys zs text lags may first more stop most = λ line rest is.
+    (elim (stop line rest is) [
+      | inl none ↦ inl none
+      | inr few ↦
+          inr (omega (arith, few, most, line_within zs line rest is, ap length first, ap length more, length-append text ys, length-append lags zs))
+    ])
+
+-- how many bytes may be taken behind the head and the lags
+may_take : (before reading mid : Reading) (s t : Situation) (line : List ℕ) (lags : List (List ℕ)) (w : TakesWhole before reading line) (l : TakesLags reading mid s t lags) → before.taken ≡ 0 → mid.most ≡ 4_294_967_296 → 4_294_967_296 ≤ (mid.most - mid.taken) + (length w.text + length l.read.text)
+may_take before reading mid s t line lags w l none most = omega (arith, none, most, w.counted, l.counted)
+
 -- ---- all lines are answered
 
-all_answered : (a c held now : Option (List ℕ)) (line text : List ℕ) (head : ℕ × ℕ) (last : Machine) → Free line → EndsLine line text c → Consumes a c text → head_of line ≡ Some head → ServesAll (first_machine head) last c held now → AnswersAll a held now
-all_answered None c held now line text head last free ends took spelled serves = tt
-all_answered (Some xs) None held now line text head last free ends took spelled serves = absurd took
-all_answered (Some xs) (Some zs) held now line text head last free ends took spelled serves =
+all_answered : (a c d held now : Option (List ℕ)) (line text more : List ℕ) (head : ℕ × ℕ) (setting : Situation) (lags : List (List ℕ)) (last : Machine) (may : ℕ) → Free line → EndsLine line text c → Consumes a c text → head_of line ≡ Some head → Consumes c d more → IfSome c (λ ys. IfSome d (λ zs. lines_of ys ≡ lags ++ lines_of zs)) → SetsLags (first_setting head) lags setting → NoLagNext d may → 4_294_967_296 ≤ may + (length text + length more) → ServesAll (first_machine head setting) last d held now → AnswersAll a held now
+all_answered None c d held now line text more head setting lags last may free ends took spelled took' split set stop most serves = tt
+all_answered (Some xs) None d held now line text more head setting lags last may free ends took spelled took' split set stop most serves = absurd took
+all_answered (Some xs) (Some ys) None held now line text more head setting lags last may free ends took spelled took' split set stop most serves = absurd took'
+all_answered (Some xs) (Some ys) (Some zs) held now line text more head setting lags last may free ends took spelled took' split set stop most serves =
     record {
       head = head;
+      setting = setting;
       line = line;
+      lags = lags;
       lines = lines_of zs;
       text = serves.0;
       last = last;
-      read = first_whole (Some xs) (Some zs) line text free ends took;
+      read = first_whole (Some xs) (Some ys) line text free ends took ∙ ap (λ ls. line ∷ ls) split;
       spelled = spelled;
+      set = set;
+      end = end_lags xs ys zs text more may took took' stop most;
       ran = serves.1;
       written = serves.2;
     }
@@ -48,20 +85,25 @@ part_of_serving Memory after held now lines text part ended = absurd ended
 part_of_serving TooLong after held now lines text part ended = whole_part held now text ended.0
 part_of_serving Head after held now lines text part ended = absurd ended
 
-part_answered : (a c left held now : Option (List ℕ)) (line text : List ℕ) (head : ℕ × ℕ) (last : Machine) (lines : List (List ℕ)) (answers : List ℕ) → Free line → EndsLine line text c → Consumes a c text → head_of line ≡ Some head → TakesLines c left lines → Transcript (first_machine head) lines answers last → AppendsPart held now answers → AnswersPart a held now
-part_answered None c left held now line text head last lines answers free ends took spelled takes ran part = tt
-part_answered (Some xs) None left held now line text head last lines answers free ends took spelled takes ran part = absurd took
-part_answered (Some xs) (Some zs) None held now line text head last lines answers free ends took spelled takes ran part = absurd takes.took
-part_answered (Some xs) (Some zs) (Some ys) held now line text head last lines answers free ends took spelled takes ran part =
+part_answered : (a c d left held now : Option (List ℕ)) (line text more : List ℕ) (head : ℕ × ℕ) (setting : Situation) (lags : List (List ℕ)) (last : Machine) (lines : List (List ℕ)) (answers : List ℕ) (may : ℕ) → Free line → EndsLine line text c → Consumes a c text → head_of line ≡ Some head → Consumes c d more → IfSome c (λ ys. IfSome d (λ zs. lines_of ys ≡ lags ++ lines_of zs)) → SetsLags (first_setting head) lags setting → NoLagNext d may → 4_294_967_296 ≤ may + (length text + length more) → TakesLines d left lines → Transcript (first_machine head setting) lines answers last → AppendsPart held now answers → AnswersPart a held now
+part_answered None c d left held now line text more head setting lags last lines answers may free ends took spelled took' split set stop most takes ran part = tt
+part_answered (Some xs) None d left held now line text more head setting lags last lines answers may free ends took spelled took' split set stop most takes ran part = absurd took
+part_answered (Some xs) (Some ys) None left held now line text more head setting lags last lines answers may free ends took spelled took' split set stop most takes ran part = absurd took'
+part_answered (Some xs) (Some ys) (Some zs) None held now line text more head setting lags last lines answers may free ends took spelled took' split set stop most takes ran part = absurd takes.took
+part_answered (Some xs) (Some ys) (Some zs) (Some ws) held now line text more head setting lags last lines answers may free ends took spelled took' split set stop most takes ran part =
     inr (record {
       head = head;
+      setting = setting;
       line = line;
+      lags = lags;
       lines = lines;
-      rest = lines_of ys;
+      rest = lines_of ws;
       text = answers;
       last = last;
-      read = first_whole (Some xs) (Some zs) line text free ends took ∙ ap (λ ls. line ∷ ls) takes.split;
+      read = first_whole (Some xs) (Some ys) line text free ends took ∙ ap (λ ls. line ∷ ls) (split ∙ ap (λ ls. lags ++ ls) takes.split);
       spelled = spelled;
+      set = set;
+      end = subst (EndLags xs) takes.split (end_lags xs ys zs text more may took took' stop most);
       ran = ran;
       written = part;
     })
@@ -73,12 +115,25 @@ none_written (Some xs) held = inl (appends_none held)
 
 -- ---- what came of the commands on a network of a head
 
-pub answers_lines : (r : Result Served ServeFault) (q : Result Served BareFault) (head : ℕ × ℕ) (first last : Machine) (before after : Reading) (held now : Option (List ℕ)) → q ≡ bare_result r → first ≡ first_machine head → Serves first last before after held now r → OnOk r (ServesAll first last before.rest held now) → AnswersLines head before after held now q
-answers_lines (Ok x) q head first last before after held now is start serves all =
+pub answers_lines : (r : Result Served ServeFault) (q : Result Served BareFault) (head : ℕ × ℕ) (first last : Machine) (before mid after : Reading) (held now : Option (List ℕ)) → q ≡ bare_result r → BeginsLines head before mid (Ok first) → Serves first last mid after held now r → OnOk r (ServesAll first last mid.rest held now) → AnswersLines head before after held now q
+answers_lines (Ok x) q head first last before mid after held now is b serves all =
     subst (λ o. AnswersLines head before after held now o) (sym is)
-    (last, subst (λ m. Serves m last before after held now (Ok x)) start serves, subst (λ m. ServesAll m last before.rest held now) start all)
-answers_lines (Err fault) q head first last before after held now is start serves all =
-    subst (λ o. AnswersLines head before after held now o) (sym is) (last, subst (λ m. Serves m last before after held now (Err fault)) start serves)
+    (b.0, mid, last, b.1, subst (λ m. Serves m last mid after held now (Ok x)) b.2 serves, subst (λ m. ServesAll m last mid.rest held now) b.2 all)
+answers_lines (Err fault) q head first last before mid after held now is b serves all =
+    subst (λ o. AnswersLines head before after held now o) (sym is) (inr (b.0, mid, last, b.1, subst (λ m. Serves m last mid after held now (Err fault)) b.2 serves))
+
+-- no run began
+pub answers_none : (fault : BareFault) (head : ℕ × ℕ) (before after : Reading) (held : Option (List ℕ)) → BeginsLines head before after (Err fault) → AnswersLines head before after held held (Err fault)
+answers_none Network head before after held b = refl
+answers_none (Serving fault) head before after held b = inl (b.0, b.1, refl)
+
+pub no_write : (fault : BareFault) (n : ℕ) → bare_failures {T = Machine} n (Err fault) ≡ bare_failures {T = Served} n (Err fault)
+no_write Network n = refl
+no_write (Serving Read) n = refl
+no_write (Serving Write) n = refl
+no_write (Serving Memory) n = refl
+no_write (Serving TooLong) n = refl
+no_write (Serving Head) n = refl
 
 pub same_failures : (r : Result Served ServeFault) (q : Result Served BareFault) (n : ℕ) → q ≡ bare_result r → write_failures n r ≡ bare_failures n q
 same_failures (Ok x) q n is = ap (bare_failures n) (sym is)
@@ -92,19 +147,27 @@ pub refused_by : {P : Type 0} (r : Result Served BareFault) (fault : ServeFault)
 refused_by (Ok x) fault is give = absurd is
 refused_by (Err f) fault is give = λ two. give (sym (ap bare_status is) ∙ two)
 
-pub lines_all : (r : Result Served BareFault) (source held now : Option (List ℕ)) (before reading after : Reading) (head : ℕ × ℕ) → before.rest ≡ source → TakesHead before reading (Ok head) → AnswersLines head reading after held now r → OnOk r (AnswersAll source held now)
-lines_all (Err e) source held now before reading after head from takes answers = tt
-lines_all (Ok x) source held now before reading after head from takes answers =
+pub lines_all : (r : Result Served BareFault) (source held now : Option (List ℕ)) (before reading after : Reading) (head : ℕ × ℕ) → before.rest ≡ source → before.taken ≡ 0 → before.most ≡ 4_294_967_296 → TakesHead before reading (Ok head) → reading.most ≡ before.most → AnswersLines head reading after held now r → OnOk r (AnswersAll source held now)
+lines_all (Err e) source held now before reading after head from none most takes same answers = tt
+lines_all (Ok x) source held now before reading after head from none most takes same answers =
+    let mid = answers.1 in
+    let l = answers.3.lags in
     subst (λ a. AnswersAll a held now) from
-    (all_answered before.rest reading.rest held now takes.0 takes.1.text head answers.0 takes.1.free takes.1.ends takes.1.took takes.3 answers.2)
+    (all_answered before.rest reading.rest mid.rest held now takes.0 takes.1.text l.1.read.text head answers.0 l.0 answers.2 (mid.most - mid.taken) takes.1.free takes.1.ends takes.1.took takes.3 l.1.read.took l.1.read.split l.1.set l.2
+    (may_take before reading mid (first_setting head) answers.0 takes.0 l.0 takes.1 l.1 none (answers.3.most ∙ (same ∙ most))) answers.5)
 
-pub lines_part : (r : Result Served BareFault) (source held now : Option (List ℕ)) (before reading after : Reading) (head : ℕ × ℕ) → before.rest ≡ source → TakesHead before reading (Ok head) → AnswersLines head reading after held now r → OnErr r (AnswersPart source held now)
-lines_part (Ok x) source held now before reading after head from takes answers = tt
-lines_part (Err Network) source held now before reading after head from takes answers = subst (λ n. AnswersPart source held n) (sym answers) (none_written source held)
-lines_part (Err (Serving fault)) source held now before reading after head from takes answers =
+pub lines_part : (r : Result Served BareFault) (source held now : Option (List ℕ)) (before reading after : Reading) (head : ℕ × ℕ) → before.rest ≡ source → before.taken ≡ 0 → before.most ≡ 4_294_967_296 → TakesHead before reading (Ok head) → reading.most ≡ before.most → AnswersLines head reading after held now r → OnErr r (AnswersPart source held now)
+lines_part (Ok x) source held now before reading after head from none most takes same answers = tt
+lines_part (Err Network) source held now before reading after head from none most takes same answers = subst (λ n. AnswersPart source held n) (sym answers) (none_written source held)
+lines_part (Err (Serving fault)) source held now before reading after head from none most takes same (inl unread) = subst (λ n. AnswersPart source held n) (sym unread.2) (none_written source held)
+lines_part (Err (Serving fault)) source held now before reading after head from none most takes same (inr answers) =
+    let mid = answers.1 in
+    let l = answers.3.lags in
+    let serves = answers.4 in
     subst (λ a. AnswersPart a held now) from
-    (part_answered before.rest reading.rest answers.1.left held now takes.0 takes.1.text head answers.0 answers.1.lines answers.1.text takes.1.free takes.1.ends takes.1.took takes.3 answers.1.read answers.1.ran
-    (part_of_serving fault after held now answers.1.lines answers.1.text answers.1.part answers.1.ended))
+    (part_answered before.rest reading.rest mid.rest serves.left held now takes.0 takes.1.text l.1.read.text head answers.0 l.0 answers.2 serves.lines serves.text (mid.most - mid.taken) takes.1.free takes.1.ends takes.1.took takes.3 l.1.read.took l.1.read.split l.1.set l.2
+    (may_take before reading mid (first_setting head) answers.0 takes.0 l.0 takes.1 l.1 none (answers.3.most ∙ (same ∙ most))) serves.read serves.ran
+    (part_of_serving fault after held now serves.lines serves.text serves.part serves.ended))
 
 -- ---- input that is refused
 
@@ -112,7 +175,7 @@ past : (a c : Option (List ℕ)) (text : List ℕ) → Consumes a c text → Has
 past None c text took more is = tt
 past (Some xs) None text took more is = absurd took
 past (Some xs) (Some []) text took more is = absurd more
-past (Some xs) (Some (y ∷ ys)) text took more is = inr (omega (arith, ap length took, length-append text (y ∷ ys), is))
+past (Some xs) (Some (y ∷ ys)) text took more is = inr (inr (omega (arith, ap length took, length-append text (y ∷ ys), is)))
 
 no_head : (a c : Option (List ℕ)) (line text : List ℕ) → Free line → EndsLine line text c → Consumes a c text → (256 < length line) ⊎ (head_of line ≡ None) → IsRefused a
 no_head None c line text free ends took bad = tt
@@ -139,20 +202,53 @@ head_refused Head source before after from none most (inl takes) same is =
 head_refused Head source before after from none most (inr takes) same is =
     subst IsRefused from (no_line before.rest after.rest takes.0 takes.1)
 
-serving_refused : (fault : ServeFault) (before reading after : Reading) (head : ℕ × ℕ) (first last : Machine) (held now : Option (List ℕ)) → before.taken ≡ 0 → before.most ≡ 4_294_967_296 → TakesHead before reading (Ok head) → reading.most ≡ before.most → after.most ≡ reading.most → Serves first last reading after held now (Err fault) → serve_status fault ≡ 2 → IsRefused before.rest
-serving_refused Read before reading after head first last held now none most takes same still serves is = cc
-serving_refused Write before reading after head first last held now none most takes same still serves is = cc
-serving_refused Memory before reading after head first last held now none most takes same still serves is = cc
-serving_refused Head before reading after head first last held now none most takes same still serves is = absurd serves.ended
-serving_refused TooLong before reading after head first last held now none most takes same still serves is =
-    past before.rest after.rest (takes.1.text ++ (serves.read.text ++ serves.part))
-    (consumes_more before.rest reading.rest after.rest takes.1.text (serves.read.text ++ serves.part) takes.1.took
-    (consumes_more reading.rest serves.left after.rest serves.read.text serves.part serves.read.took serves.behind))
+serving_refused : (fault : ServeFault) (before reading mid after : Reading) (head : ℕ × ℕ) (setting : Situation) (first last : Machine) (held now : Option (List ℕ)) → before.taken ≡ 0 → before.most ≡ 4_294_967_296 → TakesHead before reading (Ok head) → reading.most ≡ before.most → TakesAllLags head reading mid setting → after.most ≡ reading.most → Serves first last mid after held now (Err fault) → serve_status fault ≡ 2 → IsRefused before.rest
+serving_refused Read before reading mid after head setting first last held now none most takes same lags still serves is = cc
+serving_refused Write before reading mid after head setting first last held now none most takes same lags still serves is = cc
+serving_refused Memory before reading mid after head setting first last held now none most takes same lags still serves is = cc
+serving_refused Head before reading mid after head setting first last held now none most takes same lags still serves is = absurd serves.ended
+serving_refused TooLong before reading mid after head setting first last held now none most takes same lags still serves is =
+    let l = lags.lags.1 in
+    past before.rest after.rest (takes.1.text ++ (l.read.text ++ (serves.read.text ++ serves.part)))
+    (consumes_more before.rest reading.rest after.rest takes.1.text (l.read.text ++ (serves.read.text ++ serves.part)) takes.1.took
+    (consumes_more reading.rest mid.rest after.rest l.read.text (serves.read.text ++ serves.part) l.read.took
+    (consumes_more mid.rest serves.left after.rest serves.read.text serves.part serves.read.took serves.behind)))
     serves.ended.1
-    (omega (arith, length-append takes.1.text (serves.read.text ++ serves.part), length-append serves.read.text serves.part, serves.counted, takes.1.counted, none, serves.ended.2, still, same, most))
+    (omega (arith, length-append takes.1.text (l.read.text ++ (serves.read.text ++ serves.part)), length-append l.read.text (serves.read.text ++ serves.part), length-append serves.read.text serves.part, serves.counted, l.counted, takes.1.counted, none, serves.ended.2, still, same, most))
+
+bad_lag : (a c d e : Option (List ℕ)) (line text more bad last : List ℕ) (head lag : ℕ × ℕ) (setting : Situation) (lags : List (List ℕ)) → Free line → EndsLine line text c → Consumes a c text → head_of line ≡ Some head → Consumes c d more → IfSome c (λ ys. IfSome d (λ zs. lines_of ys ≡ lags ++ lines_of zs)) → SetsLags (first_setting head) lags setting → Free bad → EndsLine bad last e → Consumes d e last → lag_spelled bad ≡ Some lag → ¬ MaySet setting lag → IsRefused a
+bad_lag None c d e line text more bad last head lag setting lags free ends took spelled took' split set free' ends' took'' names unfit = tt
+bad_lag (Some xs) None d e line text more bad last head lag setting lags free ends took spelled took' split set free' ends' took'' names unfit = absurd took
+bad_lag (Some xs) (Some ys) None e line text more bad last head lag setting lags free ends took spelled took' split set free' ends' took'' names unfit = absurd took'
+bad_lag (Some xs) (Some ys) (Some zs) None line text more bad last head lag setting lags free ends took spelled took' split set free' ends' took'' names unfit = absurd took''
+bad_lag (Some xs) (Some ys) (Some zs) (Some ws) line text more bad last head lag setting lags free ends took spelled took' split set free' ends' took'' names unfit =
+    inr (inl (record {
+      head = head;
+      setting = setting;
+      line = line;
+      lags = lags;
+      bad = bad;
+      lag = lag;
+      rest = lines_of ws;
+      read = first_whole (Some xs) (Some ys) line text free ends took ∙ ap (λ ls. line ∷ ls) (split ∙ ap (λ ls. lags ++ ls) (first_whole (Some zs) (Some ws) bad last free' ends' took''));
+      spelled = spelled;
+      set = set;
+      names = names;
+      unfit = unfit;
+    }))
+
+lags_refused : (fault : ServeFault) (before reading after : Reading) (head : ℕ × ℕ) (setting : Situation) → TakesHead before reading (Ok head) → ReadsLags reading after (first_setting head) setting (Err fault) → serve_status fault ≡ 2 → IsRefused before.rest
+lags_refused Read before reading after head setting takes lags is = cc
+lags_refused Write before reading after head setting takes lags is = absurd lags
+lags_refused Memory before reading after head setting takes lags is = absurd lags
+lags_refused TooLong before reading after head setting takes lags is = absurd lags
+lags_refused Head before reading after head setting takes lags is =
+    bad_lag before.rest reading.rest lags.1.rest after.rest takes.0 takes.1.text lags.4.read.text lags.2 lags.5.text head lags.3 setting lags.0 takes.1.free takes.1.ends takes.1.took takes.3 lags.4.read.took lags.4.read.split lags.4.set lags.5.free lags.5.ends lags.5.took lags.6 lags.7
 
 pub lines_refused : (r : Result Served BareFault) (source held now : Option (List ℕ)) (before reading after : Reading) (head : ℕ × ℕ) → before.rest ≡ source → before.taken ≡ 0 → before.most ≡ 4_294_967_296 → TakesHead before reading (Ok head) → reading.most ≡ before.most → after.most ≡ reading.most → AnswersLines head reading after held now r → IfErr r (λ fault. bare_status fault ≡ 2 → IsRefused source)
 lines_refused (Ok x) source held now before reading after head from none most takes same still answers = tt
 lines_refused (Err Network) source held now before reading after head from none most takes same still answers = λ is. cc
-lines_refused (Err (Serving fault)) source held now before reading after head from none most takes same still answers =
-    λ is. subst IsRefused from (serving_refused fault before reading after head (first_machine head) answers.0 held now none most takes same still answers.1 is)
+lines_refused (Err (Serving fault)) source held now before reading after head from none most takes same still (inl unread) =
+    λ is. subst IsRefused from (lags_refused fault before reading after head unread.0 takes unread.1 is)
+lines_refused (Err (Serving fault)) source held now before reading after head from none most takes same still (inr answers) =
+    λ is. subst IsRefused from (serving_refused fault before reading answers.1 after head answers.0 (first_machine head answers.0) answers.2 held now none most takes same answers.3 still answers.4 is)

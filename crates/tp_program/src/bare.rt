@@ -1,6 +1,6 @@
-// A network of bounds alone: its head, and the commands on it.
-ghost use Rattle.std.specs.Prelude.{◌≡◌, ◌≢◌, ◌≤◌, [], IfErr, OnOk, OnErr};
-ghost use Rattle.tp_program.specs.Bare.{AnswersAll, AnswersLines, AnswersPart, Ends, IsRefused, bare_failures, bare_result};
+// A network of bounds alone: its head, the lags of its events, and the commands on it.
+ghost use Rattle.std.specs.Prelude.{◌≡◌, ◌≢◌, ℕ, ◌≤◌, [], IfErr, OnOk, OnErr};
+ghost use Rattle.tp_program.specs.Bare.{AnswersAll, AnswersLines, AnswersPart, BeginsLines, Ends, IsRefused, bare_failures, bare_result};
 ghost use Rattle.tp_program.specs.FaultLines.{TellsFault};
 ghost use Rattle.tp_program.specs.Statuses.{bare_status};
 
@@ -10,7 +10,7 @@ use tp_bounds::Limits;
 use tp_device::{Sink, Source};
 use tp_exec::Executive;
 use tp_net::ScratchNet;
-use tp_script::{Lines, ServeFault, Served, read_head, serve};
+use tp_script::{Lines, ServeFault, Served, read_head, read_lags, serve};
 
 /// The most bytes of a command line.
 const LONGEST: usize = 256;
@@ -45,7 +45,34 @@ fn of_network(served: Result<Served, ServeFault>) -> Result<Served, BareFault>
     }
 }
 
-/// Answers the commands of the lines, on a new network under the greatest limits.
+/// Reads the lags of a new network, and makes an executive over it under the greatest limits.
+fn begin<I: Source>(
+    alloc: Global,
+    lines: &mut Lines<I>,
+    events: u16,
+    horizon: u32,
+) -> Result<Executive<ScratchNet>, BareFault>
+    requires longest { lines.old.longest ≡ 256 }
+    requires events { events ≤ 1024 }
+    requires horizon { horizon ≤ 1000000000 }
+    ensures begins { BeginsLines (events, horizon) lines.old lines.new result }
+    ensures longest { lines.new.longest ≡ lines.old.longest }
+    ensures most { lines.new.most ≡ lines.old.most }
+    ensures told { (n : ℕ) → bare_failures n result ≡ n }
+{
+    match ScratchNet::new(alloc, events, horizon) {
+        Ok(net) => {
+            let mut net = net;
+            match read_lags(lines, &mut net) {
+                Ok(()) => Ok(Executive::bare(alloc, Limits::greatest(horizon), net)),
+                Err(fault) => Err(BareFault::Serving(fault)),
+            }
+        }
+        Err(_) => Err(BareFault::Network),
+    }
+}
+
+/// Answers the commands of the lines behind the lags, on a new network.
 fn answer<I: Source + Drop, O: Sink>(
     alloc: Global,
     lines: &mut Lines<I>,
@@ -60,16 +87,16 @@ fn answer<I: Source + Drop, O: Sink>(
     ensures most { lines.new.most ≡ lines.old.most }
     ensures told { O.failures output.new ≡ bare_failures (O.failures output.old) result }
 {
-    match ScratchNet::new(alloc, events, horizon) {
-        Ok(net) => {
-            let mut executive = Executive::bare(alloc, Limits::greatest(horizon), net);
+    match begin(alloc, lines, events, horizon) {
+        Ok(executive) => {
+            let mut executive = executive;
             of_network(serve(&mut executive, lines, output))
         }
-        Err(_) => Err(BareFault::Network),
+        Err(fault) => Err(fault),
     }
 }
 
-/// Reads the head of a network, and answers the commands that follow it.
+/// Reads the head of a network and the lags of its events, and answers the commands that follow.
 fn bare<I: Source + Drop, O: Sink>(
     alloc: Global,
     input: I,

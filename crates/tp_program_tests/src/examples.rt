@@ -283,3 +283,118 @@ fn a_night_at_a_telescope(rt: HostRuntime) {
         )
     );
 }
+
+/// Between its floor and now an event may have happened already; the report fixes it there.
+#[test]
+fn an_event_that_is_reported_late(rt: HostRuntime) {
+    assert!(rt;
+        shows(
+            rt.alloc(),
+            "network 2 10\n\
+         lag 0 3\n\
+         add 0 1 5\n\
+         advance 4\n\
+         window 0\n\
+         window 1\n\
+         happened 0 0\n\
+         happened 0 5\n\
+         happened 0 2\n\
+         window 1\n\
+         happened 0 2\n\
+         dispatch 1\n\
+         report\n",
+            "bound 0\n\
+         ok\n\
+         window 1 10\n\
+         window 4 10\n\
+         refused back\n\
+         refused moment\n\
+         ok\n\
+         window 4 7\n\
+         refused done\n\
+         ok\n\
+         report 4 bare 2! 4!\n",
+        )
+    );
+}
+
+/// Time goes on as long as the event may have happened within its lag.
+#[test]
+fn the_floor_lies_back_by_the_lag(rt: HostRuntime) {
+    assert!(rt;
+        shows(
+            rt.alloc(),
+            "network 2 10\n\
+         lag 0 3\n\
+         add o 0 2\n\
+         advance 6\n\
+         advance 5\n\
+         happened 0 2\n",
+            "bound 0\n\
+         refused conflict now0 b0\n\
+         ok\n\
+         ok\n",
+        )
+    );
+}
+
+/// What is reported has to meet the bounds as what is dispatched has.
+#[test]
+fn a_report_that_a_bound_forbids(rt: HostRuntime) {
+    assert!(rt;
+        shows(
+            rt.alloc(),
+            "network 1 10\n\
+         lag 0 4\n\
+         add 0 o -3\n\
+         advance 4\n\
+         happened 0 1\n",
+            "bound 0\n\
+         ok\n\
+         refused conflict past0+ b0\n",
+        )
+    );
+}
+
+/// A lag behind the first command is no command.
+#[test]
+fn lags_stand_behind_the_head_alone(rt: HostRuntime) {
+    assert!(rt;
+        shows(
+            rt.alloc(),
+            "network 1 5\n\
+         window 0\n\
+         lag 0 2\n\
+         happened 1 0\n",
+            "window 0 5\n\
+         refused line\n\
+         refused event\n",
+        )
+    );
+}
+
+/// The tour of lags in README.md.
+#[test]
+fn slews_that_are_confirmed_late(rt: HostRuntime) {
+    assert!(rt;
+        shows(
+            rt.alloc(),
+            "network 2 600\n\
+         lag 1 3\n\
+         add 0 1 60\n\
+         add 1 0 -30\n\
+         dispatch 0\n\
+         advance 62\n\
+         window 1\n\
+         happened 1 59\n\
+         report\n",
+            "bound 0\n\
+         bound 1\n\
+         ok\n\
+         ok\n\
+         window 59 60\n\
+         ok\n\
+         report 62 bare 0! 59!\n",
+        )
+    );
+}

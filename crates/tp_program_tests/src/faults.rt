@@ -80,6 +80,14 @@ fn a_first_line_that_is_no_head_is_refused(rt: HostRuntime) {
     }
 }
 
+/// A lag of no event, a second one of an event, and one out of range.
+#[test]
+fn a_lag_that_does_not_fit_is_no_head(rt: HostRuntime) {
+    assert!(rt; has_no_head(rt.alloc(), "network 1 5\nlag 1 2\n"));
+    assert!(rt; has_no_head(rt.alloc(), "network 1 5\nlag 0 2\nlag 0 2\n"));
+    assert!(rt; has_no_head(rt.alloc(), "network 1 5\nlag 0 1000000001\n"));
+}
+
 #[test]
 fn heads_at_their_limits(rt: HostRuntime) {
     let most = "network 1024 1000000000\nwindow 1023\nwindow 1024\n";

@@ -5,11 +5,11 @@ use Rattle.tp_program.proofs.bare.bare.Goals as goal
 
 pub returns-clause-all : goal.returns-clause-all
 returns-clause-all g c =
-    lines_all c.answer.result _ _ _ c.in_ok-lines.lines c.read_head.new.lines c.answer.new.lines (c.in_ok-events.events, c.in_ok-events.horizon) (ap (λ (l : Reading). l.rest) c.in_ok-lines.ensures.lines) c.in_ok-events.ensures.head c.answer.ensures.answers
+    lines_all c.answer.result _ _ _ c.in_ok-lines.lines c.read_head.new.lines c.answer.new.lines (c.in_ok-events.events, c.in_ok-events.horizon) (ap (λ (l : Reading). l.rest) c.in_ok-lines.ensures.lines) (ap (λ (l : Reading). l.taken) c.in_ok-lines.ensures.lines) (ap (λ (l : Reading). l.most) c.in_ok-lines.ensures.lines) c.in_ok-events.ensures.head c.in_ok-events.ensures.limits.most c.answer.ensures.answers
 
 pub returns-clause-part : goal.returns-clause-part
 returns-clause-part g c =
-    lines_part c.answer.result _ _ _ c.in_ok-lines.lines c.read_head.new.lines c.answer.new.lines (c.in_ok-events.events, c.in_ok-events.horizon) (ap (λ (l : Reading). l.rest) c.in_ok-lines.ensures.lines) c.in_ok-events.ensures.head c.answer.ensures.answers
+    lines_part c.answer.result _ _ _ c.in_ok-lines.lines c.read_head.new.lines c.answer.new.lines (c.in_ok-events.events, c.in_ok-events.horizon) (ap (λ (l : Reading). l.rest) c.in_ok-lines.ensures.lines) (ap (λ (l : Reading). l.taken) c.in_ok-lines.ensures.lines) (ap (λ (l : Reading). l.most) c.in_ok-lines.ensures.lines) c.in_ok-events.ensures.head c.in_ok-events.ensures.limits.most c.answer.ensures.answers
 
 pub returns-clause-refused : goal.returns-clause-refused
 returns-clause-refused g c =
