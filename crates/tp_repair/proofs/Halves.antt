@@ -1,6 +1,6 @@
 -- Lists of halves when an edge comes, goes, or gets another weight.
-use Rattle.std.proofs.Common.{◌≡◌, ◌≢◌, ℕ, ◌+◌, ◌-◌, ◌<◌, ◌≤◌, List, [], ◌∷◌, ◌++◌, length, refl, sym, ◌∙◌, ap, subst, inl, inr, ◌⊎◌, arith, get_or, set, get_or-set_other, zero, suc, take}
-use Rattle.std.specs.Prelude.{Result, Ok, Err, OnErr, Option, Some, None, ℤ, slice_index_or, cond, nat_eq}
+use Rattle.std.proofs.Common.{◌≡◌, ◌≢◌, ℕ, ◌+◌, ◌-◌, ◌<◌, ◌≤◌, List, [], ◌∷◌, ◌++◌, length, refl, sym, ◌∙◌, ap, subst, inl, inr, arith, set, get_or-set_other, zero, suc, take}
+use Rattle.std.specs.Prelude.{Result, Ok, Err, OnErr, Option, Some, None, ℤ, slice_index_or}
 use Rattle.std.specs.declared.alloc.Global.{Global}
 use Rattle.std.specs.declared.vec.Vec.{Vec}
 use Rattle.std.proofs.lemmas.Option.{none-some, same_Some}
@@ -11,7 +11,6 @@ use Rattle.tp_net.proofs.Spreads.{same_or}
 use Rattle.tp_bounds.specs.declared.Edge.{Edge}
 use Rattle.tp_repair.specs.declared.store.Node.{Node}
 use Rattle.tp_repair.specs.declared.store.Half.{Half}
-use Rattle.tp_repair.specs.declared.store.Store.{Store}
 use Rattle.tp_repair.specs.declared.store.Direction.{Direction}
 use Rattle.tp_repair.specs.declared.store.Direction.TheVariants.{Up, Down}
 use Rattle.tp_net.specs.declared.slacks.Arc.{Arc}

@@ -1,4 +1,4 @@
-use Rattle.std.proofs.Common.{◌≡◌, ℕ, List, length, ap, ◌∙◌, sym, arith}
+use Rattle.std.proofs.Common.{◌≡◌, List, length, ap, arith}
 use Rattle.tp_repair.specs.declared.store.Half.{Half}
 use Rattle.tp_repair.specs.Store.{halves_at}
 use Rattle.tp_repair.proofs.Stores.{halves_at_is}

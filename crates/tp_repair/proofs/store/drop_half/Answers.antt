@@ -1,5 +1,4 @@
-use Rattle.std.proofs.Common.{◌≡◌, ℕ, List, ◌+◌, ◌-◌, ◌<◌, length, ap, ◌∙◌, sym, subst, arith}
-use Rattle.std.specs.Prelude.{slice_index_or}
+use Rattle.std.proofs.Common.{◌≡◌, List, ◌-◌, length, ap, ◌∙◌, arith}
 use Rattle.tp_repair.specs.declared.store.Half.{Half}
 use Rattle.tp_repair.specs.Store.{halves_at, half_at, no_half}
 use Rattle.tp_repair.proofs.Stores.{halves_at_is, halves_written, halves_other}

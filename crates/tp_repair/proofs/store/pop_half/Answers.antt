@@ -1,6 +1,5 @@
-use Rattle.std.proofs.Common.{◌≡◌, ℕ, List, ◌∷◌, ◌++◌, [], length, take, ap, ◌∙◌, sym, arith, ◌-◌, ◌+◌}
+use Rattle.std.proofs.Common.{◌≡◌, List, ◌∷◌, ◌++◌, [], length, take, ap, ◌∙◌, arith, ◌-◌, ◌+◌}
 use Rattle.tp_repair.specs.declared.store.Half.{Half}
-use Rattle.tp_repair.specs.Store.{halves_at}
 use Rattle.tp_repair.proofs.Stores.{halves_at_is, halves_written, halves_other}
 use Rattle.tp_repair.proofs.Halves.{push_len, take_pushed}
 use Rattle.tp_repair.proofs.store.pop_half.Goals as goal

@@ -1,4 +1,4 @@
-use Rattle.std.proofs.Common.{◌≡◌, ℕ, List, ◌∷◌, ◌++◌, [], ap, ◌∙◌, sym}
+use Rattle.std.proofs.Common.{List, ◌∷◌, ◌++◌, [], ap, ◌∙◌}
 use Rattle.tp_repair.specs.declared.store.Half.{Half}
 use Rattle.tp_repair.proofs.Stores.{halves_at_is, halves_written, halves_other}
 use Rattle.tp_repair.proofs.Halves.{on_err}

@@ -1,9 +1,5 @@
-use Rattle.std.proofs.Common.{◌≡◌, ◌≢◌, ℕ, List, ap, ◌∙◌, sym, subst, length}
-use Rattle.std.specs.Prelude.{Some, None}
-use Rattle.tp_repair.specs.declared.store.Node.{Node}
 use Rattle.tp_repair.specs.declared.store.Direction.TheVariants.{Up, Down}
-use Rattle.tp_repair.specs.Store.{AreHalvesBut}
-use Rattle.tp_repair.proofs.Halves.{near_within, halves_left, halves_but_moved, halves_moved}
+use Rattle.tp_repair.proofs.Halves.{near_within, halves_left, halves_but_moved}
 use Rattle.tp_repair.proofs.store.remove.Goals as goal
 
 pub take_out-requires-clause-point : goal.take_out-requires-clause-point

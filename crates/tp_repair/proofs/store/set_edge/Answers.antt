@@ -1,4 +1,4 @@
-use Rattle.std.proofs.Common.{◌≡◌, ℕ, List, set, w64}
+use Rattle.std.proofs.Common.{◌≡◌, set, w64}
 use Rattle.std.specs.Prelude.{Some, None, slice_index_or}
 use mir.Val.{to_z, of_z}
 use Rattle.tp_repair.specs.declared.store.Node.{Node}

@@ -1,4 +1,4 @@
-use Rattle.std.proofs.Common.{◌≡◌, ℕ, List, ◌<◌, length, ap, ◌∙◌, sym, refl, arith, rules, w64}
+use Rattle.std.proofs.Common.{◌≡◌, List, length, ap, ◌∙◌, refl, arith, rules, w64}
 use Rattle.std.proofs.lemmas.Int.{to_z-of_z}
 use mir.Val.{SFits, to_z, of_z}
 use Rattle.tp_repair.specs.declared.store.Half.{Half}

@@ -1,4 +1,4 @@
-use Rattle.std.proofs.Common.{◌≡◌, ℕ, ◌+◌, get_or, subst}
+use Rattle.std.proofs.Common.{◌+◌, get_or, subst}
 use Rattle.tp_repair.specs.Store.{arcs_of}
 use Rattle.tp_repair.specs.Work.{Rises, WouldRise}
 use Rattle.tp_repair.proofs.tighten.tighten.Goals as goal
