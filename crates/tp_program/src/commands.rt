@@ -22,13 +22,15 @@ Examples:
 const BARE_ABOUT: &str = "Answers commands on a network of events and bounds";
 
 const BARE_HELP: &str =
-    "Standard input has the line `network N H`, N events up to the tick H, and then commands, one a line:
+    "Standard input has the line `network N H`, N events up to the tick H, perhaps lines `lag E L` for events that are
+reported up to L ticks late, and then commands, one a line:
 
   advance T      now becomes T
   add F T W      a bound: the moment of T is at most W after that of F
   withdraw ID    the bound is no longer in force
   window E       the least and the greatest moment of an event
   dispatch E     the event happens now
+  happened E M   the event happened at M
   report         now, and each event's moment
 
 F and T are events from 0 up, or `o` for moment 0. Standard output has one answer a line:
