@@ -17,7 +17,7 @@ use Rattle.tp_program.specs.Requests.{AsksBy, AsksFor, NamesBare, Spells}
 use Rattle.tp_text.specs.Scales.{scale_ticks}
 use Rattle.tp_program.specs.declared.requests.PlanWords.{PlanWords}
 use Rattle.tp_program.specs.declared.requests.Request.{Request}
-use Rattle.tp_program.specs.declared.requests.Request.TheVariants.{Bare, Check, Help}
+use Rattle.tp_program.specs.declared.requests.Request.TheVariants.{Bare, Check, Net, Help}
 
 module _ {Z : Type 0} where
   none_rows : (s : Option (Box SubCommand Z)) → option_map (λ b. (out-SubCommand (box_value b)).name.now) s ≡ None → subcommand_rows s ≡ None
@@ -48,6 +48,7 @@ simple_and_free = refl
 pub asks_by : (words : List Text) (named : Option (Text × List Row)) (r : Request) → fault_of tempo_app words ≡ [] → named ≡ subcommand_of tempo_app words → AsksBy named r → AsksFor words r
 asks_by words named Bare free is h = (free, subst (λ n. NamesBare n) is h)
 asks_by words named (Check w) free is h = (free, subst (λ n. AsksBy n (Check w)) is h)
+asks_by words named (Net w) free is h = (free, subst (λ n. AsksBy n (Net w)) is h)
 asks_by words named (Help text) free is h = absurd h
 
 -- an error that is a call for help
@@ -87,6 +88,25 @@ number_spelled gives f id n (Some t) e none value told =
 pub check_words : (w : PlanWords) → w.domain.now ≡ codes "d" → w.problem.now ≡ codes "p" → w.plan.now ≡ codes "l" → scale_ticks w.scale ≡ 1000 → w.horizon ≡ 1000000 → AsksFor (codes "check" ∷ codes "d" ∷ codes "p" ∷ codes "--scale" ∷ codes "1000" ∷ codes "l" ∷ []) (Check w)
 unfolding clap_on_literals
 check_words w domain problem plan scale horizon = (
+  refl,
+  (
+    _,
+    refl,
+    record {
+      domain = ap Some (sym domain);
+      problem = ap Some (sym problem);
+      plan = ap Some (sym plan);
+      scale = (codes "1000", refl, sym scale);
+      horizon = (codes "1000000", refl, sym horizon);
+      within = omega (arith, horizon);
+    },
+  ),
+)
+
+-- the same of the other command
+pub net_words : (w : PlanWords) → w.domain.now ≡ codes "d" → w.problem.now ≡ codes "p" → w.plan.now ≡ codes "l" → scale_ticks w.scale ≡ 1000 → w.horizon ≡ 1000000 → AsksFor (codes "net" ∷ codes "d" ∷ codes "p" ∷ codes "--scale" ∷ codes "1000" ∷ codes "l" ∷ []) (Net w)
+unfolding clap_on_literals
+net_words w domain problem plan scale horizon = (
   refl,
   (
     _,

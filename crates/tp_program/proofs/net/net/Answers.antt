@@ -1,0 +1,7 @@
+use Rattle.std.proofs.lemmas.Result.{IfOk-weaker}
+use Rattle.tp_program.proofs.NetLemmas.{shows}
+use Rattle.tp_program.proofs.net.net.Goals as goal
+
+pub returns-clause-said : goal.returns-clause-said
+returns-clause-said g c =
+    IfOk-weaker c.show_of.result _ _ (λ valid h. shows (g.N.Files.held c.args.files.now) (g.N.Files.held c.task_in.new.files) c.args.words _ _ _ valid c.in_ok-task.ensures.named c.task_in.ensures.same h) c.show_of.ensures.said

@@ -1,0 +1,11 @@
+use Rattle.std.proofs.Common.{ℕ, List, subst, ◌∙◌}
+use Rattle.std.specs.Io.KnownBytes.{Appends}
+use Rattle.tp_program.proofs.net.write_network.Goals as goal
+
+pub returns-in-Ok-clause-written : goal.returns-in-Ok-clause-written
+returns-in-Ok-clause-written g c =
+    let told = c.in_ok-text.ensures.lines in (
+      told.0,
+      told.1,
+      subst (λ (bytes : List ℕ). Appends (g.O.Sink.held c.args.output.now) (g.O.Sink.held c.push_all.new.writer) bytes) (c.as_bytes.ensures.value ∙ told.2) c.in-Ok.ensures.bytes,
+    )
