@@ -13,7 +13,7 @@ use Rattle.clap.proofs.WalkLemmas.{one_text-rows}
 use Rattle.std.specs.Str.Parse.{digits_value, without_leading_plus}
 use Rattle.clap.specs.declared.parser.matches.Found.{Found}
 use Rattle.tp_program.specs.Commands.{tempo_app}
-use Rattle.tp_program.specs.Requests.{AsksBy, AsksFor, NamesBare, Spells}
+use Rattle.tp_program.specs.Requests.{AskForOneThing, AsksBy, AsksFor, NamesBare, Spells}
 use Rattle.tp_text.specs.Scales.{scale_ticks}
 use Rattle.tp_program.specs.declared.requests.PlanWords.{PlanWords}
 use Rattle.tp_program.specs.declared.requests.Request.{Request}
@@ -121,3 +121,29 @@ net_words w domain problem plan scale horizon = (
     },
   ),
 )
+
+abbrev first_name : Option (Text × List Row) → Text
+first_name None = []
+first_name (Some named) = named.0
+
+-- a parse names one command
+one_name : (named : Option (Text × List Row)) (a b : Text) (r s : List Row) → named ≡ Some (a, r) → named ≡ Some (b, s) → a ≡ b
+one_name named a b r s h k = sym (ap first_name h) ∙ ap first_name k
+
+-- no words ask for two kinds of things
+pub distinct : (words : List Text) → AskForOneThing words
+distinct words =
+    record {
+      bare_check = λ w bare check.
+          let no : codes "check" ≡ codes "bare" = subst NamesBare check.1.1 bare.1 in
+          cc;
+      bare_net = λ w bare net.
+          let no : codes "net" ≡ codes "bare" = subst NamesBare net.1.1 bare.1 in
+          cc;
+      check_net = λ v w check net.
+          let no : codes "check" ≡ codes "net" = one_name (subcommand_of tempo_app words) (codes "check") (codes "net") check.1.0 net.1.0 check.1.1 net.1.1 in
+          cc;
+      net_help = λ w text net help. subst (λ ks. IsAmong DisplayHelp ks) net.0 help;
+      bare_help = λ text bare help. subst (λ ks. IsAmong DisplayHelp ks) bare.0 help;
+      check_help = λ w text check help. subst (λ ks. IsAmong DisplayHelp ks) check.0 help;
+    }

@@ -1,6 +1,7 @@
 -- The judging of the plan in a file.
-use Rattle.std.specs.Prelude.{ℕ, List, Option, Bool, true, false, codes}
+use Rattle.std.specs.Prelude.{◌≡◌, ℕ, List, [], Option, Bool, true, false, ◌⊎◌, codes}
 use Rattle.std.specs.Io.KnownBytes.{Appends}
+use Rattle.tp_device.specs.Bytes.{AppendsPart}
 use Rattle.tp_bounds.specs.RunLimits.{greatest_limits}
 use Rattle.tp_syntax.specs.Domains.{Domain, SpellsDomain}
 use Rattle.tp_syntax.specs.Problems.{Problem, SpellsProblem}
@@ -49,6 +50,27 @@ IsSaid task steps before now false =
 abbrev pub SaysOf : (List ℕ → Option (List ℕ)) → PlanWords → Task → Option (List ℕ) → Option (List ℕ) → Bool → Type 0
 SaysOf held w task before now valid =
     (steps : List Step) × IsIn (held w.plan.now) (λ text. SpellsPlan (labelled task) text steps) × IsSaid task steps before now valid
+
+-- the line of the verdict on the steps of a plan: that it is valid, or its first fault
+abbrev pub IsVerdictLine : Task → List Step → List ℕ → Type 0
+IsVerdictLine task steps line =
+    (IsValidPlan task steps × (line ≡ codes "valid\n"))
+    ⊎ ((tick : ℕ) × (why : Fault) × IsFirst task steps tick why × (¬ IsValidPlan task steps) × (line ≡ invalid_line tick why))
+
+-- nothing was written of the steps of a plan, or a first part of the line of their verdict
+abbrev pub TellsPart : Task → List Step → Option (List ℕ) → Option (List ℕ) → Type 0
+TellsPart task steps before now = (now ≡ before) ⊎ ((line : List ℕ) × IsVerdictLine task steps line × AppendsPart before now line)
+
+-- the same of the plan that the words name, of a task
+abbrev pub SaysPartOf : (List ℕ → Option (List ℕ)) → PlanWords → Task → Option (List ℕ) → Option (List ℕ) → Type 0
+SaysPartOf held w task before now =
+    (now ≡ before) ⊎ ((steps : List Step) × (line : List ℕ) × IsIn (held w.plan.now) (λ text. SpellsPlan (labelled task) text steps) × IsVerdictLine task steps line × AppendsPart before now line)
+
+-- nothing was written, or a first part of the line of the verdict on the plan that the words name
+abbrev pub SaysPart : (List ℕ → Option (List ℕ)) → PlanWords → Option (List ℕ) → Option (List ℕ) → Type 0
+SaysPart held w before now =
+    Appends before now []
+    ⊎ ((task : Task) × (steps : List Step) × (line : List ℕ) × IsNamedPlan held w task steps × IsVerdictLine task steps line × AppendsPart before now line)
 
 -- the plan is valid, and that was written
 pub record SaysValid (held : List ℕ → Option (List ℕ)) (w : PlanWords) (before now : Option (List ℕ)) : Type 0 where

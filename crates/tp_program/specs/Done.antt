@@ -1,10 +1,11 @@
--- What was done where a call ends with status 0.
-use Rattle.std.specs.Prelude.{ℕ, ◌⊎◌, List, Option}
+-- What was done, by the status with which a call ends.
+use Rattle.std.specs.Prelude.{ℕ, List, [], Option, ◌⊎◌}
 use Rattle.std.specs.Io.KnownBytes.{Appends}
 use Rattle.std.specs.String.{string_bytes}
-use Rattle.tp_program.specs.Bare.{AnswersAll}
-use Rattle.tp_program.specs.Checks.{SaysInvalid, SaysValid}
-use Rattle.tp_program.specs.Networks.{ShowsNetwork}
+use Rattle.tp_device.specs.Bytes.{AppendsPart}
+use Rattle.tp_program.specs.Bare.{AnswersAll, AnswersPart}
+use Rattle.tp_program.specs.Checks.{SaysInvalid, SaysPart, SaysValid}
+use Rattle.tp_program.specs.Networks.{ShowsNetwork, ShowsPart}
 use Rattle.tp_program.specs.Requests.{AsksFor}
 use Rattle.tp_program.specs.declared.requests.PlanWords.{PlanWords}
 use Rattle.tp_program.specs.declared.requests.Request.{Request}
@@ -28,3 +29,14 @@ pub record AnswersNo (words : List (List ℕ)) (files : List ℕ → Option (Lis
   pub plan : PlanWords
   pub asked : AsksFor words (Check plan) ⊎ AsksFor words (Net plan)
   pub said : SaysInvalid files plan held now
+
+-- some first part of that was done
+abbrev pub IsPartDone : Request → (List ℕ → Option (List ℕ)) → Option (List ℕ) → Option (List ℕ) → Option (List ℕ) → Type 0
+IsPartDone Bare files input held now = AnswersPart input held now
+IsPartDone (Check w) files input held now = SaysPart files w held now
+IsPartDone (Net w) files input held now = ShowsPart files w held now
+IsPartDone (Help text) files input held now = AppendsPart held now (string_bytes text)
+
+-- nothing was written, or the words ask for something, and some first part of it was written
+abbrev pub DoesPart : List (List ℕ) → (List ℕ → Option (List ℕ)) → Option (List ℕ) → Option (List ℕ) → Option (List ℕ) → Type 0
+DoesPart words files input held now = Appends held now [] ⊎ ((request : Request) × AsksFor words request × IsPartDone request files input held now)

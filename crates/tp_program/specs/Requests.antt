@@ -44,3 +44,12 @@ AsksFor words (Net w) = (fault_of tempo_app words ≡ []) × AsksBy (subcommand_
 -- the words ask for no network of bounds: for something else, or for nothing
 abbrev pub AsksForNoNetwork : List Text → Type 0
 AsksForNoNetwork words = AsksFor words Bare → ⊥
+
+-- words ask for one kind of thing at most: for commands on a network, for a verdict, for the network of a plan, or for help
+pub record AskForOneThing (words : List Text) : Type 0 where
+  pub bare_check : (w : PlanWords) → AsksFor words Bare → AsksFor words (Check w) → ⊥
+  pub bare_net : (w : PlanWords) → AsksFor words Bare → AsksFor words (Net w) → ⊥
+  pub check_net : (v w : PlanWords) → AsksFor words (Check v) → AsksFor words (Net w) → ⊥
+  pub net_help : (w : PlanWords) (text : _) → AsksFor words (Net w) → AsksFor words (Help text) → ⊥
+  pub bare_help : (text : _) → AsksFor words Bare → AsksFor words (Help text) → ⊥
+  pub check_help : (w : PlanWords) (text : _) → AsksFor words (Check w) → AsksFor words (Help text) → ⊥

@@ -10,6 +10,8 @@ use Rattle.tp_syntax.specs.declared.fault.SyntaxFault.{SyntaxFault}
 use Rattle.tp_syntax.specs.declared.fault.SyntaxFault.TheVariants as syntax_fault
 use Rattle.tp_text.specs.declared.fault.TextFault.{TextFault}
 use Rattle.tp_text.specs.declared.fault.TextFault.TheVariants as text_fault
+use Rattle.tp_program.specs.declared.bare.BareFault.{BareFault}
+use Rattle.tp_program.specs.declared.bare.BareFault.TheVariants as bare_fault
 use Rattle.tp_program.specs.declared.files.FileFault.{FileFault}
 use Rattle.tp_program.specs.declared.files.FileFault.TheVariants as file_fault
 
@@ -34,6 +36,10 @@ serve_status serving.Write = 3
 serve_status serving.Memory = 3
 serve_status serving.TooLong = 2
 serve_status serving.Head = 2
+
+abbrev pub bare_status : BareFault → ℕ
+bare_status bare_fault.Network = 3
+bare_status (bare_fault.Serving fault) = serve_status fault
 
 abbrev pub ground_status : GroundFault → ℕ
 ground_status ground_fault.Memory = 3

@@ -1,11 +1,11 @@
 // The reading of the words of a call.
-ghost use Rattle.std.specs.Prelude.{◌≡◌, ◌≢◌, ◌⊎◌, ◌∷◌, [], List, Some, None, Ok, Err, IfOk, IfErr, IfSome, map, option_map, codes};
+ghost use Rattle.std.specs.Prelude.{◌≡◌, ◌≢◌, ◌⊎◌, ℕ, ◌∷◌, [], List, Some, None, Ok, Err, IfOk, IfErr, IfSome, map, option_map, codes};
 ghost use Rattle.std.specs.String.{string_bytes};
 ghost use Rattle.clap.specs.Words.{Text, Row, first_of, found_of, kind_of, one_of, rows_of, subcommand_rows_of};
 ghost use Rattle.clap.specs.declared.error.kind.ErrorKind.TheVariants as kinds;
 ghost use Rattle.tp_text.specs.Scales.{scale_ticks};
 ghost use Rattle.tp_program.specs.declared.requests.PlanWords.{PlanWords};
-ghost use Rattle.tp_program.specs.Requests.{AsksBy, AsksFor, IsPlanWords, NamesBare, Spells};
+ghost use Rattle.tp_program.specs.Requests.{AskForOneThing, AsksBy, AsksFor, IsPlanWords, NamesBare, Spells};
 
 use crate::commands::tempo_command;
 use crate::requests::{PlanWords, Request};
@@ -153,4 +153,9 @@ pub fn net_calls()
     ensures { (w : PlanWords) → w.domain.now ≡ codes "d" → w.problem.now ≡ codes "p" → w.plan.now ≡ codes "l"
         → scale_ticks w.scale ≡ 1000 → w.horizon ≡ 1000000
         → AsksFor (codes "net" ∷ codes "d" ∷ codes "p" ∷ codes "--scale" ∷ codes "1000" ∷ codes "l" ∷ []) (Request.Net w) }
+{}
+
+/// Words ask for one kind of thing at most.
+pub fn requests_are_distinct()
+    ensures { (words : List (List ℕ)) → AskForOneThing words }
 {}

@@ -1,9 +1,10 @@
 // A network of bounds alone: its head, and the commands on it.
-ghost use Rattle.std.specs.Prelude.{◌≡◌, ◌≢◌, OnOk, OnErr};
-ghost use Rattle.tp_script.specs.Serving.{write_failures};
-ghost use Rattle.tp_program.specs.Bare.{AnswersAll, AnswersPart};
+ghost use Rattle.std.specs.Prelude.{◌≡◌, ◌≢◌, ◌≤◌, [], IfErr, OnOk, OnErr};
+ghost use Rattle.tp_program.specs.Bare.{AnswersAll, AnswersLines, AnswersPart, Ends, IsRefused, bare_failures, bare_result};
+ghost use Rattle.tp_program.specs.FaultLines.{TellsFault};
+ghost use Rattle.tp_program.specs.Statuses.{bare_status};
 
-use crate::fault_lines::{FaultLine, OUT_OF_ORDER, complain};
+use crate::fault_lines::{FaultLine, OUT_OF_ORDER, REFUSED, complain};
 use std::alloc::Global;
 use tp_bounds::Limits;
 use tp_device::{Sink, Source};
@@ -14,21 +15,74 @@ use tp_script::{Lines, ServeFault, Served, read_head, serve};
 /// The most bytes of a command line.
 const LONGEST: usize = 256;
 
-/// Reads the head of a network, and answers the commands that follow it, under the greatest limits.
+/// Why the commands on a network were not answered to their end.
+#[derive(Clone, Copy)]
+pub enum BareFault {
+    /// There is no memory for the network.
+    Network,
+    /// They could not be read or answered.
+    Serving(ServeFault),
+}
+
+impl From<ServeFault> for BareFault {
+    ghost use Rattle.std.specs.Prelude.{◌≡◌};
+    ghost use Rattle.tp_program.specs.declared.bare.BareFault.TheVariants.{Serving};
+
+    ghost from_gives = { λ fault e. e ≡ Serving fault };
+
+    fn from(fault: ServeFault) -> BareFault {
+        BareFault::Serving(fault)
+    }
+}
+
+/// What came of the commands on a network that there was memory for.
+fn of_network(served: Result<Served, ServeFault>) -> Result<Served, BareFault>
+    ensures { result ≡ bare_result served }
+{
+    match served {
+        Ok(served) => Ok(served),
+        Err(fault) => Err(BareFault::Serving(fault)),
+    }
+}
+
+/// Answers the commands of the lines, on a new network under the greatest limits.
+fn answer<I: Source + Drop, O: Sink>(
+    alloc: Global,
+    lines: &mut Lines<I>,
+    events: u16,
+    horizon: u32,
+    output: &mut O,
+) -> Result<Served, BareFault>
+    requires longest { lines.old.longest ≡ 256 }
+    requires events { events ≤ 1024 }
+    requires horizon { horizon ≤ 1000000000 }
+    ensures answers { AnswersLines (events, horizon) lines.old lines.new (O.held output.old) (O.held output.new) result }
+    ensures most { lines.new.most ≡ lines.old.most }
+    ensures told { O.failures output.new ≡ bare_failures (O.failures output.old) result }
+{
+    match ScratchNet::new(alloc, events, horizon) {
+        Ok(net) => {
+            let mut executive = Executive::bare(alloc, Limits::greatest(horizon), net);
+            of_network(serve(&mut executive, lines, output))
+        }
+        Err(_) => Err(BareFault::Network),
+    }
+}
+
+/// Reads the head of a network, and answers the commands that follow it.
 fn bare<I: Source + Drop, O: Sink>(
     alloc: Global,
     input: I,
     output: &mut O,
-) -> Result<Served, ServeFault>
+) -> Result<Served, BareFault>
     ensures all { OnOk result (AnswersAll (I.left input) (O.held output.old) (O.held output.new)) }
     ensures part { OnErr result (AnswersPart (I.left input) (O.held output.old) (O.held output.new)) }
-    ensures told { O.failures output.new ≡ write_failures (O.failures output.old) result }
+    ensures refused { IfErr result (λ fault. bare_status fault ≡ REFUSED → IsRefused (I.left input)) }
+    ensures told { O.failures output.new ≡ bare_failures (O.failures output.old) result }
 {
     let mut lines = Lines::new(alloc, input, LONGEST)?;
     let (events, horizon) = read_head(&mut lines)?;
-    let net = ScratchNet::new(alloc, events, horizon)?;
-    let mut executive = Executive::bare(alloc, Limits::greatest(horizon), net);
-    serve(&mut executive, &mut lines, output)
+    answer(alloc, &mut lines, events, horizon, output)
 }
 
 /// Answers the commands of the input. Answers the exit status, and for another than 0 writes one fault line.
@@ -40,13 +94,17 @@ pub fn run_bare<I: Source + Drop, O: Sink, F: Sink>(
 ) -> u8
     ensures all { result ≡ 0 → AnswersAll (I.left input) (O.held output.old) (O.held output.new) }
     ensures part { result ≢ 0 → AnswersPart (I.left input) (O.held output.old) (O.held output.new) }
+    ensures refused { result ≡ REFUSED → IsRefused (I.left input) }
 
-    // No status says no, and a write that failed is always told.
+    // No status says no, a write that failed is always told, and a fault line goes with each fault and with nothing else.
     ensures no { result ≢ 1 }
     ensures told { result ≢ OUT_OF_ORDER → O.failures output.new ≡ O.failures output.old }
+    ensures silent { result ≡ 0 → faults.new ≡ faults.old }
+    ensures line { result ≢ 0 → TellsFault [] (F.failures faults.old) (F.held faults.old) (F.failures faults.new) (F.held faults.new) }
+    ensures ends { result ≢ 0 → Ends result (O.failures output.old) (O.failures output.new) (F.failures faults.old) (F.held faults.old) (F.failures faults.new) (F.held faults.new) }
 {
     match bare(alloc, input, output) {
         Ok(_) => 0,
-        Err(fault) => complain(faults, FaultLine::of_serving(fault)),
+        Err(fault) => complain(faults, FaultLine::of_bare(fault)),
     }
 }

@@ -1,5 +1,5 @@
 // The judging of the plan in a file.
-ghost use Rattle.std.specs.Prelude.{◌≡◌, ◌≢◌, ◌≤◌, ℕ, List, IfOk, IfErr, OnOk};
+ghost use Rattle.std.specs.Prelude.{◌≡◌, ◌≢◌, ◌≤◌, ℕ, List, [], IfOk, IfErr, OnErr, OnOk};
 ghost use Rattle.tp_syntax.specs.DomainViews.{domain_view, problem_view};
 ghost use Rattle.tp_syntax.specs.Domains.{SpellsDomain};
 ghost use Rattle.tp_syntax.specs.Problems.{SpellsProblem};
@@ -9,9 +9,10 @@ ghost use Rattle.tp_validate.specs.Answers.{IsVerdict};
 ghost use Rattle.tp_validate.specs.OfTask.{IsOfTask};
 ghost use Rattle.tp_ground.specs.Grounding.{IsTask};
 ghost use Rattle.tp_bounds.specs.RunLimits.{greatest_limits};
-ghost use Rattle.tp_program.specs.Checks.{IsIn, IsNamedTask, IsSaid, IsTaskWith, Says, SaysInvalid, SaysOf, SaysValid};
+ghost use Rattle.tp_program.specs.FaultLines.{IsFault, TellsFault};
+ghost use Rattle.tp_program.specs.Checks.{IsIn, IsNamedTask, IsSaid, IsTaskWith, Says, SaysInvalid, SaysOf, SaysPart, SaysPartOf, SaysValid, TellsPart};
 
-use crate::fault_lines::{FaultLine, OUT_OF_ORDER, complain};
+use crate::fault_lines::{FaultLine, OUT_OF_ORDER, REFUSED, complain};
 use crate::files::{Files, open_text};
 use crate::requests::PlanWords;
 use crate::verdict_lines::write_verdict;
@@ -30,7 +31,7 @@ fn domain_in<'w, N: Files>(
     name: &'w str,
 ) -> Result<Domain, FaultLine<'w>>
     ensures spelled { IfOk result (λ d. IsIn (N.held files.old name.entry.now) (λ text. SpellsDomain text (domain_view d))) }
-    ensures status { IfErr result (λ line. 2 ≤ line.status) }
+    ensures status { IfErr result IsFault }
     ensures same { (other : List ℕ) → N.held files.new other ≡ N.held files.old other }
 {
     match open_text(alloc, files, name) {
@@ -50,7 +51,7 @@ fn problem_in<'w, N: Files>(
     domain: &Domain,
 ) -> Result<Problem, FaultLine<'w>>
     ensures spelled { IfOk result (λ p. IsIn (N.held files.old name.entry.now) (λ text. SpellsProblem (domain_view domain.now) text (problem_view p))) }
-    ensures status { IfErr result (λ line. 2 ≤ line.status) }
+    ensures status { IfErr result IsFault }
     ensures same { (other : List ℕ) → N.held files.new other ≡ N.held files.old other }
 {
     match open_text(alloc, files, name) {
@@ -71,7 +72,7 @@ fn task_of<'w>(
 ) -> Result<Task, FaultLine<'w>>
     requires { words.horizon ≤ 1000000000 }
     ensures task { IfOk result (IsTask (greatest_limits words.entry.horizon) words.entry.scale (domain_view domain.now) (problem_view problem.now)) }
-    ensures status { IfErr result (λ line. 2 ≤ line.status) }
+    ensures status { IfErr result IsFault }
 {
     let limits = Limits::greatest(words.horizon);
     match ground(alloc, domain, problem, &limits, words.scale) {
@@ -89,7 +90,7 @@ fn task_with<'w, N: Files>(
 ) -> Result<Task, FaultLine<'w>>
     requires { words.horizon ≤ 1000000000 }
     ensures named { IfOk result (IsTaskWith (N.held files.old) words.entry (domain_view domain.now)) }
-    ensures status { IfErr result (λ line. 2 ≤ line.status) }
+    ensures status { IfErr result IsFault }
     ensures same { (other : List ℕ) → N.held files.new other ≡ N.held files.old other }
 {
     let problem = problem_in(alloc, files, words.problem, domain)?;
@@ -104,7 +105,7 @@ pub fn task_in<'w, N: Files>(
 ) -> Result<Task, FaultLine<'w>>
     requires { words.horizon ≤ 1000000000 }
     ensures named { IfOk result (IsNamedTask (N.held files.old) words.entry) }
-    ensures status { IfErr result (λ line. 2 ≤ line.status) }
+    ensures status { IfErr result IsFault }
     ensures same { (other : List ℕ) → N.held files.new other ≡ N.held files.old other }
 {
     let domain = domain_in(alloc, files, words.domain)?;
@@ -120,7 +121,7 @@ pub fn plan_in<'w, N: Files>(
 ) -> Result<Plan, FaultLine<'w>>
     ensures spelled { IfOk result (λ p. IsIn (N.held files.old name.entry.now) (λ text. SpellsPlan (labelled task.now) text p)) }
     ensures of_task { IfOk result (IsOfTask task.now) }
-    ensures status { IfErr result (λ line. 2 ≤ line.status) }
+    ensures status { IfErr result IsFault }
 {
     match open_text(alloc, files, name) {
         Ok(text) => match read_plan(alloc, text.as_str(), task) {
@@ -139,7 +140,7 @@ pub fn judged<'t, 'w>(
 ) -> Result<Verdict<'t>, FaultLine<'w>>
     requires { IsOfTask task.now plan }
     ensures verdict { IfOk result (IsVerdict task.now plan) }
-    ensures status { IfErr result (λ line. 2 ≤ line.status) }
+    ensures status { IfErr result IsFault }
 {
     match validate(alloc, task, plan) {
         Ok(verdict) => Ok(verdict),
@@ -157,7 +158,8 @@ fn tell<'w, O: Sink>(
 ) -> Result<bool, FaultLine<'w>>
     requires { IsOfTask task.now plan }
     ensures said { IfOk result (IsSaid task.now plan (O.held output.old) (O.held output.new)) }
-    ensures status { IfErr result (λ line. 2 ≤ line.status) }
+    ensures part { OnErr result (TellsPart task.now plan (O.held output.old) (O.held output.new)) }
+    ensures status { IfErr result IsFault }
     ensures told { IfErr result (λ line. line.status ≢ OUT_OF_ORDER → O.failures output.new ≡ O.failures output.old) }
     ensures kept { IfErr result (λ line. line.status ≢ OUT_OF_ORDER → O.held output.new ≡ O.held output.old) }
     ensures whole { OnOk result (O.failures output.new ≡ O.failures output.old) }
@@ -178,7 +180,8 @@ fn tell_of<'w, N: Files, O: Sink>(
     output: &mut O,
 ) -> Result<bool, FaultLine<'w>>
     ensures said { IfOk result (SaysOf (N.held files.old) words.entry task.now (O.held output.old) (O.held output.new)) }
-    ensures status { IfErr result (λ line. 2 ≤ line.status) }
+    ensures part { OnErr result (SaysPartOf (N.held files.old) words.entry task.now (O.held output.old) (O.held output.new)) }
+    ensures status { IfErr result IsFault }
     ensures told { IfErr result (λ line. line.status ≢ OUT_OF_ORDER → O.failures output.new ≡ O.failures output.old) }
     ensures kept { IfErr result (λ line. line.status ≢ OUT_OF_ORDER → O.held output.new ≡ O.held output.old) }
     ensures whole { OnOk result (O.failures output.new ≡ O.failures output.old) }
@@ -197,7 +200,8 @@ fn check<'w, N: Files, O: Sink>(
 ) -> Result<bool, FaultLine<'w>>
     requires { words.horizon ≤ 1000000000 }
     ensures said { IfOk result (Says (N.held files.old) words.entry (O.held output.old) (O.held output.new)) }
-    ensures status { IfErr result (λ line. 2 ≤ line.status) }
+    ensures part { OnErr result (SaysPart (N.held files.old) words.entry (O.held output.old) (O.held output.new)) }
+    ensures status { IfErr result IsFault }
     ensures told { IfErr result (λ line. line.status ≢ OUT_OF_ORDER → O.failures output.new ≡ O.failures output.old) }
     ensures kept { IfErr result (λ line. line.status ≢ OUT_OF_ORDER → O.held output.new ≡ O.held output.old) }
     ensures whole { OnOk result (O.failures output.new ≡ O.failures output.old) }
@@ -219,9 +223,16 @@ pub fn run_check<N: Files, O: Sink, F: Sink>(
     ensures valid { result ≡ 0 → SaysValid (N.held files.old) words.entry (O.held output.old) (O.held output.new) }
     ensures invalid { result ≡ 1 → SaysInvalid (N.held files.old) words.entry (O.held output.old) (O.held output.new) }
 
-    // Nothing is written for input that is refused, and a write that failed is always told.
-    ensures kept { result ≡ 2 → O.held output.new ≡ O.held output.old }
+    // Nothing is written for input that is refused, and of the true verdict at most a first part where memory or a device is
+    // wanting; a write that failed is always told.
+    ensures kept { result ≡ REFUSED → O.held output.new ≡ O.held output.old }
+    ensures part { result ≡ OUT_OF_ORDER → SaysPart (N.held files.old) words.entry (O.held output.old) (O.held output.new) }
     ensures told { result ≢ OUT_OF_ORDER → O.failures output.new ≡ O.failures output.old }
+
+    // A fault line goes with each fault, and with nothing else.
+    ensures within { result ≤ 3 }
+    ensures silent { result ≤ 1 → faults.new ≡ faults.old }
+    ensures fault { 2 ≤ result → TellsFault [] (F.failures faults.old) (F.held faults.old) (F.failures faults.new) (F.held faults.new) }
 {
     match check(alloc, files, words, output) {
         Ok(true) => 0,

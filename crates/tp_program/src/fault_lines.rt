@@ -1,7 +1,11 @@
 // The lines of faults, and the exit statuses that go with them.
-ghost use Rattle.std.specs.Prelude.{◌≡◌, ◌≤◌};
-ghost use Rattle.tp_program.specs.Statuses.{file_status, ground_status, plan_status, serve_status, syntax_status, text_status};
+ghost use Rattle.std.specs.Prelude.{◌≡◌, ◌≤◌, [], ◌++◌, codes, decimal};
+ghost use Rattle.tp_device.specs.Bytes.{Writes, failures_after};
+ghost use Rattle.tp_program.specs.Bare.{bare_text, serve_text};
+ghost use Rattle.tp_program.specs.FaultLines.{Tells, TellsFault, detail_text, fault_line, fault_text, head_text};
+ghost use Rattle.tp_program.specs.Statuses.{bare_status, file_status, ground_status, plan_status, serve_status, syntax_status, text_status};
 
+use crate::bare::BareFault;
 use crate::files::FileFault;
 use itoa::Buffer;
 use tp_device::{Failed, Sink, push_all};
@@ -28,7 +32,7 @@ pub const NO_MEMORY: &[u8] = b"fault script 3 memory\n";
 
 /// What stands behind the number and the word of a fault.
 #[derive(Clone, Copy)]
-enum Detail<'w> {
+pub enum Detail<'w> {
     Nothing,
     Number(u32),
     Line(usize),
@@ -39,16 +43,17 @@ enum Detail<'w> {
 /// The line `fault PART NUMBER WORD ..`, and the exit status that goes with it.
 #[derive(Clone, Copy)]
 pub struct FaultLine<'w> {
-    part: &'static str,
-    words: &'static str,
-    detail: Detail<'w>,
+    pub part: &'static str,
+    pub words: &'static str,
+    pub detail: Detail<'w>,
     pub status: u8,
 }
 
 impl<'w> FaultLine<'w> {
     /// The line of input that is refused.
     pub fn refused(part: &'static str, words: &'static str) -> Self
-        ensures { result.status ≡ REFUSED }
+        ensures status { result.status ≡ REFUSED }
+        ensures text { fault_text result ≡ fault_line part.entry.now words.entry.now }
     {
         FaultLine {
             part,
@@ -60,7 +65,8 @@ impl<'w> FaultLine<'w> {
 
     /// The line of memory or a device that is wanting.
     pub fn out_of_order(part: &'static str, words: &'static str) -> Self
-        ensures { result.status ≡ OUT_OF_ORDER }
+        ensures status { result.status ≡ OUT_OF_ORDER }
+        ensures text { fault_text result ≡ fault_line part.entry.now words.entry.now }
     {
         FaultLine {
             status: OUT_OF_ORDER,
@@ -214,7 +220,8 @@ impl<'w> FaultLine<'w> {
 
     /// The line of commands that could not be read or answered.
     pub fn of_serving(fault: ServeFault) -> Self
-        ensures { result.status ≡ serve_status fault }
+        ensures status { result.status ≡ serve_status fault }
+        ensures text { fault_text result ≡ serve_text fault }
     {
         match fault {
             ServeFault::Read => FaultLine::out_of_order("script", "1 read"),
@@ -225,30 +232,92 @@ impl<'w> FaultLine<'w> {
         }
     }
 
-    /// Writes the line.
-    fn write<F: Sink>(&self, faults: &mut F) -> Result<(), Failed> {
-        push_all(faults, b"fault ")?;
-        push_all(faults, self.part.as_bytes())?;
-        push_all(faults, b" ")?;
-        push_all(faults, self.words.as_bytes())?;
-        match self.detail {
-            Detail::Nothing => {}
-            Detail::Number(n) => push_word(faults, Buffer::new().format(n))?,
-            Detail::Line(n) => push_word(faults, Buffer::new().format(n))?,
-            Detail::Construct(at, what) => {
-                push_word(faults, Buffer::new().format(at))?;
-                push_word(faults, what)?;
-            }
-            Detail::Name(name) => push_word(faults, name)?,
+    /// The line of commands on a network that were not answered to their end.
+    pub fn of_bare(fault: BareFault) -> Self
+        ensures status { result.status ≡ bare_status fault }
+        ensures text { fault_text result ≡ bare_text fault }
+    {
+        match fault {
+            BareFault::Network => FaultLine::out_of_order("run", "1 memory"),
+            BareFault::Serving(fault) => FaultLine::of_serving(fault),
         }
+    }
+
+    /// Writes the part, the number and the word.
+    fn write_head<F: Sink>(&self, faults: &mut F) -> Result<(), Failed>
+        ensures bytes { Writes (F.held faults.old) (F.held faults.new) (head_text self.now) result }
+        ensures cause { F.failures faults.new ≡ failures_after (F.failures faults.old) result }
+    {
+        push_both(faults, b"fault ", self.part)?;
+        push_both(faults, b" ", self.words)
+    }
+
+    /// Writes what stands behind them.
+    fn write_detail<F: Sink>(&self, faults: &mut F) -> Result<(), Failed>
+        ensures bytes { Writes (F.held faults.old) (F.held faults.new) (detail_text self.now.detail) result }
+        ensures cause { F.failures faults.new ≡ failures_after (F.failures faults.old) result }
+    {
+        match self.detail {
+            Detail::Nothing => Ok(()),
+            Detail::Number(n) => push_number(faults, n),
+            Detail::Line(n) => push_both(faults, b" ", Buffer::new().format(n)),
+            Detail::Construct(at, what) => push_construct(faults, at, what),
+            Detail::Name(name) => push_both(faults, b" ", name),
+        }
+    }
+
+    /// Writes what stands behind them, and ends the line.
+    fn write_rest<F: Sink>(&self, faults: &mut F) -> Result<(), Failed>
+        ensures bytes { Writes (F.held faults.old) (F.held faults.new) (detail_text self.now.detail ++ codes "\n") result }
+        ensures cause { F.failures faults.new ≡ failures_after (F.failures faults.old) result }
+    {
+        self.write_detail(faults)?;
         push_all(faults, b"\n")
+    }
+
+    /// Writes the line.
+    fn write<F: Sink>(&self, faults: &mut F) -> Result<(), Failed>
+        ensures bytes { Writes (F.held faults.old) (F.held faults.new) (fault_text self.now) result }
+        ensures cause { F.failures faults.new ≡ failures_after (F.failures faults.old) result }
+    {
+        self.write_head(faults)?;
+        self.write_rest(faults)
+    }
+
+    /// Writes the line and a text behind it.
+    fn write_more<F: Sink>(&self, faults: &mut F, more: &str) -> Result<(), Failed>
+        ensures bytes { Writes (F.held faults.old) (F.held faults.new) (fault_text self.now ++ more.now) result }
+        ensures cause { F.failures faults.new ≡ failures_after (F.failures faults.old) result }
+    {
+        self.write(faults)?;
+        push_all(faults, more.as_bytes())
     }
 }
 
-/// Writes a word after a space.
-fn push_word<F: Sink>(faults: &mut F, word: &str) -> Result<(), Failed> {
-    push_all(faults, b" ")?;
-    push_all(faults, word.as_bytes())
+/// Writes a text, and what stands before it.
+fn push_both<F: Sink>(faults: &mut F, before: &[u8], text: &str) -> Result<(), Failed>
+    ensures bytes { Writes (F.held faults.old) (F.held faults.new) (before.now ++ text.now) result }
+    ensures cause { F.failures faults.new ≡ failures_after (F.failures faults.old) result }
+{
+    push_all(faults, before)?;
+    push_all(faults, text.as_bytes())
+}
+
+/// Writes a number after a space.
+fn push_number<F: Sink>(faults: &mut F, n: u32) -> Result<(), Failed>
+    ensures bytes { Writes (F.held faults.old) (F.held faults.new) (codes " " ++ decimal n) result }
+    ensures cause { F.failures faults.new ≡ failures_after (F.failures faults.old) result }
+{
+    push_both(faults, b" ", Buffer::new().format(n))
+}
+
+/// Writes a place and a word, each after a space.
+fn push_construct<F: Sink>(faults: &mut F, at: u32, what: &str) -> Result<(), Failed>
+    ensures bytes { Writes (F.held faults.old) (F.held faults.new) ((codes " " ++ decimal at) ++ (codes " " ++ what.now)) result }
+    ensures cause { F.failures faults.new ≡ failures_after (F.failures faults.old) result }
+{
+    push_number(faults, at)?;
+    push_both(faults, b" ", what)
 }
 
 /// The word of what there are too many of.
@@ -283,8 +352,19 @@ fn left_out_word(what: LeftOutPart) -> &'static str {
 
 /// Writes the line of a fault, and answers the exit status. If the line can't be written, the status alone tells.
 pub fn complain<F: Sink>(faults: &mut F, line: FaultLine<'_>) -> u8
-    ensures { result ≡ line.entry.status }
+    ensures status { result ≡ line.entry.status }
+    ensures told { Tells (fault_text line.entry) (F.failures faults.old) (F.held faults.old) (F.failures faults.new) (F.held faults.new) }
+    ensures fault { TellsFault [] (F.failures faults.old) (F.held faults.old) (F.failures faults.new) (F.held faults.new) }
 {
     let _ = line.write(faults);
+    line.status
+}
+
+/// Writes the line of a fault and a text behind it, and answers the exit status. If they can't be written, the status alone tells.
+pub fn complain_more<F: Sink>(faults: &mut F, line: FaultLine<'_>, more: &str) -> u8
+    ensures status { result ≡ line.entry.status }
+    ensures told { Tells (fault_text line.entry ++ more.now) (F.failures faults.old) (F.held faults.old) (F.failures faults.new) (F.held faults.new) }
+{
+    let _ = line.write_more(faults, more);
     line.status
 }

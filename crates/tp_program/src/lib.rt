@@ -26,7 +26,9 @@ mod streams;
 mod verdict_lines;
 mod words;
 
-pub use arguments::{Refusal, bare_calls, check_calls, net_calls, read_words};
+pub use arguments::{
+    Refusal, bare_calls, check_calls, net_calls, read_words, requests_are_distinct,
+};
 pub use fault_lines::{FaultLine, complain};
 pub use files::{FileFault, Files, open_text, read_text};
 pub use host::{HostFile, HostFiles, refuse_call, words_of_call};

@@ -1,14 +1,16 @@
 // The network of the plan in a file.
-ghost use Rattle.std.specs.Prelude.{◌≡◌, ◌≢◌, ◌≤◌, IfOk, IfErr, OnOk, string_bytes};
+ghost use Rattle.std.specs.Prelude.{◌≡◌, ◌≢◌, ◌≤◌, [], IfOk, IfErr, OnErr, OnOk, string_bytes};
 ghost use Rattle.std.specs.Io.KnownBytes.{Appends};
+ghost use Rattle.tp_device.specs.Bytes.{AppendsPart};
 ghost use Rattle.tp_deorder.specs.Answers.{IsPlanNetOf};
 ghost use Rattle.tp_validate.specs.OfTask.{IsOfTask};
 ghost use Rattle.tp_program.specs.Checks.{SaysInvalid};
+ghost use Rattle.tp_program.specs.FaultLines.{IsFault, TellsFault};
 ghost use Rattle.tp_program.specs.VerdictLines.{invalid_line};
-ghost use Rattle.tp_program.specs.Networks.{IsShown, Shows, ShowsNetwork, ShowsOf, TellsNetwork, WritesNetwork};
+ghost use Rattle.tp_program.specs.Networks.{IsShown, Shows, ShowsNetwork, ShowsOf, ShowsPart, ShowsPartOf, ShowsTextPart, TellsNetwork, WritesNetwork, WritesNetworkPart};
 
 use crate::check::{judged, plan_in, task_in};
-use crate::fault_lines::{FaultLine, OUT_OF_ORDER, complain};
+use crate::fault_lines::{FaultLine, OUT_OF_ORDER, REFUSED, complain};
 use crate::files::Files;
 use crate::requests::PlanWords;
 use crate::verdict_lines::write_invalid;
@@ -28,7 +30,7 @@ fn network<'w>(
     limits: &Limits,
 ) -> Result<PlanNet, FaultLine<'w>>
     ensures net { IfOk result (IsPlanNetOf plan.now.task plan.now.steps limits.now) }
-    ensures status { IfErr result (λ line. 2 ≤ line.status) }
+    ensures status { IfErr result IsFault }
 {
     match deorder(alloc, plan, limits) {
         Ok(net) => Ok(net),
@@ -44,7 +46,7 @@ fn lines_of<'w>(
     limits: &Limits,
 ) -> Result<String, FaultLine<'w>>
     ensures lines { IfOk result (λ text. TellsNetwork plan.now.task plan.now.steps limits.now (string_bytes text)) }
-    ensures status { IfErr result (λ line. 2 ≤ line.status) }
+    ensures status { IfErr result IsFault }
 {
     let net = network(alloc, plan, limits)?;
     match network_text(alloc, &net) {
@@ -61,7 +63,8 @@ fn write_network<'w, O: Sink>(
     output: &mut O,
 ) -> Result<(), FaultLine<'w>>
     ensures written { OnOk result (WritesNetwork plan.now.task plan.now.steps limits.now (O.held output.old) (O.held output.new)) }
-    ensures status { IfErr result (λ line. 2 ≤ line.status) }
+    ensures part { OnErr result (WritesNetworkPart plan.now.task plan.now.steps limits.now (O.held output.old) (O.held output.new)) }
+    ensures status { IfErr result IsFault }
     ensures told { IfErr result (λ line. line.status ≢ OUT_OF_ORDER → O.failures output.new ≡ O.failures output.old) }
     ensures kept { IfErr result (λ line. line.status ≢ OUT_OF_ORDER → O.held output.new ≡ O.held output.old) }
     ensures whole { OnOk result (O.failures output.new ≡ O.failures output.old) }
@@ -76,7 +79,8 @@ fn write_network<'w, O: Sink>(
 /// Writes the first fault of a plan.
 fn write_fault<'w, O: Sink>(tick: u32, why: Fault, output: &mut O) -> Result<(), FaultLine<'w>>
     ensures written { OnOk result (Appends (O.held output.old) (O.held output.new) (invalid_line tick why)) }
-    ensures status { IfErr result (λ line. 2 ≤ line.status) }
+    ensures part { OnErr result (AppendsPart (O.held output.old) (O.held output.new) (invalid_line tick why)) }
+    ensures status { IfErr result IsFault }
     ensures told { IfErr result (λ line. line.status ≢ OUT_OF_ORDER → O.failures output.new ≡ O.failures output.old) }
     ensures kept { IfErr result (λ line. line.status ≢ OUT_OF_ORDER → O.held output.new ≡ O.held output.old) }
     ensures whole { OnOk result (O.failures output.new ≡ O.failures output.old) }
@@ -96,7 +100,8 @@ fn show<'w, O: Sink>(
 ) -> Result<bool, FaultLine<'w>>
     requires { IsOfTask task.now plan }
     ensures said { IfOk result (IsShown task.now plan (O.held output.old) (O.held output.new)) }
-    ensures status { IfErr result (λ line. 2 ≤ line.status) }
+    ensures part { OnErr result (ShowsTextPart task.now plan (O.held output.old) (O.held output.new)) }
+    ensures status { IfErr result IsFault }
     ensures told { IfErr result (λ line. line.status ≢ OUT_OF_ORDER → O.failures output.new ≡ O.failures output.old) }
     ensures kept { IfErr result (λ line. line.status ≢ OUT_OF_ORDER → O.held output.new ≡ O.held output.old) }
     ensures whole { OnOk result (O.failures output.new ≡ O.failures output.old) }
@@ -122,7 +127,8 @@ fn show_of<'w, N: Files, O: Sink>(
     output: &mut O,
 ) -> Result<bool, FaultLine<'w>>
     ensures said { IfOk result (ShowsOf (N.held files.old) words.entry task.now (O.held output.old) (O.held output.new)) }
-    ensures status { IfErr result (λ line. 2 ≤ line.status) }
+    ensures part { OnErr result (ShowsPartOf (N.held files.old) words.entry task.now (O.held output.old) (O.held output.new)) }
+    ensures status { IfErr result IsFault }
     ensures told { IfErr result (λ line. line.status ≢ OUT_OF_ORDER → O.failures output.new ≡ O.failures output.old) }
     ensures kept { IfErr result (λ line. line.status ≢ OUT_OF_ORDER → O.held output.new ≡ O.held output.old) }
     ensures whole { OnOk result (O.failures output.new ≡ O.failures output.old) }
@@ -141,7 +147,8 @@ fn net<'w, N: Files, O: Sink>(
 ) -> Result<bool, FaultLine<'w>>
     requires { words.horizon ≤ 1000000000 }
     ensures said { IfOk result (Shows (N.held files.old) words.entry (O.held output.old) (O.held output.new)) }
-    ensures status { IfErr result (λ line. 2 ≤ line.status) }
+    ensures part { OnErr result (ShowsPart (N.held files.old) words.entry (O.held output.old) (O.held output.new)) }
+    ensures status { IfErr result IsFault }
     ensures told { IfErr result (λ line. line.status ≢ OUT_OF_ORDER → O.failures output.new ≡ O.failures output.old) }
     ensures kept { IfErr result (λ line. line.status ≢ OUT_OF_ORDER → O.held output.new ≡ O.held output.old) }
     ensures whole { OnOk result (O.failures output.new ≡ O.failures output.old) }
@@ -163,9 +170,16 @@ pub fn run_net<N: Files, O: Sink, F: Sink>(
     ensures shown { result ≡ 0 → ShowsNetwork (N.held files.old) words.entry (O.held output.old) (O.held output.new) }
     ensures invalid { result ≡ 1 → SaysInvalid (N.held files.old) words.entry (O.held output.old) (O.held output.new) }
 
-    // Nothing is written for input that is refused, and a write that failed is always told.
-    ensures kept { result ≡ 2 → O.held output.new ≡ O.held output.old }
+    // Nothing is written for input that is refused, and of the true text at most a first part where memory or a device is
+    // wanting; a write that failed is always told.
+    ensures kept { result ≡ REFUSED → O.held output.new ≡ O.held output.old }
+    ensures part { result ≡ OUT_OF_ORDER → ShowsPart (N.held files.old) words.entry (O.held output.old) (O.held output.new) }
     ensures told { result ≢ OUT_OF_ORDER → O.failures output.new ≡ O.failures output.old }
+
+    // A fault line goes with each fault, and with nothing else.
+    ensures within { result ≤ 3 }
+    ensures silent { result ≤ 1 → faults.new ≡ faults.old }
+    ensures fault { 2 ≤ result → TellsFault [] (F.failures faults.old) (F.held faults.old) (F.failures faults.new) (F.held faults.new) }
 {
     match net(alloc, files, words, output) {
         Ok(true) => 0,

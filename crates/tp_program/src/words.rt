@@ -1,15 +1,17 @@
 // What the words of a call ask for, and the doing of it.
-ghost use Rattle.std.specs.Prelude.{◌≡◌, ◌≢◌, map};
+ghost use Rattle.std.specs.Prelude.{◌≡◌, ◌≢◌, ◌≤◌, ◌⊎◌, [], map};
 ghost use Rattle.std.specs.String.{string_bytes};
 ghost use Rattle.std.specs.Io.KnownBytes.{Appends};
-ghost use Rattle.tp_program.specs.Bare.{AnswersAll, AnswersPart};
-ghost use Rattle.tp_program.specs.Done.{AnswersNo, DoesWhatIsAsked};
+ghost use Rattle.tp_device.specs.Bytes.{AppendsPart};
+ghost use Rattle.tp_program.specs.Bare.{AnswersAll, AnswersPart, IsRefused, Stops};
+ghost use Rattle.tp_program.specs.Done.{AnswersNo, DoesPart, DoesWhatIsAsked};
+ghost use Rattle.tp_program.specs.FaultLines.{TellsFault, TellsRefusal};
 ghost use Rattle.tp_program.specs.Requests.{AsksFor, AsksForNoNetwork};
 
 use crate::arguments::{Refusal, read_words};
 use crate::bare::run_bare;
 use crate::check::run_check;
-use crate::fault_lines::{FaultLine, OUT_OF_ORDER, REFUSED, complain};
+use crate::fault_lines::{FaultLine, OUT_OF_ORDER, REFUSED, complain, complain_more};
 use crate::files::Files;
 use crate::net::run_net;
 use crate::requests::Request;
@@ -34,11 +36,23 @@ pub fn run_words<N: Files, I: Source + Drop, O: Sink, F: Sink>(
     ensures part { AsksFor (map string_bytes words.now) Request.Bare → result ≢ 0
         → AnswersPart (I.left input) (O.held output.old) (O.held output.new) }
 
+    // Such a network is refused only where it has no head, or too many bytes come in.
+    ensures refused { AsksFor (map string_bytes words.now) Request.Bare → result ≡ REFUSED → IsRefused (I.left input) }
+    ensures stopped { AsksFor (map string_bytes words.now) Request.Bare → result ≢ 0
+        → Stops result (O.failures output.old) (O.failures output.new) (F.failures faults.old) (F.held faults.old) (F.failures faults.new) (F.held faults.new) }
+
+    // Where memory or a device is wanting, a first part of what is asked for is written, or nothing.
+    ensures broken { result ≡ OUT_OF_ORDER → DoesPart (map string_bytes words.now) (N.held files.old) (I.left input) (O.held output.old) (O.held output.new) }
+
     // Where nothing else is asked for than a verdict or help, nothing is written for what is refused.
     ensures kept { AsksForNoNetwork (map string_bytes words.now) → result ≡ REFUSED → O.held output.new ≡ O.held output.old }
 
-    // A write that failed is always told.
+    // A write that failed is always told. A fault line goes with each fault, and with nothing else; behind it stands only what
+    // `clap` says of words that are refused.
     ensures told { result ≢ OUT_OF_ORDER → O.failures output.new ≡ O.failures output.old }
+    ensures within { result ≤ 3 }
+    ensures silent { result ≤ 1 → faults.new ≡ faults.old }
+    ensures fault { 2 ≤ result → TellsRefusal result (F.failures faults.old) (F.held faults.old) (F.failures faults.new) (F.held faults.new) }
 {
     match read_words(alloc, words) {
         Ok(Request::Bare) => run_bare(alloc, input, output, faults),
@@ -53,9 +67,11 @@ pub fn run_words<N: Files, I: Source + Drop, O: Sink, F: Sink>(
 /// Writes a text of help. Answers the exit status.
 fn show<O: Sink, F: Sink>(text: &str, output: &mut O, faults: &mut F) -> u8
     ensures shown { result ≡ 0 → Appends (O.held output.old) (O.held output.new) text.now }
-    ensures no { result ≢ 1 }
-    ensures written { result ≢ REFUSED }
+    ensures part { AppendsPart (O.held output.old) (O.held output.new) text.now }
+    ensures status { (result ≡ 0) ⊎ (result ≡ OUT_OF_ORDER) }
     ensures told { result ≢ OUT_OF_ORDER → O.failures output.new ≡ O.failures output.old }
+    ensures silent { result ≡ 0 → faults.new ≡ faults.old }
+    ensures fault { result ≢ 0 → TellsFault [] (F.failures faults.old) (F.held faults.old) (F.failures faults.new) (F.held faults.new) }
 {
     match push_all(output, text.as_bytes()) {
         Ok(()) => 0,
@@ -65,11 +81,12 @@ fn show<O: Sink, F: Sink>(text: &str, output: &mut O, faults: &mut F) -> u8
 
 /// Writes that the words are refused, and what `clap` says of them. Answers the exit status.
 fn refuse_words<F: Sink>(text: Option<String>, faults: &mut F) -> u8
-    ensures { result ≡ REFUSED }
+    ensures status { result ≡ REFUSED }
+    ensures fault { TellsRefusal result (F.failures faults.old) (F.held faults.old) (F.failures faults.new) (F.held faults.new) }
 {
-    let status = complain(faults, FaultLine::refused("arguments", "1 words"));
-    if let Some(text) = text {
-        let _ = push_all(faults, text.as_bytes());
+    let line = FaultLine::refused("arguments", "1 words");
+    match text {
+        Some(text) => complain_more(faults, line, text.as_str()),
+        None => complain(faults, line),
     }
-    status
 }

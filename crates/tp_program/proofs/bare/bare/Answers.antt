@@ -1,15 +1,21 @@
-use Rattle.std.proofs.Common.{◌≡◌, refl, ap}
+use Rattle.std.proofs.Common.{ap}
 use Rattle.tp_script.specs.Pending.{Reading}
-use Rattle.tp_program.specs.Bare.{first_machine}
-use Rattle.tp_program.proofs.BareLemmas.{answers_all, answers_part}
+use Rattle.tp_program.proofs.BareLemmas.{head_refused, lines_all, lines_part, lines_refused, refused_by}
 use Rattle.tp_program.proofs.bare.bare.Goals as goal
 
 pub returns-clause-all : goal.returns-clause-all
 returns-clause-all g c =
-    let start : c.bare-executive.result ≡ first_machine (c.in_ok-events.events, c.in_ok-events.horizon) = rw (c.bare-executive.ensures, c.in_ok-net.ensures, c.greatest.ensures) refl in
-    answers_all c.serve.result _ _ _ c.in_ok-lines.lines c.read_head.new.lines (c.in_ok-events.events, c.in_ok-events.horizon) c.bare-executive.result c.serve.new.executive (ap (λ (l : Reading). l.rest) c.in_ok-lines.ensures.lines) c.in_ok-events.ensures.head start c.serve.ensures.all
+    lines_all c.answer.result _ _ _ c.in_ok-lines.lines c.read_head.new.lines c.answer.new.lines (c.in_ok-events.events, c.in_ok-events.horizon) (ap (λ (l : Reading). l.rest) c.in_ok-lines.ensures.lines) c.in_ok-events.ensures.head c.answer.ensures.answers
 
 pub returns-clause-part : goal.returns-clause-part
 returns-clause-part g c =
-    let start : c.bare-executive.result ≡ first_machine (c.in_ok-events.events, c.in_ok-events.horizon) = rw (c.bare-executive.ensures, c.in_ok-net.ensures, c.greatest.ensures) refl in
-    answers_part c.serve.result _ _ _ c.in_ok-lines.lines c.read_head.new.lines c.serve.new.lines (c.in_ok-events.events, c.in_ok-events.horizon) c.bare-executive.result c.serve.new.executive (ap (λ (l : Reading). l.rest) c.in_ok-lines.ensures.lines) c.in_ok-events.ensures.head start c.serve.ensures.serves
+    lines_part c.answer.result _ _ _ c.in_ok-lines.lines c.read_head.new.lines c.answer.new.lines (c.in_ok-events.events, c.in_ok-events.horizon) (ap (λ (l : Reading). l.rest) c.in_ok-lines.ensures.lines) c.in_ok-events.ensures.head c.answer.ensures.answers
+
+pub returns-clause-refused : goal.returns-clause-refused
+returns-clause-refused g c =
+    lines_refused c.answer.result _ _ _ c.in_ok-lines.lines c.read_head.new.lines c.answer.new.lines (c.in_ok-events.events, c.in_ok-events.horizon) (ap (λ (l : Reading). l.rest) c.in_ok-lines.ensures.lines) (ap (λ (l : Reading). l.taken) c.in_ok-lines.ensures.lines) (ap (λ (l : Reading). l.most) c.in_ok-lines.ensures.lines) c.in_ok-events.ensures.head c.in_ok-events.ensures.limits.most c.answer.ensures.most c.answer.ensures.answers
+
+pub returns-in_err-events-clause-refused : goal.returns-in_err-events-clause-refused
+returns-in_err-events-clause-refused g c =
+    refused_by c.from_residual-in_err-events.result c.in_err-events.field-0.0 c.from_residual-in_err-events.ensures.1
+    (head_refused c.in_err-events.field-0.0 _ c.in_ok-lines.lines c.read_head.new.lines (ap (λ (l : Reading). l.rest) c.in_ok-lines.ensures.lines) (ap (λ (l : Reading). l.taken) c.in_ok-lines.ensures.lines) (ap (λ (l : Reading). l.most) c.in_ok-lines.ensures.lines) c.in_err-events.ensures.head c.in_err-events.ensures.limits)

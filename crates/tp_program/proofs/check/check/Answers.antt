@@ -1,7 +1,11 @@
 use Rattle.std.proofs.lemmas.Result.{IfOk-weaker}
-use Rattle.tp_program.proofs.CheckLemmas.{says}
+use Rattle.tp_program.proofs.CheckLemmas.{on_err, says, says_part}
 use Rattle.tp_program.proofs.check.check.Goals as goal
 
 pub returns-clause-said : goal.returns-clause-said
 returns-clause-said g c =
     IfOk-weaker c.tell_of.result _ _ (λ valid h. says (g.N.Files.held c.args.files.now) (g.N.Files.held c.task_in.new.files) c.args.words _ _ _ valid c.in_ok-task.ensures.named c.task_in.ensures.same h) c.tell_of.ensures.said
+
+pub returns-clause-part : goal.returns-clause-part
+returns-clause-part g c =
+    on_err c.tell_of.result _ _ (says_part (g.N.Files.held c.args.files.now) (g.N.Files.held c.task_in.new.files) c.args.words _ _ _ c.in_ok-task.ensures.named c.task_in.ensures.same) c.tell_of.ensures.part
