@@ -17,7 +17,7 @@ use Rattle.tp_program.specs.Requests.{AskForOneThing, AsksBy, AsksFor, NamesBare
 use Rattle.tp_text.specs.Scales.{scale_ticks}
 use Rattle.tp_program.specs.declared.requests.PlanWords.{PlanWords}
 use Rattle.tp_program.specs.declared.requests.Request.{Request}
-use Rattle.tp_program.specs.declared.requests.Request.TheVariants.{Bare, Check, Help}
+use Rattle.tp_program.specs.declared.requests.Request.TheVariants.{Bare, Check, Net, Help}
 
 module _ {Z : Type 0} where
   none_rows : (s : Option (Box SubCommand Z)) → option_map (λ b. (out-SubCommand (box_value b)).name.now) s ≡ None → subcommand_rows s ≡ None
@@ -48,6 +48,7 @@ simple_and_free = refl
 pub asks_by : (words : List Text) (named : Option (Text × List Row)) (r : Request) → fault_of tempo_app words ≡ [] → named ≡ subcommand_of tempo_app words → AsksBy named r → AsksFor words r
 asks_by words named Bare free is h = (free, subst (λ n. NamesBare n) is h)
 asks_by words named (Check w) free is h = (free, subst (λ n. AsksBy n (Check w)) is h)
+asks_by words named (Net w) free is h = (free, subst (λ n. AsksBy n (Net w)) is h)
 asks_by words named (Help text) free is h = absurd h
 
 -- an error that is a call for help
@@ -102,6 +103,33 @@ check_words w domain problem plan scale horizon = (
   ),
 )
 
+-- the same of the other command
+pub net_words : (w : PlanWords) → w.domain.now ≡ codes "d" → w.problem.now ≡ codes "p" → w.plan.now ≡ codes "l" → scale_ticks w.scale ≡ 1000 → w.horizon ≡ 1000000 → AsksFor (codes "net" ∷ codes "d" ∷ codes "p" ∷ codes "--scale" ∷ codes "1000" ∷ codes "l" ∷ []) (Net w)
+unfolding clap_on_literals
+net_words w domain problem plan scale horizon = (
+  refl,
+  (
+    _,
+    refl,
+    record {
+      domain = ap Some (sym domain);
+      problem = ap Some (sym problem);
+      plan = ap Some (sym plan);
+      scale = (codes "1000", refl, sym scale);
+      horizon = (codes "1000000", refl, sym horizon);
+      within = omega (arith, horizon);
+    },
+  ),
+)
+
+abbrev first_name : Option (Text × List Row) → Text
+first_name None = []
+first_name (Some named) = named.0
+
+-- a parse names one command
+one_name : (named : Option (Text × List Row)) (a b : Text) (r s : List Row) → named ≡ Some (a, r) → named ≡ Some (b, s) → a ≡ b
+one_name named a b r s h k = sym (ap first_name h) ∙ ap first_name k
+
 -- no words ask for two kinds of things
 pub distinct : (words : List Text) → AskForOneThing words
 distinct words =
@@ -109,6 +137,13 @@ distinct words =
       bare_check = λ w bare check.
           let no : codes "check" ≡ codes "bare" = subst NamesBare check.1.1 bare.1 in
           cc;
+      bare_net = λ w bare net.
+          let no : codes "net" ≡ codes "bare" = subst NamesBare net.1.1 bare.1 in
+          cc;
+      check_net = λ v w check net.
+          let no : codes "check" ≡ codes "net" = one_name (subcommand_of tempo_app words) (codes "check") (codes "net") check.1.0 net.1.0 check.1.1 net.1.1 in
+          cc;
+      net_help = λ w text net help. subst (λ ks. IsAmong DisplayHelp ks) net.0 help;
       bare_help = λ text bare help. subst (λ ks. IsAmong DisplayHelp ks) bare.0 help;
       check_help = λ w text check help. subst (λ ks. IsAmong DisplayHelp ks) check.0 help;
     }

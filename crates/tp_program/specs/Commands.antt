@@ -29,10 +29,16 @@ horizon_rule = record (new_rule (codes "horizon")) {
 }
 
 -- the files of a plan, and how its time is measured
-abbrev pub check_app : App
-check_app =
-    let files = with_rule (with_rule (with_rule (new_app (codes "check")) (file_rule (codes "DOMAIN"))) (file_rule (codes "PROBLEM"))) (file_rule (codes "PLAN")) in
+abbrev pub plan_app : App → App
+plan_app named =
+    let files = with_rule (with_rule (with_rule named (file_rule (codes "DOMAIN"))) (file_rule (codes "PROBLEM"))) (file_rule (codes "PLAN")) in
     with_rule (with_rule files scale_rule) horizon_rule
+
+abbrev pub check_app : App
+check_app = plan_app (new_app (codes "check"))
+
+abbrev pub net_app : App
+net_app = plan_app (new_app (codes "net"))
 
 -- the program's words begin after its name
 abbrev pub start_app : App
@@ -41,4 +47,4 @@ start_app =
     record named { top = record named.top { no_binary_name = true } }
 
 abbrev pub tempo_app : App
-tempo_app = with_subcommand (with_subcommand start_app (new_app (codes "bare")).top) check_app.top
+tempo_app = with_subcommand (with_subcommand (with_subcommand start_app (new_app (codes "bare")).top) check_app.top) net_app.top

@@ -5,15 +5,17 @@ use Rattle.std.specs.String.{string_bytes}
 use Rattle.tp_device.specs.Bytes.{AppendsPart}
 use Rattle.tp_program.specs.Bare.{AnswersAll, AnswersPart}
 use Rattle.tp_program.specs.Checks.{SaysInvalid, SaysPart, SaysValid}
+use Rattle.tp_program.specs.Networks.{ShowsNetwork, ShowsPart}
 use Rattle.tp_program.specs.Requests.{AsksFor}
 use Rattle.tp_program.specs.declared.requests.PlanWords.{PlanWords}
 use Rattle.tp_program.specs.declared.requests.Request.{Request}
-use Rattle.tp_program.specs.declared.requests.Request.TheVariants.{Bare, Check, Help}
+use Rattle.tp_program.specs.declared.requests.Request.TheVariants.{Bare, Check, Net, Help}
 
--- all commands of the input were answered, the plan is valid and that was written, or the help was written
+-- all commands of the input were answered, the plan is valid and that was written, its network was written, or the help was written
 abbrev pub IsDone : Request → (List ℕ → Option (List ℕ)) → Option (List ℕ) → Option (List ℕ) → Option (List ℕ) → Type 0
 IsDone Bare files input held now = AnswersAll input held now
 IsDone (Check w) files input held now = SaysValid files w held now
+IsDone (Net w) files input held now = ShowsNetwork files w held now
 IsDone (Help text) files input held now = Appends held now (string_bytes text)
 
 -- the words ask for something, and it was done
@@ -22,16 +24,17 @@ pub record DoesWhatIsAsked (words : List (List ℕ)) (files : List ℕ → Optio
   pub asked : AsksFor words request
   pub done : IsDone request files input held now
 
--- the words ask for the verdict on a plan, and its first fault was written
+-- the words ask for the verdict on a plan, or for its network, and its first fault was written
 pub record AnswersNo (words : List (List ℕ)) (files : List ℕ → Option (List ℕ)) (held now : Option (List ℕ)) : Type 0 where
   pub plan : PlanWords
-  pub asked : AsksFor words (Check plan)
+  pub asked : AsksFor words (Check plan) ⊎ AsksFor words (Net plan)
   pub said : SaysInvalid files plan held now
 
 -- some first part of that was done
 abbrev pub IsPartDone : Request → (List ℕ → Option (List ℕ)) → Option (List ℕ) → Option (List ℕ) → Option (List ℕ) → Type 0
 IsPartDone Bare files input held now = AnswersPart input held now
 IsPartDone (Check w) files input held now = SaysPart files w held now
+IsPartDone (Net w) files input held now = ShowsPart files w held now
 IsPartDone (Help text) files input held now = AppendsPart held now (string_bytes text)
 
 -- nothing was written, or the words ask for something, and some first part of it was written

@@ -7,13 +7,13 @@ use Rattle.tp_text.specs.Scales.{scale_ticks}
 use Rattle.tp_program.specs.Commands.{tempo_app}
 use Rattle.tp_program.specs.declared.requests.PlanWords.{PlanWords}
 use Rattle.tp_program.specs.declared.requests.Request.{Request}
-use Rattle.tp_program.specs.declared.requests.Request.TheVariants.{Bare, Check, Help}
+use Rattle.tp_program.specs.declared.requests.Request.TheVariants.{Bare, Check, Net, Help}
 
 -- the text is there, and its digits make the number
 abbrev pub Spells : Option Text → ℕ → Type 0
 Spells text n = (t : Text) × (text ≡ Some t) × (digits_value 10 (without_leading_plus t) ≡ n)
 
--- the values of `check`, or their defaults
+-- the values of `check` and `net`, or their defaults
 pub record IsPlanWords (rows : List Row) (w : PlanWords) : Type 0 where
   pub domain : first_of (codes "DOMAIN") rows ≡ Some w.domain.now
   pub problem : first_of (codes "PROBLEM") rows ≡ Some w.problem.now
@@ -31,6 +31,7 @@ NamesBare (Some named) = named.0 ≡ codes "bare"
 abbrev pub AsksBy : Option (Text × List Row) → Request → Type 0
 AsksBy named Bare = NamesBare named
 AsksBy named (Check w) = (rows : List Row) × (named ≡ Some (codes "check", rows)) × IsPlanWords rows w
+AsksBy named (Net w) = (rows : List Row) × (named ≡ Some (codes "net", rows)) × IsPlanWords rows w
 AsksBy named (Help text) = ⊥
 
 -- the words of a call ask for it: they are words of a command, or call for help
@@ -38,13 +39,17 @@ abbrev pub AsksFor : List Text → Request → Type 0
 AsksFor words (Help text) = IsAmong DisplayHelp (fault_of tempo_app words)
 AsksFor words Bare = (fault_of tempo_app words ≡ []) × AsksBy (subcommand_of tempo_app words) Bare
 AsksFor words (Check w) = (fault_of tempo_app words ≡ []) × AsksBy (subcommand_of tempo_app words) (Check w)
+AsksFor words (Net w) = (fault_of tempo_app words ≡ []) × AsksBy (subcommand_of tempo_app words) (Net w)
 
 -- the words ask for no network of bounds: for something else, or for nothing
 abbrev pub AsksForNoNetwork : List Text → Type 0
 AsksForNoNetwork words = AsksFor words Bare → ⊥
 
--- words ask for one kind of thing at most: for commands on a network, for a verdict, or for help
+-- words ask for one kind of thing at most: for commands on a network, for a verdict, for the network of a plan, or for help
 pub record AskForOneThing (words : List Text) : Type 0 where
   pub bare_check : (w : PlanWords) → AsksFor words Bare → AsksFor words (Check w) → ⊥
+  pub bare_net : (w : PlanWords) → AsksFor words Bare → AsksFor words (Net w) → ⊥
+  pub check_net : (v w : PlanWords) → AsksFor words (Check v) → AsksFor words (Net w) → ⊥
+  pub net_help : (w : PlanWords) (text : _) → AsksFor words (Net w) → AsksFor words (Help text) → ⊥
   pub bare_help : (text : _) → AsksFor words Bare → AsksFor words (Help text) → ⊥
   pub check_help : (w : PlanWords) (text : _) → AsksFor words (Check w) → AsksFor words (Help text) → ⊥

@@ -91,6 +91,11 @@ fn asked_by<'w>(name: &str, matches: &ArgMatches<'w>) -> Result<Request<'w>, Ref
             return Ok(Request::Check(words));
         }
     }
+    if name == "net" {
+        if let Some(words) = plan_words(matches) {
+            return Ok(Request::Net(words));
+        }
+    }
     Err(Refusal::Words(None))
 }
 
@@ -141,6 +146,13 @@ pub fn check_calls()
     ensures { (w : PlanWords) → w.domain.now ≡ codes "d" → w.problem.now ≡ codes "p" → w.plan.now ≡ codes "l"
         → scale_ticks w.scale ≡ 1000 → w.horizon ≡ 1000000
         → AsksFor (codes "check" ∷ codes "d" ∷ codes "p" ∷ codes "--scale" ∷ codes "1000" ∷ codes "l" ∷ []) (Request.Check w) }
+{}
+
+/// The same of `net`.
+pub fn net_calls()
+    ensures { (w : PlanWords) → w.domain.now ≡ codes "d" → w.problem.now ≡ codes "p" → w.plan.now ≡ codes "l"
+        → scale_ticks w.scale ≡ 1000 → w.horizon ≡ 1000000
+        → AsksFor (codes "net" ∷ codes "d" ∷ codes "p" ∷ codes "--scale" ∷ codes "1000" ∷ codes "l" ∷ []) (Request.Net w) }
 {}
 
 /// Words ask for one kind of thing at most.

@@ -98,7 +98,7 @@ fn task_with<'w, N: Files>(
 }
 
 /// The task of the domain and the problem that the words name.
-fn task_in<'w, N: Files>(
+pub fn task_in<'w, N: Files>(
     alloc: Global,
     files: &mut N,
     words: PlanWords<'w>,
@@ -113,7 +113,7 @@ fn task_in<'w, N: Files>(
 }
 
 /// The plan of a task in the file of a name.
-fn plan_in<'w, N: Files>(
+pub fn plan_in<'w, N: Files>(
     alloc: Global,
     files: &mut N,
     name: &'w str,
@@ -133,7 +133,11 @@ fn plan_in<'w, N: Files>(
 }
 
 /// The verdict on a plan of a task.
-fn judged<'t, 'w>(alloc: Global, task: &'t Task, plan: Plan) -> Result<Verdict<'t>, FaultLine<'w>>
+pub fn judged<'t, 'w>(
+    alloc: Global,
+    task: &'t Task,
+    plan: Plan,
+) -> Result<Verdict<'t>, FaultLine<'w>>
     requires { IsOfTask task.now plan }
     ensures verdict { IfOk result (IsVerdict task.now plan) }
     ensures status { IfErr result IsFault }

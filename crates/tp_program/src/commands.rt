@@ -1,8 +1,8 @@
 // The commands of the program, their words and their help, as `clap` is told of them.
 ghost use Rattle.std.specs.Prelude.{◌≡◌, false, IfOk, codes};
-ghost use Rattle.clap.specs.Words.{app_of, new_app, rule_of};
+ghost use Rattle.clap.specs.Words.{app_of, new_app, rule_of, with_subcommand};
 ghost use Rattle.clap.specs.declared.builder.command.Command.TheViews.{out-Command as fields_of};
-ghost use Rattle.tp_program.specs.Commands.{check_app, file_rule, horizon_rule, scale_rule, start_app, tempo_app};
+ghost use Rattle.tp_program.specs.Commands.{check_app, file_rule, horizon_rule, net_app, plan_app, scale_rule, start_app, tempo_app};
 
 use clap::{Arg, ArgAction, Command, value_parser};
 use std::alloc::{AllocError, Global};
@@ -17,7 +17,8 @@ For 2 and 3 a line `fault PART NUMBER WORD ..` goes to standard error.
 
 Examples:
   printf 'network 1 5\\nwindow 0\\n' | tempo bare
-  tempo check domain.pddl problem.pddl plan.txt";
+  tempo check domain.pddl problem.pddl plan.txt
+  tempo net domain.pddl problem.pddl plan.txt";
 
 const BARE_ABOUT: &str = "Answers commands on a network of events and bounds";
 
@@ -57,6 +58,26 @@ Example:
   tempo check domain.pddl problem.pddl plan.txt --scale 1000
 prints
   valid";
+
+const NET_ABOUT: &str = "Prints the network of all schedules of a valid plan";
+
+const NET_HELP: &str =
+    "Reads a domain and a problem of PDDL 2.1 and a plan, as `check` does. For a valid plan it prints
+
+  event E TEXT       for each event, TEXT being `start STEP (NAME ARG ..)`, `end STEP ..` or `at STEP ..`
+  bound ID F T W     for each bound: the moment of T is at most W ticks after that of F
+
+The moments that meet all bounds, from 0 to the horizon, are those that keep the plan's durations lawful, its interfering
+events in their order, and its invariants. Each of them makes a valid plan. For a plan that is not valid it prints the line
+that `check` prints.
+
+Example:
+  tempo net domain.pddl problem.pddl plan.txt --horizon 100
+prints
+  event 0 start 0 (rest)
+  event 1 end 0 (rest)
+  bound 0 1 0 -2
+  bound 1 0 1 6";
 
 /// A file that has to be named.
 fn file_argument<'a>(alloc: Global, id: &'a str, help: &'a str) -> Arg<'a>
@@ -107,14 +128,26 @@ fn bare_command<'a>(alloc: Global) -> Command<'a>
         .after_help(BARE_HELP)
 }
 
-/// The command `check` before it has arguments.
-fn check_start<'a>(alloc: Global) -> Command<'a>
-    ensures app { app_of result ≡ new_app (codes "check") }
+/// A command that takes the files of a plan, before it has arguments.
+fn plan_start<'a>(alloc: Global, name: &'a str, about: &'a str, help: &'a str) -> Command<'a>
+    ensures app { app_of result ≡ new_app name.entry.now }
     ensures local { (fields_of result).has_globals ≡ false }
 {
-    Command::new(alloc, "check")
-        .about(CHECK_ABOUT)
-        .after_help(CHECK_HELP)
+    Command::new(alloc, name).about(about).after_help(help)
+}
+
+/// The same with the files, the scale and the horizon.
+fn plan_command<'a>(alloc: Global, start: Command<'a>) -> Result<Command<'a>, AllocError>
+    requires { (fields_of start).has_globals ≡ false }
+    ensures app { IfOk result (λ c. app_of c ≡ plan_app (app_of start.entry)) }
+    ensures local { IfOk result (λ c. (fields_of c).has_globals ≡ false) }
+{
+    start
+        .arg(file_argument(alloc, "DOMAIN", "The file of the domain"))?
+        .arg(file_argument(alloc, "PROBLEM", "The file of the problem"))?
+        .arg(file_argument(alloc, "PLAN", "The file of the plan"))?
+        .arg(scale_option(alloc))?
+        .arg(horizon_option(alloc))
 }
 
 /// The command `check`.
@@ -122,12 +155,15 @@ fn check_command<'a>(alloc: Global) -> Result<Command<'a>, AllocError>
     ensures app { IfOk result (λ c. app_of c ≡ check_app) }
     ensures local { IfOk result (λ c. (fields_of c).has_globals ≡ false) }
 {
-    check_start(alloc)
-        .arg(file_argument(alloc, "DOMAIN", "The file of the domain"))?
-        .arg(file_argument(alloc, "PROBLEM", "The file of the problem"))?
-        .arg(file_argument(alloc, "PLAN", "The file of the plan"))?
-        .arg(scale_option(alloc))?
-        .arg(horizon_option(alloc))
+    plan_command(alloc, plan_start(alloc, "check", CHECK_ABOUT, CHECK_HELP))
+}
+
+/// The command `net`.
+fn net_command<'a>(alloc: Global) -> Result<Command<'a>, AllocError>
+    ensures app { IfOk result (λ c. app_of c ≡ net_app) }
+    ensures local { IfOk result (λ c. (fields_of c).has_globals ≡ false) }
+{
+    plan_command(alloc, plan_start(alloc, "net", NET_ABOUT, NET_HELP))
 }
 
 /// The program before it has commands. Its words begin after its name.
@@ -141,12 +177,20 @@ fn tempo_start<'a>(alloc: Global) -> Result<Command<'a>, AllocError>
         .bin_name("tempo")
 }
 
-/// The program with all its commands.
-pub fn tempo_command<'a>(alloc: Global) -> Result<Command<'a>, AllocError>
-    ensures { IfOk result (λ c. app_of c ≡ tempo_app) }
+/// The program with the commands that judge.
+fn judging_command<'a>(alloc: Global) -> Result<Command<'a>, AllocError>
+    ensures { IfOk result (λ c. app_of c ≡ with_subcommand (with_subcommand start_app (new_app (codes "bare")).top) check_app.top) }
 {
     let check = check_command(alloc)?;
     tempo_start(alloc)?
         .subcommand(bare_command(alloc))?
         .subcommand(check)
+}
+
+/// The program with all its commands.
+pub fn tempo_command<'a>(alloc: Global) -> Result<Command<'a>, AllocError>
+    ensures { IfOk result (λ c. app_of c ≡ tempo_app) }
+{
+    let net = net_command(alloc)?;
+    judging_command(alloc)?.subcommand(net)
 }

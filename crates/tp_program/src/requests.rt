@@ -8,6 +8,8 @@ pub enum Request<'w> {
     Bare,
     /// The verdict on a plan.
     Check(PlanWords<'w>),
+    /// The network of a plan.
+    Net(PlanWords<'w>),
     /// A text of help.
     Help(String),
 }

@@ -40,7 +40,7 @@ fn why_line(why: Fault) -> Line
 }
 
 /// Writes the line of a plan that is not valid.
-fn write_invalid<W: Sink>(writer: &mut W, tick: u32, why: Fault) -> Result<(), Failed>
+pub fn write_invalid<W: Sink>(writer: &mut W, tick: u32, why: Fault) -> Result<(), Failed>
     ensures bytes { Writes (W.held writer.old) (W.held writer.new) (invalid_line tick why) result }
     ensures cause { W.failures writer.new ≡ failures_after (W.failures writer.old) result }
 {

@@ -13,6 +13,7 @@ use crate::bare::run_bare;
 use crate::check::run_check;
 use crate::fault_lines::{FaultLine, OUT_OF_ORDER, REFUSED, complain, complain_more};
 use crate::files::Files;
+use crate::net::run_net;
 use crate::requests::Request;
 use std::alloc::Global;
 use tp_device::{Sink, Source, push_all};
@@ -56,6 +57,7 @@ pub fn run_words<N: Files, I: Source + Drop, O: Sink, F: Sink>(
     match read_words(alloc, words) {
         Ok(Request::Bare) => run_bare(alloc, input, output, faults),
         Ok(Request::Check(plan)) => run_check(alloc, files, plan, output, faults),
+        Ok(Request::Net(plan)) => run_net(alloc, files, plan, output, faults),
         Ok(Request::Help(text)) => show(text.as_str(), output, faults),
         Err(Refusal::Words(text)) => refuse_words(text, faults),
         Err(Refusal::Memory) => complain(faults, FaultLine::out_of_order("arguments", "2 memory")),

@@ -3,11 +3,11 @@ use super::devices::{Outcome, WIDE, run, whole};
 use std::alloc::Global;
 
 /// Words that are refused, and what is said of them.
-const REFUSED: [(&[&str], &str); 10] = [
+const REFUSED: [(&[&str], &str); 11] = [
     (&["plan"], "error: unrecognized subcommand 'plan'"),
     (
-        &["net", "d", "p", "l"],
-        "error: unrecognized subcommand 'net'",
+        &["run", "d", "p", "l"],
+        "error: unrecognized subcommand 'run'",
     ),
     (&["Bare"], "error: unrecognized subcommand 'Bare'"),
     (&["bare", "bare"], "error: unexpected argument 'bare' found"),
@@ -20,6 +20,7 @@ const REFUSED: [(&[&str], &str); 10] = [
         "error: unexpected argument '--journal' found",
     ),
     (&["check", "d", "p"], "<PLAN>"),
+    (&["net", "d", "p"], "<PLAN>"),
     (
         &["check", "d", "p", "l", "o"],
         "error: unexpected argument 'o' found",
@@ -41,8 +42,16 @@ const CHECK: &[&str] = &[
     "Example:",
 ];
 
+const NET: &[&str] = &[
+    "Usage: tempo net",
+    "event E TEXT",
+    "bound ID F T W",
+    "--horizon",
+    "Example:",
+];
+
 /// Calls for help, and what stands in it.
-const HELP: [(&[&str], &[&str]); 7] = [
+const HELP: [(&[&str], &[&str]); 9] = [
     (&["--help"], PROGRAM),
     (&["-h"], PROGRAM),
     (&["help"], PROGRAM),
@@ -50,6 +59,8 @@ const HELP: [(&[&str], &[&str]); 7] = [
     (&["help", "bare"], BARE),
     (&["check", "--help"], CHECK),
     (&["help", "check"], CHECK),
+    (&["net", "--help"], NET),
+    (&["help", "net"], NET),
 ];
 
 /// Options of `check` that no call may have.

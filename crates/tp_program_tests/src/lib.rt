@@ -4,6 +4,7 @@
 //! - `arguments`: calls for help, and words that are refused
 //! - `examples`, `faults`: networks, worked by hand, and what ends them early
 //! - `check`: verdicts on plans in files, worked by hand
+//! - `net`: networks of plans in files, worked by hand
 //! - `files`: texts that are read of files
 //! - `fault_lines`: the line of each fault, and its exit status
 #![tactic(auto)]
@@ -22,3 +23,5 @@ mod fault_lines;
 mod faults;
 #[cfg(test)]
 mod files;
+#[cfg(test)]
+mod net;
