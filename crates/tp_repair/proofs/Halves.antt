@@ -518,3 +518,20 @@ slot_written slots key n m is = get_or-set_at slots key key (Some m) None refl (
 
 pub slot_other : (slots : List (Option Node)) (key : ℕ) (m : Node) (k : ℕ) → k ≢ key → at_key (set slots key (Some m)) k ≡ at_key slots k
 slot_other slots key m k ne = rw get_or-set_other refl
+
+-- one more list with nothing in it
+pub empty_more : (lists : List (Vec Half Global)) (v : Vec Half Global) → v.items ≡ [] → ((y : ℕ) → halves_at lists y ≡ []) → (y : ℕ) → halves_at (lists ++ v ∷ []) y ≡ []
+empty_more [] v none all zero = none
+empty_more [] v none all (suc y) = refl
+empty_more (w ∷ lists) v none all zero = all 0
+empty_more (w ∷ lists) v none all (suc y) = empty_more lists v none (λ z. all (suc z)) y
+
+-- no edge, and no half
+pub halves_none : (d : Direction) (slots : List (Option Node)) (lists : List (Vec Half Global)) → ((k : ℕ) → at_key slots k ≡ None) → ((y : ℕ) → halves_at lists y ≡ []) → AreHalves d slots lists
+halves_none d slots lists none empty = record {
+  stand = λ y j inside. absurd (let e : length (halves_at lists y) ≡ 0 = ap (λ (hs : List Half). length hs) (empty y) in omega (arith, inside, e));
+  complete = λ k n is. absurd (none-some n (sym (none k) ∙ is));
+}
+
+pub none_at : (slots : List (Option Node)) → slots ≡ [] → (k : ℕ) → at_key slots k ≡ None
+none_at slots e k = ap (λ (xs : List (Option Node)). at_key xs k) e

@@ -1,17 +1,15 @@
 -- The edges that there are, numbered without the keys that are free.
-use Rattle.std.proofs.Common.{◌≡◌, ◌≢◌, ℕ, zero, suc, ◌<◌, ◌≤◌, List, [], ◌∷◌, ◌++◌, length, map, refl, sym, ◌∙◌, ap, subst, arith, rules, get_or, take, inl, inr, ◌⊎◌}
-use Rattle.std.specs.Prelude.{All, AllPairs, Option, Some, None, IsSome, slice_index_or, ℤ, pos, ◌+ℤ◌, ◌<ℤ◌}
-use Rattle.std.proofs.lemmas.Int.{ints}
-use Rattle.std.proofs.lemmas.Option.{none-some, same_Some}
-use Rattle.std.proofs.lemmas.List.{get_or_default}
-use Rattle.std.proofs.lemmas.List.Elements.{All-contains, All-tail, All-cons}
+use Rattle.std.proofs.Common.{◌≡◌, ◌≢◌, ℕ, zero, suc, ◌<◌, List, [], ◌∷◌, ◌++◌, length, map, refl, sym, ◌∙◌, ap, subst, arith, rules, get_or, take, inl, inr, ◌⊎◌}
+use Rattle.std.specs.Prelude.{All, AllPairs, Option, Some, None, IsSome, slice_index_or, pos, ◌+ℤ◌, ◌<ℤ◌}
+use Rattle.std.proofs.lemmas.Option.{none-some}
+use Rattle.std.proofs.lemmas.List.Elements.{All-tail, All-cons}
 use Rattle.tp_bounds.specs.declared.Edge.{Edge}
 use Rattle.tp_net.specs.declared.slacks.Arc.{Arc}
-use Rattle.tp_net.specs.Graph.{arc_at, no_arc, IsChain, IsNegativeCycle, weight_of}
+use Rattle.tp_net.specs.Graph.{arc_at, IsChain, weight_of}
 use Rattle.tp_net.specs.Arcs.{name_at, NamesCycle}
 use Rattle.tp_net.specs.Moments.{CycleBeginsWith}
 use Rattle.tp_repair.specs.declared.store.Node.{Node}
-use Rattle.tp_repair.specs.Store.{arcs_of, HasNode, name_in, nodes_of, names_of, kept_arcs}
+use Rattle.tp_repair.specs.Store.{arcs_of, HasNode, name_in, names_of, kept_arcs}
 
 -- how many edges come before a key
 abbrev number : List (Option Node) → ℕ → ℕ

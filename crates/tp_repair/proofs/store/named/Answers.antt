@@ -1,4 +1,4 @@
-use Rattle.std.proofs.Common.{◌≡◌, ℕ, ◌<◌, length, ◌∷◌, map, take, get_or, arith, List, ap, ◌∙◌}
+use Rattle.std.proofs.Common.{◌≡◌, ℕ, length, ◌∷◌, map, take, get_or, arith, List, ap, ◌∙◌}
 use Rattle.std.specs.Prelude.{None, slice_index_or}
 use Rattle.tp_repair.specs.Store.{name_in}
 use Rattle.tp_repair.proofs.Names.{names_cycle, has_key, take_all}
