@@ -8,7 +8,7 @@
 //! - `check`, `verdict_lines`: the judging of the plan in a file, and the line of the verdict
 //! - `files`: files under names, and the texts that they hold
 //! - `fault_lines`: the lines of faults, with their exit statuses
-//! - `streams`, `host`: devices and files over those of std, and the words of the host's call
+//! - `streams`, `outlets`, `host`: devices and files over those of std, and the words of the host's call
 #![tactic(auto)]
 
 mod arguments;
@@ -19,15 +19,17 @@ mod fault_lines;
 mod files;
 mod host;
 mod lines;
+mod outlets;
 mod requests;
 mod streams;
 mod verdict_lines;
 mod words;
 
 pub use arguments::{Refusal, bare_calls, check_calls, read_words, requests_are_distinct};
+pub use bare::BareFault;
 pub use fault_lines::{FaultLine, complain};
 pub use files::{FileFault, Files, open_text, read_text};
 pub use host::{HostFile, HostFiles, refuse_call, words_of_call};
 pub use requests::{PlanWords, Request};
-pub use streams::run_streams;
+pub use streams::{Ended, run_streams};
 pub use words::run_words;

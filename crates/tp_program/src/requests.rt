@@ -8,7 +8,7 @@ pub enum Request<'w> {
     Bare,
     /// The verdict on a plan.
     Check(PlanWords<'w>),
-    /// A text of help.
+    /// A text of help, or the version.
     Help(String),
 }
 
