@@ -1,10 +1,11 @@
 -- What a parse asks for.
-use Rattle.std.proofs.Common.{◌≡◌, ◌∙◌, ap, arith, ℕ, ◌∷◌, inl, inr, refl, sym, subst, List, [], Option, Some, None, true, codes}
+use Rattle.std.proofs.Common.{◌≡◌, ◌∙◌, ◌⊎◌, ap, arith, ℕ, ◌∷◌, inl, inr, refl, sym, subst, List, [], Option, Some, None, true, codes}
 use Rattle.std.specs.Prelude.{Box, Result, Ok, Err, option_map}
 use Rattle.std.specs.Box.{box_value}
 use Rattle.clap.specs.Words.{FailsBy, IsAmong, ReadsOne, Row, Text, fault_of, one_of, one_text, is_simple, is_simple_and_free, kind_of, rows_of, subcommand_name_of, subcommand_of, subcommand_rows, subcommand_rows_of}
 use Rattle.clap.specs.declared.error.Error.{Error}
-use Rattle.clap.specs.declared.error.kind.ErrorKind.TheVariants.{DisplayHelp, OutOfMemory}
+use Rattle.clap.specs.declared.error.kind.ErrorKind.{ErrorKind}
+use Rattle.clap.specs.declared.error.kind.ErrorKind.TheVariants.{DisplayHelp, DisplayVersion, OutOfMemory}
 use Rattle.clap.specs.declared.parser.matches.ArgMatches.{ArgMatches}
 use Rattle.clap.specs.declared.parser.matches.ArgMatches.TheViews.{out-ArgMatches, out-SubCommand}
 use Rattle.clap.specs.declared.parser.matches.SubCommand.{SubCommand}
@@ -13,7 +14,7 @@ use Rattle.clap.proofs.WalkLemmas.{one_text-rows}
 use Rattle.std.specs.Str.Parse.{digits_value, without_leading_plus}
 use Rattle.clap.specs.declared.parser.matches.Found.{Found}
 use Rattle.tp_program.specs.Commands.{tempo_app}
-use Rattle.tp_program.specs.Requests.{AskForOneThing, AsksBy, AsksFor, NamesBare, Spells}
+use Rattle.tp_program.specs.Requests.{AskForOneThing, AsksBy, AsksFor, NamesBare, Spells, TellsText}
 use Rattle.tp_text.specs.Scales.{scale_ticks}
 use Rattle.tp_program.specs.declared.requests.PlanWords.{PlanWords}
 use Rattle.tp_program.specs.declared.requests.Request.{Request}
@@ -51,12 +52,20 @@ asks_by words named (Check w) free is h = (free, subst (λ n. AsksBy n (Check w)
 asks_by words named (Net w) free is h = (free, subst (λ n. AsksBy n (Net w)) is h)
 asks_by words named (Help text) free is h = absurd h
 
--- an error that is a call for help
-pub asks_help : (words : List Text) (e : Error) (r : Request) → FailsBy {T = ArgMatches} (fault_of tempo_app words) (Err e) → ((text : _) × (r ≡ Help text)) × (kind_of e ≡ DisplayHelp) → AsksFor words r
+-- an error that is a call for help or for the version
+asks_text : (words : List Text) (k : ErrorKind) → TellsText k → IsAmong k (fault_of tempo_app words) → IsAmong DisplayHelp (fault_of tempo_app words) ⊎ IsAmong DisplayVersion (fault_of tempo_app words)
+asks_text words k (inl is) among = inl (subst (λ q. IsAmong q (fault_of tempo_app words)) is among)
+asks_text words k (inr is) among = inr (subst (λ q. IsAmong q (fault_of tempo_app words)) is among)
+
+out_of_memory : (k : ErrorKind) → k ≡ OutOfMemory → TellsText k → ⊥
+out_of_memory k memory (inl is) = cc
+out_of_memory k memory (inr is) = cc
+
+pub asks_help : (words : List Text) (e : Error) (r : Request) → FailsBy {T = ArgMatches} (fault_of tempo_app words) (Err e) → ((text : _) × (r ≡ Help text)) × TellsText (kind_of e) → AsksFor words r
 asks_help words e r fails is =
     subst (λ q. AsksFor words q) (sym is.0.1) (elim fails [
-      | inl memory ↦ cc
-      | inr among ↦ subst (λ k. IsAmong k (fault_of tempo_app words)) is.1 among
+      | inl memory ↦ absurd (out_of_memory (kind_of e) memory is.1)
+      | inr among ↦ asks_text words (kind_of e) is.1 among
     ])
 
 -- without a fault only memory is wanting
@@ -130,6 +139,10 @@ first_name (Some named) = named.0
 one_name : (named : Option (Text × List Row)) (a b : Text) (r s : List Row) → named ≡ Some (a, r) → named ≡ Some (b, s) → a ≡ b
 one_name named a b r s h k = sym (ap first_name h) ∙ ap first_name k
 
+no_text : (faults : List ErrorKind) → faults ≡ [] → IsAmong DisplayHelp faults ⊎ IsAmong DisplayVersion faults → ⊥
+no_text faults none (inl help) = subst (λ ks. IsAmong DisplayHelp ks) none help
+no_text faults none (inr version) = subst (λ ks. IsAmong DisplayVersion ks) none version
+
 -- no words ask for two kinds of things
 pub distinct : (words : List Text) → AskForOneThing words
 distinct words =
@@ -143,7 +156,7 @@ distinct words =
       check_net = λ v w check net.
           let no : codes "check" ≡ codes "net" = one_name (subcommand_of tempo_app words) (codes "check") (codes "net") check.1.0 net.1.0 check.1.1 net.1.1 in
           cc;
-      net_help = λ w text net help. subst (λ ks. IsAmong DisplayHelp ks) net.0 help;
-      bare_help = λ text bare help. subst (λ ks. IsAmong DisplayHelp ks) bare.0 help;
-      check_help = λ w text check help. subst (λ ks. IsAmong DisplayHelp ks) check.0 help;
+      net_help = λ w text net help. no_text (fault_of tempo_app words) net.0 help;
+      bare_help = λ text bare help. no_text (fault_of tempo_app words) bare.0 help;
+      check_help = λ w text check help. no_text (fault_of tempo_app words) check.0 help;
     }

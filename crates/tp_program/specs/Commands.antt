@@ -40,11 +40,11 @@ check_app = plan_app (new_app (codes "check"))
 abbrev pub net_app : App
 net_app = plan_app (new_app (codes "net"))
 
--- the program's words begin after its name
+-- the program's words begin after its name, and it tells its version
 abbrev pub start_app : App
 start_app =
     let named = new_app (codes "tempo") in
-    record named { top = record named.top { no_binary_name = true } }
+    record named { top = record named.top { no_binary_name = true; has_version = true } }
 
 abbrev pub tempo_app : App
 tempo_app = with_subcommand (with_subcommand (with_subcommand start_app (new_app (codes "bare")).top) check_app.top) net_app.top

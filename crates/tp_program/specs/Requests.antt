@@ -1,8 +1,9 @@
 -- What the words of a call ask for.
-use Rattle.std.specs.Prelude.{◌≡◌, ◌≤◌, ℕ, List, [], Option, Some, None, codes}
+use Rattle.std.specs.Prelude.{◌≡◌, ◌≤◌, ◌⊎◌, ℕ, List, [], Option, Some, None, codes}
 use Rattle.std.specs.Str.Parse.{digits_value, without_leading_plus}
 use Rattle.clap.specs.Words.{IsAmong, Row, Text, fault_of, first_of, one_of, subcommand_of}
-use Rattle.clap.specs.declared.error.kind.ErrorKind.TheVariants.{DisplayHelp}
+use Rattle.clap.specs.declared.error.kind.ErrorKind.{ErrorKind}
+use Rattle.clap.specs.declared.error.kind.ErrorKind.TheVariants.{DisplayHelp, DisplayVersion}
 use Rattle.tp_text.specs.Scales.{scale_ticks}
 use Rattle.tp_program.specs.Commands.{tempo_app}
 use Rattle.tp_program.specs.declared.requests.PlanWords.{PlanWords}
@@ -34,9 +35,13 @@ AsksBy named (Check w) = (rows : List Row) × (named ≡ Some (codes "check", ro
 AsksBy named (Net w) = (rows : List Row) × (named ≡ Some (codes "net", rows)) × IsPlanWords rows w
 AsksBy named (Help text) = ⊥
 
--- the words of a call ask for it: they are words of a command, or call for help
+-- a parse that ends so gives a text that was called for
+abbrev pub TellsText : ErrorKind → Type 0
+TellsText kind = (kind ≡ DisplayHelp) ⊎ (kind ≡ DisplayVersion)
+
+-- the words of a call ask for it: they are words of a command, or call for help or for the version
 abbrev pub AsksFor : List Text → Request → Type 0
-AsksFor words (Help text) = IsAmong DisplayHelp (fault_of tempo_app words)
+AsksFor words (Help text) = IsAmong DisplayHelp (fault_of tempo_app words) ⊎ IsAmong DisplayVersion (fault_of tempo_app words)
 AsksFor words Bare = (fault_of tempo_app words ≡ []) × AsksBy (subcommand_of tempo_app words) Bare
 AsksFor words (Check w) = (fault_of tempo_app words ≡ []) × AsksBy (subcommand_of tempo_app words) (Check w)
 AsksFor words (Net w) = (fault_of tempo_app words ≡ []) × AsksBy (subcommand_of tempo_app words) (Net w)

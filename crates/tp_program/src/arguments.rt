@@ -5,7 +5,7 @@ ghost use Rattle.clap.specs.Words.{Text, Row, first_of, found_of, kind_of, one_o
 ghost use Rattle.clap.specs.declared.error.kind.ErrorKind.TheVariants as kinds;
 ghost use Rattle.tp_text.specs.Scales.{scale_ticks};
 ghost use Rattle.tp_program.specs.declared.requests.PlanWords.{PlanWords};
-ghost use Rattle.tp_program.specs.Requests.{AskForOneThing, AsksBy, AsksFor, IsPlanWords, NamesBare, Spells};
+ghost use Rattle.tp_program.specs.Requests.{AskForOneThing, AsksBy, AsksFor, IsPlanWords, NamesBare, Spells, TellsText};
 
 use crate::commands::tempo_command;
 use crate::requests::{PlanWords, Request};
@@ -110,14 +110,22 @@ fn asked<'w>(matches: &ArgMatches<'w>) -> Result<Request<'w>, Refusal>
     }
 }
 
-/// What is left where a parse gave no matches: help that was called for, or a refusal.
+/// The text that a parse gave in place of matches.
+fn text_of<'w>(alloc: Global, error: &Error) -> Result<Request<'w>, Refusal>
+    ensures { IfOk result (λ r. (text : _) × (r ≡ Request.Help text)) }
+{
+    Ok(Request::Help(format!(in alloc; "{error}")?))
+}
+
+/// What is left where a parse gave no matches: help or the version that was called for, or a refusal.
 fn without_matches<'w>(alloc: Global, error: &Error) -> Result<Request<'w>, Refusal>
-    ensures help { IfOk result (λ r. ((text : _) × (r ≡ Request.Help text)) × (kind_of error.now ≡ kinds.DisplayHelp)) }
+    ensures help { IfOk result (λ r. ((text : _) × (r ≡ Request.Help text)) × TellsText (kind_of error.now)) }
     ensures memory { kind_of error.now ≡ kinds.OutOfMemory → result ≡ Err Refusal.Memory }
 {
     match error.kind() {
         ErrorKind::OutOfMemory => Err(Refusal::Memory),
-        ErrorKind::DisplayHelp => Ok(Request::Help(format!(in alloc; "{error}")?)),
+        ErrorKind::DisplayHelp => text_of(alloc, error),
+        ErrorKind::DisplayVersion => text_of(alloc, error),
         _ => Err(Refusal::Words(Some(format!(in alloc; "{error}")?))),
     }
 }

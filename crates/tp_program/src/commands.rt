@@ -7,6 +7,9 @@ ghost use Rattle.tp_program.specs.Commands.{check_app, file_rule, horizon_rule, 
 use clap::{Arg, ArgAction, Command, value_parser};
 use std::alloc::{AllocError, Global};
 
+/// The kit that the program is proved with, as `rt version` tells it.
+const KIT: &str = "rattle-kit-13b logic dac8208d650f15bf";
+
 const ABOUT: &str =
     "Plans over time: judges them, and answers commands on networks of events and bounds";
 
@@ -171,6 +174,7 @@ fn tempo_start<'a>(alloc: Global) -> Result<Command<'a>, AllocError>
     ensures { IfOk result (λ c. app_of c ≡ start_app) }
 {
     Command::new(alloc, "tempo")
+        .version(KIT)
         .no_binary_name(true)
         .about(ABOUT)
         .after_help(EXIT)

@@ -26,10 +26,6 @@ pub const OTHER_WORDS: &[u8] = b"fault arguments 1 words\n";
 
 pub const NO_MEMORY_FOR_WORDS: &[u8] = b"fault arguments 2 memory\n";
 
-pub const NO_WRITE: &[u8] = b"fault script 2 write\n";
-
-pub const NO_MEMORY: &[u8] = b"fault script 3 memory\n";
-
 /// What stands behind the number and the word of a fault.
 #[derive(Clone, Copy)]
 pub enum Detail<'w> {

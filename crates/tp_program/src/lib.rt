@@ -9,7 +9,7 @@
 //! - `net`: the network of the plan in a file
 //! - `files`: files under names, and the texts that they hold
 //! - `fault_lines`: the lines of faults, with their exit statuses
-//! - `streams`, `host`: devices and files over those of std, and the words of the host's call
+//! - `streams`, `outlets`, `host`: devices and files over those of std, and the words of the host's call
 #![tactic(auto)]
 
 mod arguments;
@@ -21,6 +21,7 @@ mod files;
 mod host;
 mod lines;
 mod net;
+mod outlets;
 mod requests;
 mod streams;
 mod verdict_lines;
@@ -29,9 +30,10 @@ mod words;
 pub use arguments::{
     Refusal, bare_calls, check_calls, net_calls, read_words, requests_are_distinct,
 };
+pub use bare::BareFault;
 pub use fault_lines::{FaultLine, complain};
 pub use files::{FileFault, Files, open_text, read_text};
 pub use host::{HostFile, HostFiles, refuse_call, words_of_call};
 pub use requests::{PlanWords, Request};
-pub use streams::run_streams;
+pub use streams::{Ended, run_streams};
 pub use words::run_words;

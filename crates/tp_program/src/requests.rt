@@ -10,7 +10,7 @@ pub enum Request<'w> {
     Check(PlanWords<'w>),
     /// The network of a plan.
     Net(PlanWords<'w>),
-    /// A text of help.
+    /// A text of help, or the version.
     Help(String),
 }
 

@@ -1,14 +1,27 @@
 // A run over readers and writers of std.
-ghost use Rattle.std.specs.Prelude.{◌≡◌, ◌<◌};
+ghost use Rattle.std.specs.Prelude.{◌≡◌, ◌≤◌, ◌<◌, IfSome, None, map};
+ghost use Rattle.std.specs.Io.Buffered.{line_writer_contents};
+ghost use Rattle.std.specs.Io.KnownBytes.{Keeps};
+ghost use Rattle.std.specs.String.{string_bytes};
+ghost use Rattle.tp_program.specs.Streams.{Ends, HandsOn, TellsSome};
 
-use crate::fault_lines::{NO_MEMORY, NO_WRITE, OUT_OF_ORDER};
+use crate::fault_lines::{FaultLine, OUT_OF_ORDER, complain};
 use crate::files::Files;
+use crate::outlets::Outlet;
 use crate::words::run_words;
 use std::alloc::Global;
 use std::io::{LineWriter, Read, Write};
 use std::marker::Brand;
 use std::sync::ledger::{Blank, Ledger};
-use tp_device::{FromRead, ToWrite};
+use tp_device::{FromRead, Sink};
+
+/// What a run came to: its exit status, and the writers. The output is gone where the last of it could not be handed on.
+#[derive(Drop)]
+pub struct Ended<W, V> {
+    pub status: u8,
+    pub output: Option<W>,
+    pub faults: V,
+}
 
 /// A reader or writer, and the blank ledger that its failures will be counted in.
 #[derive(Drop)]
@@ -30,6 +43,57 @@ impl<T> Counted<T> {
     }
 }
 
+/// An exit status, and the output where all of it could be handed on.
+#[derive(Drop)]
+struct HandedOn<W> {
+    status: u8,
+    output: Option<W>,
+}
+
+/// The writer, once all that was written was handed on to it.
+fn writer_of<W: Write + Drop>(output: LineWriter<W>) -> Option<W>
+    ensures { IfSome result (λ w. Keeps (line_writer_contents W.contents output) (W.contents w)) }
+{
+    let mut output = output;
+    match output.flush() {
+        Ok(()) => output.into_inner().ok(),
+        Err(_) => None,
+    }
+}
+
+/// Tells that the output could not be handed on, if no other fault was told.
+fn tell_lost<F: Sink>(status: u8, faults: &mut F)
+    ensures told { status ≤ 1 → TellsSome (F.held faults.old) (F.held faults.new) }
+    ensures same { 2 ≤ status → F.held faults.new ≡ F.held faults.old }
+{
+    if status <= 1 {
+        complain(faults, FaultLine::out_of_order("script", "2 write"));
+    }
+}
+
+/// Hands on what was written, and answers the exit status. What can't be handed on is a write that failed.
+fn hand_on<W: Write + Drop, F: Sink>(
+    status: u8,
+    output: LineWriter<W>,
+    faults: &mut F,
+) -> HandedOn<W>
+    ensures { HandsOn W.contents status (line_writer_contents W.contents output) (F.held faults.old) (F.held faults.new) result.status result.output }
+{
+    match writer_of(output) {
+        Some(output) => HandedOn {
+            status,
+            output: Some(output),
+        },
+        None => {
+            tell_lost(status, faults);
+            HandedOn {
+                status: OUT_OF_ORDER,
+                output: None,
+            }
+        }
+    }
+}
+
 /// Does what the words ask for, and counts the failures of each stream in a ledger of its own.
 fn run_counted<
     I: Ledger,
@@ -44,9 +108,9 @@ fn run_counted<
     words: &[String],
     files: &mut N,
     input: Counted<R>,
-    output: Counted<W>,
+    output: Counted<LineWriter<W>>,
     faults: Counted<V>,
-) -> u8
+) -> Ended<W, V>
     requires i { input.blank.name ≡ I.name }
     requires i_parts { input.blank.parts ≡ I.parts }
     requires i_some { 0 < input.blank.parts }
@@ -56,14 +120,39 @@ fn run_counted<
     requires f { faults.blank.name ≡ F.name }
     requires f_parts { faults.blank.parts ≡ F.parts }
     requires f_some { 0 < faults.blank.parts }
+    ensures { Ends (map string_bytes words.now) (N.held files.old) (R.remaining input.stream) (line_writer_contents W.contents output.stream) (V.contents faults.stream) W.contents result.status result.output (V.contents result.faults) }
 {
     let input = FromRead::<R, I>::new(input.stream, input.blank);
-    let mut output = ToWrite::<W, O>::new(output.stream, output.blank);
-    let mut faults = ToWrite::<V, F>::new(faults.stream, faults.blank);
-    run_words(alloc, words, files, input, &mut output, &mut faults)
+    let mut output = Outlet::<LineWriter<W>, O>::new(output.stream, output.blank);
+    let mut faults = Outlet::<V, F>::new(faults.stream, faults.blank);
+    let status = run_words(alloc, words, files, input, &mut output, &mut faults);
+    let handed_on = hand_on(status, output.into_writer(), &mut faults);
+    Ended {
+        status: handed_on.status,
+        output: handed_on.output,
+        faults: faults.into_writer(),
+    }
 }
 
-/// Does what the words ask for, over a reader and writers of std. Answers the exit status.
+/// Tells that there is no memory for the buffer of the output. Nothing is done.
+fn refuse_memory<F: Ledger, W, V: Write + Drop>(faults: Counted<V>) -> Ended<W, V>
+    requires f { faults.blank.name ≡ F.name }
+    requires f_parts { faults.blank.parts ≡ F.parts }
+    requires f_some { 0 < faults.blank.parts }
+    ensures status { result.status ≡ OUT_OF_ORDER }
+    ensures output { result.output ≡ None }
+    ensures fault { TellsSome (V.contents faults.stream) (V.contents result.faults) }
+{
+    let mut faults = Outlet::<V, F>::new(faults.stream, faults.blank);
+    let status = complain(&mut faults, FaultLine::out_of_order("script", "3 memory"));
+    Ended {
+        status,
+        output: None,
+        faults: faults.into_writer(),
+    }
+}
+
+/// Does what the words ask for, over a reader and writers of std.
 ///
 /// Each answer is handed to `output` as soon as its line is whole. What could not be written to `output` in the end is told
 /// as a failed write.
@@ -73,25 +162,19 @@ pub fn run_streams<N: Files, R: Read + Drop, W: Write + Drop, V: Write + Drop>(
     files: &mut N,
     input: R,
     output: W,
-    mut faults: V,
-) -> u8 {
-    let Ok(mut output) = LineWriter::new(alloc, output) else {
-        let _ = faults.write_all(NO_MEMORY);
-        return OUT_OF_ORDER;
-    };
-    let status = run_counted::<Brand, Brand, Brand, _, _, _, _>(
-        alloc,
-        words,
-        files,
-        Counted::new(input),
-        Counted::new(&mut output),
-        Counted::new(&mut faults),
-    );
-    match output.flush() {
-        Err(_) if status <= 1 => {
-            let _ = faults.write_all(NO_WRITE);
-            OUT_OF_ORDER
+    faults: V,
+) -> Ended<W, V>
+    ensures { Ends (map string_bytes words.now) (N.held files.old) (R.remaining input) (W.contents output) (V.contents faults) W.contents result.status result.output (V.contents result.faults) }
+{
+    let input = Counted::new(input);
+    let faults = Counted::new(faults);
+    match LineWriter::new(alloc, output) {
+        Ok(writer) => {
+            let output = Counted::new(writer);
+            run_counted::<Brand, Brand, Brand, _, _, _, _>(
+                alloc, words, files, input, output, faults,
+            )
         }
-        _ => status,
+        Err(_) => refuse_memory::<Brand, _, _>(faults),
     }
 }

@@ -29,6 +29,8 @@ const REFUSED: [(&[&str], &str); 11] = [
     (&["help", "plan"], "error: "),
 ];
 
+const VERSION: &[&str] = &["tempo rattle-kit-", " logic "];
+
 const PROGRAM: &[&str] = &["Usage: tempo", "bare", "Examples:", "Exit status: 0 yes"];
 
 const BARE: &[&str] = &["Usage: tempo bare", "network N H", "window E", "Example:"];
@@ -50,8 +52,10 @@ const NET: &[&str] = &[
     "Example:",
 ];
 
-/// Calls for help, and what stands in it.
-const HELP: [(&[&str], &[&str]); 9] = [
+/// Calls for help or for the version, and what stands in it.
+const HELP: [(&[&str], &[&str]); 11] = [
+    (&["--version"], VERSION),
+    (&["-V"], VERSION),
     (&["--help"], PROGRAM),
     (&["-h"], PROGRAM),
     (&["help"], PROGRAM),

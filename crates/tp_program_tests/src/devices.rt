@@ -194,7 +194,7 @@ fn streamed(
     };
     let mut output = Page::new(alloc, room);
     let mut faults = Page::new(alloc, WIDE);
-    let status = run_streams(alloc, words, &mut files, input, &mut output, &mut faults);
+    let status = run_streams(alloc, words, &mut files, input, &mut output, &mut faults).status;
     Outcome {
         status,
         starved: output.starved || faults.starved,

@@ -9,7 +9,7 @@ use std::sync::ledger::{Blank, Ledger};
 use tp_device::ToWrite;
 use tp_ground::{GroundFault, TooManyKind};
 use tp_happen::PlanFault;
-use tp_program::{FaultLine, FileFault, complain};
+use tp_program::{BareFault, FaultLine, FileFault, complain};
 use tp_script::ServeFault;
 use tp_syntax::{LeftOutPart, SyntaxFault};
 use tp_text::TextFault;
@@ -186,6 +186,15 @@ const FILES: [(FileFault, [&[u8]; 3], u8); 4] = [
     ),
 ];
 
+const NETWORKS: [(BareFault, &[u8], u8); 2] = [
+    (BareFault::Network, b"fault run 1 memory\n", 3),
+    (
+        BareFault::Serving(ServeFault::Head),
+        b"fault script 5 head\n",
+        2,
+    ),
+];
+
 const SERVING: [(ServeFault, &[u8], u8); 5] = [
     (ServeFault::Read, b"fault script 1 read\n", 3),
     (ServeFault::Write, b"fault script 2 write\n", 3),
@@ -293,5 +302,12 @@ fn faults_of_tasks(rt: HostRuntime) {
 fn faults_of_plans(rt: HostRuntime) {
     for (fault, text, status) in PLANS {
         assert!(rt; spells(rt.alloc(), FaultLine::of_plan(fault), text, status));
+    }
+}
+
+#[test]
+fn faults_of_networks(rt: HostRuntime) {
+    for (fault, text, status) in NETWORKS {
+        assert!(rt; spells(rt.alloc(), FaultLine::of_bare(fault), text, status));
     }
 }

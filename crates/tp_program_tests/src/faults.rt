@@ -218,7 +218,7 @@ fn tells_what_is_kept_back(alloc: Global) -> bool {
     };
     let mut faults = Page::new(alloc, WIDE);
     let input = whole(COMMANDS);
-    let status = run_streams(alloc, &[], &mut files, input, Withholding, &mut faults);
+    let status = run_streams(alloc, &[], &mut files, input, Withholding, &mut faults).status;
     faults.text.as_slice() == b"fault script 2 write\n".as_slice() && status == 3
 }
 

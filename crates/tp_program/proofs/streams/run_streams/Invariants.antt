@@ -8,3 +8,6 @@ ghosts-run_counted-O-Ledger g a = record { name = a.output.blank.name; parts = a
 
 abbrev pub ghosts-run_counted-F-Ledger : goal.ghosts-run_counted-F-Ledger
 ghosts-run_counted-F-Ledger g a = record { name = a.faults.blank.name; parts = a.faults.blank.parts }
+
+abbrev pub ghosts-refuse_memory : goal.ghosts-refuse_memory
+ghosts-refuse_memory g a = record { name = a.faults.blank.name; parts = a.faults.blank.parts }

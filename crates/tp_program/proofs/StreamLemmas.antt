@@ -1,0 +1,220 @@
+-- What was written to a writer of bytes that are kept before and after.
+use Rattle.std.proofs.Common.{◌≡◌, ◌≢◌, ◌∙◌, ◌≤◌, zero, suc, ap, ℕ, List, [], ◌++◌, Option, Some, None, inl, inr, codes, sym, subst, refl, arith}
+use Rattle.std.specs.Prelude.{MatchOption}
+use Rattle.std.specs.Io.KnownBytes.{Appends, Keeps}
+use Rattle.std.specs.String.{string_bytes}
+use Rattle.tp_device.specs.Bytes.{AppendsPart}
+use Rattle.tp_device.proofs.Parts.{appends_none}
+use Rattle.tp_program.specs.Bare.{AnswersAll, AnswersPart, IsRefused}
+use Rattle.tp_program.specs.Checks.{SaysInvalid, SaysPart, SaysValid}
+use Rattle.tp_program.specs.Done.{AnswersNo, DoesPart, DoesWhatIsAsked, IsDone, IsPartDone}
+use Rattle.tp_program.specs.FaultLines.{Tells, TellsFault, TellsRefusal, fault_line}
+use Rattle.tp_program.specs.Requests.{AsksFor, AsksForNoNetwork}
+use Rattle.tp_program.specs.Streams.{Ends, HandsOn, Runs, TellsSome}
+use Rattle.tp_program.specs.declared.requests.PlanWords.{PlanWords}
+use Rattle.tp_program.specs.declared.requests.Request.{Request}
+use Rattle.tp_program.specs.declared.requests.Request.TheVariants.{Bare, Check, Help}
+
+-- what was appended there was appended here
+abbrev pub Shift : Option (List ℕ) → Option (List ℕ) → Option (List ℕ) → Option (List ℕ) → Type 0
+Shift a b c d = (xs : List ℕ) → Appends a b xs → Appends c d xs
+
+pub shift : (a b c d : Option (List ℕ)) → Keeps c a → Keeps b d → Shift a b c d
+shift a b None d before after xs h = tt
+shift None b (Some zs) d before after xs h = absurd before
+shift (Some ys) None (Some zs) d before after xs h = absurd h
+shift (Some ys) (Some ws) (Some zs) None before after xs h = absurd after
+shift (Some ys) (Some ws) (Some zs) (Some vs) before after xs h = after ∙ (h ∙ ap (λ t. t ++ xs) before)
+
+pub keeps_same : (a : Option (List ℕ)) → Keeps a a
+keeps_same None = tt
+keeps_same (Some xs) = refl
+
+part_over : (a b c d : Option (List ℕ)) (xs : List ℕ) → Shift a b c d → AppendsPart a b xs → AppendsPart c d xs
+part_over a b c d xs over h = record { count = h.count; within = h.within; held = over _ h.held }
+
+all_over : (input a b c d : Option (List ℕ)) → Shift a b c d → AnswersAll input a b → AnswersAll input c d
+all_over None a b c d over h = tt
+all_over (Some bytes) a b c d over h =
+    record {
+      head = h.head;
+      line = h.line;
+      lines = h.lines;
+      text = h.text;
+      last = h.last;
+      read = h.read;
+      spelled = h.spelled;
+      ran = h.ran;
+      written = over _ h.written;
+    }
+
+pub answers_part_over : (input a b c d : Option (List ℕ)) → Shift a b c d → AnswersPart input a b → AnswersPart input c d
+answers_part_over None a b c d over h = tt
+answers_part_over (Some bytes) a b c d over (inl none) = inl (over _ none)
+answers_part_over (Some bytes) a b c d over (inr h) =
+    inr (record {
+      head = h.head;
+      line = h.line;
+      lines = h.lines;
+      rest = h.rest;
+      text = h.text;
+      last = h.last;
+      read = h.read;
+      spelled = h.spelled;
+      ran = h.ran;
+      written = part_over a b c d _ over h.written;
+    })
+
+valid_over : (files : List ℕ → Option (List ℕ)) (w : PlanWords) (a b c d : Option (List ℕ)) → Shift a b c d → SaysValid files w a b → SaysValid files w c d
+valid_over files w a b c d over h = record { task = h.task; steps = h.steps; named = h.named; valid = h.valid; written = over _ h.written }
+
+invalid_over : (files : List ℕ → Option (List ℕ)) (w : PlanWords) (a b c d : Option (List ℕ)) → Shift a b c d → SaysInvalid files w a b → SaysInvalid files w c d
+invalid_over files w a b c d over h =
+    record { task = h.task; steps = h.steps; tick = h.tick; why = h.why; named = h.named; first = h.first; invalid = h.invalid; written = over _ h.written }
+
+says_part_over : (files : List ℕ → Option (List ℕ)) (w : PlanWords) (a b c d : Option (List ℕ)) → Shift a b c d → SaysPart files w a b → SaysPart files w c d
+says_part_over files w a b c d over (inl none) = inl (over _ none)
+says_part_over files w a b c d over (inr h) = inr (h.0, h.1, h.2, h.3, h.4, part_over a b c d _ over h.5)
+
+done_over : (request : Request) (files : List ℕ → Option (List ℕ)) (input a b c d : Option (List ℕ)) → Shift a b c d → IsDone request files input a b → IsDone request files input c d
+done_over Bare files input a b c d over h = all_over input a b c d over h
+done_over (Check w) files input a b c d over h = valid_over files w a b c d over h
+done_over (Help text) files input a b c d over h = over _ h
+
+part_done_over : (request : Request) (files : List ℕ → Option (List ℕ)) (input a b c d : Option (List ℕ)) → Shift a b c d → IsPartDone request files input a b → IsPartDone request files input c d
+part_done_over Bare files input a b c d over h = answers_part_over input a b c d over h
+part_done_over (Check w) files input a b c d over h = says_part_over files w a b c d over h
+part_done_over (Help text) files input a b c d over h = part_over a b c d _ over h
+
+pub does_over : (words : List (List ℕ)) (files : List ℕ → Option (List ℕ)) (input a b c d : Option (List ℕ)) → Shift a b c d → DoesWhatIsAsked words files input a b → DoesWhatIsAsked words files input c d
+does_over words files input a b c d over h =
+    record { request = h.request; asked = h.asked; done = done_over h.request files input a b c d over h.done }
+
+pub no_over : (words : List (List ℕ)) (files : List ℕ → Option (List ℕ)) (a b c d : Option (List ℕ)) → Shift a b c d → AnswersNo words files a b → AnswersNo words files c d
+no_over words files a b c d over h = record { plan = h.plan; asked = h.asked; said = invalid_over files h.plan a b c d over h.said }
+
+pub does_part_over : (words : List (List ℕ)) (files : List ℕ → Option (List ℕ)) (input a b c d : Option (List ℕ)) → Shift a b c d → DoesPart words files input a b → DoesPart words files input c d
+does_part_over words files input a b c d over (inl none) = inl (over _ none)
+does_part_over words files input a b c d over (inr h) = inr (h.0, h.1, part_done_over h.0 files input a b c d over h.2)
+
+-- ---- faults
+
+pub tells_some : (failures failures-now : ℕ) (a b : Option (List ℕ)) → TellsFault [] failures a failures-now b → TellsSome a b
+tells_some failures failures-now a b h = (h.text, [], h.is, h.told.part)
+
+pub refusal_some : (status failures failures-now : ℕ) (a b : Option (List ℕ)) → TellsRefusal status failures a failures-now b → TellsSome a b
+refusal_some status failures failures-now a b (inl h) = tells_some failures failures-now a b h
+refusal_some status failures failures-now a b (inr h) =
+    (fault_line (codes "arguments") (codes "1 words"), h.1.0, (codes "arguments 1 words", refl), h.1.1.part)
+
+-- ---- a run
+
+-- what `run_words` tells of the output
+pub runs_from : (words : List (List ℕ)) (files : List ℕ → Option (List ℕ)) (input : Option (List ℕ)) (status : ℕ) (held now : Option (List ℕ)) → (status ≡ 0 → DoesWhatIsAsked words files input held now) → (status ≡ 1 → AnswersNo words files held now) → (AsksFor words Bare → status ≡ 0 → AnswersAll input held now) → (AsksFor words Bare → status ≢ 0 → AnswersPart input held now) → (status ≡ 3 → DoesPart words files input held now) → (AsksForNoNetwork words → status ≡ 2 → now ≡ held) → Runs words files input status held now
+runs_from words files input status held now done answered all part broken kept =
+    record {
+      done = done;
+      no = answered;
+      all = all;
+      part = part;
+      broken = broken;
+      kept = λ none two. subst (λ n. Appends held n []) (sym (kept none two)) (appends_none held);
+    }
+
+runs_over : (words : List (List ℕ)) (files : List ℕ → Option (List ℕ)) (input : Option (List ℕ)) (status : ℕ) (a b c d : Option (List ℕ)) → Shift a b c d → Runs words files input status a b → Runs words files input status c d
+runs_over words files input status a b c d over h =
+    record {
+      done = λ is. does_over words files input a b c d over (h.done is);
+      no = λ is. no_over words files a b c d over (h.no is);
+      all = λ asks is. all_over input a b c d over (h.all asks is);
+      part = λ asks is. answers_part_over input a b c d over (h.part asks is);
+      broken = λ is. does_part_over words files input a b c d over (h.broken is);
+      kept = λ none two. over [] (h.kept none two);
+    }
+
+holds : {W : Type 0} (words : List (List ℕ)) (files : List ℕ → Option (List ℕ)) (input : Option (List ℕ)) (status ended : ℕ) (a b before now : Option (List ℕ)) (contents : W → Option (List ℕ)) (output : Option W) → HandsOn contents status b before now ended output → Runs words files input status a b → MatchOption output (ended ≡ 3) (λ w. Runs words files input ended a (contents w))
+holds words files input status ended a b before now contents None on runs = on.0
+holds words files input status ended a b before now contents (Some w) on runs =
+    subst (λ s. Runs words files input s a (contents w)) (sym on.0) (runs_over words files input status a b a (contents w) (shift a b a (contents w) (keeps_same a) on.1) runs)
+
+refuses : {W : Type 0} {P : Type 0} (status ended : ℕ) (b before now : Option (List ℕ)) (contents : W → Option (List ℕ)) (output : Option W) → HandsOn contents status b before now ended output → (status ≡ 2 → P) → ended ≡ 2 → P
+refuses status ended b before now contents None on give two =
+    let three : ended ≡ 3 = on.0 in
+    cc
+refuses status ended b before now contents (Some w) on give two = give (sym on.0 ∙ two)
+
+few : {W : Type 0} (status ended : ℕ) (b before now : Option (List ℕ)) (contents : W → Option (List ℕ)) (output : Option W) → HandsOn contents status b before now ended output → status ≤ 3 → ended ≤ 3
+few status ended b before now contents None on within = omega (arith, on.0)
+few status ended b before now contents (Some w) on within = omega (arith, on.0, within)
+
+is_silent : {W : Type 0} (status ended : ℕ) (b first before now : Option (List ℕ)) (contents : W → Option (List ℕ)) (output : Option W) → HandsOn contents status b before now ended output → (status ≤ 1 → before ≡ first) → ended ≤ 1 → Appends first now []
+is_silent status ended b first before now contents None on silent one =
+    let no : ⊥ = omega (arith, on.0, one) in
+    absurd no
+is_silent status ended b first before now contents (Some w) on silent one =
+    subst (λ n. Appends first n []) (sym (on.2 ∙ silent (omega (arith, on.0, one)))) (appends_none first)
+
+tells_lost : (status : ℕ) (first before now : Option (List ℕ)) → (status ≤ 1 → before ≡ first) → (2 ≤ status → TellsSome first before) → (status ≤ 1 → TellsSome before now) → (2 ≤ status → now ≡ before) → TellsSome first now
+tells_lost zero first before now silent fault lost same = subst (λ f. TellsSome f now) (silent (omega arith)) (lost (omega arith))
+tells_lost (suc zero) first before now silent fault lost same = subst (λ f. TellsSome f now) (silent (omega arith)) (lost (omega arith))
+tells_lost (suc (suc n)) first before now silent fault lost same = subst (λ f. TellsSome first f) (sym (same (omega arith))) (fault (omega arith))
+
+is_told : {W : Type 0} (status ended : ℕ) (b first before now : Option (List ℕ)) (contents : W → Option (List ℕ)) (output : Option W) → HandsOn contents status b before now ended output → (status ≤ 1 → before ≡ first) → (2 ≤ status → TellsSome first before) → 2 ≤ ended → TellsSome first now
+is_told status ended b first before now contents None on silent fault two = tells_lost status first before now silent fault on.1 on.2
+is_told status ended b first before now contents (Some w) on silent fault two =
+    subst (λ n. TellsSome first n) (sym on.2) (fault (omega (arith, on.0, two)))
+
+pub ends : {W : Type 0} (words : List (List ℕ)) (files : List ℕ → Option (List ℕ)) (input : Option (List ℕ)) (status ended : ℕ) (a b first before now : Option (List ℕ)) (contents : W → Option (List ℕ)) (output : Option W) → HandsOn contents status b before now ended output → Runs words files input status a b → (AsksFor words Bare → status ≡ 2 → IsRefused input) → status ≤ 3 → (status ≤ 1 → before ≡ first) → (2 ≤ status → TellsSome first before) → Ends words files input a first contents ended output now
+ends words files input status ended a b first before now contents output on runs refused within silent fault =
+    record {
+      output_holds = holds words files input status ended a b before now contents output on runs;
+      refused = λ asks. refuses status ended b before now contents output on (refused asks);
+      within = few status ended b before now contents output on within;
+      silent = is_silent status ended b first before now contents output on silent;
+      fault = is_told status ended b first before now contents output on silent fault;
+    }
+
+-- what `run_words` and the handing on tell, over the streams as they were
+pub counted : {W : Type 0} (words : List (List ℕ)) (files : List ℕ → Option (List ℕ)) (left input : Option (List ℕ)) (status ended : ℕ) (held a kept b first f0 f1 f2 now : Option (List ℕ)) (contents : W → Option (List ℕ)) (output : Option W) → left ≡ input → held ≡ a → b ≡ kept → f0 ≡ first → now ≡ f2 → HandsOn contents status b f1 f2 ended output → Runs words files left status held kept → (AsksFor words Bare → status ≡ 2 → IsRefused left) → status ≤ 3 → (status ≤ 1 → f1 ≡ f0) → (2 ≤ status → TellsSome f0 f1) → Ends words files input a first contents ended output now
+counted words files left input status ended held a kept b first f0 f1 f2 now contents output from was is start end on runs refused within silent fault =
+    let here : Runs words files input status a b = subst (λ i. Runs words files i status a b) from (subst (λ o. Runs words files left status o b) was (subst (λ n. Runs words files left status held n) (sym is) runs)) in
+    let refuses_here : AsksFor words Bare → status ≡ 2 → IsRefused input = subst (λ i. AsksFor words Bare → status ≡ 2 → IsRefused i) from refused in
+    let tells_here : 2 ≤ status → TellsSome first f1 = subst (λ f. 2 ≤ status → TellsSome f f1) start fault in
+    subst (λ n. Ends words files input a first contents ended output n) (sym end)
+    (ends words files input status ended a b first f1 f2 contents output on here refuses_here within (λ one. silent one ∙ start) tells_here)
+
+-- the same over the writer that a buffer stands before
+over_buffer : {W : Type 0} (words : List (List ℕ)) (files : List ℕ → Option (List ℕ)) (input : Option (List ℕ)) (status : ℕ) (a held : Option (List ℕ)) (contents : W → Option (List ℕ)) (output : Option W) → Keeps held a → MatchOption output (status ≡ 3) (λ w. Runs words files input status a (contents w)) → MatchOption output (status ≡ 3) (λ w. Runs words files input status held (contents w))
+over_buffer words files input status a held contents None keeps h = h
+over_buffer words files input status a held contents (Some w) keeps h =
+    runs_over words files input status a (contents w) held (contents w) (shift a (contents w) held (contents w) keeps (keeps_same (contents w))) h
+
+ends_over : {W : Type 0} (words : List (List ℕ)) (files : List ℕ → Option (List ℕ)) (input a held first : Option (List ℕ)) (contents : W → Option (List ℕ)) (status : ℕ) (output : Option W) (now : Option (List ℕ)) → Keeps held a → Ends words files input a first contents status output now → Ends words files input held first contents status output now
+ends_over words files input a held first contents status output now keeps h =
+    record {
+      output_holds = over_buffer words files input status a held contents output keeps h.output_holds;
+      refused = h.refused;
+      within = h.within;
+      silent = h.silent;
+      fault = h.fault;
+    }
+
+pub ends_from : {W : Type 0} (words : List (List ℕ)) (files : List ℕ → Option (List ℕ)) (left input inside a held start first : Option (List ℕ)) (contents : W → Option (List ℕ)) (status : ℕ) (output : Option W) (now : Option (List ℕ)) → left ≡ input → inside ≡ a → start ≡ first → Keeps held a → Ends words files left inside start contents status output now → Ends words files input held first contents status output now
+ends_from words files left input inside a held start first contents status output now from is begin keeps h =
+    ends_over words files input a held first contents status output now keeps
+    (subst (λ i. Ends words files i a first contents status output now) from
+    (subst (λ o. Ends words files left o first contents status output now) is
+    (subst (λ f. Ends words files left inside f contents status output now) begin h)))
+
+-- nothing was done for want of memory
+pub ends_lost : {W : Type 0} (words : List (List ℕ)) (files : List ℕ → Option (List ℕ)) (input held first : Option (List ℕ)) (contents : W → Option (List ℕ)) (status : ℕ) (output : Option W) (now : Option (List ℕ)) → status ≡ 3 → output ≡ None → TellsSome first now → Ends words files input held first contents status output now
+ends_lost words files input held first contents status output now three none told =
+    record {
+      output_holds = subst (λ o. MatchOption o (status ≡ 3) (λ w. Runs words files input status held (contents w))) (sym none) three;
+      refused = λ asks two. cc;
+      within = omega (arith, three);
+      silent = λ one.
+          let no : ⊥ = omega (arith, three, one) in
+          absurd no;
+      fault = λ two. told;
+    }

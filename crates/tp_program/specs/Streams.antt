@@ -1,0 +1,38 @@
+-- A run over readers and writers of std.
+use Rattle.std.specs.Prelude.{◌≡◌, ◌≢◌, ◌≤◌, ℕ, List, [], ◌++◌, Option, Some, None, MatchOption}
+use Rattle.std.specs.Io.KnownBytes.{Appends, Keeps}
+use Rattle.tp_device.specs.Bytes.{AppendsPart}
+use Rattle.tp_program.specs.Bare.{AnswersAll, AnswersPart, IsRefused}
+use Rattle.tp_program.specs.Done.{AnswersNo, DoesPart, DoesWhatIsAsked}
+use Rattle.tp_program.specs.FaultLines.{IsFaultText}
+use Rattle.tp_program.specs.Requests.{AsksFor, AsksForNoNetwork}
+use Rattle.tp_program.specs.declared.requests.Request.TheVariants.{Bare}
+
+-- one fault line was written, and what is said behind it, or where the writer failed a first part of these
+abbrev pub TellsSome : Option (List ℕ) → Option (List ℕ) → Type 0
+TellsSome before now = (text : List ℕ) × (more : List ℕ) × IsFaultText text × AppendsPart before now (text ++ more)
+
+-- What is written to the output, by the exit status. It was done what the words ask for; the answer is no; of a network of bounds all is
+-- answered, or a first part; where memory or a device is wanting, a first part of what the words ask for was done, or nothing; for all
+-- else that is refused nothing is written
+pub record Runs (words : List (List ℕ)) (files : List ℕ → Option (List ℕ)) (input : Option (List ℕ)) (status : ℕ) (held now : Option (List ℕ)) : Type 0 where
+  pub done : status ≡ 0 → DoesWhatIsAsked words files input held now
+  pub no : status ≡ 1 → AnswersNo words files held now
+  pub all : AsksFor words Bare → status ≡ 0 → AnswersAll input held now
+  pub part : AsksFor words Bare → status ≢ 0 → AnswersPart input held now
+  pub broken : status ≡ 3 → DoesPart words files input held now
+  pub kept : AsksForNoNetwork words → status ≡ 2 → Appends held now []
+
+-- what was written was handed on to the writer, or it is gone: then the status is 3, and a fault line tells so if none was written yet
+abbrev pub HandsOn : {W : Type 0} → (W → Option (List ℕ)) → ℕ → Option (List ℕ) → Option (List ℕ) → Option (List ℕ) → ℕ → Option W → Type 0
+HandsOn contents status held before now ended (Some w) = (ended ≡ status) × Keeps held (contents w) × (now ≡ before)
+HandsOn contents status held before now ended None = (ended ≡ 3) × (status ≤ 1 → TellsSome before now) × (2 ≤ status → now ≡ before)
+
+-- How a run ends. The output holds what the status tells, or it is gone and the status is 3. A network is refused only where it has no head
+-- or comes with too many bytes. A fault line goes with each fault, and with nothing else
+pub record Ends (words : List (List ℕ)) (files : List ℕ → Option (List ℕ)) (input held faults : Option (List ℕ)) {W : Type 0} (contents : W → Option (List ℕ)) (status : ℕ) (output : Option W) (faults-now : Option (List ℕ)) : Type 0 where
+  pub output_holds : MatchOption output (status ≡ 3) (λ w. Runs words files input status held (contents w))
+  pub refused : AsksFor words Bare → status ≡ 2 → IsRefused input
+  pub within : status ≤ 3
+  pub silent : status ≤ 1 → Appends faults faults-now []
+  pub fault : 2 ≤ status → TellsSome faults faults-now
