@@ -13,3 +13,4 @@ pub mod OnPrints
 pub mod OnPrinted
 pub mod OnWritten
 pub mod OnTaskLabels
+pub mod OnClashes

@@ -1,4 +1,5 @@
 pub mod Small
+pub mod Clashes
 pub mod Stored
 pub mod Judged
 pub mod Bounded

@@ -10,7 +10,7 @@ ghost use Rattle.tp_happen.specs.Small.{values_small};
 ghost use Rattle.tp_happen.specs.Terms.{terms_small, condition_small};
 ghost use Rattle.tp_happen.specs.Fault.{first_pair};
 
-use crate::interfere::{interfere, is_additive};
+use crate::interfere::interfere;
 use crate::{EventRef, Range, State, holds, value};
 use tp_ground::{Change, FluentId, GroundEvent, Limit, NumericEffect};
 
@@ -123,36 +123,6 @@ pub(crate) fn first_unmet(state: &State, events: &[EventRef<'_>]) -> Result<Opti
         }
     }
     Ok(None)
-}
-
-fn mixes_with(effect: &NumericEffect, others: &[NumericEffect]) -> bool
-    ensures { result ≡ event_spec.mixes_with effect.now others.now }
-{
-    others.iter().any(|v| v.fluent == effect.fluent
-        && !(is_additive(v.change) && is_additive(effect.change)))
-}
-
-fn mixes(effects: &[NumericEffect]) -> bool
-    ensures { result ≡ event_spec.mixes_in effects.now }
-{
-    for (i, effect) in effects.iter().enumerate() {
-        if mixes_with(effect, &effects[i + 1..]) {
-            return true;
-        }
-    }
-    false
-}
-
-/// The first event that mixes writes of one fluent.
-pub(crate) fn first_clash(events: &[EventRef<'_>]) -> Option<usize>
-    ensures { result ≡ position_from (λ t. event_spec.mixes t.event) 0 events.now }
-{
-    for (i, event) in events.iter().enumerate() {
-        if mixes(&event.body().writes) {
-            return Some(i);
-        }
-    }
-    None
 }
 
 fn first_disturbed(event: &GroundEvent, events: &[EventRef<'_>], from: usize) -> Option<usize>

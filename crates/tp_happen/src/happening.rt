@@ -9,7 +9,8 @@ ghost use Rattle.tp_happen.specs.Stored.{state_of, fits_in, OfOneTask};
 ghost use Rattle.tp_happen.specs.Bounded.{effects_small, all_sums_small, StaysSmall, Passes};
 ghost use Rattle.tp_happen.specs.Fault.{Applies, OnNext, OnRange};
 
-use crate::faults::{Outcome, Why, first_clash, first_interfering, first_undefined, first_unmet};
+use crate::clashes::first_clash;
+use crate::faults::{Outcome, Why, first_interfering, first_undefined, first_unmet};
 use crate::states::copied;
 use crate::writes::{add_all, delete_all, write_all};
 use crate::{EventRef, Range, State};
@@ -123,7 +124,7 @@ pub fn apply(alloc: Global, state: &State, events: &[EventRef<'_>]) -> Result<Ou
     if let Some(i) = first_unmet(state, events)? {
         return Ok(Outcome::Fails(i, Why::Condition));
     }
-    if let Some(i) = first_clash(events) {
+    if let Some(i) = first_clash(alloc, events, state.numbers.len())? {
         return Ok(Outcome::Fails(i, Why::Clash));
     }
     if let Some((i, j)) = first_interfering(events) {

@@ -5,12 +5,13 @@
 //! - `conditions`: whether a condition holds
 //! - `events`, `lending`: events, and how a task lends them
 //! - `interfere`: when two events interfere
-//! - `faults`: the first fault of a happening
+//! - `faults`, `clashes`: the first fault of a happening
 //! - `writes`: the effects of events, written one after another
 //! - `happening`: all of it together, `apply`
 //! - `plans`: plans and their steps
 #![tactic(auto)]
 
+mod clashes;
 mod conditions;
 mod events;
 mod faults;

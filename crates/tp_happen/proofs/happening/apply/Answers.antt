@@ -15,7 +15,7 @@ pub next-requires-clause-apart : goal.next-requires-clause-apart
 next-requires-clause-apart c = no_pair 0 c.args.events.now c.in_default-first_interfering.ensures
 
 pub next-requires-clause-unmixed : goal.next-requires-clause-unmixed
-next-requires-clause-unmixed c = none_passes (λ (t : Timed). mixes t.event) 0 c.args.events.now c.in_default-first_clash.ensures
+next-requires-clause-unmixed c = none_passes (λ (t : Timed). mixes t.event) 0 c.args.events.now (sym c.in_default-3.is ∙ c.in_ok-i-3.ensures)
 
 pub next-requires-clause-defined : goal.next-requires-clause-defined
 next-requires-clause-defined c =
@@ -47,7 +47,7 @@ returns-clause-ok c =
           (none_passes (λ (t : Timed). not (holds (state_of c.args.state.now) t.event.condition)) 0 c.args.events.now (sym c.in_default-2.is ∙ c.in_ok-i-2.ensures.ok));
       definedness = each_passes (λ t. is_defined c.args.state.now.scale (state_of c.args.state.now) t) c.args.events.now
           (none_passes (λ t. not (is_defined c.args.state.now.scale (state_of c.args.state.now) t)) 0 c.args.events.now (sym c.in_default.is ∙ c.in_ok-i.ensures.ok));
-      unmixed = none_passes (λ (t : Timed). mixes t.event) 0 c.args.events.now c.in_default-first_clash.ensures;
+      unmixed = none_passes (λ (t : Timed). mixes t.event) 0 c.args.events.now (sym c.in_default-3.is ∙ c.in_ok-i-3.ensures);
       separate = no_pair 0 c.args.events.now c.in_default-first_interfering.ensures;
       atoms = c.in_ok-next.ensures.atoms;
       numbers = c.in_ok-next.ensures.numbers;
