@@ -78,7 +78,7 @@ fn compared(
 fn either(alloc: Global, first: Cond, second: Cond) -> Result<Cond, AllocError>
     ensures { IfOk result (λ c. (t : Tables) → named_condition t c ≡ either (named_condition t first) (named_condition t second)) }
 {
-    let mut conds = Vec::new(alloc);
+    let mut conds = Vec::with_capacity(alloc, 2)?;
     conds.push(first)?;
     conds.push(second)?;
     Ok(Cond::Or(conds))
@@ -94,7 +94,7 @@ fn conditions(
 ) -> Result<Vec<Cond>, GroundFault>
     ensures { Lowers (λ t v. map (named_condition t) v.items) numbering.old result numbering.new (map (λ c. condition_in (universe_view universe.now) (env_view env.now) (cond_view c)) conds.now) (of_each of_condition (map (λ c. condition_in (universe_view universe.now) (env_view env.now) (cond_view c)) conds.now)) }
 {
-    let mut lowered = Vec::new(alloc);
+    let mut lowered = Vec::with_capacity(alloc, conds.len())?;
     for cond in conds {
         lowered.push(condition(alloc, universe, env, numbering, cond)?)?;
     }
@@ -114,7 +114,7 @@ fn under_each(
     ensures { Lowers (λ t v. map (named_condition t) v.items) numbering.old result numbering.new (map (λ e. condition_in (universe_view universe.now) e (cond_view cond.now)) (inner (universe_view universe.now) (env_view env.now) (map typed_view variables.now))) (of_each of_condition (map (λ e. condition_in (universe_view universe.now) e (cond_view cond.now)) (inner (universe_view universe.now) (env_view env.now) (map typed_view variables.now)))) }
 {
     let all = bindings(alloc, universe, variables)?;
-    let mut lowered = Vec::new(alloc);
+    let mut lowered = Vec::with_capacity(alloc, all.len())?;
     for objects in &all {
         let inner = Env::Inner(&*variables, objects, &*env);
         lowered.push(condition(alloc, universe, &inner, numbering, cond)?)?;

@@ -105,7 +105,7 @@ fn conjunct(
 ) -> Result<Vec<Cond>, GroundFault>
     ensures { Lowers (λ t v. map (named_condition t) v.items) numbering.old result numbering.new (condition_in (universe_view universe.now) (env_view env.now) (cond_view cond.now) ∷ []) (of_each of_condition (condition_in (universe_view universe.now) (env_view env.now) (cond_view cond.now) ∷ [])) }
 {
-    let mut one = Vec::new(alloc);
+    let mut one = Vec::with_capacity(alloc, 1)?;
     one.push(condition(alloc, universe, env, numbering, cond)?)?;
     Ok(one)
 }
@@ -133,7 +133,7 @@ impl Part for Outcome {
         _mark: Mark,
         numbering: &mut Numbering,
     ) -> Result<Vec<NumberedOutcome>, GroundFault> {
-        let mut one = Vec::new(alloc);
+        let mut one = Vec::with_capacity(alloc, 1)?;
         one.push(outcome(alloc, env, numbering, self)?)?;
         Ok(one)
     }

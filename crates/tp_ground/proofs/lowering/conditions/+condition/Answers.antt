@@ -23,7 +23,7 @@ conditions-loop-cond-preserved t c =
 pub conditions-returns-in_err-condition : goal.conditions-returns-in_err-condition
 conditions-returns-in_err-condition t c =
     let f = λ (x : syntax.Cond). condition_in (universe_view c.args.universe.now) (env_view c.args.env.now) (cond_view x) in
-    map_stopped named_condition of_condition c.args.conds.now c.loop-cond.cond-index c.cond-item.result c.loop-cond-test.true c.cond-item.is _ _ _ _ _ _ _ c.from_residual.ensures.1 f refl c.loop-cond.invariant c.in_err-condition.ensures
+    map_stopped named_condition of_condition c.args.conds.now c.loop-cond.cond-index c.cond-item.result c.loop-cond-test.true c.cond-item.is _ _ _ _ _ _ _ c.from_residual-in_err-condition.ensures.1 f refl c.loop-cond.invariant c.in_err-condition.ensures
 
 pub conditions-returns : goal.conditions-returns
 conditions-returns t c =

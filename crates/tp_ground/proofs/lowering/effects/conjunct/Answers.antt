@@ -5,4 +5,4 @@ use Rattle.tp_ground.proofs.OnLowered.{all_none, all_push}
 use Rattle.tp_ground.proofs.lowering.effects.conjunct.Goals as goal
 
 pub returns : goal.returns
-returns c = all_push named_condition of_condition _ _ _ c.new-one.result _ _ [] _ _ c.in_ok-push.ensures.items refl (all_none named_condition of_condition _ c.new-one.result c.new-one.ensures.items) c.in_ok-condition.ensures
+returns c = all_push named_condition of_condition _ _ _ c.in_ok-one.one _ _ [] _ _ c.in_ok-push.ensures.items refl (all_none named_condition of_condition _ c.in_ok-one.one c.in_ok-one.ensures.items) c.in_ok-condition.ensures
