@@ -8,12 +8,13 @@ use Rattle.tp_device.proofs.Parts.{appends_none}
 use Rattle.tp_program.specs.Bare.{AnswersAll, AnswersPart, IsRefused}
 use Rattle.tp_program.specs.Checks.{SaysInvalid, SaysPart, SaysValid}
 use Rattle.tp_program.specs.Done.{AnswersNo, DoesPart, DoesWhatIsAsked, IsDone, IsPartDone}
+use Rattle.tp_program.specs.Networks.{ShowsNetwork, ShowsPart}
 use Rattle.tp_program.specs.FaultLines.{Tells, TellsFault, TellsRefusal, fault_line}
 use Rattle.tp_program.specs.Requests.{AsksFor, AsksForNoNetwork}
 use Rattle.tp_program.specs.Streams.{Ends, HandsOn, Runs, TellsSome}
 use Rattle.tp_program.specs.declared.requests.PlanWords.{PlanWords}
 use Rattle.tp_program.specs.declared.requests.Request.{Request}
-use Rattle.tp_program.specs.declared.requests.Request.TheVariants.{Bare, Check, Help}
+use Rattle.tp_program.specs.declared.requests.Request.TheVariants.{Bare, Check, Net, Help}
 
 -- what was appended there was appended here
 abbrev pub Shift : Option (List ℕ) → Option (List ℕ) → Option (List ℕ) → Option (List ℕ) → Type 0
@@ -38,12 +39,16 @@ all_over None a b c d over h = tt
 all_over (Some bytes) a b c d over h =
     record {
       head = h.head;
+      setting = h.setting;
       line = h.line;
+      lags = h.lags;
       lines = h.lines;
       text = h.text;
       last = h.last;
       read = h.read;
       spelled = h.spelled;
+      set = h.set;
+      end = h.end;
       ran = h.ran;
       written = over _ h.written;
     }
@@ -54,13 +59,17 @@ answers_part_over (Some bytes) a b c d over (inl none) = inl (over _ none)
 answers_part_over (Some bytes) a b c d over (inr h) =
     inr (record {
       head = h.head;
+      setting = h.setting;
       line = h.line;
+      lags = h.lags;
       lines = h.lines;
       rest = h.rest;
       text = h.text;
       last = h.last;
       read = h.read;
       spelled = h.spelled;
+      set = h.set;
+      end = h.end;
       ran = h.ran;
       written = part_over a b c d _ over h.written;
     })
@@ -76,14 +85,24 @@ says_part_over : (files : List ℕ → Option (List ℕ)) (w : PlanWords) (a b c
 says_part_over files w a b c d over (inl none) = inl (over _ none)
 says_part_over files w a b c d over (inr h) = inr (h.0, h.1, h.2, h.3, h.4, part_over a b c d _ over h.5)
 
+network_over : (files : List ℕ → Option (List ℕ)) (w : PlanWords) (a b c d : Option (List ℕ)) → Shift a b c d → ShowsNetwork files w a b → ShowsNetwork files w c d
+network_over files w a b c d over h =
+    record { task = h.task; steps = h.steps; net = h.net; named = h.named; is_net = h.is_net; written = over _ h.written }
+
+shows_part_over : (files : List ℕ → Option (List ℕ)) (w : PlanWords) (a b c d : Option (List ℕ)) → Shift a b c d → ShowsPart files w a b → ShowsPart files w c d
+shows_part_over files w a b c d over (inl none) = inl (over _ none)
+shows_part_over files w a b c d over (inr h) = inr (h.0, h.1, h.2, h.3, h.4, part_over a b c d _ over h.5)
+
 done_over : (request : Request) (files : List ℕ → Option (List ℕ)) (input a b c d : Option (List ℕ)) → Shift a b c d → IsDone request files input a b → IsDone request files input c d
 done_over Bare files input a b c d over h = all_over input a b c d over h
 done_over (Check w) files input a b c d over h = valid_over files w a b c d over h
+done_over (Net w) files input a b c d over h = network_over files w a b c d over h
 done_over (Help text) files input a b c d over h = over _ h
 
 part_done_over : (request : Request) (files : List ℕ → Option (List ℕ)) (input a b c d : Option (List ℕ)) → Shift a b c d → IsPartDone request files input a b → IsPartDone request files input c d
 part_done_over Bare files input a b c d over h = answers_part_over input a b c d over h
 part_done_over (Check w) files input a b c d over h = says_part_over files w a b c d over h
+part_done_over (Net w) files input a b c d over h = shows_part_over files w a b c d over h
 part_done_over (Help text) files input a b c d over h = part_over a b c d _ over h
 
 pub does_over : (words : List (List ℕ)) (files : List ℕ → Option (List ℕ)) (input a b c d : Option (List ℕ)) → Shift a b c d → DoesWhatIsAsked words files input a b → DoesWhatIsAsked words files input c d
