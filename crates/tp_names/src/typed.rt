@@ -352,11 +352,17 @@ pub fn parameters_of(
     declared(alloc, types, vars, trees, at)
 }
 
-pub fn parameters_at(alloc: Global, types: &Types, tree: &Tree) -> Result<Vec<Typed>, SyntaxFault>
+/// The variables that a member of the list at `at` declares.
+pub fn parameters_at(
+    alloc: Global,
+    types: &Types,
+    tree: &Tree,
+    at: u32,
+) -> Result<Vec<Typed>, SyntaxFault>
     ensures { Gives (λ v. map typed_view v.items) result (parameters_at (types_view types.now) (shape_of tree.now)) }
 {
     match tree {
-        Tree::Word(token) => Err(SyntaxFault::Shape(token.span.start)),
+        Tree::Word(_) => Err(SyntaxFault::Shape(at)),
         Tree::List { items, span } => parameters_of(alloc, types, items, span.start),
     }
 }

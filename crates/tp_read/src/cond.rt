@@ -271,12 +271,13 @@ fn read_conds(
     trees: &[Tree],
     symbols: &Symbols,
     scope: &Scope,
+    at: u32,
 ) -> Result<Vec<Cond>, SyntaxFault>
     ensures { Gives (λ v. map cond_view v.items) result (conditions_of (symbols_view symbols.now) (scope_view scope.now) (shapes trees.now)) }
 {
     let mut conds = Vec::new(alloc);
     for tree in trees {
-        conds.push(read_cond(alloc, tree, symbols, scope)?)?;
+        conds.push(read_cond(alloc, tree, symbols, scope, at)?)?;
     }
     Ok(conds)
 }
@@ -296,7 +297,7 @@ fn read_bound(
     let [list, body @ ..] = args else {
         return Err(SyntaxFault::Shape(at));
     };
-    let vars = parameters_at(alloc, &symbols.types, list)?;
+    let vars = parameters_at(alloc, &symbols.types, list, at)?;
     let [tree, more @ ..] = body else {
         return Err(SyntaxFault::Shape(at));
     };
@@ -305,22 +306,23 @@ fn read_bound(
     }
     let known = Variables::new(alloc, vars)?;
     let wider = Scope::Inner(&known, &*scope);
-    let inner = read_cond(alloc, tree, symbols, &wider)?;
+    let inner = read_cond(alloc, tree, symbols, &wider, at)?;
     bound(alloc, head, known.into_items(), inner)
 }
 
-/// The condition that a tree spells.
+/// The condition that a member of the list at `at` spells.
 #[cycle(cond)]
 pub fn read_cond(
     alloc: Global,
     tree: &Tree,
     symbols: &Symbols,
     scope: &Scope,
+    at: u32,
 ) -> Result<Cond, SyntaxFault>
     ensures { Gives cond_view result (condition_of (symbols_view symbols.now) (scope_view scope.now) (shape_of tree.now)) }
 {
     let (items, at) = match tree {
-        Tree::Word(token) => return Err(SyntaxFault::Shape(token.span.start)),
+        Tree::Word(_) => return Err(SyntaxFault::Shape(at)),
         Tree::List { items, span } => (items.as_slice(), span.start),
     };
     let [first, args @ ..] = items else {
@@ -332,7 +334,7 @@ pub fn read_cond(
     let head = head_of(word.text);
     match kind_of(head) {
         Kind::Joined => {
-            let conds = read_conds(alloc, args, symbols, scope)?;
+            let conds = read_conds(alloc, args, symbols, scope, at)?;
             combined(alloc, head, conds, at)
         }
         Kind::Bound => read_bound(alloc, args, symbols, scope, head, at),

@@ -25,18 +25,19 @@ use tp_names::symbols::{Scope, Symbols, atom_in};
 use tp_text::{Token, Tree};
 use tp_types::lookup::Lookup;
 
-/// The atom that a tree spells, its name one of these.
+/// The atom that a member of the list at `at` spells, its name one of these.
 pub fn atom_at(
     alloc: Global,
     symbols: &Symbols,
     forms: &Lookup<Signature>,
     scope: &Scope,
     tree: &Tree,
+    at: u32,
 ) -> Result<Atom, SyntaxFault>
     ensures { Gives atom_view result (atom_at (symbols_view symbols.now) (map form_view forms.now) (scope_view scope.now) (shape_of tree.now)) }
 {
     let (items, at) = match tree {
-        Tree::Word(token) => return Err(SyntaxFault::Shape(token.span.start)),
+        Tree::Word(_) => return Err(SyntaxFault::Shape(at)),
         Tree::List { items, span } => (items.as_slice(), span.start),
     };
     let [first, args @ ..] = items else {
@@ -61,7 +62,7 @@ fn deleted(
     let Some(tree) = only(args) else {
         return Err(SyntaxFault::Shape(at));
     };
-    let atom = atom_at(alloc, symbols, &symbols.predicates, scope, tree)?;
+    let atom = atom_at(alloc, symbols, &symbols.predicates, scope, tree, at)?;
     Ok(Outcome::Delete(atom))
 }
 
@@ -80,7 +81,7 @@ fn written(
     let Some((fluent, value)) = both(args) else {
         return Err(SyntaxFault::Shape(at));
     };
-    let atom = atom_at(alloc, symbols, &symbols.functions, scope, fluent)?;
+    let atom = atom_at(alloc, symbols, &symbols.functions, scope, fluent, at)?;
     let value = read_value(alloc, value, symbols, scope, duration, at)?;
     Ok(Outcome::Write(writing, atom, value))
 }
@@ -144,14 +145,15 @@ impl Part for Outcome {
     }
 }
 
-/// The effect that a tree spells.
+/// The effect that a member of the list at `at` spells.
 pub fn read_effect(
     alloc: Global,
     tree: &Tree,
     symbols: &Symbols,
     scope: &Scope,
+    at: u32,
 ) -> Result<Effect, SyntaxFault>
     ensures { Gives effect_view result (effect_of (symbols_view symbols.now) false (scope_view scope.now) (shape_of tree.now)) }
 {
-    read_joined(alloc, tree, symbols, false, scope)
+    read_joined(alloc, tree, symbols, false, scope, at)
 }

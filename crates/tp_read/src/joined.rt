@@ -50,12 +50,13 @@ fn read_parts<P: Part>(
     symbols: &Symbols,
     duration: bool,
     scope: &Scope,
+    at: u32,
 ) -> Result<Vec<Joined<P>>, SyntaxFault>
     ensures { Gives (λ v. map (joined_view P.seen) v.items) result (parts_of (symbols_view symbols.now).types (P.spelled (symbols_view symbols.now) duration) (scope_view scope.now) (shapes trees.now)) }
 {
     let mut parts = Vec::new(alloc);
     for tree in trees {
-        parts.push(read_joined(alloc, tree, symbols, duration, scope)?)?;
+        parts.push(read_joined(alloc, tree, symbols, duration, scope, at)?)?;
     }
     Ok(parts)
 }
@@ -75,7 +76,7 @@ fn read_bound<P: Part>(
     let [list, body @ ..] = args else {
         return Err(SyntaxFault::Shape(at));
     };
-    let vars = parameters_at(alloc, &symbols.types, list)?;
+    let vars = parameters_at(alloc, &symbols.types, list, at)?;
     let [tree, more @ ..] = body else {
         return Err(SyntaxFault::Shape(at));
     };
@@ -84,11 +85,11 @@ fn read_bound<P: Part>(
     }
     let known = Variables::new(alloc, vars)?;
     let wider = Scope::Inner(&known, &*scope);
-    let inner = read_joined(alloc, tree, symbols, duration, &wider)?;
+    let inner = read_joined(alloc, tree, symbols, duration, &wider, at)?;
     Ok(Joined::Forall(known.into_items(), Box::new(alloc, inner)?))
 }
 
-/// The parts that a tree spells.
+/// The parts that a member of the list at `at` spells.
 #[cycle(joined)]
 pub fn read_joined<P: Part>(
     alloc: Global,
@@ -96,11 +97,12 @@ pub fn read_joined<P: Part>(
     symbols: &Symbols,
     duration: bool,
     scope: &Scope,
+    at: u32,
 ) -> Result<Joined<P>, SyntaxFault>
     ensures { Gives (joined_view P.seen) result (joined_of (symbols_view symbols.now).types (P.spelled (symbols_view symbols.now) duration) (scope_view scope.now) (shape_of tree.now)) }
 {
     let (items, at) = match tree {
-        Tree::Word(token) => return Err(SyntaxFault::Shape(token.span.start)),
+        Tree::Word(_) => return Err(SyntaxFault::Shape(at)),
         Tree::List { items, span } => (items.as_slice(), span.start),
     };
     let [first, args @ ..] = items else {
@@ -111,7 +113,7 @@ pub fn read_joined<P: Part>(
     };
     match joint_of(word.text) {
         Joint::And => {
-            let parts = read_parts(alloc, args, symbols, duration, scope)?;
+            let parts = read_parts(alloc, args, symbols, duration, scope, at)?;
             Ok(Joined::And(parts))
         }
         Joint::Forall => read_bound(alloc, args, symbols, duration, scope, at),

@@ -97,7 +97,7 @@ fn read_start(
     if !more.is_empty() {
         return Err(SyntaxFault::Shape(at));
     }
-    read_rule(alloc, tree, symbols, scope)
+    read_rule(alloc, tree, symbols, scope, at)
 }
 
 // What is wrong with a moment that is not the start.
@@ -116,28 +116,30 @@ fn read_rules(
     trees: &[Tree],
     symbols: &Symbols,
     scope: &Scope,
+    at: u32,
 ) -> Result<Vec<DurationRule>, SyntaxFault>
     ensures { Gives (λ v. map rule_view v.items) result (rules_of (symbols_view symbols.now) (scope_view scope.now) (shapes trees.now)) }
 {
     let mut rules = Vec::new(alloc);
     for tree in trees {
-        rules.push(read_rule(alloc, tree, symbols, scope)?)?;
+        rules.push(read_rule(alloc, tree, symbols, scope, at)?)?;
     }
     Ok(rules)
 }
 
-/// The rule that a tree spells.
+/// The rule that a member of the list at `at` spells.
 #[cycle(rule)]
 pub fn read_rule(
     alloc: Global,
     tree: &Tree,
     symbols: &Symbols,
     scope: &Scope,
+    at: u32,
 ) -> Result<DurationRule, SyntaxFault>
     ensures { Gives rule_view result (rule_of (symbols_view symbols.now) (scope_view scope.now) (shape_of tree.now)) }
 {
     let (items, at) = match tree {
-        Tree::Word(token) => return Err(SyntaxFault::Shape(token.span.start)),
+        Tree::Word(_) => return Err(SyntaxFault::Shape(at)),
         Tree::List { items, span } => (items.as_slice(), span.start),
     };
     let [first, args @ ..] = items else {
@@ -148,7 +150,7 @@ pub fn read_rule(
     };
     match rule_form_of(word.text) {
         RuleForm::And => {
-            let rules = read_rules(alloc, args, symbols, scope)?;
+            let rules = read_rules(alloc, args, symbols, scope, at)?;
             Ok(DurationRule::And(rules))
         }
         RuleForm::At => read_start(alloc, args, symbols, scope, at),

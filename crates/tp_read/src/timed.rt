@@ -101,7 +101,7 @@ impl Part for Timed<Cond> {
         let Some((mark, tree)) = marked_tree(word, args) else {
             return Err(unmarked_fault(word, args, at));
         };
-        let what = read_cond(alloc, tree, symbols, scope)?;
+        let what = read_cond(alloc, tree, symbols, scope, at)?;
         Ok(Timed { mark, what })
     }
 }
@@ -119,7 +119,7 @@ fn effect_at(
 {
     match mark {
         Mark::OverAll => Err(SyntaxFault::Shape(at)),
-        Mark::AtStart | Mark::AtEnd => read_joined(alloc, tree, symbols, true, scope),
+        Mark::AtStart | Mark::AtEnd => read_joined(alloc, tree, symbols, true, scope, at),
     }
 }
 
@@ -148,26 +148,28 @@ impl Part for Timed<Effect> {
     }
 }
 
-/// The condition of a durative action that a tree spells.
+/// The condition of a durative action that a member of the list at `at` spells.
 pub fn read_timed_cond(
     alloc: Global,
     tree: &Tree,
     symbols: &Symbols,
     scope: &Scope,
+    at: u32,
 ) -> Result<TimedCond, SyntaxFault>
     ensures { Gives timed_condition_view result (timed_condition_of (symbols_view symbols.now) (scope_view scope.now) (shape_of tree.now)) }
 {
-    read_joined(alloc, tree, symbols, false, scope)
+    read_joined(alloc, tree, symbols, false, scope, at)
 }
 
-/// The effect of a durative action that a tree spells.
+/// The effect of a durative action that a member of the list at `at` spells.
 pub fn read_timed_effect(
     alloc: Global,
     tree: &Tree,
     symbols: &Symbols,
     scope: &Scope,
+    at: u32,
 ) -> Result<TimedEffect, SyntaxFault>
     ensures { Gives timed_effect_view result (timed_effect_of (symbols_view symbols.now) (scope_view scope.now) (shape_of tree.now)) }
 {
-    read_joined(alloc, tree, symbols, true, scope)
+    read_joined(alloc, tree, symbols, true, scope, at)
 }

@@ -40,11 +40,16 @@ use tp_read::timed::{read_timed_cond, read_timed_effect};
 use tp_text::Tree;
 use tp_types::types::Types;
 
-fn parameters(alloc: Global, types: &Types, fields: &[Field]) -> Result<Vec<Typed>, SyntaxFault>
+fn parameters(
+    alloc: Global,
+    types: &Types,
+    fields: &[Field],
+    at: u32,
+) -> Result<Vec<Typed>, SyntaxFault>
     ensures { Gives (λ v. map typed_view v.items) result (or_missing [] (parameters_at (types_view types.now)) (field keys.Parameters (map field_view fields.now))) }
 {
     match find_field(Key::Parameters, fields) {
-        Some(list) => parameters_at(alloc, types, list.value),
+        Some(list) => parameters_at(alloc, types, list.value, at),
         None => Ok(Vec::new(alloc)),
     }
 }
@@ -54,11 +59,12 @@ fn precondition(
     symbols: &Symbols,
     scope: &Scope,
     fields: &[Field],
+    at: u32,
 ) -> Result<Cond, SyntaxFault>
     ensures { Gives cond_view result (or_missing (all_of no_conditions) (condition_of (symbols_view symbols.now) (scope_view scope.now)) (field keys.Precondition (map field_view fields.now))) }
 {
     match find_field(Key::Precondition, fields) {
-        Some(cond) => read_cond(alloc, cond.value, symbols, scope),
+        Some(cond) => read_cond(alloc, cond.value, symbols, scope, at),
         None => Ok(Cond::And(Vec::new(alloc))),
     }
 }
@@ -68,11 +74,12 @@ fn effect(
     symbols: &Symbols,
     scope: &Scope,
     fields: &[Field],
+    at: u32,
 ) -> Result<Effect, SyntaxFault>
     ensures { Gives effect_view result (or_missing (all_parts no_parts) (effect_of (symbols_view symbols.now) false (scope_view scope.now)) (field keys.Effect (map field_view fields.now))) }
 {
     match find_field(Key::Effect, fields) {
-        Some(effect) => read_effect(alloc, effect.value, symbols, scope),
+        Some(effect) => read_effect(alloc, effect.value, symbols, scope, at),
         None => Ok(Joined::And(Vec::new(alloc))),
     }
 }
@@ -88,7 +95,7 @@ fn duration(
     ensures { Gives rule_view result (duration_field (symbols_view symbols.now) (scope_view scope.now) (map field_view fields.now)) }
 {
     match find_field(Key::Duration, fields) {
-        Some(rule) => read_rule(alloc, rule.value, symbols, scope),
+        Some(rule) => read_rule(alloc, rule.value, symbols, scope, at),
         None => Err(SyntaxFault::Shape(at)),
     }
 }
@@ -98,11 +105,12 @@ fn timed_condition(
     symbols: &Symbols,
     scope: &Scope,
     fields: &[Field],
+    at: u32,
 ) -> Result<TimedCond, SyntaxFault>
     ensures { Gives timed_condition_view result (or_missing (all_parts no_parts) (timed_condition_of (symbols_view symbols.now) (scope_view scope.now)) (field keys.Condition (map field_view fields.now))) }
 {
     match find_field(Key::Condition, fields) {
-        Some(cond) => read_timed_cond(alloc, cond.value, symbols, scope),
+        Some(cond) => read_timed_cond(alloc, cond.value, symbols, scope, at),
         None => Ok(Joined::And(Vec::new(alloc))),
     }
 }
@@ -112,11 +120,12 @@ fn timed_effect(
     symbols: &Symbols,
     scope: &Scope,
     fields: &[Field],
+    at: u32,
 ) -> Result<TimedEffect, SyntaxFault>
     ensures { Gives timed_effect_view result (or_missing (all_parts no_parts) (timed_effect_of (symbols_view symbols.now) (scope_view scope.now)) (field keys.Effect (map field_view fields.now))) }
 {
     match find_field(Key::Effect, fields) {
-        Some(effect) => read_timed_effect(alloc, effect.value, symbols, scope),
+        Some(effect) => read_timed_effect(alloc, effect.value, symbols, scope, at),
         None => Ok(Joined::And(Vec::new(alloc))),
     }
 }
@@ -126,11 +135,12 @@ fn instant(
     symbols: &Symbols,
     scope: &Scope,
     fields: &[Field],
+    at: u32,
 ) -> Result<Body, SyntaxFault>
     ensures { Gives body_view result (body_of (symbols_view symbols.now) false (scope_view scope.now) (map field_view fields.now)) }
 {
-    let precondition = precondition(alloc, symbols, scope, fields)?;
-    let effect = effect(alloc, symbols, scope, fields)?;
+    let precondition = precondition(alloc, symbols, scope, fields, at)?;
+    let effect = effect(alloc, symbols, scope, fields, at)?;
     Ok(Body::Instant {
         precondition,
         effect,
@@ -147,8 +157,8 @@ fn durative(
     ensures { Gives body_view result (body_of (symbols_view symbols.now) true (scope_view scope.now) (map field_view fields.now)) }
 {
     let duration = duration(alloc, symbols, scope, fields, at)?;
-    let condition = timed_condition(alloc, symbols, scope, fields)?;
-    let effect = timed_effect(alloc, symbols, scope, fields)?;
+    let condition = timed_condition(alloc, symbols, scope, fields, at)?;
+    let effect = timed_effect(alloc, symbols, scope, fields, at)?;
     Ok(Body::Durative {
         duration,
         condition,
@@ -171,7 +181,7 @@ fn body(
     if lasts {
         durative(alloc, symbols, &scope, fields, at)
     } else {
-        instant(alloc, symbols, &scope, fields)
+        instant(alloc, symbols, &scope, fields, at)
     }
 }
 
@@ -193,7 +203,7 @@ pub fn read_action(
     };
     let name = name_of(alloc, word.text, at)?;
     let fields = read_fields(alloc, lasts, rest, at)?;
-    let parameters = parameters(alloc, &symbols.types, &fields)?;
+    let parameters = parameters(alloc, &symbols.types, &fields, at)?;
     let known = Variables::new(alloc, parameters)?;
     let body = body(alloc, lasts, symbols, &known, &fields, at)?;
     Ok(Action {

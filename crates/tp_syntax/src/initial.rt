@@ -42,7 +42,7 @@ fn denied(alloc: Global, symbols: &Symbols, args: &[Tree], at: u32) -> Result<In
         return Err(SyntaxFault::Shape(at));
     };
     let none = Scope::Empty;
-    let atom = atom_at(alloc, symbols, &symbols.predicates, &none, tree)?;
+    let atom = atom_at(alloc, symbols, &symbols.predicates, &none, tree, at)?;
     Ok(Initial::Fails(atom))
 }
 
@@ -55,7 +55,7 @@ fn valued(alloc: Global, symbols: &Symbols, args: &[Tree], at: u32) -> Result<In
         return Err(SyntaxFault::Shape(at));
     };
     let none = Scope::Empty;
-    let fact = atom_at(alloc, symbols, &symbols.functions, &none, fluent)?;
+    let fact = atom_at(alloc, symbols, &symbols.functions, &none, fluent, at)?;
     initial_number(fact, number, at)
 }
 

@@ -54,7 +54,7 @@ fn goal_in(alloc: Global, symbols: &Symbols, trees: &[Tree], at: u32) -> Result<
         return Err(SyntaxFault::Shape(at));
     };
     let none = Scope::Empty;
-    read_cond(alloc, tree, symbols, &none)
+    read_cond(alloc, tree, symbols, &none, at)
 }
 
 // The number of the first name among these, the constants first, that stands before, too.

@@ -116,6 +116,36 @@ fn lists_have_their_forms(rt: HostRuntime) -> Result<(), Fail> {
     Ok(())
 }
 
+// Members of a domain with a word where a list has to stand: the list round it is at fault.
+#[test]
+fn words_in_place_of_lists_are_at_the_lists_round_them(rt: HostRuntime) -> Result<(), Fail> {
+    for section in [
+        "^(:action a :precondition p)",
+        "^(:action a :parameters p)",
+        "^(:action a :effect p)",
+        "^(:durative-action a :duration p)",
+        "^(:durative-action a :duration () :condition p)",
+        "^(:durative-action a :duration () :effect p)",
+        "(:action a :precondition ^(and (p) p))",
+        "(:action a :precondition (and (p) ^(not p)))",
+        "(:action a :precondition ^(forall p (p)))",
+        "(:action a :precondition ^(exists (?x) p))",
+        "(:action a :effect ^(and (p) p))",
+        "(:action a :effect ^(not p))",
+        "(:action a :effect ^(forall p (p)))",
+        "(:action a :effect ^(forall (?x) p))",
+        "(:action a :effect ^(assign p 1))",
+        "(:durative-action a :duration ^(and p))",
+        "(:durative-action a :duration ^(at start p))",
+        "(:durative-action a :duration () :condition ^(at start p))",
+        "(:durative-action a :duration () :effect ^(at end p))",
+    ] {
+        let (fault, place) = section_fault(rt.alloc(), false, section)?;
+        assert!(rt; fault == Some(SyntaxFault::Shape(place)), "in {section}");
+    }
+    Ok(())
+}
+
 // A domain with two predicates, and with a function if asked for, before a section.
 fn with_section(alloc: Global, function: bool, section: &str) -> Result<String, AllocError> {
     let mut text = String::from_str(alloc, "(define (domain d) (:predicates (p) (q)) ")?;

@@ -50,7 +50,7 @@ fn heads_are_refused(rt: HostRuntime) -> Result<(), Fail> {
 }
 
 // Problems of which a section is wrong.
-const SECTIONS: [(&str, SyntaxFault); 13] = [
+const SECTIONS: [(&str, SyntaxFault); 14] = [
     (
         "(define (problem p) (:domain match) (:goal ()) (:goal ()))",
         SyntaxFault::Twice(48),
@@ -101,6 +101,10 @@ const SECTIONS: [(&str, SyntaxFault); 13] = [
     ),
     (
         "(define (problem p) (:domain match) (:goal (light) (light)))",
+        SyntaxFault::Shape(36),
+    ),
+    (
+        "(define (problem p) (:domain match) (:goal light))",
         SyntaxFault::Shape(36),
     ),
 ];
@@ -164,7 +168,7 @@ fn objects_are_refused(rt: HostRuntime) -> Result<(), Fail> {
 }
 
 // Problems of which an entry of `:init` is wrong.
-const ENTRIES: [(&str, SyntaxFault); 20] = [
+const ENTRIES: [(&str, SyntaxFault); 22] = [
     (
         "(define (problem p) (:domain match) (:init (bright)) (:goal ()))",
         SyntaxFault::Unknown(44),
@@ -191,6 +195,14 @@ const ENTRIES: [(&str, SyntaxFault); 20] = [
     ),
     (
         "(define (problem p) (:domain match) (:init (not)) (:goal ()))",
+        SyntaxFault::Shape(43),
+    ),
+    (
+        "(define (problem p) (:domain match) (:init (not light)) (:goal ()))",
+        SyntaxFault::Shape(43),
+    ),
+    (
+        "(define (problem p) (:domain match) (:init (= level 1)) (:goal ()))",
         SyntaxFault::Shape(43),
     ),
     (
