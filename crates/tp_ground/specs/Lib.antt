@@ -24,3 +24,5 @@ pub mod NumberedOutcomes
 pub mod NumberedEnds
 pub mod Grounding
 pub mod WrittenTasks
+pub mod OwnNames
+pub mod Readable

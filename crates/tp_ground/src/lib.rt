@@ -10,6 +10,13 @@ ghost use Rattle.tp_ground.specs.Reach.{met, IsClosed};
 ghost use Rattle.tp_ground.specs.State.{holds};
 ghost use Rattle.tp_ground.specs.Verdict.{Fault, states, fault_at, last_moment, IsFirstFault};
 ghost use Rattle.tp_ground.specs.declared.GroundEvent.{GroundEvent};
+ghost use Rattle.tp_syntax.specs.Domains.{Domain, SpellsDomain};
+ghost use Rattle.tp_syntax.specs.Problems.{Problem, SpellsProblem};
+ghost use Rattle.tp_bounds.specs.RunLimits.{RunLimits};
+ghost use Rattle.tp_text.specs.declared.number.Scale.{Scale};
+ghost use Rattle.tp_ground.specs.Grounding.{IsTask};
+ghost use Rattle.tp_ground.specs.Readable.{AreReadable};
+ghost use Rattle.tp_ground.specs.declared.task.Task.{Task};
 
 mod beginning;
 mod environment;
@@ -140,4 +147,14 @@ pub fn valid_without_fault()
     ensures faulty { (scale : ℕ) (initial : State) (goal : Cond) (plan : List Planned) (m : ℕ) (why : Fault)
         → IsFirstFault scale initial goal plan m why
         → ¬ IsValid scale initial goal plan }
+{}
+
+/// The words of each ground action of a task, where domain and problem are spelled by texts, are names in lower case, by
+/// which the action is found again.
+pub fn actions_are_readable()
+    ensures { (text other : List ℕ) (d : Domain) (p : Problem) (limits : RunLimits) (scale : Scale) (t : Task)
+        → SpellsDomain text d
+        → SpellsProblem d other p
+        → IsTask limits scale d p t
+        → AreReadable t.numbering.actions }
 {}
