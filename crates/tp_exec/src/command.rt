@@ -8,6 +8,10 @@ use tp_bounds::{Bound, BoundId};
 pub enum Kind {
     /// Each was added by a command.
     Bare,
+    /// The first ones, its own, are those of a plan, and all of these are in force.
+    Kept,
+    /// The same, but some bound of the plan was withdrawn, even if an equal one was added again.
+    Altered,
 }
 
 /// What an executive is asked. Moments are in ticks.

@@ -1,19 +1,20 @@
 //! A network that takes commands.
 
-ghost use Rattle.std.specs.Prelude.{◌≡◌, ◌↔◌, ℕ, ◌<◌, ◌≤◌, true, None, IfOk};
+ghost use Rattle.std.specs.Prelude.{◌≡◌, ◌↔◌, ℕ, ◌<◌, ◌≤◌, true, length, None, IfOk};
 ghost use Rattle.tp_bounds.specs.Situation.{event_count, fixed_at, lag_of};
 ghost use Rattle.tp_bounds.specs.Schedule.{IsMoment};
-ghost use Rattle.tp_exec.specs.Machine.{IsFresh, new_machine};
+ghost use Rattle.tp_exec.specs.Machine.{IsFresh, new_machine, plan_machine, kind_after};
 ghost use Rattle.tp_exec.specs.declared.command.Answer.TheVariants.{Accepted, Named, Told, Reported};
 ghost use Rattle.tp_exec.specs.declared.command.Command.TheVariants.{Advance, Add, Withdraw, Window, Dispatch, Happened, Report as Tell};
 ghost use Rattle.tp_exec.specs.Step.{Step, answer_of, is_point_of, AreMoments};
 
 use crate::command::{Kind, Report};
 use crate::copying::{copy_bounds, copy_lags, copy_past};
+use crate::own_bounds::bring_own;
 use crate::refusal::{Refusal, refused_by};
 use std::alloc::{AllocError, Global};
 use std::marker::Model;
-use tp_bounds::{Bound, BoundId, Limits, Point, Setting};
+use tp_bounds::{Bound, BoundId, Limits, PlanNet, Point, Setting};
 use tp_net::Net;
 
 /// The greatest weight of a bound, either way, in ticks.
@@ -26,6 +27,7 @@ pub struct Executive<N: Net> {
     net: N,
     limits: Limits,
     next: u32,
+    own: u32,
     kind: Kind,
 }
 
@@ -36,9 +38,9 @@ impl<N: Net> Model for Executive<N> {
 
     ghost coded = { coded_machine };
 
-    ghost view = { λ a. record { setting = N.seen a.net; limits = a.limits; next = a.next; kind = a.kind } };
+    ghost view = { λ a. record { setting = N.seen a.net; limits = a.limits; next = a.next; own = a.own; kind = a.kind } };
 
-    ghost invariant = { λ a. IsReady N.takes_between (record { setting = N.seen a.net; limits = a.limits; next = a.next; kind = a.kind }) };
+    ghost invariant = { λ a. IsReady N.takes_between (record { setting = N.seen a.net; limits = a.limits; next = a.next; own = a.own; kind = a.kind }) };
 }
 
 impl<N: Net> Executive<N> {
@@ -55,6 +57,7 @@ impl<N: Net> Executive<N> {
             net,
             limits,
             next: 0,
+            own: 0,
             kind: Kind::Bare,
         }
     }
@@ -138,7 +141,7 @@ impl<N: Net> Executive<N> {
         }
     }
 
-    /// Takes a bound out of force.
+    /// Takes a bound out of force. A network that keeps a plan's bounds is altered for good once one of them is withdrawn.
     pub fn withdraw(&mut self, id: BoundId) -> Result<(), Refusal>
         ensures { Step self.old (Withdraw id) (answer_of (λ _. Accepted) result) self.new }
     {
@@ -146,6 +149,8 @@ impl<N: Net> Executive<N> {
             return Err(Refusal::NoBound);
         }
         self.net.remove(id)?;
+        let kind = kind_without(self.kind, self.own, id);
+        self.kind = kind;
         Ok(())
     }
 
@@ -234,6 +239,54 @@ impl<N: Net> Executive<N> {
         copy_past(&self.net, &mut setting);
         setting.raise(self.net.now());
         Ok(setting)
+    }
+}
+
+impl<N: Net + Drop> Executive<N> {
+    /// An executive over a network that is new but for lags, in which the bounds of a plan come into force, under identifiers
+    /// from 0 on. Some schedule always remains, so memory alone can be wanting, and then the network is dropped.
+    ///
+    /// It costs one `add` of the network for each bound.
+    pub fn from_plan(
+        alloc: Global,
+        network: &PlanNet,
+        limits: Limits,
+        mut net: N,
+    ) -> Result<Executive<N>, AllocError>
+        requires between { N.takes_between ≡ true }
+        requires fresh { IsFresh (N.seen net) }
+        requires events { event_count (N.seen net) ≡ length network.now.events.items }
+        requires horizon { (N.seen net).horizon ≡ network.now.horizon }
+        requires bounds { length network.now.bounds.items ≤ limits.bounds }
+        requires ids { length network.now.bounds.items ≤ limits.ids }
+        ensures { IfOk result (λ executive. executive ≡ plan_machine (N.seen net) network.now.bounds.items limits) }
+    {
+        let own = bring_own(&mut net, network, limits.ids())?;
+        Ok(Executive {
+            alloc,
+            net,
+            limits,
+            next: own,
+            own,
+            kind: Kind::Kept,
+        })
+    }
+}
+
+/// The kind once the bound of an identifier is out of force, where so many are a plan's own.
+fn kind_without(kind: Kind, own: u32, id: BoundId) -> Kind
+    ensures { result ≡ kind_after kind own id.0 }
+{
+    match kind {
+        Kind::Bare => Kind::Bare,
+        Kind::Kept => {
+            if id.0 < own {
+                Kind::Altered
+            } else {
+                Kind::Kept
+            }
+        }
+        Kind::Altered => Kind::Altered,
     }
 }
 

@@ -18,6 +18,8 @@ fn kind_word(kind: Kind) -> &'static [u8]
 {
     match kind {
         Kind::Bare => b"bare",
+        Kind::Kept => b"kept",
+        Kind::Altered => b"altered",
     }
 }
 

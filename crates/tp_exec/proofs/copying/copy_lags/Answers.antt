@@ -1,5 +1,5 @@
 use Rattle.std.proofs.Common.{arith}
-use Rattle.tp_exec.proofs.CopyLemmas.{lags_none, lags_more, lags_all}
+use Rattle.tp_exec.proofs.CopyLemmas.{lags_none, lags_all}
 use Rattle.tp_exec.proofs.copying.copy_lags.Goals as goal
 
 pub loop-e-init : goal.loop-e-init

@@ -10,4 +10,6 @@ invariant_of-result g c =
       unused = λ id le. ap (λ m. get m id) c.requires.fresh.no_bounds ∙ get-empty nat_cmp id;
       ids = omega arith;
       asks_nothing = c.requires.fresh.asks_nothing;
+      first = omega arith;
+      kept = λ is id lt none. omega arith;
     }
