@@ -1,9 +1,9 @@
 -- Bytes that are looked at before they are taken, and the line that stands first among them.
-use Rattle.std.proofs.Common.{◌≡◌, ◌≢◌, ℕ, zero, suc, ◌+◌, ◌-◌, ◌≤◌, ◌<◌, ◌⊎◌, inl, inr, List, [], ◌∷◌, ◌++◌, length, get_or, take, drop, Option, Some, None, Bool, true, false, refl, ap, sym, subst, ◌∙◌, append_assoc, append-nil, arith, length-append, length-take, length-drop}
-use Rattle.std.specs.Prelude.{Result, Ok, Err, cond, min, nat_lt, nat_eq, IfOk, IfSome}
+use Rattle.std.proofs.Common.{◌≡◌, ◌≢◌, ℕ, zero, suc, ◌+◌, ◌-◌, ◌≤◌, ◌<◌, ◌⊎◌, inl, inr, List, [], ◌∷◌, ◌++◌, length, get_or, take, drop, Option, Some, None, Bool, true, false, refl, ap, sym, subst, ◌∙◌, append_assoc, append-nil, arith, length-append}
+use Rattle.std.specs.Prelude.{Result, Ok, Err, cond, min, nat_eq, IfOk, IfSome}
 use lib.Seq.{take-append-add, take-append-le, get_or-take, length-take-le}
-use Rattle.std.proofs.lemmas.List.{take_all, take_more, drop_more, get_or_default, take-append-drop, drop-take}
-use Rattle.std.proofs.lemmas.Bool.{cases_lt, ne_eqb, lt-ltb, le-ltb}
+use Rattle.std.proofs.lemmas.List.{take_all, take_more, drop_more, get_or_default, take-append-drop}
+use Rattle.std.proofs.lemmas.Bool.{cases_lt, ne_eqb, lt-ltb}
 use Rattle.std.specs.Io.KnownBytes.{Consumes, Keeps, IsAtEnd, ReadConsumes, prepend_known}
 use Rattle.tp_device.specs.declared.Failed.{Failed}
 use Rattle.tp_bounds.specs.Situation.{Situation}

@@ -1,99 +1,15 @@
 //! The line of an answer. Nothing here takes memory.
 
-ghost use Rattle.std.specs.Prelude.{◌≡◌, ℕ, ◌+◌, ◌≤◌, List, [], ◌++◌, ◌∷◌, length, take, codes, decimal, flat_map};
+ghost use Rattle.std.specs.Prelude.{◌≡◌, ◌≤◌, ◌++◌, ◌∷◌, length, codes, decimal, flat_map};
 ghost use Rattle.tp_device.specs.Bytes.{Writes, failures_after};
 ghost use Rattle.tp_exec.specs.declared.command.Answer.TheVariants.{Refused, Reported};
 ghost use Rattle.tp_exec.specs.declared.refusal.Refusal.TheVariants.{Conflict};
 ghost use Rattle.tp_script.specs.Transcript.{edge_text, kind_text, moment_text, line_of};
 
-use itoa::Buffer;
-use std::marker::Model;
+use crate::short_text::{Text, write_numbered, write_two_numbers};
 use tp_bounds::{Edge, Reason};
 use tp_device::{Failed, Sink, push_all};
 use tp_exec::{Answer, Kind, Refusal, Report};
-
-/// A short text that is put together before it is written.
-#[derive(Drop)]
-struct Text {
-    bytes: [u8; 64],
-    len: usize,
-}
-
-impl Model for Text {
-    ghost Value = { List ℕ };
-
-    ghost view = { λ t. take t.len t.bytes };
-
-    ghost invariant = { λ t. t.len ≤ 64 };
-}
-
-impl Text {
-    /// A text of its own.
-    fn new(first: &[u8]) -> Text
-        requires { length first.now ≤ 64 }
-        ensures { result ≡ first.now }
-    {
-        let mut bytes = [0; 64];
-        bytes[..first.len()].copy_from_slice(first);
-        Text {
-            bytes,
-            len: first.len(),
-        }
-    }
-
-    /// Puts more at the end.
-    fn put(&mut self, more: &[u8])
-        requires { length self.old + length more.now ≤ 64 }
-        ensures { self.new ≡ self.old ++ more.now }
-    {
-        let end = self.len + more.len();
-        self.bytes[self.len..end].copy_from_slice(more);
-        self.len = end;
-    }
-
-    /// Puts a number at the end.
-    fn put_number(&mut self, n: u32)
-        requires { length self.old + 10 ≤ 64 }
-        ensures text { self.new ≡ self.old ++ decimal n }
-        ensures short { length self.new ≤ length self.old + 10 }
-    {
-        let mut buffer = Buffer::new();
-        self.put(buffer.format(n).as_bytes());
-    }
-
-    /// Its bytes.
-    fn as_slice(&self) -> &[u8]
-        ensures { result.now ≡ self.now }
-    {
-        &self.bytes[..self.len]
-    }
-}
-
-/// Writes a line that ends with a number.
-fn write_numbered<W: Sink>(writer: &mut W, word: &[u8], n: u32) -> Result<(), Failed>
-    requires { length word.now ≤ 20 }
-    ensures bytes { Writes (W.held writer.old) (W.held writer.new) (word.now ++ decimal n ++ codes "\n") result }
-    ensures cause { W.failures writer.new ≡ failures_after (W.failures writer.old) result }
-{
-    let mut text = Text::new(word);
-    text.put_number(n);
-    text.put(b"\n");
-    push_all(writer, text.as_slice())
-}
-
-/// Writes the line of a window.
-fn write_window<W: Sink>(writer: &mut W, low: u32, high: u32) -> Result<(), Failed>
-    ensures bytes { Writes (W.held writer.old) (W.held writer.new)
-        (codes "window " ++ decimal low ++ codes " " ++ decimal high ++ codes "\n") result }
-    ensures cause { W.failures writer.new ≡ failures_after (W.failures writer.old) result }
-{
-    let mut text = Text::new(b"window ");
-    text.put_number(low);
-    text.put(b" ");
-    text.put_number(high);
-    text.put(b"\n");
-    push_all(writer, text.as_slice())
-}
 
 /// The word of a kind.
 fn kind_word(kind: Kind) -> &'static [u8]
@@ -230,7 +146,7 @@ pub fn write_answer<W: Sink>(writer: &mut W, answer: &Answer) -> Result<(), Fail
     match answer {
         Answer::Accepted => push_all(writer, b"ok\n"),
         Answer::Named(id) => write_numbered(writer, b"bound ", id.0),
-        Answer::Told(low, high) => write_window(writer, *low, *high),
+        Answer::Told(low, high) => write_two_numbers(writer, b"window ", *low, *high),
         Answer::Reported(report) => write_report(writer, report),
         Answer::Refused(refusal) => write_refusal(writer, refusal),
     }

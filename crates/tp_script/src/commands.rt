@@ -9,8 +9,8 @@ use crate::words::{next_word, read_number};
 use tp_bounds::{Bound, BoundId, Point};
 use tp_exec::Command;
 
-/// An event number of at most 65,535.
-fn read_event(word: &[u8]) -> Option<u16>
+/// An event number of at most 65,535, of one to ten digits.
+pub fn read_event(word: &[u8]) -> Option<u16>
     ensures { result ≡ event_of word.now }
 {
     let number = read_number(word)?;
@@ -21,8 +21,8 @@ fn read_event(word: &[u8]) -> Option<u16>
     }
 }
 
-/// A moment or an identifier.
-fn read_moment(word: &[u8]) -> Option<u32>
+/// A moment or an identifier of at most 4,294,967,295, of one to ten digits.
+pub fn read_moment(word: &[u8]) -> Option<u32>
     ensures { result ≡ moment_of word.now }
 {
     let number = read_number(word)?;

@@ -39,7 +39,7 @@ fn word_len(line: &[u8]) -> usize
 }
 
 /// The first word of a line, empty if it has none, and what follows it.
-pub(crate) fn next_word(line: &[u8]) -> (&[u8], &[u8])
+pub fn next_word(line: &[u8]) -> (&[u8], &[u8])
     ensures { words_of line.now ≡ words_from result.0.now result.1.now }
 {
     let line = &line[blanks(line)..];
@@ -47,7 +47,7 @@ pub(crate) fn next_word(line: &[u8]) -> (&[u8], &[u8])
 }
 
 /// The number that a word of one to ten digits spells.
-pub(crate) fn read_number(word: &[u8]) -> Option<u64>
+pub fn read_number(word: &[u8]) -> Option<u64>
     ensures value { result ≡ number_of word.now }
     ensures below { IfSome result (λ n. n < 10 ^ 10) }
 {

@@ -1,5 +1,6 @@
 //! Tests of `tp_script`, apart from it so that the gate proves it once. `commands`: the lines of commands; `answers`: the lines
-//! of answers; `serving`: sessions over readers and writers in memory.
+//! of answers; `written`: the lines that
+//! are written for commands; `serving`: sessions over readers and writers in memory.
 #![tactic(auto)]
 
 #[cfg(test)]
@@ -8,3 +9,5 @@ mod answers;
 mod commands;
 #[cfg(test)]
 mod serving;
+#[cfg(test)]
+mod written;

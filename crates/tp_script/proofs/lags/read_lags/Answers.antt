@@ -1,4 +1,4 @@
-use Rattle.std.proofs.Common.{◌≡◌, [], ◌∷◌, ◌++◌, refl, sym, subst, ap, ◌∙◌, rules, IsTrue}
+use Rattle.std.proofs.Common.{[], ◌∷◌, ◌++◌, refl, sym, subst, ap, ◌∙◌, rules, IsTrue}
 use Rattle.tp_bounds.specs.Situation.{Situation, event_count}
 use Rattle.tp_exec.specs.Machine.{IsFresh}
 use Rattle.tp_exec.proofs.Ready.{fresh_lagged}
