@@ -4,3 +4,4 @@ pub mod OnSymbols
 pub mod OnTypedLists
 pub mod OnForms
 pub mod OnTypes
+pub mod OnDeclared

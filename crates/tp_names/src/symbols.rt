@@ -1,6 +1,6 @@
 //! What a domain declares.
 
-ghost use Rattle.std.specs.Prelude.{◌≡◌, map, option_map, string_bytes};
+ghost use Rattle.std.specs.Prelude.{◌≡◌, map, option_map, string_bytes, IfOk};
 ghost use Rattle.std.specs.Option.{is_some};
 ghost use Rattle.tp_ast.specs.Terms.{term_view, shapes, atom_view};
 ghost use Rattle.tp_ast.specs.Symbols.{typed_view, types_of, form_view, form_of, argument_types, argument_fits, arguments_fit, atom_in};
@@ -10,7 +10,7 @@ ghost use Rattle.tp_ast.specs.Gives.{Gives};
 use crate::term::{name_of, terms_of};
 use crate::typed::place;
 use crate::variables::Variables;
-use std::alloc::Global;
+use std::alloc::{AllocError, Global};
 use std::rc::Rc;
 use tp_ast::fault::SyntaxFault;
 use tp_ast::symbols::{Signature, Typed};
@@ -18,7 +18,7 @@ use tp_ast::term::{Atom, Term};
 use tp_text::{Token, Tree};
 use tp_types::lookup::Lookup;
 use tp_types::table::Named;
-use tp_types::types::{Types, types_fit};
+use tp_types::types::{Types, long_lists_fit};
 
 /// The variables in scope. An inner one hides an outer one of the same name.
 #[derive(Clone, Copy)]
@@ -98,32 +98,44 @@ fn argument_types<'a>(
 }
 
 // Whether an argument may stand for a parameter.
-fn argument_fits(symbols: &Symbols, scope: &Scope, argument: &Term, parameter: &[String]) -> bool
-    ensures { result ≡ argument_fits (symbols_view symbols.now).types (symbols_view symbols.now).objects (scope_view scope.now) (term_view argument.now) (map string_bytes parameter.now) }
+fn argument_fits(
+    alloc: Global,
+    symbols: &Symbols,
+    scope: &Scope,
+    argument: &Term,
+    parameter: &[String],
+) -> Result<bool, AllocError>
+    ensures { IfOk result (λ b. b ≡ argument_fits (symbols_view symbols.now).types (symbols_view symbols.now).objects (scope_view scope.now) (term_view argument.now) (map string_bytes parameter.now)) }
 {
     match argument_types(symbols, scope, argument) {
-        None => false,
-        Some(types) => types_fit(&symbols.types, types, parameter),
+        None => Ok(false),
+        Some(types) => long_lists_fit(alloc, &symbols.types, types, parameter),
     }
 }
 
 // As many arguments as parameters, each of which fits.
-fn arguments_fit(symbols: &Symbols, scope: &Scope, arguments: &[Term], parameters: &[Typed]) -> bool
-    ensures { result ≡ arguments_fit (symbols_view symbols.now).types (symbols_view symbols.now).objects (scope_view scope.now) (map term_view arguments.now) (map typed_view parameters.now) }
+fn arguments_fit(
+    alloc: Global,
+    symbols: &Symbols,
+    scope: &Scope,
+    arguments: &[Term],
+    parameters: &[Typed],
+) -> Result<bool, AllocError>
+    ensures { IfOk result (λ b. b ≡ arguments_fit (symbols_view symbols.now).types (symbols_view symbols.now).objects (scope_view scope.now) (map term_view arguments.now) (map typed_view parameters.now)) }
 {
     let mut left = arguments;
     let mut open = parameters;
     'pairs: while let [argument, more @ ..] = left {
         let [parameter, others @ ..] = open else {
-            return false;
+            return Ok(false);
         };
-        if !argument_fits(symbols, scope, argument, parameter.type_names()) {
-            return false;
+        if !argument_fits(alloc, symbols, scope, argument, parameter.type_names())? {
+            return Ok(false);
         }
         left = more;
         open = others;
     }
-    open.is_empty()
+    Ok(open.is_empty())
 }
 
 // What is wrong with arguments that do not fit.
@@ -160,7 +172,7 @@ pub fn atom_in(
         return Err(SyntaxFault::Unknown(word.span.start));
     };
     let terms = terms_of(alloc, args, at)?;
-    if !arguments_fit(symbols, scope, &terms, &form.parameters) {
+    if !arguments_fit(alloc, symbols, scope, &terms, &form.parameters)? {
         return Err(arguments_fault(symbols, scope, &terms, args, at));
     }
     Ok(Atom { name, terms })

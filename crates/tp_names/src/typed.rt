@@ -1,6 +1,6 @@
 //! Typed lists.
 
-ghost use Rattle.std.specs.Prelude.{◌≡◌, ◌∷◌, [], ◌++◌, map, OnOk, IfOk, string_bytes, codes};
+ghost use Rattle.std.specs.Prelude.{◌≡◌, ◌&&◌, ◌∷◌, [], ◌++◌, map, OnOk, IfOk, string_bytes, codes};
 ghost use Rattle.tp_text.specs.Trees.{shape_of};
 ghost use Rattle.tp_ast.specs.Terms.{shapes};
 ghost use Rattle.tp_ast.specs.Symbols.{typed_view};
@@ -156,16 +156,34 @@ fn give(
     Ok(())
 }
 
-/// The items of a typed list, with their types. The list that has these members is at `at`.
-pub fn typed_list(
+/// The items of a typed list, and whether each of their types is declared.
+#[derive(Drop)]
+pub struct Listed {
+    pub items: Vec<Typed>,
+    pub are_declared: bool,
+}
+
+// Whether these types are declared too.
+fn declared_too(so_far: bool, types: &Types, names: &[String]) -> bool
+    ensures { result ≡ (so_far && list_all (is_type (types_view types.now)) (map string_bytes names.now)) }
+{
+    so_far && are_types(types, names)
+}
+
+/// The items of a typed list, with their types, of which each is looked for once for all items that
+/// share it. The list that has these members is at `at`.
+pub fn typed_items(
     alloc: Global,
+    types: &Types,
     items: Items,
     trees: &[Tree],
     at: u32,
-) -> Result<Vec<Typed>, SyntaxFault>
-    ensures { Gives (λ v. map typed_view v.items) result (typed_list items (shapes trees.now)) }
+) -> Result<Listed, SyntaxFault>
+    ensures items { Gives (λ l. map typed_view l.items.items) result (typed_list items (shapes trees.now)) }
+    ensures declared { IfOk result (λ l. l.are_declared ≡ list_all (λ d. list_all (is_type (types_view types.now)) d.types) (map typed_view l.items.items)) }
 {
     let mut done = Vec::new(alloc);
+    let mut are_declared = true;
     let mut waiting = Vec::new(alloc);
     let mut rest = trees;
     'runs: while let [first, others @ ..] = rest {
@@ -176,8 +194,9 @@ pub fn typed_list(
             let [kind, more @ ..] = others else {
                 return Err(SyntaxFault::Shape(at));
             };
-            let types = type_at(alloc, items, kind, at)?;
-            give(alloc, &mut done, &waiting, types)?;
+            let kinds = type_at(alloc, items, kind, at)?;
+            are_declared = declared_too(are_declared, types, kinds.as_slice());
+            give(alloc, &mut done, &waiting, kinds)?;
             waiting = Vec::new(alloc);
             rest = more;
         } else {
@@ -187,18 +206,24 @@ pub fn typed_list(
     }
     let object = object_type(alloc)?;
     give(alloc, &mut done, &waiting, object)?;
-    Ok(done)
+    Ok(Listed {
+        items: done,
+        are_declared,
+    })
 }
 
-fn have_types(types: &Types, items: &[Typed]) -> bool
-    ensures { result ≡ list_all (λ d. list_all (is_type (types_view types.now)) d.types) (map typed_view items.now) }
+/// The items of a typed list, with their types. The list that has these members is at `at`.
+pub fn typed_list(
+    alloc: Global,
+    items: Items,
+    trees: &[Tree],
+    at: u32,
+) -> Result<Vec<Typed>, SyntaxFault>
+    ensures { Gives (λ v. map typed_view v.items) result (typed_list items (shapes trees.now)) }
 {
-    for item in items {
-        if !are_types(types, item.type_names()) {
-            return false;
-        }
-    }
-    true
+    let none = Types::listed(&[]);
+    let listed = typed_items(alloc, &none, items, trees, at)?;
+    Ok(listed.items)
 }
 
 // The number of the first item whose name stands before it, too.
@@ -230,28 +255,6 @@ pub fn item_place(trees: &[Tree], number: usize, at: u32) -> u32 {
     at
 }
 
-// What stands as the type of an item, by the item's number.
-fn type_tree<'t, 'a>(trees: &'t [Tree<'a>], number: usize) -> Option<&'t Tree<'a>> {
-    let mut left = number;
-    let mut passed = false;
-    let mut after_dash = false;
-    for tree in trees {
-        if after_dash {
-            if passed {
-                return Some(tree);
-            }
-            after_dash = false;
-        } else if is_dash(tree) {
-            after_dash = true;
-        } else if left == 0 {
-            passed = true;
-        } else {
-            left -= 1;
-        }
-    }
-    None
-}
-
 // Where a type stands, by its number among those of `(either T ..)`.
 fn type_place(tree: &Tree, number: usize) -> u32 {
     match tree {
@@ -263,29 +266,32 @@ fn type_place(tree: &Tree, number: usize) -> u32 {
     }
 }
 
-// The first type of these that is not declared, in the tree that names them.
-fn undeclared(types: &Types, names: &[String], tree: Option<&Tree>, at: u32) -> u32 {
-    let Some(tree) = tree else {
-        return at;
-    };
-    for (number, name) in names.iter().enumerate() {
+// Where the first type of an item that is not declared stands, in the tree that names its types.
+fn undeclared(types: &Types, item: Option<&Typed>, tree: &Tree) -> Option<u32> {
+    for (number, name) in item?.type_names().iter().enumerate() {
         if !is_type(types, name.as_str()) {
-            return type_place(tree, number);
+            return Some(type_place(tree, number));
         }
     }
-    at
+    None
 }
 
-// What is wrong with items of which one has a type that is not declared.
+// What is wrong with items of which one has a type that is not declared. The types of a run are those
+// of its last item.
 fn undeclared_type(types: &Types, items: &[Typed], trees: &[Tree], at: u32) -> SyntaxFault {
-    for (number, item) in items.iter().enumerate() {
-        if !are_types(types, item.type_names()) {
-            return SyntaxFault::Unknown(undeclared(
-                types,
-                item.type_names(),
-                type_tree(trees, number),
-                at,
-            ));
+    let mut last = None;
+    let mut left = items.iter();
+    let mut after_dash = false;
+    for tree in trees {
+        if after_dash {
+            after_dash = false;
+            if let Some(place) = undeclared(types, last, tree) {
+                return SyntaxFault::Unknown(place);
+            }
+        } else if is_dash(tree) {
+            after_dash = true;
+        } else {
+            last = left.next();
         }
     }
     SyntaxFault::Unknown(at)
@@ -295,16 +301,21 @@ fn undeclared_type(types: &Types, items: &[Typed], trees: &[Tree], at: u32) -> S
 fn declared(
     alloc: Global,
     types: &Types,
-    items: Vec<Typed>,
+    listed: Listed,
     trees: &[Tree],
     at: u32,
 ) -> Result<Vec<Typed>, SyntaxFault>
-    ensures { let ds = map typed_view items.items in Gives (λ v. map typed_view v.items) result (provided (are_declared (types_view types.now) ds) ds) }
+    requires { listed.are_declared ≡ list_all (λ d. list_all (is_type (types_view types.now)) d.types) (map typed_view listed.items.items) }
+    ensures { let ds = map typed_view listed.items.items in Gives (λ v. map typed_view v.items) result (provided (are_declared (types_view types.now) ds) ds) }
 {
+    let Listed {
+        items,
+        are_declared,
+    } = listed;
     if let Some(number) = named_again(alloc, &items)? {
         return Err(SyntaxFault::Twice(item_place(trees, number, at)));
     }
-    if !have_types(types, &items) {
+    if !are_declared {
         return Err(undeclared_type(types, &items, trees, at));
     }
     Ok(items)
@@ -331,7 +342,7 @@ pub fn objects_in(
 ) -> Result<Vec<Typed>, SyntaxFault>
     ensures { Gives (λ v. map typed_view v.items) result (objects_in (types_view types.now) (shapes trees.now)) }
 {
-    let items = typed_list(alloc, Items::Names, trees, at)?;
+    let items = typed_items(alloc, types, Items::Names, trees, at)?;
     declared(alloc, types, items, trees, at)
 }
 
@@ -345,8 +356,8 @@ pub fn parameters_of(
 ) -> Result<Vec<Typed>, SyntaxFault>
     ensures { Gives (λ v. map typed_view v.items) result (parameters_of (types_view types.now) (shapes trees.now)) }
 {
-    let vars = typed_list(alloc, Items::Variables, trees, at)?;
-    if has_duration(&vars) {
+    let vars = typed_items(alloc, types, Items::Variables, trees, at)?;
+    if has_duration(&vars.items) {
         return Err(SyntaxFault::Shape(at));
     }
     declared(alloc, types, vars, trees, at)

@@ -2,3 +2,4 @@ pub mod OnPairs
 pub mod OnTables
 pub mod OnCircles
 pub mod OnJumps
+pub mod OnMarks

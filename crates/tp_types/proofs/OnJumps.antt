@@ -94,6 +94,15 @@ module _ (ts : List TypeName) (ranks : List ℕ) (all : list_all (is_ranked ts r
       let less : most - 1 ≤ most = omega arith in
       (lower, goes_up ps most (most - 1) t p q one differ up ∙ sym (enough (most - 1) most q p s at low less)))
 
+  -- a type is below another one if its parent is
+  pub up_one : (t q p : Name) → parent_of t ps ≡ Some q → bytes_eq t p ≡ false → below t p ≡ below q p
+  up_one t q p up differ =
+      rises t q up (λ r s own at lt high.
+      let one : most ≡ (most - 1) + 1 = omega (arith, lt, high) in
+      let low : s ≤ most - 1 = omega (arith, lt, high) in
+      let less : most - 1 ≤ most = omega arith in
+      goes_up ps most (most - 1) t p q one differ up ∙ sym (enough (most - 1) most q p s at low less))
+
   -- no type of a rank is below one of the same rank but itself
   none_below : (n : ℕ) (t p : Name) (r a : ℕ) (b : Bool) (o : Option Name) → bytes_eq t p ≡ b → parent_of t ps ≡ o → rank t ≡ Some r → rank p ≡ Some a → r < a → at_or_below ps n t p ≡ false
   none_below n t p r a true o is up own at lt =

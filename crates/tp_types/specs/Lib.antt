@@ -3,3 +3,4 @@ pub mod Circles
 pub mod Jumps
 pub mod TypeTables
 pub mod TypeViews
+pub mod Marks

@@ -8,6 +8,7 @@ ghost use Rattle.tp_ast.specs.TypedLists.{is_type};
 
 use crate::circles::{are_ranked, parent_of as parent_in, ranks};
 use crate::jumps::{are_jumps, climb, jumps, own_name};
+use crate::marks::fit_by_marks;
 use crate::table::{Named, places};
 use indexmap::IndexMap;
 use std::alloc::{AllocError, Global};
@@ -192,6 +193,50 @@ pub fn types_fit(types: &Types, argument: &[String], parameter: &[String]) -> bo
         }
     }
     true
+}
+
+// Lists of so few types are compared type by type as fast as marks are made.
+const FEW: usize = 4;
+
+/// As `types_fit`, for lists that may be long: about as many steps as there are types in the two lists
+/// and on the ways up from the first.
+pub fn long_lists_fit(
+    alloc: Global,
+    types: &Types,
+    argument: &[String],
+    parameter: &[String],
+) -> Result<bool, AllocError>
+    ensures { IfOk result (λ b. b ≡ types_fit (types_view types.now) (map string_bytes argument.now) (map string_bytes parameter.now)) }
+{
+    if argument.len() <= FEW || parameter.len() <= FEW {
+        return Ok(types_fit(types, argument, parameter));
+    }
+    match fit_by_table(alloc, types, argument, parameter)? {
+        Some(fits) => Ok(fits),
+        None => Ok(types_fit(types, argument, parameter)),
+    }
+}
+
+// What marks tell, if there is a table.
+fn fit_by_table(
+    alloc: Global,
+    types: &Types,
+    argument: &[String],
+    parameter: &[String],
+) -> Result<Option<bool>, AllocError>
+    ensures { IfOk result (λ o. IfSome o (λ b. b ≡ types_fit (types_view types.now) (map string_bytes argument.now) (map string_bytes parameter.now))) }
+{
+    let Some(table) = &types.table else {
+        return Ok(None);
+    };
+    fit_by_marks(
+        alloc,
+        types.declared,
+        &table.places,
+        &table.ranks,
+        argument,
+        parameter,
+    )
 }
 
 /// Whether a type is declared.
