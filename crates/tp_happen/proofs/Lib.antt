@@ -14,3 +14,9 @@ pub mod OnPrinted
 pub mod OnWritten
 pub mod OnTaskLabels
 pub mod OnClashes
+pub mod Compared
+pub mod Positions
+pub mod Mentioned
+pub mod Walked
+pub mod FirstPairs
+pub mod Within

@@ -12,3 +12,4 @@ pub mod PlanForms
 pub mod PlanTexts
 pub mod PlanPrints
 pub mod TaskLabels
+pub mod Meetings

@@ -137,8 +137,8 @@ fn first_disturbed(event: &GroundEvent, events: &[EventRef<'_>], from: usize) ->
     None
 }
 
-/// The first two events that interfere.
-pub(crate) fn first_interfering(events: &[EventRef<'_>]) -> Option<(usize, usize)>
+/// The first two events that interfere, by comparing all pairs.
+pub(crate) fn first_of_pairs(events: &[EventRef<'_>]) -> Option<(usize, usize)>
     ensures { result ≡ first_pair 0 events.now }
 {
     for (i, event) in events.iter().enumerate() {

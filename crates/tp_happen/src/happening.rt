@@ -10,7 +10,8 @@ ghost use Rattle.tp_happen.specs.Bounded.{effects_small, all_sums_small, StaysSm
 ghost use Rattle.tp_happen.specs.Fault.{Applies, OnNext, OnRange};
 
 use crate::clashes::first_clash;
-use crate::faults::{Outcome, Why, first_interfering, first_undefined, first_unmet};
+use crate::faults::{Outcome, Why, first_undefined, first_unmet};
+use crate::meetings::first_interfering;
 use crate::states::copied;
 use crate::writes::{add_all, delete_all, write_all};
 use crate::{EventRef, Range, State};
@@ -111,6 +112,7 @@ fn next(alloc: Global, state: &State, events: &[EventRef<'_>]) -> Result<State, 
 
 /// What happens to a state when events happen at once, or the first fault: something undefined, then a condition
 /// that does not hold, then an event that mixes writes, then two events that interfere, each by the lowest number.
+/// Takes the time and memory of the state, and the time of the conditions and effects of the events.
 pub fn apply(alloc: Global, state: &State, events: &[EventRef<'_>]) -> Result<Outcome, ApplyFault>
     requires fits { list_all (fits_in state.now) events.now ≡ true }
     ensures ok { IfOk result (Applies state.now events.now) }
@@ -127,7 +129,7 @@ pub fn apply(alloc: Global, state: &State, events: &[EventRef<'_>]) -> Result<Ou
     if let Some(i) = first_clash(alloc, events, state.numbers.len())? {
         return Ok(Outcome::Fails(i, Why::Clash));
     }
-    if let Some((i, j)) = first_interfering(events) {
+    if let Some((i, j)) = first_interfering(alloc, state, events)? {
         return Ok(Outcome::Fails(i, Why::Interferes(j)));
     }
     let next = next(alloc, state, events)?;

@@ -6,6 +6,7 @@
 //! - `events`, `lending`: events, and how a task lends them
 //! - `interfere`: when two events interfere
 //! - `faults`, `clashes`: the first fault of a happening
+//! - `meetings`, `mentions`: the first two events that interfere, by tables
 //! - `writes`: the effects of events, written one after another
 //! - `happening`: all of it together, `apply`
 //! - `plans`: plans and their steps
@@ -21,6 +22,8 @@ mod interfere;
 mod labels;
 mod lending;
 mod marks;
+mod meetings;
+mod mentions;
 mod plans;
 mod printing;
 mod reading;

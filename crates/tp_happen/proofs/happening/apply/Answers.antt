@@ -12,7 +12,7 @@ use Rattle.tp_happen.proofs.NoFault.{none_passes, each_passes, no_pair}
 use Rattle.tp_happen.proofs.happening.apply.Goals as goal
 
 pub next-requires-clause-apart : goal.next-requires-clause-apart
-next-requires-clause-apart c = no_pair 0 c.args.events.now c.in_default-first_interfering.ensures
+next-requires-clause-apart c = no_pair 0 c.args.events.now (sym c.in_default-4.is ∙ c.in_ok-i-4.ensures)
 
 pub next-requires-clause-unmixed : goal.next-requires-clause-unmixed
 next-requires-clause-unmixed c = none_passes (λ (t : Timed). mixes t.event) 0 c.args.events.now (sym c.in_default-3.is ∙ c.in_ok-i-3.ensures)
@@ -48,7 +48,7 @@ returns-clause-ok c =
       definedness = each_passes (λ t. is_defined c.args.state.now.scale (state_of c.args.state.now) t) c.args.events.now
           (none_passes (λ t. not (is_defined c.args.state.now.scale (state_of c.args.state.now) t)) 0 c.args.events.now (sym c.in_default.is ∙ c.in_ok-i.ensures.ok));
       unmixed = none_passes (λ (t : Timed). mixes t.event) 0 c.args.events.now (sym c.in_default-3.is ∙ c.in_ok-i-3.ensures);
-      separate = no_pair 0 c.args.events.now c.in_default-first_interfering.ensures;
+      separate = no_pair 0 c.args.events.now (sym c.in_default-4.is ∙ c.in_ok-i-4.ensures);
       atoms = c.in_ok-next.ensures.atoms;
       numbers = c.in_ok-next.ensures.numbers;
     }

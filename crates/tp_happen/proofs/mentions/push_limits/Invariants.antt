@@ -1,0 +1,8 @@
+use Rattle.std.proofs.Common.{◌≡◌, ◌++◌, drop, map, not}
+use Rattle.std.specs.List.{flat_map, filter}
+use Rattle.tp_ground.specs.State.{fluents_of}
+use Rattle.tp_ground.specs.Event.{is_additive}
+use Rattle.tp_happen.proofs.mentions.push_limits.Given as goal
+
+abbrev pub invariant-loop-limit : goal.invariant-loop-limit
+invariant-loop-limit l = (l.into.items ++ (flat_map (λ w. fluents_of w.value)) (drop l.limit-index l.rule)) ≡ (l.initial.into.items ++ (flat_map (λ w. fluents_of w.value)) l.rule)

@@ -1,0 +1,254 @@
+//! The first two events of a tick that interfere, found by tables of what the events do.
+
+ghost use Rattle.std.specs.Prelude.{◌≡◌, ℕ, ◌<◌, ◌++◌, true, if◌then◌else◌, length, Some, None, slice_index_or, IfOk, OnOk};
+ghost use Rattle.tp_ground.specs.Event.{has};
+ghost use Rattle.std.specs.List.{list_all};
+ghost use Rattle.tp_happen.specs.Fault.{first_pair, pair_or};
+ghost use Rattle.tp_happen.specs.Stored.{fits_in};
+ghost use Rattle.tp_happen.specs.Meetings.{done, met, meet, pair_by, earlier, first_of, is_before, sooner, done_within};
+
+use crate::faults::first_of_pairs;
+use crate::mentions::{push_atoms, push_read, push_set, push_written};
+use crate::{EventRef, State};
+use std::alloc::{AllocError, Global};
+use tp_ground::GroundEvent;
+
+/// So many events with so many effects are compared in pairs.
+const FEW: usize = 16;
+
+/// What one of two events that interfere does to an atom or a fluent, and what the other does with it.
+#[derive(Clone, Copy)]
+pub(crate) enum Meeting {
+    ChangedAndAsked,
+    AddedAndDeleted,
+    WrittenAndRead,
+    SetAndWritten,
+}
+
+fn push_done(way: Meeting, event: &GroundEvent, into: &mut Vec<u32>) -> Result<(), AllocError>
+    ensures { OnOk result (into.new.items ≡ into.old.items ++ done way event.now) }
+{
+    match way {
+        Meeting::ChangedAndAsked => {
+            into.extend_from_slice(&event.adds)?;
+            into.extend_from_slice(&event.deletes)
+        }
+        Meeting::AddedAndDeleted => into.extend_from_slice(&event.adds),
+        Meeting::WrittenAndRead => push_written(&event.writes, into),
+        Meeting::SetAndWritten => push_set(&event.writes, into),
+    }
+}
+
+fn push_met(way: Meeting, event: &GroundEvent, into: &mut Vec<u32>) -> Result<(), AllocError>
+    ensures { OnOk result (into.new.items ≡ into.old.items ++ met way event.now) }
+{
+    match way {
+        Meeting::ChangedAndAsked => push_atoms(&event.condition, into),
+        Meeting::AddedAndDeleted => into.extend_from_slice(&event.deletes),
+        Meeting::WrittenAndRead => push_read(event, into),
+        Meeting::SetAndWritten => push_written(&event.writes, into),
+    }
+}
+
+/// What an event does.
+fn done(alloc: Global, way: Meeting, event: &GroundEvent) -> Result<Vec<u32>, AllocError>
+    ensures { IfOk result (λ v. v.items ≡ done way event.now) }
+{
+    let mut numbers = Vec::new(alloc);
+    push_done(way, event, &mut numbers)?;
+    Ok(numbers)
+}
+
+/// What an event does in the other's place.
+fn met(alloc: Global, way: Meeting, event: &GroundEvent) -> Result<Vec<u32>, AllocError>
+    ensures { IfOk result (λ v. v.items ≡ met way event.now) }
+{
+    let mut numbers = Vec::new(alloc);
+    push_met(way, event, &mut numbers)?;
+    Ok(numbers)
+}
+
+fn earlier(a: Option<usize>, b: Option<usize>) -> Option<usize>
+    ensures { result ≡ earlier a b }
+{
+    match (a, b) {
+        (Some(i), Some(j)) => Some(if i < j { i } else { j }),
+        (Some(i), None) => Some(i),
+        (None, other) => other,
+    }
+}
+
+fn told(table: &[Option<usize>], number: u32) -> Option<usize>
+    ensures { result ≡ slice_index_or table.now number None }
+{
+    match table.get(number as usize) {
+        Some(event) => *event,
+        None => None,
+    }
+}
+
+/// The first event that a table tells of some numbers.
+#[tactic(auto, using(crate::proofs::Positions::assoc, crate::proofs::Positions::right_none))]
+fn first_at(table: &[Option<usize>], numbers: &[u32]) -> Option<usize>
+    ensures { result ≡ first_of (λ x. slice_index_or table.now x None) numbers.now }
+{
+    let mut first = None;
+    for number in numbers {
+        first = earlier(first, told(table, *number));
+    }
+    first
+}
+
+/// Enters an event in a table at some numbers.
+fn mark(table: &mut [Option<usize>], numbers: &[u32], event: usize)
+    ensures { (a : ℕ) → a < length table.old → slice_index_or table.new a None ≡ (if has numbers.now a then Some event else slice_index_or table.old a None) }
+{
+    for number in numbers {
+        let at = *number as usize;
+        if at < table.len() {
+            table[at] = Some(event);
+        }
+    }
+}
+
+/// The first event in the tables that meets event i in that way. Then i is entered in the tables.
+fn entered(
+    alloc: Global,
+    way: Meeting,
+    event: &GroundEvent,
+    i: usize,
+    doers: &mut [Option<usize>],
+    others: &mut [Option<usize>],
+) -> Result<Option<usize>, AllocError>
+    ensures first { IfOk result (λ r. r ≡ earlier (first_of (λ x. slice_index_or others.old x None) (done way event.now))
+        (first_of (λ x. slice_index_or doers.old x None) (met way event.now))) }
+    ensures doers { OnOk result ((a : ℕ) → a < length doers.old → slice_index_or doers.new a None ≡ (if has (done way event.now) a then Some i else slice_index_or doers.old a None)) }
+    ensures others { OnOk result ((a : ℕ) → a < length others.old → slice_index_or others.new a None ≡ (if has (met way event.now) a then Some i else slice_index_or others.old a None)) }
+{
+    let done = done(alloc, way, event)?;
+    let met = met(alloc, way, event)?;
+    let first = earlier(first_at(others, &done), first_at(doers, &met));
+    mark(doers, &done, i);
+    mark(others, &met, i);
+    Ok(first)
+}
+
+fn pair_or(i: usize, other: Option<usize>, first: Option<(usize, usize)>) -> Option<(usize, usize)>
+    ensures { result ≡ pair_or i other first }
+{
+    match other {
+        Some(j) => Some((i, j)),
+        None => first,
+    }
+}
+
+/// The first two events that meet in that way, by empty tables.
+fn walk(
+    alloc: Global,
+    way: Meeting,
+    events: &[EventRef<'_>],
+    doers: &mut [Option<usize>],
+    others: &mut [Option<usize>],
+) -> Result<Option<(usize, usize)>, AllocError>
+    requires doers { (a : ℕ) → slice_index_or doers.old a None ≡ None }
+    requires others { (a : ℕ) → slice_index_or others.old a None ≡ None }
+    requires room { length others.old ≡ length doers.old }
+    requires fits { done_within way (length doers.old) events.now ≡ true }
+    ensures { IfOk result (λ r. r ≡ pair_by (meet way) 0 events.now) }
+{
+    let mut first = None;
+    let mut i = events.len();
+    while i > 0 {
+        i -= 1;
+        let other = entered(alloc, way, events[i].body(), i, doers, others)?;
+        first = pair_or(i, other, first);
+    }
+    Ok(first)
+}
+
+/// The first two events that meet in that way, where what they do is about so many numbers.
+fn first_meeting(
+    alloc: Global,
+    way: Meeting,
+    events: &[EventRef<'_>],
+    room: usize,
+) -> Result<Option<(usize, usize)>, AllocError>
+    requires { done_within way room events.now ≡ true }
+    ensures { IfOk result (λ r. r ≡ pair_by (meet way) 0 events.now) }
+{
+    let mut doers = vec![in alloc; None; room]?;
+    let mut others = vec![in alloc; None; room]?;
+    walk(
+        alloc,
+        way,
+        events,
+        doers.as_mut_slice(),
+        others.as_mut_slice(),
+    )
+}
+
+fn is_before(p: (usize, usize), q: (usize, usize)) -> bool
+    ensures { result ≡ is_before p q }
+{
+    p.0 < q.0 || (p.0 == q.0 && p.1 <= q.1)
+}
+
+fn sooner(a: Option<(usize, usize)>, b: Option<(usize, usize)>) -> Option<(usize, usize)>
+    ensures { result ≡ sooner a b }
+{
+    match (a, b) {
+        (Some(p), Some(q)) => Some(if is_before(p, q) { p } else { q }),
+        (Some(p), None) => Some(p),
+        (None, other) => other,
+    }
+}
+
+/// The first two events that interfere, by tables.
+#[tactic(auto, using(crate::proofs::FirstPairs::first_of_ways))]
+fn first_by_tables(
+    alloc: Global,
+    events: &[EventRef<'_>],
+    atoms: usize,
+    fluents: usize,
+) -> Result<Option<(usize, usize)>, AllocError>
+    requires changed { done_within Meeting.ChangedAndAsked atoms events.now ≡ true }
+    requires added { done_within Meeting.AddedAndDeleted atoms events.now ≡ true }
+    requires written { done_within Meeting.WrittenAndRead fluents events.now ≡ true }
+    requires set { done_within Meeting.SetAndWritten fluents events.now ≡ true }
+    ensures { IfOk result (λ r. r ≡ first_pair 0 events.now) }
+{
+    let changed = first_meeting(alloc, Meeting::ChangedAndAsked, events, atoms)?;
+    let added = first_meeting(alloc, Meeting::AddedAndDeleted, events, atoms)?;
+    let written = first_meeting(alloc, Meeting::WrittenAndRead, events, fluents)?;
+    let set = first_meeting(alloc, Meeting::SetAndWritten, events, fluents)?;
+    Ok(sooner(changed, sooner(added, sooner(written, set))))
+}
+
+/// Whether the events are few and have few effects, so that it is cheaper to compare them in pairs than to make tables.
+fn do_little(events: &[EventRef<'_>]) -> bool {
+    let mut effects: usize = 0;
+    for event in events {
+        let body = event.body();
+        effects = effects
+            .saturating_add(body.adds.len())
+            .saturating_add(body.deletes.len())
+            .saturating_add(body.writes.len());
+    }
+    events.len() <= FEW && effects <= FEW
+}
+
+/// The first two events that interfere. Takes the time of the conditions and effects of the events, and the time and
+/// memory of the atoms and fluents where the events do more than a little.
+pub(crate) fn first_interfering(
+    alloc: Global,
+    state: &State,
+    events: &[EventRef<'_>],
+) -> Result<Option<(usize, usize)>, AllocError>
+    requires { list_all (fits_in state.now) events.now ≡ true }
+    ensures { IfOk result (λ r. r ≡ first_pair 0 events.now) }
+{
+    if do_little(events) {
+        return Ok(first_of_pairs(events));
+    }
+    first_by_tables(alloc, events, state.atoms.len(), state.numbers.len())
+}
