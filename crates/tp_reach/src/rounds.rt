@@ -1,0 +1,130 @@
+//! Rounds over all actions, until a round adds nothing.
+
+ghost use Rattle.std.specs.Prelude.{◌≡◌, length, nat_lt, true, count_by, IfOk};
+ghost use Rattle.std.specs.List.{All, list_all};
+ghost use Rattle.tp_ground.specs.Fits.{body_fits, event_fits};
+ghost use Rattle.tp_ground.specs.Reach as spec;
+ghost use Rattle.tp_ground.specs.Reach.{IsReach};
+ghost use Rattle.tp_reach.specs.Rounds.{set_of, marked, after_event, after_body, after_round, adds_in, adds_fit, acts_of_bodies};
+ghost use Rattle.tp_reach.specs.Adding.{Adds, IsSettled};
+ghost use Rattle.tp_reach.specs.TaskReach.{acts_of, first_state, GoalIs};
+
+use std::alloc::{AllocError, Global};
+use tp_ground::{Body, Cond, GroundEvent, Task};
+
+fn is_reached(reach: &[bool], atom: u32) -> bool
+    ensures { result ≡ set_of reach.now atom }
+{
+    reach.get(atom as usize).copied().unwrap_or(false)
+}
+
+/// Whether a condition (its negation, where `positive` is false) is met by a set of atoms. Each part of it is looked at
+/// once at most.
+pub fn met(reach: &[bool], positive: bool, cond: &Cond) -> bool
+    ensures { result ≡ spec.met (set_of reach.now) positive cond.now }
+{
+    match cond {
+        Cond::Atom(a) => !positive || is_reached(reach, *a),
+        Cond::Compare(_, _, _) => true,
+        Cond::Not(c) => met(reach, !positive, c),
+        Cond::And(cs) => {
+            for c in cs {
+                if met(reach, positive, c) != positive {
+                    return !positive;
+                }
+            }
+            positive
+        }
+        Cond::Or(cs) => {
+            for c in cs {
+                if met(reach, positive, c) == positive {
+                    return positive;
+                }
+            }
+            !positive
+        }
+    }
+}
+
+fn mark(reach: &mut [bool], atoms: &[u32])
+    requires { list_all (λ a. nat_lt a (length reach.old)) atoms.now ≡ true }
+    ensures { reach.new ≡ marked reach.old atoms.now }
+{
+    for a in atoms {
+        reach[*a as usize] = true;
+    }
+}
+
+fn take_event(reach: &mut [bool], event: &GroundEvent)
+    requires { adds_in (length reach.old) event.now ≡ true }
+    ensures { reach.new ≡ after_event reach.old event.now }
+{
+    if met(reach, true, &event.condition) {
+        mark(reach, &event.adds);
+    }
+}
+
+// How many atoms there are.
+fn count(reach: &[bool]) -> usize
+    ensures { result ≡ count_by (λ b. b) reach.now }
+{
+    reach.iter().filter(|b| **b).count()
+}
+
+fn take_body(reach: &mut [bool], body: &Body)
+    requires { adds_fit (length reach.old) body.now ≡ true }
+    ensures { reach.new ≡ after_body reach.old body.now }
+{
+    match body {
+        Body::Instant(only) => take_event(reach, only),
+        Body::Durative(start, end, _) => {
+            take_event(reach, start);
+            take_event(reach, end);
+        }
+    }
+}
+
+// One round over all actions.
+fn round(reach: &mut [bool], actions: &[Body])
+    requires { list_all (adds_fit (length reach.old)) actions.now ≡ true }
+    ensures { reach.new ≡ after_round reach.old actions.now }
+{
+    for body in actions {
+        take_body(reach, body);
+    }
+}
+
+// Rounds until one adds nothing.
+fn settle(reach: &mut [bool], actions: &[Body])
+    requires { list_all (adds_fit (length reach.old)) actions.now ≡ true }
+    ensures adds { Adds (acts_of_bodies actions.now) reach.old reach.new }
+    ensures settled { IsSettled (acts_of_bodies actions.now) reach.new }
+{
+    let mut many = count(reach);
+    loop {
+        round(reach, actions);
+        let now = count(reach);
+        if now <= many {
+            return;
+        }
+        many = now;
+    }
+}
+
+/// The relaxed reach of a task: the truth of each atom (the delete relaxation of Bonet and Geffner 2001). It costs at
+/// most as many rounds over all conditions and adds as atoms are reached, and one more.
+pub fn reach(alloc: Global, task: &Task) -> Result<Vec<bool>, AllocError>
+    ensures { IfOk result (λ v. IsReach (first_state task.now) (acts_of task.now) (set_of v.items)) }
+{
+    let mut atoms = Vec::from_slice(alloc, &task.initial_atoms)?;
+    settle(atoms.as_mut_slice(), &task.actions);
+    Ok(atoms)
+}
+
+/// Whether the goal is met in the relaxed reach. It costs what `reach` does.
+pub fn goal_in_reach(alloc: Global, task: &Task) -> Result<bool, AllocError>
+    ensures { IfOk result (GoalIs task.now) }
+{
+    let atoms = reach(alloc, task)?;
+    Ok(met(&atoms, true, &task.goal))
+}
