@@ -1,5 +1,5 @@
 -- Rounds add what events add, no more, and a round that adds nothing leaves a closed set.
-use Rattle.std.proofs.Common.{◌≡◌, ℕ, suc, zero, ◌+◌, ◌<◌, ◌≤◌, Bool, true, false, cond, ◌==◌, nat_lt, List, [], ◌∷◌, ◌++◌, length, ◌⊎◌, inl, inr, ⊎_elim, refl, sym, ap, subst, ◌∙◌, arith, eqb-true, eq-eqb, ltb-true, take, slice_set}
+use Rattle.std.proofs.Common.{◌≡◌, ℕ, suc, zero, ◌+◌, ◌<◌, ◌≤◌, Bool, true, false, cond, ◌==◌, nat_lt, List, [], ◌∷◌, ◌++◌, length, ◌⊎◌, inl, inr, ⊎_elim, refl, sym, ap, subst, ◌∙◌, arith, eqb-true, eq-eqb, ltb-true, take, slice_set, slice_get, Some, get_or}
 use Rattle.std.specs.List.{list_all, count_by}
 use Rattle.std.proofs.lemmas.Bool.{and_parts, and_from, or_cases, or_left, or_right, cond-true}
 use Rattle.std.proofs.lemmas.List.Recursion.{is_count_by}
@@ -14,7 +14,7 @@ use Rattle.tp_ground.specs.Event.{has}
 use Rattle.tp_ground.specs.State.{State}
 use Rattle.tp_ground.specs.Fits.{event_fits, body_fits}
 use Rattle.tp_ground.specs.Reach.{met, each_met, some_met, IsReach}
-use Rattle.tp_reach.specs.Rounds.{set_of, marked, after_event, after_body, after_round, acts_of_bodies, adds_in, adds_fit}
+use Rattle.tp_reach.specs.Rounds.{set_of, marked, after_event, after_body, after_round, acts_in, acts_of_bodies, adds_in, adds_fit}
 use Rattle.tp_reach.specs.Adding.{HasAdded, Adds}
 
 -- each truth of the one list is one of the other
@@ -221,6 +221,36 @@ pub round_adds : (xs : List Bool) (bs : List Body) → Adds (acts_of_bodies bs) 
 round_adds xs bs = record {
   kept = below_at xs (after_round xs bs) (below_round xs bs);
   least = λ other closed sub. round_least (acts_of_bodies bs) other closed xs bs (λ e i. i) sub;
+}
+
+-- what is read at a place
+pub read_at : (bs : List Body) (i : ℕ) (b : Body) → i < length bs → b ≡ get_or bs i b → slice_get bs i ≡ Some b
+read_at [] i b l e = absurd (omega arith)
+read_at (x ∷ bs) zero b l e = ap Some (sym e)
+read_at (x ∷ bs) (suc i) b l e = read_at bs i b (omega arith) e
+
+-- one action of them
+in_acts : (bs : List Body) (i : ℕ) (b : Body) → slice_get bs i ≡ Some b → (e : GroundEvent) → In e (acts_in b) → In e (acts_of_bodies bs)
+in_acts [] i b q e h = absurd (cc)
+in_acts (x ∷ bs) zero b q e h = in_front (acts_in x) e (subst (λ y. In e (acts_in y)) (sym (same_body x b q)) h)
+  where
+    same_body : (x y : Body) → Some x ≡ Some y → x ≡ y
+    same_body x y r = cc
+
+    in_front : (xs : List GroundEvent) (y : GroundEvent) → In y xs → In y (xs ++ acts_of_bodies bs)
+    in_front [] y k = absurd k
+    in_front (z ∷ zs) y (inl r) = inl r
+    in_front (z ∷ zs) y (inr k) = inr (in_front zs y k)
+in_acts (x ∷ bs) (suc i) b q e h = in_rest e x bs (in_acts bs i b q e h)
+
+in_alone : (b : Body) (e : GroundEvent) → In e (acts_of_bodies (b ∷ [])) → In e (acts_in b)
+in_alone (Instant x) e h = h
+in_alone (Durative start end invariant) e h = h
+
+pub action_adds : (xs : List Bool) (bs : List Body) (i : ℕ) (b : Body) → slice_get bs i ≡ Some b → Adds (acts_of_bodies bs) xs (after_body xs b)
+action_adds xs bs i b q = record {
+  kept = below_at xs (after_body xs b) (below_body xs b);
+  least = λ other closed sub. body_least (acts_of_bodies bs) other closed xs b [] (λ e h. in_acts bs i b q e (in_alone b e h)) sub;
 }
 
 pub adds_trans : (acts : List GroundEvent) (xs ys zs : List Bool) → Adds acts xs ys → Adds acts ys zs → Adds acts xs zs

@@ -1,6 +1,6 @@
-//! Rounds over all actions, until a round adds nothing.
+//! What events add: first the actions that counters tell, then rounds over all actions until one adds nothing.
 
-ghost use Rattle.std.specs.Prelude.{◌≡◌, length, nat_lt, true, count_by, IfOk};
+ghost use Rattle.std.specs.Prelude.{◌≡◌, length, nat_lt, true, count_by, IfOk, OnOk};
 ghost use Rattle.std.specs.List.{All, list_all};
 ghost use Rattle.tp_ground.specs.Fits.{body_fits, event_fits};
 ghost use Rattle.tp_ground.specs.Reach as spec;
@@ -9,6 +9,7 @@ ghost use Rattle.tp_reach.specs.Rounds.{set_of, marked, after_event, after_body,
 ghost use Rattle.tp_reach.specs.Adding.{Adds, IsSettled};
 ghost use Rattle.tp_reach.specs.TaskReach.{acts_of, first_state, GoalIs};
 
+use crate::counting::Counters;
 use std::alloc::{AllocError, Global};
 use tp_ground::{Body, Cond, GroundEvent, Task};
 
@@ -94,6 +95,84 @@ fn round(reach: &mut [bool], actions: &[Body])
     }
 }
 
+// Counts the atoms that an action's events add and that are reached.
+fn count_added(
+    counters: &mut Counters,
+    reach: &[bool],
+    event: &GroundEvent,
+) -> Result<(), AllocError> {
+    for a in &event.adds {
+        if is_reached(reach, *a) {
+            counters.count_atom(*a)?;
+        }
+    }
+    Ok(())
+}
+
+fn count_body(counters: &mut Counters, reach: &[bool], body: &Body) -> Result<(), AllocError> {
+    match body {
+        Body::Instant(only) => count_added(counters, reach, only),
+        Body::Durative(start, end, _) => {
+            count_added(counters, reach, start)?;
+            count_added(counters, reach, end)
+        }
+    }
+}
+
+fn count_reached(counters: &mut Counters, reach: &[bool]) -> Result<(), AllocError> {
+    let mut atom: u32 = 0;
+    for truth in reach {
+        if *truth {
+            counters.count_atom(atom)?;
+        }
+        atom = atom.saturating_add(1);
+    }
+    Ok(())
+}
+
+// Takes an action, if it is one of them, and counts what it adds.
+fn take_action(
+    counters: &mut Counters,
+    reach: &mut [bool],
+    actions: &[Body],
+    action: u32,
+) -> Result<(), AllocError>
+    requires { list_all (adds_fit (length reach.old)) actions.now ≡ true }
+    ensures { Adds (acts_of_bodies actions.now) reach.old reach.new }
+{
+    match actions.get(action as usize) {
+        Some(body) => {
+            take_body(reach, body);
+            count_body(counters, reach, body)
+        }
+        None => Ok(()),
+    }
+}
+
+// Takes the actions that counters tell, one after another.
+fn spread(counters: &mut Counters, reach: &mut [bool], actions: &[Body]) -> Result<(), AllocError>
+    requires { list_all (adds_fit (length reach.old)) actions.now ≡ true }
+    ensures { Adds (acts_of_bodies actions.now) reach.old reach.new }
+{
+    for _ in 0..counters.size() {
+        let Some(action) = counters.take() else {
+            break;
+        };
+        take_action(counters, reach, actions, action)?;
+    }
+    Ok(())
+}
+
+// What counters find to be added.
+fn spread_all(alloc: Global, reach: &mut [bool], actions: &[Body]) -> Result<(), AllocError>
+    requires { list_all (adds_fit (length reach.old)) actions.now ≡ true }
+    ensures { Adds (acts_of_bodies actions.now) reach.old reach.new }
+{
+    let mut counters = Counters::new(alloc, actions, reach.len())?;
+    count_reached(&mut counters, reach)?;
+    spread(&mut counters, reach, actions)
+}
+
 // Rounds until one adds nothing.
 fn settle(reach: &mut [bool], actions: &[Body])
     requires { list_all (adds_fit (length reach.old)) actions.now ≡ true }
@@ -111,13 +190,24 @@ fn settle(reach: &mut [bool], actions: &[Body])
     }
 }
 
-/// The relaxed reach of a task: the truth of each atom (the delete relaxation of Bonet and Geffner 2001). It costs at
-/// most as many rounds over all conditions and adds as atoms are reached, and one more.
+// What the events of actions can add, added.
+fn complete(alloc: Global, reach: &mut [bool], actions: &[Body]) -> Result<(), AllocError>
+    requires { list_all (adds_fit (length reach.old)) actions.now ≡ true }
+    ensures adds { OnOk result (Adds (acts_of_bodies actions.now) reach.old reach.new) }
+    ensures settled { OnOk result (IsSettled (acts_of_bodies actions.now) reach.new) }
+{
+    spread_all(alloc, reach, actions)?;
+    settle(reach, actions);
+    Ok(())
+}
+
+/// The relaxed reach of a task: the truth of each atom (the delete relaxation of Bonet and Geffner 2001). It costs the
+/// sizes of all conditions and adds, a few times.
 pub fn reach(alloc: Global, task: &Task) -> Result<Vec<bool>, AllocError>
     ensures { IfOk result (λ v. IsReach (first_state task.now) (acts_of task.now) (set_of v.items)) }
 {
     let mut atoms = Vec::from_slice(alloc, &task.initial_atoms)?;
-    settle(atoms.as_mut_slice(), &task.actions);
+    complete(alloc, atoms.as_mut_slice(), &task.actions)?;
     Ok(atoms)
 }
 
