@@ -16,6 +16,10 @@ point_text (Event e) = decimal e
 abbrev pub bound_text : Bound → List ℕ
 bound_text b = point_text b.from ++ codes " " ++ point_text b.to ++ codes " " ++ signed_decimal b.w
 
+-- the line of a bound under an identifier, with its end
+abbrev pub bound_line : ℕ → Bound → List ℕ
+bound_line id b = (codes "bound " ++ decimal id ++ codes " " ++ bound_text b) ++ 10 ∷ []
+
 -- a command's words, with one space between and no leading zeros
 abbrev pub command_text : Command → List ℕ
 command_text (Advance to) = codes "advance " ++ decimal to

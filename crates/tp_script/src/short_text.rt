@@ -75,8 +75,9 @@ impl Text {
     }
 }
 
-/// Writes a line that ends with a number.
-pub(crate) fn write_numbered<W: Sink>(writer: &mut W, word: &[u8], n: u32) -> Result<(), Failed>
+/// Writes a line of a word, with the space behind it, and a number. It takes no memory. Where the writer fails, it has taken
+/// some first part of the line.
+pub fn write_numbered<W: Sink>(writer: &mut W, word: &[u8], n: u32) -> Result<(), Failed>
     requires { length word.now ≤ 20 }
     ensures bytes { Writes (W.held writer.old) (W.held writer.new) (word.now ++ decimal n ++ codes "\n") result }
     ensures cause { W.failures writer.new ≡ failures_after (W.failures writer.old) result }
