@@ -7,7 +7,7 @@ PROGRAM is a built `tempo`; without it, the program is proved and built by `rt r
 force, and dispatches 1,024 events one tick after another, which takes minutes; `--check` times plans, tasks and texts alone,
 `--network` lists of commands alone. Each list is read from a file by a process of its own; the times of single
 commands are from writing the command to reading its answer, the mean of all of them. A verdict's time is that of the whole
-process, the best of three; its memory is the greatest that the process held.
+process, the best of three, or where one takes seconds the first; its memory is the greatest that the process held.
 """
 import os
 import pathlib
@@ -147,6 +147,8 @@ def judged(program, name, domain, problem, plan):
             _, _, used = os.wait4(child.pid, 0)
             took = time.perf_counter() - begin
             best = took if best is None else min(best, took)
+            if took > 2:
+                break
         size = sum(file.stat().st_size for file in files)
     print(f"{name:58} {best:8.3f} s  {size:9} bytes  {used.ru_maxrss // 1024:4} MB  {said}", flush=True)
 
@@ -240,6 +242,42 @@ def asking(declared, atoms):
     return f"(define (domain d) {declared} (:action a :precondition (and {atoms}) :effect ()))"
 
 
+def either(count):
+    """So many types, any of which will do."""
+    return f"(either {each('t#', count)})"
+
+
+def asked(types, atoms):
+    """A domain in which a variable of any of so many types stands for one of any of them, in so many atoms."""
+    declared = f"(:types {each('t#', types)}) (:predicates (p ?x - {either(types)}))"
+    return f"(define (domain d) {declared} (:action a :parameters (?y - {either(types)}) :precondition (and {each('(p ?y)', atoms)}) :effect ()))"
+
+
+def colliding(count):
+    """Names of one hash. The tables hash 16 bytes at a time and multiply the two halves; the second eight bytes of the second
+    sixteen, which differ, are multiplied by nothing, since the eight before them undo what the first sixteen made.
+    """
+    letters = "abcdefghijklmnopqrstuvwxyz"
+    for number in range(count):
+        free = "".join(letters[number // 26**place % 26] for place in range(8))
+        yield f"nxacfbaaaaaaaaaa1i42hk5t{free}{'a' * 16}"
+
+
+def worst_reads(program):
+    """Texts that were chosen to be slow, each of a megabyte at most."""
+    problem = "(define (problem q) (:domain d) (:goal ()))"
+    judged(program, "one atom over two lists of 40,000 types", asked(40_000, 1), problem, "")
+    judged(program, "20,000 atoms over two lists of 2,000 types", asked(2_000, 20_000), problem, "")
+    types = "(either " + "t " * 100_000 + ")"
+    run = f"(define (domain d) (:types t) (:predicates (p {each('?v#', 70_000)} - {types})))"
+    judged(program, "70,000 variables of a list of 100,000 types", run, problem, "")
+    name = "t" * 300_000
+    judged(program, "60,000 constants of a type of 300,000 letters", f"(define (domain d) (:types {name}) (:constants {each('c#', 60_000)} - {name}))", problem, "")
+    names = " ".join(colliding(20_000))
+    judged(program, "20,000 constants whose names collide", f"(define (domain d) (:constants {names}))", problem, "")
+    judged(program, "20,000 types whose names collide", f"(define (domain d) (:types {names}))", problem, "")
+
+
 def reads(program):
     """Texts of about a megabyte. The task of some is too large; the time is that of reading all the same."""
     problem = "(define (problem q) (:domain d) (:goal ()))"
@@ -301,6 +339,7 @@ def main():
     if "--network" not in sys.argv:
         checks(program)
         reads(program)
+        worst_reads(program)
     if "--check" not in sys.argv:
         network(program)
     if "--full" in sys.argv:
