@@ -299,6 +299,19 @@ def reads(program):
     judged(program, "59,000 objects, each in a fact", "(define (domain d) (:predicates (p ?x)))", objects, "")
 
 
+def quantified(program):
+    """Goals whose quantifiers have very many bindings. What passes a limit is refused before it is written out."""
+    domain = "(define (domain d) (:predicates (p ?x ?y ?z)))"
+    problem = f"(define (problem q) (:domain d) (:objects {each('o#', 400)}) (:init) (:goal (forall (?a ?b ?c) (p #))))"
+    judged(program, "a forall over 64,000,000 bindings, each of its own atom", domain, problem.replace("#", "?a ?b ?c"), "")
+    judged(program, "the same over 400 atoms", domain, problem.replace("#", "?a o0 o0"), "")
+    judged(program, "a forall over 400^10 bindings", domain, problem.replace("#", "o0 o0 o0").replace("?c)", "?c ?d ?e ?f ?g ?h ?i ?j)"), "")
+    types = f"(:types {each('t#', 20_000)})"
+    action = f"(:action a :parameters ({each('?v# - t#', 20_000)}) :precondition () :effect ())"
+    many = f"(define (problem q) (:domain d) (:objects {each('o#', 40_000)}) (:goal ()))"
+    judged(program, "20,000 parameters of as many types, 40,000 objects", f"(define (domain d) {types} {action})", many, "")
+
+
 def changes(program, name, bounds, count):
     """Single commands over bounds that are in force already: so many of each kind, and each kind at its worst."""
     session = Session(program)
@@ -340,6 +353,7 @@ def main():
         checks(program)
         reads(program)
         worst_reads(program)
+        quantified(program)
     if "--check" not in sys.argv:
         network(program)
     if "--full" in sys.argv:

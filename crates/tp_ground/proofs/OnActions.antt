@@ -19,7 +19,7 @@ use Rattle.tp_ground.specs.declared.environment.Env.{Inner, Empty}
 use Rattle.tp_ground.specs.declared.fault.GroundFault.{GroundFault}
 use Rattle.tp_ground.proofs.Along.{next, map_next}
 use Rattle.tp_ground.proofs.OnEntries.{empty_env}
-use Rattle.tp_ground.proofs.OnInner.{names_of, inner_env}
+use Rattle.tp_ground.proofs.OnInner.{inner_env}
 use Rattle.tp_ground.proofs.OnLowered.{then_assoc, of_each-append, of_each_one, lowered_same, lowered_both, overflows_first, overflows_then, failed}
 
 module _ {X : Type 0} (of : X → Mentions) (xs : List X) (i : ℕ) (x : X) (lt : i < length xs) (item : x ≡ get_or xs i x) where
@@ -62,33 +62,19 @@ module _ {C Y : Type 0} (named : Tables → C → Y) where
         (lowered_both (λ (zs ws : List Y). zs ++ ws) u (λ t. ap (map (named t)) items ∙ map-append (named t) v.items w.items) l k)
 
 -- what parameters stand for, and nothing else
-pub plain_env : (vars : Bor (List Typed)) (names : Bor (List (Bor (List ℕ)))) (outer : Bor code.Env) (b : Vec (Bor Name) Global) → outer.now ≡ Empty → names.now ≡ b.items → env_view (Inner vars names outer) ≡ bound (map typed_view vars.now) (names_of b)
+pub plain_env : (vars : Bor (List Typed)) (names : Bor (List (Bor (List ℕ)))) (outer : Bor code.Env) (b : List Name) → outer.now ≡ Empty → map (λ n. n.now) names.now ≡ b → env_view (Inner vars names outer) ≡ bound (map typed_view vars.now) b
 plain_env vars names outer b none is =
     inner_env vars names outer b is
-    ∙ ap (λ (o : code.Env). bound (map typed_view vars.now) (names_of b) ++ env_view o) none
-    ∙ ap (λ (e : Env). bound (map typed_view vars.now) (names_of b) ++ e) empty_env
-    ∙ append-nil (bound (map typed_view vars.now) (names_of b))
+    ∙ ap (λ (o : code.Env). bound (map typed_view vars.now) b ++ env_view o) none
+    ∙ ap (λ (e : Env). bound (map typed_view vars.now) b ++ e) empty_env
+    ∙ append-nil (bound (map typed_view vars.now) b)
 
 module _ (u : Universe) (vs : List Declared) (x : actions.Body) where
-  abbrev pub body_under : Vec (Bor Name) Global → GroundBody
-  body_under b = body_in u (bound vs (names_of b)) x
+  abbrev pub body_under : List Name → GroundBody
+  body_under b = body_in u (bound vs b) x
 
-  abbrev pub mentions_under : Vec (Bor Name) Global → Mentions
-  mentions_under b = of_body u (bound vs (names_of b)) x
-
-  bodies_along : (all : List (Vec (Bor Name) Global)) → map body_under all ≡ map (λ objects. body_in u (bound vs objects) x) (map names_of all)
-  bodies_along [] = refl
-  bodies_along (b ∷ all) = ap (λ ys. body_under b ∷ ys) (bodies_along all)
-
-  mentions_along : (all : List (Vec (Bor Name) Global)) → of_each mentions_under all ≡ of_each (λ objects. of_body u (bound vs objects) x) (map names_of all)
-  mentions_along [] = refl
-  mentions_along (b ∷ all) = ap (λ m. mentions_under b then m) (mentions_along all)
-
-  pub all_bodies : (all : List (Vec (Bor Name) Global)) → map names_of all ≡ bindings u vs → map body_under all ≡ map (λ objects. body_in u (bound vs objects) x) (bindings u vs)
-  all_bodies all is = bodies_along all ∙ ap (map (λ objects. body_in u (bound vs objects) x)) is
-
-  pub all_mentions : (all : List (Vec (Bor Name) Global)) → map names_of all ≡ bindings u vs → of_each mentions_under all ≡ of_each (λ objects. of_body u (bound vs objects) x) (bindings u vs)
-  all_mentions all is = mentions_along all ∙ ap (of_each (λ objects. of_body u (bound vs objects) x)) is
+  abbrev pub mentions_under : List Name → Mentions
+  mentions_under b = of_body u (bound vs b) x
 
 -- the bodies of an action
 abbrev pub bodies_of : Universe → Action → List GroundBody

@@ -1,15 +1,14 @@
 -- Bindings, and how many there are.
-use Rattle.std.proofs.Common.{◌≡◌, ℕ, zero, suc, ◌+◌, ◌*◌, ◌<◌, ◌≤◌, Bool, true, false, ◌||◌, cond, List, [], ◌∷◌, ◌++◌, map, filter, length, get_or, drop, nat_lt, nat_eq, string_bytes, refl, sym, ap, ap₂, ◌∙◌, arith, length-append, append_assoc, append-nil}
+use Rattle.std.proofs.Common.{◌≡◌, ℕ, zero, suc, ◌+◌, ◌*◌, ◌<◌, ◌≤◌, Bool, true, false, ◌||◌, cond, List, [], ◌∷◌, ◌++◌, map, filter, length, get_or, drop, nat_lt, nat_eq, string_bytes, refl, sym, ap, ◌∙◌, arith, length-append, append_assoc}
 use Rattle.std.proofs.Math.Dec.{eqb-suc-zero}
 use Rattle.std.proofs.Math.Nat.{mul_comm, mul_assoc}
-use Rattle.std.proofs.lemmas.Grind.{flat_map-append}
 use Rattle.std.specs.List.{flat_map, list_any}
 use Rattle.std.proofs.lemmas.Bool.{ltb-true, ltb-false}
 use Rattle.std.proofs.lemmas.List.{map-append, length-map, at_drop_more}
 use Rattle.std.proofs.lemmas.List.Elements.{filter-append}
 use Rattle.tp_syntax.specs.Symbols.{Name, Declared, Parent, typed_view, types_fit}
 use Rattle.tp_ast.specs.declared.symbols.Typed.{Typed}
-use Rattle.tp_ground.specs.Bindings.{Universe, fitting, choices, has_no_choice, extended, bindings}
+use Rattle.tp_ground.specs.Bindings.{Universe, fitting, choices, has_no_choice, bindings}
 
 pub fitting-append : (types : List Parent) (xs ys : List Declared) (p : Declared) → fitting types (xs ++ ys) p ≡ fitting types xs p ++ fitting types ys p
 fitting-append types xs ys p =
@@ -49,47 +48,6 @@ length-bindings u p ps = length-under (choices u p) (bindings u ps)
 
 split : {Y : Type 0} (F : List Typed → Y) (xs : List Typed) (i : ℕ) (x : Typed) → i < length xs → x ≡ get_or xs i x → F (drop i xs) ≡ F (x ∷ drop (i + 1) xs)
 split F xs i x lt item = at_drop_more F xs i x lt ∙ ap (λ y. F (y ∷ drop (i + 1) xs)) (sym item)
-
--- ---- bindings made longer by a name
-
--- each of some bindings with each of these behind it
-abbrev pub completed : List (List Name) → List (List Name) → List (List Name)
-completed all rests = flat_map (λ b. map (λ r. b ++ r) rests) all
-
-moved : (b : List Name) (n : Name) (rests : List (List Name)) → map (λ r. b ++ r) (map (λ r. n ∷ r) rests) ≡ map (λ r. (b ++ n ∷ []) ++ r) rests
-moved b n [] = refl
-moved b n (r ∷ rs) = ap₂ (λ (x : List Name) (xs : List (List Name)). x ∷ xs) (sym (append_assoc b (n ∷ []) r)) (moved b n rs)
-
-one_longer : (b names : List Name) (rests : List (List Name)) → map (λ r. b ++ r) (flat_map (λ n. map (λ r. n ∷ r) rests) names) ≡ completed (map (λ n. b ++ n ∷ []) names) rests
-one_longer b [] rests = refl
-one_longer b (n ∷ ns) rests =
-    map-append (λ r. b ++ r) (map (λ r. n ∷ r) rests) (flat_map (λ m. map (λ r. m ∷ r) rests) ns)
-    ∙ ap₂ (λ (xs ys : List (List Name)). xs ++ ys) (moved b n rests) (one_longer b ns rests)
-
-pub all_longer : (all : List (List Name)) (names : List Name) (rests : List (List Name)) → completed all (flat_map (λ n. map (λ r. n ∷ r) rests) names) ≡ completed (extended all names) rests
-all_longer [] names rests = refl
-all_longer (b ∷ bs) names rests =
-    ap₂ (λ (xs ys : List (List Name)). xs ++ ys) (one_longer b names rests) (all_longer bs names rests)
-    ∙ sym (flat_map-append (λ c. map (λ r. c ++ r) rests) (map (λ n. b ++ n ∷ []) names) (extended bs names))
-
-unchanged : (rests : List (List Name)) → map (λ r. [] ++ r) rests ≡ rests
-unchanged [] = refl
-unchanged (r ∷ rs) = ap (λ (xs : List (List Name)). r ∷ xs) (unchanged rs)
-
-pub completed_first : (rests : List (List Name)) → completed ([] ∷ []) rests ≡ rests
-completed_first rests = append-nil (map (λ r. [] ++ r) rests) ∙ unchanged rests
-
-pub completed_last : (all : List (List Name)) → completed all ([] ∷ []) ≡ all
-completed_last [] = refl
-completed_last (b ∷ bs) = ap₂ (λ (x : List Name) (xs : List (List Name)). x ∷ xs) (append-nil b) (completed_last bs)
-
--- a variable whose objects were put behind all bindings
-pub bound_on : (u : Universe) (variables : List Typed) (i : ℕ) (x : Typed) (all : List (List Name)) (names : List Name) (total : List (List Name)) → i < length variables → x ≡ get_or variables i x → names ≡ choices u (typed_view x) → completed all (bindings u (map typed_view (drop i variables))) ≡ total → completed (extended all names) (bindings u (map typed_view (drop (i + 1) variables))) ≡ total
-bound_on u variables i x all names total lt item is so_far =
-    sym (all_longer all names (bindings u (map typed_view (drop (i + 1) variables))))
-    ∙ ap (λ ns. completed all (flat_map (λ n. map (λ r. n ∷ r) (bindings u (map typed_view (drop (i + 1) variables)))) ns)) is
-    ∙ sym (split (λ vs. completed all (bindings u (map typed_view vs))) variables i x lt item)
-    ∙ so_far
 
 -- ---- variables that may stand for no object
 
@@ -139,7 +97,7 @@ pub too_many : (most left product total : ℕ) → left * product ≡ total → 
 too_many most zero product total e le lt = absurd (omega (arith, le))
 too_many most (suc left) product total e le lt = omega (arith, e, lt)
 
-pub past : (most p n : ℕ) → n ≡ p → (p < 18446744073709551616 → ⊥) → most < 4294967296 → most < n
+pub past : (most p n : ℕ) → n ≡ p → (p < 18446744073709551616 → ⊥) → most < 18446744073709551616 → most < n
 past most p n e big lt = by (nat_lt most n) refl
   where
     by : (b : Bool) → nat_lt most n ≡ b → most < n

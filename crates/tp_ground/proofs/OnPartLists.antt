@@ -1,5 +1,5 @@
 -- Parts and rules: those of a list, one after another.
-use Rattle.std.proofs.Common.{◌≡◌, List, [], ◌∷◌, ◌++◌, map, Bool, true, if◌then◌else◌, Bor, Vec, Box, Global, refl, sym, ap, ◌∙◌, rules}
+use Rattle.std.proofs.Common.{◌≡◌, List, [], ◌∷◌, ◌++◌, map, Bool, true, if◌then◌else◌, Vec, Box, Global, refl, sym, ap, ◌∙◌, rules}
 use Rattle.std.specs.List.{flat_map}
 use Rattle.std.proofs.lemmas.List.Concat.{flat_map-cons}
 use Rattle.tp_syntax.specs.Symbols.{Name, Declared, typed_view}
@@ -17,7 +17,6 @@ use Rattle.tp_ast.specs.declared.joined.Joined.{Joined}
 use Rattle.tp_ast.specs.declared.rule.DurationRule as the_rules
 use Rattle.tp_ast.specs.declared.rule.DurationRule.{DurationRule}
 use Rattle.tp_ground.specs.Bindings.{Universe, Env, bound}
-use Rattle.tp_ground.proofs.OnInner.{names_of}
 use Rattle.tp_ground.specs.Written.{parts_in, all_parts_in, inner, limits_in, all_limits_in, comparison_of, expression_in}
 
 module _ {A B C : Type 0} (u : Universe) (read : Env → B → List C) (seen : A → B) where
@@ -48,8 +47,8 @@ module _ {A B C : Type 0} (u : Universe) (read : Env → B → List C) (seen : A
 abbrev pub part_of : {A B C : Type 0} → Universe → (Env → B → List C) → (A → B) → Env → Joined A → List C
 part_of u read seen env p = parts_in u read env (joined_view seen p)
 
-abbrev pub part_under : {A B C : Type 0} → Universe → (Env → B → List C) → (A → B) → List Declared → Env → Joined A → Vec (Bor Name) Global → List C
-part_under u read seen vs env p b = parts_in u read (bound vs (names_of b) ++ env) (joined_view seen p)
+abbrev pub part_under : {A B C : Type 0} → Universe → (Env → B → List C) → (A → B) → List Declared → Env → Joined A → List Name → List C
+part_under u read seen vs env p b = parts_in u read (bound vs b ++ env) (joined_view seen p)
 
 abbrev pub part_in : {A B C : Type 0} → Universe → (Env → B → List C) → (A → B) → Joined A → Env → List C
 part_in u read seen p env = parts_in u read env (joined_view seen p)

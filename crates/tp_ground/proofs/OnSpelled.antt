@@ -1,20 +1,19 @@
 -- What was read of a text has names as the grammar has them, and each once.
 use Rattle.std.proofs.Common.{◌≡◌, ℕ, List, [], ◌∷◌, ◌++◌, Bool, true, false, cond, not, ◌&&◌, Option, Some, None, option_map, unwrap_or, map, codes, refl, sym, ap, ◌∙◌, subst, arith, ◌⊎◌, inl, inr}
 use Rattle.std.specs.List.{list_all, AllByRecursion}
-use Rattle.std.specs.Str.{bytes_eq}
 use Rattle.std.specs.Char.{is_ascii_alphabetic, to_ascii_lowercase}
-use Rattle.std.proofs.lemmas.Bool.{and_parts, and_from, not-true}
+use Rattle.std.proofs.lemmas.Bool.{and_parts, and_from}
 use Rattle.std.proofs.lemmas.Bool.Decides.{nat_tests}
 use Rattle.std.proofs.lemmas.List.{map-append}
 use Rattle.std.proofs.lemmas.Str.Ascii.{lowercase-lowercase}
 use Rattle.tp_text.specs.Shapes.{Shape, leaf, node, Shapes, no_shapes, shape}
 use Rattle.tp_ast.specs.Gives.{◌>>=◌, provided}
-use Rattle.tp_ast.specs.Lists.{first_of, both}
+use Rattle.tp_ast.specs.Lists.{first_of}
 use Rattle.tp_ast.specs.Words.{lower, is_word}
 use Rattle.tp_ast.specs.Terms.{is_name, is_inner, name_of}
 use Rattle.tp_ast.specs.Symbols.{Name, Declared, Parent, Form, Symbols}
-use Rattle.tp_ast.specs.TypedLists.{is_dash, begins_dash, item_at, type_at, Typing, joined, unless, typing_of, after_dash, run_of, typed_list, is_type, are_declared, has_twice, parameters_at}
-use Rattle.tp_ast.specs.Actions.{Action, Body, Field, field, fields_of, each_once, is_field_of, or_missing, body_of, action_of}
+use Rattle.tp_ast.specs.TypedLists.{is_dash, begins_dash, item_at, type_at, Typing, joined, unless, typing_of, after_dash, run_of, typed_list, are_declared, has_twice, parameters_at}
+use Rattle.tp_ast.specs.Actions.{Action, Body, field, fields_of, each_once, is_field_of, or_missing, body_of, action_of}
 use Rattle.tp_ast.specs.Domains as domains
 use Rattle.tp_ast.specs.Domains.{Domain, requirements_in, types_in, objects_in, forms_of, named_once, numeric_forms, action_at, actions_in, section, domain_with, domain_of, named, sections_of, defined}
 use Rattle.tp_ast.specs.Problems as problems

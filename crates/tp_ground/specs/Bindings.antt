@@ -1,5 +1,5 @@
 -- What variables stand for.
-use Rattle.std.specs.Prelude.{Bool, List, [], ◌∷◌, ◌++◌, length, nat_eq, map, filter, if◌then◌else◌, Option, Some, None, unwrap_or}
+use Rattle.std.specs.Prelude.{Bool, List, [], ◌∷◌, length, nat_eq, map, filter, if◌then◌else◌, Option, Some, None, unwrap_or}
 use Rattle.std.specs.List.{flat_map}
 use Rattle.std.specs.Str.{bytes_eq}
 use Rattle.tp_syntax.specs.Terms.{Argument, object, variable, Fact}
@@ -26,10 +26,6 @@ bindings u (p ∷ ps) = flat_map (λ n. map (λ rest. n ∷ rest) (bindings u ps
 -- a variable that may stand for no object
 abbrev pub has_no_choice : Universe → Declared → Bool
 has_no_choice u p = nat_eq (length (choices u p)) 0
-
--- each list with each of these names behind it
-abbrev pub extended : List (List Name) → List Name → List (List Name)
-extended all names = flat_map (λ b. map (λ n. b ++ n ∷ []) names) all
 
 pub record Bound : Type 0 where
   pub variable : Name

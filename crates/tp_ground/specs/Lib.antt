@@ -26,3 +26,4 @@ pub mod Grounding
 pub mod WrittenTasks
 pub mod OwnNames
 pub mod Readable
+pub mod Rows

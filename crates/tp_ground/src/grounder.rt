@@ -240,7 +240,9 @@ fn made(
 }
 
 /// The task of a problem of a domain: its actions written out over its objects, atoms and fluents numbered in the order in
-/// which `:init`, the goal and the ground actions mention them.
+/// which `:init`, the goal and the ground actions mention them. Takes time and memory in what is written out: a step for
+/// each variable of each binding and for each part of what stands under it. Past 2^24 bindings of quantifiers memory is
+/// refused.
 pub fn ground(
     alloc: Global,
     domain: &Domain,

@@ -10,13 +10,15 @@ ghost use Rattle.tp_ground.specs.Mentions.{of_body, of_each};
 ghost use Rattle.tp_ground.specs.ReadBack.{named_body};
 ghost use Rattle.tp_ground.specs.Lowered.{Lowers};
 ghost use Rattle.tp_ground.specs.Grounding.{ground_actions, of_action};
+ghost use Rattle.tp_ground.specs.Rows.{product, lists_of};
 
 use crate::Body;
 use crate::environment::Env;
 use crate::fault::GroundFault;
 use crate::lowering::body;
 use crate::numbering::Numbering;
-use crate::universe::{Universe, bindings, count_bindings, with_first};
+use crate::rows::{Rows, rows_of};
+use crate::universe::{Universe, count_bindings, with_first};
 use std::alloc::{AllocError, Global};
 use tp_syntax::{Action, Typed};
 
@@ -24,7 +26,7 @@ use tp_syntax::{Action, Typed};
 pub fn actions_fit(universe: &Universe, actions: &[Action], most: u32) -> bool
     ensures { result ≡ nat_le (length (ground_actions (universe_view universe.now) (map action_view actions.now))) most }
 {
-    let mut left = most;
+    let mut left = most as usize;
     for action in actions {
         match count_bindings(universe, &action.parameters, left) {
             Some(count) => left -= count,
@@ -34,20 +36,21 @@ pub fn actions_fit(universe: &Universe, actions: &[Action], most: u32) -> bool
     true
 }
 
-// The words of an action under some bindings, after those of others.
+// The words of an action under all bindings, after those of other actions.
 fn push_names(
     alloc: Global,
     numbering: &mut Numbering,
     action: &Action,
-    all: &[Vec<&str>],
+    rows: &mut Rows,
 ) -> Result<(), AllocError>
-    ensures actions { OnOk result (numbering.new.actions ≡ numbering.old.actions ++ map (λ ns. string_bytes action.now.name ∷ ns) (map (λ b. map (λ o. o.now) b.items) all.now)) }
+    ensures actions { OnOk result (numbering.new.actions ≡ numbering.old.actions ++ map (λ ns. string_bytes action.now.name ∷ ns) (product (lists_of rows.old.lists.items))) }
     ensures atoms { numbering.new.atoms ≡ numbering.old.atoms }
     ensures fluents { numbering.new.fluents ≡ numbering.old.fluents }
     ensures most { numbering.new.most ≡ numbering.old.most }
 {
-    for objects in all {
-        let words = with_first(alloc, action.name.as_str(), objects)?;
+    for place in 0..rows.count {
+        rows.turn_to(place);
+        let words = with_first(alloc, action.name.as_str(), &rows.row)?;
         numbering.push_action(&words)?;
     }
     Ok(())
@@ -66,8 +69,8 @@ pub fn name_actions(
     ensures most { numbering.new.most ≡ numbering.old.most }
 {
     for action in actions {
-        let all = bindings(alloc, universe, &action.parameters)?;
-        push_names(alloc, numbering, action, &all)?;
+        let mut rows = rows_of(alloc, universe, &action.parameters)?;
+        push_names(alloc, numbering, action, &mut rows)?;
     }
     Ok(())
 }
@@ -82,11 +85,12 @@ fn bodies(
 ) -> Result<Vec<Body>, GroundFault>
     ensures { Lowers (λ t v. map (named_body t) v.items) numbering.old result numbering.new (map (λ objects. body_in (universe_view universe.now) (bound (map typed_view parameters.now) objects) (body_view written.now)) (bindings (universe_view universe.now) (map typed_view parameters.now))) (of_each (λ objects. of_body (universe_view universe.now) (bound (map typed_view parameters.now) objects) (body_view written.now)) (bindings (universe_view universe.now) (map typed_view parameters.now))) }
 {
-    let all = bindings(alloc, universe, parameters)?;
+    let mut rows = rows_of(alloc, universe, parameters)?;
     let outside = Env::Empty;
     let mut lowered = Vec::new(alloc);
-    for objects in &all {
-        let inner = Env::Inner(&*parameters, objects, &outside);
+    for place in 0..rows.count {
+        rows.turn_to(place);
+        let inner = Env::Inner(&*parameters, &rows.row, &outside);
         lowered.push(body(alloc, universe, &inner, numbering, written)?)?;
     }
     Ok(lowered)

@@ -29,6 +29,7 @@ mod noting;
 mod numbering;
 mod numbers;
 mod objects;
+mod rows;
 mod task;
 mod universe;
 

@@ -4,7 +4,7 @@ ghost use Rattle.std.specs.Prelude.{◌≡◌, ◌≤◌, ◌<◌, ◌++◌, ◌
 ghost use Rattle.std.specs.List.{list_any, list_all};
 ghost use Rattle.tp_syntax.specs.Symbols.{typed_view, types_fit};
 ghost use Rattle.tp_syntax.specs.TypeViews.{types_view};
-ghost use Rattle.tp_ground.specs.Bindings.{fitting, choices, has_no_choice, extended, bindings};
+ghost use Rattle.tp_ground.specs.Bindings.{fitting, choices, has_no_choice, bindings};
 ghost use Rattle.tp_ground.specs.Bindings as bindings;
 ghost use Rattle.tp_ground.specs.Words.{same_words};
 ghost use Rattle.tp_ground.specs.Views.{universe_view};
@@ -176,58 +176,6 @@ pub fn with_first<'a>(
     Ok(names)
 }
 
-/// The names of a binding, and then another.
-fn with_last<'a>(
-    alloc: Global,
-    binding: &[&'a str],
-    name: &'a str,
-) -> Result<Vec<&'a str>, AllocError>
-    ensures { IfOk result (λ v. map (λ o. o.now) v.items ≡ map (λ o. o.now) binding.now ++ name.now ∷ []) }
-{
-    let mut names = Vec::new(alloc);
-    names.extend_from_slice(binding)?;
-    names.push(name)?;
-    Ok(names)
-}
-
-// A binding with each of these names behind it, after other bindings.
-fn push_with<'a>(
-    alloc: Global,
-    all: &mut Vec<Vec<&'a str>>,
-    binding: Vec<&'a str>,
-    names: &[&'a str],
-) -> Result<(), AllocError>
-    ensures { OnOk result (map (λ b. map (λ o. o.now) b.items) all.new.items ≡ map (λ b. map (λ o. o.now) b.items) all.old.items ++ map (λ n. map (λ o. o.now) binding.entry.items ++ n ∷ []) (map (λ o. o.now) names.now)) }
-{
-    let [others @ .., last] = names else {
-        return Ok(());
-    };
-    for name in others {
-        let longer = with_last(alloc, &binding, *name)?;
-        all.push(longer)?;
-    }
-    // No copy for the last: with one name each, many variables take no more memory than their names.
-    let mut longer = binding;
-    longer.push(*last)?;
-    all.push(longer)?;
-    Ok(())
-}
-
-// Each of some bindings with each of these names behind it: the name varies fastest.
-fn each_with<'a>(
-    alloc: Global,
-    bindings: Vec<Vec<&'a str>>,
-    names: &[&'a str],
-) -> Result<Vec<Vec<&'a str>>, AllocError>
-    ensures { IfOk result (λ v. map (λ b. map (λ o. o.now) b.items) v.items ≡ extended (map (λ b. map (λ o. o.now) b.items) bindings.entry.items) (map (λ o. o.now) names.now)) }
-{
-    let mut all = Vec::new(alloc);
-    for binding in bindings {
-        push_with(alloc, &mut all, binding, names)?;
-    }
-    Ok(all)
-}
-
 // How many objects a variable may stand for, looked for among all.
 fn count_all(universe: &Universe, variable: &Typed) -> usize
     ensures { result ≡ length (choices (universe_view universe.now) (typed_view variable.now)) }
@@ -264,28 +212,8 @@ fn one_has_no_choice(universe: &Universe, variables: &[Typed]) -> bool
     false
 }
 
-/// All type-correct bindings of variables, the first of which varies slowest.
-pub fn bindings<'a>(
-    alloc: Global,
-    universe: &Universe<'a>,
-    variables: &[Typed],
-) -> Result<Vec<Vec<&'a str>>, AllocError>
-    ensures { IfOk result (λ v. map (λ b. map (λ o. o.now) b.items) v.items ≡ bindings (universe_view universe.now) (map typed_view variables.now)) }
-{
-    let mut all = Vec::new(alloc);
-    if one_has_no_choice(universe, variables) {
-        return Ok(all);
-    }
-    all.push(Vec::new(alloc))?;
-    for variable in variables {
-        let names = choices(alloc, universe, variable)?;
-        all = each_with(alloc, all, &names)?;
-    }
-    Ok(all)
-}
-
 /// How many bindings variables have, if there are no more than so many.
-pub fn count_bindings(universe: &Universe, variables: &[Typed], most: u32) -> Option<u32>
+pub fn count_bindings(universe: &Universe, variables: &[Typed], most: usize) -> Option<usize>
     ensures { MatchOption result (most < length (bindings (universe_view universe.now) (map typed_view variables.now))) (λ n. (n ≡ length (bindings (universe_view universe.now) (map typed_view variables.now))) × (n ≤ most)) }
 {
     if one_has_no_choice(universe, variables) {
@@ -294,14 +222,13 @@ pub fn count_bindings(universe: &Universe, variables: &[Typed], most: u32) -> Op
     if most == 0 {
         return None;
     }
-    let mut count = 1u32;
+    let mut count = 1usize;
     for variable in variables {
-        let here = count_choices(universe, variable);
-        let product = here.checked_mul(count as usize)?;
-        if product > most as usize {
+        let product = count_choices(universe, variable).checked_mul(count)?;
+        if product > most {
             return None;
         }
-        count = product as u32;
+        count = product;
     }
     Some(count)
 }

@@ -15,7 +15,8 @@ ghost use Rattle.tp_ground.specs.Lowered.{Lowers};
 use crate::environment::Env;
 use crate::fault::GroundFault;
 use crate::numbering::Numbering;
-use crate::universe::{Universe, bindings};
+use crate::rows::rows_of;
+use crate::universe::Universe;
 use std::alloc::Global;
 use tp_syntax::{Joined, Mark, Typed};
 
@@ -70,6 +71,22 @@ fn all_parts<P: Part>(
     Ok(lowered)
 }
 
+// Parts under one of the bindings of variables.
+#[cycle(joined)]
+fn under_one<P: Part>(
+    alloc: Global,
+    universe: &Universe,
+    env: &Env,
+    mark: Mark,
+    numbering: &mut Numbering,
+    part: &Joined<P>,
+) -> Result<Vec<P::Lowered>, GroundFault>
+    ensures { Lowers (λ t v. map (P.named t) v.items) numbering.old result numbering.new (parts_in (universe_view universe.now) (P.written (universe_view universe.now) mark) (env_view env.now) (joined_view P.seen part.now)) (of_each P.mentions (parts_in (universe_view universe.now) (P.written (universe_view universe.now) mark) (env_view env.now) (joined_view P.seen part.now))) }
+{
+    numbering.note_binding()?;
+    joined(alloc, universe, env, mark, numbering, part)
+}
+
 // Parts under each binding of variables.
 #[cycle(joined)]
 fn under_each<P: Part>(
@@ -83,11 +100,12 @@ fn under_each<P: Part>(
 ) -> Result<Vec<P::Lowered>, GroundFault>
     ensures { Lowers (λ t v. map (P.named t) v.items) numbering.old result numbering.new (flat_map (λ e. parts_in (universe_view universe.now) (P.written (universe_view universe.now) mark) e (joined_view P.seen part.now)) (inner (universe_view universe.now) (env_view env.now) (map typed_view variables.now))) (of_each P.mentions (flat_map (λ e. parts_in (universe_view universe.now) (P.written (universe_view universe.now) mark) e (joined_view P.seen part.now)) (inner (universe_view universe.now) (env_view env.now) (map typed_view variables.now)))) }
 {
-    let all = bindings(alloc, universe, variables)?;
+    let mut rows = rows_of(alloc, universe, variables)?;
     let mut lowered = Vec::new(alloc);
-    for objects in &all {
-        let inner = Env::Inner(&*variables, objects, &*env);
-        let mut more = joined(alloc, universe, &inner, mark, numbering, part)?;
+    for place in 0..rows.count {
+        rows.turn_to(place);
+        let inner = Env::Inner(&*variables, &rows.row, &*env);
+        let mut more = under_one(alloc, universe, &inner, mark, numbering, part)?;
         lowered.append(&mut more)?;
     }
     Ok(lowered)

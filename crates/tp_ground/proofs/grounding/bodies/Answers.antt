@@ -1,41 +1,54 @@
-use Rattle.std.proofs.Common.{map, refl, sym, ap, ◌∙◌}
+use Rattle.std.proofs.Common.{List, Bor, Vec, Global, map, refl, ap, ◌∙◌}
 use Rattle.std.proofs.lemmas.List.{take_all}
-use Rattle.tp_syntax.specs.Symbols.{typed_view}
+use Rattle.tp_syntax.specs.Symbols.{Name, typed_view}
 use Rattle.tp_syntax.specs.DomainViews.{body_view}
-use Rattle.tp_ground.specs.Bindings.{Env}
+use Rattle.tp_ground.specs.Bindings.{Env, bindings}
+use Rattle.tp_ground.specs.Rows.{product, lists_of}
+use Rattle.tp_ground.proofs.OnRows.{row_there, within, behind_all}
 use Rattle.tp_ground.specs.Views.{universe_view}
 use Rattle.tp_ground.specs.Written.{body_in}
 use Rattle.tp_ground.specs.Mentions.{of_body, of_each}
 use Rattle.tp_ground.specs.ReadBack.{named_body}
-use Rattle.tp_ground.proofs.OnInner.{names_of}
 use Rattle.tp_ground.proofs.OnLowered.{lowered_same}
-use Rattle.tp_ground.proofs.OnActions.{every, each_push, each_stopped, plain_env, body_under, mentions_under, all_bodies, all_mentions}
+use Rattle.tp_ground.proofs.OnActions.{every, each_push, each_stopped, plain_env, body_under, mentions_under}
 use Rattle.tp_ground.proofs.grounding.bodies.Goals as goal
 
-pub loop-objects-preserved : goal.loop-objects-preserved
-loop-objects-preserved c =
+pub loop-place-preserved : goal.loop-place-preserved
+loop-place-preserved c =
     let u = universe_view c.args.universe.now in
-    let vs = map typed_view c.args.parameters.now in
     let x = body_view c.args.written.now in
-    let env = plain_env _ _ _ c.objects-item.result refl c.deref.ensures.value in
-    each_push named_body (mentions_under u vs x) c.deref-objects-items.result.now c.loop-objects.objects-index c.objects-item.result c.loop-objects-test.true c.objects-item.is _ _ _ _ _ (body_under u vs x) _ _ _ c.in_ok-push.ensures.items (ap (λ (e : Env). body_in u e x) env) (ap (λ (e : Env). of_body u e x) env) c.loop-objects.invariant c.in_ok-body.ensures
+    let vs = map typed_view c.args.parameters.now in
+    let xs = bindings u vs in
+    let place = c.loop-place.place in
+    let row : List Name = map (λ (o : Bor Name). o.now) c.turn_to.new.self.row.items in
+    let lt = within (product (lists_of c.loop-place.rows.lists.items)) xs place _ _ c.loop-place.invariant.lists c.loop-place-test.true c.loop-place.invariant.count c.loop-place.rows.counted in
+    let item = row_there (product (lists_of c.loop-place.rows.lists.items)) xs place row c.loop-place.invariant.lists lt.0 c.turn_to.ensures.row in
+    let names = ap (map (λ (o : Bor Name). o.now)) c.deref.ensures.value in
+    let env = plain_env _ _ _ row refl names in
+    record {
+      lowered = each_push named_body (mentions_under u vs x) xs place row lt.1 item _ _ _ _ _ (body_under u vs x) _ _ _ c.in_ok-push.ensures.items (ap (λ (e : Env). body_in u e x) env) (ap (λ (e : Env). of_body u e x) env) c.loop-place.invariant.lowered c.in_ok-body.ensures;
+      lists = ap (λ (v : Vec (Vec (Bor Name) Global) Global). product (lists_of v.items)) c.turn_to.ensures.lists ∙ c.loop-place.invariant.lists;
+      count = c.turn_to.ensures.count ∙ c.loop-place.invariant.count;
+    }
 
 pub returns-in_err-body : goal.returns-in_err-body
 returns-in_err-body c =
     let u = universe_view c.args.universe.now in
-    let vs = map typed_view c.args.parameters.now in
     let x = body_view c.args.written.now in
-    let xs = c.deref-objects-items.result.now in
-    each_stopped (every named_body) (mentions_under u vs x) xs c.loop-objects.objects-index c.objects-item.result c.loop-objects-test.true c.objects-item.is _ _ _ _ _ c.from_residual-in_err-body.ensures.1 _ _ _ (sym (all_mentions u vs x xs (ap (map names_of) c.deref-objects-items.ensures.value ∙ c.in_ok-all.ensures))) (ap (λ (e : Env). of_body u e x) (plain_env _ _ _ c.objects-item.result refl c.deref.ensures.value)) c.loop-objects.invariant c.in_err-body.ensures
+    let vs = map typed_view c.args.parameters.now in
+    let xs = bindings u vs in
+    let place = c.loop-place.place in
+    let row : List Name = map (λ (o : Bor Name). o.now) c.turn_to.new.self.row.items in
+    let lt = within (product (lists_of c.loop-place.rows.lists.items)) xs place _ _ c.loop-place.invariant.lists c.loop-place-test.true c.loop-place.invariant.count c.loop-place.rows.counted in
+    let item = row_there (product (lists_of c.loop-place.rows.lists.items)) xs place row c.loop-place.invariant.lists lt.0 c.turn_to.ensures.row in
+    let names = ap (map (λ (o : Bor Name). o.now)) c.deref.ensures.value in
+    each_stopped (every named_body) (mentions_under u vs x) xs place row lt.1 item _ _ _ _ _ c.from_residual-in_err-body.ensures.1 _ _ _ refl (ap (λ (e : Env). of_body u e x) (plain_env _ _ _ row refl names)) c.loop-place.invariant.lowered c.in_err-body.ensures
 
 pub returns : goal.returns
 returns c =
     let u = universe_view c.args.universe.now in
-    let vs = map typed_view c.args.parameters.now in
     let x = body_view c.args.written.now in
-    let xs = c.deref-objects-items.result.now in
-    let is = ap (map names_of) c.deref-objects-items.ensures.value ∙ c.in_ok-all.ensures in
-    lowered_same _ _
-    (ap (map (body_under u vs x)) (take_all c.loop-objects.objects-index xs c.loop-objects-test.false) ∙ all_bodies u vs x xs is)
-    (ap (of_each (mentions_under u vs x)) (take_all c.loop-objects.objects-index xs c.loop-objects-test.false) ∙ all_mentions u vs x xs is)
-    c.loop-objects.invariant
+    let vs = map typed_view c.args.parameters.now in
+    let xs = bindings u vs in
+    let ended = behind_all (product (lists_of c.loop-place.rows.lists.items)) xs c.loop-place.place _ _ c.loop-place.invariant.lists c.loop-place-test.false c.loop-place.invariant.count c.loop-place.rows.counted in
+    lowered_same _ _ (ap (map (body_under u vs x)) (take_all c.loop-place.place xs ended)) (ap (of_each (mentions_under u vs x)) (take_all c.loop-place.place xs ended)) c.loop-place.invariant.lowered

@@ -1,12 +1,18 @@
-use Rattle.std.proofs.Common.{map, take}
+use Rattle.std.proofs.Common.{◌≡◌, map, take}
 use Rattle.tp_syntax.specs.Symbols.{typed_view}
 use Rattle.tp_syntax.specs.DomainViews.{body_view}
 use Rattle.tp_ground.specs.Views.{universe_view}
+use Rattle.tp_ground.specs.Bindings.{bindings}
+use Rattle.tp_ground.specs.Rows.{product, lists_of}
 use Rattle.tp_ground.specs.Mentions.{of_each}
 use Rattle.tp_ground.specs.ReadBack.{named_body}
 use Rattle.tp_ground.specs.Lowered.{IsLowered}
 use Rattle.tp_ground.proofs.OnActions.{every, body_under, mentions_under}
 use Rattle.tp_ground.proofs.grounding.bodies.Given as goal
 
-abbrev pub invariant-loop-objects : goal.invariant-loop-objects
-invariant-loop-objects l = IsLowered (every named_body) l.fn.numbering l.numbering l.lowered (map (body_under (universe_view l.universe) (map typed_view l.parameters) (body_view l.written)) (take l.objects-index l.objects-items)) (of_each (mentions_under (universe_view l.universe) (map typed_view l.parameters) (body_view l.written)) (take l.objects-index l.objects-items))
+abbrev pub invariant-loop-place : goal.invariant-loop-place
+invariant-loop-place l = record {
+  lowered : IsLowered (every named_body) l.fn.numbering l.numbering l.lowered (map (body_under (universe_view l.universe) (map typed_view l.parameters) (body_view l.written)) (take l.place (bindings (universe_view l.universe) (map typed_view l.parameters)))) (of_each (mentions_under (universe_view l.universe) (map typed_view l.parameters) (body_view l.written)) (take l.place (bindings (universe_view l.universe) (map typed_view l.parameters))));
+  lists : product (lists_of l.rows.lists.items) ≡ bindings (universe_view l.universe) (map typed_view l.parameters);
+  count : l.rows.count ≡ l.initial.rows.count;
+}

@@ -1,4 +1,4 @@
-use Rattle.std.proofs.Common.{ℕ, List, Bor, Vec, Global, ap, map, ◌∙◌}
+use Rattle.std.proofs.Common.{ap, map, ◌∙◌}
 use Rattle.tp_syntax.specs.Symbols.{typed_view}
 use Rattle.tp_ground.specs.Bindings.{bindings}
 use Rattle.tp_ground.specs.Views.{universe_view}
@@ -9,7 +9,7 @@ pub loop-action-preserved : goal.loop-action-preserved
 loop-action-preserved c = record {
   actions =
       named_on (universe_view c.args.universe.now) c.args.actions.now c.loop-action.action-index c.action-item.result c.loop-action.numbering.actions c.push_names.new.numbering.actions _ _ c.loop-action-test.true c.action-item.is
-      (ap (map (λ (b : Vec (Bor (List ℕ)) Global). map (λ (o : Bor (List ℕ)). o.now) b.items)) c.deref-in-loop-action.ensures.value ∙ c.in_ok-all.ensures ∙ ap (λ ps. bindings (universe_view c.args.universe.now) (map typed_view ps)) c.deref.ensures.value)
+      (c.in_ok-rows.ensures ∙ ap (λ ps. bindings (universe_view c.args.universe.now) (map typed_view ps)) c.deref.ensures.value)
       c.in_ok-push_names.ensures.actions c.loop-action.invariant.actions;
   atoms = c.push_names.ensures.atoms ∙ c.loop-action.invariant.atoms;
   fluents = c.push_names.ensures.fluents ∙ c.loop-action.invariant.fluents;

@@ -22,10 +22,10 @@ returns-in_err-product c =
     let u = universe_view c.args.universe.now in
     let i = c.loop-variable.variable-index in
     let left : ℕ = length (bindings u (map typed_view (drop (i + 1) c.args.variables.now))) in
-    let product : ℕ = c.count_choices-here.result * c.loop-variable.count in
+    let product : ℕ = c.count_choices.result * c.loop-variable.count in
     rw c.from_residual.ensures
     (too_many c.args.most left product (length (bindings u (map typed_view c.args.variables.now)))
-    (counted_on u c.args.variables.now i c.variable-item.result c.count_choices-here.result c.loop-variable.count _ c.loop-variable-test.true c.variable-item.is c.count_choices-here.ensures c.loop-variable.invariant.counted)
+    (counted_on u c.args.variables.now i c.variable-item.result c.count_choices.result c.loop-variable.count _ c.loop-variable-test.true c.variable-item.is c.count_choices.ensures c.loop-variable.invariant.counted)
     (some_bindings u (map typed_view (drop (i + 1) c.args.variables.now)) (choices_on u c.args.variables.now i c.variable-item.result c.loop-variable-test.true c.variable-item.is c.loop-variable.invariant.choices))
     (past c.args.most product product refl c.in_err-product.ensures c.ranges.most.fits))
 
@@ -34,12 +34,12 @@ returns-then-product-most c =
     let u = universe_view c.args.universe.now in
     let i = c.loop-variable.variable-index in
     let left : ℕ = length (bindings u (map typed_view (drop (i + 1) c.args.variables.now))) in
-    let product : ℕ = c.count_choices-here.result * c.loop-variable.count in
+    let product : ℕ = c.count_choices.result * c.loop-variable.count in
     let is = c.in_ok-product.ensures.1 in
     let large = c.if-product-most.true in
     let more : c.args.most < product = omega (arith, is, large) in
     too_many c.args.most left product (length (bindings u (map typed_view c.args.variables.now)))
-    (counted_on u c.args.variables.now i c.variable-item.result c.count_choices-here.result c.loop-variable.count _ c.loop-variable-test.true c.variable-item.is c.count_choices-here.ensures c.loop-variable.invariant.counted)
+    (counted_on u c.args.variables.now i c.variable-item.result c.count_choices.result c.loop-variable.count _ c.loop-variable-test.true c.variable-item.is c.count_choices.ensures c.loop-variable.invariant.counted)
     (some_bindings u (map typed_view (drop (i + 1) c.args.variables.now)) (choices_on u c.args.variables.now i c.variable-item.result c.loop-variable-test.true c.variable-item.is c.loop-variable.invariant.choices))
     more
 
@@ -48,7 +48,7 @@ loop-variable-preserved c =
     let u = universe_view c.args.universe.now in
     let i = c.loop-variable.variable-index in
     record {
-      counted = ap (λ (k : ℕ). length (bindings u (map typed_view (drop (i + 1) c.args.variables.now))) * k) c.in_ok-product.ensures.1 ∙ counted_on u c.args.variables.now i c.variable-item.result c.count_choices-here.result c.loop-variable.count _ c.loop-variable-test.true c.variable-item.is c.count_choices-here.ensures c.loop-variable.invariant.counted;
+      counted = ap (λ (k : ℕ). length (bindings u (map typed_view (drop (i + 1) c.args.variables.now))) * k) c.in_ok-product.ensures.1 ∙ counted_on u c.args.variables.now i c.variable-item.result c.count_choices.result c.loop-variable.count _ c.loop-variable-test.true c.variable-item.is c.count_choices.ensures c.loop-variable.invariant.counted;
       few = omega arith;
       choices = choices_on u c.args.variables.now i c.variable-item.result c.loop-variable-test.true c.variable-item.is c.loop-variable.invariant.choices;
     }

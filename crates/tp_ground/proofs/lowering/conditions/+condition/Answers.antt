@@ -1,16 +1,18 @@
-use Rattle.std.proofs.Common.{ℕ, List, Vec, Bor, Global, map, ◌++◌, refl, sym, ap, ◌∙◌}
+use Rattle.std.proofs.Common.{List, Vec, Bor, Global, map, ◌++◌, refl, sym, ap, ◌∙◌}
 use Rattle.tp_syntax.specs.Terms.{term_view}
-use Rattle.tp_syntax.specs.Symbols.{typed_view}
+use Rattle.tp_syntax.specs.Symbols.{Name, typed_view}
 use Rattle.tp_syntax.specs.CondViews.{cond_view}
 use Rattle.tp_ast.specs.declared.cond.Cond as syntax
-use Rattle.tp_ground.specs.Bindings.{Env, bound}
+use Rattle.tp_ground.specs.Bindings.{Env, bound, bindings}
+use Rattle.tp_ground.specs.Rows.{product, lists_of}
+use Rattle.tp_ground.proofs.OnRows.{row_there, within, behind_all}
 use Rattle.tp_ground.specs.Views.{env_view, universe_view}
 use Rattle.tp_ground.specs.Written.{negation, either, condition_in}
 use Rattle.tp_ground.specs.Mentions.{of_condition}
 use Rattle.tp_ground.specs.ReadBack.{named_condition}
 use Rattle.tp_ground.proofs.Along.{map_next, map_ended}
 use Rattle.tp_ground.proofs.Stopped.{map_stopped, map_stopped_as}
-use Rattle.tp_ground.proofs.OnInner.{names_of, map_under, inner_env}
+use Rattle.tp_ground.proofs.OnInner.{map_under, inner_env}
 use Rattle.tp_ground.proofs.OnConditions.{and_of, or_of, imply_of, forall_of, exists_of, same_of, named_Not, all_lowered, any_lowered, all_failed, any_failed, same_lowered, either_mentions}
 use Rattle.tp_ground.proofs.OnLowered.{lowered_as, as_written, written_as, all_push, all_same, first_failed, second_failed, both_lowered}
 use Rattle.tp_ground.proofs.lowering.conditions.+condition.Goals as goal
@@ -30,35 +32,52 @@ conditions-returns t c =
     let f = λ (x : syntax.Cond). condition_in (universe_view c.args.universe.now) (env_view c.args.env.now) (cond_view x) in
     all_same named_condition of_condition _ _ _ _ _ (map_ended f c.args.conds.now c.loop-cond.cond-index c.loop-cond-test.false) c.loop-cond.invariant
 
-pub under_each-loop-objects-preserved : goal.under_each-loop-objects-preserved
-under_each-loop-objects-preserved t c =
+pub under_each-loop-place-preserved : goal.under_each-loop-place-preserved
+under_each-loop-place-preserved t c =
     let u = universe_view c.args.universe.now in
     let x = cond_view c.args.cond.now in
-    let f = λ (b : Vec (Bor (List ℕ)) Global). condition_in u (bound (map typed_view c.args.variables.now) (names_of b) ++ env_view c.args.env.now) x in
-    all_push named_condition of_condition _ _ _ _ _ _ _ _ _ c.in_ok-push.ensures.items (map_next f c.deref-objects-items.result.now c.loop-objects.objects-index c.objects-item.result c.loop-objects-test.true c.objects-item.is) c.loop-objects.invariant
-    (as_written of_condition _ _ (ap (λ (e : Env). condition_in u e x) (sym (inner_env _ _ _ c.objects-item.result c.deref.ensures.value))) c.in_ok-condition.ensures)
+    let vs = map typed_view c.args.variables.now in
+    let xs = bindings u vs in
+    let place = c.loop-place.place in
+    let row : List Name = map (λ (o : Bor Name). o.now) c.turn_to.new.self.row.items in
+    let lt = within (product (lists_of c.loop-place.rows.lists.items)) xs place _ _ c.loop-place.invariant.lists c.loop-place-test.true c.loop-place.invariant.count c.loop-place.rows.counted in
+    let item = row_there (product (lists_of c.loop-place.rows.lists.items)) xs place row c.loop-place.invariant.lists lt.0 c.turn_to.ensures.row in
+    let names = ap (map (λ (o : Bor Name). o.now)) c.deref.ensures.value in
+    let f = λ (b : List Name). condition_in u (bound vs b ++ env_view c.args.env.now) x in
+    record {
+      lowered =
+          all_push named_condition of_condition _ _ _ _ _ _ _ _ _ c.in_ok-push.ensures.items (map_next f xs place row lt.1 item) c.loop-place.invariant.lowered
+          (as_written of_condition _ _ (ap (λ (e : Env). condition_in u e x) (sym (inner_env _ _ _ row names))) c.in_ok-under_one.ensures);
+      lists = ap (λ (v : Vec (Vec (Bor Name) Global) Global). product (lists_of v.items)) c.turn_to.ensures.lists ∙ c.loop-place.invariant.lists;
+      count = c.turn_to.ensures.count ∙ c.loop-place.invariant.count;
+    }
 
-pub under_each-returns-in_err-condition : goal.under_each-returns-in_err-condition
-under_each-returns-in_err-condition t c =
+pub under_each-returns-in_err-under_one : goal.under_each-returns-in_err-under_one
+under_each-returns-in_err-under_one t c =
     let u = universe_view c.args.universe.now in
+    let x = cond_view c.args.cond.now in
     let env = env_view c.args.env.now in
     let vs = map typed_view c.args.variables.now in
-    let x = cond_view c.args.cond.now in
-    let xs = c.deref-objects-items.result.now in
-    let f = λ (b : Vec (Bor (List ℕ)) Global). condition_in u (bound vs (names_of b) ++ env) x in
-    map_stopped_as named_condition of_condition xs c.loop-objects.objects-index c.objects-item.result c.loop-objects-test.true c.objects-item.is _ _ _ _ _ _ _ c.from_residual-in_err-condition.ensures.1 f _ (ap (λ (e : Env). condition_in u e x) (inner_env _ _ _ c.objects-item.result c.deref.ensures.value))
-    (sym (map_under u env vs (λ (e : Env). condition_in u e x) xs (ap (map names_of) c.deref-objects-items.ensures.value ∙ c.in_ok-all.ensures)))
-    c.loop-objects.invariant c.in_err-condition.ensures
+    let xs = bindings u vs in
+    let place = c.loop-place.place in
+    let row : List Name = map (λ (o : Bor Name). o.now) c.turn_to.new.self.row.items in
+    let lt = within (product (lists_of c.loop-place.rows.lists.items)) xs place _ _ c.loop-place.invariant.lists c.loop-place-test.true c.loop-place.invariant.count c.loop-place.rows.counted in
+    let item = row_there (product (lists_of c.loop-place.rows.lists.items)) xs place row c.loop-place.invariant.lists lt.0 c.turn_to.ensures.row in
+    let names = ap (map (λ (o : Bor Name). o.now)) c.deref.ensures.value in
+    let f = λ (b : List Name). condition_in u (bound vs b ++ env) x in
+    map_stopped_as named_condition of_condition xs place row lt.1 item _ _ _ _ _ _ _ c.from_residual-in_err-under_one.ensures.1 f _ (ap (λ (e : Env). condition_in u e x) (inner_env _ _ _ row names))
+    (sym (map_under env vs u (λ (e : Env). condition_in u e x))) c.loop-place.invariant.lowered c.in_err-under_one.ensures
 
 pub under_each-returns : goal.under_each-returns
 under_each-returns t c =
     let u = universe_view c.args.universe.now in
+    let x = cond_view c.args.cond.now in
     let env = env_view c.args.env.now in
     let vs = map typed_view c.args.variables.now in
-    let x = cond_view c.args.cond.now in
-    let xs = c.deref-objects-items.result.now in
-    let f = λ (b : Vec (Bor (List ℕ)) Global). condition_in u (bound vs (names_of b) ++ env) x in
-    all_same named_condition of_condition _ _ _ _ _ (map_ended f xs c.loop-objects.objects-index c.loop-objects-test.false ∙ map_under u env vs (λ (e : Env). condition_in u e x) xs (ap (map names_of) c.deref-objects-items.ensures.value ∙ c.in_ok-all.ensures)) c.loop-objects.invariant
+    let xs = bindings u vs in
+    let f = λ (b : List Name). condition_in u (bound vs b ++ env) x in
+    let ended = behind_all (product (lists_of c.loop-place.rows.lists.items)) xs c.loop-place.place _ _ c.loop-place.invariant.lists c.loop-place-test.false c.loop-place.invariant.count c.loop-place.rows.counted in
+    all_same named_condition of_condition _ _ _ _ _ (map_ended f xs c.loop-place.place ended ∙ map_under env vs u (λ (e : Env). condition_in u e x)) c.loop-place.invariant.lowered
 
 pub negated-returns : goal.negated-returns
 negated-returns t c = lowered_as negation _ (λ u. named_Not u _ ∙ ap (λ z. negation (named_condition u z)) c.in_ok-new.ensures.ok) c.in_ok-lowered.ensures

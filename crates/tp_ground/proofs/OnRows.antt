@@ -1,0 +1,148 @@
+-- The row at a place, name by name.
+use Rattle.std.proofs.Common.{◌≡◌, ℕ, zero, suc, ◌+◌, ◌*◌, ◌/◌, ◌%◌, ◌<◌, ◌≤◌, Bor, Vec, Global, List, [], ◌∷◌, ◌++◌, map, length, get_or, take, drop, refl, sym, ap, subst, ◌∙◌, arith, length-append, append_assoc, append-nil}
+use Rattle.std.proofs.Math.Nat.{mul-div_cancel_left, div-lt_iff_lt-mul, mod-lt}
+use Rattle.std.proofs.lemmas.Nat.{div-add-mod'}
+use Rattle.std.specs.List.{flat_map}
+use Rattle.std.proofs.lemmas.List.{map-append, length-map, take_all, drop_all, get_or_append_left, get_or-append-add, get_or-map, at_drop_more}
+use Rattle.tp_syntax.specs.Symbols.{Declared}
+use Rattle.tp_ground.specs.Bindings.{Universe, choices, bindings}
+use Rattle.tp_ground.specs.Rows.{product, names_of, lists_of}
+
+abbrev pub Row : Type 0
+Row = List (List ℕ)
+
+length-rows : (ns : Row) (rs : List Row) → length (flat_map (λ n. map (λ r. n ∷ r) rs) ns) ≡ length ns * length rs
+length-rows [] rs = omega arith
+length-rows (n ∷ ns) rs =
+    length-append (map (λ r. n ∷ r) rs) (flat_map (λ m. map (λ r. m ∷ r) rs) ns)
+    ∙ (let front : length (map (λ r. n ∷ r) rs) ≡ length rs = length-map rs (λ r. n ∷ r) in
+    let back : length (flat_map (λ m. map (λ r. m ∷ r) rs) ns) ≡ length ns * length rs = length-rows ns rs in
+    omega arith)
+
+pub length-product : (ns : Row) (nss : List Row) → length (product (ns ∷ nss)) ≡ length ns * length (product nss)
+length-product ns nss = length-rows ns (product nss)
+
+row_at : (ns : Row) (rs : List Row) (q m : ℕ) → q < length ns → m < length rs → get_or (flat_map (λ n. map (λ r. n ∷ r) rs) ns) (q * length rs + m) [] ≡ get_or ns q [] ∷ get_or rs m []
+row_at [] rs q m lt le = absurd (omega arith)
+row_at (n ∷ ns) rs zero m lt le =
+    let front : length (map (λ r. n ∷ r) rs) ≡ length rs = length-map rs (λ r. n ∷ r) in
+    ap (λ k. get_or (map (λ r. n ∷ r) rs ++ flat_map (λ m. map (λ r. m ∷ r) rs) ns) k []) (let e : 0 * length rs + m ≡ m = omega arith in e)
+    ∙ get_or_append_left (map (λ r. n ∷ r) rs) (flat_map (λ m. map (λ r. m ∷ r) rs) ns) [] m (omega arith)
+    ∙ get_or-map (λ r. n ∷ r) rs m [] [] le
+row_at (n ∷ ns) rs (suc q) m lt le =
+    let front : length (map (λ r. n ∷ r) rs) ≡ length rs = length-map rs (λ r. n ∷ r) in
+    ap (λ k. get_or (map (λ r. n ∷ r) rs ++ flat_map (λ m. map (λ r. m ∷ r) rs) ns) k []) (let e : suc q * length rs + m ≡ length (map (λ r. n ∷ r) rs) + (q * length rs + m) = omega arith in e)
+    ∙ get_or-append-add (map (λ r. n ∷ r) rs) (flat_map (λ m. map (λ r. m ∷ r) rs) ns) (q * length rs + m) []
+    ∙ row_at ns rs q m (omega arith) le
+
+-- what a place among rows says of the first name and of the rest
+pub record Parts (place names more : ℕ) : Type 0 where
+  pub some_names : 0 < names
+  pub some_more : 0 < more
+  pub left : names * more / names ≡ more
+  pub within : place / more < names
+  pub behind : place % more < more
+  pub whole : place / more * more + place % more ≡ place
+
+some_of : (a b : ℕ) → 0 < a * b → (0 < a) × (0 < b)
+some_of zero b lt = absurd (omega arith)
+some_of (suc a) zero lt = absurd (omega arith)
+some_of (suc a) (suc b) lt = (omega arith, omega arith)
+
+parts : (place names more : ℕ) → place < names * more → Parts place names more
+parts place names more lt =
+    let some = some_of names more (omega (arith, lt)) in
+    record {
+      some_names = some.0;
+      some_more = some.1;
+      left = mul-div_cancel_left more some.0;
+      within = (div-lt_iff_lt-mul some.1).1 lt;
+      behind = mod-lt place some.1;
+      whole = div-add-mod' place more;
+    }
+
+module _ (lists : List (Vec (Bor (List ℕ)) Global)) (i : ℕ) (x : Vec (Bor (List ℕ)) Global) (lt : i < length lists) (item : x ≡ get_or lists i x) where
+  abbrev behind_it : List Row
+  behind_it = product (lists_of (drop (i + 1) lists))
+
+  split : product (lists_of (drop i lists)) ≡ flat_map (λ n. map (λ r. n ∷ r) behind_it) (names_of x)
+  split =
+      at_drop_more (λ vs. product (lists_of vs)) lists i x lt
+      ∙ ap (λ (y : Vec (Bor (List ℕ)) Global). product (lists_of (y ∷ drop (i + 1) lists))) (sym item)
+
+  module _ (names : List (Bor (List ℕ))) (same : names ≡ x.items) where
+    -- how many rows are left behind a list
+    pub rows_left : (left rest : ℕ) → left ≡ length (product (lists_of (drop i lists))) → rest < left → Parts rest (length names) (length behind_it) × (left / length names ≡ length behind_it)
+    rows_left left rest counted within =
+        let whole : left ≡ length names * length behind_it =
+        counted ∙ ap length split ∙ length-rows (names_of x) behind_it ∙ ap (λ n. n * length behind_it) (length-map x.items (λ o. o.now) ∙ ap length (sym same)) in
+        let are = parts rest (length names) (length behind_it) (subst (λ n. rest < n) whole within) in
+        (are, ap (λ n. n / length names) whole ∙ are.left)
+
+    -- the row so far with one more name
+    pub row_on : (row new : List (Bor (List ℕ))) (name d : Bor (List ℕ)) (rest : ℕ) (total : Row) → Parts rest (length names) (length behind_it) → name ≡ get_or names (rest / length behind_it) d → take (i + 1) new ≡ take i row ++ name ∷ [] → map (λ o. o.now) (take i row) ++ get_or (product (lists_of (drop i lists))) rest [] ≡ total → map (λ o. o.now) (take (i + 1) new) ++ get_or behind_it (rest % length behind_it) [] ≡ total
+    row_on row new name d rest total are is longer so_far =
+        ap (λ ns. map (λ (o : Bor (List ℕ)). o.now) ns ++ get_or behind_it (rest % length behind_it) []) longer
+        ∙ ap (λ ns. ns ++ get_or behind_it (rest % length behind_it) []) (map-append (λ (o : Bor (List ℕ)). o.now) (take i row) (name ∷ []))
+        ∙ append_assoc (map (λ (o : Bor (List ℕ)). o.now) (take i row)) (name.now ∷ []) (get_or behind_it (rest % length behind_it) [])
+        ∙ ap (λ ns. map (λ (o : Bor (List ℕ)). o.now) (take i row) ++ ns) (sym here)
+        ∙ so_far
+      where
+        all_same : map (λ (o : Bor (List ℕ)). o.now) names ≡ names_of x
+        all_same = ap (map (λ (o : Bor (List ℕ)). o.now)) same
+
+        first : get_or (names_of x) (rest / length behind_it) [] ≡ name.now
+        first =
+            ap (λ ns. get_or ns (rest / length behind_it) []) (sym all_same)
+            ∙ get_or-map (λ (o : Bor (List ℕ)). o.now) names (rest / length behind_it) d [] are.within
+            ∙ ap (λ (o : Bor (List ℕ)). o.now) (sym is)
+
+        within : rest / length behind_it < length (names_of x)
+        within = subst (λ n. rest / length behind_it < n) (sym (length-map names (λ (o : Bor (List ℕ)). o.now)) ∙ ap length all_same) are.within
+
+        here : get_or (product (lists_of (drop i lists))) rest [] ≡ name.now ∷ get_or behind_it (rest % length behind_it) []
+        here =
+            ap (λ rs. get_or rs rest []) split
+            ∙ ap (λ k. get_or (flat_map (λ n. map (λ r. n ∷ r) behind_it) (names_of x)) k []) (sym are.whole)
+            ∙ row_at (names_of x) behind_it (rest / length behind_it) (rest % length behind_it) within are.behind
+            ∙ ap (λ n. n ∷ get_or behind_it (rest % length behind_it) []) first
+
+-- the row at the last list
+pub row_whole : (lists : List (Vec (Bor (List ℕ)) Global)) (i : ℕ) (row : List (Bor (List ℕ))) (rest : ℕ) (total : Row) → length lists ≤ i → length row ≡ length lists → rest < length (product (lists_of (drop i lists))) → map (λ o. o.now) (take i row) ++ get_or (product (lists_of (drop i lists))) rest [] ≡ total → map (λ o. o.now) row ≡ total
+row_whole lists i row rest total le long within so_far =
+    sym (append-nil (map (λ (o : Bor (List ℕ)). o.now) row))
+    ∙ ap (λ ns. map (λ (o : Bor (List ℕ)). o.now) ns ++ []) (sym (take_all i row (omega arith)))
+    ∙ ap (λ ns. map (λ (o : Bor (List ℕ)). o.now) (take i row) ++ ns) (sym (last rest (subst (λ (vs : List (Vec (Bor (List ℕ)) Global)). rest < length (product (lists_of vs))) none within)))
+    ∙ ap (λ (vs : List (Vec (Bor (List ℕ)) Global)). map (λ (o : Bor (List ℕ)). o.now) (take i row) ++ get_or (product (lists_of vs)) rest []) (sym none)
+    ∙ so_far
+  where
+    none : drop i lists ≡ []
+    none = drop_all i lists le
+
+    last : (k : ℕ) → k < 1 → get_or {A = Row} ([] ∷ []) k [] ≡ []
+    last zero lt = refl
+    last (suc k) lt = absurd (omega arith)
+
+-- the row that is there among all bindings
+pub row_there : (rows all : List Row) (i : ℕ) (row : Row) → rows ≡ all → i < length rows → row ≡ get_or rows i [] → row ≡ get_or all i row
+row_there rows all i row same lt is = is ∙ any_default rows i lt ∙ ap (λ rs. get_or rs i row) same
+  where
+    any_default : (rs : List Row) (k : ℕ) → k < length rs → get_or rs k [] ≡ get_or rs k row
+    any_default [] k lt = absurd (omega arith)
+    any_default (r ∷ rs) zero lt = refl
+    any_default (r ∷ rs) (suc k) lt = any_default rs k (omega arith)
+
+-- the bindings are the rows of what each variable may stand for
+pub rows_bindings : (u : Universe) (ps : List Declared) → product (map (choices u) ps) ≡ bindings u ps
+rows_bindings u [] = refl
+rows_bindings u (p ∷ ps) = ap (λ rests. flat_map (λ n. map (λ r. n ∷ r) rests) (choices u p)) (rows_bindings u ps)
+
+-- a place below the count of rows is that of a binding
+pub within : (rows all : List Row) (place count here : ℕ) → rows ≡ all → place < count → here ≡ count → here ≡ length rows → (place < length rows) × (place < length all)
+within rows all place count here same lt is counted =
+    let below : place < length rows = omega (arith, lt, is, counted) in
+    (below, subst (λ (rs : List Row). place < length rs) same below)
+
+pub behind_all : (rows all : List Row) (place count here : ℕ) → rows ≡ all → count ≤ place → here ≡ count → here ≡ length rows → length all ≤ place
+behind_all rows all place count here same le is counted =
+    subst (λ (rs : List Row). length rs ≤ place) same (omega (arith, le, is, counted))

@@ -1,0 +1,20 @@
+use Rattle.std.proofs.Common.{Bor, Vec, Global, Result, Ok, Err, IfOk, map, length, sym, ap, ◌∙◌}
+use Rattle.tp_syntax.specs.Symbols.{Name, typed_view}
+use Rattle.tp_ground.specs.Views.{universe_view}
+use Rattle.tp_ground.specs.Rows.{product, lists_of}
+use Rattle.tp_ground.proofs.OnRows.{rows_bindings}
+use Rattle.tp_ground.proofs.rows.rows_of.Goals as goal
+
+weaker : {A E : Type 0} {P Q : A → Type 0} → ((x : A) → P x → Q x) → (r : Result A E) → IfOk r P → IfOk r Q
+weaker f (Ok x) h = f x h
+weaker f (Err e) h = h
+
+pub begun-requires-in-Some : goal.begun-requires-in-Some
+begun-requires-in-Some c =
+    c.in-Some.ensures.0
+    ∙ ap length (sym (ap product c.in_ok-lists_of-in-Some.ensures ∙ rows_bindings (universe_view c.args.universe.now) (map typed_view c.args.variables.now)))
+
+pub returns-in_ok-lists_of-in-Some : goal.returns-in_ok-lists_of-in-Some
+returns-in_ok-lists_of-in-Some c =
+    weaker (λ r is. ap (λ (v : Vec (Vec (Bor Name) Global) Global). product (lists_of v.items)) is
+    ∙ (ap product c.in_ok-lists_of-in-Some.ensures ∙ rows_bindings (universe_view c.args.universe.now) (map typed_view c.args.variables.now))) c.begun-in-Some.result c.begun-in-Some.ensures.lists

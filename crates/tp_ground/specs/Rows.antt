@@ -1,0 +1,16 @@
+-- One name out of each of some lists.
+use Rattle.std.specs.Prelude.{ℕ, List, [], ◌∷◌, map}
+use Rattle.std.specs.Borrow.{Bor}
+use Rattle.std.proofs.Common.{Vec, Global}
+use Rattle.std.specs.List.{flat_map}
+
+-- all rows, the first name varies slowest
+abbrev pub product : List (List (List ℕ)) → List (List (List ℕ))
+product [] = [] ∷ []
+product (ns ∷ nss) = flat_map (λ n. map (λ rest. n ∷ rest) (product nss)) ns
+
+abbrev pub names_of : Vec (Bor (List ℕ)) Global → List (List ℕ)
+names_of v = map (λ o. o.now) v.items
+
+abbrev pub lists_of : List (Vec (Bor (List ℕ)) Global) → List (List (List ℕ))
+lists_of vs = map names_of vs

@@ -1,0 +1,100 @@
+//! The bindings of variables, one at a time.
+
+ghost use Rattle.std.specs.Prelude.{◌≡◌, ◌<◌, [], map, length, slice_index_or, IfOk};
+ghost use Rattle.tp_syntax.specs.Symbols.{typed_view};
+ghost use Rattle.tp_ground.specs.Bindings.{choices, bindings};
+ghost use Rattle.tp_ground.specs.Views.{universe_view};
+ghost use Rattle.tp_ground.specs.Rows.{product, lists_of};
+
+use crate::universe::{Universe, choices, count_bindings};
+use std::alloc::{AllocError, Global};
+use tp_syntax::Typed;
+
+/// The names that each variable may stand for, how many bindings they have, and one of those.
+#[derive(Drop)]
+pub struct Rows<'a> {
+    pub lists: Vec<Vec<&'a str>>,
+    pub row: Vec<&'a str>,
+    pub count: usize,
+    ghost counted: { count ≡ length (product (lists_of lists.items)) },
+    ghost long: { length row.items ≡ length lists.items },
+}
+
+impl<'a> Rows<'a> {
+    /// Makes the row the binding at a place: a name of each list, the first of which varies slowest.
+    pub fn turn_to(&mut self, place: usize)
+        requires { place < self.old.count }
+        ensures row { map (λ o. o.now) self.new.row.items ≡ slice_index_or (product (lists_of self.old.lists.items)) place [] }
+        ensures lists { self.new.lists ≡ self.old.lists }
+        ensures count { self.new.count ≡ self.old.count }
+    {
+        fill(self.row.as_mut_slice(), &self.lists, self.count, place);
+    }
+}
+
+// Writes the row at a place.
+fn fill<'a>(row: &mut [&'a str], lists: &[Vec<&'a str>], count: usize, place: usize)
+    requires long { length row.old ≡ length lists.now }
+    requires counted { count ≡ length (product (lists_of lists.now)) }
+    requires within { place < count }
+    ensures names { map (λ o. o.now) row.new ≡ slice_index_or (product (lists_of lists.now)) place [] }
+    ensures long { length row.new ≡ length row.old }
+{
+    let mut left = count;
+    let mut rest = place;
+    for index in 0..lists.len() {
+        let names = lists[index].as_slice();
+        left /= names.len();
+        row[index] = names[rest / left];
+        rest %= left;
+    }
+}
+
+// The objects that each variable may stand for.
+fn lists_of<'a>(
+    alloc: Global,
+    universe: &Universe<'a>,
+    variables: &[Typed],
+) -> Result<Vec<Vec<&'a str>>, AllocError>
+    ensures { IfOk result (λ v. lists_of v.items ≡ map (choices (universe_view universe.now)) (map typed_view variables.now)) }
+{
+    let mut lists = Vec::with_capacity(alloc, variables.len())?;
+    for variable in variables {
+        lists.push(choices(alloc, universe, variable)?)?;
+    }
+    Ok(lists)
+}
+
+// One list with no name in it.
+fn no_name<'a>(alloc: Global) -> Result<Vec<Vec<&'a str>>, AllocError>
+    ensures { IfOk result (λ v. product (lists_of v.items) ≡ []) }
+{
+    let mut lists = Vec::with_capacity(alloc, 1)?;
+    lists.push(Vec::new(alloc))?;
+    Ok(lists)
+}
+
+fn begun<'a>(alloc: Global, lists: Vec<Vec<&'a str>>, count: usize) -> Result<Rows<'a>, AllocError>
+    requires { count ≡ length (product (lists_of lists.items)) }
+    ensures lists { IfOk result (λ r. r.lists ≡ lists.entry) }
+    ensures count { IfOk result (λ r. r.count ≡ count) }
+{
+    let row = vec![in alloc; ""; lists.len()]?;
+    Ok(Rows { lists, row, count })
+}
+
+/// The bindings of variables, none of them made yet. Where there are 2^64 or more, memory is refused at once.
+pub fn rows_of<'a>(
+    alloc: Global,
+    universe: &Universe<'a>,
+    variables: &[Typed],
+) -> Result<Rows<'a>, AllocError>
+    ensures { IfOk result (λ r. product (lists_of r.lists.items) ≡ bindings (universe_view universe.now) (map typed_view variables.now)) }
+{
+    match count_bindings(universe, variables, usize::MAX) {
+        None => Err(AllocError),
+        // No list is made: many variables may have many objects each.
+        Some(0) => begun(alloc, no_name(alloc)?, 0),
+        Some(count) => begun(alloc, lists_of(alloc, universe, variables)?, count),
+    }
+}
