@@ -133,8 +133,8 @@ def loose(count):
     return lines
 
 
-def judged(program, name, domain, problem, plan):
-    """A verdict on a plan."""
+def judged(program, name, domain, problem, plan, command="check"):
+    """A verdict on a plan, or what another command makes of it: the first words that it writes."""
     with tempfile.TemporaryDirectory() as room:
         files = [pathlib.Path(room, part) for part in ("domain", "problem", "plan")]
         for file, text in zip(files, (domain, problem, plan)):
@@ -142,7 +142,7 @@ def judged(program, name, domain, problem, plan):
         best = None
         for _ in range(3):
             begin = time.perf_counter()
-            child = subprocess.Popen([str(program), "check", *map(str, files)], stdout=subprocess.PIPE, stderr=subprocess.STDOUT, text=True)
+            child = subprocess.Popen([str(program), command, *map(str, files)], stdout=subprocess.PIPE, stderr=subprocess.STDOUT, text=True)
             said = child.stdout.read().strip()
             _, _, used = os.wait4(child.pid, 0)
             took = time.perf_counter() - begin
@@ -150,7 +150,7 @@ def judged(program, name, domain, problem, plan):
             if took > 2:
                 break
         size = sum(file.stat().st_size for file in files)
-    print(f"{name:58} {best:8.3f} s  {size:9} bytes  {used.ru_maxrss // 1024:4} MB  {said}", flush=True)
+    print(f"{name:58} {best:8.3f} s  {size:9} bytes  {used.ru_maxrss // 1024:4} MB  {said.splitlines()[0] if said else ''}", flush=True)
 
 
 PLACES = """(define (domain places)
@@ -218,6 +218,33 @@ def wide(count):
     return domain, f"(define (problem q) (:domain wide) (:init {atoms}) (:goal (r)))"
 
 
+def crowd(asked, done, count, initial=""):
+    """An action without parameters whose condition and whose effect are about so many objects, and a problem with these."""
+    names = " ".join(f"o{k}" for k in range(count))
+    domain = f"""(define (domain crowd) (:predicates (a ?x) (b ?x)) (:functions (f ?x) (g ?x))
+ (:action act :parameters () :precondition (forall (?x) {asked}) :effect (forall (?x) {done})))"""
+    facts = " ".join(initial.replace("?x", f"o{k}") for k in range(count))
+    return domain, f"(define (problem q) (:domain crowd) (:objects {names}) (:init {facts}) (:goal ()))"
+
+
+def at_once(program):
+    """Many events at one tick, and ticks with few events on a large task."""
+    together = "0: (act)\n" * 512
+    domain, problem = crowd("(a ?x)", "(b ?x)", 30_000, "(a ?x)")
+    judged(program, "512 steps at one tick, 30,000 atoms asked, 30,000 added", domain, problem, together)
+    domain, problem = crowd("(a ?x)", "(not (a ?x))", 30_000, "(a ?x)")
+    judged(program, "512 steps at one tick that interfere by 30,000 atoms", domain, problem, together)
+    domain, problem = crowd("(>= (f ?x) 0)", "(increase (g ?x) 1)", 20_000, "(= (f ?x) 1) (= (g ?x) 1)")
+    judged(program, "512 steps at one tick, 20,000 fluents read and written", domain, problem, together)
+    pairs = "".join(f"{k}: (act)\n{k}: (act)\n" for k in range(256))
+    domain, problem = crowd("(a ?x)", "(b ?x)", 30_000, "(a ?x)")
+    judged(program, "two steps at each of 256 ticks, the same 60,000 atoms", domain, problem, pairs)
+    small = "(define (domain few) (:predicates (a ?x)) (:action act :parameters (?x ?y) :precondition (a ?x) :effect (a ?y)))"
+    names = " ".join(f"o{k}" for k in range(255))
+    few = f"(define (problem q) (:domain few) (:objects {names}) (:init (a o0) (a o1)) (:goal ()))"
+    judged(program, "two small steps at each of 256 ticks, 65,025 actions", small, few, "".join(f"{k}: (act o0 o2)\n{k}: (act o0 o3)\n" for k in range(256)))
+
+
 def checks(program):
     """Verdicts on large plans, tasks and texts."""
     domain, problem = wide(1000)
@@ -227,6 +254,8 @@ def checks(program):
     judged(program, "512 steps side by side, 4,000 atoms, 8,000 actions", PLACES, problem, visits())
     judged(program, "512 steps at one tick, on the same task", PLACES, problem, marks())
     judged(program, "no step, on the same task", PLACES, problem, "")
+    judged(program, "the network of 512 steps side by side, on the same task", PLACES, problem, visits(), "net")
+    at_once(program)
     judged(program, "59,319 ground actions of three objects, one step", TRIPLES, triples_problem(39), "0: (a o0 o1 o2)\n")
     long_problem = "(define (problem q) (:domain long) (:init (q0)) (:goal (q0)))"
     judged(program, "a domain of a megabyte, no step", long_domain(1_048_576), long_problem, "")

@@ -129,7 +129,7 @@ pub All-front : {X : Type 0} (P : X → Type 0) (xs ys : List X) → All P (xs +
 All-front P [] ys h = All-nil P
 All-front P (x ∷ xs) ys h = All-cons P x xs (All-head P x (xs ++ ys) h) (All-front P xs ys (All-tail P x (xs ++ ys) h))
 
-at_most : (es : List Placed) → All (λ (e : Placed). e.moment ≤ last_moment es) es
+pub at_most : (es : List Placed) → All (λ (e : Placed). e.moment ≤ last_moment es) es
 at_most [] = All-nil (λ (e : Placed). e.moment ≤ 0)
 at_most (e ∷ es) = All-cons (λ (x : Placed). x.moment ≤ max e.moment (last_moment es)) e es (omega arith) (All-weaker (λ (x : Placed). x.moment ≤ last_moment es) (λ (x : Placed). x.moment ≤ max e.moment (last_moment es)) (λ x q. omega arith) es (at_most es))
 

@@ -23,7 +23,8 @@ index_in [] x i = absurd i
 index_in (y ∷ ys) x (inl e) = (0, omega arith, sym e)
 index_in (y ∷ ys) x (inr i) = let w = index_in ys x i in (suc w.0, omega (arith, w.1), w.2)
 
-all_in : {X : Type 0} (P : X → Type 0) (xs : List X) → All P xs → (x : X) → In x xs → P x
+-- what holds of all elements holds of each
+pub all_in : {X : Type 0} (P : X → Type 0) (xs : List X) → All P xs → (x : X) → In x xs → P x
 all_in P xs h x i = let w = index_in xs x i in subst P w.2 (h w.0 x w.1)
 
 module _ (t : Task) (ps : List Planned) where
@@ -66,6 +67,10 @@ module _ (t : Task) (ps : List Planned) where
   module _ (from m : ℕ) (st : Stored) (r : Reached t ps from st) (l : from ≤ m) (c : All (IsCovered from (Some m)) es) where
     abbrev u : UpTo m st
     u = up_to from m st r l c
+
+    -- the state is that before the moment
+    pub state_here : state_of st ≡ s m
+    state_here = u.state_is
 
     fault_is : fault_from st.scale (state_of st) m ps es ≡ fault m
     fault_is = ap₂ (λ k z. fault_from k z m ps es) r.task.scale u.state_is

@@ -1,6 +1,6 @@
 //! The verdict on a plan, tick after tick.
 
-ghost use Rattle.std.specs.Prelude.{◌≡◌, ◌<◌, ◌≤◌, true, ◌⊎◌, length, IfOk, IfErr, IfSome, MatchOption};
+ghost use Rattle.std.specs.Prelude.{◌≡◌, ◌+◌, ◌<◌, ◌≤◌, nat_le, true, ◌⊎◌, length, IfOk, IfErr, IfSome, MatchOption};
 ghost use Rattle.std.specs.List.{All, list_all};
 ghost use Rattle.tp_ground.specs.Fits.{body_fits};
 ghost use Rattle.tp_ground.specs.Valid.{events};
@@ -17,7 +17,7 @@ use crate::agenda::{agenda_of, next_tick};
 use crate::placing::{PlacedEvent, PlannedStep, placed_events, planned_steps};
 use crate::rosters::{count_started, go_on, roster_of};
 use crate::ticks::{Fault, Judged, judge_tick};
-use std::alloc::Global;
+use std::alloc::{AllocError, Global};
 use std::marker::Model;
 use thiserror::Error;
 use tp_ground::{Task, valid_without_fault};
@@ -129,16 +129,50 @@ fn run(
     Ok(Ran::Done(from, state))
 }
 
+// The events of a plan's steps in the order of their moments.
+fn agenda_in<'t>(
+    alloc: Global,
+    planned: &[PlannedStep<'t>],
+) -> Result<Vec<PlacedEvent<'t>>, AllocError>
+    requires few { length planned.now ≤ 512 }
+    requires ends { list_all (λ p. nat_le (p.moment + p.duration) 1000000000) planned.now ≡ true }
+    ensures { IfOk result (λ v. IsAgenda (events planned.now) 0 v.items) }
+{
+    let events = placed_events(alloc, planned)?;
+    agenda_of(events)
+}
+
+// The steps of a plan in the order of their starts.
+fn roster_in<'t>(
+    alloc: Global,
+    task: &'t Task,
+    steps: &[Step],
+) -> Result<Vec<PlannedStep<'t>>, AllocError>
+    ensures { IfOk result (λ v. IsRoster (plan_of task.now steps.now) 0 v.items) }
+{
+    let planned = planned_steps(alloc, task, steps)?;
+    roster_of(planned)
+}
+
+// Carries out a plan, up to its first fault or to its last event.
+fn carry_out(alloc: Global, task: &Task, steps: &[Step]) -> Result<Ran, ApplyFault>
+    requires { IsPlan steps.now }
+    ensures ran { IfOk result (IsRan task.now (plan_of task.now steps.now)) }
+    ensures range { IfErr result (λ e. OnRange e (PassesBy task.now (plan_of task.now steps.now))) }
+{
+    let planned = planned_steps(alloc, task, steps)?;
+    let agenda = agenda_in(alloc, &planned)?;
+    let roster = roster_in(alloc, task, steps)?;
+    run(alloc, task, &planned, &roster, &agenda)
+}
+
 // The tick of the first fault and why, None for a plan that has none.
 fn judge(alloc: Global, task: &Task, steps: &[Step]) -> Result<Option<(u32, Fault)>, ApplyFault>
     requires { IsPlan steps.now }
     ensures ok { IfOk result (λ r. MatchOption r (IsSound task.now steps.now) (λ f. IsFirst task.now steps.now f.0 f.1)) }
     ensures range { IfErr result (λ e. OnRange e (PassesIn task.now steps.now)) }
 {
-    let planned = planned_steps(alloc, task, steps)?;
-    let agenda = agenda_of(placed_events(alloc, &planned)?)?;
-    let roster = roster_of(planned_steps(alloc, task, steps)?)?;
-    match run(alloc, task, &planned, &roster, &agenda)? {
+    match carry_out(alloc, task, steps)? {
         Ran::Faulty(tick, why) => Ok(Some((tick, why))),
         Ran::Done(from, state) => {
             if holds(&state, &task.goal)? {
