@@ -34,7 +34,7 @@ abbrev pub IsAsTight : Situation → Edge → Bound → Type 0
 IsAsTight asked f b = (c : Bound) × (bound_of asked f ≡ Some c) × (c.from ≡ b.from) × (c.to ≡ b.to) × (c.w ≤ℤ b.w)
 
 -- between two solutions lies another
-between_solution : (arcs : List Arc) (low high known : List ℕ) (back : ℕ) → 0 < length low → All (JoinsPoints (length low)) arcs → IsSolution arcs (moment low) → IsSolution arcs (moment high)
+pub between_solution : (arcs : List Arc) (low high known : List ℕ) (back : ℕ) → 0 < length low → All (JoinsPoints (length low)) arcs → IsSolution arcs (moment low) → IsSolution arcs (moment high)
     → ((x : ℕ) → x < length low → get_or known x 0 ≡ max (get_or low x 0) (get_or high x 0 - back)) → IsSolution arcs (moment known)
 between_solution arcs low high known back some among l h each = (
   (let here = each 0 some in let a = l.0 in let b = h.0 in omega (arith, ints, here, a, b)),
@@ -98,7 +98,7 @@ module _ (s : Situation) (e m : ℕ) (lt : e < event_count s) (free : fixed_at s
 
     -- ---- the edges of the situation in which it is fixed
 
-    abbrev past_bound : Edge → Bound → Bound
+    abbrev pub past_bound : Edge → Bound → Bound
     past_bound (Own id) b = b
     past_bound New b = b
     past_bound (PastHigh k) b = b
@@ -110,7 +110,7 @@ module _ (s : Situation) (e m : ℕ) (lt : e < event_count s) (free : fixed_at s
     either_arc true x y = refl
     either_arc false x y = refl
 
-    past_arc_is : (f : Edge) (b : Bound) → past_arc e m f (arc_of b) ≡ arc_of (past_bound f b)
+    pub past_arc_is : (f : Edge) (b : Bound) → past_arc e m f (arc_of b) ≡ arc_of (past_bound f b)
     past_arc_is (Own id) b = refl
     past_arc_is New b = refl
     past_arc_is (PastHigh k) b = refl
@@ -121,7 +121,7 @@ module _ (s : Situation) (e m : ℕ) (lt : e < event_count s) (free : fixed_at s
     at_event : (k : ℕ) → k ≡ e → fixed_at (with_fixed s e m) k ≡ Some m
     at_event k same = ap (fixed_at (with_fixed s e m)) same ∙ now_is
 
-    moved_past : (f : Edge) (b : Bound) → bound_of s f ≡ Some b → bound_of (with_fixed s e m) (past_name e f) ≡ Some (past_bound f b)
+    pub moved_past : (f : Edge) (b : Bound) → bound_of s f ≡ Some b → bound_of (with_fixed s e m) (past_name e f) ≡ Some (past_bound f b)
     moved_past (Own id) b h = h
     moved_past New b h = h
     moved_past (PastHigh k) b h = set_mapped (at_most k) s.fixed e k m b free h
@@ -152,7 +152,7 @@ module _ (s : Situation) (e m : ℕ) (lt : e < event_count s) (free : fixed_at s
         ]
 
     -- the edge that was in the place of f
-    abbrev Was : Edge → Type 0
+    abbrev pub Was : Edge → Type 0
     Was f = (g : Edge) × (b : Bound) × (bound_of s g ≡ Some b) × (past_name e g ≡ f)
 
     still_free : (k : ℕ) → is_open (with_fixed s e m) k ≡ true → k ≢ e
@@ -161,7 +161,7 @@ module _ (s : Situation) (e m : ℕ) (lt : e < event_count s) (free : fixed_at s
         let f : Some m ≡ None = sym (at_event k same) ∙ none in
         let g : ⊥ = cc in g
 
-    was : (f : Edge) (c : Bound) → bound_of (with_fixed s e m) f ≡ Some c → Was f
+    pub was : (f : Edge) (c : Bound) → bound_of (with_fixed s e m) f ≡ Some c → Was f
     was (Own id) c h = (Own id, c, h, refl)
     was New c h = (New, c, h, refl)
     was (PastHigh k) c h =
@@ -193,7 +193,7 @@ module _ (s : Situation) (e m : ℕ) (lt : e < event_count s) (free : fixed_at s
         let before = opened s k (sym (still_open s e k m ne) ∙ p.0) in
         (End k, at_most k s.horizon, end_edge s k before.0 before.1, rw test refl)
 
-    listed_fixed : (names : List Edge) (arcs : List Arc) (names' : List Edge) (arcs' : List Arc) → AreArcs s names arcs → AreNamesPast e names names' → AreArcsPast e m names arcs arcs' → AreArcs (with_fixed s e m) names' arcs'
+    pub listed_fixed : (names : List Edge) (arcs : List Arc) (names' : List Edge) (arcs' : List Arc) → AreArcs s names arcs → AreNamesPast e names names' → AreArcsPast e m names arcs arcs' → AreArcs (with_fixed s e m) names' arcs'
     listed_fixed names arcs names' arcs' a ns xs = record {
       len = ns.len ∙ (a.len ∙ sym xs.len);
       exist = λ k within.
@@ -209,7 +209,7 @@ module _ (s : Situation) (e m : ℕ) (lt : e < event_count s) (free : fixed_at s
           (x.0, omega (arith, x.1, xs.len), ns.each x.0 (omega (arith, x.1, a.len)) ∙ (ap (past_name e) x.2 ∙ w.3)));
     }
 
-    fit_fixed : IsFit s → IsFit (with_fixed s e m)
+    pub fit_fixed : IsFit s → IsFit (with_fixed s e m)
     fit_fixed h = record {
       from = λ id b is. has_point_fixed s e m b.from (h.from id b is);
       to = λ id b is. has_point_fixed s e m b.to (h.to id b is);

@@ -166,10 +166,10 @@ fit_added s id b h from to weight =
     }
 
 -- the edge is as before
-abbrev Stays : Situation → Situation → Edge → Type 0
+abbrev pub Stays : Situation → Situation → Edge → Type 0
 Stays s s' e = (c : Bound) → bound_of s' e ≡ Some c → bound_of s e ≡ Some c
 
-still_there : (s : Situation) (id : ℕ) (b c : Bound) (e : Edge) → get s.bounds id ≡ None → bound_of s e ≡ Some c → bound_of (with_bound s id b) e ≡ Some c
+pub still_there : (s : Situation) (id : ℕ) (b c : Bound) (e : Edge) → get s.bounds id ≡ None → bound_of s e ≡ Some c → bound_of (with_bound s id b) e ≡ Some c
 still_there s id b c (Own j) none h =
     let ne : j.0 ≢ id = λ same. (let f : None ≡ Some c = sym none ∙ (ap (get s.bounds) (sym same) ∙ h) in let g : ⊥ = cc in g) in
     get_insert_other s.bounds id j.0 b ne ∙ h
@@ -179,7 +179,7 @@ still_there s id b c (PastLow e) none h = h
 still_there s id b c (Now e) none h = h
 still_there s id b c (End e) none h = h
 
-own_or : (s : Situation) (id : BoundId) (b : Bound) (e : Edge) → (e ≡ Own id) ⊎ Stays s (with_bound s id.0 b) e
+pub own_or : (s : Situation) (id : BoundId) (b : Bound) (e : Edge) → (e ≡ Own id) ⊎ Stays s (with_bound s id.0 b) e
 own_or s id b (Own j) =
     elim (same_or j.0 id.0) [
       | inl same ↦ inl (ap (λ n. Own (record { 0 = n })) same)

@@ -13,7 +13,7 @@ use Rattle.tp_net.specs.declared.slacks.Arc.{Arc}
 use Rattle.tp_net.specs.Arcs.{name_at, AreArcs}
 use Rattle.tp_net.specs.Kept.{IsFit, IsKept}
 
-same_edge : (s : Situation) (e lag : ℕ) (f : Edge) → s.clock ≡ 0 → bound_of (with_lag s e lag) f ≡ bound_of s f
+pub same_edge : (s : Situation) (e lag : ℕ) (f : Edge) → s.clock ≡ 0 → bound_of (with_lag s e lag) f ≡ bound_of s f
 same_edge s e lag (Own id) start = refl
 same_edge s e lag New start = refl
 same_edge s e lag (PastHigh k) start = refl
@@ -35,7 +35,7 @@ listed_lagged s e lag names arcs start a =
       all = λ f b is q. a.all f b (sym (same_edge s e lag f start) ∙ is) tt;
     }
 
-fit_lagged : (s : Situation) (e lag : ℕ) → IsFit s → e < event_count s → lag ≤ 1_000_000_000 → IsFit (with_lag s e lag)
+pub fit_lagged : (s : Situation) (e lag : ℕ) → IsFit s → e < event_count s → lag ≤ 1_000_000_000 → IsFit (with_lag s e lag)
 fit_lagged s e lag h lt few =
     record {
       from = λ id b is. same_point s e lag b.from (h.from id b is);

@@ -23,7 +23,7 @@ use Rattle.tp_net.proofs.Listings.{schedule_there, events_of, listed_more, liste
 none_held : (id : ℕ) (b : Bound) → get (empty {X = Bound} {R = nat_cmp}) id ≡ Some b → ⊥
 none_held id b h = let f : None ≡ Some b = sym (get-empty nat_cmp id) ∙ h in let g : ⊥ = cc in g
 
-replicate_none : (n k : ℕ) → get_or (replicate {A = Option ℕ} n None) k None ≡ None
+pub replicate_none : (n k : ℕ) → get_or (replicate {A = Option ℕ} n None) k None ≡ None
 replicate_none zero k = refl
 replicate_none (suc n) zero = refl
 replicate_none (suc n) (suc k) = replicate_none n k
@@ -54,7 +54,7 @@ fit_new events horizon few soon =
     }
 
 -- at 0 the floor of each event is 0
-zero_edge : (events horizon e : ℕ) → e < events → bound_of (new_situation events horizon) (Now e) ≡ Some (at_least e 0)
+pub zero_edge : (events horizon e : ℕ) → e < events → bound_of (new_situation events horizon) (Now e) ≡ Some (at_least e 0)
 zero_edge events horizon e lt =
     let s : Situation = new_situation events horizon in
     let level : floor_of s e ≡ 0 = omega arith in
@@ -105,7 +105,7 @@ star_more events horizon n names arcs lt a =
     (end_edge s n inside free))
     (λ e b is below. later n e below)
 
-within_star : (events horizon : ℕ) (e : Edge) (b : Bound) → bound_of (new_situation events horizon) e ≡ Some b → IsBelow events e
+pub within_star : (events horizon : ℕ) (e : Edge) (b : Bound) → bound_of (new_situation events horizon) e ≡ Some b → IsBelow events e
 within_star events horizon (Own id) b is = none_held id.0 b is
 within_star events horizon New b is = let f : ⊥ = cc in f
 within_star events horizon (PastHigh e) b is =

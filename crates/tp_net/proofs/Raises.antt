@@ -20,7 +20,7 @@ use Rattle.tp_net.proofs.Reasons.{reason_of, stand_more, stand_of, first_named}
 use Rattle.tp_net.proofs.KeptMoments.{high_schedule, contrary_after}
 use Rattle.tp_net.proofs.Starts.{start}
 
-abbrev raised_bound : ℕ → List ℕ → Edge → Bound → Bound
+abbrev pub raised_bound : ℕ → List ℕ → Edge → Bound → Bound
 raised_bound now lags (Own id) b = b
 raised_bound now lags New b = b
 raised_bound now lags (PastHigh e) b = b
@@ -28,7 +28,7 @@ raised_bound now lags (PastLow e) b = b
 raised_bound now lags (Now e) b = record { from = b.from; to = b.to; w = pos 0 -ℤ pos (floor_at now lags e) }
 raised_bound now lags (End e) b = b
 
-raised_arc : (now : ℕ) (lags : List ℕ) (e : Edge) (b : Bound) → raised_by now lags e (arc_of b) ≡ arc_of (raised_bound now lags e b)
+pub raised_arc : (now : ℕ) (lags : List ℕ) (e : Edge) (b : Bound) → raised_by now lags e (arc_of b) ≡ arc_of (raised_bound now lags e b)
 raised_arc now lags (Own id) b = refl
 raised_arc now lags New b = refl
 raised_arc now lags (PastHigh e) b = refl
@@ -36,7 +36,7 @@ raised_arc now lags (PastLow e) b = refl
 raised_arc now lags (Now e) b = refl
 raised_arc now lags (End e) b = refl
 
-moved : (s : Situation) (now : ℕ) (e : Edge) (b : Bound) → bound_of s e ≡ Some b → bound_of (at_moment s now) e ≡ Some (raised_bound now s.lags e b)
+pub moved : (s : Situation) (now : ℕ) (e : Edge) (b : Bound) → bound_of s e ≡ Some b → bound_of (at_moment s now) e ≡ Some (raised_bound now s.lags e b)
 moved s now (Own id) b h = h
 moved s now New b h = h
 moved s now (PastHigh e) b h = h
@@ -47,7 +47,7 @@ moved s now (Now e) b h =
     now_edge (at_moment s now) e o.0 o.1 ∙ ap (λ (c : Bound). Some (record { from = c.from; to = c.to; w = pos 0 -ℤ pos (floor_at now s.lags e) })) m.1
 moved s now (End e) b h = h
 
-there_was : (s : Situation) (now : ℕ) (e : Edge) (c : Bound) → bound_of (at_moment s now) e ≡ Some c → (b : Bound) × (bound_of s e ≡ Some b)
+pub there_was : (s : Situation) (now : ℕ) (e : Edge) (c : Bound) → bound_of (at_moment s now) e ≡ Some c → (b : Bound) × (bound_of s e ≡ Some b)
 there_was s now (Own id) b h = (b, h)
 there_was s now New b h = (b, h)
 there_was s now (PastHigh e) b h = (b, h)
@@ -101,7 +101,7 @@ refused_raise s names arcs low high now e edges k le late h =
     (reason_of (at_moment s now) (names ++ Now e ∷ []) (arcs ++ arc_of (at_least e (floor_at now s.lags e)) ∷ []) stand h.0 h.1.negative)
     (first_named IsNow names (Now e) arcs (arc_of (at_least e (floor_at now s.lags e))) h.0 k.listed.len (e, refl) h.1))
 
-fit_raised : (s : Situation) (now : ℕ) → IsFit s → now ≤ s.horizon → IsFit (at_moment s now)
+pub fit_raised : (s : Situation) (now : ℕ) → IsFit s → now ≤ s.horizon → IsFit (at_moment s now)
 fit_raised s now h soon =
     record { from = h.from; to = h.to; weight = h.weight; past = h.past; lags = h.lags; lag = h.lag; events = h.events; horizon = h.horizon; in_time = soon; asks_nothing = h.asks_nothing }
 

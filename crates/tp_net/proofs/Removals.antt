@@ -30,17 +30,17 @@ cond_other : {X : Type 0} (b : Bool) (x o : Option X) → b ≡ false → cond b
 cond_other true x o h = absurd (let f : ⊥ = cc in f)
 cond_other false x o h = refl
 
-get_remove_other : {X : Type 0} (m : FinMap nat_cmp X) (id q : ℕ) → q ≢ id → get (remove m id) q ≡ get m q
+pub get_remove_other : {X : Type 0} (m : FinMap nat_cmp X) (id q : ℕ) → q ≢ id → get (remove m id) q ≡ get m q
 get_remove_other {X} m id q ne = get-remove nat_cmp_total m id q ∙ cond_other (eq_by_cmp nat_cmp q id) None (get m q) (other_key q id ne)
 
-none_left : {X : Type 0} (m : FinMap nat_cmp X) (id : ℕ) (b : X) → get (remove m id) id ≡ Some b → ⊥
+pub none_left : {X : Type 0} (m : FinMap nat_cmp X) (id : ℕ) (b : X) → get (remove m id) id ≡ Some b → ⊥
 none_left m id b h = cond_none (eq_by_cmp nat_cmp id id) (get m id) b (key_itself id) (sym (get-remove nat_cmp_total m id id) ∙ h)
 
 -- the edge is among the first k names
 abbrev pub IsAmong : List Edge → ℕ → Edge → Type 0
 IsAmong names k f = (j : ℕ) × (j < k) × (name_at names j ≡ f)
 
-still_there : (s : Situation) (id : BoundId) (c : Bound) (e : Edge) → e ≢ Own id → bound_of s e ≡ Some c → bound_of (without_bound s id.0) e ≡ Some c
+pub still_there : (s : Situation) (id : BoundId) (c : Bound) (e : Edge) → e ≢ Own id → bound_of s e ≡ Some c → bound_of (without_bound s id.0) e ≡ Some c
 still_there s id c (Own j) ne h =
     let apart : j.0 ≢ id.0 = λ same. ne (ap (λ n. Own (record { 0 = n })) same) in
     get_remove_other s.bounds id.0 j.0 apart ∙ h
@@ -50,7 +50,7 @@ still_there s id c (PastLow e) ne h = h
 still_there s id c (Now e) ne h = h
 still_there s id c (End e) ne h = h
 
-was_there : (s : Situation) (id : BoundId) (c : Bound) (e : Edge) → bound_of (without_bound s id.0) e ≡ Some c → bound_of s e ≡ Some c
+pub was_there : (s : Situation) (id : BoundId) (c : Bound) (e : Edge) → bound_of (without_bound s id.0) e ≡ Some c → bound_of s e ≡ Some c
 was_there s id c (Own j) h = removed s.bounds id.0 j.0 c h
 was_there s id c New h = h
 was_there s id c (PastHigh e) h = h

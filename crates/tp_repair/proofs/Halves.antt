@@ -32,10 +32,10 @@ on_err (Err e) p = p
 abbrev pub at_key : List (Option Node) → ℕ → Option Node
 at_key slots k = slice_index_or slots k None
 
-one_here : (p y : ℕ) → y ≡ p → one_at p y ≡ 1
+pub one_here : (p y : ℕ) → y ≡ p → one_at p y ≡ 1
 one_here p y e = grind (arith, nat_tests)
 
-one_there : (p y : ℕ) → y ≢ p → one_at p y ≡ 0
+pub one_there : (p y : ℕ) → y ≢ p → one_at p y ≡ 0
 one_there p y ne = grind (arith, nat_tests)
 
 -- a half is there as before

@@ -1,0 +1,126 @@
+use Rattle.std.proofs.Common.{◌≡◌, ◌<◌, ◌^◌, None, length, refl, sym, subst, ap, ◌∙◌, arith}
+use Rattle.std.specs.FinMap.{FinMap, get}
+use Rattle.std.specs.Ordering.{nat_cmp}
+use Rattle.tp_bounds.specs.declared.Bound.{Bound}
+use Rattle.tp_bounds.specs.declared.Edge.TheVariants.{New}
+use Rattle.tp_bounds.specs.Situation.{Situation, HasPoint}
+use Rattle.tp_bounds.specs.Changes.{with_bound, proposing}
+use Rattle.tp_bounds.specs.Schedule.{HasSchedule}
+use Rattle.tp_net.specs.Arcs.{arc_of, NamesCycle}
+use Rattle.tp_net.specs.Faults.{Refutes, IsNew}
+use Rattle.tp_net.proofs.HeldLemmas.{get_held}
+use Rattle.tp_net.proofs.KeptMoments.{refused_add, kept_possible}
+use Rattle.tp_repair.specs.Told.{Told, settled}
+use Rattle.tp_repair.specs.declared.engine.Engine.{Engine}
+use Rattle.tp_repair.specs.Store.{names_of, kept_arcs}
+use Rattle.tp_repair.specs.Engine.{IsRepaired}
+use Rattle.tp_repair.specs.Bringing.{IsBrought, IsBroughtIn, IsUnbrought}
+use Rattle.tp_repair.proofs.Repaired.{small_low, small_high, weights, among, kept, with_looks, relooked, repaired_brought, repaired_unbrought}
+use Rattle.tp_repair.proofs.net.RepairNet.add.Goals as goal
+
+pub bring-requires-clause-small_low : goal.bring-requires-clause-small_low
+bring-requires-clause-small_low c = small_low _ _ _ _ _ _ c.self.invariant
+
+pub bring-requires-clause-small_high : goal.bring-requires-clause-small_high
+bring-requires-clause-small_high c = small_high _ _ _ _ _ _ c.self.invariant
+
+pub bring-requires-clause-weights : goal.bring-requires-clause-weights
+bring-requires-clause-weights c = weights _ _ _ _ _ _ c.self.invariant
+
+pub bring-requires-clause-among : goal.bring-requires-clause-among
+bring-requires-clause-among c = among _ _ _ _ _ _ c.self.invariant
+
+pub bring-requires-clause-bound : goal.bring-requires-clause-bound
+bring-requires-clause-bound c = sym (get_held c.self.inside.bounds c.args.id.0) ∙ (ap (λ (t : Told). get t.situation.bounds c.args.id.0) c.self.view_is ∙ c.requires.unused)
+
+pub bring-requires-clause-key : goal.bring-requires-clause-key
+bring-requires-clause-key c = c.self.invariant.spare c.args.id.0 (ap (λ (t : Told). get t.situation.bounds c.args.id.0) c.self.view_is ∙ c.requires.unused)
+
+pub invariant_of-self-in_err-path : goal.invariant_of-self-in_err-path
+invariant_of-self-in_err-path c =
+    let i = c.self.inside in
+    let s : Situation = settled i.horizon i.clock i.bounds.entries i.fixed.items i.lags.items in
+    let n = length i.bounds.entries in
+    let g0 : Engine = with_looks i.engine 0 in
+    let g' : Engine = c.bring.new.engine in
+    let r : IsRepaired s n i.keys i.floors.items i.ends.items g0 = relooked s n i.keys i.floors.items i.ends.items i.engine 0 c.self.invariant in
+    let u : IsUnbrought g0 g' i.bounds c.bring.new.bounds i.keys c.bring.new.keys = c.in_err-path.ensures.err in
+    rw u.holds (repaired_unbrought s n i.keys c.bring.new.keys i.floors.items i.ends.items g0 g' i.bounds c.bring.new.bounds r u)
+
+pub named-requires : goal.named-requires
+named-requires c =
+    let i = c.self.inside in
+    let s : Situation = settled i.horizon i.clock i.bounds.entries i.fixed.items i.lags.items in
+    let n = length i.bounds.entries in
+    let g0 : Engine = with_looks i.engine 0 in
+    let g' : Engine = c.bring.new.engine in
+    let b = subst (λ o. IsBrought c.args.id c.args.bound g0 g' i.bounds c.bring.new.bounds i.keys c.bring.new.keys o) c.in-Some.is c.in_ok-path.ensures.ok in
+    rw (c.deref.ensures.value, b.1) b.3
+
+pub invariant_of-self-in_err-reason : goal.invariant_of-self-in_err-reason
+invariant_of-self-in_err-reason c =
+    let i = c.self.inside in
+    let s : Situation = settled i.horizon i.clock i.bounds.entries i.fixed.items i.lags.items in
+    let n = length i.bounds.entries in
+    let g0 : Engine = with_looks i.engine 0 in
+    let g' : Engine = c.bring.new.engine in
+    let r : IsRepaired s n i.keys i.floors.items i.ends.items g0 = relooked s n i.keys i.floors.items i.ends.items i.engine 0 c.self.invariant in
+    let b = subst (λ o. IsBrought c.args.id c.args.bound g0 g' i.bounds c.bring.new.bounds i.keys c.bring.new.keys o) c.in-Some.is c.in_ok-path.ensures.ok in
+    rw b.0.holds (repaired_unbrought s n i.keys c.bring.new.keys i.floors.items i.ends.items g0 g' i.bounds c.bring.new.bounds r b.0)
+
+pub invariant_of-self-in-Some : goal.invariant_of-self-in-Some
+invariant_of-self-in-Some c =
+    let i = c.self.inside in
+    let s : Situation = settled i.horizon i.clock i.bounds.entries i.fixed.items i.lags.items in
+    let n = length i.bounds.entries in
+    let g0 : Engine = with_looks i.engine 0 in
+    let g' : Engine = c.bring.new.engine in
+    let r : IsRepaired s n i.keys i.floors.items i.ends.items g0 = relooked s n i.keys i.floors.items i.ends.items i.engine 0 c.self.invariant in
+    let b = subst (λ o. IsBrought c.args.id c.args.bound g0 g' i.bounds c.bring.new.bounds i.keys c.bring.new.keys o) c.in-Some.is c.in_ok-path.ensures.ok in
+    rw b.0.holds (repaired_unbrought s n i.keys c.bring.new.keys i.floors.items i.ends.items g0 g' i.bounds c.bring.new.bounds r b.0)
+
+pub returns-in-Some-clause-exact : goal.returns-in-Some-clause-exact
+returns-in-Some-clause-exact c =
+    let i = c.self.inside in
+    let s : Situation = settled i.horizon i.clock i.bounds.entries i.fixed.items i.lags.items in
+    let n = length i.bounds.entries in
+    let g0 : Engine = with_looks i.engine 0 in
+    let g' : Engine = c.bring.new.engine in
+    let b = subst (λ o. IsBrought c.args.id c.args.bound g0 g' i.bounds c.bring.new.bounds i.keys c.bring.new.keys o) c.in-Some.is c.in_ok-path.ensures.ok in
+    let slots = i.engine.store.nodes.slots in
+    let none : get s.bounds c.args.id.0 ≡ None = ap (λ (t : Told). get t.situation.bounds c.args.id.0) c.self.view_is ∙ c.requires.unused in
+    let h : NamesCycle (names_of slots) (kept_arcs slots) New (arc_of c.args.bound) c.in_ok-reason.reason.edges.items = (simp (c.deref.ensures.value, b.1) at c.in_ok-reason.ensures) (arc_of c.args.bound) b.2 in
+    subst (λ (t : Told). Refutes IsNew (proposing t.situation c.args.bound) (with_bound t.situation c.args.id.0 c.args.bound) c.in_ok-reason.reason.edges.items) c.self.view_is
+    (refused_add s (names_of slots) (kept_arcs slots) i.engine.low.items i.engine.high.items c.args.id.0 c.args.bound c.in_ok-reason.reason.edges.items (kept s n i.keys i.floors.items i.ends.items i.engine c.self.invariant) none h)
+
+pub invariant_of-self-2 : goal.invariant_of-self-2
+invariant_of-self-2 c =
+    let i = c.self.inside in
+    let s : Situation = settled i.horizon i.clock i.bounds.entries i.fixed.items i.lags.items in
+    let n = length i.bounds.entries in
+    let g0 : Engine = with_looks i.engine 0 in
+    let g' : Engine = c.bring.new.engine in
+    let r : IsRepaired s n i.keys i.floors.items i.ends.items g0 = relooked s n i.keys i.floors.items i.ends.items i.engine 0 c.self.invariant in
+    let b : IsBroughtIn c.args.id c.args.bound g0 g' i.bounds c.bring.new.bounds i.keys c.bring.new.keys = subst (λ o. IsBrought c.args.id c.args.bound g0 g' i.bounds c.bring.new.bounds i.keys c.bring.new.keys o) c.in_default.is c.in_ok-path.ensures.ok in
+    let none : get s.bounds c.args.id.0 ≡ None = ap (λ (t : Told). get t.situation.bounds c.args.id.0) c.self.view_is ∙ c.requires.unused in
+    let from : HasPoint s c.args.bound.from = subst (λ (t : Told). HasPoint t.situation c.args.bound.from) (sym c.self.view_is) c.requires.from in
+    let to : HasPoint s c.args.bound.to = subst (λ (t : Told). HasPoint t.situation c.args.bound.to) (sym c.self.view_is) c.requires.to in
+    let few : n < 2 ^ 32 = omega (arith, c.if-len.false, c.len.ensures.len) in
+    let brought = repaired_brought s n i.keys c.bring.new.keys i.floors.items i.ends.items g0 g' c.args.id c.args.bound i.bounds c.bring.new.bounds r none from to c.requires.weight b refl few in
+    subst (λ (m : FinMap nat_cmp Bound). IsRepaired (record { horizon = i.horizon; clock = i.clock; bounds = m; fixed = i.fixed.items; lags = i.lags.items; proposed = None }) (length c.bring.new.bounds.entries) c.bring.new.keys i.floors.items i.ends.items g') (sym b.recorded.holds) brought
+
+pub returns-clause-exact : goal.returns-clause-exact
+returns-clause-exact c =
+    let i = c.self.inside in
+    let s : Situation = settled i.horizon i.clock i.bounds.entries i.fixed.items i.lags.items in
+    let n = length i.bounds.entries in
+    let g0 : Engine = with_looks i.engine 0 in
+    let g' : Engine = c.bring.new.engine in
+    let r : IsRepaired s n i.keys i.floors.items i.ends.items g0 = relooked s n i.keys i.floors.items i.ends.items i.engine 0 c.self.invariant in
+    let b : IsBroughtIn c.args.id c.args.bound g0 g' i.bounds c.bring.new.bounds i.keys c.bring.new.keys = subst (λ o. IsBrought c.args.id c.args.bound g0 g' i.bounds c.bring.new.bounds i.keys c.bring.new.keys o) c.in_default.is c.in_ok-path.ensures.ok in
+    let none : get s.bounds c.args.id.0 ≡ None = ap (λ (t : Told). get t.situation.bounds c.args.id.0) c.self.view_is ∙ c.requires.unused in
+    let from : HasPoint s c.args.bound.from = subst (λ (t : Told). HasPoint t.situation c.args.bound.from) (sym c.self.view_is) c.requires.from in
+    let to : HasPoint s c.args.bound.to = subst (λ (t : Told). HasPoint t.situation c.args.bound.to) (sym c.self.view_is) c.requires.to in
+    let few : n < 2 ^ 32 = omega (arith, c.if-len.false, c.len.ensures.len) in
+    let brought = repaired_brought s n i.keys c.bring.new.keys i.floors.items i.ends.items g0 g' c.args.id c.args.bound i.bounds c.bring.new.bounds r none from to c.requires.weight b refl few in
+    subst (λ (t : Told). HasSchedule (with_bound t.situation c.args.id.0 c.args.bound)) c.self.view_is (kept_possible _ _ _ _ _ (kept _ _ _ _ _ _ brought))

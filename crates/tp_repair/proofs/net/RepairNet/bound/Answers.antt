@@ -1,0 +1,11 @@
+use Rattle.std.proofs.Common.{sym, ap, ◌∙◌}
+use Rattle.std.specs.FinMap.{get}
+use Rattle.tp_net.proofs.HeldLemmas.{get_held}
+use Rattle.tp_repair.specs.Told.{Told}
+use Rattle.tp_repair.proofs.net.RepairNet.bound.Goals as goal
+
+pub returns : goal.returns
+returns c =
+    c.copied.ensures
+    ∙ (c.get.ensures.value
+    ∙ (sym (get_held c.self.inside.bounds c.args.id.0) ∙ ap (λ (t : Told). get t.situation.bounds c.args.id.0) c.self.view_is))

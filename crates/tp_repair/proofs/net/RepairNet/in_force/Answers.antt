@@ -1,0 +1,10 @@
+use Rattle.std.proofs.Common.{sym, ap, ◌∙◌}
+use Rattle.std.specs.FinMap.{len}
+use Rattle.tp_net.proofs.HeldLemmas.{held_len}
+use Rattle.tp_repair.specs.Told.{Told}
+use Rattle.tp_repair.proofs.net.RepairNet.in_force.Goals as goal
+
+pub returns : goal.returns
+returns c =
+    c.len.ensures.len
+    ∙ (sym (held_len c.self.inside.bounds c.len.ensures.ordered) ∙ ap (λ (t : Told). len t.situation.bounds) c.self.view_is)

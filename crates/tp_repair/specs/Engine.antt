@@ -1,0 +1,55 @@
+-- A network as arcs under keys, with the moments that they leave.
+use Rattle.std.specs.Prelude.{◌≡◌, ◌≢◌, ℕ, suc, ◌+◌, ◌*◌, ◌<◌, ◌≤◌, ◌^◌, List, length, Option, Some, None, slice_index_or}
+use Rattle.std.specs.Ordering.{nat_cmp}
+use Rattle.std.specs.BTreeMap.{BTreeMap}
+use Rattle.std.specs.BTreeMap as tree
+use Rattle.std.specs.FinMap as map
+use Rattle.tp_bounds.specs.declared.Edge.{Edge}
+use Rattle.tp_bounds.specs.Situation.{Situation, event_count}
+use Rattle.tp_net.specs.declared.slacks.Arc.{Arc}
+use Rattle.tp_net.specs.Moments.{AreExact}
+use Rattle.tp_net.specs.Kept.{IsFit}
+use Rattle.tp_repair.specs.declared.store.Node.{Node}
+use Rattle.tp_repair.specs.declared.engine.Engine.{Engine}
+use Rattle.tp_repair.specs.declared.store.Direction.TheVariants.{Up, Down}
+use Rattle.tp_repair.specs.Store.{arcs_of, keys_of, AreHalves, IsNode}
+use Rattle.tp_repair.specs.Flow.{sum_to}
+use Rattle.tp_repair.specs.Work.{IsIdle}
+use Rattle.tp_repair.specs.Kept.{AreNodes}
+
+-- the lists are right, for so many points and so many edges, and nothing is being worked out
+pub record IsWired (points edges : ℕ) (g : Engine) : Type 0 where
+  pub some : 0 < points
+  pub low_len : length g.low.items ≡ points
+  pub high_len : length g.high.items ≡ points
+  pub into_len : length g.store.into.items ≡ points
+  pub out_len : length g.store.out.items ≡ points
+  pub halves_in : AreHalves Up g.store.nodes.slots g.store.into.items
+  pub halves_out : AreHalves Down g.store.nodes.slots g.store.out.items
+  pub up : IsIdle points g.up
+  pub down : IsIdle points g.down
+  pub many_up : sum_to (λ y. length (keys_of Up g.store y)) points ≡ edges
+  pub many_down : sum_to (λ y. length (keys_of Down g.store y)) points ≡ edges
+  pub few : edges < 2 ^ 61
+
+-- under each key there is an edge of the name and the arc that it had, or none as before
+pub record AreSame (old new : List (Option Node)) : Type 0 where
+  pub forth : (k : ℕ) (n : Node) → slice_index_or old k None ≡ Some n → (m : Node) × (slice_index_or new k None ≡ Some m) × (m.name ≡ n.name) × (m.arc ≡ n.arc)
+  pub back : (k : ℕ) (m : Node) → slice_index_or new k None ≡ Some m → (n : Node) × (slice_index_or old k None ≡ Some n) × (m.name ≡ n.name) × (m.arc ≡ n.arc)
+
+-- an edge came under a key that was free, and the others stay
+pub record IsEntered (name : Edge) (arc : Arc) (key : ℕ) (old new : List (Option Node)) : Type 0 where
+  pub free : slice_index_or old key None ≡ None
+  pub node : IsNode name arc (slice_index_or new key None)
+  pub others : (k : ℕ) → k ≢ key → slice_index_or new k None ≡ slice_index_or old k None
+
+-- what holds of a network that is repaired
+pub record IsRepaired (s : Situation) (count : ℕ) (keys : BTreeMap ℕ ℕ) (floors ends : List ℕ) (g : Engine) : Type 0 where
+  pub fit : IsFit s
+  pub nodes : AreNodes s keys floors ends g.store.nodes.slots
+  pub exact : AreExact (arcs_of g.store.nodes.slots) g.low.items g.high.items
+  pub wired : IsWired (suc (event_count s)) (count + 2 * event_count s) g
+  pub few : count ≤ 2 ^ 32
+  pub spare : (q : ℕ) → map.get s.bounds q ≡ None → tree.get nat_cmp keys q ≡ None
+  pub floors_len : length floors ≡ event_count s
+  pub ends_len : length ends ≡ event_count s

@@ -1,0 +1,19 @@
+-- What contracts see of a network that is repaired.
+use Rattle.std.specs.Prelude.{ℕ, List, Option, None, refl}
+use Rattle.std.specs.Coded.{Coded, code_by, coded×, coded_ℕ}
+use Rattle.tp_bounds.specs.declared.Bound.{Bound}
+use Rattle.tp_bounds.specs.Situation.{Situation}
+use Rattle.tp_bounds.specs.Codes.{coded_situation}
+use Rattle.tp_net.specs.Held.{held}
+
+-- situation: what is settled in it. looks: at how many edges the last change looked
+pub record Told : Type 0 where
+  pub situation : Situation
+  pub looks : ℕ
+
+abbrev pub coded_told : Coded Told
+coded_told = code_by (Situation × ℕ) (coded× coded_situation coded_ℕ) (λ t. (t.situation, t.looks)) (λ p. record { situation = p.0; looks = p.1 }) (λ _. refl)
+
+-- the situation that the fields give
+abbrev pub settled : ℕ → ℕ → List (ℕ × Bound) → List (Option ℕ) → List ℕ → Situation
+settled horizon clock bounds fixed lags = record { horizon = horizon; clock = clock; bounds = held bounds; fixed = fixed; lags = lags; proposed = None }
