@@ -1,5 +1,5 @@
 -- Marks on types that fit.
-use Rattle.std.proofs.Common.{◌≡◌, ℕ, ◌+◌, ◌<◌, List, [], ◌∷◌, ◌++◌, map, length, take, get_or, Bool, true, false, ◌||◌, cond, Some, None, Bor, String, Global, string_bytes, refl, sym, ap, ◌∙◌}
+use Rattle.std.proofs.Common.{◌≡◌, ℕ, ◌+◌, ◌<◌, List, [], ◌∷◌, ◌++◌, map, length, take, get_or, Bool, true, false, ◌||◌, ◌&&◌, cond, Some, None, Bor, String, Global, string_bytes, refl, sym, ap, ◌∙◌}
 use Rattle.std.specs.List.{list_any, list_all}
 use Rattle.std.specs.Str.{bytes_eq}
 use Rattle.std.specs.Cmp.Lexicographic.{bytes_decides}
@@ -7,10 +7,10 @@ use Rattle.std.proofs.lemmas.Bool.{or_parts}
 use Rattle.std.proofs.lemmas.List.{take_more, map-append}
 use Rattle.std.proofs.lemmas.List.Folds.{list_any-append}
 use Rattle.indexmap.specs.IndexSet.{insert_key}
-use Rattle.tp_ast.specs.Symbols.{Name, Parent, parent_view, parent_of, at_or_below}
+use Rattle.tp_ast.specs.Symbols.{Name, Parent, parent_view, parent_of, at_or_below, types_fit}
 use Rattle.tp_ast.specs.declared.types.TypeName.{TypeName}
 use Rattle.tp_types.specs.Circles.{type_name, is_ranked}
-use Rattle.tp_types.specs.Marks.{has_mark, fits, AreMarks}
+use Rattle.tp_types.specs.Marks.{has_mark, fits, past_shared, AreMarks}
 use Rattle.tp_types.proofs.OnCircles.{is_there, is_highest}
 use Rattle.tp_types.proofs.OnJumps.{up_one}
 
@@ -62,6 +62,33 @@ next_mark ks js k ss i s grown lt at is each = λ n.
     ∙ ap (λ b. b || bytes_eq n k.now) (each n)
     ∙ sym (ap (list_any (bytes_eq n)) (sym longer) ∙ list_any-append (bytes_eq n) front (k.now ∷ []) ∙ or_false (list_any (bytes_eq n) front) (bytes_eq n k.now))
 
+-- ---- types that are in both lists
+
+module _ (ds : List Parent) (m : ℕ) where
+  own_first : (P : List Name) (t p : Name) (b : Bool) → bytes_eq t p ≡ b → (b || list_any (bytes_eq t) P) ≡ true → (list_any (bytes_eq t) P ≡ true → list_any (at_or_below ds m t) P ≡ true) → list_any (at_or_below ds m t) (p ∷ P) ≡ true
+  own_first P t p true is h rest = or_left (at_or_below ds m t p) (list_any (at_or_below ds m t) P) (is_there ds m t p is)
+  own_first P t p false is h rest = or_right (at_or_below ds m t p) (list_any (at_or_below ds m t) P) (rest h)
+
+  own_any : (P : List Name) (t : Name) → list_any (bytes_eq t) P ≡ true → list_any (at_or_below ds m t) P ≡ true
+  own_any [] t h = cc
+  own_any (p ∷ P) t h = own_first P t p (bytes_eq t p) refl h (own_any P t)
+
+module _ (ds : List Parent) (P : List Name) where
+  module _ (t p : Name) (ts ps : List Name) (inside : list_any (bytes_eq t) (p ∷ ps) ≡ true → list_any (bytes_eq t) P ≡ true) (further : types_fit ds (past_shared ts ps) P ≡ types_fit ds ts P) where
+    past_first : (b : Bool) → bytes_eq t p ≡ b → types_fit ds (cond b (past_shared ts ps) (t ∷ ts)) P ≡ types_fit ds (t ∷ ts) P
+    past_first false is = refl
+    past_first true is = further ∙ sym (ap (λ b. b && types_fit ds ts P) (own_any ds (length ds) P t (inside (or_left (bytes_eq t p) (list_any (bytes_eq t) ps) is))))
+
+  past_fits : (ts ps : List Name) → ((n : Name) → list_any (bytes_eq n) ps ≡ true → list_any (bytes_eq n) P ≡ true) → types_fit ds (past_shared ts ps) P ≡ types_fit ds ts P
+  past_fits [] ps inside = refl
+  past_fits (t ∷ ts) [] inside = refl
+  past_fits (t ∷ ts) (p ∷ ps) inside =
+      past_first t p ts ps (inside t) (past_fits ts ps (λ n h. inside n (or_right (bytes_eq n p) (list_any (bytes_eq n) ps) h))) (bytes_eq t p) refl
+
+-- what is left behind the front that both have fits if all does
+pub rest_fits : (ds : List Parent) (A P R : List Name) → R ≡ past_shared A P → types_fit ds R P ≡ types_fit ds A P
+rest_fits ds A P R is = ap (λ (ts : List Name). types_fit ds ts P) is ∙ past_fits ds P A P (λ n h. h)
+
 module _ (ts : List TypeName) where
   abbrev ps : List Parent
   ps = map parent_view ts
@@ -71,14 +98,9 @@ module _ (ts : List TypeName) where
 
   -- ---- what fits
 
-  own_first : (P : List Name) (t p : Name) (b : Bool) → bytes_eq t p ≡ b → (b || list_any (bytes_eq t) P) ≡ true → (list_any (bytes_eq t) P ≡ true → fits ts P t ≡ true) → fits ts (p ∷ P) t ≡ true
-  own_first P t p true is h rest = or_left (below t p) (fits ts P t) (is_there ps (length ts) t p is)
-  own_first P t p false is h rest = or_right (below t p) (fits ts P t) (rest h)
-
   -- one of the types themselves fits
   own_fits : (P : List Name) (t : Name) → list_any (bytes_eq t) P ≡ true → fits ts P t ≡ true
-  own_fits [] t h = cc
-  own_fits (p ∷ P) t h = own_first P t p (bytes_eq t p) refl h (own_fits P t)
+  own_fits P t h = own_any ps (length ts) P t h
 
   -- another one with nothing above it does not
   none_fits : (P : List Name) (t : Name) → parent_of t ps ≡ None → list_any (bytes_eq t) P ≡ false → fits ts P t ≡ false

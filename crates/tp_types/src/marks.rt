@@ -4,7 +4,7 @@ ghost use Rattle.std.specs.Prelude.{◌≡◌, map, string_bytes, true, IfOk, On
 ghost use Rattle.std.specs.List.{list_all, list_any};
 ghost use Rattle.std.specs.Str.{bytes_eq};
 ghost use Rattle.tp_types.specs.Circles.{type_name, is_ranked};
-ghost use Rattle.tp_types.specs.Marks.{has_mark, fits, AreMarks};
+ghost use Rattle.tp_types.specs.Marks.{has_mark, fits, past_shared, AreMarks};
 ghost use Rattle.tp_types.specs.Tables.{Name, IsTable};
 ghost use Rattle.tp_ast.specs.Symbols.{parent_view, types_fit};
 
@@ -12,6 +12,25 @@ use crate::circles::parent_of;
 use indexmap::{IndexMap, IndexSet};
 use std::alloc::{AllocError, Global};
 use tp_ast::types::TypeName;
+
+/// What is left of a list behind the front that it shares with another: types that are in both fit.
+pub fn past_shared<'a>(argument: &'a [String], parameter: &[String]) -> &'a [String]
+    ensures { map string_bytes result.now ≡ past_shared (map string_bytes argument.now) (map string_bytes parameter.now) }
+{
+    let mut left = argument;
+    let mut open = parameter;
+    'pairs: while let [first, more @ ..] = left {
+        let [second, others @ ..] = open else {
+            return left;
+        };
+        if first.as_str() != second.as_str() {
+            return left;
+        }
+        left = more;
+        open = others;
+    }
+    left
+}
 
 // A mark on each of these types.
 fn marked<'a>(alloc: Global, parameter: &'a [String]) -> Result<IndexSet<&'a str>, AllocError>

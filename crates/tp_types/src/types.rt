@@ -8,7 +8,7 @@ ghost use Rattle.tp_ast.specs.TypedLists.{is_type};
 
 use crate::circles::{are_ranked, parent_of as parent_in, ranks};
 use crate::jumps::{are_jumps, climb, jumps, own_name};
-use crate::marks::fit_by_marks;
+use crate::marks::{fit_by_marks, past_shared};
 use crate::table::{Named, places};
 use indexmap::IndexMap;
 use std::alloc::{AllocError, Global};
@@ -208,12 +208,13 @@ pub fn long_lists_fit(
 ) -> Result<bool, AllocError>
     ensures { IfOk result (λ b. b ≡ types_fit (types_view types.now) (map string_bytes argument.now) (map string_bytes parameter.now)) }
 {
-    if argument.len() <= FEW || parameter.len() <= FEW {
-        return Ok(types_fit(types, argument, parameter));
+    let rest = past_shared(argument, parameter);
+    if rest.len() <= FEW || parameter.len() <= FEW {
+        return Ok(types_fit(types, rest, parameter));
     }
-    match fit_by_table(alloc, types, argument, parameter)? {
+    match fit_by_table(alloc, types, rest, parameter)? {
         Some(fits) => Ok(fits),
-        None => Ok(types_fit(types, argument, parameter)),
+        None => Ok(types_fit(types, rest, parameter)),
     }
 }
 
