@@ -1,0 +1,5 @@
+pub mod EdgeTexts
+pub mod ReadLemmas
+pub mod Verdicts
+pub mod WriteLemmas
+pub mod SoundLemmas

@@ -1,0 +1,8 @@
+//! Tests of `tp_journal`, apart from it so that the gate proves it once. `writing`: sessions with their journals, over readers
+//! and writers in memory; `judging`: answers that the machine allows, and others.
+#![tactic(auto)]
+
+#[cfg(test)]
+mod judging;
+#[cfg(test)]
+mod writing;
