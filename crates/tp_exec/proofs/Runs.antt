@@ -20,7 +20,7 @@ run_more (d ∷ ds) (b ∷ bs) old mid new c a run step = (run.0, run.1, run_mor
 -- ---- a run tells the truth
 
 -- the first refusal is the answer, or none applies and the command is decided
-either : (m : Machine) (c : Command) (a : Answer) (new : Machine) (o : Option Refusal) → MatchOption o (Decides m c a new) (λ r. (a ≡ Refused r) × (new ≡ m)) → ((o ≡ None) × Decides m c a new) ⊎ ((r : Refusal) × (o ≡ Some r) × (a ≡ Refused r))
+pub either : (m : Machine) (c : Command) (a : Answer) (new : Machine) (o : Option Refusal) → MatchOption o (Decides m c a new) (λ r. (a ≡ Refused r) × (new ≡ m)) → ((o ≡ None) × Decides m c a new) ⊎ ((r : Refusal) × (o ≡ Some r) × (a ≡ Refused r))
 either m c a new None step = inl (refl, step)
 either m c a new (Some r) step = inr (r, refl, step.0)
 

@@ -7,15 +7,19 @@ ghost use Rattle.tp_exec.specs.Machine.{IsFresh, new_machine, plan_machine, kind
 ghost use Rattle.tp_exec.specs.declared.command.Answer.TheVariants.{Accepted, Named, Told, Reported};
 ghost use Rattle.tp_exec.specs.declared.command.Command.TheVariants.{Advance, Add, Withdraw, Window, Dispatch, Happened, Report as Tell};
 ghost use Rattle.tp_exec.specs.Step.{Step, answer_of, is_point_of, AreMoments};
+ghost use Rattle.tp_exec.specs.FromPlan.{CameFrom, TellsPlan};
 
 use crate::command::{Kind, Report};
 use crate::copying::{copy_bounds, copy_lags, copy_past};
 use crate::own_bounds::bring_own;
 use crate::refusal::{Refusal, refused_by};
+use crate::run_plans::plan_at;
 use std::alloc::{AllocError, Global};
 use std::marker::Model;
 use tp_bounds::{Bound, BoundId, Limits, PlanNet, Point, Setting};
+use tp_happen::Plan;
 use tp_net::Net;
+use tp_validate::ValidPlan;
 
 /// The greatest weight of a bound, either way, in ticks.
 const GREATEST_WEIGHT: i64 = 2_000_000_000;
@@ -227,6 +231,22 @@ impl<N: Net> Executive<N> {
             moments,
             done,
         })
+    }
+
+    /// The plan of the run, where the network came from a validated plan: that plan's steps, each at the moment of its first
+    /// event and as long as to its last one. It is valid, and so it reaches the goal. There is none until every event is
+    /// dispatched, and none once a bound of the plan was withdrawn.
+    ///
+    /// It costs one look at each event and each step.
+    pub fn run_plan(&self, plan: &ValidPlan<'_>) -> Result<Option<Plan>, AllocError>
+        requires { CameFrom plan.now.task plan.now.steps self.now }
+        ensures { IfOk result (TellsPlan plan.now.task plan.now.steps self.now) }
+    {
+        match self.kind {
+            Kind::Bare => Ok(None),
+            Kind::Kept => plan_at(self.alloc, &self.net, plan),
+            Kind::Altered => Ok(None),
+        }
     }
 
     /// A copy of the setting: the events, the horizon, the lags, the bounds in force, what was dispatched, and now.
