@@ -131,7 +131,7 @@ pub fn raised(
 }
 
 /// The name of an edge when an event is dispatched: its floor and its end give way to its moment.
-fn name_past(name: Edge, e: u16) -> Edge
+pub fn name_past(name: Edge, e: u16) -> Edge
     ensures { result ≡ past_name e name }
 {
     match name {

@@ -12,7 +12,7 @@ use Rattle.tp_net.specs.Kept.{IsFit}
 use Rattle.tp_repair.specs.declared.store.Node.{Node}
 use Rattle.tp_repair.specs.declared.engine.Engine.{Engine}
 use Rattle.tp_repair.specs.declared.store.Direction.TheVariants.{Up, Down}
-use Rattle.tp_repair.specs.Store.{arcs_of, keys_of, AreHalves, IsNode}
+use Rattle.tp_repair.specs.Store.{arcs_of, keys_of, AreHalves, IsNode, KeepsOthers}
 use Rattle.tp_repair.specs.Flow.{sum_to}
 use Rattle.tp_repair.specs.Work.{IsIdle}
 use Rattle.tp_repair.specs.Kept.{AreNodes}
@@ -53,3 +53,28 @@ pub record IsRepaired (s : Situation) (count : ℕ) (keys : BTreeMap ℕ ℕ) (f
   pub spare : (q : ℕ) → map.get s.bounds q ≡ None → tree.get nat_cmp keys q ≡ None
   pub floors_len : length floors ≡ event_count s
   pub ends_len : length ends ≡ event_count s
+
+-- the edges, the moments and the lists are as before
+pub record IsUntouched (g g' : Engine) : Type 0 where
+  pub wired : (edges : ℕ) → IsWired (length g.low.items) edges g → IsWired (length g.low.items) edges g'
+  pub edges : AreSame g.store.nodes.slots g'.store.nodes.slots
+  pub low : g'.low.items ≡ g.low.items
+  pub high : g'.high.items ≡ g.high.items
+
+-- each edge came to be what it is to be
+pub record AreMapped (f : Node → Node) (old new : List (Option Node)) : Type 0 where
+  pub forth : (k : ℕ) (n : Node) → slice_index_or old k None ≡ Some n → (m : Node) × (slice_index_or new k None ≡ Some m) × (m.name ≡ (f n).name) × (m.arc ≡ (f n).arc)
+  pub back : (k : ℕ) (m : Node) → slice_index_or new k None ≡ Some m → (n : Node) × (slice_index_or old k None ≡ Some n) × (m.name ≡ (f n).name) × (m.arc ≡ (f n).arc)
+
+-- the edges changed in this way, with the moments that they leave
+pub record IsChanged (f : Node → Node) (g g' : Engine) : Type 0 where
+  pub wired : (edges : ℕ) → IsWired (length g.low.items) edges g → IsWired (length g.low.items) edges g'
+  pub edges : AreMapped f g.store.nodes.slots g'.store.nodes.slots
+  pub exact : AreExact (arcs_of g'.store.nodes.slots) g'.low.items g'.high.items
+
+-- the edge under a key is gone
+pub record IsLeft (key : ℕ) (g g' : Engine) : Type 0 where
+  pub wired : (edges : ℕ) → IsWired (length g.low.items) (edges + 1) g → IsWired (length g.low.items) edges g'
+  pub gone : slice_index_or g'.store.nodes.slots key None ≡ None
+  pub keeps : KeepsOthers key g.store.nodes.slots g'.store.nodes.slots
+  pub exact : AreExact (arcs_of g'.store.nodes.slots) g'.low.items g'.high.items

@@ -1,27 +1,29 @@
 //! The arcs of a network with the moments that they leave, and what one more edge does to them.
-ghost use Rattle.std.specs.Prelude.{◌≡◌, ◌≢◌, ℕ, List, ◌+◌, ◌*◌, ◌<◌, ◌≤◌, ◌^◌, length, All, IfOk, OnOk, OnErr, MatchResult, Some, None, slice_index};
+ghost use Rattle.std.specs.Prelude.{◌≡◌, ◌≢◌, ℕ, List, ◌+◌, ◌*◌, ◌<◌, ◌≤◌, ◌^◌, length, ◌++◌, ◌∷◌, [], All, IfOk, OnOk, OnErr, MatchResult, Some, None, slice_index};
 ghost use Rattle.std.specs.Ordering.{nat_cmp};
 ghost use Rattle.std.specs.BTreeMap.{BTreeMap, get, btree_map_len};
 ghost use Rattle.std.specs.FinMap as map;
 ghost use Rattle.tp_bounds.specs.declared.Bound.{Bound};
 ghost use Rattle.tp_bounds.specs.declared.Edge.TheVariants.{Own};
-ghost use Rattle.tp_net.specs.Arcs.{arc_of};
+ghost use Rattle.tp_net.specs.Arcs.{arc_of, NamesCycle};
 ghost use Rattle.tp_net.specs.Held.{held};
 ghost use Rattle.tp_net.specs.Slacks.{JoinsPoints};
 ghost use Rattle.tp_net.specs.Sizes.{IsSmall, IsSmallWeight};
-ghost use Rattle.tp_net.specs.Moments.{AreExact};
-ghost use Rattle.tp_repair.specs.Store.{arcs_of, AreHalves, SamePoints, keys_of};
-ghost use Rattle.tp_repair.specs.Engine.{IsWired, AreSame, IsEntered};
+ghost use Rattle.tp_net.specs.Graph.{HasNoSolution};
+ghost use Rattle.tp_net.specs.Moments.{AreExact, HoldsLeast};
+ghost use Rattle.tp_repair.specs.Store.{arcs_of, names_of, kept_arcs, AreHalves, SamePoints, keys_of};
+ghost use Rattle.tp_repair.specs.Engine.{IsWired, AreSame, IsEntered, IsUntouched};
 ghost use Rattle.tp_repair.specs.Bringing.{IsBrought, IsUnbrought, IsRecorded, IsMore};
 ghost use Rattle.tp_repair.specs.declared.store.Direction.TheVariants.{Up, Down};
 
 use crate::flow::Work;
-use crate::store::{Store, insert, remove};
-use crate::tighten::{move_down, move_up, tighten};
+use crate::store::{Store, insert, named, remove};
+use crate::tighten::{move_down, move_up, rise, tighten};
 use std::alloc::{AllocError, Global};
 use std::collections::BTreeMap;
-use tp_bounds::{Bound, BoundId, Edge};
+use tp_bounds::{Bound, BoundId, Edge, Reason};
 use tp_net::edges::arc;
+use tp_net::slacks::Arc;
 
 /// The arcs of a network under keys, the least and the greatest moments that they leave, room to work them out, and how
 /// many edges the last command looked at.
@@ -133,4 +135,34 @@ pub fn bring(
     move_up(&mut engine.low, &engine.up);
     move_down(&mut engine.high, &engine.down);
     Ok(None)
+}
+
+/// A reason that begins with an edge which no solution meets. It changes nothing; each edge is looked at once at most.
+pub fn refute(
+    alloc: Global,
+    engine: &mut Engine,
+    first: Edge,
+    new: Arc,
+) -> Result<Reason, AllocError>
+    requires wired { (edges : ℕ) × IsWired (length engine.old.low.items) edges engine.old × (edges < 2 ^ 60) }
+    requires holds { HoldsLeast (arcs_of engine.old.store.nodes.slots) engine.old.low.items }
+    requires weight { IsSmallWeight new.weight }
+    requires among { JoinsPoints (length engine.old.low.items) new }
+    requires none { HasNoSolution (arcs_of engine.old.store.nodes.slots ++ new ∷ []) }
+    requires looks { engine.old.looks ≡ 0 }
+    ensures reason { IfOk result (λ r. NamesCycle (names_of engine.old.store.nodes.slots) (kept_arcs engine.old.store.nodes.slots) first new r.edges.items) }
+    ensures still { IsUntouched engine.old engine.new }
+    ensures looks { (edges : ℕ) → IsWired (length engine.old.low.items) edges engine.old → engine.new.looks ≤ edges + 1 }
+{
+    match rise(
+        alloc,
+        &engine.store,
+        &engine.low,
+        &mut engine.up,
+        new,
+        &mut engine.looks,
+    )? {
+        Some(path) => Ok(named(alloc, &engine.store, first, &path)?),
+        None => unreachable!(),
+    }
 }

@@ -1,23 +1,22 @@
 //! A network for bounds between any two points that is repaired from change to change.
-ghost use Rattle.std.specs.Prelude.{◌≡◌, ◌≢◌, ℕ, ◌+◌, ◌*◌, ◌<◌, ◌≤◌, ◌∷◌, ◌↔◌, true, false, length, IfOk, OnOk, OnErr, replicate, suc, None};
-ghost use Rattle.std.specs.FinMap as map;
-ghost use Rattle.tp_bounds.specs.Situation.{event_count, fixed_at, lag_of, HasPoint, IsInRange};
-ghost use Rattle.tp_bounds.specs.Lawful.{IsLawful};
-ghost use Rattle.tp_bounds.specs.Schedule.{HasSchedule, IsLeastMoment, IsGreatestMoment};
-ghost use Rattle.tp_bounds.specs.Changes.{with_bound, proposing, with_lag};
-ghost use Rattle.tp_net.specs.Faults.{RefusesBy, IsBetween, IsNew, SaysBetween};
+ghost use Rattle.std.specs.Prelude.{◌≡◌, ◌≢◌, ℕ, ◌+◌, ◌*◌, ◌<◌, ◌≤◌, ◌∷◌, length, IfOk, MatchOption, map, replicate, suc, Some, None};
+ghost use Rattle.std.specs.Ordering.{nat_cmp};
+ghost use Rattle.std.specs.BTreeMap.{BTreeMap, get};
 ghost use Rattle.tp_net.specs.NewNet.{new_situation};
+ghost use Rattle.tp_net.specs.Arcs.{AllWait, CannotWait, past_name};
 ghost use Rattle.tp_repair.specs.Work.{IsIdle};
 
-use crate::engine::{Engine, bring};
+use crate::change::{leave, raise, settle};
+use crate::engine::{Engine, bring, refute};
 use crate::flow::Work;
 use crate::star::star;
 use crate::store::named;
 use std::alloc::{AllocError, Global};
 use std::collections::BTreeMap;
 use std::marker::Model;
-use tp_bounds::{Bound, BoundId, Edge, MOST_LAG};
-use tp_net::NetFault;
+use tp_bounds::{Bound, BoundId, Edge, Reason};
+use tp_net::edges::{floor, name_past, start_arc, stop_arc};
+use tp_net::{Net, NetFault};
 
 /// A network for bounds between any two points. It keeps the least and the greatest moment of each, and a change costs
 /// what it changes.
@@ -90,6 +89,41 @@ fn unsettled(alloc: Global, events: u16) -> Result<(Vec<Option<u32>>, Vec<u32>),
     Ok((fixed, lags))
 }
 
+/// An event that is not dispatched and can't wait until the floor that it has at the moment, if there is one.
+fn late(fixed: &[Option<u32>], high: &[u64], lags: &[u32], now: u32) -> Option<u16>
+    requires events { length fixed.now ≤ 1024 }
+    requires points { length high.now ≡ suc (length fixed.now) }
+    ensures { MatchOption result (AllWait fixed.now high.now lags.now now) (CannotWait fixed.now high.now lags.now now) }
+{
+    for e in 0..fixed.len() {
+        if fixed[e].is_none() && high[e + 1] < u64::from(floor(lags, e as u16, now)) {
+            return Some(e as u16);
+        }
+    }
+    None
+}
+
+/// The key under an identifier.
+fn key_of(keys: &BTreeMap<u32, usize>, id: BoundId) -> usize
+    requires { get nat_cmp keys.now id.0 ≢ None }
+    ensures { get nat_cmp keys.now id.0 ≡ Some result }
+{
+    match keys.get(&id.0).copied() {
+        Some(key) => key,
+        None => unreachable!(),
+    }
+}
+
+/// A reason by the names that the edges have when an event is fixed.
+fn past(mut reason: Reason, e: u16) -> Reason
+    ensures { result.edges.items ≡ map (past_name e) reason.edges.items }
+{
+    for k in 0..reason.edges.len() {
+        reason.edges[k] = name_past(reason.edges[k], e);
+    }
+    reason
+}
+
 impl RepairNet {
     /// A network with no bound, at 0, of which nothing is dispatched. The horizon is in ticks. It takes time and room in
     /// the number of events.
@@ -135,110 +169,58 @@ impl RepairNet {
     }
 }
 
-impl RepairNet {
-    /// How many events there are: they are numbered from 0.
-    pub fn events(&self) -> u16
-        ensures count { result ≡ event_count (self.now.situation) }
-        ensures possible { HasSchedule (self.now.situation) }
-        ensures lawful { IsLawful (self.now.situation) }
-    {
+impl Net for RepairNet {
+    ghost use Rattle.std.specs.Prelude.{true};
+
+    ghost seen = { λ s. s.situation };
+
+    ghost takes_between = { true };
+
+    fn events(&self) -> u16 {
         self.fixed.len() as u16
     }
 
-    /// The last moment at which an event may happen.
-    pub fn horizon(&self) -> u32
-        ensures { result ≡ self.now.situation.horizon }
-    {
+    fn horizon(&self) -> u32 {
         self.horizon
     }
 
-    /// The moment to which it has come.
-    pub fn now(&self) -> u32
-        ensures moment { result ≡ self.now.situation.clock }
-        ensures in_time { self.now.situation.clock ≤ self.now.situation.horizon }
-    {
+    fn now(&self) -> u32 {
         self.clock
     }
 
-    /// The moment at which an event was dispatched, if it was.
-    pub fn fixed(&self, e: u16) -> Option<u32>
-        requires { e < event_count (self.now.situation) }
-        ensures { result ≡ fixed_at (self.now.situation) e }
-    {
+    fn fixed(&self, e: u16) -> Option<u32> {
         self.fixed[e as usize]
     }
 
-    /// How many ticks after an event its report may come.
-    pub fn lag(&self, e: u16) -> u32
-        requires { e < event_count (self.now.situation) }
-        ensures { result ≡ lag_of (self.now.situation) e }
-    {
+    fn lag(&self, e: u16) -> u32 {
         self.lags[e as usize]
     }
 
-    /// The bound in force under an identifier.
-    pub fn bound(&self, id: BoundId) -> Option<Bound>
-        ensures { result ≡ map.get self.now.situation.bounds id.0 }
-    {
+    fn bound(&self, id: BoundId) -> Option<Bound> {
         self.bounds.get(&id.0).copied()
     }
 
-    /// How many bounds are in force.
-    pub fn in_force(&self) -> usize
-        ensures { result ≡ map.len self.now.situation.bounds }
-    {
+    fn in_force(&self) -> usize {
         self.bounds.len()
     }
 
-    /// Whether it holds bounds between two different events.
-    pub fn between(&self) -> bool
-        ensures { result ≡ true }
-    {
+    fn between(&self) -> bool {
         true
     }
 
-    /// Lets the report of an event come so many ticks late. It is still 0, so that the same schedules remain. It takes no
-    /// memory.
-    pub fn set_lag(&mut self, e: u16, lag: u32)
-        requires event { e < event_count (self.old.situation) }
-        requires start { self.old.situation.clock ≡ 0 }
-        requires lag { lag ≤ MOST_LAG }
-        ensures { self.new.situation ≡ with_lag (self.old.situation) e lag }
-    {
+    fn set_lag(&mut self, e: u16, lag: u32) {
         self.lags[e as usize] = lag;
     }
 
-    /// The least moment of an event over all schedules that remain.
-    pub fn low(&self, e: u16) -> u32
-        requires { e < event_count (self.now.situation) }
-        ensures { IsLeastMoment (self.now.situation) e result }
-    {
+    fn low(&self, e: u16) -> u32 {
         self.engine.low[usize::from(e) + 1] as u32
     }
 
-    /// The greatest moment of an event over all schedules that remain.
-    pub fn high(&self, e: u16) -> u32
-        requires { e < event_count (self.now.situation) }
-        ensures { IsGreatestMoment (self.now.situation) e result }
-    {
+    fn high(&self, e: u16) -> u32 {
         self.engine.high[usize::from(e) + 1] as u32
     }
 
-    /// Brings a bound into force under an identifier that is free, if a schedule remains.
-    ///
-    /// # Errors
-    /// `Between` for a bound between two different events, where the network holds none; `Conflict` where no schedule
-    /// would remain, by a reason that begins with the bound; `Memory`.
-    pub fn add(&mut self, id: BoundId, bound: Bound) -> Result<(), NetFault>
-        requires from { HasPoint (self.old.situation) bound.from }
-        requires to { HasPoint (self.old.situation) bound.to }
-        requires weight { IsInRange bound.w }
-        requires unused { map.get self.old.situation.bounds id.0 ≡ None }
-        ensures ok { OnOk result (self.new.situation ≡ with_bound (self.old.situation) id.0 bound) }
-        ensures err { OnErr result (self.new.situation ≡ self.old.situation) }
-        ensures exact { RefusesBy IsNew (proposing (self.old.situation) bound) (with_bound (self.old.situation) id.0 bound) result }
-        ensures between { SaysBetween result ↔ ((true ≡ false) × IsBetween bound) }
-    {
+    fn add(&mut self, id: BoundId, bound: Bound) -> Result<(), NetFault> {
         self.engine.looks = 0;
         // there are no more identifiers
         if self.bounds.len() > u32::MAX as usize {
@@ -256,6 +238,65 @@ impl RepairNet {
             let reason = named(alloc, &self.engine.store, Edge::New, &path)?;
             return Err(NetFault::Conflict(reason));
         }
+        Ok(())
+    }
+
+    fn remove(&mut self, id: BoundId) -> Result<(), AllocError> {
+        self.engine.looks = 0;
+        let alloc = *self.fixed.allocator();
+        let amount = u64::from(self.horizon) + 1;
+        let key = key_of(&self.keys, id);
+        leave(alloc, &mut self.engine, key, amount)?;
+        let _bound = self.bounds.remove(&id.0);
+        let _key = self.keys.remove(&id.0);
+        Ok(())
+    }
+
+    fn raise(&mut self, now: u32) -> Result<(), NetFault> {
+        self.engine.looks = 0;
+        if now == self.clock {
+            return Ok(());
+        }
+        let alloc = *self.fixed.allocator();
+        if let Some(e) = late(&self.fixed, &self.engine.high, &self.lags, now) {
+            let new = start_arc(e, floor(&self.lags, e, now));
+            let reason = refute(alloc, &mut self.engine, Edge::Now(e), new)?;
+            return Err(NetFault::Conflict(reason));
+        }
+        let amount = u64::from(self.horizon) + 1;
+        raise(
+            alloc,
+            &mut self.engine,
+            &self.floors,
+            &self.fixed,
+            &self.lags,
+            self.clock,
+            now,
+            amount,
+        )?;
+        self.clock = now;
+        Ok(())
+    }
+
+    fn fix(&mut self, e: u16, moment: u32) -> Result<(), NetFault> {
+        self.engine.looks = 0;
+        let alloc = *self.fixed.allocator();
+        let point = usize::from(e) + 1;
+        if self.engine.high[point] < u64::from(moment) {
+            let new = start_arc(e, moment);
+            let reason = refute(alloc, &mut self.engine, Edge::PastLow(e), new)?;
+            return Err(NetFault::Conflict(past(reason, e)));
+        }
+        if u64::from(moment) < self.engine.low[point] {
+            let new = stop_arc(e, moment);
+            let reason = refute(alloc, &mut self.engine, Edge::PastHigh(e), new)?;
+            return Err(NetFault::Conflict(past(reason, e)));
+        }
+        let amount = u64::from(self.horizon) + 1;
+        let floor = self.floors[e as usize];
+        let end = self.ends[e as usize];
+        settle(alloc, &mut self.engine, floor, end, e, moment, amount)?;
+        self.fixed[e as usize] = Some(moment);
         Ok(())
     }
 }

@@ -6,7 +6,7 @@ use Rattle.tp_net.specs.Kept.{IsFit}
 use Rattle.tp_net.proofs.KeptMoments.{kept_possible}
 use Rattle.tp_repair.specs.Told.{Told}
 use Rattle.tp_repair.proofs.Repaired.{kept}
-use Rattle.tp_repair.proofs.net.RepairNet.events.Goals as goal
+use Rattle.tp_repair.proofs.net.RepairNetNet.events.Goals as goal
 
 pub returns-clause-possible : goal.returns-clause-possible
 returns-clause-possible c = subst (λ (t : Told). HasSchedule t.situation) c.self.view_is (kept_possible _ _ _ _ _ (kept _ _ _ _ _ _ c.self.invariant))

@@ -16,7 +16,7 @@ use Rattle.tp_repair.specs.Store.{names_of, kept_arcs}
 use Rattle.tp_repair.specs.Engine.{IsRepaired}
 use Rattle.tp_repair.specs.Bringing.{IsBrought, IsBroughtIn, IsUnbrought}
 use Rattle.tp_repair.proofs.Repaired.{small_low, small_high, weights, among, kept, with_looks, relooked, repaired_brought, repaired_unbrought}
-use Rattle.tp_repair.proofs.net.RepairNet.add.Goals as goal
+use Rattle.tp_repair.proofs.net.RepairNetNet.add.Goals as goal
 
 pub bring-requires-clause-small_low : goal.bring-requires-clause-small_low
 bring-requires-clause-small_low c = small_low _ _ _ _ _ _ c.self.invariant

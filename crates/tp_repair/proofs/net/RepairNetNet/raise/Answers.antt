@@ -1,0 +1,199 @@
+use Rattle.std.proofs.Common.{◌≡◌, ◌+◌, ◌*◌, ◌≤◌, length, sym, subst, ap, ◌∙◌, arith}
+use Rattle.tp_bounds.specs.declared.Edge.TheVariants.{Now}
+use Rattle.tp_bounds.specs.Situation.{Situation, event_count}
+use Rattle.tp_bounds.specs.Changes.{at_moment}
+use Rattle.tp_bounds.specs.Reasons.{at_least}
+use Rattle.tp_bounds.specs.Schedule.{HasSchedule}
+use Rattle.tp_net.specs.Arcs.{arc_of, floor_at, AllWait, CannotWait, NamesCycle}
+use Rattle.tp_net.specs.Faults.{Refutes, IsNow}
+use Rattle.tp_net.specs.Kept.{IsKept}
+use Rattle.tp_net.proofs.KeptMoments.{kept_possible}
+use Rattle.tp_net.proofs.Raises.{at_same, contrary_raise, refused_raise, start_raised}
+use Rattle.tp_repair.specs.Told.{Told, settled}
+use Rattle.tp_repair.specs.declared.engine.Engine.{Engine}
+use Rattle.tp_repair.specs.Store.{names_of, kept_arcs}
+use Rattle.tp_repair.specs.Slots.{raised_node, raised_slots}
+use Rattle.tp_repair.specs.Engine.{IsRepaired, IsChanged}
+use Rattle.tp_repair.proofs.Repaired.{kept, holds_least, wired_here, with_looks, relooked}
+use Rattle.tp_repair.proofs.Renewed.{are_raised, floor_there, floors_only, none_arcs, repaired_raised, repaired_untouched}
+use Rattle.tp_repair.proofs.net.RepairNetNet.raise.Goals as goal
+
+pub returns-then-now-self-clause-exact : goal.returns-then-now-self-clause-exact
+returns-then-now-self-clause-exact c =
+    let still : c.args.now ≡ c.args.self.now.situation.clock = c.if-now-self.true ∙ ap (λ (t : Told). t.situation.clock) c.self.view_is in
+    subst HasSchedule (sym (at_same c.args.self.now.situation c.args.now still)) (subst (λ (t : Told). HasSchedule t.situation) c.self.view_is (kept_possible _ _ _ _ _ (kept _ _ _ _ _ _ c.self.invariant)))
+
+pub refute-requires-clause-wired : goal.refute-requires-clause-wired
+refute-requires-clause-wired c =
+    let i = c.self.inside in
+    let s : Situation = settled i.horizon i.clock i.bounds.entries i.fixed.items i.lags.items in
+    let n = length i.bounds.entries in
+    let g : Engine = i.engine in
+    let g0 : Engine = with_looks g 0 in
+    let slots = g.store.nodes.slots in
+    let r : IsRepaired s n i.keys i.floors.items i.ends.items g = c.self.invariant in
+    let r0 : IsRepaired s n i.keys i.floors.items i.ends.items g0 = relooked s n i.keys i.floors.items i.ends.items g 0 r in
+    let k : IsKept s (names_of slots) (kept_arcs slots) g.low.items g.high.items = kept s n i.keys i.floors.items i.ends.items g r in
+    (n + 2 * event_count s, wired_here s n i.keys i.floors.items i.ends.items g0 r0, (let f = r.few in let e = r.fit.events in omega (arith, f, e)))
+
+pub refute-requires-clause-holds : goal.refute-requires-clause-holds
+refute-requires-clause-holds c = holds_least _ _ _ _ _ _ c.self.invariant
+
+pub refute-requires-clause-none : goal.refute-requires-clause-none
+refute-requires-clause-none c =
+    let i = c.self.inside in
+    let s : Situation = settled i.horizon i.clock i.bounds.entries i.fixed.items i.lags.items in
+    let n = length i.bounds.entries in
+    let g : Engine = i.engine in
+    let g0 : Engine = with_looks g 0 in
+    let slots = g.store.nodes.slots in
+    let r : IsRepaired s n i.keys i.floors.items i.ends.items g = c.self.invariant in
+    let r0 : IsRepaired s n i.keys i.floors.items i.ends.items g0 = relooked s n i.keys i.floors.items i.ends.items g 0 r in
+    let k : IsKept s (names_of slots) (kept_arcs slots) g.low.items g.high.items = kept s n i.keys i.floors.items i.ends.items g r in
+    let soon : c.args.now ≤ i.horizon = subst (λ (t : Told). c.args.now ≤ t.situation.horizon) (sym c.self.view_is) c.requires.in_time in
+    let late : CannotWait i.fixed.items g.high.items i.lags.items c.args.now c.in-Some.e = simp (c.deref.ensures.value, c.deref-2.ensures.value, c.deref-3.ensures.value) at c.in-Some.ensures in
+    simp (c.start_arc-new.ensures, c.floor.ensures, c.deref-in-Some.ensures.value)
+    (none_arcs slots (arc_of (at_least c.in-Some.e (floor_at c.args.now i.lags.items c.in-Some.e))) (contrary_raise s (names_of slots) (kept_arcs slots) g.low.items g.high.items c.args.now c.in-Some.e k soon late).none)
+
+pub invariant_of-self-in_err-reason : goal.invariant_of-self-in_err-reason
+invariant_of-self-in_err-reason c =
+    let i = c.self.inside in
+    let s : Situation = settled i.horizon i.clock i.bounds.entries i.fixed.items i.lags.items in
+    let n = length i.bounds.entries in
+    let g : Engine = i.engine in
+    let g0 : Engine = with_looks g 0 in
+    let slots = g.store.nodes.slots in
+    let r : IsRepaired s n i.keys i.floors.items i.ends.items g = c.self.invariant in
+    let r0 : IsRepaired s n i.keys i.floors.items i.ends.items g0 = relooked s n i.keys i.floors.items i.ends.items g 0 r in
+    let k : IsKept s (names_of slots) (kept_arcs slots) g.low.items g.high.items = kept s n i.keys i.floors.items i.ends.items g r in
+    repaired_untouched s n i.keys i.floors.items i.ends.items g0 c.refute.new.engine i.bounds r0 c.refute.ensures.still
+
+pub invariant_of-self-in-Some : goal.invariant_of-self-in-Some
+invariant_of-self-in-Some c =
+    let i = c.self.inside in
+    let s : Situation = settled i.horizon i.clock i.bounds.entries i.fixed.items i.lags.items in
+    let n = length i.bounds.entries in
+    let g : Engine = i.engine in
+    let g0 : Engine = with_looks g 0 in
+    let slots = g.store.nodes.slots in
+    let r : IsRepaired s n i.keys i.floors.items i.ends.items g = c.self.invariant in
+    let r0 : IsRepaired s n i.keys i.floors.items i.ends.items g0 = relooked s n i.keys i.floors.items i.ends.items g 0 r in
+    let k : IsKept s (names_of slots) (kept_arcs slots) g.low.items g.high.items = kept s n i.keys i.floors.items i.ends.items g r in
+    repaired_untouched s n i.keys i.floors.items i.ends.items g0 c.refute.new.engine i.bounds r0 c.refute.ensures.still
+
+pub returns-in-Some-clause-exact : goal.returns-in-Some-clause-exact
+returns-in-Some-clause-exact c =
+    let i = c.self.inside in
+    let s : Situation = settled i.horizon i.clock i.bounds.entries i.fixed.items i.lags.items in
+    let n = length i.bounds.entries in
+    let g : Engine = i.engine in
+    let g0 : Engine = with_looks g 0 in
+    let slots = g.store.nodes.slots in
+    let r : IsRepaired s n i.keys i.floors.items i.ends.items g = c.self.invariant in
+    let r0 : IsRepaired s n i.keys i.floors.items i.ends.items g0 = relooked s n i.keys i.floors.items i.ends.items g 0 r in
+    let k : IsKept s (names_of slots) (kept_arcs slots) g.low.items g.high.items = kept s n i.keys i.floors.items i.ends.items g r in
+    let late : CannotWait i.fixed.items g.high.items i.lags.items c.args.now c.in-Some.e = simp (c.deref.ensures.value, c.deref-2.ensures.value, c.deref-3.ensures.value) at c.in-Some.ensures in
+    let forward : i.clock ≤ c.args.now = subst (λ (t : Told). t.situation.clock ≤ c.args.now) (sym c.self.view_is) c.requires.forward in
+    let h : NamesCycle (names_of slots) (kept_arcs slots) (Now c.in-Some.e) (arc_of (at_least c.in-Some.e (floor_at c.args.now i.lags.items c.in-Some.e))) c.in_ok-reason.reason.edges.items =
+    simp (c.start_arc-new.ensures, c.floor.ensures, c.deref-in-Some.ensures.value) at c.in_ok-reason.ensures.reason in
+    subst (λ (t : Told). Refutes IsNow (at_moment t.situation c.args.now) (at_moment t.situation c.args.now) c.in_ok-reason.reason.edges.items) c.self.view_is
+    (refused_raise s (names_of slots) (kept_arcs slots) g.low.items g.high.items c.args.now c.in-Some.e c.in_ok-reason.reason.edges.items k forward late h)
+
+pub raise-requires-clause-wired : goal.raise-requires-clause-wired
+raise-requires-clause-wired c =
+    let i = c.self.inside in
+    let s : Situation = settled i.horizon i.clock i.bounds.entries i.fixed.items i.lags.items in
+    let n = length i.bounds.entries in
+    let g : Engine = i.engine in
+    let g0 : Engine = with_looks g 0 in
+    let slots = g.store.nodes.slots in
+    let r : IsRepaired s n i.keys i.floors.items i.ends.items g = c.self.invariant in
+    let r0 : IsRepaired s n i.keys i.floors.items i.ends.items g0 = relooked s n i.keys i.floors.items i.ends.items g 0 r in
+    let k : IsKept s (names_of slots) (kept_arcs slots) g.low.items g.high.items = kept s n i.keys i.floors.items i.ends.items g r in
+    (n + 2 * event_count s, wired_here s n i.keys i.floors.items i.ends.items g0 r0)
+
+pub raise-requires-clause-floors : goal.raise-requires-clause-floors
+raise-requires-clause-floors c =
+    let i = c.self.inside in
+    let s : Situation = settled i.horizon i.clock i.bounds.entries i.fixed.items i.lags.items in
+    let n = length i.bounds.entries in
+    let g : Engine = i.engine in
+    let g0 : Engine = with_looks g 0 in
+    let slots = g.store.nodes.slots in
+    let r : IsRepaired s n i.keys i.floors.items i.ends.items g = c.self.invariant in
+    let r0 : IsRepaired s n i.keys i.floors.items i.ends.items g0 = relooked s n i.keys i.floors.items i.ends.items g 0 r in
+    let k : IsKept s (names_of slots) (kept_arcs slots) g.low.items g.high.items = kept s n i.keys i.floors.items i.ends.items g r in
+    simp (c.deref-4.ensures.value, c.deref-5.ensures.value) (floor_there s n i.keys i.floors.items i.ends.items g r)
+
+pub raise-requires-clause-only : goal.raise-requires-clause-only
+raise-requires-clause-only c =
+    let i = c.self.inside in
+    let s : Situation = settled i.horizon i.clock i.bounds.entries i.fixed.items i.lags.items in
+    let n = length i.bounds.entries in
+    let g : Engine = i.engine in
+    let g0 : Engine = with_looks g 0 in
+    let slots = g.store.nodes.slots in
+    let r : IsRepaired s n i.keys i.floors.items i.ends.items g = c.self.invariant in
+    let r0 : IsRepaired s n i.keys i.floors.items i.ends.items g0 = relooked s n i.keys i.floors.items i.ends.items g 0 r in
+    let k : IsKept s (names_of slots) (kept_arcs slots) g.low.items g.high.items = kept s n i.keys i.floors.items i.ends.items g r in
+    simp (c.deref-4.ensures.value, c.deref-5.ensures.value) (floors_only s n i.keys i.floors.items i.ends.items g r)
+
+pub raise-requires-clause-start : goal.raise-requires-clause-start
+raise-requires-clause-start c =
+    let i = c.self.inside in
+    let s : Situation = settled i.horizon i.clock i.bounds.entries i.fixed.items i.lags.items in
+    let n = length i.bounds.entries in
+    let g : Engine = i.engine in
+    let g0 : Engine = with_looks g 0 in
+    let slots = g.store.nodes.slots in
+    let r : IsRepaired s n i.keys i.floors.items i.ends.items g = c.self.invariant in
+    let r0 : IsRepaired s n i.keys i.floors.items i.ends.items g0 = relooked s n i.keys i.floors.items i.ends.items g 0 r in
+    let k : IsKept s (names_of slots) (kept_arcs slots) g.low.items g.high.items = kept s n i.keys i.floors.items i.ends.items g r in
+    let soon : c.args.now ≤ i.horizon = subst (λ (t : Told). c.args.now ≤ t.situation.horizon) (sym c.self.view_is) c.requires.in_time in
+    let wait : AllWait i.fixed.items g.high.items i.lags.items c.args.now = simp (c.deref.ensures.value, c.deref-2.ensures.value, c.deref-3.ensures.value) at c.in_default.ensures in
+    simp c.deref-6.ensures.value
+    (start_raised s (names_of slots) (kept_arcs slots) g.low.items g.high.items c.args.now (kept_arcs (raised_slots c.args.now i.lags.items slots)) k (are_raised c.args.now i.lags.items slots) soon (c.from-amount.result + 1) wait (omega (arith, c.from-amount.ensures)))
+
+pub invariant_of-self-in_err-raise : goal.invariant_of-self-in_err-raise
+invariant_of-self-in_err-raise c =
+    let i = c.self.inside in
+    let s : Situation = settled i.horizon i.clock i.bounds.entries i.fixed.items i.lags.items in
+    let n = length i.bounds.entries in
+    let g : Engine = i.engine in
+    let g0 : Engine = with_looks g 0 in
+    let slots = g.store.nodes.slots in
+    let r : IsRepaired s n i.keys i.floors.items i.ends.items g = c.self.invariant in
+    let r0 : IsRepaired s n i.keys i.floors.items i.ends.items g0 = relooked s n i.keys i.floors.items i.ends.items g 0 r in
+    let k : IsKept s (names_of slots) (kept_arcs slots) g.low.items g.high.items = kept s n i.keys i.floors.items i.ends.items g r in
+    repaired_untouched s n i.keys i.floors.items i.ends.items g0 c.raise.new.engine i.bounds r0 c.in_err-raise.ensures.err
+
+pub invariant_of-self-2 : goal.invariant_of-self-2
+invariant_of-self-2 c =
+    let i = c.self.inside in
+    let s : Situation = settled i.horizon i.clock i.bounds.entries i.fixed.items i.lags.items in
+    let n = length i.bounds.entries in
+    let g : Engine = i.engine in
+    let g0 : Engine = with_looks g 0 in
+    let slots = g.store.nodes.slots in
+    let r : IsRepaired s n i.keys i.floors.items i.ends.items g = c.self.invariant in
+    let r0 : IsRepaired s n i.keys i.floors.items i.ends.items g0 = relooked s n i.keys i.floors.items i.ends.items g 0 r in
+    let k : IsKept s (names_of slots) (kept_arcs slots) g.low.items g.high.items = kept s n i.keys i.floors.items i.ends.items g r in
+    let soon : c.args.now ≤ i.horizon = subst (λ (t : Told). c.args.now ≤ t.situation.horizon) (sym c.self.view_is) c.requires.in_time in
+    let changed : IsChanged (raised_node c.args.now i.lags.items) g0 c.raise.new.engine = simp c.deref-6.ensures.value at c.in_ok-raise.ensures.ok in
+    repaired_raised s c.args.now n i.keys i.floors.items i.ends.items g0 c.raise.new.engine r0 changed soon
+
+pub returns-clause-exact : goal.returns-clause-exact
+returns-clause-exact c =
+    let i = c.self.inside in
+    let s : Situation = settled i.horizon i.clock i.bounds.entries i.fixed.items i.lags.items in
+    let n = length i.bounds.entries in
+    let g : Engine = i.engine in
+    let g0 : Engine = with_looks g 0 in
+    let slots = g.store.nodes.slots in
+    let r : IsRepaired s n i.keys i.floors.items i.ends.items g = c.self.invariant in
+    let r0 : IsRepaired s n i.keys i.floors.items i.ends.items g0 = relooked s n i.keys i.floors.items i.ends.items g 0 r in
+    let k : IsKept s (names_of slots) (kept_arcs slots) g.low.items g.high.items = kept s n i.keys i.floors.items i.ends.items g r in
+    let soon : c.args.now ≤ i.horizon = subst (λ (t : Told). c.args.now ≤ t.situation.horizon) (sym c.self.view_is) c.requires.in_time in
+    let changed : IsChanged (raised_node c.args.now i.lags.items) g0 c.raise.new.engine = simp c.deref-6.ensures.value at c.in_ok-raise.ensures.ok in
+    subst (λ (t : Told). HasSchedule (at_moment t.situation c.args.now)) c.self.view_is
+    (kept_possible _ _ _ _ _ (kept _ _ _ _ _ _ (repaired_raised s c.args.now n i.keys i.floors.items i.ends.items g0 c.raise.new.engine r0 changed soon)))
