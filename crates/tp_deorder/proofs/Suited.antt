@@ -14,6 +14,8 @@ use Rattle.tp_ground.specs.Valid.{Planned, Placed, events, events_of, events_fro
 use Rattle.tp_ground.specs.Verdict.{last_moment}
 use Rattle.tp_ground.specs.Bounds.{In, uses_duration}
 use Rattle.tp_ground.proofs.Numbered.{in_parts, in_left, in_right}
+use Rattle.tp_validate.proofs.Ordered.{at_most}
+use Rattle.tp_validate.proofs.Runs.{all_in}
 use Rattle.tp_deorder.specs.declared.spans.Ticks.{Ticks}
 use Rattle.tp_deorder.specs.Spans.{IsAmong, kept_ticks, lawful_ticks}
 use Rattle.tp_deorder.specs.Inequalities.{earlier, no_later, comes_before, only_if, order_of, orders, touches, touching, is_inside, inside, side_of, turn_of, invariant_bounds, length_bounds, at_most_after, body_bounds, steps_bounds, plan_bounds, event_count_of}
@@ -32,11 +34,6 @@ below_one k p (Durative x y c) e (inr (inr i)) = absurd i
 pub below : (k : ℕ) (ps : List Planned) (e : Placed) → In e (events_from k ps) → e.number < k + event_count_of ps
 below k [] e i = absurd i
 below k (p ∷ ps) e i = ⊎_elim (λ j. omega (arith, below_one k p p.body e j)) (λ j. omega (arith, below (k + count_of p.body) ps e j)) (in_parts e (events_of k p p.body) _ i)
-
-by_last : (es : List Placed) (e : Placed) → In e es → e.moment ≤ last_moment es
-by_last [] e i = absurd i
-by_last (x ∷ xs) e (inl w) = let q : e.moment ≡ x.moment = ap (λ (y : Placed). y.moment) w in omega arith
-by_last (x ∷ xs) e (inr i) = omega (arith, by_last xs e i)
 
 module _ (n : ℕ) where
   abbrev P : Bound → Type 0
@@ -118,4 +115,4 @@ plan_suits horizon scale trace plan h l v =
     let n = event_count_of plan in
     let f : (e : Placed) → In e (events plan) → e.number < n = λ e i. omega (arith, below 0 plan e i) in
     all_append (SuitsNet n) (orders (events plan) (events plan)) _ (orders_suit n (events plan) f)
-    (steps_suit n horizon scale trace h (events plan) f 0 plan (omega arith) (λ e i. omega (arith, by_last (events plan) e i)) v)
+    (steps_suit n horizon scale trace h (events plan) f 0 plan (omega arith) (λ e i. omega (arith, all_in (λ (x : Placed). x.moment ≤ last_moment (events plan)) (events plan) (at_most (events plan)) e i)) v)
