@@ -1,0 +1,8 @@
+pub mod Parts
+pub mod Whole
+pub mod Shuffled
+pub mod Wanted
+pub mod Unreachable
+pub mod Chains
+pub mod Loop
+pub mod Expanding

@@ -1,0 +1,7 @@
+pub mod Plans
+pub mod Promised
+pub mod AtOnce
+pub mod Answers
+pub mod Chains
+pub mod Children
+pub mod Running
