@@ -9,7 +9,7 @@ use std::alloc::Global;
 use tp_bounds::Limits;
 use tp_device::{Sink, Source};
 use tp_exec::Executive;
-use tp_net::ScratchNet;
+use tp_repair::RepairNet;
 use tp_script::{Lines, ServeFault, Served, read_head, read_lags, serve};
 
 /// The most bytes of a command line.
@@ -51,7 +51,7 @@ fn begin<I: Source>(
     lines: &mut Lines<I>,
     events: u16,
     horizon: u32,
-) -> Result<Executive<ScratchNet>, BareFault>
+) -> Result<Executive<RepairNet>, BareFault>
     requires longest { lines.old.longest ≡ 256 }
     requires events { events ≤ 1024 }
     requires horizon { horizon ≤ 1000000000 }
@@ -60,7 +60,7 @@ fn begin<I: Source>(
     ensures most { lines.new.most ≡ lines.old.most }
     ensures told { (n : ℕ) → bare_failures n result ≡ n }
 {
-    match ScratchNet::new(alloc, events, horizon) {
+    match RepairNet::new(alloc, events, horizon) {
         Ok(net) => {
             let mut net = net;
             match read_lags(lines, &mut net) {
