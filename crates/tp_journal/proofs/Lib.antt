@@ -3,3 +3,4 @@ pub mod ReadLemmas
 pub mod Verdicts
 pub mod WriteLemmas
 pub mod SoundLemmas
+pub mod MarkLemmas

@@ -1,6 +1,6 @@
 //! Whether edges are a reason against a command: the setting that would be is looked at, edge by edge, and never copied.
 
-ghost use Rattle.std.specs.Prelude.{◌≡◌, ◌≢◌, ◌↔◌, ◌<◌, true, IsTrue, MatchOption};
+ghost use Rattle.std.specs.Prelude.{◌≡◌, ◌≢◌, ◌↔◌, ◌<◌, ℕ, true, false, IsTrue, MatchOption, slice_index_or};
 ghost use Rattle.std.specs.List.{AllByRecursion};
 ghost use Rattle.std.specs.FinMap as map;
 ghost use Rattle.tp_bounds.specs.declared.Point.{Point};
@@ -8,7 +8,7 @@ ghost use Rattle.tp_bounds.specs.Situation.{fixed_at, event_count, floor_of};
 ghost use Rattle.tp_bounds.specs.Reasons.{at_most, at_least, is_open, bound_of, BeginApart, weight_of, IsReason, BeginsWith};
 ghost use Rattle.tp_bounds.specs.Certificates.{bounds_of, IsChain, IsClosedChain};
 ghost use Rattle.tp_exec.specs.Step.{asked, brings};
-ghost use Rattle.tp_journal.specs.Reasons.{may_conflict};
+ghost use Rattle.tp_journal.specs.Reasons.{may_conflict, place_of, Marks};
 ghost use Rattle.tp_journal.specs.Sound.{IsSound};
 
 use tp_bounds::{Bound, BoundId, Edge, Point};
@@ -218,17 +218,55 @@ fn none_begins<N: Net>(
     true
 }
 
-/// Whether no two of those of the edges that exist begin at one point.
+/// The place of a point among marks: the origin's is the first.
+fn place(point: Point) -> usize
+    ensures { result ≡ place_of point }
+{
+    match point {
+        Point::Origin => 0,
+        Point::Event(e) => usize::from(e) + 1,
+    }
+}
+
+/// No mark, for as many points as a network has at the most.
+fn no_marks() -> [bool; 1_025]
+    ensures { (k : ℕ) → slice_index_or result k false ≡ false }
+{
+    [false; 1_025]
+}
+
+/// Marks a point, if it has a place, and tells whether it was marked before.
+fn mark(marks: &mut [bool], point: Point) -> Option<bool>
+    ensures { Marks marks.old marks.new point result }
+{
+    let place = place(point);
+    if marks.len() <= place {
+        return None;
+    }
+    let was = marks[place];
+    marks[place] = true;
+    Some(was)
+}
+
+/// Whether no two of those of the edges that exist begin at one point. Each edge is looked at once, from the last to the
+/// first, and the points at which the ones behind it begin are marked.
 fn begin_apart<N: Net>(executive: &Executive<N>, command: Command, edges: &[Edge]) -> bool
     requires conflict { may_conflict command ≡ true }
     requires sound { IsSound executive.now }
     ensures { IsTrue result ↔ BeginApart (bounds_of (asked executive.now command) edges.now) }
 {
-    for (place, edge) in edges.iter().enumerate() {
-        let Some(bound) = edge_then(executive, command, *edge) else {
+    let mut marks = no_marks();
+    let mut at = edges.len();
+    while 0 < at {
+        at -= 1;
+        let Some(bound) = edge_then(executive, command, edges[at]) else {
             continue;
         };
-        if !none_begins(executive, command, &edges[place + 1..], bound.from) {
+        let apart = match mark(&mut marks, bound.from) {
+            Some(was) => !was,
+            None => none_begins(executive, command, &edges[at + 1..], bound.from),
+        };
+        if !apart {
             return false;
         }
     }
