@@ -44,7 +44,7 @@ fn change(seed: u64, now: u32) -> Change {
             Bound {
                 from: point(pick(seed, 38)),
                 to: point(pick(seed, 44)),
-                w: small as i64 - 20,
+                w: (small % 64) as i64 - 20,
             },
         ),
         9..=12 => Change::Remove(id),
