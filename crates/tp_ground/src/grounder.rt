@@ -241,8 +241,8 @@ fn made(
 
 /// The task of a problem of a domain: its actions written out over its objects, atoms and fluents numbered in the order in
 /// which `:init`, the goal and the ground actions mention them. Takes time and memory in what is written out: a step for
-/// each variable of each binding and for each part of what stands under it. Past 2^24 bindings of quantifiers memory is
-/// refused.
+/// each variable of each binding and for each part of what stands under it; a quantifier asks for the room of all its
+/// bindings before the first is written out.
 pub fn ground(
     alloc: Global,
     domain: &Domain,

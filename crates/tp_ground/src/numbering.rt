@@ -22,11 +22,7 @@ pub struct Numbering {
     fluents: IndexSet<Label>,
     actions: Vec<Label>,
     most: u32,
-    bindings: usize,
 }
-
-// The most bindings of quantifiers' variables under which something is written out, some 2 GB.
-const MOST_BINDINGS: usize = 16_777_216;
 
 impl Model for Numbering {
     ghost use Rattle.std.specs.Prelude.{map, string_bytes};
@@ -106,20 +102,7 @@ impl Numbering {
             fluents: IndexSet::new(alloc),
             actions: Vec::new(alloc),
             most,
-            bindings: 0,
         }
-    }
-
-    // One more binding of a quantifier's variables, under which something is written out. Past 2^24 of them memory is refused,
-    // so that no short text asks for more than some gigabytes.
-    pub(crate) fn note_binding(&mut self) -> Result<(), AllocError>
-        ensures { self.new ≡ self.old }
-    {
-        if self.bindings >= MOST_BINDINGS {
-            return Err(AllocError);
-        }
-        self.bindings += 1;
-        Ok(())
     }
 
     /// How many atoms there are.

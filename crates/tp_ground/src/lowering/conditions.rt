@@ -102,21 +102,6 @@ fn conditions(
     Ok(lowered)
 }
 
-// A condition under one of the bindings of variables.
-#[cycle(condition)]
-fn under_one(
-    alloc: Global,
-    universe: &Universe,
-    env: &Env,
-    numbering: &mut Numbering,
-    cond: &tp_syntax::Cond,
-) -> Result<Cond, GroundFault>
-    ensures { Lowers named_condition numbering.old result numbering.new (condition_in (universe_view universe.now) (env_view env.now) (cond_view cond.now)) (of_condition (condition_in (universe_view universe.now) (env_view env.now) (cond_view cond.now))) }
-{
-    numbering.note_binding()?;
-    condition(alloc, universe, env, numbering, cond)
-}
-
 // A condition under each binding of variables.
 #[cycle(condition)]
 fn under_each(
@@ -130,11 +115,11 @@ fn under_each(
     ensures { Lowers (λ t v. map (named_condition t) v.items) numbering.old result numbering.new (map (λ e. condition_in (universe_view universe.now) e (cond_view cond.now)) (inner (universe_view universe.now) (env_view env.now) (map typed_view variables.now))) (of_each of_condition (map (λ e. condition_in (universe_view universe.now) e (cond_view cond.now)) (inner (universe_view universe.now) (env_view env.now) (map typed_view variables.now)))) }
 {
     let mut rows = rows_of(alloc, universe, variables)?;
-    let mut lowered = Vec::new(alloc);
+    let mut lowered = Vec::with_capacity(alloc, rows.count)?;
     for place in 0..rows.count {
         rows.turn_to(place);
         let inner = Env::Inner(&*variables, &rows.row, &*env);
-        lowered.push(under_one(alloc, universe, &inner, numbering, cond)?)?;
+        lowered.push(condition(alloc, universe, &inner, numbering, cond)?)?;
     }
     Ok(lowered)
 }

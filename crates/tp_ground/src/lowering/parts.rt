@@ -71,22 +71,6 @@ fn all_parts<P: Part>(
     Ok(lowered)
 }
 
-// Parts under one of the bindings of variables.
-#[cycle(joined)]
-fn under_one<P: Part>(
-    alloc: Global,
-    universe: &Universe,
-    env: &Env,
-    mark: Mark,
-    numbering: &mut Numbering,
-    part: &Joined<P>,
-) -> Result<Vec<P::Lowered>, GroundFault>
-    ensures { Lowers (λ t v. map (P.named t) v.items) numbering.old result numbering.new (parts_in (universe_view universe.now) (P.written (universe_view universe.now) mark) (env_view env.now) (joined_view P.seen part.now)) (of_each P.mentions (parts_in (universe_view universe.now) (P.written (universe_view universe.now) mark) (env_view env.now) (joined_view P.seen part.now))) }
-{
-    numbering.note_binding()?;
-    joined(alloc, universe, env, mark, numbering, part)
-}
-
 // Parts under each binding of variables.
 #[cycle(joined)]
 fn under_each<P: Part>(
@@ -101,11 +85,11 @@ fn under_each<P: Part>(
     ensures { Lowers (λ t v. map (P.named t) v.items) numbering.old result numbering.new (flat_map (λ e. parts_in (universe_view universe.now) (P.written (universe_view universe.now) mark) e (joined_view P.seen part.now)) (inner (universe_view universe.now) (env_view env.now) (map typed_view variables.now))) (of_each P.mentions (flat_map (λ e. parts_in (universe_view universe.now) (P.written (universe_view universe.now) mark) e (joined_view P.seen part.now)) (inner (universe_view universe.now) (env_view env.now) (map typed_view variables.now)))) }
 {
     let mut rows = rows_of(alloc, universe, variables)?;
-    let mut lowered = Vec::new(alloc);
+    let mut lowered = Vec::with_capacity(alloc, rows.count)?;
     for place in 0..rows.count {
         rows.turn_to(place);
         let inner = Env::Inner(&*variables, &rows.row, &*env);
-        let mut more = under_one(alloc, universe, &inner, mark, numbering, part)?;
+        let mut more = joined(alloc, universe, &inner, mark, numbering, part)?;
         lowered.append(&mut more)?;
     }
     Ok(lowered)

@@ -47,13 +47,13 @@ under_each-loop-place-preserved t c =
     record {
       lowered =
           all_push named_condition of_condition _ _ _ _ _ _ _ _ _ c.in_ok-push.ensures.items (map_next f xs place row lt.1 item) c.loop-place.invariant.lowered
-          (as_written of_condition _ _ (ap (λ (e : Env). condition_in u e x) (sym (inner_env _ _ _ row names))) c.in_ok-under_one.ensures);
+          (as_written of_condition _ _ (ap (λ (e : Env). condition_in u e x) (sym (inner_env _ _ _ row names))) c.in_ok-condition.ensures);
       lists = ap (λ (v : Vec (Vec (Bor Name) Global) Global). product (lists_of v.items)) c.turn_to.ensures.lists ∙ c.loop-place.invariant.lists;
       count = c.turn_to.ensures.count ∙ c.loop-place.invariant.count;
     }
 
-pub under_each-returns-in_err-under_one : goal.under_each-returns-in_err-under_one
-under_each-returns-in_err-under_one t c =
+pub under_each-returns-in_err-condition : goal.under_each-returns-in_err-condition
+under_each-returns-in_err-condition t c =
     let u = universe_view c.args.universe.now in
     let x = cond_view c.args.cond.now in
     let env = env_view c.args.env.now in
@@ -65,8 +65,8 @@ under_each-returns-in_err-under_one t c =
     let item = row_there (product (lists_of c.loop-place.rows.lists.items)) xs place row c.loop-place.invariant.lists lt.0 c.turn_to.ensures.row in
     let names = ap (map (λ (o : Bor Name). o.now)) c.deref.ensures.value in
     let f = λ (b : List Name). condition_in u (bound vs b ++ env) x in
-    map_stopped_as named_condition of_condition xs place row lt.1 item _ _ _ _ _ _ _ c.from_residual-in_err-under_one.ensures.1 f _ (ap (λ (e : Env). condition_in u e x) (inner_env _ _ _ row names))
-    (sym (map_under env vs u (λ (e : Env). condition_in u e x))) c.loop-place.invariant.lowered c.in_err-under_one.ensures
+    map_stopped_as named_condition of_condition xs place row lt.1 item _ _ _ _ _ _ _ c.from_residual-in_err-condition.ensures.1 f _ (ap (λ (e : Env). condition_in u e x) (inner_env _ _ _ row names))
+    (sym (map_under env vs u (λ (e : Env). condition_in u e x))) c.loop-place.invariant.lowered c.in_err-condition.ensures
 
 pub under_each-returns : goal.under_each-returns
 under_each-returns t c =
