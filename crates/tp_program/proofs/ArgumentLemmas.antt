@@ -16,7 +16,7 @@ use Rattle.clap.specs.declared.parser.matches.Found.{Found}
 use Rattle.tp_program.specs.Commands.{tempo_app}
 use Rattle.tp_program.specs.Requests.{AskForOneThing, AsksBy, AsksFor, NamesBare, Spells, TellsText}
 use Rattle.tp_text.specs.Scales.{scale_ticks}
-use Rattle.tp_program.specs.declared.requests.PlanWords.{PlanWords}
+use Rattle.tp_plan_files.specs.declared.plan_words.PlanWords.{PlanWords}
 use Rattle.tp_program.specs.declared.requests.Request.{Request}
 use Rattle.tp_program.specs.declared.requests.Request.TheVariants.{Bare, Check, Net, Help}
 

@@ -5,14 +5,14 @@ use Rattle.std.specs.Io.KnownBytes.{Appends, Keeps}
 use Rattle.std.specs.String.{string_bytes}
 use Rattle.tp_device.specs.Bytes.{AppendsPart}
 use Rattle.tp_device.proofs.Parts.{appends_none}
-use Rattle.tp_program.specs.Bare.{AnswersAll, AnswersPart, IsRefused}
+use Rattle.tp_bare.specs.Bare.{AnswersAll, AnswersPart, IsRefused}
 use Rattle.tp_program.specs.Checks.{SaysInvalid, SaysPart, SaysValid}
 use Rattle.tp_program.specs.Done.{AnswersNo, DoesPart, DoesWhatIsAsked, IsDone, IsPartDone}
 use Rattle.tp_program.specs.Networks.{ShowsNetwork, ShowsPart}
-use Rattle.tp_program.specs.FaultLines.{Tells, TellsFault, TellsRefusal, fault_line}
+use Rattle.tp_files.specs.FaultLines.{Tells, TellsFault, TellsRefusal, fault_line}
 use Rattle.tp_program.specs.Requests.{AsksFor, AsksForNoNetwork}
 use Rattle.tp_program.specs.Streams.{Ends, HandsOn, Runs, TellsSome}
-use Rattle.tp_program.specs.declared.requests.PlanWords.{PlanWords}
+use Rattle.tp_plan_files.specs.declared.plan_words.PlanWords.{PlanWords}
 use Rattle.tp_program.specs.declared.requests.Request.{Request}
 use Rattle.tp_program.specs.declared.requests.Request.TheVariants.{Bare, Check, Net, Help}
 
@@ -46,6 +46,7 @@ all_over (Some bytes) a b c d over h =
       text = h.text;
       last = h.last;
       read = h.read;
+      short = h.short;
       spelled = h.spelled;
       set = h.set;
       end = h.end;
@@ -67,6 +68,7 @@ answers_part_over (Some bytes) a b c d over (inr h) =
       text = h.text;
       last = h.last;
       read = h.read;
+      short = h.short;
       spelled = h.spelled;
       set = h.set;
       end = h.end;
@@ -119,12 +121,12 @@ does_part_over words files input a b c d over (inr h) = inr (h.0, h.1, part_done
 -- ---- faults
 
 pub tells_some : (failures failures-now : ℕ) (a b : Option (List ℕ)) → TellsFault [] failures a failures-now b → TellsSome a b
-tells_some failures failures-now a b h = (h.text, [], h.is, h.told.part)
+tells_some failures failures-now a b h = (h.text, [], h.is, inl refl, h.told.part)
 
 pub refusal_some : (status failures failures-now : ℕ) (a b : Option (List ℕ)) → TellsRefusal status failures a failures-now b → TellsSome a b
 refusal_some status failures failures-now a b (inl h) = tells_some failures failures-now a b h
 refusal_some status failures failures-now a b (inr h) =
-    (fault_line (codes "arguments") (codes "1 words"), h.1.0, (codes "arguments 1 words", refl), h.1.1.part)
+    (fault_line (codes "arguments") (codes "1 words"), h.1.0, (codes "arguments 1 words", refl), inr refl, h.1.1.part)
 
 -- ---- a run
 
@@ -151,26 +153,26 @@ runs_over words files input status a b c d over h =
       kept = λ none two. over [] (h.kept none two);
     }
 
-holds : {W : Type 0} (words : List (List ℕ)) (files : List ℕ → Option (List ℕ)) (input : Option (List ℕ)) (status ended : ℕ) (a b before now : Option (List ℕ)) (contents : W → Option (List ℕ)) (output : Option W) → HandsOn contents status b before now ended output → Runs words files input status a b → MatchOption output (ended ≡ 3) (λ w. Runs words files input ended a (contents w))
-holds words files input status ended a b before now contents None on runs = on.0
-holds words files input status ended a b before now contents (Some w) on runs =
+holds : {W : Type 0} (words : List (List ℕ)) (files : List ℕ → Option (List ℕ)) (input : Option (List ℕ)) (status ended : ℕ) (a b before now : Option (List ℕ)) (f fnow : ℕ) (contents : W → Option (List ℕ)) (output : Option W) → HandsOn contents status b f before fnow now ended output → Runs words files input status a b → MatchOption output (ended ≡ 3) (λ w. Runs words files input ended a (contents w))
+holds words files input status ended a b before now f fnow contents None on runs = on.0
+holds words files input status ended a b before now f fnow contents (Some w) on runs =
     subst (λ s. Runs words files input s a (contents w)) (sym on.0) (runs_over words files input status a b a (contents w) (shift a b a (contents w) (keeps_same a) on.1) runs)
 
-refuses : {W : Type 0} {P : Type 0} (status ended : ℕ) (b before now : Option (List ℕ)) (contents : W → Option (List ℕ)) (output : Option W) → HandsOn contents status b before now ended output → (status ≡ 2 → P) → ended ≡ 2 → P
-refuses status ended b before now contents None on give two =
+refuses : {W : Type 0} {P : Type 0} (status ended : ℕ) (b before now : Option (List ℕ)) (f fnow : ℕ) (contents : W → Option (List ℕ)) (output : Option W) → HandsOn contents status b f before fnow now ended output → (status ≡ 2 → P) → ended ≡ 2 → P
+refuses status ended b before now f fnow contents None on give two =
     let three : ended ≡ 3 = on.0 in
     cc
-refuses status ended b before now contents (Some w) on give two = give (sym on.0 ∙ two)
+refuses status ended b before now f fnow contents (Some w) on give two = give (sym on.0 ∙ two)
 
-few : {W : Type 0} (status ended : ℕ) (b before now : Option (List ℕ)) (contents : W → Option (List ℕ)) (output : Option W) → HandsOn contents status b before now ended output → status ≤ 3 → ended ≤ 3
-few status ended b before now contents None on within = omega (arith, on.0)
-few status ended b before now contents (Some w) on within = omega (arith, on.0, within)
+few : {W : Type 0} (status ended : ℕ) (b before now : Option (List ℕ)) (f fnow : ℕ) (contents : W → Option (List ℕ)) (output : Option W) → HandsOn contents status b f before fnow now ended output → status ≤ 3 → ended ≤ 3
+few status ended b before now f fnow contents None on within = omega (arith, on.0)
+few status ended b before now f fnow contents (Some w) on within = omega (arith, on.0, within)
 
-is_silent : {W : Type 0} (status ended : ℕ) (b first before now : Option (List ℕ)) (contents : W → Option (List ℕ)) (output : Option W) → HandsOn contents status b before now ended output → (status ≤ 1 → before ≡ first) → ended ≤ 1 → Appends first now []
-is_silent status ended b first before now contents None on silent one =
+is_silent : {W : Type 0} (status ended : ℕ) (b first before now : Option (List ℕ)) (f fnow : ℕ) (contents : W → Option (List ℕ)) (output : Option W) → HandsOn contents status b f before fnow now ended output → (status ≤ 1 → before ≡ first) → ended ≤ 1 → Appends first now []
+is_silent status ended b first before now f fnow contents None on silent one =
     let no : ⊥ = omega (arith, on.0, one) in
     absurd no
-is_silent status ended b first before now contents (Some w) on silent one =
+is_silent status ended b first before now f fnow contents (Some w) on silent one =
     subst (λ n. Appends first n []) (sym (on.2 ∙ silent (omega (arith, on.0, one)))) (appends_none first)
 
 tells_lost : (status : ℕ) (first before now : Option (List ℕ)) → (status ≤ 1 → before ≡ first) → (2 ≤ status → TellsSome first before) → (status ≤ 1 → TellsSome before now) → (2 ≤ status → now ≡ before) → TellsSome first now
@@ -178,29 +180,29 @@ tells_lost zero first before now silent fault lost same = subst (λ f. TellsSome
 tells_lost (suc zero) first before now silent fault lost same = subst (λ f. TellsSome f now) (silent (omega arith)) (lost (omega arith))
 tells_lost (suc (suc n)) first before now silent fault lost same = subst (λ f. TellsSome first f) (sym (same (omega arith))) (fault (omega arith))
 
-is_told : {W : Type 0} (status ended : ℕ) (b first before now : Option (List ℕ)) (contents : W → Option (List ℕ)) (output : Option W) → HandsOn contents status b before now ended output → (status ≤ 1 → before ≡ first) → (2 ≤ status → TellsSome first before) → 2 ≤ ended → TellsSome first now
-is_told status ended b first before now contents None on silent fault two = tells_lost status first before now silent fault on.1 on.2
-is_told status ended b first before now contents (Some w) on silent fault two =
+is_told : {W : Type 0} (status ended : ℕ) (b first before now : Option (List ℕ)) (f fnow : ℕ) (contents : W → Option (List ℕ)) (output : Option W) → HandsOn contents status b f before fnow now ended output → (status ≤ 1 → before ≡ first) → (2 ≤ status → TellsSome first before) → 2 ≤ ended → TellsSome first now
+is_told status ended b first before now f fnow contents None on silent fault two = tells_lost status first before now silent fault (λ one. tells_some f fnow before now (on.1 one)) on.2
+is_told status ended b first before now f fnow contents (Some w) on silent fault two =
     subst (λ n. TellsSome first n) (sym on.2) (fault (omega (arith, on.0, two)))
 
-pub ends : {W : Type 0} (words : List (List ℕ)) (files : List ℕ → Option (List ℕ)) (input : Option (List ℕ)) (status ended : ℕ) (a b first before now : Option (List ℕ)) (contents : W → Option (List ℕ)) (output : Option W) → HandsOn contents status b before now ended output → Runs words files input status a b → (AsksFor words Bare → status ≡ 2 → IsRefused input) → status ≤ 3 → (status ≤ 1 → before ≡ first) → (2 ≤ status → TellsSome first before) → Ends words files input a first contents ended output now
-ends words files input status ended a b first before now contents output on runs refused within silent fault =
+pub ends : {W : Type 0} (words : List (List ℕ)) (files : List ℕ → Option (List ℕ)) (input : Option (List ℕ)) (status ended : ℕ) (a b first before now : Option (List ℕ)) (f fnow : ℕ) (contents : W → Option (List ℕ)) (output : Option W) → HandsOn contents status b f before fnow now ended output → Runs words files input status a b → (AsksFor words Bare → status ≡ 2 → IsRefused input) → status ≤ 3 → (status ≤ 1 → before ≡ first) → (2 ≤ status → TellsSome first before) → Ends words files input a first contents ended output now
+ends words files input status ended a b first before now f fnow contents output on runs refused within silent fault =
     record {
-      output_holds = holds words files input status ended a b before now contents output on runs;
-      refused = λ asks. refuses status ended b before now contents output on (refused asks);
-      within = few status ended b before now contents output on within;
-      silent = is_silent status ended b first before now contents output on silent;
-      fault = is_told status ended b first before now contents output on silent fault;
+      output_holds = holds words files input status ended a b before now f fnow contents output on runs;
+      refused = λ asks. refuses status ended b before now f fnow contents output on (refused asks);
+      within = few status ended b before now f fnow contents output on within;
+      silent = is_silent status ended b first before now f fnow contents output on silent;
+      fault = is_told status ended b first before now f fnow contents output on silent fault;
     }
 
 -- what `run_words` and the handing on tell, over the streams as they were
-pub counted : {W : Type 0} (words : List (List ℕ)) (files : List ℕ → Option (List ℕ)) (left input : Option (List ℕ)) (status ended : ℕ) (held a kept b first f0 f1 f2 now : Option (List ℕ)) (contents : W → Option (List ℕ)) (output : Option W) → left ≡ input → held ≡ a → b ≡ kept → f0 ≡ first → now ≡ f2 → HandsOn contents status b f1 f2 ended output → Runs words files left status held kept → (AsksFor words Bare → status ≡ 2 → IsRefused left) → status ≤ 3 → (status ≤ 1 → f1 ≡ f0) → (2 ≤ status → TellsSome f0 f1) → Ends words files input a first contents ended output now
-counted words files left input status ended held a kept b first f0 f1 f2 now contents output from was is start end on runs refused within silent fault =
+pub counted : {W : Type 0} (words : List (List ℕ)) (files : List ℕ → Option (List ℕ)) (left input : Option (List ℕ)) (status ended : ℕ) (held a kept b first f0 f1 f2 now : Option (List ℕ)) (f fnow : ℕ) (contents : W → Option (List ℕ)) (output : Option W) → left ≡ input → held ≡ a → b ≡ kept → f0 ≡ first → now ≡ f2 → HandsOn contents status b f f1 fnow f2 ended output → Runs words files left status held kept → (AsksFor words Bare → status ≡ 2 → IsRefused left) → status ≤ 3 → (status ≤ 1 → f1 ≡ f0) → (2 ≤ status → TellsSome f0 f1) → Ends words files input a first contents ended output now
+counted words files left input status ended held a kept b first f0 f1 f2 now f fnow contents output from was is start end on runs refused within silent fault =
     let here : Runs words files input status a b = subst (λ i. Runs words files i status a b) from (subst (λ o. Runs words files left status o b) was (subst (λ n. Runs words files left status held n) (sym is) runs)) in
     let refuses_here : AsksFor words Bare → status ≡ 2 → IsRefused input = subst (λ i. AsksFor words Bare → status ≡ 2 → IsRefused i) from refused in
     let tells_here : 2 ≤ status → TellsSome first f1 = subst (λ f. 2 ≤ status → TellsSome f f1) start fault in
     subst (λ n. Ends words files input a first contents ended output n) (sym end)
-    (ends words files input status ended a b first f1 f2 contents output on here refuses_here within (λ one. silent one ∙ start) tells_here)
+    (ends words files input status ended a b first f1 f2 f fnow contents output on here refuses_here within (λ one. silent one ∙ start) tells_here)
 
 -- the same over the writer that a buffer stands before
 over_buffer : {W : Type 0} (words : List (List ℕ)) (files : List ℕ → Option (List ℕ)) (input : Option (List ℕ)) (status : ℕ) (a held : Option (List ℕ)) (contents : W → Option (List ℕ)) (output : Option W) → Keeps held a → MatchOption output (status ≡ 3) (λ w. Runs words files input status a (contents w)) → MatchOption output (status ≡ 3) (λ w. Runs words files input status held (contents w))

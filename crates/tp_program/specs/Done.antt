@@ -3,11 +3,11 @@ use Rattle.std.specs.Prelude.{ℕ, List, [], Option, ◌⊎◌}
 use Rattle.std.specs.Io.KnownBytes.{Appends}
 use Rattle.std.specs.String.{string_bytes}
 use Rattle.tp_device.specs.Bytes.{AppendsPart}
-use Rattle.tp_program.specs.Bare.{AnswersAll, AnswersPart}
+use Rattle.tp_bare.specs.Bare.{AnswersAll, AnswersPart}
 use Rattle.tp_program.specs.Checks.{SaysInvalid, SaysPart, SaysValid}
 use Rattle.tp_program.specs.Networks.{ShowsNetwork, ShowsPart}
 use Rattle.tp_program.specs.Requests.{AsksFor}
-use Rattle.tp_program.specs.declared.requests.PlanWords.{PlanWords}
+use Rattle.tp_plan_files.specs.declared.plan_words.PlanWords.{PlanWords}
 use Rattle.tp_program.specs.declared.requests.Request.{Request}
 use Rattle.tp_program.specs.declared.requests.Request.TheVariants.{Bare, Check, Net, Help}
 

@@ -5,17 +5,23 @@ use Rattle.tp_device.specs.Bytes.{AppendsPart}
 use Rattle.tp_bounds.specs.RunLimits.{RunLimits, greatest_limits}
 use Rattle.tp_bounds.specs.declared.plan_nets.PlanNet.{PlanNet}
 use Rattle.tp_ground.specs.declared.task.Task.{Task}
-use Rattle.tp_happen.specs.PlanTexts.{SpellsPlan}
-use Rattle.tp_happen.specs.TaskLabels.{labelled}
 use Rattle.tp_happen.specs.declared.plans.Step.{Step}
 use Rattle.tp_validate.specs.Answers.{IsFirst}
 use Rattle.tp_validate.specs.OfTask.{IsValidPlan}
 use Rattle.tp_validate.specs.declared.ticks.Fault.{Fault}
-use Rattle.tp_deorder.specs.Answers.{IsPlanNetOf}
+use Rattle.tp_validate.specs.OfTask.{plan_of}
+use Rattle.tp_validate.specs.declared.verdicts.Verdict.{Verdict}
+use Rattle.tp_validate.specs.declared.verdicts.Verdict.TheVariants.{Valid, Invalid}
+use Rattle.tp_deorder.specs.Answers.{IsPlanNetOf, OnTooMany, PassesLimits}
+use Rattle.tp_deorder.specs.declared.DeorderFault.{DeorderFault}
 use Rattle.tp_net_lines.specs.NetLines.{network_lines}
-use Rattle.tp_program.specs.Checks.{IsIn, IsNamedPlan, SaysInvalid}
-use Rattle.tp_program.specs.VerdictLines.{invalid_line}
-use Rattle.tp_program.specs.declared.requests.PlanWords.{PlanWords}
+use Rattle.tp_plan_files.specs.Named.{IsNamedPlan}
+use Rattle.tp_plan_files.specs.VerdictLines.{invalid_line}
+use Rattle.tp_plan_files.specs.declared.plan_words.PlanWords.{PlanWords}
+use Rattle.tp_program.specs.Checks.{SaysInvalid}
+use Rattle.tp_program.specs.Stops.{EndsPlan, StopsOn}
+use Rattle.tp_program.specs.declared.stops.PlanStop.{PlanStop}
+use Rattle.tp_program.specs.declared.stops.PlanStop.TheVariants.{Judging, Network, Write}
 
 -- the text is the lines of the network of a plan, within limits
 abbrev pub TellsNetwork : Task → List Step → RunLimits → List ℕ → Type 0
@@ -25,37 +31,11 @@ TellsNetwork task steps limits text = (net : PlanNet) × IsPlanNetOf task steps 
 abbrev pub WritesNetwork : Task → List Step → RunLimits → Option (List ℕ) → Option (List ℕ) → Type 0
 WritesNetwork task steps limits before now = (net : PlanNet) × IsPlanNetOf task steps limits net × Appends before now (network_lines net)
 
--- nothing was written, or a first part of those lines
-abbrev pub WritesNetworkPart : Task → List Step → RunLimits → Option (List ℕ) → Option (List ℕ) → Type 0
-WritesNetworkPart task steps limits before now =
-    (now ≡ before) ⊎ ((text : List ℕ) × TellsNetwork task steps limits text × AppendsPart before now text)
-
--- what is written of the steps of a plan: the lines of its network, or its first fault
-abbrev pub IsShown : Task → List Step → Option (List ℕ) → Option (List ℕ) → Bool → Type 0
-IsShown task steps before now true = WritesNetwork task steps task.limits before now
-IsShown task steps before now false =
-    (tick : ℕ) × (why : Fault) × IsFirst task steps tick why × (¬ IsValidPlan task steps) × Appends before now (invalid_line tick why)
-
--- the same of the plan that the words name, of a task
-abbrev pub ShowsOf : (List ℕ → Option (List ℕ)) → PlanWords → Task → Option (List ℕ) → Option (List ℕ) → Bool → Type 0
-ShowsOf held w task before now valid =
-    (steps : List Step) × IsIn (held w.plan.now) (λ text. SpellsPlan (labelled task) text steps) × IsShown task steps before now valid
-
 -- the text that is to be written of the steps of a plan: the lines of its network, or its first fault
 abbrev pub IsShownText : Task → List Step → RunLimits → List ℕ → Type 0
 IsShownText task steps limits text =
     TellsNetwork task steps limits text
     ⊎ ((tick : ℕ) × (why : Fault) × IsFirst task steps tick why × (¬ IsValidPlan task steps) × (text ≡ invalid_line tick why))
-
--- nothing was written of the steps of a plan, or a first part of that text
-abbrev pub ShowsTextPart : Task → List Step → Option (List ℕ) → Option (List ℕ) → Type 0
-ShowsTextPart task steps before now =
-    (now ≡ before) ⊎ ((text : List ℕ) × IsShownText task steps task.limits text × AppendsPart before now text)
-
--- the same of the plan that the words name, of a task
-abbrev pub ShowsPartOf : (List ℕ → Option (List ℕ)) → PlanWords → Task → Option (List ℕ) → Option (List ℕ) → Type 0
-ShowsPartOf held w task before now =
-    (now ≡ before) ⊎ ((steps : List Step) × (text : List ℕ) × IsIn (held w.plan.now) (λ text. SpellsPlan (labelled task) text steps) × IsShownText task steps task.limits text × AppendsPart before now text)
 
 -- nothing was written, or a first part of the text of the plan that the words name
 abbrev pub ShowsPart : (List ℕ → Option (List ℕ)) → PlanWords → Option (List ℕ) → Option (List ℕ) → Type 0
@@ -75,3 +55,31 @@ pub record ShowsNetwork (held : List ℕ → Option (List ℕ)) (w : PlanWords) 
 abbrev pub Shows : (List ℕ → Option (List ℕ)) → PlanWords → Option (List ℕ) → Option (List ℕ) → Bool → Type 0
 Shows held w before now true = ShowsNetwork held w before now
 Shows held w before now false = SaysInvalid held w before now
+
+-- why the lines of the network of a valid plan were not written
+abbrev pub StopsNetwork : Task → List Step → RunLimits → Option (List ℕ) → Option (List ℕ) → PlanStop → Type 0
+StopsNetwork task steps limits before now (Judging fault) = ⊥
+StopsNetwork task steps limits before now (Network fault) = OnTooMany fault (PassesLimits limits (plan_of task steps)) × (now ≡ before)
+StopsNetwork task steps limits before now Write = (text : List ℕ) × TellsNetwork task steps limits text × AppendsPart before now text
+
+-- the lines of a valid plan's network were written, or the first fault of another, and the answer is whether it is valid
+abbrev pub ShowsVerdict : Verdict → RunLimits → Option (List ℕ) → Option (List ℕ) → Bool → Type 0
+ShowsVerdict (Valid plan) limits before now valid = (valid ≡ true) × WritesNetwork plan.task plan.steps limits before now
+ShowsVerdict (Invalid plan tick why) limits before now valid = (valid ≡ false) × Appends before now (invalid_line tick why)
+
+abbrev pub StopsShown : Verdict → RunLimits → Option (List ℕ) → Option (List ℕ) → PlanStop → Type 0
+StopsShown (Valid plan) limits before now stop = StopsNetwork plan.task plan.steps limits before now stop
+StopsShown (Invalid plan tick why) limits before now stop = (stop ≡ Write) × AppendsPart before now (invalid_line tick why)
+
+-- the plan is valid, and passes the limits
+abbrev pub PassesNet : RunLimits → Task → List Step → DeorderFault → Type 0
+PassesNet limits task steps fault = IsValidPlan task steps × OnTooMany fault (PassesLimits limits (plan_of task steps))
+
+-- why no network was written
+abbrev pub StopsNet : (List ℕ → Option (List ℕ)) → PlanWords → Option (List ℕ) → Option (List ℕ) → PlanStop → Type 0
+StopsNet held w before now stop =
+    StopsOn (λ task steps text. IsShownText task steps (greatest_limits w.horizon) text) (PassesNet (greatest_limits w.horizon)) held w before now stop
+
+abbrev pub EndsNet : (List ℕ → Option (List ℕ)) → PlanWords → ℕ → Option (List ℕ) → Option (List ℕ) → ℕ → ℕ → ℕ → Option (List ℕ) → ℕ → Option (List ℕ) → Type 0
+EndsNet held w status before now output output-now failures said failures-now said-now =
+    EndsPlan (λ task steps text. IsShownText task steps (greatest_limits w.horizon) text) (PassesNet (greatest_limits w.horizon)) held w status before now output output-now failures said failures-now said-now

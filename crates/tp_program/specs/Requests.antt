@@ -6,7 +6,7 @@ use Rattle.clap.specs.declared.error.kind.ErrorKind.{ErrorKind}
 use Rattle.clap.specs.declared.error.kind.ErrorKind.TheVariants.{DisplayHelp, DisplayVersion}
 use Rattle.tp_text.specs.Scales.{scale_ticks}
 use Rattle.tp_program.specs.Commands.{tempo_app}
-use Rattle.tp_program.specs.declared.requests.PlanWords.{PlanWords}
+use Rattle.tp_plan_files.specs.declared.plan_words.PlanWords.{PlanWords}
 use Rattle.tp_program.specs.declared.requests.Request.{Request}
 use Rattle.tp_program.specs.declared.requests.Request.TheVariants.{Bare, Check, Net, Help}
 

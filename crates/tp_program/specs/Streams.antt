@@ -1,16 +1,18 @@
 -- A run over readers and writers of std.
-use Rattle.std.specs.Prelude.{◌≡◌, ◌≢◌, ◌≤◌, ℕ, List, [], ◌++◌, Option, Some, None, MatchOption}
+use Rattle.std.specs.Prelude.{◌≡◌, ◌≢◌, ◌≤◌, ◌⊎◌, ℕ, List, [], ◌++◌, Option, Some, None, MatchOption, codes}
 use Rattle.std.specs.Io.KnownBytes.{Appends, Keeps}
 use Rattle.tp_device.specs.Bytes.{AppendsPart}
-use Rattle.tp_program.specs.Bare.{AnswersAll, AnswersPart, IsRefused}
+use Rattle.tp_bare.specs.Bare.{AnswersAll, AnswersPart, IsRefused}
 use Rattle.tp_program.specs.Done.{AnswersNo, DoesPart, DoesWhatIsAsked}
-use Rattle.tp_program.specs.FaultLines.{IsFaultText}
+use Rattle.tp_files.specs.FaultLines.{IsFaultText, TellsFault, fault_line}
 use Rattle.tp_program.specs.Requests.{AsksFor, AsksForNoNetwork}
 use Rattle.tp_program.specs.declared.requests.Request.TheVariants.{Bare}
 
--- one fault line was written, and what is said behind it, or where the writer failed a first part of these
+-- One fault line was written, and behind the line of words that are refused what is said of them; or where the writer failed a first part of
+-- these.
 abbrev pub TellsSome : Option (List ℕ) → Option (List ℕ) → Type 0
-TellsSome before now = (text : List ℕ) × (more : List ℕ) × IsFaultText text × AppendsPart before now (text ++ more)
+TellsSome before now =
+    (text : List ℕ) × (more : List ℕ) × IsFaultText text × ((more ≡ []) ⊎ (text ≡ fault_line (codes "arguments") (codes "1 words"))) × AppendsPart before now (text ++ more)
 
 -- What is written to the output, by the exit status. It was done what the words ask for; the answer is no; of a network of bounds all is
 -- answered, or a first part; where memory or a device is wanting, a first part of what the words ask for was done, or nothing; for all
@@ -24,9 +26,9 @@ pub record Runs (words : List (List ℕ)) (files : List ℕ → Option (List ℕ
   pub kept : AsksForNoNetwork words → status ≡ 2 → Appends held now []
 
 -- what was written was handed on to the writer, or it is gone: then the status is 3, and a fault line tells so if none was written yet
-abbrev pub HandsOn : {W : Type 0} → (W → Option (List ℕ)) → ℕ → Option (List ℕ) → Option (List ℕ) → Option (List ℕ) → ℕ → Option W → Type 0
-HandsOn contents status held before now ended (Some w) = (ended ≡ status) × Keeps held (contents w) × (now ≡ before)
-HandsOn contents status held before now ended None = (ended ≡ 3) × (status ≤ 1 → TellsSome before now) × (2 ≤ status → now ≡ before)
+abbrev pub HandsOn : {W : Type 0} → (W → Option (List ℕ)) → ℕ → Option (List ℕ) → ℕ → Option (List ℕ) → ℕ → Option (List ℕ) → ℕ → Option W → Type 0
+HandsOn contents status held failures before failures-now now ended (Some w) = (ended ≡ status) × Keeps held (contents w) × (now ≡ before)
+HandsOn contents status held failures before failures-now now ended None = (ended ≡ 3) × (status ≤ 1 → TellsFault [] failures before failures-now now) × (2 ≤ status → now ≡ before)
 
 -- How a run ends. The output holds what the status tells, or it is gone and the status is 3. A network is refused only where it has no head
 -- or comes with too many bytes. A fault line goes with each fault, and with nothing else

@@ -4,14 +4,15 @@ ghost use Rattle.std.specs.String.{string_bytes};
 ghost use Rattle.clap.specs.Words.{Text, Row, first_of, found_of, kind_of, one_of, rows_of, subcommand_rows_of};
 ghost use Rattle.clap.specs.declared.error.kind.ErrorKind.TheVariants as kinds;
 ghost use Rattle.tp_text.specs.Scales.{scale_ticks};
-ghost use Rattle.tp_program.specs.declared.requests.PlanWords.{PlanWords};
+ghost use Rattle.tp_plan_files.specs.declared.plan_words.PlanWords.{PlanWords};
 ghost use Rattle.tp_program.specs.Requests.{AskForOneThing, AsksBy, AsksFor, IsPlanWords, NamesBare, Spells, TellsText};
 
 use crate::commands::tempo_command;
-use crate::requests::{PlanWords, Request};
+use crate::requests::Request;
 use clap::error::ErrorKind;
 use clap::{ArgMatches, Error};
 use std::alloc::{AllocError, Global};
+use tp_plan_files::PlanWords;
 use tp_text::Scale;
 
 /// Why a call's words ask for nothing.

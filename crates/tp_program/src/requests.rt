@@ -1,5 +1,5 @@
 // What a call may ask for.
-use tp_text::Scale;
+use tp_plan_files::PlanWords;
 
 /// What a call asks for.
 #[derive(Drop)]
@@ -12,14 +12,4 @@ pub enum Request<'w> {
     Net(PlanWords<'w>),
     /// A text of help, or the version.
     Help(String),
-}
-
-/// The files of a plan, the ticks of a unit of its time, and the tick that no step may end past.
-#[derive(Clone, Copy)]
-pub struct PlanWords<'w> {
-    pub domain: &'w str,
-    pub problem: &'w str,
-    pub plan: &'w str,
-    pub scale: Scale,
-    pub horizon: u32,
 }

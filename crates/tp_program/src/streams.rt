@@ -1,19 +1,20 @@
 // A run over readers and writers of std.
-ghost use Rattle.std.specs.Prelude.{◌≡◌, ◌≤◌, ◌<◌, IfSome, None, map};
+ghost use Rattle.std.specs.Prelude.{◌≡◌, ◌≤◌, ◌<◌, [], IfSome, None, map};
 ghost use Rattle.std.specs.Io.Buffered.{line_writer_contents};
 ghost use Rattle.std.specs.Io.KnownBytes.{Keeps};
 ghost use Rattle.std.specs.String.{string_bytes};
+ghost use Rattle.tp_files.specs.Calls.{call_status, call_text};
+ghost use Rattle.tp_files.specs.FaultLines.{TellsFault};
+ghost use Rattle.tp_device.specs.Bytes.{AppendsPart};
 ghost use Rattle.tp_program.specs.Streams.{Ends, HandsOn, TellsSome};
 
-use crate::fault_lines::{FaultLine, OUT_OF_ORDER, complain};
-use crate::files::Files;
-use crate::outlets::Outlet;
 use crate::words::run_words;
 use std::alloc::Global;
 use std::io::{LineWriter, Read, Write};
 use std::marker::Brand;
 use std::sync::ledger::{Blank, Ledger};
 use tp_device::{FromRead, Sink};
+use tp_files::{CallFault, FaultLine, Files, OUT_OF_ORDER, Outlet, complain, refuse_call};
 
 /// What a run came to: its exit status, and the writers. The output is gone where the last of it could not be handed on.
 #[derive(Drop)]
@@ -63,7 +64,8 @@ fn writer_of<W: Write + Drop>(output: LineWriter<W>) -> Option<W>
 
 /// Tells that the output could not be handed on, if no other fault was told.
 fn tell_lost<F: Sink>(status: u8, faults: &mut F)
-    ensures told { status ≤ 1 → TellsSome (F.held faults.old) (F.held faults.new) }
+    ensures told { status ≤ 1
+        → TellsFault [] (F.failures faults.old) (F.held faults.old) (F.failures faults.new) (F.held faults.new) }
     ensures same { 2 ≤ status → F.held faults.new ≡ F.held faults.old }
 {
     if status <= 1 {
@@ -77,7 +79,8 @@ fn hand_on<W: Write + Drop, F: Sink>(
     output: LineWriter<W>,
     faults: &mut F,
 ) -> HandedOn<W>
-    ensures { HandsOn W.contents status (line_writer_contents W.contents output) (F.held faults.old) (F.held faults.new) result.status result.output }
+    ensures { HandsOn W.contents status (line_writer_contents W.contents output)
+        (F.failures faults.old) (F.held faults.old) (F.failures faults.new) (F.held faults.new) result.status result.output }
 {
     match writer_of(output) {
         Some(output) => HandedOn {
@@ -134,8 +137,16 @@ fn run_counted<
     }
 }
 
-/// Tells that there is no memory for the buffer of the output. Nothing is done.
-fn refuse_memory<F: Ledger, W, V: Write + Drop>(faults: Counted<V>) -> Ended<W, V>
+/// Tells that there is no memory for the buffer of the output. Answers the exit status.
+fn refuse_memory<F: Sink>(faults: &mut F) -> u8
+    ensures status { result ≡ OUT_OF_ORDER }
+    ensures fault { TellsFault [] (F.failures faults.old) (F.held faults.old) (F.failures faults.new) (F.held faults.new) }
+{
+    complain(faults, FaultLine::out_of_order("script", "3 memory"))
+}
+
+/// Ends a run that has no memory for the buffer of the output. Nothing is done.
+fn end_lost<F: Ledger, W, V: Write + Drop>(faults: Counted<V>) -> Ended<W, V>
     requires f { faults.blank.name ≡ F.name }
     requires f_parts { faults.blank.parts ≡ F.parts }
     requires f_some { 0 < faults.blank.parts }
@@ -144,7 +155,7 @@ fn refuse_memory<F: Ledger, W, V: Write + Drop>(faults: Counted<V>) -> Ended<W, 
     ensures fault { TellsSome (V.contents faults.stream) (V.contents result.faults) }
 {
     let mut faults = Outlet::<V, F>::new(faults.stream, faults.blank);
-    let status = complain(&mut faults, FaultLine::out_of_order("script", "3 memory"));
+    let status = refuse_memory(&mut faults);
     Ended {
         status,
         output: None,
@@ -175,6 +186,37 @@ pub fn run_streams<N: Files, R: Read + Drop, W: Write + Drop, V: Write + Drop>(
                 alloc, words, files, input, output, faults,
             )
         }
-        Err(_) => refuse_memory::<Brand, _, _>(faults),
+        Err(_) => end_lost::<Brand, _, _>(faults),
     }
+}
+
+/// Why a call was refused was told, and this is its exit status and the writer.
+#[derive(Drop)]
+pub struct Refused<V> {
+    pub status: u8,
+    pub faults: V,
+}
+
+/// Tells why the words of a call were not taken, and counts the failures of the writer.
+fn refuse_counted<F: Ledger, V: Write + Drop>(why: CallFault, faults: Counted<V>) -> Refused<V>
+    requires f { faults.blank.name ≡ F.name }
+    requires f_parts { faults.blank.parts ≡ F.parts }
+    requires f_some { 0 < faults.blank.parts }
+    ensures status { result.status ≡ call_status why }
+    ensures told { AppendsPart (V.contents faults.stream) (V.contents result.faults) (call_text why) }
+{
+    let mut faults = Outlet::<V, F>::new(faults.stream, faults.blank);
+    let status = refuse_call(why, &mut faults);
+    Refused {
+        status,
+        faults: faults.into_writer(),
+    }
+}
+
+/// Tells a writer of std why the words of a call were not taken: the whole line, or where the writer fails a first part of it.
+pub fn refuse_streams<V: Write + Drop>(why: CallFault, faults: V) -> Refused<V>
+    ensures status { result.status ≡ call_status why }
+    ensures told { AppendsPart (V.contents faults) (V.contents result.faults) (call_text why) }
+{
+    refuse_counted::<Brand, _>(why, Counted::new(faults))
 }

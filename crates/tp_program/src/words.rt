@@ -1,22 +1,22 @@
 // What the words of a call ask for, and the doing of it.
-ghost use Rattle.std.specs.Prelude.{◌≡◌, ◌≢◌, ◌≤◌, ◌⊎◌, [], map};
+ghost use Rattle.std.specs.Prelude.{◌≡◌, ◌≢◌, ◌≤◌, ◌⊎◌, ℕ, List, Option, [], map};
 ghost use Rattle.std.specs.String.{string_bytes};
 ghost use Rattle.std.specs.Io.KnownBytes.{Appends};
 ghost use Rattle.tp_device.specs.Bytes.{AppendsPart};
-ghost use Rattle.tp_program.specs.Bare.{AnswersAll, AnswersPart, IsRefused, Stops};
+ghost use Rattle.tp_bare.specs.Bare.{AnswersAll, AnswersPart, IsRefused};
 ghost use Rattle.tp_program.specs.Done.{AnswersNo, DoesPart, DoesWhatIsAsked};
-ghost use Rattle.tp_program.specs.FaultLines.{TellsFault, TellsRefusal};
+ghost use Rattle.tp_files.specs.FaultLines.{TellsFault, TellsRefusal};
+ghost use Rattle.tp_program.specs.Endings.{EndsBare, EndsCall, RefusesWords, StopsHelp};
 ghost use Rattle.tp_program.specs.Requests.{AsksFor, AsksForNoNetwork};
 
 use crate::arguments::{Refusal, read_words};
-use crate::bare::run_bare;
 use crate::check::run_check;
-use crate::fault_lines::{FaultLine, OUT_OF_ORDER, REFUSED, complain, complain_more};
-use crate::files::Files;
 use crate::net::run_net;
 use crate::requests::Request;
 use std::alloc::Global;
+use tp_bare::run_bare;
 use tp_device::{Sink, Source, push_all};
+use tp_files::{FaultLine, Files, OUT_OF_ORDER, REFUSED, complain, complain_more};
 
 /// Does what the words ask for. Answers the exit status, and for another than 0 and 1 writes one fault line.
 pub fn run_words<N: Files, I: Source + Drop, O: Sink, F: Sink>(
@@ -38,8 +38,14 @@ pub fn run_words<N: Files, I: Source + Drop, O: Sink, F: Sink>(
 
     // Such a network is refused only where it has no head, or too many bytes come in.
     ensures refused { AsksFor (map string_bytes words.now) Request.Bare → result ≡ REFUSED → IsRefused (I.left input) }
-    ensures stopped { AsksFor (map string_bytes words.now) Request.Bare → result ≢ 0
-        → Stops result (O.failures output.old) (O.failures output.new) (F.failures faults.old) (F.held faults.old) (F.failures faults.new) (F.held faults.new) }
+    ensures bare { AsksFor (map string_bytes words.now) Request.Bare → result ≢ 0
+        → EndsBare (I.left input) result (O.held output.old) (O.held output.new) (O.failures output.old) (O.failures output.new)
+            (F.failures faults.old) (F.held faults.old) (F.failures faults.new) (F.held faults.new) }
+
+    // What stopped the call is told, and is as it is told.
+    ensures stopped { 2 ≤ result → EndsCall (map string_bytes words.now) (N.held files.old) (I.left input) result
+        (O.held output.old) (O.held output.new) (O.failures output.old) (O.failures output.new)
+        (F.failures faults.old) (F.held faults.old) (F.failures faults.new) (F.held faults.new) }
 
     // Where memory or a device is wanting, a first part of what is asked for is written, or nothing.
     ensures broken { result ≡ OUT_OF_ORDER → DoesPart (map string_bytes words.now) (N.held files.old) (I.left input) (O.held output.old) (O.held output.new) }
@@ -70,6 +76,8 @@ fn show<O: Sink, F: Sink>(text: &str, output: &mut O, faults: &mut F) -> u8
     ensures part { AppendsPart (O.held output.old) (O.held output.new) text.now }
     ensures status { (result ≡ 0) ⊎ (result ≡ OUT_OF_ORDER) }
     ensures told { result ≢ OUT_OF_ORDER → O.failures output.new ≡ O.failures output.old }
+    ensures stopped { result ≢ 0 → StopsHelp text.now result (O.held output.old) (O.held output.new)
+        (F.failures faults.old) (F.held faults.old) (F.failures faults.new) (F.held faults.new) }
     ensures silent { result ≡ 0 → faults.new ≡ faults.old }
     ensures fault { result ≢ 0 → TellsFault [] (F.failures faults.old) (F.held faults.old) (F.failures faults.new) (F.held faults.new) }
 {
@@ -82,6 +90,8 @@ fn show<O: Sink, F: Sink>(text: &str, output: &mut O, faults: &mut F) -> u8
 /// Writes that the words are refused, and what `clap` says of them. Answers the exit status.
 fn refuse_words<F: Sink>(text: Option<String>, faults: &mut F) -> u8
     ensures status { result ≡ REFUSED }
+    ensures refused { (held : Option (List ℕ)) → (n : ℕ) → RefusesWords result held held n n
+        (F.failures faults.old) (F.held faults.old) (F.failures faults.new) (F.held faults.new) }
     ensures fault { TellsRefusal result (F.failures faults.old) (F.held faults.old) (F.failures faults.new) (F.held faults.new) }
 {
     let line = FaultLine::refused("arguments", "1 words");

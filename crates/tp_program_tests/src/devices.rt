@@ -6,7 +6,8 @@ use std::alloc::{AllocError, Global};
 use std::io;
 use std::io::{ErrorKind, Read, Write};
 use tp_device::{Failed, Source};
-use tp_program::{Files, run_streams};
+use tp_files::Files;
+use tp_program::run_streams;
 
 /// Bytes that come at most so many a call. Behind them is the end, or where it is broken an error.
 #[derive(Clone, Copy)]

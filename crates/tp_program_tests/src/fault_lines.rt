@@ -6,10 +6,12 @@ use std::alloc::Global;
 use std::io::Write;
 use std::marker::Brand;
 use std::sync::ledger::{Blank, Ledger};
+use tp_bare::{BareFault, bare_line, serve_line};
 use tp_device::ToWrite;
+use tp_files::{FaultLine, FileFault, complain};
 use tp_ground::{GroundFault, TooManyKind};
 use tp_happen::PlanFault;
-use tp_program::{BareFault, FaultLine, FileFault, complain};
+use tp_plan_files::{file_line, plan_line, syntax_line, task_line};
 use tp_script::ServeFault;
 use tp_syntax::{LeftOutPart, SyntaxFault};
 use tp_text::TextFault;
@@ -42,22 +44,14 @@ fn spells(alloc: Global, line: FaultLine<'_>, text: &[u8], status: u8) -> bool {
 
 /// Whether the lines of a file's fault for a domain, a problem and a plan are spelled so, and go with that status.
 fn spell(alloc: Global, fault: FileFault, texts: [&[u8]; 3], status: u8) -> bool {
-    spells(
-        alloc,
-        FaultLine::of_domain_file(fault, "x y"),
-        texts[0],
-        status,
-    ) && spells(
-        alloc,
-        FaultLine::of_problem_file(fault, "x y"),
-        texts[1],
-        status,
-    ) && spells(
-        alloc,
-        FaultLine::of_plan_file(fault, "x y"),
-        texts[2],
-        status,
-    )
+    spells(alloc, file_line("domain", fault, "x y"), texts[0], status)
+        && spells(alloc, file_line("problem", fault, "x y"), texts[1], status)
+        && spells(
+            alloc,
+            FaultLine::of_file("plan", fault, "x y"),
+            texts[2],
+            status,
+        )
 }
 
 const TEXTS: [(TextFault, &[u8], u8); 7] = [
@@ -248,7 +242,7 @@ fn faults_of_texts(rt: HostRuntime) {
         assert!(rt;
             spells(
                 rt.alloc(),
-                FaultLine::of_domain(SyntaxFault::Text(fault)),
+                syntax_line("domain", SyntaxFault::Text(fault)),
                 text,
                 status
             )
@@ -259,7 +253,7 @@ fn faults_of_texts(rt: HostRuntime) {
 #[test]
 fn faults_of_domains_and_problems(rt: HostRuntime) {
     for (fault, text, status) in PROBLEMS {
-        assert!(rt; spells(rt.alloc(), FaultLine::of_problem(fault), text, status));
+        assert!(rt; spells(rt.alloc(), syntax_line("problem", fault), text, status));
     }
 }
 
@@ -269,7 +263,7 @@ fn constructs_that_are_left_out(rt: HostRuntime) {
         assert!(rt;
             spells(
                 rt.alloc(),
-                FaultLine::of_domain(SyntaxFault::LeftOut(1, what)),
+                syntax_line("domain", SyntaxFault::LeftOut(1, what)),
                 text,
                 2
             )
@@ -287,27 +281,27 @@ fn faults_of_files(rt: HostRuntime) {
 #[test]
 fn faults_of_serving(rt: HostRuntime) {
     for (fault, text, status) in SERVING {
-        assert!(rt; spells(rt.alloc(), FaultLine::of_serving(fault), text, status));
+        assert!(rt; spells(rt.alloc(), serve_line(fault), text, status));
     }
 }
 
 #[test]
 fn faults_of_tasks(rt: HostRuntime) {
     for (fault, text, status) in TASKS {
-        assert!(rt; spells(rt.alloc(), FaultLine::of_task(fault), text, status));
+        assert!(rt; spells(rt.alloc(), task_line(fault), text, status));
     }
 }
 
 #[test]
 fn faults_of_plans(rt: HostRuntime) {
     for (fault, text, status) in PLANS {
-        assert!(rt; spells(rt.alloc(), FaultLine::of_plan(fault), text, status));
+        assert!(rt; spells(rt.alloc(), plan_line(fault), text, status));
     }
 }
 
 #[test]
 fn faults_of_networks(rt: HostRuntime) {
     for (fault, text, status) in NETWORKS {
-        assert!(rt; spells(rt.alloc(), FaultLine::of_bare(fault), text, status));
+        assert!(rt; spells(rt.alloc(), bare_line(fault), text, status));
     }
 }

@@ -1,7 +1,7 @@
 // Texts that are read of files.
 use super::devices::{Feed, Shelf};
 use std::alloc::{AllocError, Global};
-use tp_program::{FileFault, HostFile, open_text, read_text};
+use tp_files::{FileFault, HostFile, open_text, read_text};
 
 const TEXTS: &[(&str, &[u8])] = &[("a", b"(a)\n"), ("empty", b""), ("umlaut", b"; \xc3\xa4\n")];
 

@@ -11,5 +11,5 @@ returns-in-Ok g c =
 
 pub returns-in-Err : goal.returns-in-Err
 returns-in-Err g c =
-    let told = subst (λ f. TellsSome f (g.V.Write.contents c.refuse_memory.result.faults)) (ap g.V.Write.contents c.new-faults.ensures.stream) c.refuse_memory.ensures.fault in
-    ends_lost (map string_bytes c.args.words.now) (g.N.Files.held c.args.files.now) (g.R.Read.remaining c.args.input) (g.W.Write.contents c.args.output) (g.V.Write.contents c.args.faults) g.W.Write.contents c.refuse_memory.result.status c.refuse_memory.result.output (g.V.Write.contents c.refuse_memory.result.faults) c.refuse_memory.ensures.status c.refuse_memory.ensures.output told
+    let told = subst (λ f. TellsSome f (g.V.Write.contents c.end_lost.result.faults)) (ap g.V.Write.contents c.new-faults.ensures.stream) c.end_lost.ensures.fault in
+    ends_lost (map string_bytes c.args.words.now) (g.N.Files.held c.args.files.now) (g.R.Read.remaining c.args.input) (g.W.Write.contents c.args.output) (g.V.Write.contents c.args.faults) g.W.Write.contents c.end_lost.result.status c.end_lost.result.output (g.V.Write.contents c.end_lost.result.faults) c.end_lost.ensures.status c.end_lost.ensures.output told

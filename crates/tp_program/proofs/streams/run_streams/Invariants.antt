@@ -9,5 +9,5 @@ ghosts-run_counted-O-Ledger g a = record { name = a.output.blank.name; parts = a
 abbrev pub ghosts-run_counted-F-Ledger : goal.ghosts-run_counted-F-Ledger
 ghosts-run_counted-F-Ledger g a = record { name = a.faults.blank.name; parts = a.faults.blank.parts }
 
-abbrev pub ghosts-refuse_memory : goal.ghosts-refuse_memory
-ghosts-refuse_memory g a = record { name = a.faults.blank.name; parts = a.faults.blank.parts }
+abbrev pub ghosts-end_lost : goal.ghosts-end_lost
+ghosts-end_lost g a = record { name = a.faults.blank.name; parts = a.faults.blank.parts }

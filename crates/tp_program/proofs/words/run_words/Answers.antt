@@ -1,16 +1,59 @@
-use Rattle.std.proofs.Common.{◌∙◌, inl, inr, refl, subst}
+use Rattle.std.proofs.Common.{◌∙◌, List, ℕ, arith, inl, inr, refl, subst}
 use Rattle.tp_device.proofs.Parts.{appends_none}
-use Rattle.tp_program.specs.FaultLines.{Tells}
+use Rattle.tp_files.specs.FaultLines.{Tells}
+use Rattle.tp_program.specs.declared.requests.Request.TheVariants.{Bare, Check, Net, Help}
+use Rattle.tp_program.specs.Endings.{StopsHelp}
 use Rattle.tp_program.proofs.words.run_words.Goals as goal
 
 pub returns-clause-stopped : goal.returns-clause-stopped
 returns-clause-stopped g c =
+    λ two.
+    inr (inl (record {
+      three = c.complain.ensures.status ∙ c.out_of_order.ensures.status;
+      kept = refl;
+      same = refl;
+      told = subst (λ (t : List ℕ). Tells t (g.F.Sink.failures c.args.faults.now) (g.F.Sink.held c.args.faults.now) (g.F.Sink.failures c.complain.new.faults) (g.F.Sink.held c.complain.new.faults)) c.out_of_order.ensures.text c.complain.ensures.told;
+    }))
+
+pub returns-clause-bare : goal.returns-clause-bare
+returns-clause-bare g c =
     λ asks no.
-    let told = subst
-    (λ t. Tells t (g.F.Sink.failures c.args.faults.now) (g.F.Sink.held c.args.faults.now) (g.F.Sink.failures c.complain.new.faults) (g.F.Sink.held c.complain.new.faults))
-    c.out_of_order.ensures.text
-    c.complain.ensures.told in
-    inr (c.complain.ensures.status ∙ c.out_of_order.ensures.status, refl, told)
+    inr (record {
+      three = c.complain.ensures.status ∙ c.out_of_order.ensures.status;
+      kept = refl;
+      same = refl;
+      told = subst (λ (t : List ℕ). Tells t (g.F.Sink.failures c.args.faults.now) (g.F.Sink.held c.args.faults.now) (g.F.Sink.failures c.complain.new.faults) (g.F.Sink.held c.complain.new.faults)) c.out_of_order.ensures.text c.complain.ensures.told;
+    })
 
 pub returns-clause-broken : goal.returns-clause-broken
 returns-clause-broken g c = λ three. inl (appends_none (g.O.Sink.held c.args.output.now))
+
+pub returns-in-Ok-Bare-clause-stopped : goal.returns-in-Ok-Bare-clause-stopped
+returns-in-Ok-Bare-clause-stopped g c =
+    λ two.
+    inr (inr (Bare, rw c.in-Ok-Bare.field-0-is at c.in-Ok-Bare.ensures.asked, c.run_bare.ensures.ends (λ none. omega (arith, two, none))))
+
+pub returns-in-Ok-Check-clause-stopped : goal.returns-in-Ok-Check-clause-stopped
+returns-in-Ok-Check-clause-stopped g c =
+    λ two.
+    inr (inr (Check c.in-Ok-Check.plan, rw c.in-Ok-Check.field-0-is at c.in-Ok-Check.ensures.asked, c.run_check.ensures.stopped two))
+
+pub returns-in-Ok-Net-clause-stopped : goal.returns-in-Ok-Net-clause-stopped
+returns-in-Ok-Net-clause-stopped g c =
+    λ two.
+    inr (inr (Net c.in-Ok-Net.plan, rw c.in-Ok-Net.field-0-is at c.in-Ok-Net.ensures.asked, c.run_net.ensures.stopped two))
+
+pub returns-in-Ok-Help-clause-stopped : goal.returns-in-Ok-Help-clause-stopped
+returns-in-Ok-Help-clause-stopped g c =
+    λ two.
+    let ended = c.show.ensures.stopped (λ none. omega (arith, two, none)) in
+    inr (inr (
+      Help c.in-Ok-Help.text,
+      rw c.in-Ok-Help.field-0-is at c.in-Ok-Help.ensures.asked,
+      subst (λ (t : List ℕ). StopsHelp t c.show.result (g.O.Sink.held c.args.output.now) (g.O.Sink.held c.show.new.output) (g.F.Sink.failures c.args.faults.now) (g.F.Sink.held c.args.faults.now) (g.F.Sink.failures c.show.new.faults) (g.F.Sink.held c.show.new.faults)) c.as_str.ensures.value ended,
+    ))
+
+pub returns-in-Err-Words-clause-stopped : goal.returns-in-Err-Words-clause-stopped
+returns-in-Err-Words-clause-stopped g c =
+    λ two.
+    inl (c.refuse_words.ensures.refused (g.O.Sink.held c.args.output.now) (g.O.Sink.failures c.args.output.now))

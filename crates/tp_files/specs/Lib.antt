@@ -1,0 +1,4 @@
+pub mod Calls
+pub mod FaultLines
+pub mod FileFaults
+pub mod Texts

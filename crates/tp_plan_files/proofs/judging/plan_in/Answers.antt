@@ -1,0 +1,16 @@
+use Rattle.std.proofs.Common.{ℕ, List, subst, string_bytes}
+use Rattle.tp_happen.specs.PlanTexts.{IsRefused}
+use Rattle.tp_happen.specs.TaskLabels.{labelled}
+use Rattle.tp_plan_files.proofs.judging.plan_in.Goals as goal
+
+pub returns-in-Ok-clause-cause : goal.returns-in-Ok-clause-cause
+returns-in-Ok-clause-cause g c =
+    λ named. (
+      c.args.task.now,
+      named,
+      (
+        string_bytes c.in-Ok.text,
+        c.in-Ok.ensures.text,
+        subst (λ (t : List ℕ). IsRefused (labelled c.args.task.now) t c.in-Err-read_plan.fault) c.as_str.ensures.value c.in-Err-read_plan.ensures.refused,
+      ),
+    )

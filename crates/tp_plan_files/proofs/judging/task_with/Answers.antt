@@ -1,0 +1,15 @@
+use Rattle.std.proofs.Common.{subst}
+use Rattle.tp_bounds.specs.RunLimits.{RunLimits}
+use Rattle.tp_syntax.specs.DomainViews.{domain_view, problem_view}
+use Rattle.tp_ground.specs.Grounding.{HasNoTask}
+use Rattle.tp_plan_files.proofs.judging.task_with.Goals as goal
+
+pub returns-clause-cause : goal.returns-clause-cause
+returns-clause-cause g c =
+    λ spelled. (
+      domain_view c.args.domain.now,
+      problem_view c.in_ok-problem.problem,
+      spelled,
+      c.in_ok-problem.ensures.spelled,
+      subst (λ (l : RunLimits). HasNoTask l (domain_view c.args.domain.now) (problem_view c.in_ok-problem.problem) c.in-Err.fault) c.greatest.ensures c.in-Err.ensures.err,
+    )

@@ -1,0 +1,4 @@
+pub mod Causes
+pub mod JudgeLines
+pub mod Named
+pub mod VerdictLines

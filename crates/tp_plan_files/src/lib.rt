@@ -1,0 +1,19 @@
+//! The plan in a file: the task of the domain and the problem in two other files, its verdict, and the lines of what is at fault
+//! in the three.
+//!
+//! - `plan_words`: the names of the files, and how the plan's time is measured
+//! - `judging`: the task, and the verdict on the plan
+//! - `judge_lines`: the lines of faults of texts, tasks and plans
+//! - `verdict_lines`, `lines`: the line of a verdict
+#![tactic(auto)]
+
+mod judge_lines;
+mod judging;
+mod lines;
+mod plan_words;
+mod verdict_lines;
+
+pub use judge_lines::{file_line, judge_line, plan_line, syntax_line, task_line};
+pub use judging::{JudgeFault, task_in, verdict_in};
+pub use plan_words::PlanWords;
+pub use verdict_lines::{write_invalid, write_verdict};

@@ -1,0 +1,64 @@
+// The line of a verdict on a plan.
+ghost use Rattle.std.specs.Prelude.{◌≡◌, ◌+◌, ◌≤◌, ◌++◌, codes, decimal, length};
+ghost use Rattle.tp_device.specs.Bytes.{Writes, failures_after};
+ghost use Rattle.tp_plan_files.specs.VerdictLines.{invalid_line, verdict_line, why_text};
+
+use crate::lines::Line;
+use tp_device::{Failed, Sink, push_all};
+use tp_validate::{Fault, Verdict};
+
+/// A word, and the number of an event or of a step.
+fn numbered(word: &[u8], n: u16) -> Line
+    requires { length word.now ≤ 12 }
+    ensures text { result ≡ word.now ++ decimal n }
+    ensures short { length result ≤ length word.now + 10 }
+{
+    let mut line = Line::new(word);
+    line.put_number(u32::from(n));
+    line
+}
+
+/// Why a plan is not valid.
+fn why_line(why: Fault) -> Line
+    ensures text { result ≡ why_text why }
+    ensures short { length result ≤ 33 }
+{
+    match why {
+        Fault::Condition(event) => numbered(b"condition ", event),
+        Fault::Undefined(event) => numbered(b"undefined ", event),
+        Fault::Clash(event) => numbered(b"clash ", event),
+        Fault::Interferes(event, other) => {
+            let mut line = numbered(b"interferes ", event);
+            line.put(b" ");
+            line.put_number(u32::from(other));
+            line
+        }
+        Fault::OverAll(step) => numbered(b"over-all ", step),
+        Fault::Duration(step) => numbered(b"duration ", step),
+        Fault::Goal => Line::new(b"goal"),
+    }
+}
+
+/// Writes the line of a plan that is not valid.
+pub fn write_invalid<W: Sink>(writer: &mut W, tick: u32, why: Fault) -> Result<(), Failed>
+    ensures bytes { Writes (W.held writer.old) (W.held writer.new) (invalid_line tick why) result }
+    ensures cause { W.failures writer.new ≡ failures_after (W.failures writer.old) result }
+{
+    let mut line = Line::new(b"invalid ");
+    line.put_number(tick);
+    line.put(b" ");
+    line.put(why_line(why).as_slice());
+    line.put(b"\n");
+    push_all(writer, line.as_slice())
+}
+
+/// Writes the line of a verdict.
+pub fn write_verdict<W: Sink>(writer: &mut W, verdict: &Verdict<'_>) -> Result<(), Failed>
+    ensures bytes { Writes (W.held writer.old) (W.held writer.new) (verdict_line verdict.now) result }
+    ensures cause { W.failures writer.new ≡ failures_after (W.failures writer.old) result }
+{
+    match verdict {
+        Verdict::Valid(_) => push_all(writer, b"valid\n"),
+        Verdict::Invalid { plan: _, tick, why } => write_invalid(writer, *tick, *why),
+    }
+}

@@ -1,0 +1,255 @@
+-- What is said of the plan that the words name, and why nothing is.
+use Rattle.std.proofs.Common.{◌≡◌, ◌≤◌, ◌∙◌, ℕ, ◌+◌, List, [], Option, Bool, true, false, ◌⊎◌, inl, inr, refl, subst, sym, arith}
+use Rattle.std.specs.Prelude.{Err}
+use Rattle.std.specs.Io.KnownBytes.{Appends}
+use Rattle.tp_device.specs.Bytes.{AppendsPart}
+use Rattle.tp_device.proofs.Parts.{appends_none}
+use Rattle.tp_bounds.specs.RunLimits.{RunLimits, greatest_limits}
+use Rattle.tp_ground.specs.declared.task.Task.{Task}
+use Rattle.tp_happen.specs.declared.plans.Step.{Step}
+use Rattle.tp_validate.specs.Answers.{IsVerdict}
+use Rattle.tp_validate.specs.OfTask.{plan_of}
+use Rattle.tp_validate.specs.declared.verdicts.Verdict.{Verdict}
+use Rattle.tp_validate.specs.declared.verdicts.Verdict.TheVariants.{Valid, Invalid}
+use Rattle.tp_deorder.specs.Answers.{IsPlanNetOf, OnTooMany, PassesLimits}
+use Rattle.tp_deorder.specs.declared.DeorderFault.{DeorderFault}
+use Rattle.tp_deorder.specs.declared.DeorderFault.TheVariants as deorder_fault
+use Rattle.tp_text.specs.declared.fault.TextFault.{TextFault}
+use Rattle.tp_text.specs.declared.fault.TextFault.TheVariants as text_fault
+use Rattle.tp_ast.specs.declared.fault.SyntaxFault.{SyntaxFault}
+use Rattle.tp_ast.specs.declared.fault.SyntaxFault.TheVariants as syntax_fault
+use Rattle.tp_ground.specs.declared.fault.GroundFault.{GroundFault}
+use Rattle.tp_ground.specs.declared.fault.GroundFault.TheVariants as ground_fault
+use Rattle.tp_happen.specs.declared.reading.PlanFault.{PlanFault}
+use Rattle.tp_happen.specs.declared.reading.PlanFault.TheVariants as plan_fault
+use Rattle.tp_files.specs.FaultLines.{Tells}
+use Rattle.tp_files.specs.FileFaults.{file_status}
+use Rattle.tp_files.specs.declared.files.FileFault.{FileFault}
+use Rattle.tp_files.specs.declared.files.FileFault.TheVariants as file_fault
+use Rattle.tp_plan_files.specs.JudgeLines.{ground_status, judge_status, plan_status, syntax_status, text_status}
+use Rattle.tp_plan_files.specs.declared.judging.JudgeFault.TheVariants as judge_fault
+use Rattle.tp_plan_files.specs.Causes.{Explains}
+use Rattle.tp_plan_files.specs.Named.{IsNamedPlan}
+use Rattle.tp_plan_files.specs.VerdictLines.{invalid_line, verdict_line}
+use Rattle.tp_plan_files.specs.declared.judging.JudgeFault.{JudgeFault}
+use Rattle.tp_plan_files.specs.declared.plan_words.PlanWords.{PlanWords}
+use Rattle.tp_plan_files.proofs.NamedLemmas.{Same, explains_over, plan_over}
+use Rattle.tp_program.specs.Checks.{IsVerdictLine, Says, SaysPart, StopsCheck, StopsLine, TellsVerdict}
+use Rattle.tp_program.specs.Networks.{IsShownText, Shows, ShowsPart, ShowsVerdict, StopsNet, StopsShown, TellsNetwork}
+use Rattle.tp_program.specs.Stops.{EndsPlan, StopsOn, stop_failures, stop_status, stop_text}
+use Rattle.tp_program.specs.declared.stops.PlanStop.{PlanStop}
+use Rattle.tp_program.specs.declared.stops.PlanStop.TheVariants.{Judging, Network, Write}
+
+-- the steps of the plan that the words name, and their verdict
+abbrev pub Judged : (List ℕ → Option (List ℕ)) → PlanWords → Task → Verdict → Type 0
+Judged held w task verdict = (steps : List Step) × IsNamedPlan held w task steps × IsVerdict task steps verdict
+
+pub says : (held : List ℕ → Option (List ℕ)) (w : PlanWords) (task : Task) (verdict : Verdict) (before now : Option (List ℕ)) (valid : Bool) → Judged held w task verdict → TellsVerdict verdict before now valid → Says held w before now valid
+says held w task (Valid plan) before now valid judged told =
+    subst (Says held w before now) (sym told.0) (record { task = task; steps = judged.0; named = judged.1; valid = judged.2.2; written = told.1 })
+says held w task (Invalid plan tick why) before now valid judged told =
+    subst (Says held w before now) (sym told.0)
+    (record { task = task; steps = judged.0; tick = tick; why = why; named = judged.1; first = judged.2.1; invalid = judged.2.2; written = told.1 })
+
+line_is : (task : Task) (steps : List Step) (verdict : Verdict) → IsVerdict task steps verdict → IsVerdictLine task steps (verdict_line verdict)
+line_is task steps (Valid plan) is = inl (is.2, refl)
+line_is task steps (Invalid plan tick why) is = inr (tick, why, is.1, is.2, refl)
+
+pub stops_line : (held : List ℕ → Option (List ℕ)) (w : PlanWords) (task : Task) (verdict : Verdict) (before now : Option (List ℕ)) (stop : PlanStop) → Judged held w task verdict → StopsLine verdict before now stop → StopsCheck held w before now stop
+stops_line held w task verdict before now stop judged told =
+    subst (StopsCheck held w before now) (sym told.0) (task, judged.0, verdict_line verdict, judged.1, line_is task judged.0 verdict judged.2, told.1)
+
+pub shows : (held : List ℕ → Option (List ℕ)) (w : PlanWords) (task : Task) (verdict : Verdict) (before now : Option (List ℕ)) (valid : Bool) → Judged held w task verdict → ShowsVerdict verdict task.limits before now valid → Shows held w before now valid
+shows held w task (Valid plan) before now valid judged told =
+    let net = told.1.0 in
+    subst (Shows held w before now) (sym told.0)
+    (record {
+      task = task;
+      steps = judged.0;
+      net = net;
+      named = judged.1;
+      is_net = subst (λ (l : RunLimits). IsPlanNetOf task judged.0 l net) judged.1.of_task.task_of.same_limits
+          (subst (λ (s : List Step). IsPlanNetOf task s task.limits net) judged.2.1 (subst (λ (t : Task). IsPlanNetOf t plan.steps task.limits net) judged.2.0 told.1.1));
+      written = told.1.2;
+    })
+shows held w task (Invalid plan tick why) before now valid judged told =
+    subst (Shows held w before now) (sym told.0)
+    (record { task = task; steps = judged.0; tick = tick; why = why; named = judged.1; first = judged.2.1; invalid = judged.2.2; written = told.1 })
+
+pub stops_shown : (held : List ℕ → Option (List ℕ)) (w : PlanWords) (task : Task) (verdict : Verdict) (before now : Option (List ℕ)) (stop : PlanStop) → Judged held w task verdict → StopsShown verdict task.limits before now stop → StopsNet held w before now stop
+stops_shown held w task (Valid plan) before now (Judging fault) judged told = absurd told
+stops_shown held w task (Valid plan) before now (Network fault) judged told = (
+  task,
+  judged.0,
+  judged.1,
+  (
+    judged.2.2,
+    subst (λ (l : RunLimits). OnTooMany fault (PassesLimits l (plan_of task judged.0))) judged.1.of_task.task_of.same_limits
+        (subst (λ (s : List Step). OnTooMany fault (PassesLimits task.limits (plan_of task s))) judged.2.1
+        (subst (λ (t : Task). OnTooMany fault (PassesLimits task.limits (plan_of t plan.steps))) judged.2.0 told.0)),
+  ),
+  told.1,
+)
+stops_shown held w task (Valid plan) before now Write judged told = (
+  task,
+  judged.0,
+  told.0,
+  judged.1,
+  inl (subst (λ (l : RunLimits). TellsNetwork task judged.0 l told.0) judged.1.of_task.task_of.same_limits
+      (subst (λ (s : List Step). TellsNetwork task s task.limits told.0) judged.2.1 (subst (λ (t : Task). TellsNetwork t plan.steps task.limits told.0) judged.2.0 told.1))),
+  told.2,
+)
+stops_shown held w task (Invalid plan tick why) before now stop judged told =
+    subst (StopsNet held w before now) (sym told.0)
+    (task, judged.0, invalid_line tick why, judged.1, inr (tick, why, judged.2.1, judged.2.2, refl), told.1)
+
+-- ---- the same of files that hold the same
+
+pub says_over : (a b : List ℕ → Option (List ℕ)) (w : PlanWords) (before now : Option (List ℕ)) (valid : Bool) → Same a b → Says a w before now valid → Says b w before now valid
+says_over a b w before now true same h =
+    record { task = h.task; steps = h.steps; named = plan_over a b w h.task h.steps same h.named; valid = h.valid; written = h.written }
+says_over a b w before now false same h =
+    record {
+      task = h.task;
+      steps = h.steps;
+      tick = h.tick;
+      why = h.why;
+      named = plan_over a b w h.task h.steps same h.named;
+      first = h.first;
+      invalid = h.invalid;
+      written = h.written;
+    }
+
+pub shows_over : (a b : List ℕ → Option (List ℕ)) (w : PlanWords) (before now : Option (List ℕ)) (valid : Bool) → Same a b → Shows a w before now valid → Shows b w before now valid
+shows_over a b w before now true same h =
+    record { task = h.task; steps = h.steps; net = h.net; named = plan_over a b w h.task h.steps same h.named; is_net = h.is_net; written = h.written }
+shows_over a b w before now false same h =
+    record {
+      task = h.task;
+      steps = h.steps;
+      tick = h.tick;
+      why = h.why;
+      named = plan_over a b w h.task h.steps same h.named;
+      first = h.first;
+      invalid = h.invalid;
+      written = h.written;
+    }
+
+pub stops_over : (tells : Task → List Step → List ℕ → Type 0) (passes : Task → List Step → DeorderFault → Type 0) (a b : List ℕ → Option (List ℕ)) (w : PlanWords) (before now : Option (List ℕ)) (stop : PlanStop) → Same a b → StopsOn tells passes a w before now stop → StopsOn tells passes b w before now stop
+stops_over tells passes a b w before now (Judging fault) same h = (explains_over a b w fault same h.0, h.1)
+stops_over tells passes a b w before now (Network fault) same h = (h.0, h.1, plan_over a b w h.0 h.1 same h.2, h.3, h.4)
+stops_over tells passes a b w before now Write same h = (h.0, h.1, h.2, plan_over a b w h.0 h.1 same h.3, h.4, h.5)
+
+-- ---- what was written by then
+
+-- nothing was written, or a first part of a text of the plan that the words name
+abbrev pub PartOn : (Task → List Step → List ℕ → Type 0) → (List ℕ → Option (List ℕ)) → PlanWords → Option (List ℕ) → Option (List ℕ) → Type 0
+PartOn tells held w before now =
+    Appends before now [] ⊎ ((task : Task) × (steps : List Step) × (text : List ℕ) × IsNamedPlan held w task steps × tells task steps text × AppendsPart before now text)
+
+pub part_then : (tells : Task → List Step → List ℕ → Type 0) (passes : Task → List Step → DeorderFault → Type 0) (held : List ℕ → Option (List ℕ)) (w : PlanWords) (before now : Option (List ℕ)) (stop : PlanStop) → StopsOn tells passes held w before now stop → PartOn tells held w before now
+part_then tells passes held w before now (Judging fault) h = inl (subst (λ n. Appends before n []) (sym h.1) (appends_none before))
+part_then tells passes held w before now (Network fault) h = inl (subst (λ n. Appends before n []) (sym h.4) (appends_none before))
+part_then tells passes held w before now Write h = inr h
+
+pub kept_then : (tells : Task → List Step → List ℕ → Type 0) (passes : Task → List Step → DeorderFault → Type 0) (held : List ℕ → Option (List ℕ)) (w : PlanWords) (before now : Option (List ℕ)) (stop : PlanStop) → StopsOn tells passes held w before now stop → stop_status stop ≡ 2 → now ≡ before
+kept_then tells passes held w before now (Judging fault) h two = h.1
+kept_then tells passes held w before now (Network fault) h two = h.4
+kept_then tells passes held w before now Write h two = cc
+
+pub any_type : (n : ℕ) (stop : PlanStop) → stop_failures {T = Bool} n (Err stop) ≡ stop_failures {T = Unit {0}} n (Err stop)
+any_type n (Judging fault) = refl
+any_type n (Network fault) = refl
+any_type n Write = refl
+
+pub no_write : (n : ℕ) (stop : PlanStop) → (stop_status stop ≡ 3 → ⊥) → stop_failures {T = Unit {0}} n (Err stop) ≡ n
+no_write n (Judging fault) other = refl
+no_write n (Network fault) other = refl
+no_write n Write other = absurd (other refl)
+
+-- ---- the status of a fault
+
+abbrev pub IsStatus : ℕ → Type 0
+IsStatus n = (2 ≤ n) × (n ≤ 3)
+
+two : IsStatus 2
+two = (omega arith, omega arith)
+
+three : IsStatus 3
+three = (omega arith, omega arith)
+
+file_is : (fault : FileFault) → IsStatus (file_status fault)
+file_is file_fault.Memory = three
+file_is file_fault.Read = three
+file_is file_fault.Utf8 = two
+file_is file_fault.TooLong = two
+
+text_is : (fault : TextFault) → IsStatus (text_status fault)
+text_is text_fault.Memory = three
+text_is text_fault.TooLong = two
+text_is (text_fault.BadByte at) = two
+text_is (text_fault.Unclosed at) = two
+text_is (text_fault.Extra at) = two
+text_is (text_fault.Depth at) = two
+text_is text_fault.Empty = two
+
+syntax_is : (fault : SyntaxFault) → IsStatus (syntax_status fault)
+syntax_is syntax_fault.Memory = three
+syntax_is (syntax_fault.Text fault) = text_is fault
+syntax_is (syntax_fault.Shape at) = two
+syntax_is (syntax_fault.Unknown at) = two
+syntax_is (syntax_fault.Twice at) = two
+syntax_is (syntax_fault.Types at) = two
+syntax_is (syntax_fault.LeftOut at what) = two
+
+ground_is : (fault : GroundFault) → IsStatus (ground_status fault)
+ground_is ground_fault.Memory = three
+ground_is (ground_fault.TooMany kind) = two
+ground_is ground_fault.Range = two
+
+plan_is : (fault : PlanFault) → IsStatus (plan_status fault)
+plan_is plan_fault.Memory = three
+plan_is (plan_fault.Line line) = two
+plan_is (plan_fault.NoAction line) = two
+plan_is (plan_fault.NotTicks line) = two
+plan_is plan_fault.TooMany = two
+plan_is (plan_fault.NoDuration line) = two
+plan_is (plan_fault.Horizon line) = two
+
+judge_is : (fault : JudgeFault) → IsStatus (judge_status fault)
+judge_is (judge_fault.DomainFile fault) = file_is fault
+judge_is (judge_fault.Domain fault) = syntax_is fault
+judge_is (judge_fault.ProblemFile fault) = file_is fault
+judge_is (judge_fault.Problem fault) = syntax_is fault
+judge_is (judge_fault.Task fault) = ground_is fault
+judge_is (judge_fault.PlanFile fault) = file_is fault
+judge_is (judge_fault.Plan fault) = plan_is fault
+judge_is judge_fault.Memory = three
+judge_is judge_fault.Range = two
+
+stop_is : (stop : PlanStop) → IsStatus (stop_status stop)
+stop_is (Judging fault) = judge_is fault
+stop_is (Network deorder_fault.Memory) = three
+stop_is (Network deorder_fault.TooMany) = two
+stop_is Write = three
+
+-- ---- how a command ends
+
+pub ends : (tells : Task → List Step → List ℕ → Type 0) (passes : Task → List Step → DeorderFault → Type 0) (held : List ℕ → Option (List ℕ)) (w : PlanWords) (status : ℕ) (before now : Option (List ℕ)) (output output-now failures : ℕ) (said : Option (List ℕ)) (failures-now : ℕ) (said-now : Option (List ℕ)) (stop : PlanStop) (text : List ℕ) → StopsOn tells passes held w before now stop → status ≡ stop_status stop → output-now ≡ stop_failures {T = Bool} output (Err stop) → text ≡ stop_text w stop → Tells text failures said failures-now said-now → EndsPlan tells passes held w status before now output output-now failures said failures-now said-now
+ends tells passes held w status before now output output-now failures said failures-now said-now stop text cause is write line told =
+    record {
+      stop = stop;
+      is = sym is;
+      cause = cause;
+      write = write ∙ any_type output stop;
+      told = subst (λ (t : List ℕ). Tells t failures said failures-now said-now) line told;
+    }
+
+pub ends_kept : (tells : Task → List Step → List ℕ → Type 0) (passes : Task → List Step → DeorderFault → Type 0) (held : List ℕ → Option (List ℕ)) (w : PlanWords) (status : ℕ) (before now : Option (List ℕ)) (stop : PlanStop) → StopsOn tells passes held w before now stop → status ≡ stop_status stop → status ≡ 2 → now ≡ before
+ends_kept tells passes held w status before now stop cause is refused = kept_then tells passes held w before now stop cause (sym is ∙ refused)
+
+pub ends_told : (status output output-now : ℕ) (stop : PlanStop) → status ≡ stop_status stop → output-now ≡ stop_failures {T = Bool} output (Err stop) → (status ≡ 3 → ⊥) → output-now ≡ output
+ends_told status output output-now stop is write other = write ∙ (any_type output stop ∙ no_write output stop (λ broken. other (is ∙ broken)))
+
+pub ends_within : (status : ℕ) (stop : PlanStop) → status ≡ stop_status stop → status ≤ 3
+ends_within status stop is = subst (λ n. n ≤ 3) (sym is) (stop_is stop).1
