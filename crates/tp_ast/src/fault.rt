@@ -39,7 +39,7 @@ pub enum LeftOutPart {
 /// What is wrong with a domain or a problem. A place is the offset of a byte.
 #[derive(Clone, Copy, Debug, PartialEq, Eq, Error)]
 pub enum SyntaxFault {
-    /// A growth was refused.
+    /// Out of memory.
     #[error("out of memory")]
     Memory,
     /// The text is no tree.
@@ -62,7 +62,7 @@ pub enum SyntaxFault {
     LeftOut(u32, LeftOutPart),
 }
 
-/// A text that is no tree. Want of memory stays want of memory.
+/// A text that is no tree. Out of memory stays out of memory.
 pub fn text_fault(fault: TextFault) -> SyntaxFault
     ensures { result ≡ of_text fault }
 {

@@ -33,7 +33,7 @@ pub use deordering::deorder;
 use std::alloc::AllocError;
 use thiserror::Error;
 
-/// What keeps a plan from having a network: want of memory, or too many events, ticks or bounds for the limits.
+/// What keeps a plan from having a network: out of memory, or too many events, ticks or bounds for the limits.
 #[derive(Clone, Copy, Debug, PartialEq, Eq, Error)]
 pub enum DeorderFault {
     #[error("out of memory")]

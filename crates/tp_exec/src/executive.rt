@@ -219,7 +219,7 @@ impl<N: Net> Executive<N> {
         }
     }
 
-    /// The state of the run. It can be refused for want of memory alone.
+    /// The state of the run. It is refused only when out of memory.
     pub fn report(&self) -> Result<Report, Refusal>
         ensures { Step self.now Tell (answer_of Reported result) self.now }
     {

@@ -12,7 +12,7 @@ use std::alloc::AllocError;
 use tp_bounds::{Bound, BoundId, PlanNet};
 use tp_net::{Net, NetFault};
 
-/// Brings a bound into force that leaves a schedule: it is refused for want of memory alone.
+/// Brings a bound into force that leaves a schedule: it is refused only when out of memory.
 fn bring<N: Net>(net: &mut N, id: BoundId, bound: Bound) -> Result<(), AllocError>
     requires between { N.takes_between ≡ true }
     requires from { HasPoint (N.seen net.old) bound.from }

@@ -36,7 +36,7 @@ pub enum Refusal {
     /// All identifiers that the limits allow were given out.
     #[error("no identifier is left")]
     Spent,
-    /// A growth was refused.
+    /// Out of memory.
     #[error("out of memory")]
     Memory,
     /// No schedule would remain.

@@ -26,7 +26,7 @@ const LONGEST_TEXT: usize = 1_048_576;
 /// Why a file gave no text.
 #[derive(Clone, Copy, Debug, PartialEq, Eq)]
 pub enum FileFault {
-    /// A growth was refused.
+    /// Out of memory.
     Memory,
     /// It can't be opened, or a read failed.
     Read,

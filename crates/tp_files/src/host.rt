@@ -88,7 +88,7 @@ fn without_first(words: Vec<String>) -> Vec<String>
 /// Why the words of a call were not taken.
 #[derive(Clone, Copy, Debug, PartialEq, Eq)]
 pub enum CallFault {
-    /// A growth was refused.
+    /// Out of memory.
     Memory,
     /// One of them is no text.
     NotText,

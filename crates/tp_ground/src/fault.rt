@@ -18,7 +18,7 @@ pub enum TooManyKind {
 /// What keeps a problem from being written out.
 #[derive(Clone, Copy, Debug, PartialEq, Eq, Error)]
 pub enum GroundFault {
-    /// A growth was refused.
+    /// Out of memory.
     #[error("out of memory")]
     Memory,
     /// There are more of these than the limits allow.

@@ -18,7 +18,7 @@ use crate::{EventRef, Range, State};
 use std::alloc::{AllocError, Global};
 use thiserror::Error;
 
-/// What stops a happening from being worked out: want of memory, or a number past 10^15 in absolute value.
+/// What stops a happening from being worked out: out of memory, or a number past 10^15 in absolute value.
 #[derive(Clone, Copy, Debug, PartialEq, Eq, Error)]
 pub enum ApplyFault {
     #[error("out of memory")]

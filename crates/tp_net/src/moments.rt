@@ -1,4 +1,5 @@
-//! The least and the greatest moments of the points of a distance graph, and what one more arc does to them.
+//! The least and the greatest moments of the points of a distance graph (Dechter, Meiri and Pearl 1991), and what one more
+//! arc does to them: new moments, or a negative cycle through it.
 ghost use Rattle.std.specs.Prelude.{◌≡◌, ℕ, ◌+◌, ◌-◌, ◌^◌, ◌<◌, ◌≤◌, ◌∷◌, [], ◌++◌, length, All, IfOk, slice_index, vec_len, pos};
 ghost use Rattle.tp_net.specs.Graph.{IsSolution, HasNoSolution, IsLeast, IsGreatest, moment};
 ghost use Rattle.tp_net.specs.Slacks.{JoinsPoints};

@@ -1,4 +1,5 @@
-//! The least and the greatest moments, in rounds: each arc in turn moves the point that breaks it, until a round moves none.
+//! The least and the greatest moments by Bellman-Ford: each arc in turn moves the point that breaks it, until a round moves
+//! none. At most points * edges steps.
 //! Some solution is known, so no point moves past it, and there are no more rounds than points.
 ghost use Rattle.std.specs.Prelude.{◌≡◌, ℕ, ◌<◌, ◌≤◌, ◌^◌, length, All, IsTrue, false, ℤ, slice_index, pos, ◌+ℤ◌, ◌≤ℤ◌};
 ghost use Rattle.tp_net.specs.Graph.{IsLeast, IsGreatest, MeetsArc, moment};

@@ -88,7 +88,7 @@ fn between(alloc: Global, low: &[u64], high: &[u64], back: u64) -> Result<Vec<u6
     Ok(between)
 }
 
-/// Puts a bound under its identifier, and its edge after the others. Where a growth is refused, all is as before.
+/// Puts a bound under its identifier, and its edge after the others. Where memory runs out, all is as before.
 fn enter(
     bounds: &mut BTreeMap<u32, Bound>,
     names: &mut Vec<Edge>,
@@ -117,7 +117,7 @@ impl ScratchNet {
     /// A network with no bound, at 0, of which nothing is dispatched. The horizon is in ticks.
     ///
     /// # Errors
-    /// Where a growth is refused.
+    /// Out of memory, and nothing has changed.
     pub fn new(alloc: Global, events: u16, horizon: u32) -> Result<ScratchNet, AllocError>
         requires events { events ≤ 1024 }
         requires horizon { horizon ≤ 1_000_000_000 }

@@ -17,7 +17,7 @@ fn add(id: u32, from: Point, to: Point, w: i64) -> Change {
     Change::Add(id, Bound { from, to, w })
 }
 
-/// A network of two events, made at the second try where a growth is refused at the first.
+/// A network of two events, made at the second try where memory runs out at the first.
 fn boxes(alloc: Global, horizon: u32) -> Result<BoxNet, AllocError>
     requires { horizon ≤ 1_000_000_000 }
 {

@@ -18,7 +18,7 @@ use tp_text::Scale;
 /// Why a call's words ask for nothing.
 #[derive(Drop)]
 pub enum Refusal {
-    /// A growth was refused.
+    /// Out of memory.
     Memory,
     /// They are no words of a command. The text says more, where there is one.
     Words(Option<String>),

@@ -9,7 +9,7 @@ use thiserror::Error;
 /// What is wrong with a text. A place is the offset of a byte.
 #[derive(Clone, Copy, Debug, PartialEq, Eq, Error)]
 pub enum TextFault {
-    /// A growth was refused.
+    /// Out of memory.
     #[error("out of memory")]
     Memory,
     /// The text is longer than 1,048,576 bytes.

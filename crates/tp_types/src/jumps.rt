@@ -1,4 +1,5 @@
-//! Jumps from types to types further up, by which a climb takes few steps.
+//! Jumps from types to types further up, by which a climb takes about the logarithm of its height: the jump pointers of
+//! Myers' skew-binary lists (1983), the jump of a type being that of two equal jumps of its parent, or its parent.
 
 ghost use Rattle.std.specs.Prelude.{◌≡◌, map, length, option_map, string_bytes, true, IfSome};
 ghost use Rattle.std.specs.List.{list_all};

@@ -76,7 +76,7 @@ pub enum Verdict<'t> {
     Invalid { plan: Plan, tick: u32, why: Fault },
 }
 
-/// What keeps a plan from being judged: want of memory, or a number past 10^15 in absolute value.
+/// What keeps a plan from being judged: out of memory, or a number past 10^15 in absolute value.
 #[derive(Debug, Drop, Error)]
 pub enum ValidateFault {
     #[error("out of memory")]
