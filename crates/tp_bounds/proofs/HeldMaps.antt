@@ -59,7 +59,7 @@ equal Less h = absurd (let f : ⊥ = cc in f)
 equal Equal h = refl
 equal Greater h = absurd (let f : ⊥ = cc in f)
 
-same_key : (q k : ℕ) → eq_by_cmp nat_cmp q k ≡ true → q ≡ k
+pub same_key : (q k : ℕ) → eq_by_cmp nat_cmp q k ≡ true → q ≡ k
 same_key q k h = nat_cmp-IsAntisymmetric q k (equal (nat_cmp q k) h)
 
 from_cond_some : {X : Type 0} (b : Bool) (x y : X) (o : Option X) → cond b (Some x) o ≡ Some y → ((b ≡ true) × (x ≡ y)) ⊎ (o ≡ Some y)

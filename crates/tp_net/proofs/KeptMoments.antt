@@ -17,7 +17,8 @@ use Rattle.tp_bounds.specs.Changes.{with_bound, proposing}
 use Rattle.tp_bounds.specs.Reasons.{bound_of, at_least, at_most, is_open}
 use Rattle.tp_bounds.proofs.Chains.{from_map, from_cond, opened}
 use Rattle.tp_net.specs.Faults.{IsNew, Refutes}
-use Rattle.tp_net.proofs.Laws.{inserted, get_inserted, get_insert_other, edge_proposing, refutes_new}
+use Rattle.tp_net.proofs.Laws.{get_inserted, get_insert_other, edge_proposing, refutes_new}
+use Rattle.tp_bounds.proofs.HeldMaps.{inserted}
 use Rattle.tp_net.specs.declared.slacks.Arc.{Arc}
 use Rattle.tp_net.specs.Graph.{IsSolution, HasNoSolution, IsLeast, IsGreatest, no_arc, moment}
 use Rattle.tp_net.specs.Sizes.{IsSmall, IsSmallWeight}

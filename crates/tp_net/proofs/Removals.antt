@@ -11,7 +11,8 @@ use Rattle.tp_bounds.specs.declared.Edge.TheVariants.{Own, New, PastHigh, PastLo
 use Rattle.tp_bounds.specs.Situation.{Situation}
 use Rattle.tp_bounds.specs.Changes.{without_bound}
 use Rattle.tp_bounds.specs.Reasons.{bound_of}
-use Rattle.tp_net.proofs.Laws.{removed, withdrawn, other_key, key_itself}
+use Rattle.tp_net.proofs.Laws.{withdrawn, other_key, key_itself}
+use Rattle.tp_bounds.proofs.HeldMaps.{removed}
 use Rattle.tp_net.specs.declared.slacks.Arc.{Arc}
 use Rattle.tp_net.specs.Graph.{arc_at}
 use Rattle.tp_net.specs.Moments.{AreExact, IsStart}

@@ -4,7 +4,7 @@ ghost use Prim.Native.Nat.{max};
 ghost use Rattle.std.specs.FinMap.{insert};
 ghost use Rattle.tp_bounds.specs.declared.Edge.TheVariants.{Own};
 ghost use Rattle.tp_net.specs.Arcs.{AllWait, CannotWait};
-ghost use Rattle.tp_net.specs.Held.{held};
+ghost use Rattle.tp_bounds.specs.Held.{held};
 ghost use Rattle.tp_net.specs.NewNet.{new_situation};
 
 use crate::edges::{
@@ -36,7 +36,7 @@ pub struct ScratchNet {
 
 impl Model for ScratchNet {
     ghost use Rattle.std.specs.Prelude.{None};
-    ghost use Rattle.tp_net.specs.Held.{held};
+    ghost use Rattle.tp_bounds.specs.Held.{held};
     ghost use Rattle.tp_bounds.specs.Situation.{Situation};
     ghost use Rattle.tp_bounds.specs.Codes.{coded_situation};
     ghost use Rattle.tp_net.specs.Kept.{IsKept};

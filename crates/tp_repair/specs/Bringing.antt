@@ -10,7 +10,7 @@ use Rattle.tp_bounds.specs.declared.BoundId.{BoundId}
 use Rattle.tp_bounds.specs.declared.Edge.TheVariants.{Own}
 use Rattle.tp_net.specs.declared.slacks.Arc.{Arc}
 use Rattle.tp_net.specs.Arcs.{arc_of}
-use Rattle.tp_net.specs.Held.{held}
+use Rattle.tp_bounds.specs.Held.{held}
 use Rattle.tp_net.specs.Moments.{AreExact, CycleBeginsWith}
 use Rattle.std.specs.Prelude.{[], ◌∷◌, ◌++◌}
 use Rattle.tp_repair.specs.declared.store.Store.{Store}

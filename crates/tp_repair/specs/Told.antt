@@ -4,7 +4,7 @@ use Rattle.std.specs.Coded.{Coded, code_by, coded×, coded_ℕ}
 use Rattle.tp_bounds.specs.declared.Bound.{Bound}
 use Rattle.tp_bounds.specs.Situation.{Situation}
 use Rattle.tp_bounds.specs.Codes.{coded_situation}
-use Rattle.tp_net.specs.Held.{held}
+use Rattle.tp_bounds.specs.Held.{held}
 
 -- situation: what is settled in it. looks: at how many edges the last change looked
 pub record Told : Type 0 where

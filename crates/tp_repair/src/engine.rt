@@ -6,7 +6,7 @@ ghost use Rattle.std.specs.FinMap as map;
 ghost use Rattle.tp_bounds.specs.declared.Bound.{Bound};
 ghost use Rattle.tp_bounds.specs.declared.Edge.TheVariants.{Own};
 ghost use Rattle.tp_net.specs.Arcs.{arc_of, NamesCycle};
-ghost use Rattle.tp_net.specs.Held.{held};
+ghost use Rattle.tp_bounds.specs.Held.{held};
 ghost use Rattle.tp_net.specs.Slacks.{JoinsPoints};
 ghost use Rattle.tp_net.specs.Sizes.{IsSmall, IsSmallWeight};
 ghost use Rattle.tp_net.specs.Graph.{HasNoSolution};

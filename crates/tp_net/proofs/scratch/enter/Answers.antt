@@ -1,4 +1,4 @@
-use Rattle.tp_net.proofs.HeldLemmas.{held_inserted}
+use Rattle.tp_bounds.proofs.HeldMaps.{held_inserted}
 use Rattle.tp_net.proofs.scratch.enter.Goals as goal
 
 pub returns-clause-bounds : goal.returns-clause-bounds

@@ -1,6 +1,6 @@
 use Rattle.std.proofs.Common.{◌≡◌, ◌+◌, ap, ◌∙◌, cond, is_some, None}
 use Rattle.std.specs.BTreeMap.{btree_map_len}
-use Rattle.tp_net.proofs.HeldLemmas.{held_inserted}
+use Rattle.tp_bounds.proofs.HeldMaps.{held_inserted}
 use Rattle.tp_repair.proofs.engine.record.Goals as goal
 
 pub returns-clause-ok : goal.returns-clause-ok

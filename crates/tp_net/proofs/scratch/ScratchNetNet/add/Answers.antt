@@ -4,7 +4,7 @@ use Rattle.tp_bounds.specs.Situation.{Situation, HasPoint}
 use Rattle.tp_bounds.specs.declared.Edge.TheVariants.{New}
 use Rattle.tp_bounds.specs.Changes.{with_bound}
 use Rattle.tp_bounds.specs.Schedule.{HasSchedule}
-use Rattle.tp_net.specs.Held.{held}
+use Rattle.tp_bounds.specs.Held.{held}
 use Rattle.tp_net.specs.Moments.{IsAdded, CycleBeginsWith, AreExact}
 use Rattle.tp_net.specs.Arcs.{arc_of, name_at}
 use Rattle.tp_net.specs.Kept.{IsKept}

@@ -1,7 +1,7 @@
 use Rattle.std.proofs.Common.{sym, ap, ◌∙◌}
 use Rattle.std.specs.FinMap.{get}
 use Rattle.tp_bounds.specs.Situation.{Situation}
-use Rattle.tp_net.proofs.HeldLemmas.{get_held}
+use Rattle.tp_bounds.proofs.HeldMaps.{get_held}
 use Rattle.tp_net.proofs.scratch.ScratchNetNet.bound.Goals as goal
 
 pub returns : goal.returns

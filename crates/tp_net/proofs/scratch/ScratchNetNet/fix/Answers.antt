@@ -7,7 +7,7 @@ use Rattle.tp_bounds.specs.Changes.{with_fixed}
 use Rattle.tp_bounds.specs.Reasons.{at_least, at_most}
 use Rattle.tp_bounds.specs.Schedule.{HasSchedule}
 use Rattle.tp_net.specs.declared.slacks.Arc.{Arc}
-use Rattle.tp_net.specs.Held.{held}
+use Rattle.tp_bounds.specs.Held.{held}
 use Rattle.tp_net.specs.Moments.{AreExact}
 use Rattle.tp_net.specs.Arcs.{AreNamesPast, AreArcsPast, NamesCycle, arc_of}
 use Rattle.tp_net.specs.Kept.{IsKept}

@@ -4,7 +4,7 @@ use Rattle.tp_bounds.specs.declared.Edge.TheVariants.{Now}
 use Rattle.tp_bounds.specs.Changes.{at_moment}
 use Rattle.tp_bounds.specs.Reasons.{at_least}
 use Rattle.tp_bounds.specs.Schedule.{HasSchedule}
-use Rattle.tp_net.specs.Held.{held}
+use Rattle.tp_bounds.specs.Held.{held}
 use Rattle.tp_net.specs.Moments.{AreExact}
 use Rattle.tp_net.specs.Arcs.{floor_at, AreRaised, AllWait, CannotWait, NamesCycle, arc_of}
 use Rattle.tp_net.specs.Kept.{IsKept}

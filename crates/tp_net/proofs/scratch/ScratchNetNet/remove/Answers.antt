@@ -2,11 +2,11 @@ use Rattle.std.proofs.Common.{◌≡◌, ℕ, ◌+◌, None, List, subst, ap, �
 use Rattle.tp_bounds.specs.Situation.{Situation}
 use Rattle.tp_bounds.specs.Changes.{without_bound}
 use Rattle.tp_bounds.specs.Schedule.{HasSchedule}
-use Rattle.tp_net.specs.Held.{held}
+use Rattle.tp_bounds.specs.Held.{held}
 use Rattle.tp_net.specs.Moments.{AreExact}
 use Rattle.tp_net.specs.Arcs.{AreArcs}
 use Rattle.tp_net.specs.Kept.{IsKept}
-use Rattle.tp_net.proofs.HeldLemmas.{held_removed}
+use Rattle.tp_bounds.proofs.HeldMaps.{held_removed}
 use Rattle.tp_net.proofs.KeptMoments.{kept_possible}
 use Rattle.tp_net.proofs.Removals.{start_removed, kept_removed}
 use Rattle.tp_net.proofs.scratch.ScratchNetNet.remove.Goals as goal

@@ -8,7 +8,7 @@ use Rattle.tp_bounds.specs.Changes.{with_bound, proposing}
 use Rattle.tp_bounds.specs.Schedule.{HasSchedule}
 use Rattle.tp_net.specs.Arcs.{arc_of, NamesCycle}
 use Rattle.tp_net.specs.Faults.{Refutes, IsNew}
-use Rattle.tp_net.proofs.HeldLemmas.{get_held}
+use Rattle.tp_bounds.proofs.HeldMaps.{get_held}
 use Rattle.tp_net.proofs.KeptMoments.{refused_add, kept_possible}
 use Rattle.tp_repair.specs.Told.{Told, settled}
 use Rattle.tp_repair.specs.declared.engine.Engine.{Engine}

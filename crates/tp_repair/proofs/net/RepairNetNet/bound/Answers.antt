@@ -1,6 +1,6 @@
 use Rattle.std.proofs.Common.{sym, ap, ◌∙◌}
 use Rattle.std.specs.FinMap.{get}
-use Rattle.tp_net.proofs.HeldLemmas.{get_held}
+use Rattle.tp_bounds.proofs.HeldMaps.{get_held}
 use Rattle.tp_repair.specs.Told.{Told}
 use Rattle.tp_repair.proofs.net.RepairNetNet.bound.Goals as goal
 

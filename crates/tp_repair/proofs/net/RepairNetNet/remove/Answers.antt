@@ -7,7 +7,7 @@ use Rattle.tp_bounds.specs.declared.Bound.{Bound}
 use Rattle.tp_bounds.specs.Situation.{Situation}
 use Rattle.tp_bounds.specs.Changes.{without_bound}
 use Rattle.tp_bounds.specs.Schedule.{HasSchedule}
-use Rattle.tp_net.proofs.HeldLemmas.{get_held, held_removed}
+use Rattle.tp_bounds.proofs.HeldMaps.{get_held, held_removed}
 use Rattle.tp_net.proofs.KeptMoments.{kept_possible}
 use Rattle.tp_repair.specs.Told.{Told, settled}
 use Rattle.tp_repair.specs.declared.engine.Engine.{Engine}
