@@ -1,6 +1,6 @@
 -- What holds of a network that is repaired after now was raised, an event was fixed, or a bound left.
 use Rattle.std.proofs.Common.{◌≡◌, ◌≢◌, ℕ, zero, suc, ◌+◌, ◌*◌, ◌<◌, ◌≤◌, ◌^◌, inl, inr, cond, nat_eq, Bool, true, false, List, [], ◌∷◌, ◌++◌, length, map, get_or, refl, sym, ◌∙◌, ap, subst, arith, length-set}
-use Rattle.std.specs.Prelude.{Option, Some, None, slice_index_or}
+use Rattle.std.specs.Prelude.{Option, Some, None, slice_index_or, pos, ◌-ℤ◌, ◌≤ℤ◌}
 use Rattle.std.specs.Ordering.{nat_cmp}
 use Rattle.std.specs.BTreeMap.{BTreeMap, is_at}
 use Rattle.std.specs.BTreeMap as tree
@@ -31,6 +31,7 @@ use Rattle.tp_repair.specs.Kept.{IsUnder, AreNodes}
 use Rattle.tp_repair.specs.Engine.{IsWired, IsRepaired, AreMapped, IsChanged, IsLeft, IsUntouched}
 use Rattle.tp_repair.specs.Slots.{raised_node, raised_slots, past_node, past_slots, left_slots, IsOpenFloor}
 use Rattle.tp_repair.specs.Bringing.{IsUnbrought}
+use Rattle.tp_repair.specs.Asked.{IsFromEvent}
 use Rattle.tp_net.specs.Graph.{HasNoSolution}
 use Rattle.tp_net.specs.Arcs.{NamesCycle}
 use Rattle.tp_net.proofs.Additions.{with_new, without_new}
@@ -360,3 +361,41 @@ module _ (s : Situation) (count : ℕ) (keys : BTreeMap ℕ ℕ) (floors ends : 
   own_node id b key is key_is =
       let x = own_there s count keys floors ends g id b key r is key_is in
       (x.0, x.1, arc_has (JoinsPoints (length g.low.items)) g.store.nodes.slots key x.0 x.1 (among s count keys floors ends g r), arc_has (λ (e : Arc). IsSmallWeight e.weight) g.store.nodes.slots key x.0 x.1 (weights s count keys floors ends g r))
+
+-- ---- what the edges of events with the origin are
+
+module _ (s : Situation) (count : ℕ) (keys : BTreeMap ℕ ℕ) (floors ends : List ℕ) (g : Engine) (r : IsRepaired s count keys floors ends g) where
+  pub floor_is : (e : ℕ) → e < event_count s → fixed_at s e ≡ None → (m : ℕ) → floor_of s e ≤ m
+      → (n : Node) × (slice_index_or g.store.nodes.slots (get_or floors e 0) None ≡ Some n) × (n.name ≡ Now e) × (n.arc.from ≡ suc e) × (n.arc.to ≡ 0) × ((pos 0 -ℤ pos m) ≤ℤ n.arc.weight)
+  floor_is e lt free m less =
+      let x = floor_there s count keys floors ends g r e lt free in
+      let y = r.nodes.exist (get_or floors e 0) x.0 x.1 in
+      let both : Some y.0 ≡ Some (at_least e (floor_of s e)) = sym y.1 ∙ (ap (bound_of s) x.2 ∙ now_edge s e lt free) in
+      let it : y.0 ≡ at_least e (floor_of s e) = cc in
+      let arc : x.0.arc ≡ arc_of (at_least e (floor_of s e)) = y.2 ∙ ap arc_of it in
+      let w : x.0.arc.weight ≡ pos 0 -ℤ pos (floor_of s e) = ap (λ (a : Arc). a.weight) arc in
+      (x.0, x.1, x.2, ap (λ (a : Arc). a.from) arc, ap (λ (a : Arc). a.to) arc, omega (arith, ints, w, less))
+
+  pub end_is : (e : ℕ) → e < event_count s → fixed_at s e ≡ None → (m : ℕ) → m ≤ s.horizon
+      → (n : Node) × (slice_index_or g.store.nodes.slots (get_or ends e 0) None ≡ Some n) × (n.name ≡ End e) × (n.arc.from ≡ 0) × (n.arc.to ≡ suc e) × (pos m ≤ℤ n.arc.weight)
+  end_is e lt free m less =
+      let x = end_there s count keys floors ends g r e lt free in
+      let y = r.nodes.exist (get_or ends e 0) x.0 x.1 in
+      let both : Some y.0 ≡ Some (at_most e s.horizon) = sym y.1 ∙ (ap (bound_of s) x.2 ∙ end_edge s e lt free) in
+      let it : y.0 ≡ at_most e s.horizon = cc in
+      let arc : x.0.arc ≡ arc_of (at_most e s.horizon) = y.2 ∙ ap arc_of it in
+      let w : x.0.arc.weight ≡ pos s.horizon = ap (λ (a : Arc). a.weight) arc in
+      (x.0, x.1, x.2, ap (λ (a : Arc). a.from) arc, ap (λ (a : Arc). a.to) arc, omega (arith, ints, w, less))
+
+  event_of : (f : Edge) (b : Bound) → bound_of s f ≡ Some b → IsFromEvent f (arc_of b)
+  event_of (Own id) b is = tt
+  event_of New b is = tt
+  event_of (PastHigh e) b is = tt
+  event_of (PastLow e) b is = tt
+  event_of (Now e) b is =
+      let m = from_cond (is_open s e) (at_least e (floor_of s e)) b is in
+      subst (λ (c : Bound). IsFromEvent (Now e) (arc_of c)) m.1 (refl, refl)
+  event_of (End e) b is = tt
+
+  pub from_event : (k : ℕ) (n : Node) → slice_index_or g.store.nodes.slots k None ≡ Some n → IsFromEvent n.name n.arc
+  from_event k n is = let y = r.nodes.exist k n is in subst (λ a. IsFromEvent n.name a) (sym y.2) (event_of n.name y.0 y.1)

@@ -49,7 +49,7 @@ other_arc e m (End k) x a b = ap (λ t. cond t (record { from = x.from; to = x.t
 arc_weight : (a : Arc) (v w : ℤ) → v ≡ w → ◌≡◌ {A = Arc} (record { from = a.from; to = a.to; weight = v }) (record { from = a.from; to = a.to; weight = w })
 arc_weight a v w same = ap (λ x. record { from = a.from; to = a.to; weight = x }) same
 
-one_node : (slots : List (Option Node)) (k key : ℕ) (n m : Node) → k ≡ key → slice_index_or slots key None ≡ Some m → slice_index_or slots k None ≡ Some n → n ≡ m
+pub one_node : (slots : List (Option Node)) (k key : ℕ) (n m : Node) → k ≡ key → slice_index_or slots key None ≡ Some m → slice_index_or slots k None ≡ Some n → n ≡ m
 one_node slots k key n m same there is = let here : Some n ≡ Some m = sym is ∙ (ap (λ j. slice_index_or slots j None) same ∙ there) in let n_is : n ≡ m = cc in n_is
 
 module _ (e m floor end : ℕ) (old mid new : List (Option Node)) (f h : Node)

@@ -161,3 +161,19 @@ wired_removed p edges g store arc joins w points halves_in halves_out less =
       many_down = omega (arith, down, n);
       few = omega (arith, f);
     }
+
+pub wired_looks : (p edges looks : ℕ) (g : Engine) (store : Store) → IsWired p edges (with_store g store) → IsWired p edges (record { store = store; low = g.low; high = g.high; up = g.up; down = g.down; looks = looks })
+wired_looks p edges looks g store w = record {
+  some = w.some;
+  low_len = w.low_len;
+  high_len = w.high_len;
+  into_len = w.into_len;
+  out_len = w.out_len;
+  halves_in = w.halves_in;
+  halves_out = w.halves_out;
+  up = w.up;
+  down = w.down;
+  many_up = w.many_up;
+  many_down = w.many_down;
+  few = w.few;
+}

@@ -1,5 +1,5 @@
 -- A network as arcs under keys, with the moments that they leave.
-use Rattle.std.specs.Prelude.{◌≡◌, ◌≢◌, ℕ, suc, ◌+◌, ◌*◌, ◌<◌, ◌≤◌, ◌^◌, List, length, Option, Some, None, slice_index_or}
+use Rattle.std.specs.Prelude.{◌≡◌, ◌≢◌, ℕ, suc, ◌+◌, ◌*◌, ◌<◌, ◌≤◌, ◌^◌, List, length, ◌⊎◌, ◌+ℤ◌, ◌<ℤ◌, Option, Some, None, slice_index_or}
 use Rattle.std.specs.Ordering.{nat_cmp}
 use Rattle.std.specs.BTreeMap.{BTreeMap}
 use Rattle.std.specs.BTreeMap as tree
@@ -7,6 +7,7 @@ use Rattle.std.specs.FinMap as map
 use Rattle.tp_bounds.specs.declared.Edge.{Edge}
 use Rattle.tp_bounds.specs.Situation.{Situation, event_count}
 use Rattle.tp_net.specs.declared.slacks.Arc.{Arc}
+use Rattle.tp_net.specs.Graph.{moment}
 use Rattle.tp_net.specs.Moments.{AreExact}
 use Rattle.tp_net.specs.Kept.{IsFit}
 use Rattle.tp_repair.specs.declared.store.Node.{Node}
@@ -78,3 +79,9 @@ pub record IsLeft (key : ℕ) (g g' : Engine) : Type 0 where
   pub gone : slice_index_or g'.store.nodes.slots key None ≡ None
   pub keeps : KeepsOthers key g.store.nodes.slots g'.store.nodes.slots
   pub exact : AreExact (arcs_of g'.store.nodes.slots) g'.low.items g'.high.items
+
+-- an edge that is tight neither at the least moments nor at the greatest ones
+abbrev pub IsLoose : List ℕ → List ℕ → Arc → Type 0
+IsLoose low high a =
+    ((a.from ≡ 0) ⊎ (moment low a.to <ℤ (moment low a.from +ℤ a.weight)))
+    × ((a.to ≡ 0) ⊎ (moment high a.to <ℤ (moment high a.from +ℤ a.weight)))

@@ -1,32 +1,36 @@
-//! Changes after which the moments are worked out anew: an edge leaves, an event is fixed, now is raised.
-ghost use Rattle.std.specs.Prelude.{◌≡◌, ◌≢◌, ℕ, ◌+◌, ◌*◌, ◌-◌, ◌<◌, ◌≤◌, ◌^◌, length, IfOk, OnOk, OnErr, List, Some, None, slice_index, slice_index_or, suc};
-ghost use Prim.Native.Nat.{max};
+//! Changes of edges that are there: an edge leaves, an event is fixed, now is raised.
+ghost use Rattle.std.specs.Prelude.{◌≡◌, ◌≢◌, ℕ, ◌+◌, ◌*◌, ◌<◌, ◌≤◌, ◌^◌, All, length, OnOk, OnErr, Some, None, slice_index, slice_index_or, suc, pos, ◌-ℤ◌, ◌+ℤ◌, ◌≤ℤ◌, ◌<ℤ◌, ◌⊎◌, true, false};
 ghost use Rattle.slab.specs.Slab.{get};
 ghost use Rattle.tp_bounds.specs.declared.Edge.TheVariants.{Now, End};
-ghost use Rattle.tp_bounds.specs.Reasons.{at_least, at_most};
-ghost use Rattle.tp_net.specs.Arcs.{arc_of, floor_at};
-ghost use Rattle.tp_net.specs.Moments.{IsStart};
+ghost use Rattle.tp_net.specs.Graph.{MeetsArc, moment};
+ghost use Rattle.tp_net.specs.Arcs.{AllWait};
+ghost use Rattle.tp_net.specs.Moments.{IsStart, AreExact, HoldsLeast};
 ghost use Rattle.tp_net.specs.Slacks.{JoinsPoints};
-ghost use Rattle.tp_net.specs.Sizes.{IsSmallWeight};
+ghost use Rattle.tp_net.specs.Sizes.{IsSmall, IsSmallWeight};
 ghost use Rattle.tp_repair.specs.declared.store.Node.{Node};
 ghost use Rattle.tp_repair.specs.Store.{kept_arcs, AreHalves, SamePoints, keys_of, arcs_of};
-ghost use Rattle.tp_repair.specs.Engine.{IsWired, IsUntouched, IsChanged, IsLeft, AreMapped};
-ghost use Rattle.tp_repair.specs.Slots.{left_slots, past_slots, raised_slots, past_node, raised_node, IsOpenFloor};
+ghost use Rattle.tp_repair.specs.Engine.{IsWired, IsUntouched, IsChanged, IsLeft, AreMapped, IsLoose};
+ghost use Rattle.tp_repair.specs.Slots.{left_slots, past_node, raised_node, IsOpenFloor};
+ghost use Rattle.tp_repair.specs.Asked.{IsFromEvent};
+ghost use Rattle.tp_repair.specs.Flow.{looks_at};
 ghost use Rattle.tp_repair.specs.declared.store.Direction.{Direction};
 ghost use Rattle.tp_repair.specs.declared.store.Direction.TheVariants.{Up, Down};
 
 use crate::engine::Engine;
+use crate::rising::rise_floors;
 use crate::solve::solve;
 use crate::store::{Store, remove, set_edge};
+use crate::tighten::{fall, move_down, move_up, rise};
 use std::alloc::{AllocError, Global};
 use tp_bounds::Edge;
 use tp_net::edges::{floor, start_arc, stop_arc};
+use tp_net::slacks::{Arc, slack};
 
 /// A weight at which no edge between moments that a network has is tight.
 const NEVER_TIGHT: i64 = 1_000_000_000_000;
 
 /// Takes an edge out, and works the moments out anew. Where a growth is refused, it is there as before.
-pub fn leave(alloc: Global, engine: &mut Engine, key: usize, amount: u64) -> Result<(), AllocError>
+fn renew(alloc: Global, engine: &mut Engine, key: usize, amount: u64) -> Result<(), AllocError>
     requires wired { (edges : ℕ) × IsWired (length engine.old.low.items) edges engine.old }
     requires node { (n : Node) × (get engine.old.store.nodes key ≡ Some n) × JoinsPoints (length engine.old.low.items) n.arc × IsSmallWeight n.arc.weight }
     requires start { IsStart (kept_arcs (left_slots key engine.old.store.nodes.slots)) engine.old.low.items amount }
@@ -49,21 +53,65 @@ pub fn leave(alloc: Global, engine: &mut Engine, key: usize, amount: u64) -> Res
     Ok(())
 }
 
-/// For each point the later of its least moment, and of its greatest one moved back.
-fn between(alloc: Global, low: &[u64], high: &[u64], back: u64) -> Result<Vec<u64>, AllocError>
-    requires { length low.now ≡ length high.now }
-    ensures len { IfOk result (λ r. length r.items ≡ length low.now) }
-    ensures each { IfOk result (λ r. (x : ℕ) → x < length low.now → slice_index r.items x ≡ max (slice_index low.now x) (slice_index high.now x - back)) }
+/// Whether an edge may hold the least moment of the point where it begins: it is tight there.
+fn holds_low(low: &[u64], arc: Arc) -> bool
+    requires small { All IsSmall low.now }
+    requires among { JoinsPoints (length low.now) arc }
+    requires weight { IsSmallWeight arc.weight }
+    requires met { MeetsArc (moment low.now) arc }
+    ensures held { result ≡ true → (arc.from ≢ 0) × (moment low.now arc.to ≡ (moment low.now arc.from +ℤ arc.weight)) }
+    ensures loose { result ≡ false → (arc.from ≡ 0) ⊎ (moment low.now arc.to <ℤ (moment low.now arc.from +ℤ arc.weight)) }
 {
-    let mut between = Vec::new(alloc);
-    for x in 0..low.len() {
-        between.push(low[x].max(high[x].saturating_sub(back)))?;
+    if arc.from == 0 {
+        return false;
     }
-    Ok(between)
+    slack(low[arc.from], low[arc.to], arc.weight) == 0
 }
 
-/// Fixes an event: its floor and its end give way to its moment, and the moments are worked out anew. Where a growth is
-/// refused, all is as before.
+/// Whether an edge may hold the greatest moment of the point where it ends: it is tight there.
+fn holds_high(high: &[u64], arc: Arc) -> bool
+    requires small { All IsSmall high.now }
+    requires among { JoinsPoints (length high.now) arc }
+    requires weight { IsSmallWeight arc.weight }
+    requires met { MeetsArc (moment high.now) arc }
+    ensures held { result ≡ true → (arc.to ≢ 0) × (moment high.now arc.to ≡ (moment high.now arc.from +ℤ arc.weight)) }
+    ensures loose { result ≡ false → (arc.to ≡ 0) ⊎ (moment high.now arc.to <ℤ (moment high.now arc.from +ℤ arc.weight)) }
+{
+    if arc.to == 0 {
+        return false;
+    }
+    slack(high[arc.from], high[arc.to], arc.weight) == 0
+}
+
+/// Takes an edge out. One that holds no moment leaves all moments as they are, and costs a look; else the moments are
+/// worked out anew. Where a growth is refused, it is there as before.
+pub fn leave(alloc: Global, engine: &mut Engine, key: usize, amount: u64) -> Result<(), AllocError>
+    requires wired { (edges : ℕ) × IsWired (length engine.old.low.items) edges engine.old }
+    requires exact { AreExact (arcs_of engine.old.store.nodes.slots) engine.old.low.items engine.old.high.items }
+    requires holds { HoldsLeast (arcs_of engine.old.store.nodes.slots) engine.old.low.items }
+    requires small { All IsSmall engine.old.high.items }
+    requires node { (n : Node) × (get engine.old.store.nodes key ≡ Some n) × JoinsPoints (length engine.old.low.items) n.arc × IsSmallWeight n.arc.weight }
+    requires start { IsStart (kept_arcs (left_slots key engine.old.store.nodes.slots)) engine.old.low.items amount }
+    requires low { (x : ℕ) → x < length engine.old.low.items → slice_index engine.old.low.items x < 2 ^ 32 }
+    requires positive { 0 < amount }
+    requires amount { amount < 2 ^ 32 }
+    ensures ok { OnOk result (IsLeft key engine.old engine.new) }
+    ensures err { OnErr result (IsUntouched engine.old engine.new) }
+    ensures looks { (edges : ℕ) → IsWired (length engine.old.low.items) edges engine.old → OnOk result (engine.new.looks ≤ 2 * edges + 1) }
+    ensures loose { (n : Node) → get engine.old.store.nodes key ≡ Some n → IsLoose engine.old.low.items engine.old.high.items n.arc → OnOk result ((engine.new.looks ≡ 1) × (engine.new.low.items ≡ engine.old.low.items) × (engine.new.high.items ≡ engine.old.high.items)) }
+{
+    let node = engine.store.nodes[key];
+    if holds_low(&engine.low, node.arc) || holds_high(&engine.high, node.arc) {
+        renew(alloc, engine, key, amount)?;
+        return Ok(());
+    }
+    engine.looks = 1;
+    remove(&mut engine.store, key);
+    Ok(())
+}
+
+/// Fixes an event: its floor and its end give way to its moment. The least moments rise and the greatest fall from there
+/// on. Where a growth is refused, all is as before.
 pub fn settle(
     alloc: Global,
     engine: &mut Engine,
@@ -71,44 +119,47 @@ pub fn settle(
     end: usize,
     e: u16,
     moment: u32,
-    amount: u64,
 ) -> Result<(), AllocError>
-    requires wired { (edges : ℕ) × IsWired (length engine.old.low.items) edges engine.old }
+    requires wired { (edges : ℕ) × IsWired (length engine.old.low.items) edges engine.old × (edges < 2 ^ 60) }
+    requires exact { AreExact (arcs_of engine.old.store.nodes.slots) engine.old.low.items engine.old.high.items }
+    requires holds { HoldsLeast (arcs_of engine.old.store.nodes.slots) engine.old.low.items }
+    requires small { All IsSmall engine.old.high.items }
+    requires looks { engine.old.looks ≡ 0 }
     requires point { suc e < length engine.old.low.items }
-    requires above { moment ≤ slice_index engine.old.high.items (suc e) }
-    requires floor { (n : Node) × (get engine.old.store.nodes floor ≡ Some n) × (n.name ≡ Now e) }
-    requires end { (n : Node) × (get engine.old.store.nodes end ≡ Some n) × (n.name ≡ End e) }
-    requires start { (known : List ℕ) → length known ≡ length engine.old.low.items → ((x : ℕ) → x < length engine.old.low.items → slice_index known x ≡ max (slice_index engine.old.low.items x) (slice_index engine.old.high.items x - (slice_index engine.old.high.items (suc e) - moment))) → IsStart (kept_arcs (past_slots e moment engine.old.store.nodes.slots)) known amount }
+    requires above { slice_index engine.old.low.items (suc e) ≤ moment }
+    requires below { moment ≤ slice_index engine.old.high.items (suc e) }
+    requires floor { (n : Node) × (get engine.old.store.nodes floor ≡ Some n) × (n.name ≡ Now e) × (n.arc.from ≡ suc e) × (n.arc.to ≡ 0) × ((pos 0 -ℤ pos moment) ≤ℤ n.arc.weight) }
+    requires end { (n : Node) × (get engine.old.store.nodes end ≡ Some n) × (n.name ≡ End e) × (n.arc.from ≡ 0) × (n.arc.to ≡ suc e) × (pos moment ≤ℤ n.arc.weight) }
     requires only_floor { (k : ℕ) (n : Node) → get engine.old.store.nodes k ≡ Some n → n.name ≡ Now e → k ≡ floor }
     requires only_end { (k : ℕ) (n : Node) → get engine.old.store.nodes k ≡ Some n → n.name ≡ End e → k ≡ end }
-    requires positive { 0 < amount }
-    requires amount { amount < 2 ^ 32 }
     ensures ok { OnOk result (IsChanged (past_node e moment) engine.old engine.new) }
     ensures err { OnErr result (IsUntouched engine.old engine.new) }
-    ensures looks { (edges : ℕ) → IsWired (length engine.old.low.items) edges engine.old → OnOk result (engine.new.looks ≤ 2 * edges) }
-    ensures err_looks { OnErr result (engine.new.looks ≡ engine.old.looks) }
+    ensures looks { OnOk result (engine.new.looks ≡ (1 + looks_at (keys_of Up engine.old.store) (λ x. slice_index engine.new.up.amounts.items x) (length engine.old.low.items)) + (1 + looks_at (keys_of Down engine.old.store) (λ x. slice_index engine.new.down.amounts.items x) (length engine.old.low.items))) }
+    ensures most { (edges : ℕ) → IsWired (length engine.old.low.items) edges engine.old → engine.new.looks ≤ 2 * (edges + 1) }
 {
-    let back = engine.high[usize::from(e) + 1] - u64::from(moment);
-    let known = between(alloc, &engine.low, &engine.high, back)?;
-    let was_low = engine.store.nodes[floor].arc.weight;
-    let was_high = engine.store.nodes[end].arc.weight;
-    set_edge(
-        &mut engine.store,
-        floor,
-        Edge::PastLow(e),
-        start_arc(e, moment).weight,
-    );
-    set_edge(
-        &mut engine.store,
-        end,
-        Edge::PastHigh(e),
-        stop_arc(e, moment).weight,
-    );
-    if let Err(error) = solve(engine, &known, amount) {
-        set_edge(&mut engine.store, floor, Edge::Now(e), was_low);
-        set_edge(&mut engine.store, end, Edge::End(e), was_high);
-        return Err(error);
+    let start = start_arc(e, moment);
+    let stop = stop_arc(e, moment);
+    if let Some(_path) = rise(
+        alloc,
+        &engine.store,
+        &engine.low,
+        &mut engine.up,
+        start,
+        &mut engine.looks,
+    )? {
+        unreachable!();
     }
+    fall(
+        &engine.store,
+        &engine.high,
+        &mut engine.down,
+        stop,
+        &mut engine.looks,
+    )?;
+    set_edge(&mut engine.store, floor, Edge::PastLow(e), start.weight);
+    set_edge(&mut engine.store, end, Edge::PastHigh(e), stop.weight);
+    move_up(&mut engine.low, &engine.up);
+    move_down(&mut engine.high, &engine.down);
     Ok(())
 }
 
@@ -139,37 +190,37 @@ fn set_floors(store: &mut Store, floors: &[usize], fixed: &[Option<u32>], lags: 
     }
 }
 
-/// Raises the floors to a later moment, and works the moments out anew. Where a growth is refused, all is as before.
+/// Raises the floors to a later moment. Only events whose floor passes their least moment begin to move; the greatest
+/// moments stay. Where a growth is refused, all is as before.
 pub fn raise(
-    alloc: Global,
     engine: &mut Engine,
     floors: &[usize],
     fixed: &[Option<u32>],
     lags: &[u32],
-    clock: u32,
     now: u32,
-    amount: u64,
 ) -> Result<(), AllocError>
     requires wired { (edges : ℕ) × IsWired (length engine.old.low.items) edges engine.old }
-    requires len_high { length engine.old.high.items ≡ length engine.old.low.items }
+    requires exact { AreExact (arcs_of engine.old.store.nodes.slots) engine.old.low.items engine.old.high.items }
+    requires holds { HoldsLeast (arcs_of engine.old.store.nodes.slots) engine.old.low.items }
+    requires small { All IsSmall engine.old.high.items }
+    requires looks { engine.old.looks ≡ 0 }
     requires events { length fixed.now ≤ 1024 }
+    requires points { length engine.old.low.items ≡ suc (length fixed.now) }
     requires len { length floors.now ≡ length fixed.now }
     requires floors { (e : ℕ) → e < length fixed.now → slice_index_or fixed.now e None ≡ None → (n : Node) × (get engine.old.store.nodes (slice_index floors.now e) ≡ Some n) × (n.name ≡ Now e) }
     requires only { (k : ℕ) (n : Node) → get engine.old.store.nodes k ≡ Some n → IsOpenFloor floors.now fixed.now n.name k }
-    requires before { (k : ℕ) (n : Node) → get engine.old.store.nodes k ≡ Some n → n.arc ≡ (raised_node clock lags.now n).arc }
-    requires start { IsStart (kept_arcs (raised_slots now lags.now engine.old.store.nodes.slots)) engine.old.high.items amount }
-    requires positive { 0 < amount }
-    requires amount { amount < 2 ^ 32 }
+    requires from { (k : ℕ) (n : Node) → get engine.old.store.nodes k ≡ Some n → IsFromEvent n.name n.arc }
+    requires before { (clock : ℕ) × (clock ≤ now) × ((k : ℕ) (n : Node) → get engine.old.store.nodes k ≡ Some n → n.arc ≡ (raised_node clock lags.now n).arc) }
+    requires wait { AllWait fixed.now engine.old.high.items lags.now now }
     ensures ok { OnOk result (IsChanged (raised_node now lags.now) engine.old engine.new) }
     ensures err { OnErr result (IsUntouched engine.old engine.new) }
-    ensures looks { (edges : ℕ) → IsWired (length engine.old.low.items) edges engine.old → OnOk result (engine.new.looks ≤ 2 * edges) }
-    ensures err_looks { OnErr result (engine.new.looks ≡ engine.old.looks) }
+    ensures looks { OnOk result (engine.new.looks ≡ looks_at (keys_of Up engine.old.store) (λ x. slice_index engine.new.up.amounts.items x) (length engine.old.low.items)) }
+    ensures moved { OnOk result ((x : ℕ) → x < length engine.old.low.items → slice_index engine.new.low.items x ≡ slice_index engine.old.low.items x + slice_index engine.new.up.amounts.items x) }
+    ensures err_looks { OnErr result (engine.new.looks ≡ 0) }
 {
-    let known = Vec::from_slice(alloc, &engine.high)?;
+    let looks = rise_floors(&engine.store, &engine.low, &mut engine.up, fixed, lags, now)?;
+    engine.looks = looks;
     set_floors(&mut engine.store, floors, fixed, lags, now);
-    if let Err(error) = solve(engine, &known, amount) {
-        set_floors(&mut engine.store, floors, fixed, lags, clock);
-        return Err(error);
-    }
+    move_up(&mut engine.low, &engine.up);
     Ok(())
 }

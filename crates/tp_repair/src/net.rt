@@ -263,17 +263,7 @@ impl Net for RepairNet {
             let reason = refute(alloc, &mut self.engine, Edge::Now(e), new)?;
             return Err(NetFault::Conflict(reason));
         }
-        let amount = u64::from(self.horizon) + 1;
-        raise(
-            alloc,
-            &mut self.engine,
-            &self.floors,
-            &self.fixed,
-            &self.lags,
-            self.clock,
-            now,
-            amount,
-        )?;
+        raise(&mut self.engine, &self.floors, &self.fixed, &self.lags, now)?;
         self.clock = now;
         Ok(())
     }
@@ -292,10 +282,9 @@ impl Net for RepairNet {
             let reason = refute(alloc, &mut self.engine, Edge::PastHigh(e), new)?;
             return Err(NetFault::Conflict(past(reason, e)));
         }
-        let amount = u64::from(self.horizon) + 1;
         let floor = self.floors[e as usize];
         let end = self.ends[e as usize];
-        settle(alloc, &mut self.engine, floor, end, e, moment, amount)?;
+        settle(alloc, &mut self.engine, floor, end, e, moment)?;
         self.fixed[e as usize] = Some(moment);
         Ok(())
     }

@@ -1,75 +1,50 @@
-use Rattle.std.proofs.Common.{◌≡◌, ℕ, List, length, sym, ap, subst, ◌∙◌}
-use Rattle.tp_net.specs.Moments.{IsStart, AreExact}
+use Rattle.std.proofs.Common.{◌≡◌, ℕ, List, length, ap, ◌∙◌, arith}
 use Rattle.tp_repair.specs.declared.engine.Engine.{Engine}
-use Rattle.tp_repair.specs.declared.store.Store.{Store}
-use Rattle.tp_repair.specs.Store.{arcs_of}
-use Rattle.tp_repair.specs.Engine.{IsWired, AreMapped}
-use Rattle.tp_repair.specs.Slots.{raised_node, raised_slots}
-use Rattle.tp_repair.proofs.Wires.{with_store, wired_store}
-use Rattle.tp_repair.proofs.Floors.{raised_back}
-use Rattle.tp_repair.proofs.Changes.{start_mapped, mapped_at}
+use Rattle.tp_repair.specs.declared.store.Direction.TheVariants.{Up, Down}
+use Rattle.tp_repair.specs.Store.{arcs_of, keys_of}
+use Rattle.tp_repair.specs.Asked.{AsksFloor, IsRaisedTo}
+use Rattle.tp_repair.proofs.Wires.{sum_same}
+use Rattle.tp_repair.proofs.Rises.{floors_below_high, floors_exact}
 use Rattle.tp_repair.proofs.change.raise.Goals as goal
 
-pub solve-requires-clause-wired : goal.solve-requires-clause-wired
-solve-requires-clause-wired c =
+pub move_up-requires-clause-fits : goal.move_up-requires-clause-fits
+move_up-requires-clause-fits c = λ x within.
     let g : Engine = c.args.engine.now in
-    let e = c.set_floors.ensures in
-    let p = length g.low.items in
-    let at : c.deref-2.result.now ≡ g.high.items = c.deref-2.ensures.value ∙ (c.in_ok-known.ensures.items ∙ c.deref.ensures.value) in
-    let len : length c.deref-2.result.now ≡ p = ap (λ (xs : List ℕ). length xs) at ∙ c.requires.len_high in
-    (c.requires.wired.0, subst (λ n. IsWired n c.requires.wired.0 (with_store g c.set_floors.new.store)) (sym len) (wired_store p c.requires.wired.0 g c.set_floors.new.store c.requires.wired.1 e.points e.halves_in e.halves_out e.degrees))
-
-pub solve-requires-clause-start : goal.solve-requires-clause-start
-solve-requires-clause-start c =
-    let g : Engine = c.args.engine.now in
-    let e = c.set_floors.ensures in
-    let p = length g.low.items in
-    let at : c.deref-2.result.now ≡ g.high.items = c.deref-2.ensures.value ∙ (c.in_ok-known.ensures.items ∙ c.deref.ensures.value) in
-    let len : length c.deref-2.result.now ≡ p = ap (λ (xs : List ℕ). length xs) at ∙ c.requires.len_high in
-    let old = g.store.nodes.slots in
-    subst (λ (xs : List ℕ). IsStart (arcs_of c.set_floors.new.store.nodes.slots) xs c.args.amount) (sym at)
-    (start_mapped (raised_node c.args.now c.args.lags.now) old c.set_floors.new.store.nodes.slots (raised_slots c.args.now c.args.lags.now old) g.high.items c.args.amount (mapped_at (raised_node c.args.now c.args.lags.now) old) e.mapped c.requires.start)
-
-pub returns-in-Err-clause-err : goal.returns-in-Err-clause-err
-returns-in-Err-clause-err c =
-    let g : Engine = c.args.engine.now in
-    let e = c.set_floors.ensures in
-    let p = length g.low.items in
-    let at : c.deref-2.result.now ≡ g.high.items = c.deref-2.ensures.value ∙ (c.in_ok-known.ensures.items ∙ c.deref.ensures.value) in
-    let len : length c.deref-2.result.now ≡ p = ap (λ (xs : List ℕ). length xs) at ∙ c.requires.len_high in
-    let h : Engine = c.solve.new.engine in
-    let f = c.set_floors-in-Err.ensures in
-    let again : AreMapped (raised_node c.args.clock c.args.lags.now) c.set_floors.new.store.nodes.slots c.set_floors-in-Err.new.store.nodes.slots =
-    subst (λ (s : Store). AreMapped (raised_node c.args.clock c.args.lags.now) s.nodes.slots c.set_floors-in-Err.new.store.nodes.slots) c.solve.ensures.store f.mapped in
-    record {
-      wired = λ edges w.
-          (let w1 = wired_store p edges g c.set_floors.new.store w e.points e.halves_in e.halves_out e.degrees in
-          let w2 = subst (λ n. IsWired n edges h) len (c.solve.ensures.wired edges (subst (λ n. IsWired n edges (with_store g c.set_floors.new.store)) (sym len) w1)) in
-          wired_store p edges h c.set_floors-in-Err.new.store w2 f.points f.halves_in f.halves_out f.degrees);
-      edges = raised_back c.args.clock c.args.now c.args.lags.now g.store.nodes.slots c.set_floors.new.store.nodes.slots c.set_floors-in-Err.new.store.nodes.slots e.mapped again c.requires.before;
-      low = c.in-Err.ensures.err_low;
-      high = c.in-Err.ensures.err_high;
-    }
+    let low = g.low.items in
+    let amounts = c.rise_floors.new.work.amounts.items in
+    let r : IsRaisedTo (arcs_of g.store.nodes.slots) (AsksFloor c.args.fixed.now c.args.lags.now c.args.now) low amounts = simp c.deref.ensures.value at c.in_ok-looks.ensures.raised in
+    let h = floors_below_high c.args.now c.args.lags.now c.args.floors.now c.args.fixed.now g.store.nodes.slots low g.high.items amounts c.requires.exact c.requires.holds.origin c.requires.wait r x within in
+    let s = c.requires.small x 0 (let l = c.requires.exact.len in omega (arith, within, l)) in
+    omega (arith, h, s)
 
 pub returns-clause-ok : goal.returns-clause-ok
 returns-clause-ok c =
     let g : Engine = c.args.engine.now in
+    let low = g.low.items in
+    let old = g.store.nodes.slots in
+    let new = c.set_floors.new.store.nodes.slots in
     let e = c.set_floors.ensures in
-    let p = length g.low.items in
-    let at : c.deref-2.result.now ≡ g.high.items = c.deref-2.ensures.value ∙ (c.in_ok-known.ensures.items ∙ c.deref.ensures.value) in
-    let len : length c.deref-2.result.now ≡ p = ap (λ (xs : List ℕ). length xs) at ∙ c.requires.len_high in
-    let h : Engine = c.solve.new.engine in
+    let amounts = c.rise_floors.new.work.amounts.items in
+    let at : c.deref.result.now ≡ low = c.deref.ensures.value in
+    let same : length c.deref.result.now ≡ length low = ap (λ (xs : List ℕ). length xs) at in
+    let r : IsRaisedTo (arcs_of old) (AsksFloor c.args.fixed.now c.args.lags.now c.args.now) low amounts = simp c.deref.ensures.value at c.in_ok-looks.ensures.raised in
+    let b = c.requires.before in
     record {
-      wired = λ edges w. subst (λ n. IsWired n edges h) len (c.solve.ensures.wired edges (subst (λ n. IsWired n edges (with_store g c.set_floors.new.store)) (sym len) (wired_store p edges g c.set_floors.new.store w e.points e.halves_in e.halves_out e.degrees)));
-      edges = subst (λ (s : Store). AreMapped (raised_node c.args.now c.args.lags.now) g.store.nodes.slots s.nodes.slots) (sym c.solve.ensures.store) e.mapped;
-      exact = subst (λ (s : Store). AreExact (arcs_of s.nodes.slots) h.low.items h.high.items) (sym c.solve.ensures.store) c.in_default.ensures.exact;
+      wired = λ edges w. record {
+        some = w.some;
+        low_len = c.move_up.ensures.len ∙ w.low_len;
+        high_len = w.high_len;
+        into_len = e.points.0 ∙ w.into_len;
+        out_len = e.points.1 ∙ w.out_len;
+        halves_in = e.halves_in;
+        halves_out = e.halves_out;
+        up = simp same at c.rise_floors.ensures.idle;
+        down = w.down;
+        many_up = sum_same (λ y. length (keys_of Up g.store y)) (λ y. length (keys_of Up c.set_floors.new.store y)) (length low) (e.degrees Up) ∙ w.many_up;
+        many_down = sum_same (λ y. length (keys_of Down g.store y)) (λ y. length (keys_of Down c.set_floors.new.store y)) (length low) (e.degrees Down) ∙ w.many_down;
+        few = w.few;
+      };
+      edges = e.mapped;
+      exact = floors_exact c.args.now c.args.lags.now c.args.floors.now c.args.fixed.now old low g.high.items amounts c.requires.exact c.requires.holds.origin c.requires.wait r
+          b.0 new c.move_up.new.low.items b.1 c.requires.only c.requires.floors b.2 c.requires.from e.mapped c.move_up.ensures.len c.move_up.ensures.each;
     }
-
-pub returns-clause-looks : goal.returns-clause-looks
-returns-clause-looks c = λ edges w.
-    let g : Engine = c.args.engine.now in
-    let e = c.set_floors.ensures in
-    let p = length g.low.items in
-    let at : c.deref-2.result.now ≡ g.high.items = c.deref-2.ensures.value ∙ (c.in_ok-known.ensures.items ∙ c.deref.ensures.value) in
-    let len : length c.deref-2.result.now ≡ p = ap (λ (xs : List ℕ). length xs) at ∙ c.requires.len_high in
-    c.in_default.ensures.looks edges (subst (λ n. IsWired n edges (with_store g c.set_floors.new.store)) (sym len) (wired_store p edges g c.set_floors.new.store w e.points e.halves_in e.halves_out e.degrees))

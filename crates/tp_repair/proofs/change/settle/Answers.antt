@@ -1,227 +1,139 @@
 use Prim.Native.Nat.{max}
-use Rattle.tp_net.proofs.Additions.{read_at}
-use Rattle.std.proofs.Common.{◌≡◌, ℕ, suc, ◌+◌, ◌-◌, ◌<◌, List, length, get_or, sym, ap, subst, ◌∙◌, arith, rules, w64}
-use Rattle.std.specs.Prelude.{Some, None, slice_index_or}
-use Rattle.std.proofs.lemmas.Int.{to_z-of_z}
+use Rattle.std.proofs.Common.{◌≡◌, ℕ, suc, ◌+◌, ◌-◌, ◌<◌, List, length, get_or, sym, ap, subst, ◌∙◌, ◌++◌, ◌∷◌, [], arith, rules, w64}
+use Rattle.std.specs.Prelude.{ℤ, ◌-ℤ◌, Some, None, slice_index_or, pos}
+use Rattle.std.proofs.lemmas.Int.{ints, to_z-of_z}
 use mir.Val.{SFits}
-use Rattle.tp_bounds.specs.declared.Edge.TheVariants.{PastHigh, PastLow, Now, End}
+use Rattle.tp_bounds.specs.declared.Edge.TheVariants.{PastHigh, PastLow}
+use Rattle.tp_bounds.specs.Reasons.{at_least, at_most}
 use Rattle.tp_net.specs.declared.slacks.Arc.{Arc}
-use Rattle.tp_net.specs.Moments.{IsStart, AreExact}
+use Rattle.tp_net.specs.Arcs.{arc_of}
+use Rattle.tp_net.specs.Graph.{MeetsArc}
+use Rattle.tp_net.specs.Moments.{CycleBeginsWith}
+use Rattle.tp_net.proofs.Additions.{with_new}
 use Rattle.tp_repair.specs.declared.engine.Engine.{Engine}
-use Rattle.tp_repair.specs.declared.store.Node.{Node}
-use Rattle.tp_repair.specs.declared.store.Store.{Store}
-use Rattle.tp_repair.specs.Store.{arcs_of, weighed}
-use Rattle.tp_repair.specs.Engine.{IsWired, AreMapped}
-use Rattle.tp_repair.specs.Slots.{past_node, past_slots}
-use Rattle.tp_repair.proofs.Wires.{with_store, wired_store}
+use Rattle.tp_repair.specs.declared.store.Direction.TheVariants.{Up, Down}
+use Rattle.tp_repair.specs.Store.{arcs_of, keys_of, weighed}
+use Rattle.tp_repair.specs.Work.{Rises, Falls, WouldRise, IsIdle}
+use Rattle.tp_repair.proofs.Wires.{sum_same}
+use Rattle.tp_repair.proofs.Settled.{two_keys, settled_mapped}
 use Rattle.tp_repair.proofs.Names.{has_key}
-use Rattle.tp_repair.proofs.Settled.{put_back, two_keys, settled_mapped}
-use Rattle.tp_repair.proofs.Changes.{start_mapped, mapped_at}
+use Rattle.tp_repair.proofs.Fixed.{cycle_none, between_met, fixed_exact}
 use Rattle.tp_repair.proofs.change.settle.Goals as goal
 
-pub solve-requires-clause-wired : goal.solve-requires-clause-wired
-solve-requires-clause-wired c =
-    let g : Engine = c.args.engine.now in
-    let a = c.set_edge.ensures in
-    let b = c.set_edge-2.ensures in
-    let p = length g.low.items in
-    let old = g.store.nodes.slots in
-    let mid = c.set_edge.new.store.nodes.slots in
-    let new = c.set_edge-2.new.store.nodes.slots in
-    let nf = c.requires.floor in
-    let nh = c.requires.end in
-    let at : c.deref-3.result.now ≡ c.in_ok-known.known.items = c.deref-3.ensures.value in
-    let same_low : length c.deref.result.now ≡ p = ap (λ (xs : List ℕ). length xs) c.deref.ensures.value in
-    let len : length c.deref-3.result.now ≡ p = ap (λ (xs : List ℕ). length xs) at ∙ (c.in_ok-known.ensures.len ∙ same_low) in
-    let wire : (edges : ℕ) → IsWired p edges g → IsWired (length c.deref-3.result.now) edges (with_store g c.set_edge-2.new.store) = λ edges w.
-    (subst (λ n. IsWired n edges (with_store g c.set_edge-2.new.store)) (sym len)
-    (wired_store p edges (with_store g c.set_edge.new.store) c.set_edge-2.new.store (wired_store p edges g c.set_edge.new.store w a.points a.halves_in a.halves_out a.degrees) b.points b.halves_in b.halves_out b.degrees)) in
-    (c.requires.wired.0, wire c.requires.wired.0 c.requires.wired.1)
+-- the moment of the event in its window, of a solution
+max_is : (low high m : ℕ) → low < m + 1 → m < high + 1 → max low (high - (high - m)) ≡ m
+max_is low high m a b = omega (arith, a, b)
 
-pub solve-requires-clause-start : goal.solve-requires-clause-start
-solve-requires-clause-start c =
+pub unreachable-requires : goal.unreachable-requires
+unreachable-requires c =
     let g : Engine = c.args.engine.now in
-    let a = c.set_edge.ensures in
-    let b = c.set_edge-2.ensures in
-    let p = length g.low.items in
-    let old = g.store.nodes.slots in
-    let mid = c.set_edge.new.store.nodes.slots in
-    let new = c.set_edge-2.new.store.nodes.slots in
-    let nf = c.requires.floor in
-    let nh = c.requires.end in
-    let at : c.deref-3.result.now ≡ c.in_ok-known.known.items = c.deref-3.ensures.value in
-    let same_low : length c.deref.result.now ≡ p = ap (λ (xs : List ℕ). length xs) c.deref.ensures.value in
-    let len : length c.deref-3.result.now ≡ p = ap (λ (xs : List ℕ). length xs) at ∙ (c.in_ok-known.ensures.len ∙ same_low) in
-    let apart = two_keys c.args.e c.args.moment c.args.floor c.args.end old mid new nf.0 nh.0 nf.1 nf.2 nh.1 nh.2 in
-    let fits : SFits w64 c.start_arc.result.weight = search rules in
-    let fits_high : SFits w64 c.stop_arc.result.weight = search rules in
-    let f_now : slice_index_or mid c.args.floor None ≡ Some (weighed (PastLow c.args.e) c.start_arc.result.weight nf.0) = simp to_z-of_z at (a.here nf.0 nf.1) in
-    let h_now : slice_index_or new c.args.end None ≡ Some (weighed (PastHigh c.args.e) c.stop_arc.result.weight nh.0) = simp to_z-of_z at (b.here nh.0 (a.others c.args.end apart ∙ nh.1)) in
-    let mapped : AreMapped (past_node c.args.e c.args.moment) old new =
-    settled_mapped c.args.e c.args.moment c.args.floor c.args.end old mid new nf.0 nh.0 nf.1 nf.2 nh.1 nh.2 c.start_arc.result.weight c.stop_arc.result.weight c.requires.only_floor c.requires.only_end f_now a.others h_now b.others
-    (ap (λ (x : Arc). x.weight) c.start_arc.ensures) (ap (λ (x : Arc). x.weight) c.stop_arc.ensures) in
-    let high_len : length g.high.items ≡ p = c.requires.wired.1.high_len in
-    let at1 : c.from.result + 1 ≡ suc c.args.e = omega (arith, c.from.ensures) in
-    let here : get_or g.high.items (suc c.args.e) 0 ≡ c.index.result.now = ap (λ i. get_or g.high.items i 0) (sym at1) ∙ read_at g.high.items (c.from.result + 1) c.index.result.now (omega (arith, at1, high_len, c.requires.point)) c.index.ensures in
-    let back : c.index.result.now - c.from-2.result ≡ get_or g.high.items (suc c.args.e) 0 - c.args.moment = omega (arith, here, c.from-2.ensures) in
-    let each : (x : ℕ) → x < length g.low.items → get_or c.in_ok-known.known.items x 0 ≡ max (get_or g.low.items x 0) (get_or g.high.items x 0 - (c.index.result.now - c.from-2.result)) = simp (c.deref.ensures.value, c.deref-2.ensures.value) at c.in_ok-known.ensures.each in
-    subst (λ (xs : List ℕ). IsStart (arcs_of new) xs c.args.amount) (sym at)
-    (start_mapped (past_node c.args.e c.args.moment) old new (past_slots c.args.e c.args.moment old) c.in_ok-known.known.items c.args.amount (mapped_at (past_node c.args.e c.args.moment) old) mapped
-    (c.requires.start c.in_ok-known.known.items (c.in_ok-known.ensures.len ∙ same_low) (λ x within. each x within ∙ ap (λ n. max (get_or g.low.items x 0) (get_or g.high.items x 0 - n)) back)))
+    let arcs = arcs_of g.store.nodes.slots in
+    let low = g.low.items in
+    let high = g.high.items in
+    let e = c.args.e in
+    let m = c.args.moment in
+    let back = get_or high (suc e) 0 - m in
+    let new = arc_of (at_least e m) in
+    let t : ℕ → ℤ = λ x. pos (max (get_or low x 0) (get_or high x 0 - back)) in
+    let s = between_met arcs low high back c.requires.exact.least.solution c.requires.exact.greatest.solution in
+    let above = c.requires.above in
+    let below = c.requires.below in
+    let at : max (get_or low (suc e) 0) (get_or high (suc e) 0 - back) ≡ m = max_is (get_or low (suc e) 0) (get_or high (suc e) 0) m (omega (arith, above)) (omega (arith, below)) in
+    let o = s.0 in
+    let met : MeetsArc t new = omega (arith, ints, at, o) in
+    let r : CycleBeginsWith (arcs ++ new ∷ []) (length arcs) (length arcs ∷ c.in-Some._path.items) = subst (λ q. WouldRise arcs new low c.rise.new.work.amounts.items q) c.in-Some.is (simp (c.deref.ensures.value, c.start_arc-start.ensures) at c.in_ok-_path.ensures.rises) in
+    cycle_none (arcs ++ new ∷ []) (length arcs ∷ c.in-Some._path.items) r.negative t (with_new arcs new t s met)
 
-pub set_edge-requires-in-Err-clause-exists : goal.set_edge-requires-in-Err-clause-exists
-set_edge-requires-in-Err-clause-exists c =
+pub fall-requires-clause-solution : goal.fall-requires-clause-solution
+fall-requires-clause-solution c =
     let g : Engine = c.args.engine.now in
-    let a = c.set_edge.ensures in
-    let b = c.set_edge-2.ensures in
-    let p = length g.low.items in
-    let old = g.store.nodes.slots in
-    let mid = c.set_edge.new.store.nodes.slots in
-    let new = c.set_edge-2.new.store.nodes.slots in
-    let nf = c.requires.floor in
-    let nh = c.requires.end in
-    let at : c.deref-3.result.now ≡ c.in_ok-known.known.items = c.deref-3.ensures.value in
-    let same_low : length c.deref.result.now ≡ p = ap (λ (xs : List ℕ). length xs) c.deref.ensures.value in
-    let len : length c.deref-3.result.now ≡ p = ap (λ (xs : List ℕ). length xs) at ∙ (c.in_ok-known.ensures.len ∙ same_low) in
-    let apart = two_keys c.args.e c.args.moment c.args.floor c.args.end old mid new nf.0 nh.0 nf.1 nf.2 nh.1 nh.2 in
-    let fits : SFits w64 c.start_arc.result.weight = search rules in
-    let fits_high : SFits w64 c.stop_arc.result.weight = search rules in
-    let f_now : slice_index_or mid c.args.floor None ≡ Some (weighed (PastLow c.args.e) c.start_arc.result.weight nf.0) = simp to_z-of_z at (a.here nf.0 nf.1) in
-    let h_now : slice_index_or new c.args.end None ≡ Some (weighed (PastHigh c.args.e) c.stop_arc.result.weight nh.0) = simp to_z-of_z at (b.here nh.0 (a.others c.args.end apart ∙ nh.1)) in
-    let h : Engine = c.solve.new.engine in
-    let there : slice_index_or h.store.nodes.slots c.args.floor None ≡ Some (weighed (PastLow c.args.e) c.start_arc.result.weight nf.0) =
-    ap (λ (s : Store). slice_index_or s.nodes.slots c.args.floor None) c.solve.ensures.store ∙ (b.others c.args.floor (λ same. apart (sym same)) ∙ f_now) in
-    let there_high : slice_index_or h.store.nodes.slots c.args.end None ≡ Some (weighed (PastHigh c.args.e) c.stop_arc.result.weight nh.0) =
-    ap (λ (s : Store). slice_index_or s.nodes.slots c.args.end None) c.solve.ensures.store ∙ h_now in
-    has_key h.store.nodes.slots c.args.floor (weighed (PastLow c.args.e) c.start_arc.result.weight nf.0, there)
+    let arcs = arcs_of g.store.nodes.slots in
+    let low = g.low.items in
+    let high = g.high.items in
+    let e = c.args.e in
+    let m = c.args.moment in
+    let back = get_or high (suc e) 0 - m in
+    let t : ℕ → ℤ = λ x. pos (max (get_or low x 0) (get_or high x 0 - back)) in
+    let s = between_met arcs low high back c.requires.exact.least.solution c.requires.exact.greatest.solution in
+    let above = c.requires.above in
+    let below = c.requires.below in
+    let at : max (get_or low (suc e) 0) (get_or high (suc e) 0 - back) ≡ m = max_is (get_or low (suc e) 0) (get_or high (suc e) 0) m (omega (arith, above)) (omega (arith, below)) in
+    let o = s.0 in
+    let new = arc_of (at_most e m) in
+    let met : MeetsArc t new = omega (arith, ints, at, o) in
+    simp c.stop_arc-stop.ensures (λ x. max (get_or low x 0) (get_or high x 0 - back), with_new arcs new t s met)
 
-pub set_edge-requires-in-Err-2-clause-exists : goal.set_edge-requires-in-Err-2-clause-exists
-set_edge-requires-in-Err-2-clause-exists c =
+pub set_edge-requires-2-clause-exists : goal.set_edge-requires-2-clause-exists
+set_edge-requires-2-clause-exists c =
     let g : Engine = c.args.engine.now in
-    let a = c.set_edge.ensures in
-    let b = c.set_edge-2.ensures in
-    let p = length g.low.items in
-    let old = g.store.nodes.slots in
     let mid = c.set_edge.new.store.nodes.slots in
-    let new = c.set_edge-2.new.store.nodes.slots in
     let nf = c.requires.floor in
     let nh = c.requires.end in
-    let at : c.deref-3.result.now ≡ c.in_ok-known.known.items = c.deref-3.ensures.value in
-    let same_low : length c.deref.result.now ≡ p = ap (λ (xs : List ℕ). length xs) c.deref.ensures.value in
-    let len : length c.deref-3.result.now ≡ p = ap (λ (xs : List ℕ). length xs) at ∙ (c.in_ok-known.ensures.len ∙ same_low) in
-    let apart = two_keys c.args.e c.args.moment c.args.floor c.args.end old mid new nf.0 nh.0 nf.1 nf.2 nh.1 nh.2 in
-    let fits : SFits w64 c.start_arc.result.weight = search rules in
-    let fits_high : SFits w64 c.stop_arc.result.weight = search rules in
-    let f_now : slice_index_or mid c.args.floor None ≡ Some (weighed (PastLow c.args.e) c.start_arc.result.weight nf.0) = simp to_z-of_z at (a.here nf.0 nf.1) in
-    let h_now : slice_index_or new c.args.end None ≡ Some (weighed (PastHigh c.args.e) c.stop_arc.result.weight nh.0) = simp to_z-of_z at (b.here nh.0 (a.others c.args.end apart ∙ nh.1)) in
-    let h : Engine = c.solve.new.engine in
-    let there : slice_index_or h.store.nodes.slots c.args.floor None ≡ Some (weighed (PastLow c.args.e) c.start_arc.result.weight nf.0) =
-    ap (λ (s : Store). slice_index_or s.nodes.slots c.args.floor None) c.solve.ensures.store ∙ (b.others c.args.floor (λ same. apart (sym same)) ∙ f_now) in
-    let there_high : slice_index_or h.store.nodes.slots c.args.end None ≡ Some (weighed (PastHigh c.args.e) c.stop_arc.result.weight nh.0) =
-    ap (λ (s : Store). slice_index_or s.nodes.slots c.args.end None) c.solve.ensures.store ∙ h_now in
-    has_key c.set_edge-in-Err.new.store.nodes.slots c.args.end (weighed (PastHigh c.args.e) c.stop_arc.result.weight nh.0, c.set_edge-in-Err.ensures.others c.args.end apart ∙ there_high)
-
-pub returns-in-Err-clause-err : goal.returns-in-Err-clause-err
-returns-in-Err-clause-err c =
-    let g : Engine = c.args.engine.now in
-    let a = c.set_edge.ensures in
-    let b = c.set_edge-2.ensures in
-    let p = length g.low.items in
-    let old = g.store.nodes.slots in
-    let mid = c.set_edge.new.store.nodes.slots in
-    let new = c.set_edge-2.new.store.nodes.slots in
-    let nf = c.requires.floor in
-    let nh = c.requires.end in
-    let at : c.deref-3.result.now ≡ c.in_ok-known.known.items = c.deref-3.ensures.value in
-    let same_low : length c.deref.result.now ≡ p = ap (λ (xs : List ℕ). length xs) c.deref.ensures.value in
-    let len : length c.deref-3.result.now ≡ p = ap (λ (xs : List ℕ). length xs) at ∙ (c.in_ok-known.ensures.len ∙ same_low) in
-    let wire : (edges : ℕ) → IsWired p edges g → IsWired (length c.deref-3.result.now) edges (with_store g c.set_edge-2.new.store) = λ edges w.
-    (subst (λ n. IsWired n edges (with_store g c.set_edge-2.new.store)) (sym len)
-    (wired_store p edges (with_store g c.set_edge.new.store) c.set_edge-2.new.store (wired_store p edges g c.set_edge.new.store w a.points a.halves_in a.halves_out a.degrees) b.points b.halves_in b.halves_out b.degrees)) in
-    let apart = two_keys c.args.e c.args.moment c.args.floor c.args.end old mid new nf.0 nh.0 nf.1 nf.2 nh.1 nh.2 in
-    let fits : SFits w64 c.start_arc.result.weight = search rules in
-    let fits_high : SFits w64 c.stop_arc.result.weight = search rules in
-    let f_now : slice_index_or mid c.args.floor None ≡ Some (weighed (PastLow c.args.e) c.start_arc.result.weight nf.0) = simp to_z-of_z at (a.here nf.0 nf.1) in
-    let h_now : slice_index_or new c.args.end None ≡ Some (weighed (PastHigh c.args.e) c.stop_arc.result.weight nh.0) = simp to_z-of_z at (b.here nh.0 (a.others c.args.end apart ∙ nh.1)) in
-    let h : Engine = c.solve.new.engine in
-    let there : slice_index_or h.store.nodes.slots c.args.floor None ≡ Some (weighed (PastLow c.args.e) c.start_arc.result.weight nf.0) =
-    ap (λ (s : Store). slice_index_or s.nodes.slots c.args.floor None) c.solve.ensures.store ∙ (b.others c.args.floor (λ same. apart (sym same)) ∙ f_now) in
-    let there_high : slice_index_or h.store.nodes.slots c.args.end None ≡ Some (weighed (PastHigh c.args.e) c.stop_arc.result.weight nh.0) =
-    ap (λ (s : Store). slice_index_or s.nodes.slots c.args.end None) c.solve.ensures.store ∙ h_now in
-    let r = c.set_edge-in-Err.ensures in
-    let s = c.set_edge-in-Err-2.ensures in
-    let f : Node = c.index-2.result.now in
-    let x : Node = c.index-3.result.now in
-    let f_both : Some f ≡ Some nf.0 = sym c.index-2.ensures ∙ nf.1 in
-    let f_is : f ≡ nf.0 = cc in
-    let x_both : Some x ≡ Some nh.0 = sym c.index-3.ensures ∙ nh.1 in
-    let x_is : x ≡ nh.0 = cc in
-    let f_fits : SFits w64 f.arc.weight = search rules in
-    let x_fits : SFits w64 x.arc.weight = search rules in
-    let m1 : Node = weighed (PastLow c.args.e) c.start_arc.result.weight nf.0 in
-    let m2 : Node = weighed (PastHigh c.args.e) c.stop_arc.result.weight nh.0 in
-    let f_again : slice_index_or c.set_edge-in-Err.new.store.nodes.slots c.args.floor None ≡ Some (weighed (Now c.args.e) f.arc.weight m1) = simp to_z-of_z at (r.here m1 there) in
-    let x_again : slice_index_or c.set_edge-in-Err-2.new.store.nodes.slots c.args.end None ≡ Some (weighed (End c.args.e) x.arc.weight m2) = simp to_z-of_z at (s.here m2 (r.others c.args.end apart ∙ there_high)) in
-    record {
-      wired = λ edges w.
-          (let w2 = subst (λ n. IsWired n edges h) len (c.solve.ensures.wired edges (wire edges w)) in
-          wired_store p edges (with_store h c.set_edge-in-Err.new.store) c.set_edge-in-Err-2.new.store (wired_store p edges h c.set_edge-in-Err.new.store w2 r.points r.halves_in r.halves_out r.degrees) s.points s.halves_in s.halves_out s.degrees);
-      edges = put_back c.args.floor c.args.end old c.set_edge-in-Err-2.new.store.nodes.slots nf.0 nh.0 (weighed (Now c.args.e) f.arc.weight m1) (weighed (End c.args.e) x.arc.weight m2) nf.1 nh.1
-          (s.others c.args.floor (λ same. apart (sym same)) ∙ f_again) x_again
-          (sym nf.2) (ap (λ (n : Node). record { from = nf.0.arc.from; to = nf.0.arc.to; weight = n.arc.weight }) f_is)
-          (sym nh.2) (ap (λ (n : Node). record { from = nh.0.arc.from; to = nh.0.arc.to; weight = n.arc.weight }) x_is)
-          (λ k nf' nh'. s.others k nh' ∙ (r.others k nf' ∙ (ap (λ (t : Store). slice_index_or t.nodes.slots k None) c.solve.ensures.store ∙ (b.others k nh' ∙ a.others k nf'))));
-      low = c.in-Err.ensures.err_low;
-      high = c.in-Err.ensures.err_high;
-    }
+    let apart = two_keys c.args.e c.args.moment c.args.floor c.args.end g.store.nodes.slots mid mid nf.0 nh.0 nf.1 nf.2 nh.1 nh.2 in
+    has_key mid c.args.end (nh.0, c.set_edge.ensures.others c.args.end apart ∙ nh.1)
 
 pub returns-clause-ok : goal.returns-clause-ok
 returns-clause-ok c =
     let g : Engine = c.args.engine.now in
+    let arcs = arcs_of g.store.nodes.slots in
+    let low = g.low.items in
+    let high = g.high.items in
+    let e = c.args.e in
+    let m = c.args.moment in
+    let back = get_or high (suc e) 0 - m in
+    let t : ℕ → ℤ = λ x. pos (max (get_or low x 0) (get_or high x 0 - back)) in
+    let s = between_met arcs low high back c.requires.exact.least.solution c.requires.exact.greatest.solution in
+    let above = c.requires.above in
+    let below = c.requires.below in
+    let at : max (get_or low (suc e) 0) (get_or high (suc e) 0 - back) ≡ m = max_is (get_or low (suc e) 0) (get_or high (suc e) 0) m (omega (arith, above)) (omega (arith, below)) in
+    let o = s.0 in
     let a = c.set_edge.ensures in
     let b = c.set_edge-2.ensures in
-    let p = length g.low.items in
     let old = g.store.nodes.slots in
     let mid = c.set_edge.new.store.nodes.slots in
     let new = c.set_edge-2.new.store.nodes.slots in
     let nf = c.requires.floor in
     let nh = c.requires.end in
-    let at : c.deref-3.result.now ≡ c.in_ok-known.known.items = c.deref-3.ensures.value in
-    let same_low : length c.deref.result.now ≡ p = ap (λ (xs : List ℕ). length xs) c.deref.ensures.value in
-    let len : length c.deref-3.result.now ≡ p = ap (λ (xs : List ℕ). length xs) at ∙ (c.in_ok-known.ensures.len ∙ same_low) in
-    let wire : (edges : ℕ) → IsWired p edges g → IsWired (length c.deref-3.result.now) edges (with_store g c.set_edge-2.new.store) = λ edges w.
-    (subst (λ n. IsWired n edges (with_store g c.set_edge-2.new.store)) (sym len)
-    (wired_store p edges (with_store g c.set_edge.new.store) c.set_edge-2.new.store (wired_store p edges g c.set_edge.new.store w a.points a.halves_in a.halves_out a.degrees) b.points b.halves_in b.halves_out b.degrees)) in
-    let apart = two_keys c.args.e c.args.moment c.args.floor c.args.end old mid new nf.0 nh.0 nf.1 nf.2 nh.1 nh.2 in
-    let fits : SFits w64 c.start_arc.result.weight = search rules in
-    let fits_high : SFits w64 c.stop_arc.result.weight = search rules in
-    let f_now : slice_index_or mid c.args.floor None ≡ Some (weighed (PastLow c.args.e) c.start_arc.result.weight nf.0) = simp to_z-of_z at (a.here nf.0 nf.1) in
-    let h_now : slice_index_or new c.args.end None ≡ Some (weighed (PastHigh c.args.e) c.stop_arc.result.weight nh.0) = simp to_z-of_z at (b.here nh.0 (a.others c.args.end apart ∙ nh.1)) in
-    let mapped : AreMapped (past_node c.args.e c.args.moment) old new =
-    settled_mapped c.args.e c.args.moment c.args.floor c.args.end old mid new nf.0 nh.0 nf.1 nf.2 nh.1 nh.2 c.start_arc.result.weight c.stop_arc.result.weight c.requires.only_floor c.requires.only_end f_now a.others h_now b.others
-    (ap (λ (x : Arc). x.weight) c.start_arc.ensures) (ap (λ (x : Arc). x.weight) c.stop_arc.ensures) in
-    let h : Engine = c.solve.new.engine in
+    let up = c.rise.new.work.amounts.items in
+    let down = c.fall.new.work.amounts.items in
+    let same : length c.deref.result.now ≡ length low = ap (λ (xs : List ℕ). length xs) c.deref.ensures.value in
+    let same_high : length c.deref-2.result.now ≡ length high = ap (λ (xs : List ℕ). length xs) c.deref-2.ensures.value in
+    let high_low : length c.deref-2.result.now ≡ length low = same_high ∙ sym c.requires.exact.len in
+    let apart = two_keys e m c.args.floor c.args.end old mid new nf.0 nh.0 nf.1 nf.2 nh.1 nh.2 in
+    let fits : SFits w64 c.start_arc-start.result.weight = search rules in
+    let fits_high : SFits w64 c.stop_arc-stop.result.weight = search rules in
+    let v = c.start_arc-start.result.weight in
+    let w = c.stop_arc-stop.result.weight in
+    let v_is : v ≡ pos 0 -ℤ pos m = ap (λ (x : Arc). x.weight) c.start_arc-start.ensures in
+    let w_is : w ≡ pos m = ap (λ (x : Arc). x.weight) c.stop_arc-stop.ensures in
+    let f_now : slice_index_or mid c.args.floor None ≡ Some (weighed (PastLow e) v nf.0) = simp to_z-of_z at (a.here nf.0 nf.1) in
+    let h_now : slice_index_or new c.args.end None ≡ Some (weighed (PastHigh e) w nh.0) = simp to_z-of_z at (b.here nh.0 (a.others c.args.end apart ∙ nh.1)) in
+    let f_new : slice_index_or new c.args.floor None ≡ Some (weighed (PastLow e) v nf.0) = b.others c.args.floor (λ same_key. apart (sym same_key)) ∙ f_now in
+    let rises : Rises arcs (arc_of (at_least e m)) low up = subst (λ q. WouldRise arcs (arc_of (at_least e m)) low up q) c.in_default.is (simp (c.deref.ensures.value, c.start_arc-start.ensures) at c.in_ok-_path.ensures.rises) in
+    let falls : Falls arcs (arc_of (at_most e m)) high down = simp (c.deref-2.ensures.value, c.stop_arc-stop.ensures) at c.in_ok-fall.ensures.falls in
     record {
-      wired = λ edges w. subst (λ n. IsWired n edges h) len (c.solve.ensures.wired edges (wire edges w));
-      edges = subst (λ (s : Store). AreMapped (past_node c.args.e c.args.moment) old s.nodes.slots) (sym c.solve.ensures.store) mapped;
-      exact = subst (λ (s : Store). AreExact (arcs_of s.nodes.slots) h.low.items h.high.items) (sym c.solve.ensures.store) c.in_default.ensures.exact;
+      wired = λ edges wd. record {
+        some = wd.some;
+        low_len = c.move_up.ensures.len ∙ wd.low_len;
+        high_len = c.move_down.ensures.len ∙ wd.high_len;
+        into_len = b.points.0 ∙ (a.points.0 ∙ wd.into_len);
+        out_len = b.points.1 ∙ (a.points.1 ∙ wd.out_len);
+        halves_in = b.halves_in;
+        halves_out = b.halves_out;
+        up = simp same at c.rise.ensures.idle;
+        down = subst (λ n. IsIdle n c.fall.new.work) high_low c.fall.ensures.idle;
+        many_up = sum_same (λ y. length (keys_of Up g.store y)) (λ y. length (keys_of Up c.set_edge-2.new.store y)) (length low) (λ y. b.degrees Up y ∙ a.degrees Up y) ∙ wd.many_up;
+        many_down = sum_same (λ y. length (keys_of Down g.store y)) (λ y. length (keys_of Down c.set_edge-2.new.store y)) (length low) (λ y. b.degrees Down y ∙ a.degrees Down y) ∙ wd.many_down;
+        few = wd.few;
+      };
+      edges = settled_mapped e m c.args.floor c.args.end old mid new nf.0 nh.0 nf.1 nf.2 nh.1 nh.2 v w c.requires.only_floor c.requires.only_end f_now a.others h_now b.others v_is w_is;
+      exact = fixed_exact e m c.args.floor c.args.end old new nf.0 nh.0 (PastLow e) (PastHigh e) v w nf.1 nh.1 f_new h_now (λ k ne other. b.others k other ∙ a.others k ne)
+          (nf.3, nf.4, nf.5) (nh.3, nh.4, nh.5) v_is w_is
+          c.move_up.new.low.items c.move_down.new.high.items
+          (let l = c.move_up.ensures.len in let p = c.requires.point in omega (arith, l, p))
+          (let l = c.move_down.ensures.len in let p = c.requires.point in let q = c.requires.exact.len in omega (arith, l, p, q))
+          (rises.least c.move_up.new.low.items c.move_up.ensures.len c.move_up.ensures.each)
+          (falls.greatest c.move_down.new.high.items c.move_down.ensures.len c.move_down.ensures.each)
+          t s (ap pos at)
+          (c.move_up.ensures.len ∙ (c.requires.exact.len ∙ sym c.move_down.ensures.len));
     }
-
-pub returns-clause-looks : goal.returns-clause-looks
-returns-clause-looks c = λ edges w.
-    let g : Engine = c.args.engine.now in
-    let a = c.set_edge.ensures in
-    let b = c.set_edge-2.ensures in
-    let p = length g.low.items in
-    let old = g.store.nodes.slots in
-    let mid = c.set_edge.new.store.nodes.slots in
-    let new = c.set_edge-2.new.store.nodes.slots in
-    let nf = c.requires.floor in
-    let nh = c.requires.end in
-    let at : c.deref-3.result.now ≡ c.in_ok-known.known.items = c.deref-3.ensures.value in
-    let same_low : length c.deref.result.now ≡ p = ap (λ (xs : List ℕ). length xs) c.deref.ensures.value in
-    let len : length c.deref-3.result.now ≡ p = ap (λ (xs : List ℕ). length xs) at ∙ (c.in_ok-known.ensures.len ∙ same_low) in
-    let wire : (edges : ℕ) → IsWired p edges g → IsWired (length c.deref-3.result.now) edges (with_store g c.set_edge-2.new.store) = λ edges w.
-    (subst (λ n. IsWired n edges (with_store g c.set_edge-2.new.store)) (sym len)
-    (wired_store p edges (with_store g c.set_edge.new.store) c.set_edge-2.new.store (wired_store p edges g c.set_edge.new.store w a.points a.halves_in a.halves_out a.degrees) b.points b.halves_in b.halves_out b.degrees)) in
-    c.in_default.ensures.looks edges (wire edges w)

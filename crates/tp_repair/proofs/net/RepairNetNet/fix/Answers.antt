@@ -1,4 +1,4 @@
-use Rattle.std.proofs.Common.{◌≡◌, suc, ◌+◌, ◌-◌, ◌<◌, ◌≤◌, inl, inr, None, length, get_or, refl, sym, subst, ap, ◌∙◌, arith}
+use Rattle.std.proofs.Common.{◌≡◌, suc, ◌+◌, ◌*◌, ◌<◌, ◌≤◌, inl, inr, None, length, get_or, refl, sym, subst, ap, ◌∙◌, arith}
 use Rattle.std.specs.Prelude.{slice_index_or}
 use Rattle.tp_bounds.specs.declared.Edge.TheVariants.{PastLow, PastHigh}
 use Rattle.tp_bounds.specs.Situation.{Situation, event_count, fixed_at, floor_of}
@@ -10,15 +10,15 @@ use Rattle.tp_net.specs.Faults.{Refutes, IsPastOf}
 use Rattle.tp_net.specs.Kept.{IsKept}
 use Rattle.tp_net.proofs.Additions.{read_at}
 use Rattle.tp_net.proofs.KeptMoments.{kept_possible, contrary_after, contrary_before}
-use Rattle.tp_net.proofs.Fixes.{refused_fix, past_low, past_high, start_fixed}
+use Rattle.tp_net.proofs.Fixes.{refused_fix, past_low, past_high}
 use Rattle.tp_repair.specs.Told.{Told, settled}
 use Rattle.tp_repair.specs.declared.engine.Engine.{Engine}
 use Rattle.tp_repair.specs.Store.{names_of, kept_arcs}
 use Rattle.tp_repair.specs.Kept.{IsUnder}
 use Rattle.tp_repair.specs.Slots.{past_slots}
 use Rattle.tp_repair.specs.Engine.{IsRepaired}
-use Rattle.tp_repair.proofs.Repaired.{kept, holds_least, with_looks, relooked}
-use Rattle.tp_repair.proofs.Renewed.{are_names_past, are_arcs_past, floor_there, end_there, none_arcs, past_reason, repaired_fixed, repaired_untouched}
+use Rattle.tp_repair.proofs.Repaired.{kept, holds_least, small_high, wired_here, with_looks, relooked}
+use Rattle.tp_repair.proofs.Renewed.{are_names_past, floor_is, end_is, none_arcs, past_reason, repaired_fixed, repaired_untouched}
 use Rattle.tp_repair.proofs.net.RepairNetNet.fix.Goals as goal
 
 pub refute-requires-clause-holds : goal.refute-requires-clause-holds
@@ -178,8 +178,8 @@ settle-requires-clause-floor c =
     let floor : floor_of s c.args.e ≤ c.args.moment = subst (λ (t : Told). floor_of t.situation c.args.e ≤ c.args.moment) (sym c.self.view_is) c.requires.floor in
     let soon : c.args.moment ≤ i.horizon = subst (λ (t : Told). c.args.moment ≤ t.situation.horizon) (sym c.self.view_is) c.requires.in_time in
     let read : get_or i.floors.items c.args.e 0 ≡ c.index-floor.result.now = read_at i.floors.items c.args.e c.index-floor.result.now (let l = r.floors_len in omega (arith, lt, l)) c.index-floor.ensures in
-    let x = floor_there s n i.keys i.floors.items i.ends.items g r c.args.e lt free in
-    (x.0, ap (λ j. slice_index_or slots j None) (sym read) ∙ x.1, x.2)
+    let x = floor_is s n i.keys i.floors.items i.ends.items g r c.args.e lt free c.args.moment floor in
+    (x.0, ap (λ j. slice_index_or slots j None) (sym read) ∙ x.1, x.2, x.3, x.4, x.5)
 
 pub settle-requires-clause-end : goal.settle-requires-clause-end
 settle-requires-clause-end c =
@@ -197,34 +197,60 @@ settle-requires-clause-end c =
     let floor : floor_of s c.args.e ≤ c.args.moment = subst (λ (t : Told). floor_of t.situation c.args.e ≤ c.args.moment) (sym c.self.view_is) c.requires.floor in
     let soon : c.args.moment ≤ i.horizon = subst (λ (t : Told). c.args.moment ≤ t.situation.horizon) (sym c.self.view_is) c.requires.in_time in
     let read : get_or i.ends.items c.args.e 0 ≡ c.index-end.result.now = read_at i.ends.items c.args.e c.index-end.result.now (let l = r.ends_len in omega (arith, lt, l)) c.index-end.ensures in
-    let x = end_there s n i.keys i.floors.items i.ends.items g r c.args.e lt free in
-    (x.0, ap (λ j. slice_index_or slots j None) (sym read) ∙ x.1, x.2)
+    let x = end_is s n i.keys i.floors.items i.ends.items g r c.args.e lt free c.args.moment soon in
+    (x.0, ap (λ j. slice_index_or slots j None) (sym read) ∙ x.1, x.2, x.3, x.4, x.5)
 
-pub settle-requires-clause-start : goal.settle-requires-clause-start
-settle-requires-clause-start c =
+pub settle-requires-clause-wired : goal.settle-requires-clause-wired
+settle-requires-clause-wired c =
     let i = c.self.inside in
     let s : Situation = settled i.horizon i.clock i.bounds.entries i.fixed.items i.lags.items in
     let n = length i.bounds.entries in
     let g : Engine = i.engine in
     let g0 : Engine = with_looks g 0 in
-    let slots = g.store.nodes.slots in
     let r : IsRepaired s n i.keys i.floors.items i.ends.items g = c.self.invariant in
     let r0 : IsRepaired s n i.keys i.floors.items i.ends.items g0 = relooked s n i.keys i.floors.items i.ends.items g 0 r in
-    let k : IsKept s (names_of slots) (kept_arcs slots) g.low.items g.high.items = kept s n i.keys i.floors.items i.ends.items g r in
+    (n + 2 * event_count s, wired_here s n i.keys i.floors.items i.ends.items g0 r0, (let f = r.few in let e = r.fit.events in omega (arith, f, e)))
+
+pub settle-requires-clause-exact : goal.settle-requires-clause-exact
+settle-requires-clause-exact c =
+    let i = c.self.inside in
+    let s : Situation = settled i.horizon i.clock i.bounds.entries i.fixed.items i.lags.items in
+    let r : IsRepaired s (length i.bounds.entries) i.keys i.floors.items i.ends.items i.engine = c.self.invariant in
+    r.exact
+
+pub settle-requires-clause-holds : goal.settle-requires-clause-holds
+settle-requires-clause-holds c = holds_least _ _ _ _ _ _ c.self.invariant
+
+pub settle-requires-clause-small : goal.settle-requires-clause-small
+settle-requires-clause-small c = small_high _ _ _ _ _ _ c.self.invariant
+
+pub settle-requires-clause-above : goal.settle-requires-clause-above
+settle-requires-clause-above c =
+    let i = c.self.inside in
+    let s : Situation = settled i.horizon i.clock i.bounds.entries i.fixed.items i.lags.items in
+    let n = length i.bounds.entries in
+    let g : Engine = i.engine in
+    let r : IsRepaired s n i.keys i.floors.items i.ends.items g = c.self.invariant in
     let lt : c.args.e < length i.fixed.items = subst (λ (t : Told). c.args.e < event_count t.situation) (sym c.self.view_is) c.requires.event in
-    let free : fixed_at s c.args.e ≡ None = subst (λ (t : Told). fixed_at t.situation c.args.e ≡ None) (sym c.self.view_is) c.requires.free in
-    let floor : floor_of s c.args.e ≤ c.args.moment = subst (λ (t : Told). floor_of t.situation c.args.e ≤ c.args.moment) (sym c.self.view_is) c.requires.floor in
-    let soon : c.args.moment ≤ i.horizon = subst (λ (t : Told). c.args.moment ≤ t.situation.horizon) (sym c.self.view_is) c.requires.in_time in
+    let at1 : c.from-point.result + 1 ≡ suc c.args.e = omega (arith, c.from-point.ensures) in
+    let high_len = r.wired.high_len in
+    let low_len = r.wired.low_len in
+    let low : get_or g.low.items (suc c.args.e) 0 ≡ c.index-2.result.now = ap (λ j. get_or g.low.items j 0) (sym at1) ∙ read_at g.low.items (c.from-point.result + 1) c.index-2.result.now (omega (arith, at1, low_len, lt)) c.index-2.ensures in
+    omega (arith, low, c.if-from-index.false, c.from-2.ensures)
+
+pub settle-requires-clause-below : goal.settle-requires-clause-below
+settle-requires-clause-below c =
+    let i = c.self.inside in
+    let s : Situation = settled i.horizon i.clock i.bounds.entries i.fixed.items i.lags.items in
+    let n = length i.bounds.entries in
+    let g : Engine = i.engine in
+    let r : IsRepaired s n i.keys i.floors.items i.ends.items g = c.self.invariant in
+    let lt : c.args.e < length i.fixed.items = subst (λ (t : Told). c.args.e < event_count t.situation) (sym c.self.view_is) c.requires.event in
     let at1 : c.from-point.result + 1 ≡ suc c.args.e = omega (arith, c.from-point.ensures) in
     let high_len = r.wired.high_len in
     let low_len = r.wired.low_len in
     let high : get_or g.high.items (suc c.args.e) 0 ≡ c.index.result.now = ap (λ j. get_or g.high.items j 0) (sym at1) ∙ read_at g.high.items (c.from-point.result + 1) c.index.result.now (omega (arith, at1, high_len, lt)) c.index.ensures in
-    let low : get_or g.low.items (suc c.args.e) 0 ≡ c.index-2.result.now = ap (λ j. get_or g.low.items j 0) (sym at1) ∙ read_at g.low.items (c.from-point.result + 1) c.index-2.result.now (omega (arith, at1, low_len, lt)) c.index-2.ensures in
-    let above : get_or g.low.items (suc c.args.e) 0 ≤ c.args.moment = omega (arith, low, c.if-from-index.false, c.from-2.ensures) in
-    let below : c.args.moment ≤ get_or g.high.items (suc c.args.e) 0 = omega (arith, high, c.if-index-from.false, c.from.ensures) in
-    λ known len each.
-    start_fixed s c.args.e c.args.moment lt free floor soon (names_of slots) (kept_arcs slots) g.low.items g.high.items (names_of (past_slots c.args.e c.args.moment slots)) (kept_arcs (past_slots c.args.e c.args.moment slots)) k
-    (are_names_past c.args.e c.args.moment slots) (are_arcs_past c.args.e c.args.moment slots) known (get_or g.high.items (suc c.args.e) 0 - c.args.moment) (c.from-amount.result + 1) len each refl above below (omega (arith, c.from-amount.ensures))
+    omega (arith, high, c.if-index-from.false, c.from.ensures)
 
 pub settle-requires-clause-only_floor : goal.settle-requires-clause-only_floor
 settle-requires-clause-only_floor c =

@@ -8,14 +8,14 @@ use Rattle.tp_net.specs.Arcs.{arc_of, floor_at, AllWait, CannotWait, NamesCycle}
 use Rattle.tp_net.specs.Faults.{Refutes, IsNow}
 use Rattle.tp_net.specs.Kept.{IsKept}
 use Rattle.tp_net.proofs.KeptMoments.{kept_possible}
-use Rattle.tp_net.proofs.Raises.{at_same, contrary_raise, refused_raise, start_raised}
+use Rattle.tp_net.proofs.Raises.{at_same, contrary_raise, refused_raise}
 use Rattle.tp_repair.specs.Told.{Told, settled}
 use Rattle.tp_repair.specs.declared.engine.Engine.{Engine}
 use Rattle.tp_repair.specs.Store.{names_of, kept_arcs}
-use Rattle.tp_repair.specs.Slots.{raised_node, raised_slots}
+use Rattle.tp_repair.specs.Slots.{raised_node}
 use Rattle.tp_repair.specs.Engine.{IsRepaired, IsChanged}
-use Rattle.tp_repair.proofs.Repaired.{kept, holds_least, wired_here, with_looks, relooked}
-use Rattle.tp_repair.proofs.Renewed.{are_raised, floor_there, floors_only, none_arcs, repaired_raised, repaired_untouched}
+use Rattle.tp_repair.proofs.Repaired.{kept, holds_least, small_high, wired_here, with_looks, relooked}
+use Rattle.tp_repair.proofs.Renewed.{floor_there, floors_only, floors_before, from_event, none_arcs, repaired_raised, repaired_untouched}
 use Rattle.tp_repair.proofs.net.RepairNetNet.raise.Goals as goal
 
 pub returns-then-now-self-clause-exact : goal.returns-then-now-self-clause-exact
@@ -138,21 +138,52 @@ raise-requires-clause-only c =
     let k : IsKept s (names_of slots) (kept_arcs slots) g.low.items g.high.items = kept s n i.keys i.floors.items i.ends.items g r in
     simp (c.deref-4.ensures.value, c.deref-5.ensures.value) (floors_only s n i.keys i.floors.items i.ends.items g r)
 
-pub raise-requires-clause-start : goal.raise-requires-clause-start
-raise-requires-clause-start c =
+pub raise-requires-clause-exact : goal.raise-requires-clause-exact
+raise-requires-clause-exact c =
     let i = c.self.inside in
     let s : Situation = settled i.horizon i.clock i.bounds.entries i.fixed.items i.lags.items in
     let n = length i.bounds.entries in
     let g : Engine = i.engine in
-    let g0 : Engine = with_looks g 0 in
-    let slots = g.store.nodes.slots in
     let r : IsRepaired s n i.keys i.floors.items i.ends.items g = c.self.invariant in
-    let r0 : IsRepaired s n i.keys i.floors.items i.ends.items g0 = relooked s n i.keys i.floors.items i.ends.items g 0 r in
-    let k : IsKept s (names_of slots) (kept_arcs slots) g.low.items g.high.items = kept s n i.keys i.floors.items i.ends.items g r in
-    let soon : c.args.now ≤ i.horizon = subst (λ (t : Told). c.args.now ≤ t.situation.horizon) (sym c.self.view_is) c.requires.in_time in
+    r.exact
+
+pub raise-requires-clause-holds : goal.raise-requires-clause-holds
+raise-requires-clause-holds c = holds_least _ _ _ _ _ _ c.self.invariant
+
+pub raise-requires-clause-small : goal.raise-requires-clause-small
+raise-requires-clause-small c = small_high _ _ _ _ _ _ c.self.invariant
+
+pub raise-requires-clause-points : goal.raise-requires-clause-points
+raise-requires-clause-points c =
+    let i = c.self.inside in
+    let s : Situation = settled i.horizon i.clock i.bounds.entries i.fixed.items i.lags.items in
+    let n = length i.bounds.entries in
+    let g : Engine = i.engine in
+    let r : IsRepaired s n i.keys i.floors.items i.ends.items g = c.self.invariant in
+    simp c.deref-5.ensures.value r.wired.low_len
+
+pub raise-requires-clause-from : goal.raise-requires-clause-from
+raise-requires-clause-from c = from_event _ _ _ _ _ _ c.self.invariant
+
+pub raise-requires-clause-before : goal.raise-requires-clause-before
+raise-requires-clause-before c =
+    let i = c.self.inside in
+    let s : Situation = settled i.horizon i.clock i.bounds.entries i.fixed.items i.lags.items in
+    let n = length i.bounds.entries in
+    let g : Engine = i.engine in
+    let r : IsRepaired s n i.keys i.floors.items i.ends.items g = c.self.invariant in
+    let forward : i.clock ≤ c.args.now = subst (λ (t : Told). t.situation.clock ≤ c.args.now) (sym c.self.view_is) c.requires.forward in
+    (i.clock, forward, simp c.deref-6.ensures.value (floors_before s n i.keys i.floors.items i.ends.items g r))
+
+pub raise-requires-clause-wait : goal.raise-requires-clause-wait
+raise-requires-clause-wait c =
+    let i = c.self.inside in
+    let s : Situation = settled i.horizon i.clock i.bounds.entries i.fixed.items i.lags.items in
+    let n = length i.bounds.entries in
+    let g : Engine = i.engine in
+    let r : IsRepaired s n i.keys i.floors.items i.ends.items g = c.self.invariant in
     let wait : AllWait i.fixed.items g.high.items i.lags.items c.args.now = simp (c.deref.ensures.value, c.deref-2.ensures.value, c.deref-3.ensures.value) at c.in_default.ensures in
-    simp c.deref-6.ensures.value
-    (start_raised s (names_of slots) (kept_arcs slots) g.low.items g.high.items c.args.now (kept_arcs (raised_slots c.args.now i.lags.items slots)) k (are_raised c.args.now i.lags.items slots) soon (c.from-amount.result + 1) wait (omega (arith, c.from-amount.ensures)))
+    simp (c.deref-5.ensures.value, c.deref-6.ensures.value) wait
 
 pub invariant_of-self-in_err-raise : goal.invariant_of-self-in_err-raise
 invariant_of-self-in_err-raise c =

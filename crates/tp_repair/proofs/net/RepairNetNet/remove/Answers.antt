@@ -12,7 +12,7 @@ use Rattle.tp_net.proofs.KeptMoments.{kept_possible}
 use Rattle.tp_repair.specs.Told.{Told, settled}
 use Rattle.tp_repair.specs.declared.engine.Engine.{Engine}
 use Rattle.tp_repair.specs.Engine.{IsRepaired}
-use Rattle.tp_repair.proofs.Repaired.{kept, with_looks, relooked}
+use Rattle.tp_repair.proofs.Repaired.{kept, holds_least, small_high, with_looks, relooked}
 use Rattle.tp_repair.proofs.Renewed.{some_of, low_fits, has_own_key, own_node, start_left, repaired_left, repaired_untouched}
 use Rattle.tp_repair.proofs.net.RepairNetNet.remove.Goals as goal
 
@@ -54,6 +54,19 @@ leave-requires-clause-start c =
     let there : get s.bounds c.args.id.0 ≢ None = λ none. c.requires (sym (ap (λ (t : Told). get t.situation.bounds c.args.id.0) c.self.view_is) ∙ none) in
     let b = some_of (get s.bounds c.args.id.0) there in
     start_left s n i.keys i.floors.items i.ends.items g c.args.id b.0 c.key_of-key.result (c.from-amount.result + 1) r b.1 c.key_of-key.ensures (omega (arith, c.from-amount.ensures))
+
+pub leave-requires-clause-exact : goal.leave-requires-clause-exact
+leave-requires-clause-exact c =
+    let i = c.self.inside in
+    let s : Situation = settled i.horizon i.clock i.bounds.entries i.fixed.items i.lags.items in
+    let r : IsRepaired s (length i.bounds.entries) i.keys i.floors.items i.ends.items i.engine = c.self.invariant in
+    r.exact
+
+pub leave-requires-clause-holds : goal.leave-requires-clause-holds
+leave-requires-clause-holds c = holds_least _ _ _ _ _ _ c.self.invariant
+
+pub leave-requires-clause-small : goal.leave-requires-clause-small
+leave-requires-clause-small c = small_high _ _ _ _ _ _ c.self.invariant
 
 pub leave-requires-clause-low : goal.leave-requires-clause-low
 leave-requires-clause-low c = low_fits _ _ _ _ _ _ c.self.invariant
