@@ -1,13 +1,12 @@
 -- First pairs by several tests.
-use Rattle.std.proofs.Common.{◌≡◌, ℕ, ◌+◌, ◌<◌, ◌≤◌, ◌==◌, Bool, true, false, cond, ◌||◌, ◌&&◌, List, [], ◌∷◌, ◌++◌, Option, Some, None, nat_lt, nat_le, refl, sym, ap, ap₂, ◌∙◌, arith}
-use Rattle.std.specs.List.{list_any, position_from}
-use Rattle.tp_happen.specs.declared.meetings.Meeting.{Meeting}
+use Rattle.std.proofs.Common.{◌≡◌, ℕ, ◌+◌, ◌≤◌, ◌==◌, Bool, true, false, cond, ◌||◌, ◌&&◌, List, [], ◌∷◌, Option, Some, None, nat_lt, nat_le, refl, sym, ap, ap₂, ◌∙◌, arith}
+use Rattle.std.specs.List.{position_from}
 use Rattle.tp_happen.specs.declared.meetings.Meeting.TheVariants.{ChangedAndAsked, AddedAndDeleted, WrittenAndRead, SetAndWritten}
 use Rattle.tp_ground.specs.declared.GroundEvent.{GroundEvent}
 use Rattle.tp_ground.specs.Event.{meets, interferes}
 use Rattle.tp_ground.specs.Happens.{Timed}
 use Rattle.tp_happen.specs.Fault.{pair_or, first_pair}
-use Rattle.tp_happen.specs.Meetings.{done, met, meet, pair_by, earlier, is_before, sooner}
+use Rattle.tp_happen.specs.Meetings.{done, met, meet, pair_by, earlier, sooner}
 use Rattle.tp_happen.proofs.Positions.{pos_same, pos_or}
 
 -- a pair in a list that is numbered from i begins at i or later

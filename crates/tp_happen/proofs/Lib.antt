@@ -20,3 +20,4 @@ pub mod Mentioned
 pub mod Walked
 pub mod FirstPairs
 pub mod Within
+pub mod OnTaskPlans

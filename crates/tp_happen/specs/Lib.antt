@@ -13,3 +13,4 @@ pub mod PlanTexts
 pub mod PlanPrints
 pub mod TaskLabels
 pub mod Meetings
+pub mod TaskPlans

@@ -1,5 +1,5 @@
 -- Ways in which two events interfere: something that one of them does to atoms or fluents, and something that the other does with them.
-use Rattle.std.specs.Prelude.{◌≡◌, ℕ, ◌+◌, ◌==◌, Bool, true, ◌&&◌, ◌||◌, List, [], ◌∷◌, ◌++◌, Option, Some, None, if◌then◌else◌, nat_lt, nat_le}
+use Rattle.std.specs.Prelude.{ℕ, ◌+◌, ◌==◌, Bool, ◌&&◌, ◌||◌, List, [], ◌∷◌, ◌++◌, Option, Some, None, if◌then◌else◌, nat_lt, nat_le}
 use Rattle.std.specs.List.{position_from, list_all}
 use Rattle.tp_ground.specs.declared.GroundEvent.{GroundEvent}
 use Rattle.tp_happen.specs.declared.meetings.Meeting.{Meeting}

@@ -40,7 +40,7 @@ pub use happening::{ApplyFault, apply};
 pub use interfere::{interferes, uses_duration, writes_into};
 pub use lending::event;
 pub use plans::{Plan, Step};
-pub use printing::plans_are_read;
+pub use printing::{plans_are_read, task_plans_are_read};
 pub use reading::PlanFault;
 pub use states::State;
 pub use texts::{print_plan, read_plan};

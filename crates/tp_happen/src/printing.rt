@@ -2,13 +2,14 @@
 
 ghost use Rattle.std.specs.Prelude.{◌≡◌, ◌++◌, true};
 ghost use Rattle.tp_device.specs.Bytes.{Writes, failures_after};
+ghost use Rattle.tp_happen.specs.TaskPlans.{TaskPlansAreRead};
 ghost use Rattle.tp_happen.specs.PlanPrints.{digit, decimals, time_text, space_before, words_text, end_text, step_text, plan_text, PlansAreRead};
 
 use crate::labels::Labels;
 use crate::plans::Step;
 use itoa::Buffer;
 use tp_device::{Failed, Sink, push_all};
-use tp_ground::ActionId;
+use tp_ground::{ActionId, actions_are_readable};
 use tp_text::Scale;
 
 fn digit(n: u32) -> u8
@@ -145,7 +146,16 @@ pub(crate) fn write_steps<W: Sink, T: Labels>(
     Ok(())
 }
 
-/// What is written for the steps of a plan spells them.
+/// What is written for steps spells them, where the words of each action are names in lower case, by which it is found.
 pub fn plans_are_read()
     ensures { PlansAreRead }
 {}
+
+/// What is written for steps of a task spells them, for each task of a problem that is spelled by texts: the steps' actions
+/// are the task's, an instantaneous step lasts no tick, and each ends by the task's horizon.
+pub fn task_plans_are_read()
+    ensures { TaskPlansAreRead }
+{
+    actions_are_readable();
+    plans_are_read();
+}

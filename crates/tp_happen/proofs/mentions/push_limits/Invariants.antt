@@ -1,7 +1,6 @@
-use Rattle.std.proofs.Common.{◌≡◌, ◌++◌, drop, map, not}
-use Rattle.std.specs.List.{flat_map, filter}
+use Rattle.std.proofs.Common.{◌≡◌, ◌++◌, drop}
+use Rattle.std.specs.List.{flat_map}
 use Rattle.tp_ground.specs.State.{fluents_of}
-use Rattle.tp_ground.specs.Event.{is_additive}
 use Rattle.tp_happen.proofs.mentions.push_limits.Given as goal
 
 abbrev pub invariant-loop-limit : goal.invariant-loop-limit

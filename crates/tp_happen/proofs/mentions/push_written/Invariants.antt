@@ -1,7 +1,4 @@
-use Rattle.std.proofs.Common.{◌≡◌, ◌++◌, drop, map, not}
-use Rattle.std.specs.List.{flat_map, filter}
-use Rattle.tp_ground.specs.State.{fluents_of}
-use Rattle.tp_ground.specs.Event.{is_additive}
+use Rattle.std.proofs.Common.{◌≡◌, ◌++◌, drop, map}
 use Rattle.tp_happen.proofs.mentions.push_written.Given as goal
 
 abbrev pub invariant-loop-effect : goal.invariant-loop-effect
