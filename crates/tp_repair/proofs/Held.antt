@@ -9,6 +9,8 @@ use Rattle.tp_net.proofs.Potentials.{nat_of, nat_of_is}
 use Rattle.tp_net.proofs.Spreads.{same_or, below_or}
 use Rattle.tp_repair.specs.declared.store.Node.{Node}
 use Rattle.tp_repair.specs.Store.{arcs_of}
+use Rattle.tp_repair.specs.Loosened.{IsLowered, IsHeightened}
+use Rattle.tp_repair.proofs.Stores.{arc_is}
 use Rattle.tp_repair.proofs.Nodes.{solution_by_key, key_met}
 
 -- 1 where a point is not marked and something is missing there, else 0
@@ -231,3 +233,44 @@ loose_exact old new key low high e forth back loose_low loose_high = record {
   where
     fewer : (t : ℕ → ℤ) → IsSolution (arcs_of old) t → IsSolution (arcs_of new) t
     fewer t s = solution_by_key new t s.0 (λ k m is. (let h = back k m is in subst (MeetsArc t) (sym h.2) (key_met old t k h.0 h.1 s)))
+
+-- what was held is worked out anew without the edge
+module _ (old mid : List (Option Node)) (key : ℕ) (n : Node) (low high low' high' : List ℕ)
+    (e : AreExact (arcs_of old) low high)
+    (here : slice_index_or old key None ≡ Some n)
+    (others : (k : ℕ) → k ≢ key → slice_index_or mid k None ≡ slice_index_or old k None)
+    (l : IsLowered (arcs_of mid) low n.arc low')
+    (h : IsHeightened (arcs_of mid) high n.arc high')
+  where
+    is_n : (x : Node) → slice_index_or old key None ≡ Some x → n ≡ x
+    is_n x is = let both : Some n ≡ Some x = sym here ∙ is in let it : n ≡ x = cc in it
+
+    still : (t : ℕ → ℤ) → IsSolution (arcs_of mid) t → (k : ℕ) (x : Node) → k ≢ key → slice_index_or old k None ≡ Some x → MeetsArc t x.arc
+    still t s k x ne is = key_met mid t k x (others k ne ∙ is) s
+
+    pub renewed_exact : AreExact (arcs_of mid) low' high'
+    renewed_exact = record {
+      len = l.len ∙ (e.len ∙ sym h.len);
+      least = record {
+        solution = l.solution;
+        least = λ t s x within. l.least t s
+            (λ y inside free. held_low old mid key low l.marks t e.least (still t s) s.0
+            (λ k a ne is tight later some. (let at = arc_is mid k a (others k ne ∙ is) in
+            subst (λ (b : Arc). 0 < l.marks b.from) at.1
+            (l.follows k at.0 (subst (λ (b : Arc). moment low b.to ≡ (moment low b.from +ℤ b.weight)) (sym at.1) tight) (subst (λ (b : Arc). 0 < l.marks b.to) (sym at.1) some))))
+            (λ x is. subst (λ (y : Node). (y.arc.from ≡ 0) ⊎ ((moment low y.arc.to <ℤ (moment low y.arc.from +ℤ y.arc.weight)) ⊎ (0 < l.marks y.arc.from))) (is_n x is) l.begins)
+            y inside free)
+            x (let q = l.len in omega (arith, within, q));
+      };
+      greatest = record {
+        solution = h.solution;
+        greatest = λ t s x within. h.greatest t s
+            (λ y inside free. held_high old mid key high h.marks t e.greatest (still t s) s.0
+            (λ k a ne is tight later some. (let at = arc_is mid k a (others k ne ∙ is) in
+            subst (λ (b : Arc). 0 < h.marks b.to) at.1
+            (h.follows k at.0 (subst (λ (b : Arc). moment high b.to ≡ (moment high b.from +ℤ b.weight)) (sym at.1) tight) (subst (λ (b : Arc). 0 < h.marks b.from) (sym at.1) some))))
+            (λ x is. subst (λ (y : Node). (y.arc.to ≡ 0) ⊎ ((moment high y.arc.to <ℤ (moment high y.arc.from +ℤ y.arc.weight)) ⊎ (0 < h.marks y.arc.to))) (is_n x is) h.ends)
+            y inside free)
+            x (let q = h.len in omega (arith, within, q));
+      };
+    }

@@ -42,7 +42,10 @@ use Rattle.std.proofs.lemmas.Int.{ints}
 use Rattle.tp_net.specs.Kept.{IsKept}
 use Rattle.tp_net.specs.Sizes.{IsSmallWeight}
 use Rattle.tp_net.specs.Slacks.{JoinsPoints}
-use Rattle.tp_net.proofs.KeptMoments.{kept_low_fits}
+use Rattle.tp_net.proofs.KeptMoments.{kept_low_fits, kept_high_fits, high_schedule}
+use Rattle.tp_net.proofs.Starts.{start}
+use Rattle.tp_net.proofs.Laws.{withdrawn}
+use Rattle.tp_net.proofs.Listings.{events_of}
 use Rattle.tp_repair.proofs.Stores.{arc_has}
 use Rattle.tp_repair.proofs.Repaired.{kept, among, weights, wired_here, under_kept, repaired_unbrought}
 
@@ -283,6 +286,17 @@ start_left s count keys floors ends g id b key amount r is key_is far =
     let nodes = nodes_left s keys keys floors ends old id key r.nodes key_is (own_there s count keys floors ends g id b key r is key_is) (λ q _. refl) new (left_here old key) (left_keeps old key) in
     start_removed s (names_of old) (kept_arcs old) g.low.items g.high.items id.0 (names_of new) (kept_arcs new) amount (kept s count keys floors ends g r) (nodes_listed (without_bound s id.0) keys floors ends new nodes) far
 
+-- and from the greatest ones
+pub start_left_high : (s : Situation) (count : ℕ) (keys : BTreeMap ℕ ℕ) (floors ends : List ℕ) (g : Engine) (id : BoundId) (b : Bound) (key amount : ℕ) → IsRepaired s count keys floors ends g → get s.bounds id.0 ≡ Some b → tree.get nat_cmp keys id.0 ≡ Some key → amount ≡ suc s.horizon
+    → IsStart (kept_arcs (left_slots key g.store.nodes.slots)) g.high.items amount
+start_left_high s count keys floors ends g id b key amount r is key_is far =
+    let old = g.store.nodes.slots in
+    let new = left_slots key old in
+    let nodes = nodes_left s keys keys floors ends old id key r.nodes key_is (own_there s count keys floors ends g id b key r is key_is) (λ q _. refl) new (left_here old key) (left_keeps old key) in
+    let k = kept s count keys floors ends g r in
+    start (without_bound s id.0) (names_of new) (kept_arcs new) g.high.items amount (fit_removed s id.0 r.fit) (nodes_listed (without_bound s id.0) keys floors ends new nodes) (let o = r.exact.greatest.solution.0 in omega (arith, ints, o))
+    (withdrawn s id.0 (events_of g.high.items) (high_schedule s (names_of old) (kept_arcs old) g.low.items g.high.items k)) r.wired.high_len far
+
 pub repaired_left : (s : Situation) (count : ℕ) (keys keys' : BTreeMap ℕ ℕ) (floors ends : List ℕ) (g g' : Engine) (id : BoundId) (b : Bound) (key : ℕ) → IsRepaired s (count + 1) keys floors ends g → get s.bounds id.0 ≡ Some b → tree.get nat_cmp keys id.0 ≡ Some key
     → ((q : ℕ) → tree.get nat_cmp keys' q ≡ cond (is_at (nat_cmp id.0) q) None (tree.get nat_cmp keys q)) → IsLeft key g g' → IsRepaired (without_bound s id.0) count keys' floors ends g'
 repaired_left s count keys keys' floors ends g g' id b key r is key_is finds l =
@@ -349,6 +363,10 @@ module _ (s : Situation) (count : ℕ) (keys : BTreeMap ℕ ℕ) (floors ends : 
   pub low_fits : (x : ℕ) → x < length g.low.items → get_or g.low.items x 0 < 2 ^ 32
   low_fits zero within = let o = r.exact.least.solution.0 in omega (arith, ints, o)
   low_fits (suc e) within = kept_low_fits s (names_of g.store.nodes.slots) (kept_arcs g.store.nodes.slots) g.low.items g.high.items k e (let p = r.wired.low_len in omega (arith, within, p))
+
+  pub high_fits : (x : ℕ) → x < length g.high.items → get_or g.high.items x 0 < 2 ^ 32
+  high_fits zero within = let o = r.exact.greatest.solution.0 in omega (arith, ints, o)
+  high_fits (suc e) within = kept_high_fits s (names_of g.store.nodes.slots) (kept_arcs g.store.nodes.slots) g.low.items g.high.items k e (let p = r.wired.high_len in omega (arith, within, p))
 
   pub has_own_key : (id : BoundId) (b : Bound) → get s.bounds id.0 ≡ Some b → tree.get nat_cmp keys id.0 ≢ None
   has_own_key id b is none =

@@ -5,13 +5,12 @@ use Rattle.std.proofs.lemmas.Int.{ints}
 use Rattle.std.proofs.lemmas.List.{get_or_default}
 use Rattle.tp_net.specs.declared.slacks.Arc.{Arc}
 use Rattle.tp_net.specs.declared.spread.Link.{Link}
-use Rattle.tp_net.specs.Links.{MeetsLink, IsClosed, IsSpread, link_at, no_link}
+use Rattle.tp_net.specs.Links.{MeetsLink, IsClosed, link_at, no_link}
 use Rattle.tp_net.specs.Slacks.{AreUpLinks, AreDownLinks, JoinsPoints}
-use Rattle.tp_net.specs.Graph.{MeetsArc, IsSolution, IsLeast, IsGreatest, arc_at, no_arc, moment}
+use Rattle.tp_net.specs.Graph.{MeetsArc, IsSolution, arc_at, no_arc, moment}
 use Rattle.tp_net.specs.Moments.{ReachOrigin, FromOrigin}
-use Rattle.tp_net.proofs.Spreads.{closed_all, same_or}
+use Rattle.tp_net.proofs.Spreads.{same_or}
 use Rattle.tp_net.proofs.Potentials.{nat_of, nat_of_is}
-use Rattle.tp_net.proofs.Additions.{at_most_amount}
 
 pub nat_of_some : (z : ℤ) → 0 < nat_of z → pos (nat_of z) ≡ z
 nat_of_some (pos n) h = refl
@@ -23,11 +22,15 @@ nat_of_add (pos a) (negsuc b) n h = omega (arith, ints, h)
 nat_of_add (negsuc a) z n h = omega arith
 
 -- the least moments, from any known solution: spread a large amount from the origin
-module _ (arcs : List Arc) (links : List Link) (amount : ℕ) (known amounts ranks parents low' : List ℕ)
+module _ (arcs : List Arc) (links : List Link) (amount : ℕ) (known amounts low' : List ℕ)
     (some : 0 < length known)
     (among : All (JoinsPoints (length known)) arcs)
     (up : AreUpLinks (λ x. get_or known x 0) arcs links)
-    (s : IsSpread links 0 amount amounts ranks parents)
+    (marks : ℕ → ℕ)
+    (closed : IsClosed (λ x. get_or amounts x 0) links)
+    (seeded : get_or amounts 0 0 ≡ amount)
+    (at_most : (x : ℕ) → get_or amounts x 0 ≤ amount)
+    (least : (h : ℕ → ℕ) → IsClosed h links → amount ≤ h 0 → ((x : ℕ) → x < length known → marks x ≡ 0 → amount ≤ h x) → (x : ℕ) → get_or amounts x 0 ≤ h x)
     (solution : IsSolution arcs (moment known))
     (reach : ReachOrigin arcs known amount)
     (positive : 0 < amount)
@@ -39,10 +42,10 @@ module _ (arcs : List Arc) (links : List Link) (amount : ℕ) (known amounts ran
     stays_some x later within =
         let r = reach x later within in
         let l = up.each r.0 r.1 in
-        let c : get_or amounts (link_at links r.0).to 0 ≤ get_or amounts (link_at links r.0).from 0 + (link_at links r.0).slack = closed_all links 0 amount amounts ranks parents s r.0 no_link (omega (arith, up.len, r.1)) in
+        let c : get_or amounts (link_at links r.0).to 0 ≤ get_or amounts (link_at links r.0).from 0 + (link_at links r.0).slack = closed r.0 no_link (omega (arith, up.len, r.1)) in
         let a : get_or amounts (link_at links r.0).to 0 ≡ get_or amounts 0 0 = ap (λ z. get_or amounts z 0) (l.ends ∙ r.3) in
         let b : get_or amounts (link_at links r.0).from 0 ≡ get_or amounts x 0 = ap (λ z. get_or amounts z 0) (l.begins ∙ r.2) in
-        let d : get_or amounts 0 0 ≡ amount = s.spreading.seeded in
+        let d : get_or amounts 0 0 ≡ amount = seeded in
         let e : get_or known (arc_at arcs r.0).to 0 ≡ get_or known 0 0 = ap (λ z. get_or known z 0) r.3 in
         let f : get_or known (arc_at arcs r.0).from 0 ≡ get_or known x 0 = ap (λ z. get_or known z 0) r.2 in
         let o = solution.0 in
@@ -53,7 +56,7 @@ module _ (arcs : List Arc) (links : List Link) (amount : ℕ) (known amounts ran
     pub stays : (x : ℕ) → x < length known → amount < get_or known x 0 + get_or amounts x 0 + 1
     stays x within =
         elim (same_or x 0) [
-          | inl same ↦ (let d : get_or amounts 0 0 ≡ amount = s.spreading.seeded in let e : get_or amounts x 0 ≡ get_or amounts 0 0 = ap (λ z. get_or amounts z 0) same in omega (arith, d, e))
+          | inl same ↦ (let d : get_or amounts 0 0 ≡ amount = seeded in let e : get_or amounts x 0 ≡ get_or amounts 0 0 = ap (λ z. get_or amounts z 0) same in omega (arith, d, e))
           | inr ne ↦ stays_some x (omega (arith, ne)) within
         ]
 
@@ -61,10 +64,10 @@ module _ (arcs : List Arc) (links : List Link) (amount : ℕ) (known amounts ran
     gets_more x later within =
         let r = reach x later within in
         let l = up.each r.0 r.1 in
-        let c : get_or amounts (link_at links r.0).to 0 ≤ get_or amounts (link_at links r.0).from 0 + (link_at links r.0).slack = closed_all links 0 amount amounts ranks parents s r.0 no_link (omega (arith, up.len, r.1)) in
+        let c : get_or amounts (link_at links r.0).to 0 ≤ get_or amounts (link_at links r.0).from 0 + (link_at links r.0).slack = closed r.0 no_link (omega (arith, up.len, r.1)) in
         let a : get_or amounts (link_at links r.0).to 0 ≡ get_or amounts 0 0 = ap (λ z. get_or amounts z 0) (l.ends ∙ r.3) in
         let b : get_or amounts (link_at links r.0).from 0 ≡ get_or amounts x 0 = ap (λ z. get_or amounts z 0) (l.begins ∙ r.2) in
-        let d : get_or amounts 0 0 ≡ amount = s.spreading.seeded in
+        let d : get_or amounts 0 0 ≡ amount = seeded in
         let e : get_or known (arc_at arcs r.0).to 0 ≡ get_or known 0 0 = ap (λ z. get_or known z 0) r.3 in
         let f : get_or known (arc_at arcs r.0).from 0 ≡ get_or known x 0 = ap (λ z. get_or known z 0) r.2 in
         let o = solution.0 in
@@ -75,7 +78,7 @@ module _ (arcs : List Arc) (links : List Link) (amount : ℕ) (known amounts ran
     gets_some : (x : ℕ) → x < length known → 0 < get_or amounts x 0
     gets_some x within =
         elim (same_or x 0) [
-          | inl same ↦ (let d : get_or amounts 0 0 ≡ amount = s.spreading.seeded in let e : get_or amounts x 0 ≡ get_or amounts 0 0 = ap (λ z. get_or amounts z 0) same in omega (arith, d, e, positive))
+          | inl same ↦ (let d : get_or amounts 0 0 ≡ amount = seeded in let e : get_or amounts x 0 ≡ get_or amounts 0 0 = ap (λ z. get_or amounts z 0) same in omega (arith, d, e, positive))
           | inr ne ↦ gets_more x (omega (arith, ne)) within
         ]
 
@@ -93,40 +96,46 @@ module _ (arcs : List Arc) (links : List Link) (amount : ℕ) (known amounts ran
         (omega (arith, ints, m, r)) in
         omega (arith, a, b, mono))
 
-    pub solved_low : IsLeast arcs low'
-    solved_low = record {
-      solution = (
-        ap pos (each 0 some ∙ (let d : get_or amounts 0 0 ≡ amount = s.spreading.seeded in let o = solution.0 in omega (arith, ints, d, o))),
-        λ k d within. subst (λ e. MeetsArc (moment low') e) (get_or_default arcs k no_arc d within)
-            (let l = up.each k within in
-            let j = among k no_arc within in
-            let c : get_or amounts (link_at links k).to 0 ≤ get_or amounts (link_at links k).from 0 + (link_at links k).slack = closed_all links 0 amount amounts ranks parents s k no_link (omega (arith, up.len, within)) in
-            let a : get_or amounts (link_at links k).to 0 ≡ get_or amounts (arc_at arcs k).to 0 = ap (λ z. get_or amounts z 0) l.ends in
-            let b : get_or amounts (link_at links k).from 0 ≡ get_or amounts (arc_at arcs k).from 0 = ap (λ z. get_or amounts z 0) l.begins in
-            let p = each (arc_at arcs k).to j.1 in
-            let q = each (arc_at arcs k).from j.0 in
-            let u = stays (arc_at arcs k).to j.1 in
-            let v = stays (arc_at arcs k).from j.0 in
-            let sl = l.slack in
-            omega (arith, ints, c, a, b, p, q, u, v, sl)),
-      );
-      least = λ t sched x within.
-          let inside : x < length known = omega (arith, len, within) in
-          let origin : amount ≤ nat_of ((t 0 -ℤ pos (get_or known 0 0)) +ℤ pos amount) =
-          (let o = solution.0 in let z = sched.0 in let e : pos (nat_of ((t 0 -ℤ pos (get_or known 0 0)) +ℤ pos amount)) ≡ (t 0 -ℤ pos (get_or known 0 0)) +ℤ pos amount = nat_of_is _ (omega (arith, ints, o, z)) in omega (arith, ints, e, o, z)) in
-          let most : get_or amounts x 0 ≤ nat_of ((t x -ℤ pos (get_or known x 0)) +ℤ pos amount) = s.spreading.least (λ y. nat_of ((t y -ℤ pos (get_or known y 0)) +ℤ pos amount)) (height t sched) origin x in
-          let exact = nat_of_some ((t x -ℤ pos (get_or known x 0)) +ℤ pos amount) (omega (arith, most, gets_some x inside)) in
-          let p = each x inside in
-          let u = stays x inside in
-          omega (arith, ints, most, exact, p, u);
-    }
+    pub solved_low : IsSolution arcs (moment low')
+    solved_low = (
+      ap pos (each 0 some ∙ (let d : get_or amounts 0 0 ≡ amount = seeded in let o = solution.0 in omega (arith, ints, d, o))),
+      λ k d within. subst (λ e. MeetsArc (moment low') e) (get_or_default arcs k no_arc d within)
+          (let l = up.each k within in
+          let j = among k no_arc within in
+          let c : get_or amounts (link_at links k).to 0 ≤ get_or amounts (link_at links k).from 0 + (link_at links k).slack = closed k no_link (omega (arith, up.len, within)) in
+          let a : get_or amounts (link_at links k).to 0 ≡ get_or amounts (arc_at arcs k).to 0 = ap (λ z. get_or amounts z 0) l.ends in
+          let b : get_or amounts (link_at links k).from 0 ≡ get_or amounts (arc_at arcs k).from 0 = ap (λ z. get_or amounts z 0) l.begins in
+          let p = each (arc_at arcs k).to j.1 in
+          let q = each (arc_at arcs k).from j.0 in
+          let u = stays (arc_at arcs k).to j.1 in
+          let v = stays (arc_at arcs k).from j.0 in
+          let sl = l.slack in
+          omega (arith, ints, c, a, b, p, q, u, v, sl)),
+    )
+
+    -- no solution is below that has unmarked points where they were
+    pub solved_least : (t : ℕ → ℤ) → IsSolution arcs t → ((x : ℕ) → x < length known → marks x ≡ 0 → moment known x ≤ℤ t x) → (x : ℕ) → x < length known → moment low' x ≤ℤ t x
+    solved_least t sched stay x inside =
+        let origin : amount ≤ nat_of ((t 0 -ℤ pos (get_or known 0 0)) +ℤ pos amount) =
+        (let o = solution.0 in let z = sched.0 in let e : pos (nat_of ((t 0 -ℤ pos (get_or known 0 0)) +ℤ pos amount)) ≡ (t 0 -ℤ pos (get_or known 0 0)) +ℤ pos amount = nat_of_is _ (omega (arith, ints, o, z)) in omega (arith, ints, e, o, z)) in
+        let open_points : (y : ℕ) → y < length known → marks y ≡ 0 → amount ≤ nat_of ((t y -ℤ pos (get_or known y 0)) +ℤ pos amount) = λ y within free.
+        (let h = stay y within free in let e : pos (nat_of ((t y -ℤ pos (get_or known y 0)) +ℤ pos amount)) ≡ (t y -ℤ pos (get_or known y 0)) +ℤ pos amount = nat_of_is ((t y -ℤ pos (get_or known y 0)) +ℤ pos amount) (omega (arith, ints, h)) in omega (arith, ints, e, h)) in
+        let most : get_or amounts x 0 ≤ nat_of ((t x -ℤ pos (get_or known x 0)) +ℤ pos amount) = least (λ y. nat_of ((t y -ℤ pos (get_or known y 0)) +ℤ pos amount)) (height t sched) origin open_points x in
+        let exact = nat_of_some ((t x -ℤ pos (get_or known x 0)) +ℤ pos amount) (omega (arith, most, gets_some x inside)) in
+        let p = each x inside in
+        let u = stays x inside in
+        omega (arith, ints, most, exact, p, u)
 
 -- the greatest moments: the origin falls by a large amount
-module _ (arcs : List Arc) (links : List Link) (amount : ℕ) (known amounts ranks parents high' : List ℕ)
+module _ (arcs : List Arc) (links : List Link) (amount : ℕ) (known amounts high' : List ℕ)
     (some : 0 < length known)
     (among : All (JoinsPoints (length known)) arcs)
     (down : AreDownLinks (λ x. get_or known x 0) arcs links)
-    (s : IsSpread links 0 amount amounts ranks parents)
+    (marks : ℕ → ℕ)
+    (closed : IsClosed (λ x. get_or amounts x 0) links)
+    (seeded : get_or amounts 0 0 ≡ amount)
+    (at_most : (x : ℕ) → get_or amounts x 0 ≤ amount)
+    (least : (h : ℕ → ℕ) → IsClosed h links → amount ≤ h 0 → ((x : ℕ) → x < length known → marks x ≡ 0 → amount ≤ h x) → (x : ℕ) → get_or amounts x 0 ≤ h x)
     (solution : IsSolution arcs (moment known))
     (from : FromOrigin arcs known amount)
     (positive : 0 < amount)
@@ -137,10 +146,10 @@ module _ (arcs : List Arc) (links : List Link) (amount : ℕ) (known amounts ran
     falls_some x later within =
         let r = from x later within in
         let l = down.each r.0 r.1 in
-        let c : get_or amounts (link_at links r.0).to 0 ≤ get_or amounts (link_at links r.0).from 0 + (link_at links r.0).slack = closed_all links 0 amount amounts ranks parents s r.0 no_link (omega (arith, down.len, r.1)) in
+        let c : get_or amounts (link_at links r.0).to 0 ≤ get_or amounts (link_at links r.0).from 0 + (link_at links r.0).slack = closed r.0 no_link (omega (arith, down.len, r.1)) in
         let a : get_or amounts (link_at links r.0).to 0 ≡ get_or amounts 0 0 = ap (λ z. get_or amounts z 0) (l.ends ∙ r.2) in
         let b : get_or amounts (link_at links r.0).from 0 ≡ get_or amounts x 0 = ap (λ z. get_or amounts z 0) (l.begins ∙ r.3) in
-        let d : get_or amounts 0 0 ≡ amount = s.spreading.seeded in
+        let d : get_or amounts 0 0 ≡ amount = seeded in
         let e : get_or known (arc_at arcs r.0).to 0 ≡ get_or known x 0 = ap (λ z. get_or known z 0) r.3 in
         let f : get_or known (arc_at arcs r.0).from 0 ≡ get_or known 0 0 = ap (λ z. get_or known z 0) r.2 in
         let o = solution.0 in
@@ -151,7 +160,7 @@ module _ (arcs : List Arc) (links : List Link) (amount : ℕ) (known amounts ran
     falls_all : (x : ℕ) → x < length known → 0 < get_or amounts x 0
     falls_all x within =
         elim (same_or x 0) [
-          | inl same ↦ (let d : get_or amounts 0 0 ≡ amount = s.spreading.seeded in let e : get_or amounts x 0 ≡ get_or amounts 0 0 = ap (λ z. get_or amounts z 0) same in omega (arith, d, e, positive))
+          | inl same ↦ (let d : get_or amounts 0 0 ≡ amount = seeded in let e : get_or amounts x 0 ≡ get_or amounts 0 0 = ap (λ z. get_or amounts z 0) same in omega (arith, d, e, positive))
           | inr ne ↦ falls_some x (omega (arith, ne)) within
         ]
 
@@ -169,30 +178,32 @@ module _ (arcs : List Arc) (links : List Link) (amount : ℕ) (known amounts ran
         (omega (arith, ints, m, r)) in
         omega (arith, a, b, mono))
 
-    pub solved_high : IsGreatest arcs high'
-    solved_high = record {
-      solution = (
-        ap pos (each 0 some ∙ (let d : get_or amounts 0 0 ≡ amount = s.spreading.seeded in let o = solution.0 in omega (arith, ints, d, o))),
-        λ k d within. subst (λ e. MeetsArc (moment high') e) (get_or_default arcs k no_arc d within)
-            (let l = down.each k within in
-            let j = among k no_arc within in
-            let c : get_or amounts (link_at links k).to 0 ≤ get_or amounts (link_at links k).from 0 + (link_at links k).slack = closed_all links 0 amount amounts ranks parents s k no_link (omega (arith, down.len, within)) in
-            let a : get_or amounts (link_at links k).to 0 ≡ get_or amounts (arc_at arcs k).from 0 = ap (λ z. get_or amounts z 0) l.ends in
-            let b : get_or amounts (link_at links k).from 0 ≡ get_or amounts (arc_at arcs k).to 0 = ap (λ z. get_or amounts z 0) l.begins in
-            let p = each (arc_at arcs k).to j.1 in
-            let q = each (arc_at arcs k).from j.0 in
-            let u = at_most_amount links 0 amount amounts ranks parents s (arc_at arcs k).to in
-            let v = at_most_amount links 0 amount amounts ranks parents s (arc_at arcs k).from in
-            let sl = l.slack in
-            omega (arith, ints, c, a, b, p, q, u, v, sl)),
-      );
-      greatest = λ t sched x within.
-          let inside : x < length known = omega (arith, len, within) in
-          let origin : amount ≤ nat_of ((pos (get_or known 0 0) -ℤ t 0) +ℤ pos amount) =
-          (let o = solution.0 in let z = sched.0 in let e : pos (nat_of ((pos (get_or known 0 0) -ℤ t 0) +ℤ pos amount)) ≡ (pos (get_or known 0 0) -ℤ t 0) +ℤ pos amount = nat_of_is _ (omega (arith, ints, o, z)) in omega (arith, ints, e, o, z)) in
-          let most : get_or amounts x 0 ≤ nat_of ((pos (get_or known x 0) -ℤ t x) +ℤ pos amount) = s.spreading.least (λ y. nat_of ((pos (get_or known y 0) -ℤ t y) +ℤ pos amount)) (depth t sched) origin x in
-          let exact = nat_of_some ((pos (get_or known x 0) -ℤ t x) +ℤ pos amount) (omega (arith, most, falls_all x inside)) in
-          let p = each x inside in
-          let u = at_most_amount links 0 amount amounts ranks parents s x in
-          omega (arith, ints, most, exact, p, u);
-    }
+    pub solved_high : IsSolution arcs (moment high')
+    solved_high = (
+      ap pos (each 0 some ∙ (let d : get_or amounts 0 0 ≡ amount = seeded in let o = solution.0 in omega (arith, ints, d, o))),
+      λ k d within. subst (λ e. MeetsArc (moment high') e) (get_or_default arcs k no_arc d within)
+          (let l = down.each k within in
+          let j = among k no_arc within in
+          let c : get_or amounts (link_at links k).to 0 ≤ get_or amounts (link_at links k).from 0 + (link_at links k).slack = closed k no_link (omega (arith, down.len, within)) in
+          let a : get_or amounts (link_at links k).to 0 ≡ get_or amounts (arc_at arcs k).from 0 = ap (λ z. get_or amounts z 0) l.ends in
+          let b : get_or amounts (link_at links k).from 0 ≡ get_or amounts (arc_at arcs k).to 0 = ap (λ z. get_or amounts z 0) l.begins in
+          let p = each (arc_at arcs k).to j.1 in
+          let q = each (arc_at arcs k).from j.0 in
+          let u = at_most (arc_at arcs k).to in
+          let v = at_most (arc_at arcs k).from in
+          let sl = l.slack in
+          omega (arith, ints, c, a, b, p, q, u, v, sl)),
+    )
+
+    -- no solution is above that has unmarked points where they were
+    pub solved_greatest : (t : ℕ → ℤ) → IsSolution arcs t → ((x : ℕ) → x < length known → marks x ≡ 0 → t x ≤ℤ moment known x) → (x : ℕ) → x < length known → t x ≤ℤ moment high' x
+    solved_greatest t sched stay x inside =
+        let origin : amount ≤ nat_of ((pos (get_or known 0 0) -ℤ t 0) +ℤ pos amount) =
+        (let o = solution.0 in let z = sched.0 in let e : pos (nat_of ((pos (get_or known 0 0) -ℤ t 0) +ℤ pos amount)) ≡ (pos (get_or known 0 0) -ℤ t 0) +ℤ pos amount = nat_of_is _ (omega (arith, ints, o, z)) in omega (arith, ints, e, o, z)) in
+        let open_points : (y : ℕ) → y < length known → marks y ≡ 0 → amount ≤ nat_of ((pos (get_or known y 0) -ℤ t y) +ℤ pos amount) = λ y within free.
+        (let h = stay y within free in let e : pos (nat_of ((pos (get_or known y 0) -ℤ t y) +ℤ pos amount)) ≡ (pos (get_or known y 0) -ℤ t y) +ℤ pos amount = nat_of_is ((pos (get_or known y 0) -ℤ t y) +ℤ pos amount) (omega (arith, ints, h)) in omega (arith, ints, e, h)) in
+        let most : get_or amounts x 0 ≤ nat_of ((pos (get_or known x 0) -ℤ t x) +ℤ pos amount) = least (λ y. nat_of ((pos (get_or known y 0) -ℤ t y) +ℤ pos amount)) (depth t sched) origin open_points x in
+        let exact = nat_of_some ((pos (get_or known x 0) -ℤ t x) +ℤ pos amount) (omega (arith, most, falls_all x inside)) in
+        let p = each x inside in
+        let u = at_most x in
+        omega (arith, ints, most, exact, p, u)

@@ -18,69 +18,41 @@ ghost use Rattle.tp_repair.specs.declared.store.Direction.TheVariants.{Up, Down}
 
 use crate::engine::Engine;
 use crate::rising::rise_floors;
-use crate::solve::solve;
+use crate::solve::{holds_high, holds_low, solve};
 use crate::store::{Store, remove, set_edge};
 use crate::tighten::{fall, move_down, move_up, rise};
 use std::alloc::{AllocError, Global};
 use tp_bounds::Edge;
 use tp_net::edges::{floor, start_arc, stop_arc};
-use tp_net::slacks::{Arc, slack};
 
 /// A weight at which no edge between moments that a network has is tight.
 const NEVER_TIGHT: i64 = 1_000_000_000_000;
 
-/// Takes an edge out, and works the moments out anew. Where a growth is refused, it is there as before.
+/// Takes an edge out, and works the moments out anew that it may have held. Where a growth is refused, it is there as
+/// before.
 fn renew(alloc: Global, engine: &mut Engine, key: usize, amount: u64) -> Result<(), AllocError>
     requires wired { (edges : ℕ) × IsWired (length engine.old.low.items) edges engine.old }
+    requires exact { AreExact (arcs_of engine.old.store.nodes.slots) engine.old.low.items engine.old.high.items }
     requires node { (n : Node) × (get engine.old.store.nodes key ≡ Some n) × JoinsPoints (length engine.old.low.items) n.arc × IsSmallWeight n.arc.weight }
     requires start { IsStart (kept_arcs (left_slots key engine.old.store.nodes.slots)) engine.old.low.items amount }
+    requires start_high { IsStart (kept_arcs (left_slots key engine.old.store.nodes.slots)) engine.old.high.items amount }
     requires low { (x : ℕ) → x < length engine.old.low.items → slice_index engine.old.low.items x < 2 ^ 32 }
+    requires high { (x : ℕ) → x < length engine.old.high.items → slice_index engine.old.high.items x < 2 ^ 32 }
     requires positive { 0 < amount }
     requires amount { amount < 2 ^ 32 }
     ensures ok { OnOk result (IsLeft key engine.old engine.new) }
     ensures err { OnErr result (IsUntouched engine.old engine.new) }
-    ensures looks { (edges : ℕ) → IsWired (length engine.old.low.items) edges engine.old → OnOk result (engine.new.looks ≤ 2 * edges) }
+    ensures looks { (edges : ℕ) → IsWired (length engine.old.low.items) edges engine.old → OnOk result (engine.new.looks ≤ 8 * edges + 1) }
     ensures err_looks { OnErr result (engine.new.looks ≡ engine.old.looks) }
 {
-    let known = Vec::from_slice(alloc, &engine.low)?;
     let node = engine.store.nodes[key];
     set_edge(&mut engine.store, key, node.name, NEVER_TIGHT);
-    if let Err(error) = solve(engine, &known, amount) {
+    if let Err(error) = solve(alloc, engine, node.arc, amount) {
         set_edge(&mut engine.store, key, node.name, node.arc.weight);
         return Err(error);
     }
     remove(&mut engine.store, key);
     Ok(())
-}
-
-/// Whether an edge may hold the least moment of the point where it begins: it is tight there.
-fn holds_low(low: &[u64], arc: Arc) -> bool
-    requires small { All IsSmall low.now }
-    requires among { JoinsPoints (length low.now) arc }
-    requires weight { IsSmallWeight arc.weight }
-    requires met { MeetsArc (moment low.now) arc }
-    ensures held { result ≡ true → (arc.from ≢ 0) × (moment low.now arc.to ≡ (moment low.now arc.from +ℤ arc.weight)) }
-    ensures loose { result ≡ false → (arc.from ≡ 0) ⊎ (moment low.now arc.to <ℤ (moment low.now arc.from +ℤ arc.weight)) }
-{
-    if arc.from == 0 {
-        return false;
-    }
-    slack(low[arc.from], low[arc.to], arc.weight) == 0
-}
-
-/// Whether an edge may hold the greatest moment of the point where it ends: it is tight there.
-fn holds_high(high: &[u64], arc: Arc) -> bool
-    requires small { All IsSmall high.now }
-    requires among { JoinsPoints (length high.now) arc }
-    requires weight { IsSmallWeight arc.weight }
-    requires met { MeetsArc (moment high.now) arc }
-    ensures held { result ≡ true → (arc.to ≢ 0) × (moment high.now arc.to ≡ (moment high.now arc.from +ℤ arc.weight)) }
-    ensures loose { result ≡ false → (arc.to ≡ 0) ⊎ (moment high.now arc.to <ℤ (moment high.now arc.from +ℤ arc.weight)) }
-{
-    if arc.to == 0 {
-        return false;
-    }
-    slack(high[arc.from], high[arc.to], arc.weight) == 0
 }
 
 /// Takes an edge out. One that holds no moment leaves all moments as they are, and costs a look; else the moments are
@@ -92,12 +64,14 @@ pub fn leave(alloc: Global, engine: &mut Engine, key: usize, amount: u64) -> Res
     requires small { All IsSmall engine.old.high.items }
     requires node { (n : Node) × (get engine.old.store.nodes key ≡ Some n) × JoinsPoints (length engine.old.low.items) n.arc × IsSmallWeight n.arc.weight }
     requires start { IsStart (kept_arcs (left_slots key engine.old.store.nodes.slots)) engine.old.low.items amount }
+    requires start_high { IsStart (kept_arcs (left_slots key engine.old.store.nodes.slots)) engine.old.high.items amount }
     requires low { (x : ℕ) → x < length engine.old.low.items → slice_index engine.old.low.items x < 2 ^ 32 }
+    requires high { (x : ℕ) → x < length engine.old.high.items → slice_index engine.old.high.items x < 2 ^ 32 }
     requires positive { 0 < amount }
     requires amount { amount < 2 ^ 32 }
     ensures ok { OnOk result (IsLeft key engine.old engine.new) }
     ensures err { OnErr result (IsUntouched engine.old engine.new) }
-    ensures looks { (edges : ℕ) → IsWired (length engine.old.low.items) edges engine.old → OnOk result (engine.new.looks ≤ 2 * edges + 1) }
+    ensures looks { (edges : ℕ) → IsWired (length engine.old.low.items) edges engine.old → OnOk result (engine.new.looks ≤ 8 * edges + 1) }
     ensures loose { (n : Node) → get engine.old.store.nodes key ≡ Some n → IsLoose engine.old.low.items engine.old.high.items n.arc → OnOk result ((engine.new.looks ≡ 1) × (engine.new.low.items ≡ engine.old.low.items) × (engine.new.high.items ≡ engine.old.high.items)) }
 {
     let node = engine.store.nodes[key];

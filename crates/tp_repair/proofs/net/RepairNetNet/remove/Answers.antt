@@ -13,7 +13,7 @@ use Rattle.tp_repair.specs.Told.{Told, settled}
 use Rattle.tp_repair.specs.declared.engine.Engine.{Engine}
 use Rattle.tp_repair.specs.Engine.{IsRepaired}
 use Rattle.tp_repair.proofs.Repaired.{kept, holds_least, small_high, with_looks, relooked}
-use Rattle.tp_repair.proofs.Renewed.{some_of, low_fits, has_own_key, own_node, start_left, repaired_left, repaired_untouched}
+use Rattle.tp_repair.proofs.Renewed.{some_of, low_fits, high_fits, has_own_key, own_node, start_left, start_left_high, repaired_left, repaired_untouched}
 use Rattle.tp_repair.proofs.net.RepairNetNet.remove.Goals as goal
 
 pub key_of-key-requires : goal.key_of-key-requires
@@ -70,6 +70,22 @@ leave-requires-clause-small c = small_high _ _ _ _ _ _ c.self.invariant
 
 pub leave-requires-clause-low : goal.leave-requires-clause-low
 leave-requires-clause-low c = low_fits _ _ _ _ _ _ c.self.invariant
+
+pub leave-requires-clause-start_high : goal.leave-requires-clause-start_high
+leave-requires-clause-start_high c =
+    let i = c.self.inside in
+    let s : Situation = settled i.horizon i.clock i.bounds.entries i.fixed.items i.lags.items in
+    let n = length i.bounds.entries in
+    let g : Engine = i.engine in
+    let g0 : Engine = with_looks g 0 in
+    let r : IsRepaired s n i.keys i.floors.items i.ends.items g = c.self.invariant in
+    let r0 : IsRepaired s n i.keys i.floors.items i.ends.items g0 = relooked s n i.keys i.floors.items i.ends.items g 0 r in
+    let there : get s.bounds c.args.id.0 ≢ None = λ none. c.requires (sym (ap (λ (t : Told). get t.situation.bounds c.args.id.0) c.self.view_is) ∙ none) in
+    let b = some_of (get s.bounds c.args.id.0) there in
+    start_left_high s n i.keys i.floors.items i.ends.items g c.args.id b.0 c.key_of-key.result (c.from-amount.result + 1) r b.1 c.key_of-key.ensures (omega (arith, c.from-amount.ensures))
+
+pub leave-requires-clause-high : goal.leave-requires-clause-high
+leave-requires-clause-high c = high_fits _ _ _ _ _ _ c.self.invariant
 
 pub invariant_of-self : goal.invariant_of-self
 invariant_of-self c =
