@@ -1,0 +1,4 @@
+pub mod FoundText
+pub mod SearchStops
+pub mod Searches
+pub mod Telling

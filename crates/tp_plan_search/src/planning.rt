@@ -1,0 +1,141 @@
+// The search for a plan of the problem in a file.
+ghost use Rattle.std.specs.Prelude.{◌≡◌, ◌≢◌, ◌≤◌, ℕ, List, [], Option, IfOk, IfErr};
+ghost use Rattle.tp_files.specs.FaultLines.{TellsFault};
+ghost use Rattle.tp_plan_files.specs.Causes.{Explains};
+ghost use Rattle.tp_plan_files.specs.Named.{IsNamedTask};
+ghost use Rattle.tp_plan_files.specs.declared.plan_words.PlanWords.{PlanWords};
+ghost use Rattle.tp_plan_search.specs.FoundText.{IsFoundOfTask};
+ghost use Rattle.tp_plan_search.specs.SearchStops.{EndsSearch, IsTaskFault, StopsSearch, stop_failures};
+ghost use Rattle.tp_plan_search.specs.Searches.{SaysNoPlan, Searches, SearchesPart, WritesPlan, task_words};
+ghost use Rattle.tp_plan_search.specs.Telling.{StopsTelling, TellsFound};
+
+use crate::found_text::write_found;
+use crate::search_words::SearchWords;
+use crate::stops::{SearchStop, stop_line};
+use std::alloc::Global;
+use tp_device::Sink;
+use tp_files::{FileFault, Files, OUT_OF_ORDER, REFUSED, complain};
+use tp_ground::{Task, actions_are_readable};
+use tp_happen::plans_are_read;
+use tp_plan_files::{JudgeFault, task_in};
+use tp_search::{Found, search};
+
+/// Writes what a search came to. Answers whether that is a plan.
+fn tell<O: Sink>(found: &Found<'_>, output: &mut O) -> Result<bool, SearchStop>
+    ensures said { IfOk result (TellsFound found.now (O.held output.old) (O.held output.new)) }
+    ensures cause { IfErr result (StopsTelling found.now (O.held output.old) (O.held output.new)) }
+    ensures of_task { IsFoundOfTask found.now }
+    ensures failures { O.failures output.new ≡ stop_failures (O.failures output.old) result }
+{
+    match write_found(output, found) {
+        Ok(()) => Ok(matches!(found, Found::Plan(_))),
+        Err(_) => Err(SearchStop::Write),
+    }
+}
+
+/// Searches for a plan of a task, and writes it, or why there is none. Answers whether there is one.
+fn search_of<O: Sink>(
+    alloc: Global,
+    words: SearchWords<'_>,
+    task: &Task,
+    output: &mut O,
+) -> Result<bool, SearchStop>
+    requires { words.horizon ≤ 1000000000 }
+    ensures said { (held : List ℕ → Option (List ℕ)) → IsNamedTask held (task_words words.entry) task.now
+        → IfOk result (Searches held words.entry (O.held output.old) (O.held output.new)) }
+    ensures cause { (held : List ℕ → Option (List ℕ)) → IsNamedTask held (task_words words.entry) task.now
+        → IfErr result (StopsSearch held words.entry (O.held output.old) (O.held output.new)) }
+    ensures failures { O.failures output.new ≡ stop_failures (O.failures output.old) result }
+{
+    plans_are_read();
+    actions_are_readable();
+    match search(alloc, task, words.budget, words.horizon) {
+        Ok(found) => tell(&found, output),
+        Err(fault) => Err(SearchStop::Searching(fault)),
+    }
+}
+
+/// The fault of files in which no plan stands. None is told of a plan; there memory may have been wanting.
+fn task_fault(fault: JudgeFault) -> JudgeFault
+    ensures kind { IsTaskFault result }
+    ensures cause { (held : List ℕ → Option (List ℕ)) → (w : PlanWords) → Explains held w fault → Explains held w result }
+{
+    match fault {
+        JudgeFault::PlanFile(_) | JudgeFault::Plan(_) => JudgeFault::DomainFile(FileFault::Memory),
+        JudgeFault::Memory | JudgeFault::Range => JudgeFault::DomainFile(FileFault::Memory),
+        other => other,
+    }
+}
+
+/// The task of the domain and the problem that the words name.
+fn task_of<N: Files>(
+    alloc: Global,
+    files: &mut N,
+    words: SearchWords<'_>,
+) -> Result<Task, JudgeFault>
+    requires { words.horizon ≤ 1000000000 }
+    ensures named { IfOk result (IsNamedTask (N.held files.old) (task_words words.entry)) }
+    ensures kind { IfErr result IsTaskFault }
+    ensures cause { IfErr result (Explains (N.held files.old) (task_words words.entry)) }
+{
+    match task_in(alloc, files, words.task_words()) {
+        Ok(task) => Ok(task),
+        Err(fault) => Err(task_fault(fault)),
+    }
+}
+
+/// Searches for a plan of the task that the words name, and writes it, or why there is none. Answers whether there is one.
+fn plan<N: Files, O: Sink>(
+    alloc: Global,
+    files: &mut N,
+    words: SearchWords<'_>,
+    output: &mut O,
+) -> Result<bool, SearchStop>
+    requires { words.horizon ≤ 1000000000 }
+    ensures said { IfOk result (Searches (N.held files.old) words.entry (O.held output.old) (O.held output.new)) }
+    ensures cause { IfErr result (StopsSearch (N.held files.old) words.entry (O.held output.old) (O.held output.new)) }
+    ensures failures { O.failures output.new ≡ stop_failures (O.failures output.old) result }
+{
+    match task_of(alloc, files, words) {
+        Ok(task) => search_of(alloc, words, &task, output),
+        Err(fault) => Err(SearchStop::Files(fault)),
+    }
+}
+
+/// Searches for a plan of the problem that the words name, with at most so many expansions as their budget, and writes it in the plan
+/// format; or the line `unreachable`, `exhausted` or `spent N` where none was found. Answers the exit status: 0 for a plan, 1 where
+/// none was found, and for another writes one fault line.
+///
+/// The cost is that of reading both texts, of grounding and of the search.
+pub fn run_plan<N: Files, O: Sink, F: Sink>(
+    alloc: Global,
+    files: &mut N,
+    words: SearchWords<'_>,
+    output: &mut O,
+    faults: &mut F,
+) -> u8
+    requires { words.horizon ≤ 1000000000 }
+    ensures planned { result ≡ 0 → WritesPlan (N.held files.old) words.entry (O.held output.old) (O.held output.new) }
+    ensures none { result ≡ 1 → SaysNoPlan (N.held files.old) words.entry (O.held output.old) (O.held output.new) }
+
+    // What stopped it is told, and is as it is told.
+    ensures stopped { 2 ≤ result → EndsSearch (N.held files.old) words.entry result (O.held output.old) (O.held output.new)
+        (O.failures output.old) (O.failures output.new) (F.failures faults.old) (F.held faults.old) (F.failures faults.new) (F.held faults.new) }
+
+    // Nothing is written for input that is refused, and of a true answer at most a first part where memory or a device is
+    // wanting; a write that failed is always told.
+    ensures kept { result ≡ REFUSED → O.held output.new ≡ O.held output.old }
+    ensures part { result ≡ OUT_OF_ORDER → SearchesPart (N.held files.old) words.entry (O.held output.old) (O.held output.new) }
+    ensures told { result ≢ OUT_OF_ORDER → O.failures output.new ≡ O.failures output.old }
+
+    // A fault line goes with each fault, and with nothing else.
+    ensures within { result ≤ 3 }
+    ensures silent { result ≤ 1 → faults.new ≡ faults.old }
+    ensures fault { 2 ≤ result → TellsFault [] (F.failures faults.old) (F.held faults.old) (F.failures faults.new) (F.held faults.new) }
+{
+    match plan(alloc, files, words, output) {
+        Ok(true) => 0,
+        Ok(false) => 1,
+        Err(stop) => complain(faults, stop_line(stop, words)),
+    }
+}
