@@ -1,0 +1,24 @@
+//! What keeps a search from going on.
+
+use std::alloc::AllocError;
+use thiserror::Error;
+
+/// Want of memory, or a number past 10^15 in absolute value.
+#[derive(Clone, Copy, Debug, PartialEq, Eq, Error)]
+pub enum SeekFault {
+    #[error("out of memory")]
+    Memory,
+    #[error("a number passed 10^15")]
+    Range,
+}
+
+impl From<AllocError> for SeekFault {
+    ghost use Rattle.std.specs.Prelude.{◌≡◌};
+    ghost use Rattle.tp_frontier.specs.declared.fault.SeekFault.TheVariants as faults;
+
+    ghost from_gives = { λ _ e. e ≡ faults.Memory };
+
+    fn from(_: AllocError) -> Self {
+        SeekFault::Memory
+    }
+}

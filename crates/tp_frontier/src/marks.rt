@@ -1,0 +1,186 @@
+//! What the events of one tick mention, change, read and write, so that one more event is seen to interfere with them in
+//! the time of what it mentions itself.
+
+use crate::forms::{Deed, Forms};
+use crate::own::place_in;
+use std::alloc::{AllocError, Global};
+use tp_ground::{Change, NumericEffect};
+
+#[derive(Clone, Copy)]
+struct AtomMark {
+    mentioned: bool,
+    added: bool,
+    deleted: bool,
+}
+
+#[derive(Clone, Copy)]
+struct FluentMark {
+    read: bool,
+    summed: bool,
+    set: bool,
+}
+
+const NO_ATOM: AtomMark = AtomMark {
+    mentioned: false,
+    added: false,
+    deleted: false,
+};
+
+const NO_FLUENT: FluentMark = FluentMark {
+    read: false,
+    summed: false,
+    set: false,
+};
+
+/// The marks of some events on atoms and fluents, by place.
+#[derive(Drop)]
+pub struct Marks {
+    atoms: Vec<AtomMark>,
+    fluents: Vec<FluentMark>,
+}
+
+fn is_sum(effect: &NumericEffect) -> bool {
+    match effect.change {
+        Change::Increase | Change::Decrease => true,
+        Change::Assign | Change::ScaleUp => false,
+    }
+}
+
+impl Marks {
+    /// No marks on so many atoms and fluents.
+    pub fn new(alloc: Global, atoms: usize, fluents: usize) -> Result<Self, AllocError> {
+        let atoms = Vec::from_elem(alloc, NO_ATOM, atoms)?;
+        let fluents = Vec::from_elem(alloc, NO_FLUENT, fluents)?;
+        Ok(Marks { atoms, fluents })
+    }
+
+    /// Marks what an event does.
+    pub fn put(&mut self, forms: &Forms<'_>, deed: &Deed<'_>) {
+        self.put_atoms(forms, deed);
+        self.put_fluents(forms, deed);
+    }
+
+    fn put_atoms(&mut self, forms: &Forms<'_>, deed: &Deed<'_>) {
+        for a in forms.list(deed.condition.atoms) {
+            if let Some(at) = self.atoms.get_mut(*a as usize) {
+                at.mentioned = true;
+            }
+        }
+        for a in forms.list(deed.adds) {
+            if let Some(at) = self.atoms.get_mut(*a as usize) {
+                at.added = true;
+            }
+        }
+        for a in forms.list(deed.deletes) {
+            if let Some(at) = self.atoms.get_mut(*a as usize) {
+                at.deleted = true;
+            }
+        }
+    }
+
+    fn put_fluents(&mut self, forms: &Forms<'_>, deed: &Deed<'_>) {
+        for f in forms.list(deed.reads) {
+            if let Some(at) = self.fluents.get_mut(*f as usize) {
+                at.read = true;
+            }
+        }
+        for w in &deed.event.writes {
+            if let Some(at) = self.fluents.get_mut(place_of(forms, w)) {
+                if is_sum(w) {
+                    at.summed = true;
+                } else {
+                    at.set = true;
+                }
+            }
+        }
+    }
+
+    /// Takes away all marks on what an event mentions, changes, reads and writes.
+    pub fn wipe(&mut self, forms: &Forms<'_>, deed: &Deed<'_>) {
+        self.wipe_atoms(forms.list(deed.condition.atoms));
+        self.wipe_atoms(forms.list(deed.adds));
+        self.wipe_atoms(forms.list(deed.deletes));
+        for f in forms.list(deed.reads) {
+            self.wipe_fluent(*f as usize);
+        }
+        for w in &deed.event.writes {
+            self.wipe_fluent(place_of(forms, w));
+        }
+    }
+
+    fn wipe_atoms(&mut self, atoms: &[u32]) {
+        for a in atoms {
+            if let Some(at) = self.atoms.get_mut(*a as usize) {
+                *at = NO_ATOM;
+            }
+        }
+    }
+
+    fn wipe_fluent(&mut self, place: usize) {
+        if let Some(at) = self.fluents.get_mut(place) {
+            *at = NO_FLUENT;
+        }
+    }
+
+    fn atom(&self, place: u32) -> AtomMark {
+        self.atoms.get(place as usize).copied().unwrap_or(NO_ATOM)
+    }
+
+    fn fluent(&self, place: usize) -> FluentMark {
+        self.fluents.get(place).copied().unwrap_or(NO_FLUENT)
+    }
+
+    fn is_mentioned_or_deleted(&self, place: u32) -> bool {
+        let mark = self.atom(place);
+        mark.mentioned || mark.deleted
+    }
+
+    fn is_mentioned_or_added(&self, place: u32) -> bool {
+        let mark = self.atom(place);
+        mark.mentioned || mark.added
+    }
+
+    fn is_changed(&self, place: u32) -> bool {
+        let mark = self.atom(place);
+        mark.added || mark.deleted
+    }
+
+    fn is_written(&self, place: u32) -> bool {
+        let mark = self.fluent(place as usize);
+        mark.summed || mark.set
+    }
+
+    fn meets_write(&self, place: usize, sum: bool) -> bool {
+        let mark = self.fluent(place);
+        mark.read || mark.set || (mark.summed && !sum)
+    }
+
+    /// Whether an event interferes with one of those marked.
+    pub fn interferes(&self, forms: &Forms<'_>, deed: &Deed<'_>) -> bool {
+        self.atoms_meet(forms, deed) || self.fluents_meet(forms, deed)
+    }
+
+    fn atoms_meet(&self, forms: &Forms<'_>, deed: &Deed<'_>) -> bool {
+        let adds = forms.list(deed.adds);
+        let deletes = forms.list(deed.deletes);
+        let mentioned = forms.list(deed.condition.atoms);
+        adds.iter().any(|a| self.is_mentioned_or_deleted(*a))
+            || deletes.iter().any(|a| self.is_mentioned_or_added(*a))
+            || mentioned.iter().any(|a| self.is_changed(*a))
+    }
+
+    fn fluents_meet(&self, forms: &Forms<'_>, deed: &Deed<'_>) -> bool {
+        let reads = forms.list(deed.reads);
+        reads.iter().any(|f| self.is_written(*f)) || self.writes_meet(forms, &deed.event.writes)
+    }
+
+    fn writes_meet(&self, forms: &Forms<'_>, writes: &[NumericEffect]) -> bool {
+        writes
+            .iter()
+            .any(|w| self.meets_write(place_of(forms, w), is_sum(w)))
+    }
+}
+
+fn place_of(forms: &Forms<'_>, effect: &NumericEffect) -> usize {
+    place_in(&forms.fluents.places, effect.fluent) as usize
+}

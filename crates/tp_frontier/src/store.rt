@@ -1,0 +1,340 @@
+//! The nodes of a search. Those of one tick that stem from one wait share a moment: the state before the tick's
+//! happening, the steps that run, and what can start there.
+
+use crate::own::{Own, Span, part, small};
+use std::alloc::{AllocError, Global};
+use tp_ground::ActionId;
+
+/// The most steps of a plan.
+pub const MOST_STEPS: u32 = 512;
+
+/// A step that runs: its action, its duration, and how many of its ticks are left, 0 where its end is due.
+#[derive(Clone, Copy, Debug, PartialEq, Eq, PartialOrd, Ord)]
+pub struct Running {
+    pub action: u32,
+    pub duration: u32,
+    pub left: u32,
+}
+
+/// A start that is possible at a moment: an action, and its duration.
+#[derive(Clone, Copy, Debug, PartialEq, Eq, PartialOrd, Ord)]
+pub struct Start {
+    pub action: u32,
+    pub duration: u32,
+}
+
+/// A step that was chosen: its tick, its action, and how many ticks it lasts, 0 for an instantaneous action.
+#[derive(Clone, Copy, Debug, PartialEq, Eq)]
+pub struct Chosen {
+    pub tick: u32,
+    pub action: ActionId,
+    pub duration: u32,
+}
+
+/// What nodes of one tick share.
+#[derive(Clone, Copy)]
+pub struct Moment {
+    pub hash: u64,
+    pub tick: u32,
+    pub state: u32,
+    pub running: Span,
+    pub starts: Option<Span>,
+}
+
+/// What made a node of its parent.
+#[derive(Clone, Copy)]
+pub enum Choice {
+    Wait,
+    Start(u32),
+}
+
+/// A node: its parent, its moment, what it chose, and how many steps it has. The root is its own parent.
+#[derive(Clone, Copy)]
+pub struct Node {
+    pub parent: u32,
+    pub moment: u32,
+    pub choice: Choice,
+    pub steps: u16,
+}
+
+/// All nodes that were made, by number, and what they share.
+#[derive(Drop)]
+pub struct Store {
+    width: u32,
+    depth: u32,
+    words: Vec<u64>,
+    numbers: Vec<i64>,
+    states: u32,
+    runs: Vec<Running>,
+    starts: Vec<Start>,
+    moments: Vec<Moment>,
+    nodes: Vec<Node>,
+    table: Vec<u32>,
+}
+
+const MIX: u64 = 0x517c_c1b7_2722_0a95;
+
+fn mixed(hash: u64, word: u64) -> u64 {
+    (hash.rotate_left(5) ^ word).wrapping_mul(MIX)
+}
+
+fn run_hash(hash: u64, run: &Running) -> u64 {
+    let first = mixed(hash, u64::from(run.action));
+    let second = mixed(first, u64::from(run.duration));
+    mixed(second, u64::from(run.left))
+}
+
+fn place_of(hash: u64, len: usize) -> usize {
+    (hash.wrapping_shr(20) as usize) & len.saturating_sub(1)
+}
+
+fn block<T>(items: &[T], number: u32, size: u32) -> &[T] {
+    let at = (number as usize).saturating_mul(size as usize);
+    match items.get(at..at.saturating_add(size as usize)) {
+        Some(block) => block,
+        None => &[],
+    }
+}
+
+impl Store {
+    /// No nodes; a state has so many words and numbers that change.
+    pub fn new(alloc: Global, width: u32, depth: u32) -> Result<Self, AllocError> {
+        let table = Vec::from_elem(alloc, 0u32, 1024)?;
+        Ok(Store {
+            width,
+            depth,
+            words: Vec::new(alloc),
+            numbers: Vec::new(alloc),
+            states: 0,
+            runs: Vec::new(alloc),
+            starts: Vec::new(alloc),
+            moments: Vec::new(alloc),
+            nodes: Vec::new(alloc),
+            table,
+        })
+    }
+
+    /// Keeps what changes of the state at hand, and tells its number.
+    pub fn pack(&mut self, own: &Own) -> Result<u32, AllocError> {
+        let number = self.states;
+        self.words.extend_from_slice(own.words(self.width))?;
+        self.numbers.extend_from_slice(own.numbers(self.depth))?;
+        self.states = self.states.saturating_add(1);
+        Ok(number)
+    }
+
+    /// Makes a state that was kept the one at hand.
+    pub fn unpack(&self, state: u32, own: &mut Own) {
+        own.load(
+            block(&self.words, state, self.width),
+            block(&self.numbers, state, self.depth),
+        );
+    }
+
+    fn is_state(&self, state: u32, own: &Own) -> bool {
+        block(&self.words, state, self.width) == own.words(self.width)
+            && block(&self.numbers, state, self.depth) == own.numbers(self.depth)
+    }
+
+    /// A hash of the state at hand and of steps that run.
+    pub fn hash_of(&self, own: &Own, runs: &[Running]) -> u64 {
+        let mut hash = 0;
+        for word in own.words(self.width) {
+            hash = mixed(hash, *word);
+        }
+        for number in own.numbers(self.depth) {
+            hash = mixed(hash, number.cast_unsigned());
+        }
+        for run in runs {
+            hash = run_hash(hash, run);
+        }
+        hash
+    }
+
+    /// Keeps steps that run.
+    pub fn add_runs(&mut self, runs: &[Running]) -> Result<Span, AllocError> {
+        let at = small(self.runs.len());
+        self.runs.extend_from_slice(runs)?;
+        Ok(Span {
+            at,
+            count: small(runs.len()),
+        })
+    }
+
+    /// Keeps what can start at a moment.
+    pub fn add_starts(&mut self, moment: u32, starts: &[Start]) -> Result<(), AllocError> {
+        let at = small(self.starts.len());
+        self.starts.extend_from_slice(starts)?;
+        if let Some(there) = self.moments.get_mut(moment as usize) {
+            there.starts = Some(Span {
+                at,
+                count: small(starts.len()),
+            });
+        }
+        Ok(())
+    }
+
+    /// A moment more, and its number.
+    pub fn add_moment(&mut self, moment: Moment) -> Result<u32, AllocError> {
+        let number = small(self.moments.len());
+        self.moments.push(moment)?;
+        Ok(number)
+    }
+
+    /// A node more, and its number.
+    pub fn add_node(&mut self, node: Node) -> Result<u32, AllocError> {
+        let number = small(self.nodes.len());
+        self.nodes.push(node)?;
+        Ok(number)
+    }
+
+    /// A node by its number.
+    pub fn node(&self, number: u32) -> Option<Node> {
+        self.nodes.get(number as usize).copied()
+    }
+
+    /// A moment by its number.
+    pub fn moment(&self, number: u32) -> Option<Moment> {
+        self.moments.get(number as usize).copied()
+    }
+
+    /// A start by its number.
+    pub fn start(&self, number: u32) -> Option<Start> {
+        self.starts.get(number as usize).copied()
+    }
+
+    /// Steps that run, as they were kept.
+    pub fn runs(&self, span: Span) -> &[Running] {
+        part(&self.runs, span)
+    }
+
+    /// Whether an earlier wait has the state at hand and these steps that run.
+    pub fn is_known(&self, hash: u64, own: &Own, runs: &[Running]) -> bool {
+        let mut at = place_of(hash, self.table.len());
+        for _ in 0..self.table.len() {
+            match self.moment_at(at) {
+                Some(moment) if self.is_same(&moment, hash, own, runs) => return true,
+                Some(_) => at = self.next_place(at),
+                None => return false,
+            }
+        }
+        false
+    }
+
+    fn is_same(&self, moment: &Moment, hash: u64, own: &Own, runs: &[Running]) -> bool {
+        moment.hash == hash && self.runs(moment.running) == runs && self.is_state(moment.state, own)
+    }
+
+    fn next_place(&self, at: usize) -> usize {
+        at.saturating_add(1) & self.table.len().saturating_sub(1)
+    }
+
+    // The moment that the table has at a place; 0 is the root's, which no wait made, and stands where there is none.
+    fn moment_at(&self, at: usize) -> Option<Moment> {
+        let number = self.table.get(at).copied()?;
+        if number == 0 {
+            None
+        } else {
+            self.moment(number)
+        }
+    }
+
+    /// Enters the last moment, which a wait made, into the table.
+    pub fn enter_last(&mut self, alloc: Global) -> Result<(), AllocError> {
+        let count = self.moments.len();
+        if count.saturating_mul(2) > self.table.len() {
+            self.grow_table(alloc)?;
+            for number in 1..count {
+                self.enter(small(number));
+            }
+        } else {
+            self.enter(small(count.saturating_sub(1)));
+        }
+        Ok(())
+    }
+
+    fn grow_table(&mut self, alloc: Global) -> Result<(), AllocError> {
+        let size = self.table.len().saturating_mul(2);
+        self.table = Vec::from_elem(alloc, 0u32, size)?;
+        Ok(())
+    }
+
+    fn enter(&mut self, number: u32) {
+        if let Some(moment) = self.moment(number) {
+            let mut at = place_of(moment.hash, self.table.len());
+            for _ in 0..self.table.len() {
+                if self.is_free(at) {
+                    break;
+                }
+                at = self.next_place(at);
+            }
+            if let Some(place) = self.table.get_mut(at) {
+                *place = number;
+            }
+        }
+    }
+
+    fn is_free(&self, at: usize) -> bool {
+        self.table.get(at).copied().unwrap_or(0) == 0
+    }
+
+    /// The starts that a node's tick has before its own, back from its own.
+    pub fn push_chain(&self, node: u32, into: &mut Vec<Start>) -> Result<(), AllocError> {
+        into.clear();
+        let mut at = node;
+        for _ in 0..MOST_STEPS {
+            match self.start_of(at) {
+                Some((parent, start)) => {
+                    into.push(start)?;
+                    at = parent;
+                }
+                None => break,
+            }
+        }
+        into.reverse();
+        Ok(())
+    }
+
+    // The parent of a node that chose a start, and the start.
+    fn start_of(&self, node: u32) -> Option<(u32, Start)> {
+        let at = self.node(node)?;
+        match at.choice {
+            Choice::Wait => None,
+            Choice::Start(number) => Some((at.parent, self.start(number)?)),
+        }
+    }
+
+    fn step_of(&self, node: &Node) -> Option<Chosen> {
+        match node.choice {
+            Choice::Wait => None,
+            Choice::Start(number) => {
+                let start = self.start(number)?;
+                Some(Chosen {
+                    tick: self.moment(node.moment)?.tick,
+                    action: ActionId(start.action),
+                    duration: start.duration,
+                })
+            }
+        }
+    }
+
+    /// The steps of a node, in the order in which they were chosen.
+    pub fn steps(&self, alloc: Global, node: u32) -> Result<Vec<Chosen>, AllocError> {
+        let mut steps = Vec::new(alloc);
+        let mut number = node;
+        for _ in 0..self.nodes.len() {
+            let Some(at) = self.node(number) else {
+                break;
+            };
+            if let Some(step) = self.step_of(&at) {
+                steps.push(step)?;
+            }
+            if number == 0 {
+                break;
+            }
+            number = at.parent;
+        }
+        steps.reverse();
+        Ok(steps)
+    }
+}

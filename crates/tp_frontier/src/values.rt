@@ -1,0 +1,149 @@
+//! What expressions are worth in the state at hand, and whether conditions hold there.
+
+use crate::fault::SeekFault;
+use crate::own::{Own, Places, place_in};
+use tp_ground::{Comparison, Cond, Expr};
+
+const LIMIT: i64 = 1_000_000_000_000_000;
+
+/// The state at hand, with the places of atoms and fluents.
+#[derive(Clone, Copy)]
+pub struct Sight<'a> {
+    pub own: &'a Own,
+    pub atoms: &'a Places,
+    pub fluents: &'a Places,
+}
+
+impl Sight<'_> {
+    fn truth(self, atom: u32) -> bool {
+        self.own.has(place_in(&self.atoms.places, atom))
+    }
+
+    fn number(self, fluent: u32) -> Option<i64> {
+        self.own.number(place_in(&self.fluents.places, fluent))
+    }
+}
+
+// A number that was worked out, None where it passed 64 bits.
+fn ranged(number: Option<i64>) -> Result<Option<i64>, SeekFault> {
+    match number {
+        Some(n) if n <= LIMIT && n >= -LIMIT => Ok(Some(n)),
+        _ => Err(SeekFault::Range),
+    }
+}
+
+fn ranged_if_any(number: Option<i64>) -> Result<Option<i64>, SeekFault> {
+    match number {
+        Some(n) => ranged(Some(n)),
+        None => Ok(None),
+    }
+}
+
+fn negated(x: Option<i64>) -> Result<Option<i64>, SeekFault> {
+    match x {
+        Some(a) => ranged(0i64.checked_sub(a)),
+        None => Ok(None),
+    }
+}
+
+/// The sum of two numbers, if both are there.
+pub fn sum(x: Option<i64>, y: Option<i64>) -> Result<Option<i64>, SeekFault> {
+    match (x, y) {
+        (Some(a), Some(b)) => ranged(a.checked_add(b)),
+        _ => Ok(None),
+    }
+}
+
+/// The difference of two numbers, if both are there.
+pub fn difference(x: Option<i64>, y: Option<i64>) -> Result<Option<i64>, SeekFault> {
+    match (x, y) {
+        (Some(a), Some(b)) => ranged(a.checked_sub(b)),
+        _ => Ok(None),
+    }
+}
+
+/// The product of two numbers, if both are there.
+pub fn product(x: Option<i64>, y: Option<i64>) -> Result<Option<i64>, SeekFault> {
+    match (x, y) {
+        (Some(a), Some(b)) => ranged(a.checked_mul(b)),
+        _ => Ok(None),
+    }
+}
+
+/// The value of an expression, for a duration in units.
+pub fn value(sight: Sight<'_>, units: Option<i64>, expr: &Expr) -> Result<Option<i64>, SeekFault> {
+    match expr {
+        Expr::Number(n) => ranged(Some(*n)),
+        Expr::Fluent(f) => ranged_if_any(sight.number(*f)),
+        Expr::Duration => ranged_if_any(units),
+        Expr::Negated(x) => negated(value(sight, units, x)?),
+        Expr::Sum(x, y) => sum(value(sight, units, x)?, value(sight, units, y)?),
+        Expr::Difference(x, y) => difference(value(sight, units, x)?, value(sight, units, y)?),
+        Expr::Product(x, y) => product(value(sight, units, x)?, value(sight, units, y)?),
+    }
+}
+
+fn compares(how: Comparison, x: i64, y: i64) -> bool {
+    match how {
+        Comparison::Less => x < y,
+        Comparison::AtMost => x <= y,
+        Comparison::Equal => x == y,
+        Comparison::AtLeast => x >= y,
+        Comparison::Greater => x > y,
+    }
+}
+
+fn compared(how: Comparison, x: Option<i64>, y: Option<i64>) -> Option<bool> {
+    match (x, y) {
+        (Some(a), Some(b)) => Some(compares(how, a, b)),
+        _ => None,
+    }
+}
+
+fn opposite(x: Option<bool>) -> Option<bool> {
+    match x {
+        Some(b) => Some(!b),
+        None => None,
+    }
+}
+
+fn and(x: Option<bool>, y: Option<bool>) -> Option<bool> {
+    match (x, y) {
+        (Some(a), Some(b)) => Some(a && b),
+        _ => None,
+    }
+}
+
+fn or(x: Option<bool>, y: Option<bool>) -> Option<bool> {
+    match (x, y) {
+        (Some(a), Some(b)) => Some(a || b),
+        _ => None,
+    }
+}
+
+/// The truth of a condition, None where it mentions a fluent without a number.
+pub fn judged(sight: Sight<'_>, cond: &Cond) -> Result<Option<bool>, SeekFault> {
+    match cond {
+        Cond::Atom(a) => Ok(Some(sight.truth(*a))),
+        Cond::Compare(how, x, y) => {
+            let a = value(sight, None, x)?;
+            let b = value(sight, None, y)?;
+            Ok(compared(*how, a, b))
+        }
+        Cond::Not(c) => Ok(opposite(judged(sight, c)?)),
+        Cond::And(cs) => {
+            let mut all = Some(true);
+            for c in cs {
+                all = and(all, judged(sight, c)?);
+            }
+            Ok(all)
+        }
+        Cond::Or(cs) => {
+            let mut any = Some(false);
+            for c in cs {
+                any = or(any, judged(sight, c)?);
+            }
+            Ok(any)
+        }
+    }
+}
