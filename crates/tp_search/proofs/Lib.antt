@@ -6,3 +6,5 @@ pub mod Unreachable
 pub mod Chains
 pub mod Loop
 pub mod Expanding
+mod Begins
+mod Within

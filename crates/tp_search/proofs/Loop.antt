@@ -1,25 +1,33 @@
 -- The steps of the search's loop keep what it stands for.
-use Rattle.std.proofs.Common.{◌≡◌, ℕ, suc, zero, ◌+◌, ◌<◌, ◌≤◌, true, List, [], ◌∷◌, ◌++◌, map, length, take, drop, ◌⊎◌, inl, inr, ⊎_elim, refl, sym, ap, subst, ◌∙◌, arith, get_or, drop-cons, drop_of_length-le, add-one, Some, slice_get, nat_lt, nat_le, lt-ltb, le-leb}
+use Rattle.std.proofs.Common.{◌≡◌, ℕ, suc, zero, ◌+◌, ◌<◌, ◌≤◌, true, List, [], ◌∷◌, ◌++◌, map, length, take, drop, ◌⊎◌, inl, inr, ⊎_elim, refl, sym, ap, ap₂, subst, ◌∙◌, arith, get_or, drop-cons, drop_of_length-le, add-one, Option, Some, None, false, slice_get, nat_lt, nat_le, lt-ltb, le-leb}
 use Rattle.std.specs.List.{list_all, AllByRecursion}
 use Rattle.std.proofs.lemmas.Bool.{cases_lt, and_from, or_right}
+use Rattle.std.specs.Option.{option_map, option_and_then}
+use Rattle.std.proofs.lemmas.Bool.{true≢false}
+use Rattle.tp_happen.specs.Parts.{part_of}
+use Rattle.tp_happen.specs.declared.events.Part.TheVariants.{Only}
 use Rattle.tp_happen.specs.TaskLabels.{is_durative}
 use Rattle.tp_ground.specs.Bounds.{In}
 use Rattle.tp_ground.specs.declared.Body.{Body}
-use Rattle.tp_ground.specs.declared.Body.TheVariants.{Instant}
+use Rattle.tp_ground.specs.declared.Body.TheVariants.{Instant, Durative}
+use Rattle.tp_ground.specs.declared.GroundEvent.{GroundEvent}
+use Rattle.tp_ground.specs.Event.{interferes}
 use Rattle.tp_ground.specs.declared.task.Task.{Task}
 use Rattle.tp_ground.proofs.Lists.{all_at, all_from}
 use Rattle.tp_happen.specs.declared.plans.Step.{Step}
 use Rattle.tp_happen.specs.Steps.{IsPlan, ends_in_time}
-use Rattle.tp_validate.specs.OfTask.{IsValidPlan, IsOfTask, is_step_of}
+use Rattle.tp_validate.specs.OfTask.{IsValidPlan, IsOfTask, is_step_of, scale_of, begin}
 use Rattle.tp_validate.specs.Validated.{Validated}
 use Rattle.tp_reach.specs.TaskReach.{GoalIs}
-use Rattle.tp_search.specs.AtOnce.{Choice, IsChoice, IsWanted, IsNextChoice, Rise, rising, steps_of}
+use Rattle.tp_search.specs.AtOnce.{Choice, IsChoice, IsWanted, IsNextChoice, Rise, rising, steps_of, timed_all, made_of, CanHappen}
 use Rattle.tp_search.specs.Plans.{IsPlanAtOnce, EndsBy}
 use Rattle.tp_search.specs.Promised.{FindsPlan, IsExhausted, IsSpent}
+use Rattle.tp_search.specs.Possible.{CanBegin, Interferes, IsApart, AreCandidates, alone}
 use Rattle.tp_search.specs.Children.{IsNode, HasChildren}
 use Rattle.tp_search.specs.Running.{IsRunning, numbers, step_at, steps_at}
 use Rattle.tp_search.proofs.Wanted.{at_once_wanted, wanted_is_plan, next_in, Next, take_whole}
 use Rattle.tp_search.proofs.Shuffled.{in_rising}
+use Rattle.tp_search.proofs.Parts.{parts_happen, apart_in}
 
 pub in_append_left : {X : Type 0} (x : X) (xs ys : List X) → In x xs → In x (xs ++ ys)
 in_append_left x [] ys i = absurd i
@@ -73,6 +81,56 @@ all_numbers : (m : ℕ) (cs : List Choice) → AllByRecursion (λ (c : Choice). 
 all_numbers m [] h = tt
 all_numbers m (c ∷ cs) h = (h.0, all_numbers m cs h.1)
 
+-- what an action that is one event does
+abbrev event_of : GroundEvent → Option Body → GroundEvent
+event_of d None = d
+event_of d (Some (Instant e)) = e
+event_of d (Some (Durative start end invariant)) = d
+
+pub same_event : (o : Option Body) (x y : GroundEvent) → o ≡ Some (Instant x) → o ≡ Some (Instant y) → x ≡ y
+same_event o x y h k = ap (event_of x) (sym h ∙ k)
+
+in_take : (n : ℕ) (cs : List Choice) (c : Choice) → In c (take n cs) → In c cs
+in_take zero [] c i = absurd i
+in_take zero (d ∷ ds) c i = absurd i
+in_take (suc n) [] c i = absurd i
+in_take (suc n) (d ∷ ds) c (inl e) = inl e
+in_take (suc n) (d ∷ ds) c (inr i) = inr (in_take n ds c i)
+
+-- a choice of a number
+in_numbers : (cs : List Choice) (b : ℕ) → In b (numbers cs) → (c : Choice) × (In c cs × (b ≡ c.number))
+in_numbers [] b i = absurd i
+in_numbers (c ∷ cs) b (inl e) = (c, (inl refl, e))
+in_numbers (c ∷ cs) b (inr i) = let r = in_numbers cs b i in (r.0, (inr r.1.0, r.1.1))
+
+module _ (t : Task) (cs : List Choice) (w : IsWanted t cs) where
+  whole : CanHappen (scale_of t) (begin t) (timed_all (rising cs))
+  whole = subst (λ xs. CanHappen (scale_of t) (begin t) (timed_all xs)) (take_whole (rising cs)) (w.can (length (rising cs)))
+
+  -- what is wanted can begin
+  can_begin : (x : Choice) → In x (rising cs) → CanBegin t x.number
+  can_begin x i = record {
+    event = x.event;
+    is = w.are x (in_rising cs x i);
+    can = parts_happen (scale_of t) (begin t) (rising cs) (made_of (scale_of t) (begin t) (timed_all (rising cs))) whole (x ∷ []) (tt, tt) only;
+  }
+    where
+      only : (c : Choice) → In c (x ∷ []) → In c (rising cs)
+      only c (inl e) = subst (λ y. In y (rising cs)) (sym e) i
+      only c (inr j) = absurd j
+
+  -- and interferes with none that is wanted before it
+  is_apart : (n : ℕ) (x : Choice) → In x (rising cs) → AllByRecursion (λ (c : Choice). c.number < x.number) (take n (rising cs)) → IsApart t (numbers (take n (rising cs))) x.number
+  is_apart n x i before b j k =
+      let p = in_numbers (take n (rising cs)) b j in
+      let d : Choice = p.0 in
+      let d_in : In d (rising cs) = in_take n (rising cs) d p.1.0 in
+      let below : d.number < x.number = all_at (λ (c : Choice). c.number < x.number) (take n (rising cs)) before d p.1.0 in
+      let one : k.one ≡ d.event = same_event (slice_get t.actions.items b) k.one d.event k.is_one (ap (slice_get t.actions.items) p.1.1 ∙ w.are d (in_rising cs d d_in)) in
+      let other : k.other ≡ x.event = same_event (slice_get t.actions.items x.number) k.other x.event k.is_other (w.are x (in_rising cs x i)) in
+      let free : interferes d.event x.event ≡ false = apart_in (rising cs) whole.separate d x d_in i (λ e. absurd (omega arith)) in
+      true≢false (sym k.meet ∙ (ap₂ interferes one other ∙ free))
+
 pub start : (t : Task) → IsRunning t ([] ∷ []) 0
 start t = record {
   all_nodes = (record { few = omega arith; actions = tt }, tt);
@@ -114,7 +172,7 @@ module _ (t : Task) (nodes : List (List ℕ)) (i : ℕ) (run : IsRunning t nodes
     not_at_once = λ steps h. let p : (cs : List Choice) × IsWanted t cs = at_once_wanted t steps h in none_wanted l p.0 p.1;
   }
 
-  module _ (chosen : List ℕ) (l : i < length nodes) (e : chosen ≡ get_or nodes i []) (unfit : ¬ IsValidPlan t (steps_at chosen)) (first : ℕ) (least : (a : ℕ) → AllByRecursion (λ b. b < a) chosen → first ≤ a) (new : List (List ℕ)) (h : HasChildren (length t.actions.items) first (length t.actions.items) chosen nodes new) where
+  module _ (chosen : List ℕ) (l : i < length nodes) (e : chosen ≡ get_or nodes i []) (unfit : ¬ IsValidPlan t (steps_at chosen)) (first : ℕ) (least : (a : ℕ) → AllByRecursion (λ b. b < a) chosen → first ≤ a) (among : List ℕ) (known : AreCandidates t (length t.actions.items) among) (new : List (List ℕ)) (h : HasChildren t first among chosen nodes new) where
     new_open : drop (suc i) new ≡ drop (suc i) nodes ++ h.more
     new_open = ap (drop (suc i)) h.is ∙ drop_append (suc i) nodes h.more (omega arith)
 
@@ -124,8 +182,8 @@ module _ (t : Task) (nodes : List (List ℕ)) (i : ℕ) (run : IsRunning t nodes
         let a : ℕ = x.next.number in
         let few : length chosen < 512 = subst (λ ys. length ys < 512) q (subst (λ z. z < 512) (sym (numbers_length (take n (rising cs)))) (omega (arith, take_length n (rising cs), w.few))) in
         let above : AllByRecursion (λ b. b < a) chosen = subst (AllByRecursion (λ b. b < a)) q (all_numbers a (take n (rising cs)) x.after) in
-        let known : a < length t.actions.items = below_count t.actions.items a (Instant x.next.event) (w.are x.next (in_rising cs x.next x.is_in)) in
-        (suc n, subst (λ ys. In ys h.more) (ap (λ ys. ys ++ a ∷ []) (sym q) ∙ (sym (numbers_more (take n (rising cs)) x.next) ∙ ap numbers (sym x.longer))) (h.made a few (least a above) known))
+        let there : a < length t.actions.items = below_count t.actions.items a (Instant x.next.event) (w.are x.next (in_rising cs x.next x.is_in)) in
+        (suc n, subst (λ ys. In ys h.more) (ap (λ ys. ys ++ a ∷ []) (sym q) ∙ (sym (numbers_more (take n (rising cs)) x.next) ∙ ap numbers (sym x.longer))) (h.made a few (least a above) (known.all a there (can_begin t cs w x.next x.is_in)) (subst (λ ys. IsApart t ys a) q (is_apart t cs w n x.next x.is_in x.after))))
 
     open_after : (cs : List Choice) → IsWanted t cs → (n : ℕ) → In (numbers (take n (rising cs))) (get_or nodes i [] ∷ drop (suc i) nodes) → (m : ℕ) × In (numbers (take m (rising cs))) (drop (suc i) nodes ++ h.more)
     open_after cs w n (inr j) = (n, in_append_left _ (drop (suc i) nodes) h.more j)
@@ -143,6 +201,12 @@ module _ (t : Task) (nodes : List (List ℕ)) (i : ℕ) (run : IsRunning t nodes
       root = λ q. absurd (omega arith);
       not_empty = λ k. empty_not chosen e unfit;
     }
+
+-- an action of which that event is the only one
+pub only_is : (o : Option Body) (e : GroundEvent) → Some e ≡ option_and_then (λ b. part_of b Only) o → o ≡ Some (Instant e)
+only_is None e h = absurd (cc)
+only_is (Some (Instant x)) e h = ap (option_map (λ y. Instant y)) (sym h)
+only_is (Some (Durative start end invariant)) e h = absurd (cc)
 
 -- the plan of a node ends at once
 pub plan_at_once : (as' : List ℕ) → length as' ≤ 512 → IsPlan (steps_at as')

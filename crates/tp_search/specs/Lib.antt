@@ -3,5 +3,6 @@ pub mod Promised
 pub mod AtOnce
 pub mod Answers
 pub mod Chains
+pub mod Possible
 pub mod Children
 pub mod Running

@@ -1,7 +1,15 @@
 //! Search for plans, by rising number of goal conjuncts that are missing, up to a budget of expansions.
+//!
+//! - `found`: what a search answers
+//! - `seeking`: nodes taken from a frontier and expanded, `search`
+//! - `certify`: what is found is judged by the validator
+//! - `at_once`, `arena`: plans of instantaneous steps at tick 0, looked at where no node is left
+//! - `laws`: what is known of plans, whatever the search does
 #![tactic(auto)]
 
 mod arena;
+mod at_once;
+mod certify;
 mod found;
 mod laws;
 mod seeking;

@@ -1,129 +1,99 @@
-//! The loop of the search.
+//! The search: nodes are taken from a frontier and expanded, up to a budget.
 
-ghost use Rattle.std.specs.Prelude.{◌≡◌, ◌≤◌, ◌<◌, ℕ, [], true, length, nat_lt, slice_index_or, IfOk, MatchOption, OnOk};
-ghost use Rattle.std.specs.List.{list_all, AllByRecursion};
+ghost use Rattle.std.specs.Prelude.{◌≡◌, ◌≤◌, [], true, IfOk, IfSome};
+ghost use Rattle.tp_ground.specs.Reach as spec;
 ghost use Rattle.tp_validate.specs.OfTask.{IsValidPlan};
 ghost use Rattle.tp_reach.specs.TaskReach.{GoalIs};
-ghost use Rattle.tp_search.specs.Children.{IsNode, HasChildren};
-ghost use Rattle.tp_search.specs.Running.{step_at, steps_at};
+ghost use Rattle.tp_search.specs.Plans.{EndsBy};
 ghost use Rattle.tp_search.specs.Answers.{IsAnswer};
 
-use crate::arena::Arena;
+use crate::at_once::{judge, plan_at_once};
+use crate::certify::certified;
 use crate::found::{Found, SearchFault};
 use std::alloc::{AllocError, Global};
-use tp_ground::{ActionId, Task};
-use tp_happen::{Plan, Step};
-use tp_reach::goal_in_reach;
-use tp_validate::{ValidPlan, ValidateFault, Verdict, validate};
+use tp_frontier::{Chosen, Frontier};
+use tp_ground::Task;
+use tp_happen::Step;
+use tp_reach::{met, reach};
+use tp_validate::ValidPlan;
 
-// A step at tick 0.
-fn step_at(action: u32) -> Step
-    ensures { result ≡ step_at action }
-{
+fn step_of(chosen: &Chosen) -> Step {
     Step {
-        tick: 0,
-        action: ActionId(action),
-        duration: 0,
+        tick: chosen.tick,
+        action: chosen.action,
+        duration: chosen.duration,
     }
 }
 
-fn steps_of(alloc: Global, chosen: &[u32]) -> Result<Vec<Step>, AllocError>
-    ensures { IfOk result (λ v. v.items ≡ steps_at chosen.now) }
-{
-    chosen.iter().map(|action| step_at(*action)).collect(alloc)
+fn steps_of(alloc: Global, chosen: &[Chosen]) -> Result<Vec<Step>, AllocError> {
+    chosen.iter().map(step_of).collect(alloc)
 }
 
-// The plan that a node's choices make.
-fn plan_of(alloc: Global, chosen: &[u32]) -> Result<Plan, AllocError>
-    requires { length chosen.now ≤ 512 }
-    ensures { IfOk result (λ p. p ≡ steps_at chosen.now) }
-{
-    let steps = steps_of(alloc, chosen)?;
-    Ok(Plan::new(steps))
-}
-
-// The validated plan of a node, None where it is not valid.
-#[tactic(auto, using(crate::proofs::Loop::of_task))]
-fn judge<'t>(
+// The plan of a node that is one by its own account, if it is valid.
+fn plan_at<'t>(
     alloc: Global,
     task: &'t Task,
-    chosen: &[u32],
-) -> Result<Option<ValidPlan<'t>>, SearchFault>
-    requires { IsNode (length task.now.actions.items) chosen.now }
-    ensures { IfOk result (λ r. MatchOption r (¬ IsValidPlan task.now (steps_at chosen.now))
-        (λ v. (v.task ≡ task.now) × (v.steps ≡ steps_at chosen.now) × IsValidPlan task.now (steps_at chosen.now))) }
-{
-    let plan = plan_of(alloc, chosen)?;
-    match validate(alloc, task, plan) {
-        Ok(Verdict::Valid(valid)) => Ok(Some(valid)),
-        Ok(Verdict::Invalid { .. }) => Ok(None),
-        Err(ValidateFault::Memory(_)) => Err(SearchFault::Memory),
-        Err(ValidateFault::Range(_)) => Err(SearchFault::Range),
-    }
-}
-
-// The number after the last one chosen.
-fn first_after(chosen: &[u32]) -> u32
-    requires { AllByRecursion (λ a. a < 65535) chosen.now }
-    ensures { (a : ℕ) → AllByRecursion (λ b. b < a) chosen.now → result ≤ a }
-{
-    match chosen.last() {
-        Some(last) => *last + 1,
-        None => 0,
-    }
-}
-
-// Expands a node: for each action from the first on, the node that chooses it next.
-fn expand(
-    arena: &mut Arena,
+    frontier: &Frontier<'_>,
     node: u32,
-    chosen: &[u32],
-    first: u32,
-    count: u32,
-) -> Result<(), AllocError>
-    requires known { node < length arena.old }
-    requires chosen { chosen.now ≡ slice_index_or arena.old node [] }
-    requires is_node { IsNode count chosen.now }
-    ensures { OnOk result (HasChildren count first count chosen.now arena.old arena.new) }
+    horizon: u32,
+) -> Result<Option<ValidPlan<'t>>, SearchFault>
+    ensures { IfOk result (λ r. IfSome r (λ v. (v.task ≡ task.now) × EndsBy horizon v.steps × IsValidPlan task.now v.steps)) }
 {
-    if chosen.len() >= 512 {
-        return Ok(());
-    }
-    for action in first..count {
-        arena.add(node, action)?;
-    }
-    Ok(())
+    let chosen = frontier.steps(node)?;
+    let steps = steps_of(alloc, &chosen)?;
+    certified(alloc, task, horizon, steps)
 }
 
-// Takes nodes in the order in which they were made, until one is a plan or the budget is spent.
-fn run<'t>(
+// Takes nodes until one is a plan, the budget is spent or none is left.
+fn seek<'t>(
     alloc: Global,
     task: &'t Task,
+    frontier: &mut Frontier<'_>,
+    budget: u32,
+    horizon: u32,
+) -> Result<Found<'t>, SearchFault>
+    requires in_reach { GoalIs task.now true }
+    requires not_empty { ¬ IsValidPlan task.now [] }
+    ensures { IfOk result (IsAnswer task.now budget horizon) }
+{
+    let mut expanded = 0;
+    while let Some((node, done)) = frontier.take()? {
+        if done {
+            if let Some(plan) = plan_at(alloc, task, frontier, node, horizon)? {
+                return Ok(Found::Plan(plan));
+            }
+        }
+        if expanded >= budget {
+            return Ok(Found::Spent(expanded));
+        }
+        frontier.expand(node)?;
+        expanded += 1;
+    }
+    plan_at_once(alloc, task, budget, horizon)
+}
+
+// The search of a task whose goal is in relaxed reach, over what is in reach.
+fn seek_in<'t>(
+    alloc: Global,
+    task: &'t Task,
+    reached: &[bool],
     budget: u32,
     horizon: u32,
 ) -> Result<Found<'t>, SearchFault>
     requires { GoalIs task.now true }
     ensures { IfOk result (IsAnswer task.now budget horizon) }
 {
-    let count = task.actions.len() as u32;
-    let mut arena = Arena::new(alloc);
-    let mut expanded = 0;
-    while let Some(chosen) = arena.chosen(alloc, expanded)? {
-        if let Some(plan) = judge(alloc, task, &chosen)? {
-            return Ok(Found::Plan(plan));
-        }
-        if expanded >= budget {
-            return Ok(Found::Spent(expanded));
-        }
-        let first = first_after(&chosen);
-        expand(&mut arena, expanded, &chosen, first, count)?;
-        expanded += 1;
+    if let Some(plan) = judge(alloc, task, &[])? {
+        return Ok(Found::Plan(plan));
     }
-    Ok(Found::Exhausted)
+    let mut frontier = Frontier::new(alloc, task, reached, horizon)?;
+    seek(alloc, task, &mut frontier, budget, horizon)
 }
 
-/// Searches for a plan, with at most so many expansions, each of which makes a node for each action and validates one.
-/// Only instantaneous actions at tick 0 are chosen as yet.
+/// Searches for a plan that ends by a horizon, with at most so many expansions. Nodes are taken by the least number of
+/// goal conjuncts that they lack, and then in the order in which they were made. It takes the time and memory of the
+/// nodes made, and what the relaxed reach takes; where no node is left, also a look at all sets of actions that can
+/// happen at once at tick 0.
 #[tactic(auto, using(crate::proofs::Unreachable::unreachable))]
 pub fn search<'t>(
     alloc: Global,
@@ -133,8 +103,9 @@ pub fn search<'t>(
 ) -> Result<Found<'t>, SearchFault>
     ensures { IfOk result (IsAnswer task.now budget horizon) }
 {
-    if goal_in_reach(alloc, task)? {
-        run(alloc, task, budget, horizon)
+    let reached = reach(alloc, task)?;
+    if met(&reached, true, &task.goal) {
+        seek_in(alloc, task, &reached, budget, horizon)
     } else {
         Ok(Found::Unreachable)
     }

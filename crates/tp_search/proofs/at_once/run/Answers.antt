@@ -4,13 +4,13 @@ use Rattle.tp_validate.specs.OfTask.{IsValidPlan}
 use Rattle.tp_search.specs.Children.{IsNode, HasChildren}
 use Rattle.tp_search.specs.Running.{IsRunning, steps_at}
 use Rattle.tp_search.proofs.Loop.{finds, exhausted, spent, next_running, chosen_is_node, small_actions}
-use Rattle.tp_search.proofs.seeking.run.Goals as goal
+use Rattle.tp_search.proofs.at_once.run.Goals as goal
 
 pub returns-in-Some-2 : goal.returns-in-Some-2
-returns-in-Some-2 c = finds c.args.task.now c.args.horizon c.deref.result.now c.in-Some-2.plan c.requires (rw c.in-Some-2.is at c.in_ok-plan.ensures)
+returns-in-Some-2 c = finds c.args.task.now c.args.horizon c.deref.result.now c.in-Some-2.plan c.requires.in_reach (rw c.in-Some-2.is at c.in_ok-plan.ensures)
 
 pub returns : goal.returns
-returns c = exhausted c.args.task.now c.loop-arena.arena c.loop-arena.expanded c.loop-arena.invariant.running c.requires (rw c.in_default.is at c.in_ok-chosen.ensures)
+returns c = exhausted c.args.task.now c.loop-arena.arena c.loop-arena.expanded c.loop-arena.invariant.running c.requires.in_reach (rw c.in_default.is at c.in_ok-chosen.ensures)
 
 pub first_after-first-requires : goal.first_after-first-requires
 first_after-first-requires c =
@@ -25,13 +25,11 @@ loop-arena-preserved c =
     let xs = c.in-Some.chosen.items in
     let first = c.first_after-first.result in
     let p : (c.loop-arena.expanded < length c.loop-arena.arena) × (xs ≡ get_or c.loop-arena.arena c.loop-arena.expanded []) = rw c.in-Some.is at c.in_ok-chosen.ensures in
-    let count : c.len-count.result ≡ length t.actions.items = c.len-count.ensures ∙ t.actions.ok.0 in
     let unfit : ¬ IsValidPlan t (steps_at xs) = subst (λ ys. ¬ IsValidPlan t (steps_at ys)) c.deref.ensures.value (rw c.in_default-2.is at c.in_ok-plan.ensures) in
     let least : (a : ℕ) → AllByRecursion (λ b. b < a) xs → first ≤ a = λ a h. c.first_after-first.ensures a (subst (AllByRecursion (λ b. b < a)) (sym c.deref-in-Some.ensures.value) h) in
-    let h : HasChildren (length t.actions.items) first (length t.actions.items) xs c.loop-arena.arena c.expand.new.arena =
-    subst (λ n. HasChildren n first n xs c.loop-arena.arena c.expand.new.arena) count
-    (subst (λ ys. HasChildren c.len-count.result first c.len-count.result ys c.loop-arena.arena c.expand.new.arena) c.deref-in-Some-2.ensures.value c.in_ok-expand.ensures) in
+    let h : HasChildren t first c.args.candidates.now xs c.loop-arena.arena c.expand.new.arena =
+    subst (λ ys. HasChildren t first c.args.candidates.now ys c.loop-arena.arena c.expand.new.arena) c.deref-in-Some-2.ensures.value c.in_ok-expand.ensures in
     record {
-      running = subst (λ n. IsRunning t c.expand.new.arena n) (sym (add-one c.loop-arena.expanded)) (next_running t c.loop-arena.arena c.loop-arena.expanded c.loop-arena.invariant.running xs p.0 p.1 unfit first least c.expand.new.arena h);
+      running = subst (λ n. IsRunning t c.expand.new.arena n) (sym (add-one c.loop-arena.expanded)) (next_running t c.loop-arena.arena c.loop-arena.expanded c.loop-arena.invariant.running xs p.0 p.1 unfit first least c.args.candidates.now c.requires.all c.expand.new.arena h);
       few = omega arith;
     }

@@ -1,0 +1,7 @@
+use Rattle.std.proofs.Common.{◌≡◌, ◌&&◌, true, length, nat_le, le-leb, sym, ap, ◌∙◌}
+use Rattle.std.specs.List.{list_all}
+use Rattle.tp_search.specs.Plans.{is_step_within}
+use Rattle.tp_search.proofs.certify.is_plan_within.Goals as goal
+
+pub returns-then-steps-le512 : goal.returns-then-steps-le512
+returns-then-steps-le512 c = c.all_within.ensures ∙ sym (ap (λ b. b && list_all (is_step_within c.args.task.now c.args.horizon) c.args.steps.now) (le-leb (length c.args.steps.now) 512 c.if-steps-le512.true))
