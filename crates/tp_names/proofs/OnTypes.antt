@@ -7,7 +7,7 @@ use Rattle.tp_ast.specs.TypedLists.{has_twice}
 use Rattle.std.specs.Str.{bytes_eq}
 use Rattle.std.specs.Cmp.Lexicographic.{bytes_decides}
 use Rattle.std.proofs.lemmas.List.Folds.{list_any-append}
-use Rattle.indexmap.specs.IndexSet.{insert_key}
+use Rattle.tp_types.specs.NameSets.{insert_key}
 use Rattle.tp_ast.specs.Symbols.{Name, Parent, parent_view}
 use Rattle.tp_ast.specs.declared.types.TypeName.{TypeName}
 use Rattle.tp_ast.specs.Domains.{object, is_object, mentioned, with_mentioned, no_circle, types_from}

@@ -10,7 +10,6 @@ ghost use Rattle.tp_ast.specs.Terms.{shapes};
 ghost use Rattle.tp_ast.specs.Gives.{Gives};
 
 use crate::typed::{item_place, typed_list};
-use indexmap::IndexSet;
 use std::alloc::{AllocError, Global};
 use std::rc::Rc;
 use tp_ast::fault::SyntaxFault;
@@ -19,6 +18,7 @@ use tp_ast::types::TypeName;
 use tp_ast::words::Items;
 use tp_text::Tree;
 use tp_types::circles::no_circle;
+use tp_types::names::NameSet;
 use tp_types::table::second_named;
 
 // The type that is named first, or `object`.
@@ -100,10 +100,10 @@ fn without_object(alloc: Global, listed: &[TypeName]) -> Result<Vec<TypeName>, A
 }
 
 // The names that are known: `object` and those of these types.
-fn known_names<'a>(alloc: Global, types: &'a [TypeName]) -> Result<IndexSet<&'a str>, AllocError>
-    ensures { IfOk result (λ s. Knows s.keys (object ∷ map (λ p. p.name) (map parent_view types.now))) }
+fn known_names<'a>(alloc: Global, types: &'a [TypeName]) -> Result<NameSet<'a>, AllocError>
+    ensures { IfOk result (λ s. Knows s (object ∷ map (λ p. p.name) (map parent_view types.now))) }
 {
-    let mut known = IndexSet::new(alloc);
+    let mut known = NameSet::new(alloc);
     known.insert("object")?;
     for declared in types {
         known.insert(declared.name.as_str())?;
@@ -122,11 +122,11 @@ fn below_object(alloc: Global, name: &str) -> Result<TypeName, AllocError>
 // Declares a parent by its mention, if it is not known.
 fn mention<'a>(
     alloc: Global,
-    known: &mut IndexSet<&'a str>,
+    known: &mut NameSet<'a>,
     done: &mut Vec<TypeName>,
     parent: &'a str,
 ) -> Result<(), AllocError>
-    ensures { OnOk result ((p : Parent) (ps : List Parent) → p.parent ≡ parent.now → to_mention done.new.items known.new.keys ps ≡ to_mention done.old.items known.old.keys (p ∷ ps)) }
+    ensures { OnOk result ((p : Parent) (ps : List Parent) → p.parent ≡ parent.now → to_mention done.new.items known.new ps ≡ to_mention done.old.items known.old (p ∷ ps)) }
 {
     if !known.insert(parent)? {
         return Ok(());

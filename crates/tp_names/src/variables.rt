@@ -1,12 +1,12 @@
 //! Variables that are found by their names.
 
 ghost use Rattle.std.specs.Prelude.{◌≡◌, ℕ, List, map, option_map, IfOk, OnOk};
-ghost use Rattle.std.specs.HashMap.{get_by_text};
+ghost use Rattle.std.specs.BTreeMap.{get_by_text};
 ghost use Rattle.tp_types.specs.Tables.{item_of, or_place};
 ghost use Rattle.tp_names.specs.VariableTables.{variable_name, IsTextTable};
 
-use indexmap::IndexMap;
 use std::alloc::{AllocError, Global};
+use std::collections::BTreeMap;
 use std::marker::Model;
 use tp_ast::symbols::Typed;
 use tp_types::lookup::first_named;
@@ -18,7 +18,7 @@ const FEW: usize = 8;
 #[derive(Drop)]
 pub struct Variables {
     items: Vec<Typed>,
-    places: Option<IndexMap<String, usize>>,
+    places: Option<BTreeMap<String, usize>>,
 }
 
 impl Model for Variables {
@@ -37,7 +37,7 @@ impl Model for Variables {
 // Puts a name at a place if it has none.
 fn put(
     alloc: Global,
-    places: &mut IndexMap<String, usize>,
+    places: &mut BTreeMap<String, usize>,
     name: &str,
     place: usize,
 ) -> Result<(), AllocError>
@@ -52,10 +52,10 @@ fn put(
 }
 
 // Where each name stands first.
-fn places(alloc: Global, items: &[Typed]) -> Result<IndexMap<String, usize>, AllocError>
+fn places(alloc: Global, items: &[Typed]) -> Result<BTreeMap<String, usize>, AllocError>
     ensures { IfOk result (λ m. IsTextTable m (map variable_name items.now)) }
 {
-    let mut places = IndexMap::new(alloc);
+    let mut places = BTreeMap::new(alloc);
     for (place, item) in items.iter().enumerate() {
         put(alloc, &mut places, item.name.as_str(), place)?;
     }
@@ -64,7 +64,7 @@ fn places(alloc: Global, items: &[Typed]) -> Result<IndexMap<String, usize>, All
 
 fn at_place<'a>(
     items: &'a [Typed],
-    places: &IndexMap<String, usize>,
+    places: &BTreeMap<String, usize>,
     name: &str,
 ) -> Option<&'a Typed>
     requires { IsTextTable places.now (map variable_name items.now) }

@@ -150,12 +150,12 @@ fn functions(
 }
 
 // The actions over what the other sections declare.
-fn actions_over(
+fn actions_over<'d>(
     alloc: Global,
-    types: Types,
-    constants: &[Typed],
-    predicates: &[Signature],
-    functions: &[Signature],
+    types: Types<'d>,
+    constants: &'d [Typed],
+    predicates: &'d [Signature],
+    functions: &'d [Signature],
     parts: &[SectionBody],
 ) -> Result<Vec<Action>, SyntaxFault>
     ensures { Gives (λ v. map action_view v.items) result (actions_once (domain_symbols (types_view types.entry) (map typed_view constants.now) (map form_view predicates.now) (map form_view functions.now)) (map part_view parts.now)) }

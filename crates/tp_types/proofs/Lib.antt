@@ -3,3 +3,4 @@ pub mod OnTables
 pub mod OnCircles
 pub mod OnJumps
 pub mod OnMarks
+pub mod OnNames

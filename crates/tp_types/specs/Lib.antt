@@ -4,3 +4,4 @@ pub mod Jumps
 pub mod TypeTables
 pub mod TypeViews
 pub mod Marks
+pub mod NameSets

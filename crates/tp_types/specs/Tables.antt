@@ -1,7 +1,9 @@
 -- Where names stand in a list.
 use Rattle.std.specs.Prelude.{◌≡◌, ℕ, ◌+◌, List, [], ◌∷◌, if◌then◌else◌, Option, Some, None, option_map}
 use Rattle.std.specs.Borrow.{Bor}
-use Rattle.std.specs.HashMap.{HashMap, get_by}
+use Rattle.std.specs.BTreeMap.{BTreeMap, get_by}
+use Rattle.std.specs.Cmp.Lexicographic.{slice_cmp}
+use Rattle.std.specs.Ordering.{nat_cmp}
 use Rattle.std.specs.Str.{bytes_eq}
 
 abbrev pub Name : Type 0
@@ -12,17 +14,18 @@ abbrev pub place_of : Name → List Name → Option ℕ
 place_of n [] = None
 place_of n (m ∷ ms) = if bytes_eq m n then Some 0 else option_map (λ k. k + 1) (place_of n ms)
 
-abbrev pub Table : Type 0 → Type 0
-Table S = HashMap (Bor (List ℕ)) ℕ S
+-- names in order, each with a place
+abbrev pub Table : Type 0
+Table = BTreeMap (Bor (List ℕ)) ℕ
 
-abbrev pub found : {S : Type 0} → Table S → Name → Option ℕ
-found t n = get_by (λ k. bytes_eq n k.now) t
+abbrev pub found : Table → Name → Option ℕ
+found t n = get_by (λ k. slice_cmp nat_cmp n k.now) t
 
 -- it has the first place of each name
-abbrev pub IsTable : {S : Type 0} → Table S → List Name → Type 0
+abbrev pub IsTable : Table → List Name → Type 0
 IsTable t ns = (n : Name) → found t n ≡ place_of n ns
 
-abbrev pub IsTableIfAny : {S : Type 0} → Option (Table S) → List Name → Type 0
+abbrev pub IsTableIfAny : Option Table → List Name → Type 0
 IsTableIfAny (Some t) ns = IsTable t ns
 IsTableIfAny None ns = Unit {0}
 

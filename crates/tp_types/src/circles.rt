@@ -8,13 +8,13 @@ ghost use Rattle.tp_ast.specs.Symbols.{parent_view, parent_of, at_or_below};
 ghost use Rattle.tp_types.specs.Tables.{IsTable};
 
 use crate::table::places;
-use indexmap::IndexMap;
 use std::alloc::{AllocError, Global};
+use std::collections::BTreeMap;
 use tp_ast::types::TypeName;
 
 pub fn parent_of<'a>(
     types: &'a [TypeName],
-    places: &IndexMap<&'a str, usize>,
+    places: &BTreeMap<&str, usize>,
     name: &str,
 ) -> Option<&'a String>
     requires { IsTable places.now (map type_name types.now) }
@@ -32,7 +32,7 @@ pub fn parent_of<'a>(
 // Whether a type is below `object`, in as many steps at the most as there are types.
 fn is_below_object<'a>(
     types: &'a [TypeName],
-    places: &IndexMap<&'a str, usize>,
+    places: &BTreeMap<&'a str, usize>,
     start: &'a String,
 ) -> bool
     requires { IsTable places.now (map type_name types.now) }
@@ -53,7 +53,7 @@ fn is_below_object<'a>(
     current.as_str() == "object"
 }
 
-fn are_below_object<'a>(types: &'a [TypeName], places: &IndexMap<&'a str, usize>) -> bool
+fn are_below_object<'a>(types: &'a [TypeName], places: &BTreeMap<&'a str, usize>) -> bool
     requires { IsTable places.now (map type_name types.now) }
     ensures { result ≡ no_circle (map parent_view types.now) }
 {
@@ -68,7 +68,7 @@ fn are_below_object<'a>(types: &'a [TypeName], places: &IndexMap<&'a str, usize>
 // The rank of a type by its first place; that of `object` is 0.
 pub fn rank_of<'a>(
     types: &'a [TypeName],
-    places: &IndexMap<&'a str, usize>,
+    places: &BTreeMap<&'a str, usize>,
     ranks: &[usize],
     name: &str,
 ) -> Option<usize>
@@ -88,7 +88,7 @@ pub fn rank_of<'a>(
 // Whether a type's rank is above its parent's.
 fn is_ranked<'a>(
     types: &'a [TypeName],
-    places: &IndexMap<&'a str, usize>,
+    places: &BTreeMap<&'a str, usize>,
     ranks: &[usize],
     name: &str,
 ) -> bool
@@ -109,7 +109,7 @@ fn is_ranked<'a>(
 
 pub fn are_ranked<'a>(
     types: &'a [TypeName],
-    places: &IndexMap<&'a str, usize>,
+    places: &BTreeMap<&'a str, usize>,
     ranks: &[usize],
 ) -> bool
     requires { IsTable places.now (map type_name types.now) }
@@ -126,7 +126,7 @@ pub fn are_ranked<'a>(
 // How many steps a type is from `object` or from a type that has a rank, and that rank.
 fn way_up<'a>(
     types: &'a [TypeName],
-    places: &IndexMap<&'a str, usize>,
+    places: &BTreeMap<&'a str, usize>,
     ranks: &[usize],
     start: usize,
 ) -> Option<(usize, usize)> {
@@ -148,7 +148,7 @@ fn way_up<'a>(
 // Gives a type and those above it their ranks, down from this one.
 fn rank_up<'a>(
     types: &'a [TypeName],
-    places: &IndexMap<&'a str, usize>,
+    places: &BTreeMap<&'a str, usize>,
     ranks: &mut [usize],
     start: usize,
     highest: usize,
@@ -173,7 +173,7 @@ fn rank_up<'a>(
 pub fn ranks<'a>(
     alloc: Global,
     types: &'a [TypeName],
-    places: &IndexMap<&'a str, usize>,
+    places: &BTreeMap<&'a str, usize>,
 ) -> Result<Vec<usize>, AllocError> {
     let mut ranks = vec![in alloc; 0; types.len()]?;
     for start in 0..types.len() {
@@ -188,7 +188,7 @@ pub fn ranks<'a>(
 }
 
 // Whether this type is one that is not below `object`.
-fn is_apart<'a>(types: &'a [TypeName], places: &IndexMap<&'a str, usize>, suspect: usize) -> bool
+fn is_apart<'a>(types: &'a [TypeName], places: &BTreeMap<&'a str, usize>, suspect: usize) -> bool
     requires { IsTable places.now (map type_name types.now) }
     ensures { result ≡ true → no_circle (map parent_view types.now) ≡ false }
 {

@@ -9,14 +9,14 @@ ghost use Rattle.tp_ast.specs.Symbols.{parent_view, at_or_below};
 ghost use Rattle.tp_types.specs.Tables.{IsTable};
 
 use crate::circles::{parent_of, rank_of};
-use indexmap::IndexMap;
 use std::alloc::{AllocError, Global};
+use std::collections::BTreeMap;
 use tp_ast::types::TypeName;
 
 /// The name of a type that is declared, as it stands there.
 pub fn own_name<'a>(
     types: &'a [TypeName],
-    places: &IndexMap<&'a str, usize>,
+    places: &BTreeMap<&'a str, usize>,
     name: &str,
 ) -> Option<&'a String>
     ensures { IfSome result (λ n. string_bytes n.now ≡ name.now) }
@@ -35,7 +35,7 @@ pub fn own_name<'a>(
 
 fn jump_of<'a>(
     types: &'a [TypeName],
-    places: &IndexMap<&'a str, usize>,
+    places: &BTreeMap<&'a str, usize>,
     jumps: &[usize],
     name: &str,
 ) -> Option<&'a String>
@@ -57,7 +57,7 @@ fn jump_of<'a>(
 // Whether a type's jump, if it has one, leads to its parent, or where two jumps from the parent lead.
 fn is_jump<'a>(
     types: &'a [TypeName],
-    places: &IndexMap<&'a str, usize>,
+    places: &BTreeMap<&'a str, usize>,
     jumps: &[usize],
     name: &str,
 ) -> bool
@@ -84,7 +84,7 @@ fn is_jump<'a>(
 
 pub fn are_jumps<'a>(
     types: &'a [TypeName],
-    places: &IndexMap<&'a str, usize>,
+    places: &BTreeMap<&'a str, usize>,
     jumps: &[usize],
 ) -> bool
     requires { IsTable places.now (map type_name types.now) }
@@ -124,7 +124,7 @@ fn jump_above(ranks: &[usize], jumps: &[usize], parent: usize) -> usize {
 pub fn jumps<'a>(
     alloc: Global,
     types: &'a [TypeName],
-    places: &IndexMap<&'a str, usize>,
+    places: &BTreeMap<&'a str, usize>,
     ranks: &[usize],
 ) -> Result<Vec<usize>, AllocError> {
     let mut order = Vec::new(alloc);
@@ -150,7 +150,7 @@ pub fn jumps<'a>(
 // A type above another: where a jump leads, unless that is above a rank, or else the parent.
 fn next_up<'a>(
     types: &'a [TypeName],
-    places: &IndexMap<&'a str, usize>,
+    places: &BTreeMap<&'a str, usize>,
     ranks: &[usize],
     jumps: &[usize],
     name: &str,
@@ -174,7 +174,7 @@ fn next_up<'a>(
 /// Whether a type is another, or stands below it. Nothing where one of them has no rank.
 pub fn climb<'a>(
     types: &'a [TypeName],
-    places: &IndexMap<&'a str, usize>,
+    places: &BTreeMap<&'a str, usize>,
     ranks: &[usize],
     jumps: &[usize],
     start: &'a str,

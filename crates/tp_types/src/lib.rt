@@ -5,6 +5,7 @@ pub mod circles;
 pub mod jumps;
 pub mod lookup;
 pub mod marks;
+pub mod names;
 pub mod once;
 pub mod table;
 pub mod types;

@@ -4,15 +4,15 @@ ghost use Rattle.std.specs.Prelude.{◌≡◌, map, option_map, IfOk};
 ghost use Rattle.tp_types.specs.Tables.{IsTable, item_of};
 
 use crate::table::{Named, places};
-use indexmap::IndexMap;
 use std::alloc::{AllocError, Global};
+use std::collections::BTreeMap;
 use std::marker::Model;
 
 /// A list whose items are found by their names: in a table, or else by a walk over the list.
 #[derive(Drop)]
 pub struct Lookup<'a, T: Named> {
     items: &'a [T],
-    places: Option<IndexMap<&'a str, usize>>,
+    places: Option<BTreeMap<&'a str, usize>>,
 }
 
 impl<'a, T: Named> Model for Lookup<'a, T> {
@@ -41,7 +41,7 @@ pub fn first_named<'a, T: Named>(items: &'a [T], name: &str) -> Option<&'a T>
 
 fn at_place<'a, T: Named>(
     items: &'a [T],
-    places: &IndexMap<&'a str, usize>,
+    places: &BTreeMap<&'a str, usize>,
     name: &str,
 ) -> Option<&'a T>
     requires { IsTable places.now (map T.named items.now) }

@@ -9,8 +9,9 @@ ghost use Rattle.tp_types.specs.Tables.{Name, IsTable};
 ghost use Rattle.tp_ast.specs.Symbols.{parent_view, types_fit};
 
 use crate::circles::parent_of;
-use indexmap::{IndexMap, IndexSet};
+use crate::names::NameSet;
 use std::alloc::{AllocError, Global};
+use std::collections::BTreeMap;
 use tp_ast::types::TypeName;
 
 /// What is left of a list behind the front that it shares with another: types that are in both fit.
@@ -33,10 +34,10 @@ pub fn past_shared<'a>(argument: &'a [String], parameter: &[String]) -> &'a [Str
 }
 
 // A mark on each of these types.
-fn marked<'a>(alloc: Global, parameter: &'a [String]) -> Result<IndexSet<&'a str>, AllocError>
-    ensures { IfOk result (λ s. (n : Name) → has_mark s.keys n ≡ list_any (bytes_eq n) (map string_bytes parameter.now)) }
+fn marked<'a>(alloc: Global, parameter: &'a [String]) -> Result<NameSet<'a>, AllocError>
+    ensures { IfOk result (λ s. (n : Name) → has_mark s n ≡ list_any (bytes_eq n) (map string_bytes parameter.now)) }
 {
-    let mut marks = IndexSet::new(alloc);
+    let mut marks = NameSet::new(alloc);
     for name in parameter {
         marks.insert(name.as_str())?;
     }
@@ -46,15 +47,15 @@ fn marked<'a>(alloc: Global, parameter: &'a [String]) -> Result<IndexSet<&'a str
 // Whether a type leads up to a mark, in no more steps than there are types.
 fn leads_to_mark<'a>(
     types: &'a [TypeName],
-    places: &IndexMap<&'a str, usize>,
+    places: &BTreeMap<&str, usize>,
     ranks: &[usize],
     parameter: &[String],
-    marks: &IndexSet<&'a str>,
+    marks: &NameSet<'a>,
     start: &'a String,
 ) -> Option<bool>
     requires table { IsTable places.now (map type_name types.now) }
     requires ranked { list_all (is_ranked types.now ranks.now) (map type_name types.now) ≡ true }
-    requires marks { AreMarks types.now (map string_bytes parameter.now) marks.now.keys }
+    requires marks { AreMarks types.now (map string_bytes parameter.now) marks.now }
     ensures { IfSome result (λ b. b ≡ fits types.now (map string_bytes parameter.now) (string_bytes start.now)) }
 {
     let _ = ranks;
@@ -77,17 +78,17 @@ fn leads_to_mark<'a>(
 // Marks a type that fits and those above it, as far as the first that is marked.
 fn mark_way<'a>(
     types: &'a [TypeName],
-    places: &IndexMap<&'a str, usize>,
+    places: &BTreeMap<&str, usize>,
     ranks: &[usize],
     parameter: &[String],
-    marks: &mut IndexSet<&'a str>,
+    marks: &mut NameSet<'a>,
     start: &'a String,
 ) -> Result<(), AllocError>
     requires table { IsTable places.now (map type_name types.now) }
     requires ranked { list_all (is_ranked types.now ranks.now) (map type_name types.now) ≡ true }
-    requires marks { AreMarks types.now (map string_bytes parameter.now) marks.old.keys }
+    requires marks { AreMarks types.now (map string_bytes parameter.now) marks.old }
     requires fits { fits types.now (map string_bytes parameter.now) (string_bytes start.now) ≡ true }
-    ensures { OnOk result (AreMarks types.now (map string_bytes parameter.now) marks.new.keys) }
+    ensures { OnOk result (AreMarks types.now (map string_bytes parameter.now) marks.new) }
 {
     let _ = ranks;
     let _ = parameter;
@@ -112,7 +113,7 @@ fn mark_way<'a>(
 pub fn fit_by_marks<'a>(
     alloc: Global,
     types: &'a [TypeName],
-    places: &IndexMap<&'a str, usize>,
+    places: &BTreeMap<&str, usize>,
     ranks: &[usize],
     argument: &'a [String],
     parameter: &'a [String],

@@ -6,8 +6,8 @@ ghost use Rattle.tp_types.specs.Tables.{IsTable, found, or_place};
 ghost use Rattle.tp_ast.specs.TypedLists.{has_twice};
 
 use crate::once::second_mention;
-use indexmap::IndexMap;
 use std::alloc::{AllocError, Global};
+use std::collections::BTreeMap;
 use tp_ast::action::Action;
 use tp_ast::symbols::{Signature, Typed};
 use tp_ast::types::TypeName;
@@ -22,7 +22,7 @@ pub trait Named {
 
 // Puts a name at a place if it has none.
 fn put<'a>(
-    places: &mut IndexMap<&'a str, usize>,
+    places: &mut BTreeMap<&'a str, usize>,
     name: &'a str,
     place: usize,
 ) -> Result<(), AllocError>
@@ -39,10 +39,10 @@ fn put<'a>(
 pub fn places<'a, T: Named>(
     alloc: Global,
     items: &'a [T],
-) -> Result<IndexMap<&'a str, usize>, AllocError>
+) -> Result<BTreeMap<&'a str, usize>, AllocError>
     ensures { IfOk result (λ m. IsTable m (map T.named items.now)) }
 {
-    let mut places = IndexMap::new(alloc);
+    let mut places = BTreeMap::new(alloc);
     for (place, item) in items.iter().enumerate() {
         put(&mut places, item.name(), place)?;
     }

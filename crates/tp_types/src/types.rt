@@ -10,8 +10,8 @@ use crate::circles::{are_ranked, parent_of as parent_in, ranks};
 use crate::jumps::{are_jumps, climb, jumps, own_name};
 use crate::marks::{fit_by_marks, past_shared};
 use crate::table::{Named, places};
-use indexmap::IndexMap;
 use std::alloc::{AllocError, Global};
+use std::collections::BTreeMap;
 use std::marker::Model;
 use std::rc::Rc;
 use tp_ast::types::TypeName;
@@ -26,7 +26,7 @@ pub struct Types<'a> {
 // Where each type stands, its rank, and the place of a type further up.
 #[derive(Drop)]
 pub struct TypeTable<'a> {
-    pub places: IndexMap<&'a str, usize>,
+    pub places: BTreeMap<&'a str, usize>,
     pub ranks: Vec<usize>,
     pub jumps: Vec<usize>,
 }

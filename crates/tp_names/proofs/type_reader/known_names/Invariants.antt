@@ -5,4 +5,4 @@ use Rattle.tp_names.specs.FormViews.{Knows}
 use Rattle.tp_names.proofs.type_reader.known_names.Given as goal
 
 abbrev pub invariant-loop-declared : goal.invariant-loop-declared
-invariant-loop-declared l = Knows l.known.keys (object ∷ map (λ p. p.name) (map parent_view (take l.declared-index l.types)))
+invariant-loop-declared l = Knows l.known (object ∷ map (λ p. p.name) (map parent_view (take l.declared-index l.types)))

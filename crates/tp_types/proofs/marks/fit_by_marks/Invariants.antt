@@ -5,6 +5,6 @@ use Rattle.tp_types.proofs.marks.fit_by_marks.Given as goal
 
 abbrev pub invariant-loop-below : goal.invariant-loop-below
 invariant-loop-below l = record {
-  marks : AreMarks l.types (map string_bytes l.parameter) l.marks.keys;
+  marks : AreMarks l.types (map string_bytes l.parameter) l.marks;
   rest : types_fit (map parent_view l.types) (map string_bytes (drop l.below-index l.argument)) (map string_bytes l.parameter) ≡ types_fit (map parent_view l.types) (map string_bytes l.argument) (map string_bytes l.parameter);
 }

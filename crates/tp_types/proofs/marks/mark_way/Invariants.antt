@@ -4,7 +4,7 @@ use Rattle.tp_types.proofs.marks.mark_way.Given as goal
 
 abbrev pub invariant-up : goal.invariant-up
 invariant-up l = record {
-  marks : AreMarks l.types (map string_bytes l.parameter) l.marks.keys;
+  marks : AreMarks l.types (map string_bytes l.parameter) l.marks;
   fits : fits l.types (map string_bytes l.parameter) (string_bytes l.current) ≡ true;
 }
 

@@ -6,4 +6,4 @@ use Rattle.tp_types.specs.Marks.{has_mark}
 use Rattle.tp_types.proofs.marks.marked.Given as goal
 
 abbrev pub invariant-loop-name : goal.invariant-loop-name
-invariant-loop-name l = (n : Name) → has_mark l.marks.keys n ≡ list_any (bytes_eq n) (map string_bytes (take l.name-index l.parameter))
+invariant-loop-name l = (n : Name) → has_mark l.marks n ≡ list_any (bytes_eq n) (map string_bytes (take l.name-index l.parameter))
