@@ -1,8 +1,9 @@
 -- What contracts see of a network that is repaired.
-use Rattle.std.specs.Prelude.{ℕ, List, Option, None, refl}
+use Rattle.std.specs.Prelude.{ℕ, ◌+◌, ◌*◌, List, Option, None, refl}
+use Rattle.std.specs.FinMap.{len}
 use Rattle.std.specs.Coded.{Coded, code_by, coded×, coded_ℕ}
 use Rattle.tp_bounds.specs.declared.Bound.{Bound}
-use Rattle.tp_bounds.specs.Situation.{Situation}
+use Rattle.tp_bounds.specs.Situation.{Situation, event_count}
 use Rattle.tp_bounds.specs.Codes.{coded_situation}
 use Rattle.tp_bounds.specs.Held.{held}
 
@@ -17,3 +18,7 @@ coded_told = code_by (Situation × ℕ) (coded× coded_situation coded_ℕ) (λ 
 -- the situation that the fields give
 abbrev pub settled : ℕ → ℕ → List (ℕ × Bound) → List (Option ℕ) → List ℕ → Situation
 settled horizon clock bounds fixed lags = record { horizon = horizon; clock = clock; bounds = held bounds; fixed = fixed; lags = lags; proposed = None }
+
+-- how many edges a situation has: its bounds, and two of each event with the origin
+abbrev pub edge_count : Situation → ℕ
+edge_count s = len s.bounds + 2 * event_count s

@@ -13,6 +13,7 @@ ghost use Rattle.tp_net.specs.Graph.{HasNoSolution};
 ghost use Rattle.tp_net.specs.Moments.{AreExact, HoldsLeast};
 ghost use Rattle.tp_repair.specs.Store.{arcs_of, names_of, kept_arcs, AreHalves, SamePoints, keys_of};
 ghost use Rattle.tp_repair.specs.Engine.{IsWired, AreSame, IsEntered, IsUntouched};
+ghost use Rattle.tp_repair.specs.Work.{AreCounted};
 ghost use Rattle.tp_repair.specs.Bringing.{IsBrought, IsUnbrought, IsRecorded, IsMore};
 ghost use Rattle.tp_repair.specs.declared.store.Direction.TheVariants.{Up, Down};
 
@@ -116,6 +117,7 @@ pub fn bring(
     requires key { get nat_cmp keys.old id.0 ≡ None }
     ensures ok { IfOk result (λ r. IsBrought id bound engine.old engine.new bounds.old bounds.new keys.old keys.new r) }
     ensures err { OnErr result (IsUnbrought engine.old engine.new bounds.old bounds.new keys.old keys.new) }
+    ensures counted { IfOk result (λ r. AreCounted engine.old.store (length engine.old.low.items) engine.new.up.amounts.items engine.new.down.amounts.items 0 engine.new.looks r) }
     ensures looks { (edges : ℕ) → IsWired (length engine.old.low.items) edges engine.old → engine.new.looks ≤ 2 * (edges + 1) }
 {
     let new = arc(&bound);

@@ -1,5 +1,10 @@
 //! A network for bounds between any two points that is repaired from change to change.
-ghost use Rattle.std.specs.Prelude.{◌≡◌, ◌≢◌, ℕ, ◌+◌, ◌*◌, ◌<◌, ◌≤◌, ◌∷◌, length, IfOk, MatchOption, map, replicate, suc, Some, None};
+ghost use Rattle.std.specs.Prelude.{◌≡◌, ◌≢◌, ◌↔◌, ℕ, ◌+◌, ◌*◌, ◌<◌, ◌≤◌, ◌∷◌, length, IfOk, OnOk, OnErr, MatchOption, map, replicate, suc, true, false, Some, None};
+ghost use Rattle.std.specs.FinMap as finite;
+ghost use Rattle.tp_bounds.specs.Situation.{event_count, fixed_at, floor_of, HasPoint, IsInRange};
+ghost use Rattle.tp_bounds.specs.Changes.{with_bound, proposing, at_moment, with_fixed};
+ghost use Rattle.tp_net.specs.Faults.{RefusesBy, IsNew, IsNow, IsPastOf, SaysBetween, IsBetween};
+ghost use Rattle.tp_repair.specs.Told.{edge_count};
 ghost use Rattle.std.specs.Ordering.{nat_cmp};
 ghost use Rattle.std.specs.BTreeMap.{BTreeMap, get};
 ghost use Rattle.tp_net.specs.NewNet.{new_situation};
@@ -220,7 +225,20 @@ impl Net for RepairNet {
         self.engine.high[usize::from(e) + 1] as u32
     }
 
-    fn add(&mut self, id: BoundId, bound: Bound) -> Result<(), NetFault> {
+    /// It looks at each edge and at the new one at most once a direction, and where the bound is taken at the new one
+    /// twice.
+    fn add(&mut self, id: BoundId, bound: Bound) -> Result<(), NetFault>
+        requires from { HasPoint self.old.situation bound.from }
+        requires to { HasPoint self.old.situation bound.to }
+        requires weight { IsInRange bound.w }
+        requires unused { finite.get self.old.situation.bounds id.0 ≡ None }
+        ensures ok { OnOk result (self.new.situation ≡ with_bound self.old.situation id.0 bound) }
+        ensures err { OnErr result (self.new.situation ≡ self.old.situation) }
+        ensures exact { RefusesBy IsNew (proposing self.old.situation bound) (with_bound self.old.situation id.0 bound) result }
+        ensures between { SaysBetween result ↔ ((true ≡ false) × IsBetween bound) }
+        ensures most { self.new.looks ≤ 2 * (edge_count self.old.situation + 1) }
+        ensures some { OnOk result (2 ≤ self.new.looks) }
+    {
         self.engine.looks = 0;
         // there are no more identifiers
         if self.bounds.len() > u32::MAX as usize {
@@ -252,7 +270,16 @@ impl Net for RepairNet {
         Ok(())
     }
 
-    fn raise(&mut self, now: u32) -> Result<(), NetFault> {
+    /// Where now stays it looks at no edge.
+    fn raise(&mut self, now: u32) -> Result<(), NetFault>
+        requires forward { self.old.situation.clock ≤ now }
+        requires in_time { now ≤ self.old.situation.horizon }
+        ensures ok { OnOk result (self.new.situation ≡ at_moment self.old.situation now) }
+        ensures err { OnErr result (self.new.situation ≡ self.old.situation) }
+        ensures exact { RefusesBy IsNow (at_moment self.old.situation now) (at_moment self.old.situation now) result }
+        ensures between { ¬ SaysBetween result }
+        ensures still { now ≡ self.old.situation.clock → self.new.looks ≡ 0 }
+    {
         self.engine.looks = 0;
         if now == self.clock {
             return Ok(());
@@ -268,7 +295,18 @@ impl Net for RepairNet {
         Ok(())
     }
 
-    fn fix(&mut self, e: u16, moment: u32) -> Result<(), NetFault> {
+    /// It looks at the two new edges, and at those of points that move.
+    fn fix(&mut self, e: u16, moment: u32) -> Result<(), NetFault>
+        requires event { e < event_count self.old.situation }
+        requires free { fixed_at self.old.situation e ≡ None }
+        requires floor { floor_of self.old.situation e ≤ moment }
+        requires in_time { moment ≤ self.old.situation.horizon }
+        ensures ok { OnOk result (self.new.situation ≡ with_fixed self.old.situation e moment) }
+        ensures err { OnErr result (self.new.situation ≡ self.old.situation) }
+        ensures exact { RefusesBy (IsPastOf e) (with_fixed self.old.situation e moment) (with_fixed self.old.situation e moment) result }
+        ensures between { ¬ SaysBetween result }
+        ensures some { OnOk result (2 ≤ self.new.looks) }
+    {
         self.engine.looks = 0;
         let alloc = *self.fixed.allocator();
         let point = usize::from(e) + 1;

@@ -64,6 +64,64 @@ fn goes_on(net: &mut RepairNet) -> bool {
         && ask(net, Change::Fix(1, 59)) == Answer::Conflict(Some(Edge::PastHigh(1)), 3)
 }
 
+/// A loop that no schedule goes round is refused after few looks, however far the horizon is.
+fn refuses_a_loop(net: &mut RepairNet) -> bool {
+    takes(net, add(0, ZERO, ONE, -1))
+        && net.looks() <= 32
+        && ask(net, add(1, ONE, ZERO, 0)) == Answer::Conflict(Some(Edge::New), 2)
+        && 1 <= net.looks()
+        && net.looks() <= 40
+        && has_window(net, 0, 1, 1_000_000_000)
+        && has_window(net, 1, 0, 999_999_999)
+}
+
+/// What is not tight is not looked at: now stays, a bound that holds no moment leaves.
+fn looks_at_little(net: &mut RepairNet) -> bool {
+    takes(net, add(0, ORIGIN, ZERO, 10))
+        && takes(net, add(1, ZERO, ONE, 95))
+        && takes(net, Change::Remove(1))
+        && net.looks() == 1
+        && takes(net, Change::Raise(0))
+        && net.looks() == 0
+        && takes(net, Change::Fix(1, 0))
+        && 2 <= net.looks()
+        && has_window(net, 0, 0, 10)
+}
+
+/// A chain that its end holds goes back where one of its bounds leaves.
+fn goes_back(net: &mut RepairNet) -> bool {
+    takes(net, add(0, ONE, ZERO, -20))
+        && takes(net, add(1, ONE, ORIGIN, -50))
+        && takes(net, add(2, ORIGIN, ONE, 60))
+        && takes(net, add(3, ZERO, ONE, 30))
+        && has_window(net, 0, 20, 40)
+        && takes(net, Change::Remove(1))
+        && has_window(net, 0, 0, 40)
+        && has_window(net, 1, 20, 60)
+        && takes(net, Change::Remove(2))
+        && has_window(net, 0, 0, 80)
+        && has_window(net, 1, 20, 100)
+        && takes(net, Change::Remove(0))
+        && has_window(net, 0, 0, 100)
+        && has_window(net, 1, 0, 100)
+}
+
+#[test]
+fn looks_are_few(rt: HostRuntime) -> Result<(), Fail> {
+    let mut far = RepairNet::new(rt.alloc(), 2, 1_000_000_000)?;
+    assert!(rt; refuses_a_loop(&mut far));
+    let mut near = network(rt.alloc(), 2)?;
+    assert!(rt; looks_at_little(&mut near));
+    Ok(())
+}
+
+#[test]
+fn moments_go_back(rt: HostRuntime) -> Result<(), Fail> {
+    let mut net = network(rt.alloc(), 2)?;
+    assert!(rt; goes_back(&mut net));
+    Ok(())
+}
+
 #[test]
 fn bounds_come_and_go(rt: HostRuntime) -> Result<(), Fail> {
     let mut net = network(rt.alloc(), 2)?;

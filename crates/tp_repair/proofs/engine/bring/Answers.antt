@@ -1,9 +1,10 @@
 use Rattle.std.proofs.Common.{rules, ◌≡◌, ◌+◌, length, refl, ap, subst, ◌∙◌}
+use Rattle.std.specs.Prelude.{Some, None}
 use Rattle.tp_bounds.specs.declared.Edge.TheVariants.{Own}
 use Rattle.tp_net.specs.Arcs.{arc_of}
 use Rattle.tp_repair.specs.declared.engine.Engine.{Engine}
 use Rattle.tp_repair.specs.Store.{arcs_of, keys_of}
-use Rattle.tp_repair.specs.Work.{Rises, Falls, IsTightened}
+use Rattle.tp_repair.specs.Work.{Rises, Falls, IsTightened, AreCounted}
 use Rattle.tp_repair.specs.Bringing.{IsUnbrought}
 use Rattle.tp_repair.specs.declared.store.Direction.TheVariants.{Up, Down}
 use Rattle.tp_repair.proofs.Wires.{sum_same, sum_more, entered_exact}
@@ -68,3 +69,23 @@ returns-clause-ok c =
       exact = entered_exact (Own c.args.id) new e.ok.0 g.store.nodes.slots c.enter.new.store.nodes.slots e.ok.1 g.low.items g.high.items c.tighten.new.up.amounts.items c.tighten.new.down.amounts.items c.move_up.new.low.items c.move_down.new.high.items
           t.0 t.1 c.requires.exact.len c.move_up.ensures.len c.move_down.ensures.len c.move_up.ensures.each c.move_down.ensures.each;
     }
+
+pub returns-in-Some-clause-counted : goal.returns-in-Some-clause-counted
+returns-in-Some-clause-counted c =
+    let g : Engine = c.args.engine.now in
+    let len : length c.deref.result.now ≡ length g.low.items = ap (λ xs. length xs) c.deref.ensures.value in
+    let up = c.tighten.new.up.amounts.items in
+    let down = c.tighten.new.down.amounts.items in
+    let h = subst (λ o. AreCounted g.store (length c.deref.result.now) up down g.looks c.tighten.new.looks o) c.in-Some.is c.in_ok-path.ensures.looks in
+    let k = subst (λ n. AreCounted g.store n up down g.looks c.tighten.new.looks (Some c.in-Some.path)) len h in
+    subst (λ z. AreCounted g.store (length g.low.items) up down z c.tighten.new.looks (Some c.in-Some.path)) c.requires.looks k
+
+pub returns-clause-counted : goal.returns-clause-counted
+returns-clause-counted c =
+    let g : Engine = c.args.engine.now in
+    let len : length c.deref.result.now ≡ length g.low.items = ap (λ xs. length xs) c.deref.ensures.value in
+    let up = c.tighten.new.up.amounts.items in
+    let down = c.tighten.new.down.amounts.items in
+    let h = subst (λ o. AreCounted g.store (length c.deref.result.now) up down g.looks c.tighten.new.looks o) c.in_default.is c.in_ok-path.ensures.looks in
+    let k = subst (λ n. AreCounted g.store n up down g.looks c.tighten.new.looks None) len h in
+    subst (λ z. AreCounted g.store (length g.low.items) up down z c.tighten.new.looks None) c.requires.looks k

@@ -1,21 +1,23 @@
-use Rattle.std.proofs.Common.{◌≡◌, ◌<◌, ◌^◌, None, length, refl, sym, subst, ap, ◌∙◌, arith}
+use Rattle.std.proofs.Common.{◌≡◌, ◌+◌, ◌*◌, ◌<◌, ◌^◌, None, length, refl, sym, subst, ap, ◌∙◌, arith}
 use Rattle.std.specs.FinMap.{FinMap, get}
 use Rattle.std.specs.Ordering.{nat_cmp}
 use Rattle.tp_bounds.specs.declared.Bound.{Bound}
 use Rattle.tp_bounds.specs.declared.Edge.TheVariants.{New}
-use Rattle.tp_bounds.specs.Situation.{Situation, HasPoint}
+use Rattle.tp_bounds.specs.Situation.{Situation, HasPoint, event_count}
 use Rattle.tp_bounds.specs.Changes.{with_bound, proposing}
 use Rattle.tp_bounds.specs.Schedule.{HasSchedule}
 use Rattle.tp_net.specs.Arcs.{arc_of, NamesCycle}
 use Rattle.tp_net.specs.Faults.{Refutes, IsNew}
+use Rattle.tp_net.proofs.HeldLemmas.{held_len}
 use Rattle.tp_bounds.proofs.HeldMaps.{get_held}
 use Rattle.tp_net.proofs.KeptMoments.{refused_add, kept_possible}
-use Rattle.tp_repair.specs.Told.{Told, settled}
+use Rattle.tp_repair.specs.Told.{Told, settled, edge_count}
 use Rattle.tp_repair.specs.declared.engine.Engine.{Engine}
 use Rattle.tp_repair.specs.Store.{names_of, kept_arcs}
 use Rattle.tp_repair.specs.Engine.{IsRepaired}
+use Rattle.tp_repair.specs.Work.{AreCounted}
 use Rattle.tp_repair.specs.Bringing.{IsBrought, IsBroughtIn, IsUnbrought}
-use Rattle.tp_repair.proofs.Repaired.{small_low, small_high, weights, among, kept, with_looks, relooked, repaired_brought, repaired_unbrought}
+use Rattle.tp_repair.proofs.Repaired.{wired_here, small_low, small_high, weights, among, kept, with_looks, relooked, repaired_brought, repaired_unbrought}
 use Rattle.tp_repair.proofs.net.RepairNetNet.add.Goals as goal
 
 pub bring-requires-clause-small_low : goal.bring-requires-clause-small_low
@@ -124,3 +126,57 @@ returns-clause-exact c =
     let few : n < 2 ^ 32 = omega (arith, c.if-len.false, c.len.ensures.len) in
     let brought = repaired_brought s n i.keys c.bring.new.keys i.floors.items i.ends.items g0 g' c.args.id c.args.bound i.bounds c.bring.new.bounds r none from to c.requires.weight b refl few in
     subst (λ (t : Told). HasSchedule (with_bound t.situation c.args.id.0 c.args.bound)) c.self.view_is (kept_possible _ _ _ _ _ (kept _ _ _ _ _ _ brought))
+
+pub returns-clause-some : goal.returns-clause-some
+returns-clause-some c =
+    let g0 : Engine = with_looks c.self.inside.engine 0 in
+    let h = subst (λ o. AreCounted g0.store (length g0.low.items) c.bring.new.engine.up.amounts.items c.bring.new.engine.down.amounts.items 0 c.bring.new.engine.looks o) c.in_default.is c.in_ok-path.ensures.counted in
+    omega (arith, h)
+
+pub returns-in_err-path-clause-most : goal.returns-in_err-path-clause-most
+returns-in_err-path-clause-most c =
+    let i = c.self.inside in
+    let s : Situation = settled i.horizon i.clock i.bounds.entries i.fixed.items i.lags.items in
+    let n = length i.bounds.entries in
+    let g0 : Engine = with_looks i.engine 0 in
+    let r : IsRepaired s n i.keys i.floors.items i.ends.items g0 = relooked s n i.keys i.floors.items i.ends.items i.engine 0 c.self.invariant in
+    let most = c.bring.ensures.looks (n + 2 * event_count s) (wired_here s n i.keys i.floors.items i.ends.items g0 r) in
+    let held = held_len i.bounds c.len.ensures.ordered in
+    let told : edge_count s ≡ edge_count c.args.self.now.situation = ap (λ (t : Told). edge_count t.situation) c.self.view_is in
+    omega (arith, most, held, told)
+
+pub returns-in_err-reason-clause-most : goal.returns-in_err-reason-clause-most
+returns-in_err-reason-clause-most c =
+    let i = c.self.inside in
+    let s : Situation = settled i.horizon i.clock i.bounds.entries i.fixed.items i.lags.items in
+    let n = length i.bounds.entries in
+    let g0 : Engine = with_looks i.engine 0 in
+    let r : IsRepaired s n i.keys i.floors.items i.ends.items g0 = relooked s n i.keys i.floors.items i.ends.items i.engine 0 c.self.invariant in
+    let most = c.bring.ensures.looks (n + 2 * event_count s) (wired_here s n i.keys i.floors.items i.ends.items g0 r) in
+    let held = held_len i.bounds c.len.ensures.ordered in
+    let told : edge_count s ≡ edge_count c.args.self.now.situation = ap (λ (t : Told). edge_count t.situation) c.self.view_is in
+    omega (arith, most, held, told)
+
+pub returns-in-Some-clause-most : goal.returns-in-Some-clause-most
+returns-in-Some-clause-most c =
+    let i = c.self.inside in
+    let s : Situation = settled i.horizon i.clock i.bounds.entries i.fixed.items i.lags.items in
+    let n = length i.bounds.entries in
+    let g0 : Engine = with_looks i.engine 0 in
+    let r : IsRepaired s n i.keys i.floors.items i.ends.items g0 = relooked s n i.keys i.floors.items i.ends.items i.engine 0 c.self.invariant in
+    let most = c.bring.ensures.looks (n + 2 * event_count s) (wired_here s n i.keys i.floors.items i.ends.items g0 r) in
+    let held = held_len i.bounds c.len.ensures.ordered in
+    let told : edge_count s ≡ edge_count c.args.self.now.situation = ap (λ (t : Told). edge_count t.situation) c.self.view_is in
+    omega (arith, most, held, told)
+
+pub returns-clause-most : goal.returns-clause-most
+returns-clause-most c =
+    let i = c.self.inside in
+    let s : Situation = settled i.horizon i.clock i.bounds.entries i.fixed.items i.lags.items in
+    let n = length i.bounds.entries in
+    let g0 : Engine = with_looks i.engine 0 in
+    let r : IsRepaired s n i.keys i.floors.items i.ends.items g0 = relooked s n i.keys i.floors.items i.ends.items i.engine 0 c.self.invariant in
+    let most = c.bring.ensures.looks (n + 2 * event_count s) (wired_here s n i.keys i.floors.items i.ends.items g0 r) in
+    let held = held_len i.bounds c.len.ensures.ordered in
+    let told : edge_count s ≡ edge_count c.args.self.now.situation = ap (λ (t : Told). edge_count t.situation) c.self.view_is in
+    omega (arith, most, held, told)
