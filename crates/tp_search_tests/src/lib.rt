@@ -1,0 +1,10 @@
+//! Searches of small tasks, with answers worked out by hand.
+//!
+//! - `seeking`: what a search answers, as a text
+//! - `worlds`: matches, switches, tanks and charges
+#![tactic(auto)]
+
+#[cfg(test)]
+mod seeking;
+#[cfg(test)]
+mod worlds;
