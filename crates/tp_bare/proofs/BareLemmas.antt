@@ -41,7 +41,7 @@ line_within (b ∷ bs) line rest h = go (nat_eq b 10) (lines_of bs) h (λ l ls i
         let behind : length l ≤ length bs = tail l ls refl in
         omega (arith, ap length more, behind)
 
-end_lags : (xs ys zs text lags : List ℕ) (may : ℕ) → xs ≡ text ++ ys → ys ≡ lags ++ zs → NoLagNext (Some zs) may → 4_294_967_296 ≤ may + (length text + length lags) → EndLags xs (lines_of zs)
+pub end_lags : (xs ys zs text lags : List ℕ) (may : ℕ) → xs ≡ text ++ ys → ys ≡ lags ++ zs → NoLagNext (Some zs) may → 4_294_967_296 ≤ may + (length text + length lags) → EndLags xs (lines_of zs)
 end_lags xs ys zs text lags may first more stop most = λ line rest is.
     (elim (stop line rest is) [
       | inl none ↦ inl none
