@@ -24,7 +24,8 @@ unfoldable pub fields_of : Shapes → Option (List Field)
 fields_of no_shapes = Some []
 fields_of (shape (node ss) rest) = None
 fields_of (shape (leaf w) no_shapes) = None
-fields_of (shape (leaf w) (shape s rest)) = key_of w >>= λ k. option_map (λ fs. record { key = k; value = s } ∷ fs) (fields_of rest)
+fields_of (shape (leaf w) (shape s rest)) =
+    key_of w >>= λ k. option_map (λ fs. record { key = k; value = s } ∷ fs) (fields_of rest)
 
 abbrev pub key_number : Key → ℕ
 key_number Parameters = 0

@@ -82,7 +82,9 @@ are_terms no_shapes = true
 are_terms (shape s ss) = is_term s && are_terms ss
 
 abbrev pub equated : Symbols → List Declared → List Argument → Option Condition
-equated σ scope (a ∷ b ∷ []) = provided (is_some (argument_types σ.objects scope a) && is_some (argument_types σ.objects scope b)) (same a b)
+equated σ scope (a ∷ b ∷ []) =
+    provided (is_some (argument_types σ.objects scope a)
+    && is_some (argument_types σ.objects scope b)) (same a b)
 equated σ scope _ = None
 
 abbrev pub related : Head → List Expression → Option Condition
@@ -93,11 +95,13 @@ abbrev pub equality : Symbols → List Declared → Shapes → Option Condition
 equality σ scope rest = terms_of rest >>= equated σ scope
 
 abbrev pub relation : Symbols → List Declared → Head → Shapes → Option Condition
-relation σ scope h rest = expressions_of σ (record { scope = scope; duration = false }) rest >>= related h
+relation σ scope h rest =
+    expressions_of σ (record { scope = scope; duration = false }) rest >>= related h
 
 -- a condition that has none inside
 unfoldable pub simple : Symbols → List Declared → Head → List ℕ → Shapes → Option Condition
-simple σ scope Equal w rest = if are_terms rest then equality σ scope rest else relation σ scope Equal rest
+simple σ scope Equal w rest =
+    if are_terms rest then equality σ scope rest else relation σ scope Equal rest
 simple σ scope Less w rest = relation σ scope Less rest
 simple σ scope AtMost w rest = relation σ scope AtMost rest
 simple σ scope AtLeast w rest = relation σ scope AtLeast rest
@@ -123,7 +127,9 @@ unfoldable mutual
   -- (VARS) C
   pub bound_condition : Symbols → List Declared → Head → Shapes → Option Condition
   bound_condition σ scope h no_shapes = None
-  bound_condition σ scope h (shape vars rest) = parameters_at σ.types vars >>= λ vs. option_map (bound h vs) (only_condition σ (vs ++ scope) rest)
+  bound_condition σ scope h (shape vars rest) =
+      parameters_at σ.types vars >>= λ vs.
+      option_map (bound h vs) (only_condition σ (vs ++ scope) rest)
 
   pub only_condition : Symbols → List Declared → Shapes → Option Condition
   only_condition σ scope no_shapes = None
@@ -132,4 +138,5 @@ unfoldable mutual
 
   pub conditions_of : Symbols → List Declared → Shapes → Option (List Condition)
   conditions_of σ scope no_shapes = Some []
-  conditions_of σ scope (shape s ss) = condition_of σ scope s >>= λ c. option_map (λ cs. c ∷ cs) (conditions_of σ scope ss)
+  conditions_of σ scope (shape s ss) =
+      condition_of σ scope s >>= λ c. option_map (λ cs. c ∷ cs) (conditions_of σ scope ss)

@@ -23,7 +23,12 @@ body_view (Instant c e) = instant (cond_view c) (effect_view e)
 body_view (Durative r c e) = durative (rule_view r) (timed_condition_view c) (timed_effect_view e)
 
 abbrev pub action_view : Action → actions.Action
-action_view a = record { name = string_bytes a.name; parameters = map typed_view a.parameters.items; body = body_view a.body }
+action_view a =
+    record {
+      name = string_bytes a.name;
+      parameters = map typed_view a.parameters.items;
+      body = body_view a.body;
+    }
 
 abbrev pub domain_view : Domain → domains.Domain
 domain_view d = record {

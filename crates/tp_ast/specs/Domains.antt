@@ -56,7 +56,8 @@ no_circle ps = list_all (λ p. at_or_below ps (length ps) p.name object) ps
 abbrev pub types_from : List Parent → Option (List Parent)
 types_from ps =
     let types = with_mentioned (filter (λ p. not (is_object p)) ps) in
-    provided (not (has_twice (map (λ p. p.name) ps)) && (list_all (λ p. not (is_object p) || bytes_eq p.parent object) ps && no_circle types)) types
+    provided (not (has_twice (map (λ p. p.name) ps)) && (list_all
+    (λ p. not (is_object p) || bytes_eq p.parent object) ps && no_circle types)) types
 
 unfoldable pub types_in : Shapes → Option (List Parent)
 types_in ss = typed_list Names ss >>= λ ds. types_from (map type_below ds)
@@ -71,14 +72,17 @@ requirement_at (leaf (b ∷ w)) = provided (b == 58) (lower (b ∷ w))
 
 unfoldable pub requirements_in : Shapes → Option (List Name)
 requirements_in no_shapes = Some []
-requirements_in (shape s ss) = requirement_at s >>= λ n. option_map (λ ns. n ∷ ns) (requirements_in ss)
+requirements_in (shape s ss) =
+    requirement_at s >>= λ n. option_map (λ ns. n ∷ ns) (requirements_in ss)
 
 unfoldable pub objects_in : List Parent → Shapes → Option (List Declared)
 objects_in types ss = typed_list Names ss >>= λ ds. provided (are_declared types ds) ds
 
 -- (NAME VARS)
 unfoldable pub form_at : List Parent → Shape → Option Form
-form_at types (node (shape (leaf w) vars)) = name_of w >>= λ n. option_map (λ vs. record { name = n; parameters = vs }) (parameters_of types vars)
+form_at types (node (shape (leaf w) vars)) =
+    name_of w >>= λ n.
+    option_map (λ vs. record { name = n; parameters = vs }) (parameters_of types vars)
 form_at types _ = None
 
 unfoldable pub forms_of : List Parent → Shapes → Option (List Form)
@@ -100,7 +104,8 @@ unfoldable mutual
 
   pub after_number : List Parent → Shapes → Option (List Form)
   after_number types no_shapes = None
-  after_number types (shape s ss) = elim (is_number s) [ true ↦ numeric_forms types false ss | false ↦ None ]
+  after_number types (shape s ss) =
+      elim (is_number s) [ true ↦ numeric_forms types false ss | false ↦ None ]
 
 abbrev pub named_once : List Form → Option (List Form)
 named_once fs = provided (not (has_twice (map (λ f. f.name) fs))) fs
@@ -113,7 +118,9 @@ pub record Part : Type 0 where
 
 unfoldable pub sections_of : Shapes → Option (List Part)
 sections_of no_shapes = Some []
-sections_of (shape (node (shape (leaf w) body)) rest) = section_of w >>= λ k. option_map (λ ps. record { section = k; body = body } ∷ ps) (sections_of rest)
+sections_of (shape (node (shape (leaf w) body)) rest) =
+    section_of w >>= λ k.
+    option_map (λ ps. record { section = k; body = body } ∷ ps) (sections_of rest)
 sections_of (shape s rest) = None
 
 abbrev pub section_number : Section → ℕ
@@ -141,7 +148,8 @@ is_action _ = false
 -- each but the actions at most once
 abbrev pub each_once : List Part → Bool
 each_once [] = true
-each_once (p ∷ ps) = (is_action p.section || not (list_any (is_section p.section) ps)) && each_once ps
+each_once (p ∷ ps) =
+    (is_action p.section || not (list_any (is_section p.section) ps)) && each_once ps
 
 abbrev pub action_at : Symbols → Section → Shapes → Option (List Action)
 action_at σ sections.Action body = option_map (λ a. a ∷ []) (action_of σ false body)
@@ -150,7 +158,8 @@ action_at σ _ body = Some []
 
 unfoldable pub actions_in : Symbols → List Part → Option (List Action)
 actions_in σ [] = Some []
-actions_in σ (p ∷ ps) = action_at σ p.section p.body >>= λ front. option_map (λ more. front ++ more) (actions_in σ ps)
+actions_in σ (p ∷ ps) =
+    action_at σ p.section p.body >>= λ front. option_map (λ more. front ++ more) (actions_in σ ps)
 
 -- ---- the domain
 
@@ -161,9 +170,22 @@ domain_with n ps =
     objects_in types (section sections.Constants ps) >>= λ constants.
     (forms_of types (section sections.Predicates ps) >>= named_once) >>= λ predicates.
     (numeric_forms types false (section sections.Functions ps) >>= named_once) >>= λ functions.
-    actions_in (record { types = types; objects = constants; predicates = predicates; functions = functions }) ps >>= λ actions.
+    actions_in (record {
+      types = types;
+      objects = constants;
+      predicates = predicates;
+      functions = functions;
+    }) ps >>= λ actions.
     provided (not (has_twice (map (λ a. a.name) actions)))
-    (record { name = n; requirements = requirements; types = types; constants = constants; predicates = predicates; functions = functions; actions = actions })
+    (record {
+      name = n;
+      requirements = requirements;
+      types = types;
+      constants = constants;
+      predicates = predicates;
+      functions = functions;
+      actions = actions;
+    })
 
 -- KIND and a name
 unfoldable pub kind_and_name : List ℕ → Shape → Shape → Option Name
@@ -183,7 +205,8 @@ defined _ = None
 -- (define (domain NAME) SECTION ..)
 unfoldable pub domain_of : Shape → Option Domain
 domain_of (node (shape (leaf d) (shape head rest))) =
-    if is_word (codes "define") d then (named (codes "domain") head >>= λ n. sections_of rest >>= λ ps. provided (each_once ps) ps >>= domain_with n) else None
+    if is_word (codes "define") d then (named (codes "domain") head >>= λ n.
+    sections_of rest >>= λ ps. provided (each_once ps) ps >>= domain_with n) else None
 domain_of _ = None
 
 -- the domain that a text spells

@@ -27,5 +27,6 @@ timed_view f t = record { mark = t.mark; what = f t.what }
 abbrev pub timed_condition_view : Joined (Timed Cond) → parts.Joined (effects.Timed Condition)
 timed_condition_view = joined_view (timed_view cond_view)
 
-abbrev pub timed_effect_view : Joined (Timed (Joined Outcome)) → parts.Joined (effects.Timed effects.Effect)
+abbrev pub timed_effect_view :
+    Joined (Timed (Joined Outcome)) → parts.Joined (effects.Timed effects.Effect)
 timed_effect_view = joined_view (timed_view effect_view)

@@ -36,15 +36,19 @@ deleted σ scope rest = only rest >>= λ s. option_map deletes (atom_at σ σ.pr
 
 -- (OP F X)
 unfoldable pub written : Symbols → Terms → Writing → Shapes → Option Outcome
-written σ may op rest = both rest >>= λ p. atom_at σ σ.functions may.scope p.0 >>= λ a. option_map (writes op a) (expression_of σ may p.1)
+written σ may op rest =
+    both rest >>= λ p.
+    atom_at σ σ.functions may.scope p.0 >>= λ a. option_map (writes op a) (expression_of σ may p.1)
 
 -- what stands behind the word
 unfoldable pub changed : Change → Symbols → Bool → List Declared → List ℕ → Shapes → Option Outcome
 changed Other σ duration scope w rest = option_map adds (atom_in σ σ.predicates scope w rest)
 changed Not σ duration scope w rest = deleted σ scope rest
 changed Assign σ duration scope w rest = written σ (terms_for scope duration) writings.Assign rest
-changed Increase σ duration scope w rest = written σ (terms_for scope duration) writings.Increase rest
-changed Decrease σ duration scope w rest = written σ (terms_for scope duration) writings.Decrease rest
+changed Increase σ duration scope w rest =
+    written σ (terms_for scope duration) writings.Increase rest
+changed Decrease σ duration scope w rest =
+    written σ (terms_for scope duration) writings.Decrease rest
 changed ScaleUp σ duration scope w rest = written σ (terms_for scope duration) writings.ScaleUp rest
 changed ScaleDown σ duration scope w rest = None
 changed When σ duration scope w rest = None
@@ -72,12 +76,15 @@ mark_at w (node ss) = None
 unfoldable pub marked_tree : List ℕ → Shapes → Option (Mark × Shape)
 marked_tree w rest = both rest >>= λ p. option_map (λ m. (m, p.1)) (mark_at w p.0)
 
-unfoldable pub marked : {A : Type 0} → (Mark → Shape → Option A) → List ℕ → Shapes → Option (Timed A)
-marked read w rest = marked_tree w rest >>= λ p. option_map (λ x. record { mark = p.0; what = x }) (read p.0 p.1)
+unfoldable pub marked :
+    {A : Type 0} → (Mark → Shape → Option A) → List ℕ → Shapes → Option (Timed A)
+marked read w rest =
+    marked_tree w rest >>= λ p. option_map (λ x. record { mark = p.0; what = x }) (read p.0 p.1)
 
 -- TC
 abbrev pub timed_condition_of : Symbols → List Declared → Shape → Option (Joined (Timed Condition))
-timed_condition_of σ scope s = joined_of σ.types (λ within. marked (λ m. condition_of σ within)) scope s
+timed_condition_of σ scope s =
+    joined_of σ.types (λ within. marked (λ m. condition_of σ within)) scope s
 
 -- an effect has a start and an end alone
 abbrev pub effect_at : Symbols → List Declared → Mark → Shape → Option Effect
@@ -108,7 +115,9 @@ is_duration (node ss) = false
 
 -- ?duration X
 unfoldable pub limited : Symbols → List Declared → List ℕ → Shapes → Option Rule
-limited σ scope w rest = duration_comparison (head_of w) >>= λ op. both rest >>= λ p. provided (is_duration p.0) p.1 >>= λ x.
+limited σ scope w rest =
+    duration_comparison (head_of w) >>= λ op.
+    both rest >>= λ p. provided (is_duration p.0) p.1 >>= λ x.
     option_map (rule op) (expression_of σ (terms_for scope false) x)
 
 unfoldable pub is_start : Shape → Bool
@@ -133,7 +142,8 @@ unfoldable mutual
   -- 'at start' is not kept
   pub start_rule : Symbols → List Declared → Shapes → Option Rule
   start_rule σ scope no_shapes = None
-  start_rule σ scope (shape s rest) = elim (is_start s) [ true ↦ only_rule σ scope rest | false ↦ None ]
+  start_rule σ scope (shape s rest) =
+      elim (is_start s) [ true ↦ only_rule σ scope rest | false ↦ None ]
 
   pub only_rule : Symbols → List Declared → Shapes → Option Rule
   only_rule σ scope no_shapes = None
@@ -142,4 +152,5 @@ unfoldable mutual
 
   pub rules_of : Symbols → List Declared → Shapes → Option (List Rule)
   rules_of σ scope no_shapes = Some []
-  rules_of σ scope (shape s ss) = rule_of σ scope s >>= λ r. option_map (λ rs. r ∷ rs) (rules_of σ scope ss)
+  rules_of σ scope (shape s ss) =
+      rule_of σ scope s >>= λ r. option_map (λ rs. r ∷ rs) (rules_of σ scope ss)

@@ -28,7 +28,9 @@ abbrev pub terms_for : List Declared → Bool → Terms
 terms_for scope duration = record { scope = scope; duration = duration }
 
 unfoldable pub word_expression : Bool → List ℕ → Option Expression
-word_expression duration w = if duration && is_word (codes "?duration") w then Some the_duration else option_map number (whole_of w)
+word_expression duration w =
+    if duration && is_word (codes "?duration") w then Some the_duration
+    else option_map number (whole_of w)
 
 abbrev pub is_operator : Operator → Bool
 is_operator Other = false
@@ -74,4 +76,5 @@ unfoldable mutual
 
   pub expressions_of : Symbols → Terms → Shapes → Option (List Expression)
   expressions_of σ may no_shapes = Some []
-  expressions_of σ may (shape s ss) = expression_of σ may s >>= λ x. option_map (λ xs. x ∷ xs) (expressions_of σ may ss)
+  expressions_of σ may (shape s ss) =
+      expression_of σ may s >>= λ x. option_map (λ xs. x ∷ xs) (expressions_of σ may ss)

@@ -30,7 +30,8 @@ unfoldable mutual
   joined_of types read scope (leaf w) = None
   joined_of types read scope (node ss) = list_joined types read scope ss
 
-  pub list_joined : {A : Type 0} → List Parent → Reader A → List Declared → Shapes → Option (Joined A)
+  pub list_joined :
+      {A : Type 0} → List Parent → Reader A → List Declared → Shapes → Option (Joined A)
   list_joined types read scope no_shapes = Some (all_parts no_parts)
   list_joined types read scope (shape (node ss) rest) = None
   list_joined types read scope (shape (leaf w) rest) = elim (joint_of w) [
@@ -40,15 +41,20 @@ unfoldable mutual
   ]
 
   -- (VARS), and one more
-  pub bound_parts : {A : Type 0} → List Parent → Reader A → List Declared → Shapes → Option (Joined A)
+  pub bound_parts :
+      {A : Type 0} → List Parent → Reader A → List Declared → Shapes → Option (Joined A)
   bound_parts types read scope no_shapes = None
-  bound_parts types read scope (shape vars rest) = parameters_at types vars >>= λ vs. option_map (for_each vs) (only_part types read (vs ++ scope) rest)
+  bound_parts types read scope (shape vars rest) =
+      parameters_at types vars >>= λ vs.
+      option_map (for_each vs) (only_part types read (vs ++ scope) rest)
 
   pub only_part : {A : Type 0} → List Parent → Reader A → List Declared → Shapes → Option (Joined A)
   only_part types read scope no_shapes = None
   only_part types read scope (shape s no_shapes) = joined_of types read scope s
   only_part types read scope (shape s (shape t ss)) = None
 
-  pub parts_of : {A : Type 0} → List Parent → Reader A → List Declared → Shapes → Option (List (Joined A))
+  pub parts_of :
+      {A : Type 0} → List Parent → Reader A → List Declared → Shapes → Option (List (Joined A))
   parts_of types read scope no_shapes = Some []
-  parts_of types read scope (shape s ss) = joined_of types read scope s >>= λ p. option_map (λ ps. p ∷ ps) (parts_of types read scope ss)
+  parts_of types read scope (shape s ss) =
+      joined_of types read scope s >>= λ p. option_map (λ ps. p ∷ ps) (parts_of types read scope ss)

@@ -33,7 +33,13 @@ pub record Problem : Type 0 where
 
 -- the domain's symbols, and the problem's objects
 abbrev pub symbols_with : Domain → List Declared → Symbols
-symbols_with d objects = record { types = d.types; objects = d.constants ++ objects; predicates = d.predicates; functions = d.functions }
+symbols_with d objects =
+    record {
+      types = d.types;
+      objects = d.constants ++ objects;
+      predicates = d.predicates;
+      functions = d.functions;
+    }
 
 abbrev pub initial_number : Fact → Shape → Option Initial
 initial_number f (leaf w) = option_map (has_value f) (whole_of w)
@@ -93,7 +99,8 @@ pub record Part : Type 0 where
 
 -- (:NAME ..)
 unfoldable pub section_at : Shape → Option Part
-section_at (node (shape (leaf w) body)) = option_map (λ k. record { section = k; body = body }) (problem_section_of w)
+section_at (node (shape (leaf w) body)) =
+    option_map (λ k. record { section = k; body = body }) (problem_section_of w)
 section_at _ = None
 
 unfoldable pub sections_of : Shapes → Option (List Part)
@@ -125,7 +132,9 @@ goal_in σ ss = only ss >>= λ s. condition_of σ [] s
 
 -- none of them a constant
 unfoldable pub new_objects : Domain → Shapes → Option (List Declared)
-new_objects d ss = objects_in d.types ss >>= λ objects. provided (not (has_twice (map (λ o. o.name) (d.constants ++ objects)))) objects
+new_objects d ss =
+    objects_in d.types ss >>= λ objects.
+    provided (not (has_twice (map (λ o. o.name) (d.constants ++ objects)))) objects
 
 -- what holds at first, and what is to hold
 unfoldable pub stated : Symbols → List Part → Option (List Initial × Condition)
@@ -135,7 +144,8 @@ stated σ ps =
     provided (no_clash initial) (initial, goal)
 
 abbrev pub problem_from : Name → List Declared → List Initial × Condition → Problem
-problem_from n objects said = record { name = n; objects = objects; initial = said.0; goal = said.1 }
+problem_from n objects said =
+    record { name = n; objects = objects; initial = said.0; goal = said.1 }
 
 unfoldable pub problem_with : Domain → Name → List Part → Option Problem
 problem_with d n ps =
@@ -145,7 +155,9 @@ problem_with d n ps =
 
 -- the problem's name, beside that of its domain
 unfoldable pub own_name : Domain → Shape → Shape → Option Name
-own_name d head of = named (codes "problem") head >>= λ n. named (codes ":domain") of >>= λ m. provided (bytes_eq m d.name) n
+own_name d head of =
+    named (codes "problem") head >>= λ n.
+    named (codes ":domain") of >>= λ m. provided (bytes_eq m d.name) n
 
 unfoldable pub once_each : Shapes → Option (List Part)
 once_each ss = sections_of ss >>= λ ps. provided (each_once ps) ps

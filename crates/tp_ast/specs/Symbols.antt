@@ -68,9 +68,11 @@ argument_fits ds objects scope a ps = fits_in (argument_types objects scope a) w
   fits_in (Some ts) = types_fit ds ts ps
 
 -- as many arguments as parameters, each of which fits
-abbrev pub arguments_fit : List Parent → List Declared → List Declared → List Argument → List Declared → Bool
+abbrev pub arguments_fit :
+    List Parent → List Declared → List Declared → List Argument → List Declared → Bool
 arguments_fit ds objects scope [] [] = true
-arguments_fit ds objects scope (a ∷ more) (p ∷ ps) = argument_fits ds objects scope a p.types && arguments_fit ds objects scope more ps
+arguments_fit ds objects scope (a ∷ more) (p ∷ ps) =
+    argument_fits ds objects scope a p.types && arguments_fit ds objects scope more ps
 arguments_fit ds objects scope [] (p ∷ ps) = false
 arguments_fit ds objects scope (a ∷ more) [] = false
 
@@ -89,4 +91,5 @@ form_of n (f ∷ fs) = if bytes_eq f.name n then Some f else form_of n fs
 unfoldable pub atom_in : Symbols → List Form → List Declared → List ℕ → Shapes → Option Fact
 atom_in σ forms scope w rest =
     name_of w >>= λ n. form_of n forms >>= λ f. terms_of rest >>= λ ts.
-    provided (arguments_fit σ.types σ.objects scope ts f.parameters) (record { name = n; arguments = ts })
+    provided (arguments_fit σ.types σ.objects scope ts f.parameters)
+    (record { name = n; arguments = ts })

@@ -76,7 +76,8 @@ unfoldable mutual
 
   pub after_dash : Items → Shapes → Option Typing
   after_dash k no_shapes = None
-  after_dash k (shape t ss) = type_at k t >>= λ ts. option_map (λ r. (r.0, ts)) (unless (begins_dash ss) (typing_of k ss))
+  after_dash k (shape t ss) =
+      type_at k t >>= λ ts. option_map (λ r. (r.0, ts)) (unless (begins_dash ss) (typing_of k ss))
 
 abbrev pub run_of : Items → Shapes → Option Typing
 run_of k ss = unless (begins_dash ss) (typing_of k ss)
@@ -102,12 +103,14 @@ is_type types t = bytes_eq t (codes "object") || is_some (parent_of t types)
 
 -- each is named once, and of types that are declared
 abbrev pub are_declared : List Parent → List Declared → Bool
-are_declared types ds = not (has_twice (map (λ d. d.name) ds)) && list_all (λ d. list_all (is_type types) d.types) ds
+are_declared types ds =
+    not (has_twice (map (λ d. d.name) ds)) && list_all (λ d. list_all (is_type types) d.types) ds
 
 -- VARS
 unfoldable pub parameters_of : List Parent → Shapes → Option (List Declared)
 parameters_of types ss = typed_list Variables ss >>= λ vs.
-    provided (are_declared types vs && not (list_any (λ v. bytes_eq v.name (codes "?duration")) vs)) vs
+    provided
+    (are_declared types vs && not (list_any (λ v. bytes_eq v.name (codes "?duration")) vs)) vs
 
 -- (VARS)
 abbrev pub parameters_at : List Parent → Shape → Option (List Declared)

@@ -90,8 +90,10 @@ duration_comparison _ = None
 -- 'at start', 'over all', 'at end'
 unfoldable pub mark_of : List ℕ → List ℕ → Option marks.Mark
 mark_of w v =
-    if is_word (codes "at") w then (if is_word (codes "start") v then Some marks.TheVariants.AtStart else (if is_word (codes "end") v then Some marks.TheVariants.AtEnd else None))
-    else (if is_word (codes "over") w then (if is_word (codes "all") v then Some marks.TheVariants.OverAll else None) else None)
+    if is_word (codes "at") w then (if is_word (codes "start") v then Some marks.TheVariants.AtStart
+    else (if is_word (codes "end") v then Some marks.TheVariants.AtEnd else None))
+    else (if is_word (codes "over") w
+    then (if is_word (codes "all") v then Some marks.TheVariants.OverAll else None) else None)
 
 unfoldable pub key_of : List ℕ → Option keys.Key
 key_of w =

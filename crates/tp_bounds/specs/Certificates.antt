@@ -19,7 +19,8 @@ bounds_of s edges = filter_map (bound_of s) edges
 -- the edges exist in the situation, and lead from one point to the other, each from where the one before ends
 abbrev pub IsChain : Situation → Point → List Edge → Point → Type 0
 IsChain s from [] to = from ≡ to
-IsChain s from (e ∷ es) to = (b : Bound) × (bound_of s e ≡ Some b) × (b.from ≡ from) × IsChain s b.to es to
+IsChain s from (e ∷ es) to =
+    (b : Bound) × (bound_of s e ≡ Some b) × (b.from ≡ from) × IsChain s b.to es to
 
 -- the edges exist in the situation, and lead back to where the first begins
 abbrev pub IsClosedChain : Situation → List Edge → Type 0
@@ -36,7 +37,9 @@ pub record IsListedSchedule (s : Situation) (moments : List ℕ) : Type 0 where
 
 -- The event may happen at the moment, whatever the bounds say: when it was dispatched, or else from its floor to the horizon.
 abbrev pub MayHappen : Situation → ℕ → ℕ → Type 0
-MayHappen s e moment = MatchOption (fixed_at s e) ((floor_of s e ≤ moment) × (moment ≤ s.horizon)) (λ fixed. moment ≡ fixed)
+MayHappen s e moment =
+    MatchOption (fixed_at s e) ((floor_of s e ≤ moment)
+    × (moment ≤ s.horizon)) (λ fixed. moment ≡ fixed)
 
 -- each event may happen at its moment in the list
 abbrev pub AllMayHappen : Situation → List ℕ → Type 0
@@ -48,7 +51,8 @@ IsMisplaced s moments e = (e < event_count s) × ¬ MayHappen s e (moments_of mo
 
 -- the moments in the list meet each of the bounds
 abbrev pub MeetsAll : FinMap nat_cmp Bound → List ℕ → Type 0
-MeetsAll bounds moments = (id : ℕ) (b : Bound) → get bounds id ≡ Some b → Meets (moments_of moments) b
+MeetsAll bounds moments =
+    (id : ℕ) (b : Bound) → get bounds id ≡ Some b → Meets (moments_of moments) b
 
 -- there is the bound, and the moments in the list don't meet it
 abbrev pub IsUnmet : Option Bound → List ℕ → Type 0

@@ -26,12 +26,29 @@ pub record AreLimits (l : RunLimits) : Type 0 where
 -- the greatest numbers that a run may be given, but for its horizon
 abbrev pub greatest_limits : ℕ → RunLimits
 greatest_limits horizon =
-    record { events = 1_024; bounds = 65_535; ids = 1_048_576; horizon = horizon; atoms = 65_535; actions = 65_535; expansions = 1_000_000 }
+    record {
+      events = 1_024;
+      bounds = 65_535;
+      ids = 1_048_576;
+      horizon = horizon;
+      atoms = 65_535;
+      actions = 65_535;
+      expansions = 1_000_000;
+    }
 
 -- how limits are told from others: the code that a model's value wants
 abbrev pub coded_limits : Coded RunLimits
 coded_limits =
-    code_by (ℕ × (ℕ × (ℕ × (ℕ × (ℕ × (ℕ × ℕ)))))) (coded× coded_ℕ (coded× coded_ℕ (coded× coded_ℕ (coded× coded_ℕ (coded× coded_ℕ (coded× coded_ℕ coded_ℕ))))))
+    code_by (ℕ × (ℕ × (ℕ × (ℕ × (ℕ × (ℕ × ℕ)))))) (coded× coded_ℕ (coded× coded_ℕ
+    (coded× coded_ℕ (coded× coded_ℕ (coded× coded_ℕ (coded× coded_ℕ coded_ℕ))))))
     (λ l. (l.events, (l.bounds, (l.ids, (l.horizon, (l.atoms, (l.actions, l.expansions)))))))
-    (λ p. record { events = p.0; bounds = p.1.0; ids = p.1.1.0; horizon = p.1.1.1.0; atoms = p.1.1.1.1.0; actions = p.1.1.1.1.1.0; expansions = p.1.1.1.1.1.1 })
+    (λ p. record {
+      events = p.0;
+      bounds = p.1.0;
+      ids = p.1.1.0;
+      horizon = p.1.1.1.0;
+      atoms = p.1.1.1.1.0;
+      actions = p.1.1.1.1.1.0;
+      expansions = p.1.1.1.1.1.1;
+    })
     (λ _. refl)

@@ -17,7 +17,8 @@ use thiserror::Error;
 
 /// Where the chain of these edges leads from a point, if they are one.
 fn chain_end(setting: &Setting, edges: &[Edge], start: Point) -> Option<Point>
-    ensures { MatchOption result ((to : Point) → ¬ IsChain setting.now start edges.now to) (λ to. IsChain setting.now start edges.now to) }
+    ensures { MatchOption result ((to : Point) → ¬ IsChain setting.now start edges.now to)
+        (λ to. IsChain setting.now start edges.now to) }
 {
     let mut point = start;
     for edge in edges {
@@ -48,7 +49,8 @@ fn is_closed(setting: &Setting, edges: &[Edge]) -> bool
 
 /// Whether none of those of the edges that exist begins at the point.
 fn none_begins(setting: &Setting, edges: &[Edge], point: Point) -> bool
-    ensures { IsTrue result ↔ AllByRecursion (λ b. point ≢ b.from) (bounds_of setting.now edges.now) }
+    ensures { IsTrue result
+        ↔ AllByRecursion (λ b. point ≢ b.from) (bounds_of setting.now edges.now) }
 {
     for edge in edges {
         let Some(bound) = setting.bound(*edge) else {
@@ -145,7 +147,8 @@ fn may_happen(setting: &Setting, e: u16, moment: u32) -> bool
 /// An event that can't happen at its moment, if there is one.
 fn misplaced(setting: &Setting, moments: &[u32]) -> Option<u16>
     requires { length moments.now ≡ event_count setting.now }
-    ensures { MatchOption result (AllMayHappen setting.now moments.now) (IsMisplaced setting.now moments.now) }
+    ensures { MatchOption result
+        (AllMayHappen setting.now moments.now) (IsMisplaced setting.now moments.now) }
 {
     for e in 0..setting.events() {
         if !may_happen(setting, e, moments[e as usize]) {
@@ -158,7 +161,8 @@ fn misplaced(setting: &Setting, moments: &[u32]) -> Option<u16>
 /// A bound that the moments don't meet, if there is one.
 fn unmet(bounds: &BTreeMap<u32, Bound>, moments: &[u32]) -> Option<BoundId>
     requires { AreInRange (held bounds.now.entries) }
-    ensures { MatchOption result (MeetsAll (held bounds.now.entries) moments.now) (λ id. IsUnmet (map.get (held bounds.now.entries) id.0) moments.now) }
+    ensures { MatchOption result (MeetsAll (held bounds.now.entries) moments.now)
+        (λ id. IsUnmet (map.get (held bounds.now.entries) id.0) moments.now) }
 {
     for (id, bound) in bounds.iter() {
         if !meets(moments, bound) {
@@ -171,7 +175,8 @@ fn unmet(bounds: &BTreeMap<u32, Bound>, moments: &[u32]) -> Option<BoundId>
 /// Whether the moments, one for each event, are a schedule that remains; else something that they break.
 pub fn check_schedule(setting: &Setting, moments: &[u32]) -> Result<(), Broken>
     ensures ok { OnOk result (IsListedSchedule setting.now moments.now) }
-    ensures err { IfErr result (λ broken. Breaks setting.now moments.now broken × ¬ IsListedSchedule setting.now moments.now) }
+    ensures err { IfErr result (λ broken. Breaks setting.now moments.now broken
+        × ¬ IsListedSchedule setting.now moments.now) }
 {
     if moments.len() != setting.events() as usize {
         return Err(Broken::Length);

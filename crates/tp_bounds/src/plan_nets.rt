@@ -24,7 +24,8 @@ impl PlanNet {
     /// The text of an event. It takes no memory.
     pub fn event_text(&self, e: u16) -> &str
         requires { e < length self.now.events.items }
-        ensures { option_map (λ s. string_bytes s) (slice_get self.now.events.items e) ≡ Some result.now }
+        ensures { option_map (λ s. string_bytes s) (slice_get self.now.events.items e)
+            ≡ Some result.now }
     {
         &self.events[e as usize]
     }
@@ -33,6 +34,6 @@ impl PlanNet {
 /// The schedules of bounds in force under identifiers from 0 on, where nothing has happened, are the assignments from 0 to the
 /// horizon that meet each of them.
 pub fn schedules_meet_bounds()
-    ensures { (events horizon : ℕ) (bounds : List Bound) (t : ℕ → ℕ)
-        → (IsSchedule (situation_of events horizon bounds) t ↔ (IsWithin events horizon t × MeetsEach t bounds)) }
+    ensures { (events horizon : ℕ) (bounds : List Bound) (t : ℕ → ℕ) → (IsSchedule
+        (situation_of events horizon bounds) t ↔ (IsWithin events horizon t × MeetsEach t bounds)) }
 {}

@@ -27,11 +27,35 @@ impl Model for Limits {
 
     ghost coded = { coded_limits };
 
-    ghost view = { λ l. record { events = l.events; bounds = l.bounds; ids = l.ids; horizon = l.horizon; atoms = l.atoms; actions = l.actions; expansions = l.expansions } };
+    ghost view = { λ l. record {
+      events = l.events;
+      bounds = l.bounds;
+      ids = l.ids;
+      horizon = l.horizon;
+      atoms = l.atoms;
+      actions = l.actions;
+      expansions = l.expansions;
+    } };
 
-    ghost invariant = { λ l. AreLimits (record { events = l.events; bounds = l.bounds; ids = l.ids; horizon = l.horizon; atoms = l.atoms; actions = l.actions; expansions = l.expansions }) };
+    ghost invariant = { λ l. AreLimits (record {
+      events = l.events;
+      bounds = l.bounds;
+      ids = l.ids;
+      horizon = l.horizon;
+      atoms = l.atoms;
+      actions = l.actions;
+      expansions = l.expansions;
+    }) };
 
-    ghost inverse = { λ l. record { events = l.events; bounds = l.bounds; ids = l.ids; horizon = l.horizon; atoms = l.atoms; actions = l.actions; expansions = l.expansions } };
+    ghost inverse = { λ l. record {
+      events = l.events;
+      bounds = l.bounds;
+      ids = l.ids;
+      horizon = l.horizon;
+      atoms = l.atoms;
+      actions = l.actions;
+      expansions = l.expansions;
+    } };
 }
 
 impl Limits {
@@ -53,7 +77,15 @@ impl Limits {
         requires atoms { atoms ≤ MOST_ATOMS }
         requires actions { actions ≤ MOST_ACTIONS }
         requires expansions { expansions ≤ MOST_EXPANSIONS }
-        ensures { result ≡ record { events = events; bounds = bounds; ids = ids; horizon = horizon; atoms = atoms; actions = actions; expansions = expansions } }
+        ensures { result ≡ record {
+          events = events;
+          bounds = bounds;
+          ids = ids;
+          horizon = horizon;
+          atoms = atoms;
+          actions = actions;
+          expansions = expansions;
+        } }
     {
         Limits {
             events,

@@ -35,9 +35,25 @@ impl Model for Setting {
 
     ghost coded = { coded_situation };
 
-    ghost view = { λ a. record { horizon = a.horizon; clock = a.clock; bounds = held a.bounds.entries; fixed = a.fixed.items; lags = a.lags.items; proposed = a.proposed } };
+    ghost view = { λ a.
+        record {
+          horizon = a.horizon;
+          clock = a.clock;
+          bounds = held a.bounds.entries;
+          fixed = a.fixed.items;
+          lags = a.lags.items;
+          proposed = a.proposed;
+        } };
 
-    ghost invariant = { λ a. IsLawful (record { horizon = a.horizon; clock = a.clock; bounds = held a.bounds.entries; fixed = a.fixed.items; lags = a.lags.items; proposed = a.proposed }) };
+    ghost invariant = { λ a.
+        IsLawful (record {
+          horizon = a.horizon;
+          clock = a.clock;
+          bounds = held a.bounds.entries;
+          fixed = a.fixed.items;
+          lags = a.lags.items;
+          proposed = a.proposed;
+        }) };
 }
 
 impl Setting {

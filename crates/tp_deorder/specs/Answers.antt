@@ -26,7 +26,9 @@ OnTooMany TooMany P = P
 
 -- The plan has more events than the limits allow, ends past their horizon, or has more bounds than they allow.
 abbrev pub PassesLimits : RunLimits → List Planned → Type 0
-PassesLimits l plan = (l.events < length (events plan)) ⊎ ((l.horizon < last_moment (events plan)) ⊎ (l.bounds < bound_count plan))
+PassesLimits l plan =
+    (l.events < length (events plan))
+    ⊎ ((l.horizon < last_moment (events plan)) ⊎ (l.bounds < bound_count plan))
 
 -- the plan's own ticks: the moment of each event, by its number
 abbrev pub own_ticks : List Planned → ℕ → ℕ
@@ -35,10 +37,15 @@ own_ticks plan e = slice_index_or (map (λ x. x.moment) (events plan)) e 0
 -- The schedules of the network are exactly the assignments from 0 to the horizon that meet the bounds of the plan; the plan's
 -- own ticks are one; and the plan of a run at each is valid.
 pub record IsNetOf (t : Task) (steps : List Step) (horizon : ℕ) (bounds : List Bound) : Type 0 where
-  pub exact : (m : ℕ → ℕ) → IsSchedule (situation_of (event_count_of (plan_of t steps)) horizon bounds) m
-      ↔ (IsWithin (event_count_of (plan_of t steps)) horizon m × MeetsBounds (scale_of t) (state_at t steps) (plan_of t steps) m)
-  pub own : IsSchedule (situation_of (event_count_of (plan_of t steps)) horizon bounds) (own_ticks (plan_of t steps))
-  pub valid : (m : ℕ → ℕ) → IsSchedule (situation_of (event_count_of (plan_of t steps)) horizon bounds) m
+  pub exact :
+      (m : ℕ → ℕ) → IsSchedule (situation_of (event_count_of (plan_of t steps)) horizon bounds) m
+      ↔ (IsWithin (event_count_of (plan_of t steps)) horizon m
+      × MeetsBounds (scale_of t) (state_at t steps) (plan_of t steps) m)
+  pub own :
+      IsSchedule
+      (situation_of (event_count_of (plan_of t steps)) horizon bounds) (own_ticks (plan_of t steps))
+  pub valid :
+      (m : ℕ → ℕ) → IsSchedule (situation_of (event_count_of (plan_of t steps)) horizon bounds) m
       → IsValidPlan t (run_steps t m steps)
   -- it is one that a network takes: `horizon` is at most that of the limits
   pub suit : horizon ≤ 1_000_000_000 → All (SuitsNet (event_count_of (plan_of t steps))) bounds

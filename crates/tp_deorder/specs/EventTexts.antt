@@ -20,12 +20,15 @@ has_two (Durative start end invariant) = true
 abbrev pub step_lines : ℕ → Words → Option Bool → List (List ℕ)
 step_lines k action None = []
 step_lines k action (Some false) = event_line (codes "at ") k action ∷ []
-step_lines k action (Some true) = event_line (codes "start ") k action ∷ event_line (codes "end ") k action ∷ []
+step_lines k action (Some true) =
+    event_line (codes "start ") k action ∷ event_line (codes "end ") k action ∷ []
 
 -- those of the events of steps, which are numbered from k
 abbrev pub lines_from : Task → ℕ → List Step → List (List ℕ)
 lines_from t k [] = []
-lines_from t k (s ∷ ss) = step_lines k (words_at t.numbering.actions s.action.0) (option_map has_two (slice_get t.actions.items s.action.0)) ++ lines_from t (suc k) ss
+lines_from t k (s ∷ ss) =
+    step_lines k (words_at t.numbering.actions s.action.0)
+    (option_map has_two (slice_get t.actions.items s.action.0)) ++ lines_from t (suc k) ss
 
 abbrev pub event_lines : Task → List Step → List (List ℕ)
 event_lines t steps = lines_from t 0 steps

@@ -38,9 +38,11 @@ fn note_all(
     requires each { length kept.now ≡ length steps.now }
     requires least { All (λ w. pos 0 ≤ℤ w.least) kept.now }
     requires ends { All (λ p. p.moment + p.duration ≤ 1000000000) steps.now }
-    ensures ok { IfOk result (λ v. v.items ≡ orders events.now events.now ++ steps_by horizon events.now 0 steps.now kept.now) }
+    ensures ok { IfOk result (λ v. v.items
+        ≡ orders events.now events.now ++ steps_by horizon events.now 0 steps.now kept.now) }
     ensures few { IfOk result (λ v. length v.items ≤ most) }
-    ensures err { IfErr result (λ e. OnTooMany e (most < length (orders events.now events.now ++ steps_by horizon events.now 0 steps.now kept.now))) }
+    ensures err { IfErr result (λ e. OnTooMany e (most < length
+        (orders events.now events.now ++ steps_by horizon events.now 0 steps.now kept.now))) }
 {
     let mut bounds = Vec::new(alloc);
     note_orders(&mut bounds, events)?;
@@ -60,10 +62,13 @@ fn ticks_of(
 ) -> Result<Vec<Ticks>, DeorderFault>
     requires few { length steps.now ≤ 512 }
     requires ends { list_all (λ p. nat_le (p.moment + p.duration) 1000000000) steps.now ≡ true }
-    requires fits { list_all (λ p. body_fits (length task.now.initial_atoms.items) (length task.now.initial_numbers.items) p.body) steps.now ≡ true }
+    requires fits { list_all (λ p. body_fits (length task.now.initial_atoms.items)
+        (length task.now.initial_numbers.items) p.body) steps.now ≡ true }
     requires clear { (m : ℕ) → fault_at (scale_of task.now) (begin task.now) steps.now m ≡ None }
-    requires small { (m : ℕ) → StaysSmall (scale_of task.now) (states (scale_of task.now) (begin task.now) (events steps.now) m) (at m (events steps.now)) }
-    ensures ok { IfOk result (λ v. v.items ≡ plan_ticks horizon (scale_of task.now) (states (scale_of task.now) (begin task.now) (events steps.now)) steps.now) }
+    requires small { (m : ℕ) → StaysSmall (scale_of task.now) (states
+        (scale_of task.now) (begin task.now) (events steps.now) m) (at m (events steps.now)) }
+    ensures ok { IfOk result (λ v. v.items ≡ plan_ticks horizon (scale_of task.now)
+        (states (scale_of task.now) (begin task.now) (events steps.now)) steps.now) }
     ensures err { IfErr result (λ e. OnTooMany e ⊥) }
 {
     let agenda = agenda_of(placed_events(alloc, steps)?)?;
@@ -80,10 +85,13 @@ fn bounds_of(
 ) -> Result<Vec<Bound>, DeorderFault>
     requires few { length steps.now ≤ 512 }
     requires ends { list_all (λ p. nat_le (p.moment + p.duration) 1000000000) steps.now ≡ true }
-    requires fits { list_all (λ p. body_fits (length task.now.initial_atoms.items) (length task.now.initial_numbers.items) p.body) steps.now ≡ true }
+    requires fits { list_all (λ p. body_fits (length task.now.initial_atoms.items)
+        (length task.now.initial_numbers.items) p.body) steps.now ≡ true }
     requires clear { (m : ℕ) → fault_at (scale_of task.now) (begin task.now) steps.now m ≡ None }
-    requires small { (m : ℕ) → StaysSmall (scale_of task.now) (states (scale_of task.now) (begin task.now) (events steps.now) m) (at m (events steps.now)) }
-    ensures ok { IfOk result (λ v. v.items ≡ plan_bounds horizon (scale_of task.now) (states (scale_of task.now) (begin task.now) (events steps.now)) steps.now) }
+    requires small { (m : ℕ) → StaysSmall (scale_of task.now) (states
+        (scale_of task.now) (begin task.now) (events steps.now) m) (at m (events steps.now)) }
+    ensures ok { IfOk result (λ v. v.items ≡ plan_bounds horizon (scale_of task.now)
+        (states (scale_of task.now) (begin task.now) (events steps.now)) steps.now) }
     ensures few { IfOk result (λ v. length v.items ≤ most) }
     ensures err { IfErr result (λ e. OnTooMany e (most < bound_count steps.now)) }
 {
@@ -107,7 +115,8 @@ fn last_tick(events: &[PlacedEvent<'_>]) -> u32
 fn passes(alloc: Global, steps: &[PlannedStep<'_>], limits: &Limits) -> Result<bool, DeorderFault>
     requires few { length steps.now ≤ 512 }
     requires ends { list_all (λ p. nat_le (p.moment + p.duration) 1000000000) steps.now ≡ true }
-    ensures ok { IfOk result (λ r. r ≡ (nat_lt limits.now.events (length (events steps.now)) || nat_lt limits.now.horizon (last_moment (events steps.now)))) }
+    ensures ok { IfOk result (λ r. r ≡ (nat_lt limits.now.events (length (events steps.now))
+        || nat_lt limits.now.horizon (last_moment (events steps.now)))) }
     ensures err { IfErr result (λ e. OnTooMany e ⊥) }
 {
     let events = placed_events(alloc, steps)?;
@@ -124,9 +133,11 @@ fn bounds_within(
     requires plan { IsPlan steps.now }
     requires sound { IsSound task.now steps.now }
     ensures net { IfOk result (λ v. IsNetOf task.now steps.now limits.now.horizon v.items) }
-    ensures events { IfOk result (λ _. event_count_of (plan_of task.now steps.now) ≤ limits.now.events) }
+    ensures events { IfOk result
+        (λ _. event_count_of (plan_of task.now steps.now) ≤ limits.now.events) }
     ensures few { IfOk result (λ v. length v.items ≤ limits.now.bounds) }
-    ensures err { IfErr result (λ e. OnTooMany e (PassesLimits limits.now (plan_of task.now steps.now))) }
+    ensures err { IfErr result
+        (λ e. OnTooMany e (PassesLimits limits.now (plan_of task.now steps.now))) }
 {
     let planned = planned_steps(alloc, task, steps)?;
     if passes(alloc, &planned, limits)? {
@@ -145,7 +156,8 @@ fn net_within(
     requires plan { IsPlan steps.now }
     requires sound { IsSound task.now steps.now }
     ensures net { IfOk result (IsPlanNetOf task.now steps.now limits.now) }
-    ensures err { IfErr result (λ e. OnTooMany e (PassesLimits limits.now (plan_of task.now steps.now))) }
+    ensures err { IfErr result
+        (λ e. OnTooMany e (PassesLimits limits.now (plan_of task.now steps.now))) }
 {
     let bounds = bounds_within(alloc, task, steps, limits)?;
     let events = event_texts(alloc, task, steps)?;
@@ -168,7 +180,8 @@ pub fn deorder(
     limits: &Limits,
 ) -> Result<PlanNet, DeorderFault>
     ensures net { IfOk result (IsPlanNetOf plan.now.task plan.now.steps limits.now) }
-    ensures err { IfErr result (λ e. OnTooMany e (PassesLimits limits.now (plan_of plan.now.task plan.now.steps))) }
+    ensures err { IfErr result
+        (λ e. OnTooMany e (PassesLimits limits.now (plan_of plan.now.task plan.now.steps))) }
 {
     net_within(alloc, plan.task(), plan.plan().steps(), limits)
 }

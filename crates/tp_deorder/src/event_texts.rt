@@ -17,7 +17,8 @@ fn event_text(
     k: usize,
     action: ActionId,
 ) -> Result<String, AllocError>
-    ensures { IfOk result (λ s. string_bytes s ≡ event_line (word.now ++ codes " ") k (words_at task.now.numbering.actions action.0)) }
+    ensures { IfOk result (λ s. string_bytes s
+        ≡ event_line (word.now ++ codes " ") k (words_at task.now.numbering.actions action.0)) }
 {
     let name = task.action_text(action)?;
     format!(in alloc; "{word} {k} {name}")
@@ -32,7 +33,9 @@ fn put_text(
     k: usize,
     action: ActionId,
 ) -> Result<(), AllocError>
-    ensures { OnOk result (map string_bytes texts.new.items ≡ map string_bytes texts.old.items ++ (event_line (word.now ++ codes " ") k (words_at task.now.numbering.actions action.0) ∷ [])) }
+    ensures { OnOk result
+        (map string_bytes texts.new.items ≡ map string_bytes texts.old.items ++ (event_line
+        (word.now ++ codes " ") k (words_at task.now.numbering.actions action.0) ∷ [])) }
 {
     texts.push(event_text(alloc, task, word, k, action)?)?;
     Ok(())
@@ -55,7 +58,8 @@ fn put_step(
     action: ActionId,
 ) -> Result<(), AllocError>
     ensures { OnOk result (map string_bytes texts.new.items ≡ map string_bytes texts.old.items
-        ++ step_lines k (words_at task.now.numbering.actions action.0) (option_map spec.has_two (slice_get task.now.actions.items action.0))) }
+        ++ step_lines k (words_at task.now.numbering.actions action.0)
+        (option_map spec.has_two (slice_get task.now.actions.items action.0))) }
 {
     match has_two(task, action) {
         None => Ok(()),

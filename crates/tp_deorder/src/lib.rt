@@ -57,11 +57,13 @@ impl From<AllocError> for DeorderFault {
 /// of the plan.
 pub fn bounds_are_listed()
     ensures { (horizon scale : ℕ) (trace : ℕ → State) (plan : List Planned) (t : ℕ → ℕ)
-        → (IsSchedule (situation_of (event_count_of plan) horizon (plan_bounds horizon scale trace plan)) t
+        → (IsSchedule
+        (situation_of (event_count_of plan) horizon (plan_bounds horizon scale trace plan)) t
         ↔ (IsWithin (event_count_of plan) horizon t × MeetsBounds scale trace plan t)) }
 {}
 
 /// What the steps of a run's plan do is what the validated ones do, retimed.
 pub fn runs_are_retimed()
-    ensures { (task : Task) (t : ℕ → ℕ) (steps : List Step) → plan_of task (run_steps task t steps) ≡ retimed t (plan_of task steps) }
+    ensures { (task : Task) (t : ℕ → ℕ) (steps : List Step)
+        → plan_of task (run_steps task t steps) ≡ retimed t (plan_of task steps) }
 {}

@@ -14,7 +14,9 @@ use Rattle.tp_exec.specs.OwnBounds.{KeepsTo, IsDone, dispatched_at}
 -- The machine has the plan's events, and while it is kept, each assignment of moments from 0 to the horizon that meets its own bounds
 -- meets the bounds of the plan.
 abbrev pub CameFrom : Task → List Step → Machine → Type 0
-CameFrom t steps m = KeepsTo (event_count_of (plan_of t steps)) (MeetsBounds (scale_of t) (state_at t steps) (plan_of t steps)) m
+CameFrom t steps m =
+    KeepsTo (event_count_of (plan_of t steps))
+    (MeetsBounds (scale_of t) (state_at t steps) (plan_of t steps)) m
 
 -- the steps of a plan's run, where every event is dispatched
 abbrev pub TellsSteps : Task → List Step → Situation → Option (List Step) → Type 0

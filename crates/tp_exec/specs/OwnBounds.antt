@@ -17,7 +17,8 @@ MeetsOwn m t = (id : ℕ) (b : Bound) → id < m.own → get m.setting.bounds id
 pub record KeepsTo (events : ℕ) (wanted : (ℕ → ℕ) → Type 0) (m : Machine) : Type 0 where
   pub count : event_count m.setting ≡ events
   pub first : m.own ≤ m.next
-  pub schedules : m.kind ≡ Kept → (t : ℕ → ℕ) → IsWithin events m.setting.horizon t → MeetsOwn m t → wanted t
+  pub schedules :
+      m.kind ≡ Kept → (t : ℕ → ℕ) → IsWithin events m.setting.horizon t → MeetsOwn m t → wanted t
 
 -- every event is dispatched
 abbrev pub IsDone : Situation → Type 0

@@ -42,9 +42,21 @@ impl<N: Net> Model for Executive<N> {
 
     ghost coded = { coded_machine };
 
-    ghost view = { λ a. record { setting = N.seen a.net; limits = a.limits; next = a.next; own = a.own; kind = a.kind } };
+    ghost view = { λ a. record {
+      setting = N.seen a.net;
+      limits = a.limits;
+      next = a.next;
+      own = a.own;
+      kind = a.kind;
+    } };
 
-    ghost invariant = { λ a. IsReady N.takes_between (record { setting = N.seen a.net; limits = a.limits; next = a.next; own = a.own; kind = a.kind }) };
+    ghost invariant = { λ a. IsReady N.takes_between (record {
+      setting = N.seen a.net;
+      limits = a.limits;
+      next = a.next;
+      own = a.own;
+      kind = a.kind;
+    }) };
 }
 
 impl<N: Net> Executive<N> {
@@ -120,7 +132,8 @@ impl<N: Net> Executive<N> {
 
     /// Brings a bound into force: `to` comes no later than `w` ticks after `from`.
     pub fn add(&mut self, from: Point, to: Point, w: i64) -> Result<BoundId, Refusal>
-        ensures { Step self.old (Add (record { from = from; to = to; w = w })) (answer_of Named result) self.new }
+        ensures { Step self.old
+            (Add (record { from = from; to = to; w = w })) (answer_of Named result) self.new }
     {
         let count = self.net.events();
         if !is_point(from, count) || !is_point(to, count) {
@@ -162,7 +175,8 @@ impl<N: Net> Executive<N> {
     /// exactly if that moment is not before the one and not after the other. It takes no memory.
     pub fn window(&self, e: u16) -> Result<(u32, u32), Refusal>
         ensures step { Step self.now (Window e) (answer_of (λ w. Told w.0 w.1) result) self.now }
-        ensures exact { IfOk result (λ w. (x : ℕ) → ((w.0 ≤ x) × (x ≤ w.1)) ↔ IsMoment self.now.setting e x) }
+        ensures exact { IfOk result
+            (λ w. (x : ℕ) → ((w.0 ≤ x) × (x ≤ w.1)) ↔ IsMoment self.now.setting e x) }
     {
         if self.net.events() <= e {
             return Err(Refusal::NoEvent);
@@ -279,7 +293,8 @@ impl<N: Net + Drop> Executive<N> {
         requires horizon { (N.seen net).horizon ≡ network.now.horizon }
         requires bounds { length network.now.bounds.items ≤ limits.bounds }
         requires ids { length network.now.bounds.items ≤ limits.ids }
-        ensures { IfOk result (λ executive. executive ≡ plan_machine (N.seen net) network.now.bounds.items limits) }
+        ensures { IfOk result
+            (λ executive. executive ≡ plan_machine (N.seen net) network.now.bounds.items limits) }
     {
         let own = bring_own(&mut net, network, limits.ids())?;
         Ok(Executive {

@@ -38,7 +38,8 @@ pub(crate) fn bring_own<N: Net>(net: &mut N, network: &PlanNet, ids: u32) -> Res
     requires events { event_count (N.seen net.old) ≡ length network.now.events.items }
     requires horizon { (N.seen net.old).horizon ≡ network.now.horizon }
     requires ids { length network.now.bounds.items ≤ ids }
-    ensures bounds { OnOk result (N.seen net.new ≡ with_bounds (N.seen net.old) 0 network.now.bounds.items) }
+    ensures bounds { OnOk result
+        (N.seen net.new ≡ with_bounds (N.seen net.old) 0 network.now.bounds.items) }
     ensures count { IfOk result (λ own. own ≡ length network.now.bounds.items) }
 {
     let mut next = 0;

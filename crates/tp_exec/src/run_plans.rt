@@ -31,7 +31,8 @@ use tp_validate::ValidPlan;
 
 /// The moments at which the events were dispatched, if all were.
 fn dispatched<N: Net>(alloc: Global, net: &N) -> Result<Option<Vec<u32>>, AllocError>
-    ensures moments { IfOk result (λ moments. TellsMoments (N.seen net.now) (option_map (λ v. v.items) moments)) }
+    ensures moments { IfOk result
+        (λ moments. TellsMoments (N.seen net.now) (option_map (λ v. v.items) moments)) }
     ensures possible { HasSchedule (N.seen net.now) }
     ensures lawful { IsLawful (N.seen net.now) }
 {
@@ -74,8 +75,10 @@ fn put_moved(
 ) -> Result<usize, AllocError>
     requires few { event ≤ 1_024 }
     ensures steps { OnOk result (moved.new.items ≡ moved.old.items
-        ++ option_to_list (option_map (moved_step (λ e. slice_index_or moments.now e 0) event step) (slice_get task.now.actions.items step.action.0))) }
-    ensures next { IfOk result (λ next. next ≡ event + count_or_none (slice_get task.now.actions.items step.action.0)) }
+        ++ option_to_list (option_map (moved_step (λ e. slice_index_or moments.now e 0) event step)
+        (slice_get task.now.actions.items step.action.0))) }
+    ensures next { IfOk result
+        (λ next. next ≡ event + count_or_none (slice_get task.now.actions.items step.action.0)) }
 {
     let tick = moment_of(moments, event);
     let action = step.action;
@@ -109,7 +112,8 @@ fn moved(
     moments: &[u32],
 ) -> Result<Vec<Step>, AllocError>
     requires few { length steps.now ≤ 512 }
-    ensures { IfOk result (λ v. v.items ≡ run_steps task.now (λ e. slice_index_or moments.now e 0) steps.now) }
+    ensures { IfOk result
+        (λ v. v.items ≡ run_steps task.now (λ e. slice_index_or moments.now e 0) steps.now) }
 {
     let mut moved = Vec::new(alloc);
     let mut event = 0;
@@ -141,28 +145,31 @@ pub(crate) fn plan_at<N: Net>(
 /// What an executive over the network of a plan begins with came from that plan.
 pub fn networks_come_from_their_plans()
     ensures { (t : Task) (steps : List Step) (l limits : RunLimits) (n : PlanNet) (s : Situation)
-        → IsPlanNetOf t steps l n → IsFresh s → event_count s ≡ length n.events.items → s.horizon ≡ n.horizon
-        → CameFrom t steps (plan_machine s n.bounds.items limits) }
+        → IsPlanNetOf t steps l n → IsFresh s → event_count s ≡ length n.events.items
+        → s.horizon ≡ n.horizon → CameFrom t steps (plan_machine s n.bounds.items limits) }
 {}
 
 /// Each step of the machine keeps that it came from a plan.
 pub fn steps_keep_the_plan()
-    ensures { (t : Task) (steps : List Step) (old new : Machine) (command : Command) (answer : Answer)
+    ensures { (t : Task)
+        (steps : List Step) (old new : Machine) (command : Command) (answer : Answer)
         → CameFrom t steps old → machine.Step old command answer new → CameFrom t steps new }
 {}
 
 /// So does each run.
 pub fn runs_keep_the_plan()
-    ensures { (t : Task) (steps : List Step) (old new : Machine) (commands : List Command) (answers : List Answer)
+    ensures { (t : Task)
+        (steps : List Step) (old new : Machine) (commands : List Command) (answers : List Answer)
         → CameFrom t steps old → Run old commands answers new → CameFrom t steps new }
 {}
 
 /// Every completed run of a network that was built from a validated plan, none of its own bounds withdrawn, is a valid plan,
 /// which reaches the goal: after any list of commands, where all events are dispatched and the kind is `Kept`.
 pub fn completed_runs_are_valid_plans()
-    ensures { (t : Task) (steps : List Step) (l limits : RunLimits) (n : PlanNet) (s : Situation)
-        (commands : List Command) (answers : List Answer) (new : Machine)
-        → IsSound t steps → IsPlanNetOf t steps l n → IsFresh s → event_count s ≡ length n.events.items → s.horizon ≡ n.horizon
-        → Run (plan_machine s n.bounds.items limits) commands answers new → IsDone new.setting → new.kind ≡ Kept
-        → IsValidPlan t (run_steps t (dispatched_at new.setting) steps) }
+    ensures { (t : Task) (steps : List Step) (l limits : RunLimits) (n : PlanNet)
+        (s : Situation) (commands : List Command) (answers : List Answer) (new : Machine)
+        → IsSound t steps → IsPlanNetOf t steps l n
+        → IsFresh s → event_count s ≡ length n.events.items → s.horizon ≡ n.horizon
+        → Run (plan_machine s n.bounds.items limits) commands answers new → IsDone new.setting
+        → new.kind ≡ Kept → IsValidPlan t (run_steps t (dispatched_at new.setting) steps) }
 {}

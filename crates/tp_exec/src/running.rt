@@ -54,7 +54,8 @@ pub fn perform_all<N: Net>(
     executive: &mut Executive<N>,
     commands: &[Command],
 ) -> Result<Vec<Answer>, AllocError>
-    ensures run { IfOk result (λ answers. Run executive.old commands.now answers.items executive.new) }
+    ensures run { IfOk result
+        (λ answers. Run executive.old commands.now answers.items executive.new) }
     ensures err { OnErr result (executive.new ≡ executive.old) }
 {
     let mut answers = Vec::with_capacity(alloc, commands.len())?;
@@ -68,5 +69,6 @@ pub fn perform_all<N: Net>(
 /// remains just then; and a well-formed command is answered Conflict exactly if no schedule would remain, where there is
 /// memory.
 pub fn runs_tell_the_truth()
-    ensures { (old new : Machine) (commands : List Command) (answers : List Answer) → Run old commands answers new → RunTellsTruth old commands answers new }
+    ensures { (old new : Machine) (commands : List Command) (answers : List Answer)
+        → Run old commands answers new → RunTellsTruth old commands answers new }
 {}

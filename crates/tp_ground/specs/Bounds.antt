@@ -20,14 +20,18 @@ uses_duration e = list_any (λ w. mentions_duration w.value) e.writes.items
 
 -- an event writes an atom or a fluent that a condition mentions
 abbrev pub writes_into : GroundEvent → Cond → Bool
-writes_into e c = meets (e.adds.items ++ e.deletes.items) (atoms_in c) || meets (fluents_written e) (fluents_in c)
+writes_into e c =
+    meets (e.adds.items ++ e.deletes.items) (atoms_in c) || meets (fluents_written e) (fluents_in c)
 
 -- The difference between a step's end and start is a lawful duration in the state before its start, or the plan's
 -- duration if an effect mentions it.
-pub record KeepsDuration (scale : ℕ) (before : State) (duration : ℕ) (start end : GroundEvent) (from to : ℕ) : Type 0 where
+pub record KeepsDuration (scale : ℕ) (before : State) (duration : ℕ) (start end : GroundEvent)
+    (from to : ℕ) : Type 0 where
   pub ticks : ℕ
   pub apart : to ≡ from + ticks
-  pub lawful : MatchBool (uses_duration start || uses_duration end) (ticks ≡ duration) (IsLawful scale before start.rule.items ticks)
+  pub lawful :
+      MatchBool (uses_duration start || uses_duration end)
+      (ticks ≡ duration) (IsLawful scale before start.rule.items ticks)
 
 -- An event other than the step's own, that writes into its invariant.
 pub record Touches (e : Placed) (first : ℕ) (invariant : Cond) : Type 0 where
@@ -36,34 +40,51 @@ pub record Touches (e : Placed) (first : ℕ) (invariant : Cond) : Type 0 where
   pub writes : writes_into e.timed.event invariant ≡ true
 
 -- Events that write into an invariant stay before its start, after its end, or between them in the plan's order.
-pub record KeepsInvariant (es : List Placed) (t : ℕ → ℕ) (first start end : ℕ) (invariant : Cond) : Type 0 where
-  pub before : (e : Placed) → In e es → Touches e first invariant → e.moment ≤ start → t e.number ≤ t first
-  pub behind : (e : Placed) → In e es → Touches e first invariant → end ≤ e.moment → t (first + 1) ≤ t e.number
-  pub between : (e : Placed) → In e es → Touches e first invariant → start < e.moment → e.moment < end → (t first ≤ t e.number) × (t e.number ≤ t (first + 1))
-  pub in_order : (e g : Placed) → In e es → In g es → Touches e first invariant → Touches g first invariant → start < e.moment → e.moment ≤ g.moment → g.moment < end → t e.number ≤ t g.number
+pub record KeepsInvariant (es : List Placed) (t : ℕ → ℕ) (first start end : ℕ)
+    (invariant : Cond) : Type 0 where
+  pub before :
+      (e : Placed) → In e es → Touches e first invariant → e.moment ≤ start → t e.number ≤ t first
+  pub behind :
+      (e : Placed)
+      → In e es → Touches e first invariant → end ≤ e.moment → t (first + 1) ≤ t e.number
+  pub between :
+      (e : Placed) → In e es
+      → Touches e first invariant → start < e.moment → e.moment < end → (t first ≤ t e.number)
+      × (t e.number ≤ t (first + 1))
+  pub in_order :
+      (e g : Placed) → In e es → In g es → Touches e first invariant → Touches g first invariant
+      → start < e.moment → e.moment ≤ g.moment → g.moment < end → t e.number ≤ t g.number
 
-pub record StepKeeps (scale : ℕ) (trace : ℕ → State) (es : List Placed) (t : ℕ → ℕ) (k : ℕ) (p : Planned) (start end : GroundEvent) (invariant : Cond) : Type 0 where
+pub record StepKeeps (scale : ℕ) (trace : ℕ → State) (es : List Placed) (t : ℕ → ℕ) (k : ℕ)
+    (p : Planned) (start end : GroundEvent) (invariant : Cond) : Type 0 where
   pub duration : KeepsDuration scale (trace p.moment) p.duration start end (t k) (t (k + 1))
   pub invariant_kept : KeepsInvariant es t k p.moment (p.moment + p.duration) invariant
 
 abbrev pub BodyKeeps : ℕ → (ℕ → State) → List Placed → (ℕ → ℕ) → ℕ → Planned → Body → Type 0
 BodyKeeps scale trace es t k p (Instant e) = Unit {0}
-BodyKeeps scale trace es t k p (Durative start end invariant) = StepKeeps scale trace es t k p start end invariant
+BodyKeeps scale trace es t k p (Durative start end invariant) =
+    StepKeeps scale trace es t k p start end invariant
 
 abbrev pub StepsKeep : ℕ → (ℕ → State) → List Placed → (ℕ → ℕ) → ℕ → List Planned → Type 0
 StepsKeep scale trace es t k [] = Unit {0}
-StepsKeep scale trace es t k (p ∷ ps) = BodyKeeps scale trace es t k p p.body × StepsKeep scale trace es t (k + count_of p.body) ps
+StepsKeep scale trace es t k (p ∷ ps) =
+    BodyKeeps scale trace es t k p p.body × StepsKeep scale trace es t (k + count_of p.body) ps
 
 -- An assignment of moments to the events of a plan meets the plan's bounds.
-pub record MeetsBounds (scale : ℕ) (trace : ℕ → State) (plan : List Planned) (t : ℕ → ℕ) : Type 0 where
+pub record MeetsBounds (scale : ℕ) (trace : ℕ → State) (plan : List Planned)
+    (t : ℕ → ℕ) : Type 0 where
   -- interfering events keep their order, at least one tick apart
-  pub order : (a b : Placed) → In a (events plan) → In b (events plan) → interferes a.timed.event b.timed.event ≡ true → a.moment < b.moment → t a.number < t b.number
+  pub order :
+      (a b : Placed)
+      → In a (events plan) → In b (events plan) → interferes a.timed.event b.timed.event ≡ true
+      → a.moment < b.moment → t a.number < t b.number
   pub steps : StepsKeep scale trace (events plan) t 0 plan
 
 -- The plan of an assignment: the same steps at the moments of their first events, as long as to their last.
 abbrev pub retimed_body : (ℕ → ℕ) → ℕ → Body → Planned
 retimed_body t k (Instant e) = record { moment = t k; duration = 0; body = Instant e }
-retimed_body t k (Durative start end invariant) = record { moment = t k; duration = t (k + 1) - t k; body = Durative start end invariant }
+retimed_body t k (Durative start end invariant) =
+    record { moment = t k; duration = t (k + 1) - t k; body = Durative start end invariant }
 
 abbrev pub retimed_from : (ℕ → ℕ) → ℕ → List Planned → List Planned
 retimed_from t k [] = []

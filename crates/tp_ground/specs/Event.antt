@@ -24,7 +24,8 @@ is_additive Decrease = true
 -- The fluents that an event's condition, right sides and duration rule mention.
 abbrev pub fluents_read : GroundEvent → List ℕ
 fluents_read e =
-    fluents_in e.condition ++ flat_map (λ w. fluents_of w.value) e.writes.items ++ flat_map (λ l. fluents_of l.value) e.rule.items
+    fluents_in e.condition ++ flat_map (λ w. fluents_of w.value) e.writes.items
+    ++ flat_map (λ l. fluents_of l.value) e.rule.items
 
 -- The fluents that it writes, and those that it sets.
 abbrev pub fluents_written : GroundEvent → List ℕ
@@ -48,7 +49,8 @@ interferes a b = disturbs a b || disturbs b a
 
 -- In one event a fluent is written by one setting write alone, or by additive writes.
 abbrev pub mixes_with : NumericEffect → List NumericEffect → Bool
-mixes_with w ws = list_any (λ v. (v.fluent == w.fluent) && not (is_additive v.change && is_additive w.change)) ws
+mixes_with w ws =
+    list_any (λ v. (v.fluent == w.fluent) && not (is_additive v.change && is_additive w.change)) ws
 
 abbrev pub mixes_in : List NumericEffect → Bool
 mixes_in [] = false

@@ -14,4 +14,5 @@ event_fits atoms fluents e =
 
 abbrev pub body_fits : ℕ → ℕ → Body → Bool
 body_fits atoms fluents (Instant e) = event_fits atoms fluents e
-body_fits atoms fluents (Durative start end invariant) = event_fits atoms fluents start && event_fits atoms fluents end
+body_fits atoms fluents (Durative start end invariant) =
+    event_fits atoms fluents start && event_fits atoms fluents end

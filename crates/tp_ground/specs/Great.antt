@@ -73,7 +73,9 @@ abbrev mutual
 
 abbrev pub great_body : actions.Body → Bool
 great_body (actions.instant c e) = great_condition c || great_effect e
-great_body (actions.durative r c e) = great_rule r || (great_part (great_timed great_condition) c || great_part (great_timed great_effect) e)
+great_body (actions.durative r c e) =
+    great_rule r
+    || (great_part (great_timed great_condition) c || great_part (great_timed great_effect) e)
 
 abbrev pub great_initial : Initial → Bool
 great_initial (problems.holds f) = false
@@ -83,4 +85,5 @@ great_initial (problems.has_value f n) = is_great n
 -- some number is past 10^15
 abbrev pub has_great_number : Domain → Problem → Bool
 has_great_number d p =
-    list_any (λ a. great_body a.body) d.actions || (list_any great_initial p.initial || great_condition p.goal)
+    list_any (λ a. great_body a.body) d.actions
+    || (list_any great_initial p.initial || great_condition p.goal)

@@ -32,23 +32,27 @@ amount Decrease None = pos 0
 abbrev pub set_in : State → Option ℤ → List NumericEffect → ℕ → Option ℤ → Option ℤ
 set_in s duration [] f other = other
 set_in s duration (w ∷ ws) f other =
-    if (w.fluent == f) && not (is_additive w.change) then value_set s duration w w.change else set_in s duration ws f other
+    if (w.fluent == f) && not (is_additive w.change) then value_set s duration w w.change
+    else set_in s duration ws f other
 
 -- The sum of what writes add to a fluent.
 abbrev pub added_in : State → Option ℤ → List NumericEffect → ℕ → ℤ
 added_in s duration [] f = pos 0
 added_in s duration (w ∷ ws) f =
-    (if w.fluent == f then amount w.change (value s duration w.value) else pos 0) +ℤ added_in s duration ws f
+    (if w.fluent == f then amount w.change (value s duration w.value) else pos 0)
+    +ℤ added_in s duration ws f
 
 -- The same for the events of a happening.
 abbrev pub set_by : ℕ → State → List Timed → ℕ → Option ℤ → Option ℤ
 set_by scale s [] f other = other
 set_by scale s (t ∷ ts) f other =
-    if has (fluents_set t.event) f then set_in s (units scale t.ticks) t.event.writes.items f other else set_by scale s ts f other
+    if has (fluents_set t.event) f then set_in s (units scale t.ticks) t.event.writes.items f other
+    else set_by scale s ts f other
 
 abbrev pub added_by : ℕ → State → List Timed → ℕ → ℤ
 added_by scale s [] f = pos 0
-added_by scale s (t ∷ ts) f = added_in s (units scale t.ticks) t.event.writes.items f +ℤ added_by scale s ts f
+added_by scale s (t ∷ ts) f =
+    added_in s (units scale t.ticks) t.event.writes.items f +ℤ added_by scale s ts f
 
 abbrev pub plus : ℤ → Option ℤ → Option ℤ
 plus x (Some y) = Some (y +ℤ x)
@@ -57,7 +61,9 @@ plus x None = None
 -- The state after a happening: an atom is true if some event adds it, or if it was true and none deletes it;
 -- a fluent has the value set, or its old value plus the sum of all increases less all decreases.
 abbrev pub atom_after : State → List Timed → ℕ → Bool
-atom_after s ts a = list_any (λ t. has t.event.adds.items a) ts || (s.atom a && not (list_any (λ t. has t.event.deletes.items a) ts))
+atom_after s ts a =
+    list_any (λ t. has t.event.adds.items a) ts
+    || (s.atom a && not (list_any (λ t. has t.event.deletes.items a) ts))
 
 abbrev pub number_after : ℕ → State → List Timed → ℕ → Option ℤ
 number_after scale s ts f = set_by scale s ts f (plus (added_by scale s ts f) (s.number f))
@@ -71,7 +77,8 @@ is_assign Decrease = false
 -- The right sides, the duration rule and the fluents that `increase`, `decrease` and `scale-up` change have values.
 abbrev pub is_defined : ℕ → State → Timed → Bool
 is_defined scale s t =
-    list_all (λ w. is_some (value s (units scale t.ticks) w.value) && (is_assign w.change || is_some (s.number w.fluent))) t.event.writes.items
+    list_all (λ w. is_some (value s (units scale t.ticks) w.value)
+    && (is_assign w.change || is_some (s.number w.fluent))) t.event.writes.items
     && list_all (λ l. is_some (value s None l.value)) t.event.rule.items
 
 -- no event of a list interferes with another

@@ -16,16 +16,19 @@ after_write s d w Decrease now = both ◌-ℤ◌ now (value s d w.value)
 
 abbrev pub after_writes : State → Option ℤ → List NumericEffect → ℕ → Option ℤ → Option ℤ
 after_writes s d [] f now = now
-after_writes s d (w ∷ ws) f now = after_writes s d ws f (if w.fluent == f then after_write s d w w.change now else now)
+after_writes s d (w ∷ ws) f now =
+    after_writes s d ws f (if w.fluent == f then after_write s d w w.change now else now)
 
 abbrev pub after_events : ℕ → State → List Timed → ℕ → Option ℤ → Option ℤ
 after_events scale s [] f now = now
-after_events scale s (t ∷ ts) f now = after_events scale s ts f (after_writes s (units scale t.ticks) t.event.writes.items f now)
+after_events scale s (t ∷ ts) f now =
+    after_events scale s ts f (after_writes s (units scale t.ticks) t.event.writes.items f now)
 
 -- an atom after the deletes, and after the adds, of one event after another
 abbrev pub after_deletes : List Timed → ℕ → Bool → Bool
 after_deletes [] a now = now
-after_deletes (t ∷ ts) a now = after_deletes ts a (if has t.event.deletes.items a then false else now)
+after_deletes (t ∷ ts) a now =
+    after_deletes ts a (if has t.event.deletes.items a then false else now)
 
 abbrev pub after_adds : List Timed → ℕ → Bool → Bool
 after_adds [] a now = now

@@ -41,7 +41,8 @@ abbrev pub initial_value : List GroundInitial → Words → Option ℤ
 initial_value [] w = None
 initial_value (holds v ∷ is) w = initial_value is w
 initial_value (fails v ∷ is) w = initial_value is w
-initial_value (has_value v n ∷ is) w = or_else (initial_value is w) (if same_words w v then Some n else None)
+initial_value (has_value v n ∷ is) w =
+    or_else (initial_value is w) (if same_words w v then Some n else None)
 
 -- ---- by number
 

@@ -11,4 +11,6 @@ of_types ts = record { name = []; types = ts }
 
 -- whether these are the objects that fit the types
 abbrev pub is_known : Universe → Known → Bool
-is_known u k = same_words (map (λ o. o.now) k.names.items) (choices u (of_types (map string_bytes k.types.now)))
+is_known u k =
+    same_words
+    (map (λ o. o.now) k.names.items) (choices u (of_types (map string_bytes k.types.now)))

@@ -20,14 +20,18 @@ pub record Extends (old new : Tables) : Type 0 where
   pub fluents : Grows old.fluents new.fluents
 
 -- What was mentioned is numbered, and x says y in these tables and in all that extend them.
-pub record IsLowered {X Y : Type 0} (named : Tables → X → Y) (old new : Tables) (x : X) (y : Y) (m : Mentions) : Type 0 where
+pub record IsLowered {X Y : Type 0} (named : Tables → X → Y) (old new : Tables) (x : X) (y : Y)
+    (m : Mentions) : Type 0 where
   pub notes : Notes old new m
   pub says : (later : Tables) → Extends new later → named later x ≡ y
 
 -- More is mentioned than may be numbered. Want of memory says nothing.
 abbrev pub Overflows : Tables → Mentions → GroundFault → Type 0
-Overflows old m e = CannotNumber old.most (with_all old.atoms m.atoms) (with_all old.fluents m.fluents) e
+Overflows old m e =
+    CannotNumber old.most (with_all old.atoms m.atoms) (with_all old.fluents m.fluents) e
 
-abbrev pub Lowers : {X Y : Type 0} → (Tables → X → Y) → Tables → Result X GroundFault → Tables → Y → Mentions → Type 0
+abbrev pub Lowers :
+    {X Y : Type 0}
+    → (Tables → X → Y) → Tables → Result X GroundFault → Tables → Y → Mentions → Type 0
 Lowers named old (Ok x) new y m = IsLowered named old new x y m
 Lowers named old (Err e) new y m = Overflows old m e

@@ -64,15 +64,21 @@ of_each of (x ∷ xs) = of x then of_each of xs
 
 -- Of an event: its condition, its outcomes in their order, and for a start the rule.
 abbrev pub of_instant : Universe → Env → Condition → Effect → Mentions
-of_instant u env c e = of_condition (condition_in u env c) then of_each of_outcome (outcomes_in u env e)
+of_instant u env c e =
+    of_condition (condition_in u env c) then of_each of_outcome (outcomes_in u env e)
 
-abbrev pub of_start : Universe → Env → Rule → Joined (Timed Condition) → Joined (Timed Effect) → Mentions
-of_start u env r c e = of_condition (condition_at u AtStart env c) then of_each of_outcome (outcomes_at u AtStart env e) then of_each of_limit (limits_in env r)
+abbrev pub of_start :
+    Universe → Env → Rule → Joined (Timed Condition) → Joined (Timed Effect) → Mentions
+of_start u env r c e =
+    of_condition (condition_at u AtStart env c)
+    then of_each of_outcome (outcomes_at u AtStart env e) then of_each of_limit (limits_in env r)
 
 abbrev pub of_end : Universe → Env → Joined (Timed Condition) → Joined (Timed Effect) → Mentions
-of_end u env c e = of_condition (condition_at u AtEnd env c) then of_each of_outcome (outcomes_at u AtEnd env e)
+of_end u env c e =
+    of_condition (condition_at u AtEnd env c) then of_each of_outcome (outcomes_at u AtEnd env e)
 
 -- of a durative action: its start, its end, and what holds between them
 abbrev pub of_body : Universe → Env → actions.Body → Mentions
 of_body u env (actions.instant c e) = of_instant u env c e
-of_body u env (actions.durative r c e) = of_start u env r c e then of_end u env c e then of_condition (condition_at u OverAll env c)
+of_body u env (actions.durative r c e) =
+    of_start u env r c e then of_end u env c e then of_condition (condition_at u OverAll env c)

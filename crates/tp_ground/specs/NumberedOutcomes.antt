@@ -13,7 +13,8 @@ named_outcome t (Delete a) = deletes (words_at t.atoms a)
 named_outcome t (Write w) = writes (named_write t w)
 
 -- these are the adds, the deletes and the writes of some outcomes, whatever the tables
-pub record AreSplit (os : List NumberedOutcome) (ks ds : List ℕ) (ws : List NumericEffect) : Type 0 where
+pub record AreSplit (os : List NumberedOutcome) (ks ds : List ℕ)
+    (ws : List NumericEffect) : Type 0 where
   pub adds : (t : Tables) → map (words_at t.atoms) ks ≡ added (map (named_outcome t) os)
   pub deletes : (t : Tables) → map (words_at t.atoms) ds ≡ deleted (map (named_outcome t) os)
   pub writes : (t : Tables) → map (named_write t) ws ≡ written (map (named_outcome t) os)

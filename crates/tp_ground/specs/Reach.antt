@@ -30,9 +30,12 @@ abbrev mutual
 -- A set of atoms that has the initial ones and, with the condition of an event, what it adds.
 pub record IsClosed (initial : State) (acts : List GroundEvent) (reach : ℕ → Bool) : Type 0 where
   pub has_initial : (a : ℕ) → initial.atom a ≡ true → reach a ≡ true
-  pub has_added : (e : GroundEvent) → In e acts → met reach true e.condition ≡ true → (a : ℕ) → has e.adds.items a ≡ true → reach a ≡ true
+  pub has_added :
+      (e : GroundEvent) → In e acts
+      → met reach true e.condition ≡ true → (a : ℕ) → has e.adds.items a ≡ true → reach a ≡ true
 
 -- The relaxed reach is the least such set.
 pub record IsReach (initial : State) (acts : List GroundEvent) (reach : ℕ → Bool) : Type 0 where
   pub closed : IsClosed initial acts reach
-  pub least : (other : ℕ → Bool) → IsClosed initial acts other → (a : ℕ) → reach a ≡ true → other a ≡ true
+  pub least :
+      (other : ℕ → Bool) → IsClosed initial acts other → (a : ℕ) → reach a ≡ true → other a ≡ true

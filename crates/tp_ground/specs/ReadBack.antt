@@ -26,7 +26,8 @@ named_expression t = fold-Expr GroundExpression (named_expression_step t)
 
 abbrev pub named_condition_step : Tables → Cond-F GroundCondition → GroundCondition
 named_condition_step t (Cond-F.Atom a) = atom (words_at t.atoms a)
-named_condition_step t (Cond-F.Compare how x y) = compared how (named_expression t x) (named_expression t y)
+named_condition_step t (Cond-F.Compare how x y) =
+    compared how (named_expression t x) (named_expression t y)
 named_condition_step t (Cond-F.Not c) = negation c.value
 named_condition_step t (Cond-F.And cs) = all_of (conditions_from cs.items)
 named_condition_step t (Cond-F.Or cs) = any_of (conditions_from cs.items)
@@ -35,7 +36,12 @@ abbrev pub named_condition : Tables → Cond → GroundCondition
 named_condition t = fold-Cond GroundCondition (named_condition_step t)
 
 abbrev pub named_write : Tables → NumericEffect → GroundWrite
-named_write t w = record { change = w.change; fluent = words_at t.fluents w.fluent; value = named_expression t w.value }
+named_write t w =
+    record {
+      change = w.change;
+      fluent = words_at t.fluents w.fluent;
+      value = named_expression t w.value;
+    }
 
 abbrev pub named_limit : Tables → Limit → GroundLimit
 named_limit t l = record { how = l.how; value = named_expression t l.value }
@@ -51,4 +57,5 @@ named_event t e = record {
 
 abbrev pub named_body : Tables → Body → GroundBody
 named_body t (Instant e) = instant (named_event t e)
-named_body t (Durative start end invariant) = durative (named_event t start) (named_event t end) (named_condition t invariant)
+named_body t (Durative start end invariant) =
+    durative (named_event t start) (named_event t end) (named_condition t invariant)

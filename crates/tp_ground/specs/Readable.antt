@@ -15,4 +15,6 @@ are_names (w ∷ ws) = list_all is_name (w ∷ ws)
 pub record AreReadable (actions : List Words) : Type 0 where
   pub names : (i : ℕ) → i < length actions → are_names (words_at actions i) ≡ true
   pub lower : (i : ℕ) → i < length actions → AllByRecursion IsLower (words_at actions i)
-  pub found : (i : ℕ) → i < length actions → position_from (same_words (words_at actions i)) 0 actions ≡ Some i
+  pub found :
+      (i : ℕ)
+      → i < length actions → position_from (same_words (words_at actions i)) 0 actions ≡ Some i

@@ -20,14 +20,16 @@ coded_words = coded_list (coded_list (coded_list coded_ℕ))
 
 abbrev pub coded_tables : Coded Tables
 coded_tables =
-    code_by (List Words × (List Words × (List Words × ℕ))) (coded× coded_words (coded× coded_words (coded× coded_words coded_ℕ)))
+    code_by (List Words × (List Words × (List Words × ℕ)))
+    (coded× coded_words (coded× coded_words (coded× coded_words coded_ℕ)))
     (λ t. (t.atoms, (t.fluents, (t.actions, t.most))))
     (λ p. record { atoms = p.0; fluents = p.1.0; actions = p.1.1.0; most = p.1.1.1 })
     (λ _. refl)
 
 -- tables of the same atoms and fluents, with these actions
 abbrev pub with_actions : Tables → List Words → Tables
-with_actions t actions = record { atoms = t.atoms; fluents = t.fluents; actions = actions; most = t.most }
+with_actions t actions =
+    record { atoms = t.atoms; fluents = t.fluents; actions = actions; most = t.most }
 
 -- the words at a number
 abbrev pub words_at : List Words → ℕ → Words
@@ -45,5 +47,6 @@ CannotNumber most atoms fluents faults.Range = ⊥
 -- Why a label cannot be added to labels of a kind: there are as many as there may be, and it is new.
 abbrev pub IsFull : TooManyKind → ℕ → List (List ℕ) → List ℕ → GroundFault → Type 0
 IsFull kind most labels label faults.Memory = Unit {0}
-IsFull kind most labels label (faults.TooMany k) = (k ≡ kind) × (most < length (with_label labels label))
+IsFull kind most labels label (faults.TooMany k) =
+    (k ≡ kind) × (most < length (with_label labels label))
 IsFull kind most labels label faults.Range = ⊥

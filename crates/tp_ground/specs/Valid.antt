@@ -25,10 +25,29 @@ pub record Placed : Type 0 where
 
 -- The events of a step, numbered from k: its one event, or its start and its end.
 abbrev pub events_of : ℕ → Planned → Body → List Placed
-events_of k p (Instant e) = record { number = k; first = k; last = k; moment = p.moment; timed = record { event = e; ticks = 0 } } ∷ []
+events_of k p (Instant e) =
+    record {
+      number = k;
+      first = k;
+      last = k;
+      moment = p.moment;
+      timed = record { event = e; ticks = 0 };
+    } ∷ []
 events_of k p (Durative start end invariant) =
-    record { number = k; first = k; last = k + 1; moment = p.moment; timed = record { event = start; ticks = p.duration } }
-    ∷ record { number = k + 1; first = k; last = k + 1; moment = p.moment + p.duration; timed = record { event = end; ticks = p.duration } } ∷ []
+    record {
+      number = k;
+      first = k;
+      last = k + 1;
+      moment = p.moment;
+      timed = record { event = start; ticks = p.duration };
+    }
+    ∷ record {
+      number = k + 1;
+      first = k;
+      last = k + 1;
+      moment = p.moment + p.duration;
+      timed = record { event = end; ticks = p.duration };
+    } ∷ []
 
 abbrev pub count_of : Body → ℕ
 count_of (Instant e) = 1
@@ -49,16 +68,21 @@ at m es = map (λ e. e.timed) (filter (λ e. e.moment == m) es)
 -- A duration is lawful: it is at least a tick, and each comparison of the rule holds for it.
 pub record IsLawful (scale : ℕ) (s : State) (rule : List Limit) (ticks : ℕ) : Type 0 where
   pub tick : 1 ≤ ticks
-  pub rule_holds : AllByRecursion (λ l. compares_values l.how (Some (pos ticks)) (both ◌*ℤ◌ (Some (pos scale)) (value s None l.value)) ≡ true) rule
+  pub rule_holds :
+      AllByRecursion (λ l. compares_values l.how
+      (Some (pos ticks)) (both ◌*ℤ◌ (Some (pos scale)) (value s None l.value)) ≡ true) rule
 
 -- A step's duration is lawful before its start, and its invariant holds after each moment from its start to before its end.
-pub record StepHolds (scale : ℕ) (trace : ℕ → State) (moment duration : ℕ) (start : GroundEvent) (invariant : Cond) : Type 0 where
+pub record StepHolds (scale : ℕ) (trace : ℕ → State) (moment duration : ℕ) (start : GroundEvent)
+    (invariant : Cond) : Type 0 where
   pub lawful : IsLawful scale (trace moment) start.rule.items duration
-  pub invariant_holds : (m : ℕ) → moment ≤ m → m < moment + duration → holds (trace (m + 1)) invariant ≡ true
+  pub invariant_holds :
+      (m : ℕ) → moment ≤ m → m < moment + duration → holds (trace (m + 1)) invariant ≡ true
 
 abbrev pub BodyHolds : ℕ → (ℕ → State) → ℕ → ℕ → Body → Type 0
 BodyHolds scale trace moment duration (Instant e) = Unit {0}
-BodyHolds scale trace moment duration (Durative start end invariant) = StepHolds scale trace moment duration start invariant
+BodyHolds scale trace moment duration (Durative start end invariant) =
+    StepHolds scale trace moment duration start invariant
 
 -- A run of a plan: the state before each moment, from the initial state on. A moment without events changes nothing.
 pub record IsRun (scale : ℕ) (initial : State) (es : List Placed) (trace : ℕ → State) : Type 0 where
@@ -66,10 +90,12 @@ pub record IsRun (scale : ℕ) (initial : State) (es : List Placed) (trace : ℕ
   pub next : (m : ℕ) → Happens scale (trace m) (at m es) (trace (m + 1))
 
 -- A plan is valid if it has a run in which each duration is lawful, each invariant holds, and the goal holds in the end.
-pub record IsValidRun (scale : ℕ) (initial : State) (goal : Cond) (plan : List Planned) (trace : ℕ → State) : Type 0 where
+pub record IsValidRun (scale : ℕ) (initial : State) (goal : Cond) (plan : List Planned)
+    (trace : ℕ → State) : Type 0 where
   pub run : IsRun scale initial (events plan) trace
   pub steps : AllByRecursion (λ p. BodyHolds scale trace p.moment p.duration p.body) plan
-  pub last : (m : ℕ) → AllByRecursion (λ e. e.moment < m) (events plan) → holds (trace m) goal ≡ true
+  pub last :
+      (m : ℕ) → AllByRecursion (λ e. e.moment < m) (events plan) → holds (trace m) goal ≡ true
 
 abbrev pub IsValid : ℕ → State → Cond → List Planned → Type 0
 IsValid scale initial goal plan = (trace : ℕ → State) × IsValidRun scale initial goal plan trace

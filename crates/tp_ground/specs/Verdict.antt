@@ -32,11 +32,13 @@ abbrev pub is_unlawful : ℕ → State → ℕ → Body → Bool
 is_unlawful scale s ticks (Instant e) = false
 is_unlawful scale s ticks (Durative start end invariant) =
     list_all (λ l. is_some (value s None l.value)) start.rule.items
-    && not (nat_le 1 ticks && list_all (λ l. compares_values l.how (Some (pos ticks)) (both ◌*ℤ◌ (Some (pos scale)) (value s None l.value))) start.rule.items)
+    && not (nat_le 1 ticks && list_all (λ l. compares_values l.how
+    (Some (pos ticks)) (both ◌*ℤ◌ (Some (pos scale)) (value s None l.value))) start.rule.items)
 
 abbrev pub is_broken : State → ℕ → Planned → Body → Bool
 is_broken after m p (Instant e) = false
-is_broken after m p (Durative start end invariant) = nat_le p.moment m && (nat_lt m (p.moment + p.duration) && not (holds after invariant))
+is_broken after m p (Durative start end invariant) =
+    nat_le p.moment m && (nat_lt m (p.moment + p.duration) && not (holds after invariant))
 
 abbrev pub pair_or : ℕ → Option ℕ → Option (ℕ × ℕ) → Option (ℕ × ℕ)
 pair_or i (Some j) other = Some (i, j)
@@ -45,7 +47,9 @@ pair_or i None other = other
 -- the first two events at a moment that interfere, of a list that is numbered from i
 abbrev pub first_pair : ℕ → ℕ → List Placed → Option (ℕ × ℕ)
 first_pair m i [] = None
-first_pair m i (e ∷ es) = pair_or i (position_from (λ (u : Placed). ((e.moment == m) && (u.moment == m)) && interferes e.timed.event u.timed.event) (i + 1) es) (first_pair m (i + 1) es)
+first_pair m i (e ∷ es) =
+    pair_or i (position_from (λ (u : Placed). ((e.moment == m) && (u.moment == m))
+    && interferes e.timed.event u.timed.event) (i + 1) es) (first_pair m (i + 1) es)
 
 abbrev pub fault_or : {X : Type 0} → (X → Fault) → Option X → Option Fault → Option Fault
 fault_or name (Some x) other = Some (name x)
@@ -56,7 +60,8 @@ abbrev pub fault_at : ℕ → State → List Planned → ℕ → Option Fault
 fault_at scale initial plan m =
     let before : State = states scale initial (events plan) m in
     let after : State = states scale initial (events plan) (suc m) in
-    fault_or Duration (position_from (λ (p : Planned). (p.moment == m) && is_unlawful scale before p.duration p.body) 0 plan)
+    fault_or Duration (position_from
+    (λ (p : Planned). (p.moment == m) && is_unlawful scale before p.duration p.body) 0 plan)
     (fault_or Undefined (position_from (λ (e : Placed). (e.moment == m) && not (is_defined scale before e.timed)) 0 (events plan))
     (fault_or Condition (position_from (λ (e : Placed). (e.moment == m) && not (holds before e.timed.event.condition)) 0 (events plan))
     (fault_or Clash (position_from (λ (e : Placed). (e.moment == m) && mixes e.timed.event) 0 (events plan))
@@ -69,6 +74,12 @@ last_moment [] = 0
 last_moment (e ∷ es) = max e.moment (last_moment es)
 
 -- The first fault of a plan, and its moment.
-pub data IsFirstFault (scale : ℕ) (initial : State) (goal : Cond) (plan : List Planned) : ℕ → Fault → Type 0 where
-  at_moment : {m : ℕ} {why : Fault} → ((k : ℕ) → k < m → fault_at scale initial plan k ≡ None) → fault_at scale initial plan m ≡ Some why → IsFirstFault scale initial goal plan m why
-  at_goal : {m : ℕ} → ((k : ℕ) → fault_at scale initial plan k ≡ None) → m ≡ last_moment (events plan) → holds (states scale initial (events plan) (suc m)) goal ≡ false → IsFirstFault scale initial goal plan m Goal
+pub data IsFirstFault (scale : ℕ) (initial : State) (goal : Cond) (plan : List Planned) :
+    ℕ → Fault → Type 0 where
+  at_moment :
+      {m : ℕ} {why : Fault} → ((k : ℕ) → k < m → fault_at scale initial plan k ≡ None)
+      → fault_at scale initial plan m ≡ Some why → IsFirstFault scale initial goal plan m why
+  at_goal :
+      {m : ℕ} → ((k : ℕ) → fault_at scale initial plan k ≡ None) → m ≡ last_moment (events plan)
+      → holds (states scale initial (events plan) (suc m)) goal ≡ false
+      → IsFirstFault scale initial goal plan m Goal

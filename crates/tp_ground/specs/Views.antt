@@ -9,11 +9,16 @@ use Rattle.tp_ground.specs.declared.environment.Env.{Env, fold-Env}
 use Rattle.tp_ground.specs.declared.environment.Env.TheOpen.{Env-F}
 
 abbrev pub universe_view : Universe → bindings.Universe
-universe_view u = record { types = types_view u.types; objects = map typed_view u.constants.now ++ map typed_view u.objects.now }
+universe_view u =
+    record {
+      types = types_view u.types;
+      objects = map typed_view u.constants.now ++ map typed_view u.objects.now;
+    }
 
 abbrev pub env_step : Env-F bindings.Env → bindings.Env
 env_step Env-F.Empty = []
-env_step (Env-F.Inner vars names outer) = bound (map typed_view vars.now) (map (λ n. n.now) names.now) ++ outer.now
+env_step (Env-F.Inner vars names outer) =
+    bound (map typed_view vars.now) (map (λ n. n.now) names.now) ++ outer.now
 
 abbrev pub env_view : Env → bindings.Env
 env_view = fold-Env bindings.Env env_step

@@ -93,7 +93,8 @@ expression_in env (expressions.number n) = number n
 expression_in env (expressions.fluent f) = fluent (words_in env f)
 expression_in env (expressions.sum x y) = sum (expression_in env x) (expression_in env y)
 expression_in env (expressions.negative x) = negative (expression_in env x)
-expression_in env (expressions.difference x y) = difference (expression_in env x) (expression_in env y)
+expression_in env (expressions.difference x y) =
+    difference (expression_in env x) (expression_in env y)
 expression_in env (expressions.product x y) = product (expression_in env x) (expression_in env y)
 expression_in env expressions.the_duration = the_duration
 
@@ -132,9 +133,12 @@ abbrev mutual
   condition_in u env (conditions.all_of cs) = all_of (conditions_from (conditions_in u env cs))
   condition_in u env (conditions.any_of cs) = any_of (conditions_from (conditions_in u env cs))
   condition_in u env (conditions.negation c) = negation (condition_in u env c)
-  condition_in u env (conditions.implies c d) = either (negation (condition_in u env c)) (condition_in u env d)
-  condition_in u env (conditions.for_all vs c) = all_of (conditions_from (map (λ e. condition_in u e c) (inner u env vs)))
-  condition_in u env (conditions.for_some vs c) = any_of (conditions_from (map (λ e. condition_in u e c) (inner u env vs)))
+  condition_in u env (conditions.implies c d) =
+      either (negation (condition_in u env c)) (condition_in u env d)
+  condition_in u env (conditions.for_all vs c) =
+      all_of (conditions_from (map (λ e. condition_in u e c) (inner u env vs)))
+  condition_in u env (conditions.for_some vs c) =
+      any_of (conditions_from (map (λ e. condition_in u e c) (inner u env vs)))
   condition_in u env (conditions.fact f) = atom (words_in env f)
   condition_in u env (conditions.same a b) = same_in env a b
   condition_in u env (conditions.compared how x y) = compared_in env how x y
@@ -166,7 +170,8 @@ change_of writings.ScaleUp = ScaleUp
 abbrev pub outcome_in : Env → Outcome → GroundOutcome
 outcome_in env (effects.adds f) = adds (words_in env f)
 outcome_in env (effects.deletes f) = deletes (words_in env f)
-outcome_in env (effects.writes w f x) = writes (record { change = change_of w; fluent = words_in env f; value = expression_in env x })
+outcome_in env (effects.writes w f x) =
+    writes (record { change = change_of w; fluent = words_in env f; value = expression_in env x })
 
 -- an outcome is one wherever it stands
 abbrev pub outcome_part : Universe → Mark → Env → Outcome → List GroundOutcome
@@ -224,7 +229,8 @@ outcomes_at u m env e = parts_in u (outcomes_part u m) env e
 abbrev mutual
   pub limits_in : Env → Rule → List GroundLimit
   limits_in env (all_rules rs) = all_limits_in env rs
-  limits_in env (effects.rule how x) = record { how = comparison_of how; value = expression_in env x } ∷ []
+  limits_in env (effects.rule how x) =
+      record { how = comparison_of how; value = expression_in env x } ∷ []
 
   pub all_limits_in : Env → Rules → List GroundLimit
   all_limits_in env no_rules = []
@@ -233,17 +239,22 @@ abbrev mutual
 -- ---- actions
 
 abbrev pub happening : GroundCondition → List GroundOutcome → List GroundLimit → GroundHappening
-happening c os ls = record { condition = c; adds = added os; deletes = deleted os; writes = written os; rule = ls }
+happening c os ls =
+    record { condition = c; adds = added os; deletes = deleted os; writes = written os; rule = ls }
 
 abbrev pub instant_in : Universe → Env → Condition → Effect → GroundHappening
 instant_in u env c e = happening (condition_in u env c) (outcomes_in u env e) []
 
-abbrev pub start_in : Universe → Env → Rule → Joined (Timed Condition) → Joined (Timed Effect) → GroundHappening
-start_in u env r c e = happening (condition_at u AtStart env c) (outcomes_at u AtStart env e) (limits_in env r)
+abbrev pub start_in :
+    Universe → Env → Rule → Joined (Timed Condition) → Joined (Timed Effect) → GroundHappening
+start_in u env r c e =
+    happening (condition_at u AtStart env c) (outcomes_at u AtStart env e) (limits_in env r)
 
-abbrev pub end_in : Universe → Env → Joined (Timed Condition) → Joined (Timed Effect) → GroundHappening
+abbrev pub end_in :
+    Universe → Env → Joined (Timed Condition) → Joined (Timed Effect) → GroundHappening
 end_in u env c e = happening (condition_at u AtEnd env c) (outcomes_at u AtEnd env e) []
 
 abbrev pub body_in : Universe → Env → actions.Body → GroundBody
 body_in u env (actions.instant c e) = instant (instant_in u env c e)
-body_in u env (actions.durative r c e) = durative (start_in u env r c e) (end_in u env c e) (condition_at u OverAll env c)
+body_in u env (actions.durative r c e) =
+    durative (start_in u env r c e) (end_in u env c e) (condition_at u OverAll env c)

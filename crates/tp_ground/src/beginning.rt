@@ -27,7 +27,8 @@ fn entry(
     numbering: &mut Numbering,
     said: &Initial,
 ) -> Result<NumberedInitial, GroundFault>
-    ensures { Lowers named_initial numbering.old result numbering.new (initial_in (initial_view said.now)) (of_initial (initial_in (initial_view said.now))) }
+    ensures { Lowers named_initial numbering.old result numbering.new
+        (initial_in (initial_view said.now)) (of_initial (initial_in (initial_view said.now))) }
 {
     match said {
         Initial::Holds(fact) => {
@@ -51,7 +52,9 @@ pub fn entries(
     numbering: &mut Numbering,
     said: &[Initial],
 ) -> Result<Vec<NumberedInitial>, GroundFault>
-    ensures { Lowers (λ t v. map (named_initial t) v.items) numbering.old result numbering.new (map (λ i. initial_in (initial_view i)) said.now) (of_each of_initial (map (λ i. initial_in (initial_view i)) said.now)) }
+    ensures { Lowers (λ t v. map (named_initial t) v.items) numbering.old result numbering.new
+        (map (λ i. initial_in (initial_view i)) said.now)
+        (of_each of_initial (map (λ i. initial_in (initial_view i)) said.now)) }
 {
     let mut lowered = Vec::new(alloc);
     for one in said {
@@ -62,7 +65,8 @@ pub fn entries(
 
 // Makes the atoms true that hold.
 fn mark(truths: &mut [bool], entries: &[NumberedInitial])
-    ensures { (j : ℕ) → j < length truths.old → slice_index_or truths.new j false ≡ (true_at entries.now j || slice_index_or truths.old j false) }
+    ensures { (j : ℕ) → j < length truths.old → slice_index_or truths.new j false
+        ≡ (true_at entries.now j || slice_index_or truths.old j false) }
 {
     for one in entries {
         if let NumberedInitial::Holds(number) = one {
@@ -81,7 +85,8 @@ pub fn truths(
     entries: &[NumberedInitial],
 ) -> Result<Vec<bool>, AllocError>
     ensures length { IfOk result (λ v. length v.items ≡ count) }
-    ensures truths { IfOk result (λ v. (j : ℕ) → j < count → slice_index_or v.items j false ≡ true_at entries.now j) }
+    ensures truths { IfOk result
+        (λ v. (j : ℕ) → j < count → slice_index_or v.items j false ≡ true_at entries.now j) }
 {
     let mut truths = vec![in alloc; false; count]?;
     mark(truths.as_mut_slice(), entries);
@@ -90,7 +95,8 @@ pub fn truths(
 
 // Gives the fluents the values that there are.
 fn give(numbers: &mut [Option<i64>], entries: &[NumberedInitial])
-    ensures { (j : ℕ) → j < length numbers.old → slice_index_or numbers.new j None ≡ or_else (value_at entries.now j) (slice_index_or numbers.old j None) }
+    ensures { (j : ℕ) → j < length numbers.old → slice_index_or numbers.new j None
+        ≡ or_else (value_at entries.now j) (slice_index_or numbers.old j None) }
 {
     for one in entries {
         if let NumberedInitial::HasValue(number, value) = one {
@@ -109,7 +115,8 @@ pub fn numbers(
     entries: &[NumberedInitial],
 ) -> Result<Vec<Option<i64>>, AllocError>
     ensures length { IfOk result (λ v. length v.items ≡ count) }
-    ensures values { IfOk result (λ v. (j : ℕ) → j < count → slice_index_or v.items j None ≡ value_at entries.now j) }
+    ensures values { IfOk result
+        (λ v. (j : ℕ) → j < count → slice_index_or v.items j None ≡ value_at entries.now j) }
 {
     let mut numbers = vec![in alloc; None; count]?;
     give(numbers.as_mut_slice(), entries);

@@ -20,7 +20,8 @@ pub enum Env<'a> {
 
 // The object that one of these variables stands for.
 fn object_among<'a>(variables: &[Typed], objects: &[&'a str], name: &str) -> Option<&'a str>
-    ensures { option_map (λ o. o.now) result ≡ object_among (bound (map typed_view variables.now) (map (λ o. o.now) objects.now)) name.now }
+    ensures { option_map (λ o. o.now) result ≡ object_among
+        (bound (map typed_view variables.now) (map (λ o. o.now) objects.now)) name.now }
 {
     let mut left = objects;
     for variable in variables {
@@ -67,7 +68,8 @@ pub fn words_in<'a>(
     env: &Env<'a>,
     atom: &'a Atom,
 ) -> Result<SmallVec<&'a str, 4>, AllocError>
-    ensures { IfOk result (λ v. map (λ w. w.now) v.items ≡ words_in (env_view env.now) (atom_view atom.now)) }
+    ensures { IfOk result
+        (λ v. map (λ w. w.now) v.items ≡ words_in (env_view env.now) (atom_view atom.now)) }
 {
     let mut words = SmallVec::new(alloc);
     words.push(atom.name.as_str())?;

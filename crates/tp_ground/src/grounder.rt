@@ -54,7 +54,8 @@ struct Beginning {
 }
 
 fn has_too_many_objects(constants: &[Typed], objects: &[Typed]) -> bool
-    ensures { result ≡ nat_lt 65_535 (length (map typed_view constants.now ++ map typed_view objects.now)) }
+    ensures { result
+        ≡ nat_lt 65_535 (length (map typed_view constants.now ++ map typed_view objects.now)) }
 {
     constants.len() + objects.len() > MOST_OBJECTS
 }
@@ -65,7 +66,8 @@ fn plain_universe<'a>(
     domain: &'a Domain,
     problem: &'a Problem,
 ) -> Result<Universe<'a>, AllocError>
-    ensures { IfOk result (λ u. universe_view u ≡ universe_of (domain_view domain.now) (problem_view problem.now)) }
+    ensures { IfOk result
+        (λ u. universe_view u ≡ universe_of (domain_view domain.now) (problem_view problem.now)) }
 {
     Ok(Universe {
         types: Types::new(alloc, &domain.types)?,
@@ -81,7 +83,8 @@ fn universe_of<'a>(
     domain: &'a Domain,
     problem: &'a Problem,
 ) -> Result<Universe<'a>, AllocError>
-    ensures { IfOk result (λ u. universe_view u ≡ universe_of (domain_view domain.now) (problem_view problem.now)) }
+    ensures { IfOk result
+        (λ u. universe_view u ≡ universe_of (domain_view domain.now) (problem_view problem.now)) }
 {
     let mut universe = plain_universe(alloc, domain, problem)?;
     note_actions(alloc, &mut universe, &domain.actions)?;
@@ -91,9 +94,12 @@ fn universe_of<'a>(
 
 // What can be told before the types are looked at, whatever the limits.
 fn check(domain: &Domain, problem: &Problem) -> Result<(), GroundFault>
-    ensures numbers { OnOk result (has_great_number (domain_view domain.now) (problem_view problem.now) ≡ false) }
-    ensures objects { OnOk result (nat_lt 65_535 (length ((domain_view domain.now).constants ++ (problem_view problem.now).objects)) ≡ false) }
-    ensures err { IfErr result (λ e. (limits : RunLimits) → HasNoTask limits (domain_view domain.now) (problem_view problem.now) e) }
+    ensures numbers { OnOk result
+        (has_great_number (domain_view domain.now) (problem_view problem.now) ≡ false) }
+    ensures objects { OnOk result (nat_lt 65_535 (length
+        ((domain_view domain.now).constants ++ (problem_view problem.now).objects)) ≡ false) }
+    ensures err { IfErr result (λ e. (limits : RunLimits)
+        → HasNoTask limits (domain_view domain.now) (problem_view problem.now) e) }
 {
     if has_great_number(domain, problem) {
         return Err(GroundFault::Range);
@@ -107,8 +113,11 @@ fn check(domain: &Domain, problem: &Problem) -> Result<(), GroundFault>
 // Whether there are no more ground actions than there may be.
 fn check_actions(universe: &Universe, domain: &Domain, limits: &Limits) -> Result<(), GroundFault>
     ensures most { limits.now.actions ≤ 65_535 }
-    ensures few { OnOk result (length (ground_actions (universe_view universe.now) (domain_view domain.now).actions) ≤ limits.now.actions) }
-    ensures err { IfErr result (λ e. (e ≡ TooMany Actions) × (limits.now.actions < length (ground_actions (universe_view universe.now) (domain_view domain.now).actions))) }
+    ensures few { OnOk result
+        (length (ground_actions (universe_view universe.now) (domain_view domain.now).actions)
+        ≤ limits.now.actions) }
+    ensures err { IfErr result (λ e. (e ≡ TooMany Actions) × (limits.now.actions
+        < length (ground_actions (universe_view universe.now) (domain_view domain.now).actions))) }
 {
     if !actions_fit(universe, &domain.actions, limits.actions()) {
         return Err(GroundFault::TooMany(TooManyKind::Actions));
@@ -125,7 +134,10 @@ fn lower(
     goal: &tp_syntax::Cond,
     actions: &[Action],
 ) -> Result<LoweredTask, GroundFault>
-    ensures { Lowers named_task numbering.old result numbering.new (written_task (universe_view universe.now) (map initial_view initial.now) (cond_view goal.now) (map action_view actions.now)) (of_task (universe_view universe.now) (map initial_view initial.now) (cond_view goal.now) (map action_view actions.now)) }
+    ensures { Lowers named_task numbering.old result numbering.new
+        (written_task (universe_view universe.now) (map initial_view initial.now)
+        (cond_view goal.now) (map action_view actions.now)) (of_task (universe_view universe.now)
+        (map initial_view initial.now) (cond_view goal.now) (map action_view actions.now)) }
 {
     let entries = entries(alloc, numbering, initial)?;
     let goal = condition(alloc, universe, &Env::Empty, numbering, goal)?;
@@ -144,8 +156,12 @@ fn lower_task(
     domain: &Domain,
     problem: &Problem,
 ) -> Result<LoweredTask, GroundFault>
-    requires of_problem { universe_view universe.now ≡ universe_of (domain_view domain.now) (problem_view problem.now) }
-    ensures { Lowers named_task numbering.old result numbering.new (written_task (universe_of (domain_view domain.now) (problem_view problem.now)) (problem_view problem.now).initial (problem_view problem.now).goal (domain_view domain.now).actions) (mentioned (domain_view domain.now) (problem_view problem.now)) }
+    requires of_problem { universe_view universe.now
+        ≡ universe_of (domain_view domain.now) (problem_view problem.now) }
+    ensures { Lowers named_task numbering.old result numbering.new (written_task (universe_of
+        (domain_view domain.now) (problem_view problem.now)) (problem_view problem.now).initial
+        (problem_view problem.now).goal (domain_view domain.now).actions)
+        (mentioned (domain_view domain.now) (problem_view problem.now)) }
 {
     lower(
         alloc,
@@ -165,9 +181,16 @@ fn prepare(
     domain: &Domain,
     problem: &Problem,
 ) -> Result<LoweredTask, GroundFault>
-    requires of_problem { universe_view universe.now ≡ universe_of (domain_view domain.now) (problem_view problem.now) }
-    ensures lowered { Lowers named_task numbering.old result (with_actions numbering.new numbering.old.actions) (written_task (universe_of (domain_view domain.now) (problem_view problem.now)) (problem_view problem.now).initial (problem_view problem.now).goal (domain_view domain.now).actions) (mentioned (domain_view domain.now) (problem_view problem.now)) }
-    ensures names { OnOk result (numbering.new.actions ≡ numbering.old.actions ++ map (λ a. a.words) (ground_actions (universe_of (domain_view domain.now) (problem_view problem.now)) (domain_view domain.now).actions)) }
+    requires of_problem { universe_view universe.now
+        ≡ universe_of (domain_view domain.now) (problem_view problem.now) }
+    ensures lowered { Lowers named_task numbering.old result
+        (with_actions numbering.new numbering.old.actions) (written_task (universe_of
+        (domain_view domain.now) (problem_view problem.now)) (problem_view problem.now).initial
+        (problem_view problem.now).goal (domain_view domain.now).actions)
+        (mentioned (domain_view domain.now) (problem_view problem.now)) }
+    ensures names { OnOk result (numbering.new.actions ≡ numbering.old.actions ++ map (λ a. a.words)
+        (ground_actions (universe_of (domain_view domain.now) (problem_view problem.now))
+        (domain_view domain.now).actions)) }
 {
     let lowered = lower_task(alloc, &*universe, numbering, domain, problem)?;
     name_actions(alloc, universe, numbering, &domain.actions)?;
@@ -181,9 +204,12 @@ fn beginning_of(
     entries: &[NumberedInitial],
 ) -> Result<Beginning, AllocError>
     ensures atom_count { IfOk result (λ b. length b.truths.items ≡ length numbering.now.atoms) }
-    ensures atoms { IfOk result (λ b. (j : ℕ) → j < length numbering.now.atoms → slice_index_or b.truths.items j false ≡ true_at entries.now j) }
-    ensures fluent_count { IfOk result (λ b. length b.numbers.items ≡ length numbering.now.fluents) }
-    ensures numbers { IfOk result (λ b. (j : ℕ) → j < length numbering.now.fluents → slice_index_or b.numbers.items j None ≡ value_at entries.now j) }
+    ensures atoms { IfOk result (λ b. (j : ℕ) → j < length numbering.now.atoms
+        → slice_index_or b.truths.items j false ≡ true_at entries.now j) }
+    ensures fluent_count { IfOk result
+        (λ b. length b.numbers.items ≡ length numbering.now.fluents) }
+    ensures numbers { IfOk result (λ b. (j : ℕ) → j < length numbering.now.fluents
+        → slice_index_or b.numbers.items j None ≡ value_at entries.now j) }
     ensures few_atoms { OnOk result (length numbering.now.atoms ≤ numbering.now.most) }
     ensures few_fluents { OnOk result (length numbering.now.fluents ≤ numbering.now.most) }
 {
@@ -200,7 +226,8 @@ fn task_of(
     lowered: LoweredTask,
 ) -> Result<Task, AllocError>
     requires few { length lowered.actions.items ≤ 65_535 }
-    requires fits { list_all (body_fits (length numbering.atoms) (length numbering.fluents)) lowered.actions.items ≡ true }
+    requires fits { list_all (body_fits (length numbering.atoms) (length numbering.fluents))
+        lowered.actions.items ≡ true }
     requires all_named { length numbering.actions ≡ length lowered.actions.items }
     ensures made { IfOk result (IsMade limits scale numbering lowered) }
     ensures atoms { OnOk result (length numbering.atoms ≤ numbering.most) }
@@ -227,12 +254,20 @@ fn made(
     limits: &Limits,
     scale: Scale,
 ) -> Result<Task, GroundFault>
-    requires of_problem { universe_view universe.now ≡ universe_of (domain_view domain.now) (problem_view problem.now) }
-    requires few { length (ground_actions (universe_of (domain_view domain.now) (problem_view problem.now)) (domain_view domain.now).actions) ≤ 65_535 }
-    ensures ok { IfOk result (IsTask limits.now scale (domain_view domain.now) (problem_view problem.now)) }
-    ensures atoms { OnOk result (length (firsts (mentioned (domain_view domain.now) (problem_view problem.now)).atoms) ≤ limits.now.atoms) }
-    ensures fluents { OnOk result (length (firsts (mentioned (domain_view domain.now) (problem_view problem.now)).fluents) ≤ limits.now.atoms) }
-    ensures err { IfErr result (HasNoTask limits.now (domain_view domain.now) (problem_view problem.now)) }
+    requires of_problem { universe_view universe.now
+        ≡ universe_of (domain_view domain.now) (problem_view problem.now) }
+    requires few { length (ground_actions (universe_of (domain_view domain.now)
+        (problem_view problem.now)) (domain_view domain.now).actions) ≤ 65_535 }
+    ensures ok { IfOk result
+        (IsTask limits.now scale (domain_view domain.now) (problem_view problem.now)) }
+    ensures atoms { OnOk result
+        (length (firsts (mentioned (domain_view domain.now) (problem_view problem.now)).atoms)
+        ≤ limits.now.atoms) }
+    ensures fluents { OnOk result
+        (length (firsts (mentioned (domain_view domain.now) (problem_view problem.now)).fluents)
+        ≤ limits.now.atoms) }
+    ensures err { IfErr result
+        (HasNoTask limits.now (domain_view domain.now) (problem_view problem.now)) }
 {
     let mut numbering = Numbering::new(alloc, limits.atoms());
     let lowered = prepare(alloc, universe, &mut numbering, domain, problem)?;
@@ -250,13 +285,22 @@ pub fn ground(
     limits: &Limits,
     scale: Scale,
 ) -> Result<Task, GroundFault>
-    ensures ok { IfOk result (IsTask limits.now scale (domain_view domain.now) (problem_view problem.now)) }
-    ensures atoms { OnOk result (length (firsts (mentioned (domain_view domain.now) (problem_view problem.now)).atoms) ≤ limits.now.atoms) }
-    ensures fluents { OnOk result (length (firsts (mentioned (domain_view domain.now) (problem_view problem.now)).fluents) ≤ limits.now.atoms) }
-    ensures numbers { OnOk result (has_great_number (domain_view domain.now) (problem_view problem.now) ≡ false) }
-    ensures objects { OnOk result (nat_lt 65_535 (length ((domain_view domain.now).constants ++ (problem_view problem.now).objects)) ≡ false) }
-    ensures few { OnOk result (length (ground_actions (universe_of (domain_view domain.now) (problem_view problem.now)) (domain_view domain.now).actions) ≤ limits.now.actions) }
-    ensures err { IfErr result (HasNoTask limits.now (domain_view domain.now) (problem_view problem.now)) }
+    ensures ok { IfOk result
+        (IsTask limits.now scale (domain_view domain.now) (problem_view problem.now)) }
+    ensures atoms { OnOk result
+        (length (firsts (mentioned (domain_view domain.now) (problem_view problem.now)).atoms)
+        ≤ limits.now.atoms) }
+    ensures fluents { OnOk result
+        (length (firsts (mentioned (domain_view domain.now) (problem_view problem.now)).fluents)
+        ≤ limits.now.atoms) }
+    ensures numbers { OnOk result
+        (has_great_number (domain_view domain.now) (problem_view problem.now) ≡ false) }
+    ensures objects { OnOk result (nat_lt 65_535 (length
+        ((domain_view domain.now).constants ++ (problem_view problem.now).objects)) ≡ false) }
+    ensures few { OnOk result (length (ground_actions (universe_of (domain_view domain.now)
+        (problem_view problem.now)) (domain_view domain.now).actions) ≤ limits.now.actions) }
+    ensures err { IfErr result
+        (HasNoTask limits.now (domain_view domain.now) (problem_view problem.now)) }
 {
     check(domain, problem)?;
     let universe = universe_of(alloc, domain, problem)?;

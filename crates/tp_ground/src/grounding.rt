@@ -24,7 +24,8 @@ use tp_syntax::{Action, Typed};
 
 /// Whether all actions together have no more bindings than so many.
 pub fn actions_fit(universe: &Universe, actions: &[Action], most: u32) -> bool
-    ensures { result ≡ nat_le (length (ground_actions (universe_view universe.now) (map action_view actions.now))) most }
+    ensures { result ≡ nat_le
+        (length (ground_actions (universe_view universe.now) (map action_view actions.now))) most }
 {
     let mut left = most as usize;
     for action in actions {
@@ -43,7 +44,8 @@ fn push_names(
     action: &Action,
     rows: &mut Rows,
 ) -> Result<(), AllocError>
-    ensures actions { OnOk result (numbering.new.actions ≡ numbering.old.actions ++ map (λ ns. string_bytes action.now.name ∷ ns) (product (lists_of rows.old.lists.items))) }
+    ensures actions { OnOk result (numbering.new.actions ≡ numbering.old.actions ++ map
+        (λ ns. string_bytes action.now.name ∷ ns) (product (lists_of rows.old.lists.items))) }
     ensures atoms { numbering.new.atoms ≡ numbering.old.atoms }
     ensures fluents { numbering.new.fluents ≡ numbering.old.fluents }
     ensures most { numbering.new.most ≡ numbering.old.most }
@@ -63,7 +65,8 @@ pub fn name_actions(
     numbering: &mut Numbering,
     actions: &[Action],
 ) -> Result<(), AllocError>
-    ensures actions { OnOk result (numbering.new.actions ≡ numbering.old.actions ++ map (λ a. a.words) (ground_actions (universe_view universe.now) (map action_view actions.now))) }
+    ensures actions { OnOk result (numbering.new.actions ≡ numbering.old.actions ++ map (λ a.
+        a.words) (ground_actions (universe_view universe.now) (map action_view actions.now))) }
     ensures atoms { numbering.new.atoms ≡ numbering.old.atoms }
     ensures fluents { numbering.new.fluents ≡ numbering.old.fluents }
     ensures most { numbering.new.most ≡ numbering.old.most }
@@ -83,7 +86,13 @@ fn bodies(
     parameters: &[Typed],
     written: &tp_syntax::Body,
 ) -> Result<Vec<Body>, GroundFault>
-    ensures { Lowers (λ t v. map (named_body t) v.items) numbering.old result numbering.new (map (λ objects. body_in (universe_view universe.now) (bound (map typed_view parameters.now) objects) (body_view written.now)) (bindings (universe_view universe.now) (map typed_view parameters.now))) (of_each (λ objects. of_body (universe_view universe.now) (bound (map typed_view parameters.now) objects) (body_view written.now)) (bindings (universe_view universe.now) (map typed_view parameters.now))) }
+    ensures { Lowers (λ t v. map (named_body t) v.items) numbering.old result numbering.new
+        (map (λ objects. body_in (universe_view universe.now)
+        (bound (map typed_view parameters.now) objects) (body_view written.now))
+        (bindings (universe_view universe.now) (map typed_view parameters.now)))
+        (of_each (λ objects. of_body (universe_view universe.now)
+        (bound (map typed_view parameters.now) objects) (body_view written.now))
+        (bindings (universe_view universe.now) (map typed_view parameters.now))) }
 {
     let mut rows = rows_of(alloc, universe, parameters)?;
     let outside = Env::Empty;
@@ -103,7 +112,9 @@ pub fn lower_actions(
     numbering: &mut Numbering,
     actions: &[Action],
 ) -> Result<Vec<Body>, GroundFault>
-    ensures { Lowers (λ t v. map (named_body t) v.items) numbering.old result numbering.new (map (λ a. a.body) (ground_actions (universe_view universe.now) (map action_view actions.now))) (of_each (of_action (universe_view universe.now)) (map action_view actions.now)) }
+    ensures { Lowers (λ t v. map (named_body t) v.items) numbering.old result numbering.new (map
+        (λ a. a.body) (ground_actions (universe_view universe.now) (map action_view actions.now)))
+        (of_each (of_action (universe_view universe.now)) (map action_view actions.now)) }
 {
     let mut lowered = Vec::new(alloc);
     for action in actions {

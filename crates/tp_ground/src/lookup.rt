@@ -40,7 +40,8 @@ fn is_label(numbers: &Numbers, label: &[usize]) -> bool
 
 // Where the first label of these numbers stands.
 fn position_of(numbers: &Numbers, labels: &[Label]) -> Option<usize>
-    ensures { result ≡ position_from (pointwise nat_eq (numbers_view numbers.now)) 0 (map (λ l. l.items) labels.now) }
+    ensures { result ≡ position_from
+        (pointwise nat_eq (numbers_view numbers.now)) 0 (map (λ l. l.items) labels.now) }
 {
     for (place, label) in labels.iter().enumerate() {
         if is_label(numbers, label.as_slice()) {
@@ -59,9 +60,12 @@ fn find_by_numbers(
     known: &Numbers,
 ) -> Option<usize>
     requires distinct { IsDistinct bytes_eq (map string_bytes names.now.keys) }
-    requires named { AllByRecursion (AreNamed (length (map string_bytes names.now.keys))) (map (λ l. l.items) labels.now) }
+    requires named { AllByRecursion
+        (AreNamed (length (map string_bytes names.now.keys))) (map (λ l. l.items) labels.now) }
     requires known { AreNamed (length (map string_bytes names.now.keys)) (numbers_view known.now) }
-    ensures { result ≡ position_from (same_words (name.now ∷ (map (λ w. w.now) left.now ++ named (map string_bytes names.now.keys) (numbers_view known.now)))) 0 (map (named (map string_bytes names.now.keys)) (map (λ l. l.items) labels.now)) }
+    ensures { result ≡ position_from (same_words (name.now ∷ (map (λ w. w.now) left.now
+        ++ named (map string_bytes names.now.keys) (numbers_view known.now)))) 0
+        (map (named (map string_bytes names.now.keys)) (map (λ l. l.items) labels.now)) }
 {
     let [others @ .., last] = left else {
         let number = names.get_index_of(name)?;
@@ -73,7 +77,8 @@ fn find_by_numbers(
 
 // Whether a number's name is this word.
 fn is_name(names: &IndexSet<String>, number: usize, word: &str) -> bool
-    ensures { result ≡ bytes_eq word.now (slice_index_or (map string_bytes names.now.keys) number []) }
+    ensures { result
+        ≡ bytes_eq word.now (slice_index_or (map string_bytes names.now.keys) number []) }
 {
     match names.get_index(number) {
         Some(name) => word == name.as_str(),
@@ -83,7 +88,8 @@ fn is_name(names: &IndexSet<String>, number: usize, word: &str) -> bool
 
 // Whether numbers' names are these words.
 fn are_names(names: &IndexSet<String>, numbers: &[usize], words: &[&str]) -> bool
-    ensures { result ≡ same_words (map (λ w. w.now) words.now) (named (map string_bytes names.now.keys) numbers.now) }
+    ensures { result ≡ same_words
+        (map (λ w. w.now) words.now) (named (map string_bytes names.now.keys) numbers.now) }
 {
     let mut left = words;
     let mut open = numbers;
@@ -102,7 +108,8 @@ fn are_names(names: &IndexSet<String>, numbers: &[usize], words: &[&str]) -> boo
 
 // Whether a label has exactly these words: a name and its objects.
 fn is_called(names: &IndexSet<String>, label: &[usize], name: &str, args: &[&str]) -> bool
-    ensures { result ≡ same_words (name.now ∷ map (λ w. w.now) args.now) (named (map string_bytes names.now.keys) label.now) }
+    ensures { result ≡ same_words
+        (name.now ∷ map (λ w. w.now) args.now) (named (map string_bytes names.now.keys) label.now) }
 {
     match label {
         [first, rest @ ..] => is_name(names, *first, name) && are_names(names, rest, args),
@@ -117,7 +124,8 @@ fn find_by_names(
     name: &str,
     args: &[&str],
 ) -> Option<usize>
-    ensures { result ≡ position_from (same_words (name.now ∷ map (λ w. w.now) args.now)) 0 (map (named (map string_bytes names.now.keys)) (map (λ l. l.items) labels.now)) }
+    ensures { result ≡ position_from (same_words (name.now ∷ map (λ w. w.now) args.now)) 0
+        (map (named (map string_bytes names.now.keys)) (map (λ l. l.items) labels.now)) }
 {
     for (place, label) in labels.iter().enumerate() {
         if is_called(names, label.as_slice(), name, args) {
@@ -130,8 +138,10 @@ fn find_by_names(
 /// Where the first label of these words stands: a name and its objects.
 pub fn find(names: &IndexSet<String>, labels: &[Label], name: &str, args: &[&str]) -> Option<usize>
     requires distinct { IsDistinct bytes_eq (map string_bytes names.now.keys) }
-    requires named { AllByRecursion (AreNamed (length (map string_bytes names.now.keys))) (map (λ l. l.items) labels.now) }
-    ensures { result ≡ position_from (same_words (name.now ∷ map (λ w. w.now) args.now)) 0 (map (named (map string_bytes names.now.keys)) (map (λ l. l.items) labels.now)) }
+    requires named { AllByRecursion
+        (AreNamed (length (map string_bytes names.now.keys))) (map (λ l. l.items) labels.now) }
+    ensures { result ≡ position_from (same_words (name.now ∷ map (λ w. w.now) args.now)) 0
+        (map (named (map string_bytes names.now.keys)) (map (λ l. l.items) labels.now)) }
 {
     if args.len() > MOST_CHAINED {
         return find_by_names(names, labels, name, args);
@@ -151,7 +161,8 @@ pub fn label_at<'a>(labels: &'a [Label], number: u32) -> &'a [usize]
 
 /// The words of a label as text, with one space between.
 pub fn text_of(names: &IndexSet<String>, label: &[usize]) -> Result<String, AllocError>
-    ensures { IfOk result (λ s. string_bytes s ≡ text_of_words (named (map string_bytes names.now.keys) label.now)) }
+    ensures { IfOk result
+        (λ s. string_bytes s ≡ text_of_words (named (map string_bytes names.now.keys) label.now)) }
 {
     let mut text = String::from_str(*names.allocator(), "(")?;
     if let [first, rest @ ..] = label {
@@ -167,7 +178,8 @@ pub fn text_of(names: &IndexSet<String>, label: &[usize]) -> Result<String, Allo
 
 // The name of a number, after what stands there.
 fn push_name(text: &mut String, names: &IndexSet<String>, number: usize) -> Result<(), AllocError>
-    ensures { OnOk result (string_bytes text.new ≡ string_bytes text.old ++ slice_index_or (map string_bytes names.now.keys) number []) }
+    ensures { OnOk result (string_bytes text.new
+        ≡ string_bytes text.old ++ slice_index_or (map string_bytes names.now.keys) number []) }
 {
     match names.get_index(number) {
         Some(name) => text.push_str(name.as_str()),
@@ -179,7 +191,8 @@ fn push_name(text: &mut String, names: &IndexSet<String>, number: usize) -> Resu
 pub fn word_of<'a>(names: &'a IndexSet<String>, label: &[usize], place: usize) -> Option<&'a str>
     requires { AreNamed (length (map string_bytes names.now.keys)) label.now }
     ensures few { IfSome result (λ _. place + 1 < 2 ^ 64) }
-    ensures word { option_map (λ w. w.now) result ≡ slice_get (named (map string_bytes names.now.keys) label.now) place }
+    ensures word { option_map (λ w. w.now) result
+        ≡ slice_get (named (map string_bytes names.now.keys) label.now) place }
 {
     // No slice has 2^64 elements.
     let _count = label.len();

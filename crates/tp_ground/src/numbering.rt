@@ -34,15 +34,23 @@ impl Model for Numbering {
 
     ghost use Rattle.tp_ground.specs.Labels.{named, IsNumbering};
 
-    ghost view = { λ n. record { atoms = map (named (map string_bytes n.names.keys)) (map (λ l. l.items) n.atoms.keys); fluents = map (named (map string_bytes n.names.keys)) (map (λ l. l.items) n.fluents.keys); actions = map (named (map string_bytes n.names.keys)) (map (λ l. l.items) n.actions.items); most = n.most } };
+    ghost view = { λ n. record {
+      atoms = map (named (map string_bytes n.names.keys)) (map (λ l. l.items) n.atoms.keys);
+      fluents = map (named (map string_bytes n.names.keys)) (map (λ l. l.items) n.fluents.keys);
+      actions = map (named (map string_bytes n.names.keys)) (map (λ l. l.items) n.actions.items);
+      most = n.most;
+    } };
 
-    ghost invariant = { λ n. IsNumbering (map string_bytes n.names.keys) (map (λ l. l.items) n.atoms.keys) (map (λ l. l.items) n.fluents.keys) (map (λ l. l.items) n.actions.items) n.most };
+    ghost invariant = { λ n.
+        IsNumbering (map string_bytes n.names.keys) (map (λ l. l.items) n.atoms.keys)
+        (map (λ l. l.items) n.fluents.keys) (map (λ l. l.items) n.actions.items) n.most };
 }
 
 // The number of a name, which gets one if it has none.
 fn name_number(names: &mut IndexSet<String>, name: &str) -> Result<usize, AllocError>
     requires { IsDistinct bytes_eq (map string_bytes names.old.keys) }
-    ensures number { IfOk result (λ i. slice_get (map string_bytes names.new.keys) i ≡ Some name.now) }
+    ensures number { IfOk result
+        (λ i. slice_get (map string_bytes names.new.keys) i ≡ Some name.now) }
     ensures grows { Grows (map string_bytes names.old.keys) (map string_bytes names.new.keys) }
     ensures distinct { IsDistinct bytes_eq (map string_bytes names.new.keys) }
 {
@@ -57,8 +65,10 @@ fn name_number(names: &mut IndexSet<String>, name: &str) -> Result<usize, AllocE
 // The label of words.
 fn label_of(names: &mut IndexSet<String>, words: &[&str]) -> Result<Label, AllocError>
     requires { IsDistinct bytes_eq (map string_bytes names.old.keys) }
-    ensures label { IfOk result (λ l. named (map string_bytes names.new.keys) l.items ≡ map (λ w. w.now) words.now) }
-    ensures in_range { IfOk result (λ l. AreNamed (length (map string_bytes names.new.keys)) l.items) }
+    ensures label { IfOk result
+        (λ l. named (map string_bytes names.new.keys) l.items ≡ map (λ w. w.now) words.now) }
+    ensures in_range { IfOk result
+        (λ l. AreNamed (length (map string_bytes names.new.keys)) l.items) }
     ensures grows { Grows (map string_bytes names.old.keys) (map string_bytes names.new.keys) }
     ensures distinct { IsDistinct bytes_eq (map string_bytes names.new.keys) }
 {
@@ -78,8 +88,10 @@ fn place_of(
     kind: TooManyKind,
 ) -> Result<u32, GroundFault>
     requires { length (map (λ l. l.items) labels.old.keys) ≤ most }
-    ensures place { IfOk result (λ i. slice_get (map (λ l. l.items) labels.new.keys) i ≡ Some label.items) }
-    ensures added { OnOk result (map (λ l. l.items) labels.new.keys ≡ with_label (map (λ l. l.items) labels.old.keys) label.items) }
+    ensures place { IfOk result
+        (λ i. slice_get (map (λ l. l.items) labels.new.keys) i ≡ Some label.items) }
+    ensures added { OnOk result (map (λ l. l.items) labels.new.keys
+        ≡ with_label (map (λ l. l.items) labels.old.keys) label.items) }
     ensures unchanged { OnErr result (labels.new.keys ≡ labels.old.keys) }
     ensures few { length (map (λ l. l.items) labels.new.keys) ≤ most }
     ensures err { IfErr result (IsFull kind most (map (λ l. l.items) labels.old.keys) label.items) }
@@ -123,13 +135,16 @@ impl Numbering {
 
     /// The number of an atom, which gets the next one if it has none.
     pub fn atom(&mut self, words: &[&str]) -> Result<u32, GroundFault>
-        ensures atoms { OnOk result (self.new.atoms ≡ with_words self.old.atoms (map (λ w. w.now) words.now)) }
-        ensures place { IfOk result (λ i. slice_get self.new.atoms i ≡ Some (map (λ w. w.now) words.now)) }
+        ensures atoms { OnOk result
+            (self.new.atoms ≡ with_words self.old.atoms (map (λ w. w.now) words.now)) }
+        ensures place { IfOk result
+            (λ i. slice_get self.new.atoms i ≡ Some (map (λ w. w.now) words.now)) }
         ensures unchanged { OnErr result (self.new.atoms ≡ self.old.atoms) }
         ensures fluents { self.new.fluents ≡ self.old.fluents }
         ensures actions { self.new.actions ≡ self.old.actions }
         ensures most { self.new.most ≡ self.old.most }
-        ensures err { IfErr result (CannotNumber self.old.most (with_words self.old.atoms (map (λ w. w.now) words.now)) self.old.fluents) }
+        ensures err { IfErr result (CannotNumber self.old.most
+            (with_words self.old.atoms (map (λ w. w.now) words.now)) self.old.fluents) }
     {
         let label = label_of(&mut self.names, words)?;
         place_of(&mut self.atoms, self.most, label, TooManyKind::Atoms)
@@ -137,13 +152,16 @@ impl Numbering {
 
     /// The number of a fluent, which gets the next one if it has none.
     pub fn fluent(&mut self, words: &[&str]) -> Result<u32, GroundFault>
-        ensures fluents { OnOk result (self.new.fluents ≡ with_words self.old.fluents (map (λ w. w.now) words.now)) }
-        ensures place { IfOk result (λ i. slice_get self.new.fluents i ≡ Some (map (λ w. w.now) words.now)) }
+        ensures fluents { OnOk result
+            (self.new.fluents ≡ with_words self.old.fluents (map (λ w. w.now) words.now)) }
+        ensures place { IfOk result
+            (λ i. slice_get self.new.fluents i ≡ Some (map (λ w. w.now) words.now)) }
         ensures unchanged { OnErr result (self.new.fluents ≡ self.old.fluents) }
         ensures atoms { self.new.atoms ≡ self.old.atoms }
         ensures actions { self.new.actions ≡ self.old.actions }
         ensures most { self.new.most ≡ self.old.most }
-        ensures err { IfErr result (CannotNumber self.old.most self.old.atoms (with_words self.old.fluents (map (λ w. w.now) words.now))) }
+        ensures err { IfErr result (CannotNumber self.old.most self.old.atoms
+            (with_words self.old.fluents (map (λ w. w.now) words.now))) }
     {
         let label = label_of(&mut self.names, words)?;
         place_of(&mut self.fluents, self.most, label, TooManyKind::Fluents)
@@ -151,7 +169,8 @@ impl Numbering {
 
     /// Numbers one more action.
     pub fn push_action(&mut self, words: &[&str]) -> Result<(), AllocError>
-        ensures actions { OnOk result (self.new.actions ≡ self.old.actions ++ map (λ w. w.now) words.now ∷ []) }
+        ensures actions { OnOk result
+            (self.new.actions ≡ self.old.actions ++ map (λ w. w.now) words.now ∷ []) }
         ensures unchanged { OnErr result (self.new.actions ≡ self.old.actions) }
         ensures atoms { self.new.atoms ≡ self.old.atoms }
         ensures fluents { self.new.fluents ≡ self.old.fluents }
@@ -164,21 +183,24 @@ impl Numbering {
 
     /// Where the first action of these words stands.
     pub fn find_action(&self, name: &str, args: &[&str]) -> Option<usize>
-        ensures { result ≡ position_from (same_words (name.now ∷ map (λ a. a.now) args.now)) 0 self.now.actions }
+        ensures { result
+            ≡ position_from (same_words (name.now ∷ map (λ a. a.now) args.now)) 0 self.now.actions }
     {
         find(&self.names, &self.actions, name, args)
     }
 
     /// An atom as text.
     pub fn atom_text(&self, number: u32) -> Result<String, AllocError>
-        ensures { IfOk result (λ s. string_bytes s ≡ text_of_words (words_at self.now.atoms number)) }
+        ensures { IfOk result
+            (λ s. string_bytes s ≡ text_of_words (words_at self.now.atoms number)) }
     {
         text_of(&self.names, label_at(self.atoms.as_slice(), number))
     }
 
     /// An action as text.
     pub fn action_text(&self, number: u32) -> Result<String, AllocError>
-        ensures { IfOk result (λ s. string_bytes s ≡ text_of_words (words_at self.now.actions number)) }
+        ensures { IfOk result
+            (λ s. string_bytes s ≡ text_of_words (words_at self.now.actions number)) }
     {
         text_of(&self.names, label_at(&self.actions, number))
     }
@@ -186,7 +208,8 @@ impl Numbering {
     /// A word of an action: its name at 0, and then its objects.
     pub fn action_word(&self, number: u32, place: usize) -> Option<&str>
         ensures few { IfSome result (λ _. place + 1 < 2 ^ 64) }
-        ensures word { option_map (λ w. w.now) result ≡ slice_get (words_at self.now.actions number) place }
+        ensures word { option_map (λ w. w.now) result
+            ≡ slice_get (words_at self.now.actions number) place }
     {
         word_of(&self.names, label_at(&self.actions, number), place)
     }

@@ -18,7 +18,11 @@ pub struct Universe<'a> {
     /// What was looked for before, and where the last of those stands whose first type has a name.
     pub known: Vec<Known<'a>>,
     pub places: IndexMap<&'a str, usize>,
-    ghost right: { list_all (is_known (record { types = types_view types; objects = map typed_view constants.now ++ map typed_view objects.now })) known.items ≡ true },
+    ghost right: { list_all (is_known (record {
+      types = types_view types;
+      objects
+          = map typed_view constants.now ++ map typed_view objects.now;
+    })) known.items ≡ true },
 }
 
 /// The objects that fit some types, and where the one before stands whose first type has the same name.

@@ -24,7 +24,8 @@ impl<'a> Rows<'a> {
     /// Makes the row the binding at a place: a name of each list, the first of which varies slowest.
     pub fn turn_to(&mut self, place: usize)
         requires { place < self.old.count }
-        ensures row { map (λ o. o.now) self.new.row.items ≡ slice_index_or (product (lists_of self.old.lists.items)) place [] }
+        ensures row { map (λ o. o.now) self.new.row.items
+            ≡ slice_index_or (product (lists_of self.old.lists.items)) place [] }
         ensures lists { self.new.lists ≡ self.old.lists }
         ensures count { self.new.count ≡ self.old.count }
     {
@@ -37,7 +38,8 @@ fn fill<'a>(row: &mut [&'a str], lists: &[Vec<&'a str>], count: usize, place: us
     requires long { length row.old ≡ length lists.now }
     requires counted { count ≡ length (product (lists_of lists.now)) }
     requires within { place < count }
-    ensures names { map (λ o. o.now) row.new ≡ slice_index_or (product (lists_of lists.now)) place [] }
+    ensures names { map (λ o. o.now) row.new
+        ≡ slice_index_or (product (lists_of lists.now)) place [] }
     ensures long { length row.new ≡ length row.old }
 {
     let mut left = count;
@@ -56,7 +58,8 @@ fn lists_of<'a>(
     universe: &Universe<'a>,
     variables: &[Typed],
 ) -> Result<Vec<Vec<&'a str>>, AllocError>
-    ensures { IfOk result (λ v. lists_of v.items ≡ map (choices (universe_view universe.now)) (map typed_view variables.now)) }
+    ensures { IfOk result (λ v. lists_of v.items
+        ≡ map (choices (universe_view universe.now)) (map typed_view variables.now)) }
 {
     let mut lists = Vec::with_capacity(alloc, variables.len())?;
     for variable in variables {
@@ -89,7 +92,8 @@ pub fn rows_of<'a>(
     universe: &Universe<'a>,
     variables: &[Typed],
 ) -> Result<Rows<'a>, AllocError>
-    ensures { IfOk result (λ r. product (lists_of r.lists.items) ≡ bindings (universe_view universe.now) (map typed_view variables.now)) }
+    ensures { IfOk result (λ r. product (lists_of r.lists.items)
+        ≡ bindings (universe_view universe.now) (map typed_view variables.now)) }
 {
     match count_bindings(universe, variables, usize::MAX) {
         None => Err(AllocError),

@@ -41,14 +41,16 @@ pub struct Task {
     pub initial_numbers: Vec<Option<i64>>,
     pub goal: Cond,
     ghost few_actions: { length actions.items ≤ 65535 },
-    ghost fits: { list_all (body_fits (length initial_atoms.items) (length initial_numbers.items)) actions.items ≡ true },
+    ghost fits: { list_all (body_fits (length initial_atoms.items) (length initial_numbers.items))
+        actions.items ≡ true },
     ghost all_named: { length numbering.actions ≡ length actions.items },
 }
 
 impl Task {
     /// The ground action of these words: its name, and its objects in order. All are in lower case.
     pub fn action(&self, name: &str, args: &[&str]) -> Option<ActionId>
-        ensures { option_map (λ i. i.0) result ≡ position_from (same_words (name.now ∷ map (λ a. a.now) args.now)) 0 self.now.numbering.actions }
+        ensures { option_map (λ i. i.0) result ≡ position_from
+            (same_words (name.now ∷ map (λ a. a.now) args.now)) 0 self.now.numbering.actions }
     {
         let number = self.numbering.find_action(name, args)?;
         Some(ActionId(number as u32))
@@ -56,14 +58,16 @@ impl Task {
 
     /// An atom as text: `(NAME OBJECT ..)`.
     pub fn atom_text(&self, atom: AtomId) -> Result<String, AllocError>
-        ensures { IfOk result (λ s. string_bytes s ≡ text_of_words (words_at self.now.numbering.atoms atom.0)) }
+        ensures { IfOk result
+            (λ s. string_bytes s ≡ text_of_words (words_at self.now.numbering.atoms atom.0)) }
     {
         self.numbering.atom_text(atom.0)
     }
 
     /// A ground action as text: `(NAME OBJECT ..)`.
     pub fn action_text(&self, action: ActionId) -> Result<String, AllocError>
-        ensures { IfOk result (λ s. string_bytes s ≡ text_of_words (words_at self.now.numbering.actions action.0)) }
+        ensures { IfOk result
+            (λ s. string_bytes s ≡ text_of_words (words_at self.now.numbering.actions action.0)) }
     {
         self.numbering.action_text(action.0)
     }
@@ -71,7 +75,8 @@ impl Task {
     /// A word of a ground action: its name at 0, and then its objects.
     pub fn action_word(&self, action: ActionId, place: usize) -> Option<&str>
         ensures few { IfSome result (λ _. place + 1 < 2 ^ 64) }
-        ensures word { option_map (λ w. w.now) result ≡ slice_get (words_at self.now.numbering.actions action.0) place }
+        ensures word { option_map (λ w. w.now) result
+            ≡ slice_get (words_at self.now.numbering.actions action.0) place }
     {
         self.numbering.action_word(action.0, place)
     }

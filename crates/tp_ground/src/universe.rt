@@ -41,7 +41,8 @@ fn find_known<'u, 'a>(
     places: &IndexMap<&'a str, usize>,
     types: &[String],
 ) -> Option<&'u [&'a str]>
-    ensures { (u : bindings.Universe) → list_all (is_known u) known.now ≡ true → IfSome result (λ ns. map (λ o. o.now) ns.now ≡ choices u (of_types (map string_bytes types.now))) }
+    ensures { (u : bindings.Universe) → list_all (is_known u) known.now ≡ true → IfSome result
+        (λ ns. map (λ o. o.now) ns.now ≡ choices u (of_types (map string_bytes types.now))) }
 {
     let first = types.first()?;
     let mut place = *places.get(first.as_str())?;
@@ -57,7 +58,8 @@ fn find_known<'u, 'a>(
 
 // How many of these objects fit a variable.
 fn count_fitting(types: &Types, objects: &[Typed], variable: &Typed) -> usize
-    ensures count { result ≡ length (fitting (types_view types.now) (map typed_view objects.now) (typed_view variable.now)) }
+    ensures count { result ≡ length
+        (fitting (types_view types.now) (map typed_view objects.now) (typed_view variable.now)) }
     ensures few { result ≤ length objects.now }
 {
     let mut count = 0;
@@ -76,7 +78,8 @@ fn push_fitting<'a>(
     objects: &'a [Typed],
     variable: &Typed,
 ) -> Result<(), AllocError>
-    ensures { OnOk result (map (λ o. o.now) names.new.items ≡ map (λ o. o.now) names.old.items ++ fitting (types_view types.now) (map typed_view objects.now) (typed_view variable.now)) }
+    ensures { OnOk result (map (λ o. o.now) names.new.items ≡ map (λ o. o.now) names.old.items
+        ++ fitting (types_view types.now) (map typed_view objects.now) (typed_view variable.now)) }
 {
     for object in objects {
         if types_fit(types, object.type_names(), variable.type_names()) {
@@ -92,7 +95,8 @@ fn all_fitting<'a>(
     universe: &Universe<'a>,
     variable: &Typed,
 ) -> Result<Vec<&'a str>, AllocError>
-    ensures { IfOk result (λ v. map (λ o. o.now) v.items ≡ choices (universe_view universe.now) (typed_view variable.now)) }
+    ensures { IfOk result (λ v.
+        map (λ o. o.now) v.items ≡ choices (universe_view universe.now) (typed_view variable.now)) }
 {
     let mut names = Vec::new(alloc);
     push_fitting(&mut names, &universe.types, universe.constants, variable)?;
@@ -114,7 +118,8 @@ pub fn choices<'a>(
     universe: &Universe<'a>,
     variable: &Typed,
 ) -> Result<Vec<&'a str>, AllocError>
-    ensures { IfOk result (λ v. map (λ o. o.now) v.items ≡ choices (universe_view universe.now) (typed_view variable.now)) }
+    ensures { IfOk result (λ v.
+        map (λ o. o.now) v.items ≡ choices (universe_view universe.now) (typed_view variable.now)) }
 {
     match find_known(&universe.known, &universe.places, variable.type_names()) {
         Some(names) => copied(alloc, names),
@@ -128,7 +133,8 @@ fn keep<'a>(
     variable: &'a Typed,
     names: Vec<&'a str>,
 ) -> Result<(), AllocError>
-    requires { map (λ o. o.now) names.items ≡ choices (universe_view universe.old) (typed_view variable.now) }
+    requires { map (λ o. o.now) names.items
+        ≡ choices (universe_view universe.old) (typed_view variable.now) }
     ensures { universe_view universe.new ≡ universe_view universe.old }
 {
     let types = variable.type_names();
@@ -202,7 +208,8 @@ fn has_no_choice(universe: &Universe, variable: &Typed) -> bool
 
 // Whether one of the variables may stand for no object.
 fn one_has_no_choice(universe: &Universe, variables: &[Typed]) -> bool
-    ensures { result ≡ list_any (has_no_choice (universe_view universe.now)) (map typed_view variables.now) }
+    ensures { result
+        ≡ list_any (has_no_choice (universe_view universe.now)) (map typed_view variables.now) }
 {
     for variable in variables {
         if has_no_choice(universe, variable) {
@@ -214,7 +221,10 @@ fn one_has_no_choice(universe: &Universe, variables: &[Typed]) -> bool
 
 /// How many bindings variables have, if there are no more than so many.
 pub fn count_bindings(universe: &Universe, variables: &[Typed], most: usize) -> Option<usize>
-    ensures { MatchOption result (most < length (bindings (universe_view universe.now) (map typed_view variables.now))) (λ n. (n ≡ length (bindings (universe_view universe.now) (map typed_view variables.now))) × (n ≤ most)) }
+    ensures { MatchOption result
+        (most < length (bindings (universe_view universe.now) (map typed_view variables.now)))
+        (λ n. (n ≡ length (bindings (universe_view universe.now) (map typed_view variables.now)))
+        × (n ≤ most)) }
 {
     if one_has_no_choice(universe, variables) {
         return Some(0);

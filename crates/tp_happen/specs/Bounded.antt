@@ -12,7 +12,8 @@ use Rattle.tp_happen.specs.Small.{is_small, values_small, all_small}
 -- the product that a `scale-up` sets
 abbrev pub product_small : State → Option ℤ → NumericEffect → Change → Bool
 product_small s d w Assign = true
-product_small s d w ScaleUp = is_small (s.number w.fluent) && is_small (both ◌*ℤ◌ (s.number w.fluent) (value s d w.value))
+product_small s d w ScaleUp =
+    is_small (s.number w.fluent) && is_small (both ◌*ℤ◌ (s.number w.fluent) (value s d w.value))
 product_small s d w Increase = true
 product_small s d w Decrease = true
 
@@ -42,13 +43,15 @@ sum_small s d w Decrease now = is_small now && is_small (both ◌-ℤ◌ now (va
 abbrev pub sums_small : State → Option ℤ → List NumericEffect → ℕ → Option ℤ → Bool
 sums_small s d [] f now = true
 sums_small s d (w ∷ ws) f now =
-    if w.fluent == f then sum_small s d w w.change now && sums_small s d ws f (after_write s d w w.change now) else sums_small s d ws f now
+    if w.fluent == f then sum_small s d w w.change now
+    && sums_small s d ws f (after_write s d w w.change now) else sums_small s d ws f now
 
 -- the same for the events of a happening, in the order in which they are listed
 abbrev pub all_sums_small : ℕ → State → List Timed → ℕ → Option ℤ → Bool
 all_sums_small scale s [] f now = true
 all_sums_small scale s (t ∷ ts) f now =
-    sums_small s (units scale t.ticks) t.event.writes.items f now && all_sums_small scale s ts f (after_writes s (units scale t.ticks) t.event.writes.items f now)
+    sums_small s (units scale t.ticks) t.event.writes.items f now && all_sums_small scale s ts f
+    (after_writes s (units scale t.ticks) t.event.writes.items f now)
 
 -- No expression of the events and no partial sum of a fluent's writes, from its old value on, passes the limit.
 pub record StaysSmall (scale : ℕ) (s : State) (ts : List Timed) : Type 0 where
@@ -57,4 +60,6 @@ pub record StaysSmall (scale : ℕ) (s : State) (ts : List Timed) : Type 0 where
 
 -- One of them does.
 abbrev pub Passes : ℕ → State → List Timed → Type 0
-Passes scale s ts = (list_all (event_small scale s) ts ≡ false) ⊎ ((f : ℕ) × (all_sums_small scale s ts f (s.number f) ≡ false))
+Passes scale s ts =
+    (list_all (event_small scale s) ts ≡ false)
+    ⊎ ((f : ℕ) × (all_sums_small scale s ts f (s.number f) ≡ false))

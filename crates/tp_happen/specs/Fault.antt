@@ -19,7 +19,9 @@ pair_or i None other = other
 -- the first two events that interfere, of a list that is numbered from i
 abbrev pub first_pair : ℕ → List Timed → Option (ℕ × ℕ)
 first_pair i [] = None
-first_pair i (t ∷ ts) = pair_or i (position_from (λ (u : Timed). interferes t.event u.event) (i + 1) ts) (first_pair (i + 1) ts)
+first_pair i (t ∷ ts) =
+    pair_or i
+    (position_from (λ (u : Timed). interferes t.event u.event) (i + 1) ts) (first_pair (i + 1) ts)
 
 abbrev pub named : Why → Option ℕ → Option (ℕ × Why)
 named why (Some i) = Some (i, why)

@@ -29,7 +29,9 @@ meet way a b = meets (done way a) (met way b) || meets (done way b) (met way a)
 -- the first two events of a list, numbered from i, that a test takes
 abbrev pub pair_by : (GroundEvent → GroundEvent → Bool) → ℕ → List Timed → Option (ℕ × ℕ)
 pair_by test i [] = None
-pair_by test i (t ∷ ts) = pair_or i (position_from (λ (u : Timed). test t.event u.event) (i + 1) ts) (pair_by test (i + 1) ts)
+pair_by test i (t ∷ ts) =
+    pair_or i
+    (position_from (λ (u : Timed). test t.event u.event) (i + 1) ts) (pair_by test (i + 1) ts)
 
 -- the lesser of two numbers, where there are two
 abbrev pub earlier : Option ℕ → Option ℕ → Option ℕ
@@ -53,4 +55,5 @@ sooner None q = q
 
 -- what the events do is about so many numbers
 abbrev pub done_within : Meeting → ℕ → List Timed → Bool
-done_within way room ts = list_all (λ (t : Timed). list_all (λ x. nat_lt x room) (done way t.event)) ts
+done_within way room ts =
+    list_all (λ (t : Timed). list_all (λ x. nat_lt x room) (done way t.event)) ts

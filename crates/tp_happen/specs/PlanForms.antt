@@ -22,13 +22,21 @@ written f = word f.time ∷ sign 58 ∷ sign 40 ∷ (map word f.words ++ (sign 4
 
 -- what a form of the code is
 abbrev pub form_view : shown.Form → Form
-form_view f = record { time = f.time.now; words = map (λ w. w.now) f.words.items; duration = option_map (λ d. d.now) f.duration }
+form_view f =
+    record {
+      time = f.time.now;
+      words = map (λ w. w.now) f.words.items;
+      duration = option_map (λ d. d.now) f.duration;
+    }
 
 -- TIME, `:`, `(`, and what follows
 abbrev pub head_of : List Mark → Option (List ℕ × List Mark)
-head_of ms = option_and_then (λ (t : List ℕ × List Mark). option_and_then (λ (a : List Mark). option_map (λ (b : List Mark). (t.0, b)) (sign_first 40 a)) (sign_first 58 t.1)) (word_first ms)
+head_of ms =
+    option_and_then (λ (t : List ℕ × List Mark). option_and_then (λ (a : List Mark).
+    option_map (λ (b : List Mark). (t.0, b)) (sign_first 40 a)) (sign_first 58 t.1)) (word_first ms)
 
-abbrev pub with_word : List ℕ → Option (List (List ℕ) × List Mark) → Option (List (List ℕ) × List Mark)
+abbrev pub with_word :
+    List ℕ → Option (List (List ℕ) × List Mark) → Option (List (List ℕ) × List Mark)
 with_word w None = None
 with_word w (Some p) = Some (w ∷ p.0, p.1)
 
@@ -40,7 +48,10 @@ words_of (sign b ∷ ms) = if b == 41 then Some ([], ms) else None
 
 -- nothing, or `[`, a word, `]` and then nothing
 abbrev pub bracket_of : List Mark → Option (List ℕ)
-bracket_of ms = option_and_then (λ (a : List Mark). option_and_then (λ (d : List ℕ × List Mark). option_and_then (λ (b : List Mark). if is_bare b then Some d.0 else None) (sign_first 93 d.1)) (word_first a)) (sign_first 91 ms)
+bracket_of ms =
+    option_and_then (λ (a : List Mark). option_and_then (λ (d : List ℕ × List Mark). option_and_then
+    (λ (b : List Mark). if is_bare b then Some d.0 else None) (sign_first 93 d.1)) (word_first a))
+    (sign_first 91 ms)
 
 abbrev pub end_of : List Mark → Option (Option (List ℕ))
 end_of ms = if is_bare ms then Some None else option_map Some (bracket_of ms)
@@ -48,7 +59,9 @@ end_of ms = if is_bare ms then Some None else option_map Some (bracket_of ms)
 -- the form whose marks these are
 abbrev pub form_of : List Mark → Option Form
 form_of ms =
-    option_and_then (λ (h : List ℕ × List Mark). option_and_then (λ (w : List (List ℕ) × List Mark). option_map (λ (d : Option (List ℕ)). record { time = h.0; words = w.0; duration = d }) (end_of w.1)) (words_of h.1)) (head_of ms)
+    option_and_then (λ (h : List ℕ × List Mark).
+    option_and_then (λ (w : List (List ℕ) × List Mark). option_map (λ (d : Option (List ℕ)).
+    record { time = h.0; words = w.0; duration = d }) (end_of w.1)) (words_of h.1)) (head_of ms)
 
 -- a letter, and then letters, digits, '-' and '_'
 abbrev pub is_inner : ℕ → Bool
@@ -73,4 +86,6 @@ is_well_formed f = has_time_form f.time && (are_names f.words && is_duration f.d
 
 -- marks are those of a form exactly if the form writes them
 abbrev pub FormsAreWritten : Type 0
-FormsAreWritten = (ms : List Mark) (f : Form) → (form_of ms ≡ Some f → ms ≡ written f) × (ms ≡ written f → form_of ms ≡ Some f)
+FormsAreWritten =
+    (ms : List Mark) (f : Form) → (form_of ms ≡ Some f → ms ≡ written f)
+    × (ms ≡ written f → form_of ms ≡ Some f)

@@ -41,7 +41,9 @@ end_text scale false d = 41 ∷ 10 ∷ []
 
 -- TIME: (NAME ARG ..) [DURATION]
 abbrev pub step_text : Labelled → Step → List ℕ
-step_text task s = (time_text task.scale s.tick ++ codes ": (") ++ (words_text (task.words s.action) ++ end_text task.scale (task.is_durative s.action) s.duration)
+step_text task s =
+    (time_text task.scale s.tick ++ codes ": (") ++ (words_text (task.words s.action)
+    ++ end_text task.scale (task.is_durative s.action) s.duration)
 
 abbrev pub plan_text : Labelled → List Step → List ℕ
 plan_text task steps = flat_map (step_text task) steps
@@ -56,4 +58,6 @@ pub record IsReadable (task : Labelled) (s : Step) : Type 0 where
 
 -- what is written for steps of a task spells them
 abbrev pub PlansAreRead : Type 0
-PlansAreRead = (task : Labelled) (steps : List Step) → task.horizon ≤ 1000000000 → AllByRecursion (IsReadable task) steps → SpellsPlan task (plan_text task steps) steps
+PlansAreRead =
+    (task : Labelled) (steps : List Step) → task.horizon ≤ 1000000000
+    → AllByRecursion (IsReadable task) steps → SpellsPlan task (plan_text task steps) steps

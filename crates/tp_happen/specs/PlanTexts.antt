@@ -43,7 +43,9 @@ full_lines (l ∷ ls) = if is_bare (marks l) then full_lines ls else l ∷ full_
 abbrev pub timed : ℕ → ActionId → Option ℕ → Option ℕ → Result Step Wrong
 timed horizon a None d = Err wrong.Ticks
 timed horizon a (Some t) None = Err wrong.Ticks
-timed horizon a (Some t) (Some d) = if nat_le (t + d) horizon then Ok (record { tick = t; action = a; duration = d }) else Err wrong.Horizon
+timed horizon a (Some t) (Some d) =
+    if nat_le (t + d) horizon then Ok (record { tick = t; action = a; duration = d })
+    else Err wrong.Horizon
 
 -- A durative action needs a duration. That of another is not looked at.
 abbrev pub lasting : ℕ → ℕ → Form → ActionId → Bool → Option (List ℕ) → Result Step Wrong
@@ -53,7 +55,8 @@ lasting scale horizon f a false d = timed horizon a (ticks_of scale f.time) (Som
 
 abbrev pub acting : Labelled → Form → Option ActionId → Result Step Wrong
 acting task f None = Err wrong.Action
-acting task f (Some a) = lasting (scale_ticks task.scale) task.horizon f a (task.is_durative a) f.duration
+acting task f (Some a) =
+    lasting (scale_ticks task.scale) task.horizon f a (task.is_durative a) f.duration
 
 -- the step that a form spells, or what is wrong with it
 abbrev pub form_step : Labelled → Form → Result Step Wrong
@@ -89,7 +92,8 @@ abbrev pub refusal_from : Labelled → ℕ → ℕ → List (List ℕ) → Optio
 refusal_from task n count [] = None
 refusal_from task n count (l ∷ ls) =
     if is_bare (marks l) then refusal_from task (n + 1) count ls
-    else (if nat_le 512 count then Some TooMany else fault_or n (step_of task l) (refusal_from task (n + 1) (count + 1) ls))
+    else (if nat_le 512 count then Some TooMany
+    else fault_or n (step_of task l) (refusal_from task (n + 1) (count + 1) ls))
 
 -- The first refusal of lines, numbered from 1.
 abbrev pub refusal : Labelled → List (List ℕ) → Option PlanFault

@@ -16,9 +16,12 @@ values_small s d (Number n) = is_small (Some n)
 values_small s d (Fluent f) = is_small (s.number f)
 values_small s d Duration = is_small d
 values_small s d (Negated' p x) = values_small s d x
-values_small s d (Sum' p x q y) = values_small s d x && (values_small s d y && is_small (value s d (Sum' p x q y)))
-values_small s d (Difference' p x q y) = values_small s d x && (values_small s d y && is_small (value s d (Difference' p x q y)))
-values_small s d (Product' p x q y) = values_small s d x && (values_small s d y && is_small (value s d (Product' p x q y)))
+values_small s d (Sum' p x q y) =
+    values_small s d x && (values_small s d y && is_small (value s d (Sum' p x q y)))
+values_small s d (Difference' p x q y) =
+    values_small s d x && (values_small s d y && is_small (value s d (Difference' p x q y)))
+values_small s d (Product' p x q y) =
+    values_small s d x && (values_small s d y && is_small (value s d (Product' p x q y)))
 
 -- the same of the expressions of a condition
 abbrev mutual

@@ -13,7 +13,11 @@ pub record Stored : Type 0 where
 
 -- the state that it stands for
 abbrev pub state_of : Stored → spec.State
-state_of s = record { atom = λ a. slice_index_or s.atoms a false; number = λ f. slice_index_or s.numbers f None }
+state_of s =
+    record {
+      atom = λ a. slice_index_or s.atoms a false;
+      number = λ f. slice_index_or s.numbers f None;
+    }
 
 -- the atoms and fluents that an event changes are the state's
 abbrev pub fits_in : Stored → Timed → Bool
@@ -21,7 +25,12 @@ fits_in s t = event_fits (length s.atoms) (length s.numbers) t.event
 
 -- the state in which a task begins
 abbrev pub first_of : Task → Stored
-first_of t = record { scale = scale_ticks t.scale; atoms = t.initial_atoms.items; numbers = t.initial_numbers.items }
+first_of t =
+    record {
+      scale = scale_ticks t.scale;
+      atoms = t.initial_atoms.items;
+      numbers = t.initial_numbers.items;
+    }
 
 -- the two are states of one task
 pub record OfOneTask (s t : Stored) : Type 0 where

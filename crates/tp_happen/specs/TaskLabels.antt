@@ -17,7 +17,8 @@ is_durative (Some (Durative start end invariant)) = true
 -- the first action of these words
 abbrev pub action_of : List Words → Words → Option ActionId
 action_of actions [] = None
-action_of actions (w ∷ ws) = option_map (λ n. record { 0 = n }) (position_from (same_words (w ∷ ws)) 0 actions)
+action_of actions (w ∷ ws) =
+    option_map (λ n. record { 0 = n }) (position_from (same_words (w ∷ ws)) 0 actions)
 
 -- no horizon passes 10^9
 abbrev pub labelled : Task → Labelled

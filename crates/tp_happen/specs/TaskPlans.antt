@@ -19,7 +19,8 @@ EndInTime t steps = AllByRecursion (λ (s : Step). s.tick + s.duration ≤ (labe
 -- The task of a problem that is spelled by texts: what is written for steps of it that end by its horizon spells them.
 abbrev pub TaskPlansAreRead : Type 0
 TaskPlansAreRead =
-    (text other : List ℕ) (d : Domain) (p : Problem) (limits : RunLimits) (scale : Scale) (t : Task) (steps : List Step)
+    (text other : List ℕ) (d : Domain)
+    (p : Problem) (limits : RunLimits) (scale : Scale) (t : Task) (steps : List Step)
     → SpellsDomain text d
     → SpellsProblem d other p
     → IsTask limits scale d p t

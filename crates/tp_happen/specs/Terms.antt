@@ -8,7 +8,9 @@ use Rattle.tp_happen.specs.Bounded.{rule_small}
 
 -- its right sides and its duration rule
 abbrev pub terms_small : ℕ → State → Timed → Bool
-terms_small scale s t = list_all (λ w. values_small s (units scale t.ticks) w.value) t.event.writes.items && rule_small s t
+terms_small scale s t =
+    list_all (λ w. values_small s (units scale t.ticks) w.value) t.event.writes.items
+    && rule_small s t
 
 -- its condition
 abbrev pub condition_small : State → Timed → Bool

@@ -41,10 +41,13 @@ fn effect_defined(
     duration: Option<i64>,
     effect: &NumericEffect,
 ) -> Result<bool, Range>
-    ensures ok { IfOk result (λ r. r ≡ (is_some (spec.value (state_of state.now) duration effect.now.value)
-        && (happens.is_assign effect.now.change || is_some ((state_of state.now).number effect.now.fluent)))) }
-    ensures small { OnOk result (values_small (state_of state.now) duration effect.now.value ≡ true) }
-    ensures err { OnErr result (values_small (state_of state.now) duration effect.now.value ≡ false) }
+    ensures ok { IfOk result (λ r. r
+        ≡ (is_some (spec.value (state_of state.now) duration effect.now.value) && (happens.is_assign
+        effect.now.change || is_some ((state_of state.now).number effect.now.fluent)))) }
+    ensures small { OnOk result
+        (values_small (state_of state.now) duration effect.now.value ≡ true) }
+    ensures err { OnErr result
+        (values_small (state_of state.now) duration effect.now.value ≡ false) }
 {
     let right = value(state, duration, &effect.value)?;
     let old = state.number(FluentId(effect.fluent));
@@ -56,10 +59,13 @@ fn effects_defined(
     duration: Option<i64>,
     effects: &[NumericEffect],
 ) -> Result<bool, Range>
-    ensures ok { IfOk result (λ r. r ≡ list_all (λ w. is_some (spec.value (state_of state.now) duration w.value)
-        && (happens.is_assign w.change || is_some ((state_of state.now).number w.fluent))) effects.now) }
-    ensures small { OnOk result (list_all (λ w. values_small (state_of state.now) duration w.value) effects.now ≡ true) }
-    ensures err { OnErr result (list_all (λ w. values_small (state_of state.now) duration w.value) effects.now ≡ false) }
+    ensures ok { IfOk result (λ r. r ≡ list_all (λ w.
+        is_some (spec.value (state_of state.now) duration w.value) && (happens.is_assign w.change
+        || is_some ((state_of state.now).number w.fluent))) effects.now) }
+    ensures small { OnOk result
+        (list_all (λ w. values_small (state_of state.now) duration w.value) effects.now ≡ true) }
+    ensures err { OnErr result
+        (list_all (λ w. values_small (state_of state.now) duration w.value) effects.now ≡ false) }
 {
     let mut all = true;
     for effect in effects {
@@ -71,9 +77,12 @@ fn effects_defined(
 
 /// Whether each expression of a duration rule has a value.
 pub fn rule_defined(state: &State, rule: &[Limit]) -> Result<bool, Range>
-    ensures ok { IfOk result (λ r. r ≡ list_all (λ l. is_some (spec.value (state_of state.now) None l.value)) rule.now) }
-    ensures small { OnOk result (list_all (λ l. values_small (state_of state.now) None l.value) rule.now ≡ true) }
-    ensures err { OnErr result (list_all (λ l. values_small (state_of state.now) None l.value) rule.now ≡ false) }
+    ensures ok { IfOk result
+        (λ r. r ≡ list_all (λ l. is_some (spec.value (state_of state.now) None l.value)) rule.now) }
+    ensures small { OnOk result
+        (list_all (λ l. values_small (state_of state.now) None l.value) rule.now ≡ true) }
+    ensures err { OnErr result
+        (list_all (λ l. values_small (state_of state.now) None l.value) rule.now ≡ false) }
 {
     let mut all = true;
     for limit in rule {
@@ -85,9 +94,12 @@ pub fn rule_defined(state: &State, rule: &[Limit]) -> Result<bool, Range>
 
 /// Whether everything that an event reads has a value.
 pub(crate) fn is_defined(state: &State, event: &EventRef<'_>) -> Result<bool, Range>
-    ensures ok { IfOk result (λ r. r ≡ happens.is_defined state.now.scale (state_of state.now) event.now) }
-    ensures small { OnOk result (terms_small state.now.scale (state_of state.now) event.now ≡ true) }
-    ensures err { OnErr result (terms_small state.now.scale (state_of state.now) event.now ≡ false) }
+    ensures ok { IfOk result
+        (λ r. r ≡ happens.is_defined state.now.scale (state_of state.now) event.now) }
+    ensures small { OnOk result
+        (terms_small state.now.scale (state_of state.now) event.now ≡ true) }
+    ensures err { OnErr result
+        (terms_small state.now.scale (state_of state.now) event.now ≡ false) }
 {
     let effects = effects_defined(state, state.duration(event.ticks()), &event.body().writes)?;
     let rule = rule_defined(state, &event.body().rule)?;
@@ -99,9 +111,12 @@ pub(crate) fn first_undefined(
     state: &State,
     events: &[EventRef<'_>],
 ) -> Result<Option<usize>, Range>
-    ensures ok { IfOk result (λ r. r ≡ position_from (λ t. not (happens.is_defined state.now.scale (state_of state.now) t)) 0 events.now) }
-    ensures small { IfOk result (λ r. IfNone r (list_all (terms_small state.now.scale (state_of state.now)) events.now ≡ true)) }
-    ensures err { OnErr result (list_all (terms_small state.now.scale (state_of state.now)) events.now ≡ false) }
+    ensures ok { IfOk result (λ r. r ≡ position_from
+        (λ t. not (happens.is_defined state.now.scale (state_of state.now) t)) 0 events.now) }
+    ensures small { IfOk result (λ r.
+        IfNone r (list_all (terms_small state.now.scale (state_of state.now)) events.now ≡ true)) }
+    ensures err { OnErr result
+        (list_all (terms_small state.now.scale (state_of state.now)) events.now ≡ false) }
 {
     for (i, event) in events.iter().enumerate() {
         if !is_defined(state, event)? {
@@ -113,9 +128,12 @@ pub(crate) fn first_undefined(
 
 /// The first event whose condition does not hold.
 pub(crate) fn first_unmet(state: &State, events: &[EventRef<'_>]) -> Result<Option<usize>, Range>
-    ensures ok { IfOk result (λ r. r ≡ position_from (λ t. not (spec.holds (state_of state.now) t.event.condition)) 0 events.now) }
-    ensures small { IfOk result (λ r. IfNone r (list_all (condition_small (state_of state.now)) events.now ≡ true)) }
-    ensures err { OnErr result (list_all (condition_small (state_of state.now)) events.now ≡ false) }
+    ensures ok { IfOk result (λ r. r ≡ position_from
+        (λ t. not (spec.holds (state_of state.now) t.event.condition)) 0 events.now) }
+    ensures small { IfOk result
+        (λ r. IfNone r (list_all (condition_small (state_of state.now)) events.now ≡ true)) }
+    ensures err { OnErr result
+        (list_all (condition_small (state_of state.now)) events.now ≡ false) }
 {
     for (i, event) in events.iter().enumerate() {
         if !holds(state, &event.body().condition)? {
@@ -127,7 +145,8 @@ pub(crate) fn first_unmet(state: &State, events: &[EventRef<'_>]) -> Result<Opti
 
 fn first_disturbed(event: &GroundEvent, events: &[EventRef<'_>], from: usize) -> Option<usize>
     requires { from ≤ length events.now }
-    ensures { result ≡ position_from (λ u. event_spec.interferes event.now u.event) from (drop from events.now) }
+    ensures { result
+        ≡ position_from (λ u. event_spec.interferes event.now u.event) from (drop from events.now) }
 {
     for j in from..events.len() {
         if interfere(event, events[j].body()) {

@@ -32,7 +32,8 @@ fn read_words<'a>(
     alloc: Global,
     line: &'a [u8],
 ) -> Result<Option<(Vec<&'a str>, &'a [u8])>, AllocError>
-    ensures { IfOk result (λ r. option_map (λ p. (map (λ w. w.now) p.0.items, marks p.1.now)) r ≡ words_of (marks line.now)) }
+    ensures { IfOk result (λ r. option_map (λ p. (map (λ w. w.now) p.0.items, marks p.1.now)) r
+        ≡ words_of (marks line.now)) }
 {
     let mut words = Vec::new(alloc);
     let mut rest = line;

@@ -74,13 +74,17 @@ fn numbers_after(
     events: &[EventRef<'_>],
 ) -> Result<Vec<Option<i64>>, ApplyFault>
     requires { All (λ t. All (λ w. w.fluent < length old.now) t.event.writes.items) events.now }
-    ensures ok { IfOk result (λ v. (f : ℕ) → slice_index_or v.items f None
-        ≡ after_events state.now.scale (state_of state.now) events.now f (slice_index_or old.now f None)) }
+    ensures ok { IfOk result (λ v. (f : ℕ) → slice_index_or v.items f None ≡ after_events
+        state.now.scale (state_of state.now) events.now f (slice_index_or old.now f None)) }
     ensures count { IfOk result (λ v. length v.items ≡ length old.now) }
-    ensures expressions { OnOk result (list_all (effects_small state.now.scale (state_of state.now)) events.now ≡ true) }
-    ensures sums { OnOk result ((f : ℕ) → all_sums_small state.now.scale (state_of state.now) events.now f (slice_index_or old.now f None) ≡ true) }
-    ensures range { IfErr result (λ e. OnRange e ((list_all (effects_small state.now.scale (state_of state.now)) events.now ≡ false)
-        ⊎ ((f : ℕ) × (all_sums_small state.now.scale (state_of state.now) events.now f (slice_index_or old.now f None) ≡ false)))) }
+    ensures expressions { OnOk result
+        (list_all (effects_small state.now.scale (state_of state.now)) events.now ≡ true) }
+    ensures sums { OnOk result ((f : ℕ) → all_sums_small state.now.scale
+        (state_of state.now) events.now f (slice_index_or old.now f None) ≡ true) }
+    ensures range { IfErr result (λ e. OnRange e
+        ((list_all (effects_small state.now.scale (state_of state.now)) events.now ≡ false)
+        ⊎ ((f : ℕ) × (all_sums_small state.now.scale
+        (state_of state.now) events.now f (slice_index_or old.now f None) ≡ false)))) }
 {
     let mut numbers = copied(alloc, old)?;
     write_all(numbers.as_mut_slice(), state, events)?;
@@ -92,14 +96,21 @@ fn next(alloc: Global, state: &State, events: &[EventRef<'_>]) -> Result<State, 
     requires fits { list_all (fits_in state.now) events.now ≡ true }
     requires apart { apart events.now ≡ true }
     requires unmixed { AllByRecursion (λ t. mixes t.event ≡ false) events.now }
-    requires defined { AllByRecursion (λ t. is_defined state.now.scale (state_of state.now) t ≡ true) events.now }
-    ensures atoms { IfOk result (λ n. (a : ℕ) → (state_of n).atom a ≡ atom_after (state_of state.now) events.now a) }
-    ensures numbers { IfOk result (λ n. (f : ℕ) → (state_of n).number f ≡ number_after state.now.scale (state_of state.now) events.now f) }
+    requires defined { AllByRecursion
+        (λ t. is_defined state.now.scale (state_of state.now) t ≡ true) events.now }
+    ensures atoms { IfOk result
+        (λ n. (a : ℕ) → (state_of n).atom a ≡ atom_after (state_of state.now) events.now a) }
+    ensures numbers { IfOk result (λ n. (f : ℕ)
+        → (state_of n).number f ≡ number_after state.now.scale (state_of state.now) events.now f) }
     ensures task { IfOk result (OfOneTask state.now) }
-    ensures expressions { OnOk result (list_all (effects_small state.now.scale (state_of state.now)) events.now ≡ true) }
-    ensures sums { OnOk result ((f : ℕ) → all_sums_small state.now.scale (state_of state.now) events.now f ((state_of state.now).number f) ≡ true) }
-    ensures range { IfErr result (λ e. OnRange e ((list_all (effects_small state.now.scale (state_of state.now)) events.now ≡ false)
-        ⊎ ((f : ℕ) × (all_sums_small state.now.scale (state_of state.now) events.now f ((state_of state.now).number f) ≡ false)))) }
+    ensures expressions { OnOk result
+        (list_all (effects_small state.now.scale (state_of state.now)) events.now ≡ true) }
+    ensures sums { OnOk result ((f : ℕ) → all_sums_small state.now.scale
+        (state_of state.now) events.now f ((state_of state.now).number f) ≡ true) }
+    ensures range { IfErr result (λ e. OnRange e
+        ((list_all (effects_small state.now.scale (state_of state.now)) events.now ≡ false)
+        ⊎ ((f : ℕ) × (all_sums_small state.now.scale
+        (state_of state.now) events.now f ((state_of state.now).number f) ≡ false)))) }
 {
     let atoms = atoms_after(alloc, &state.atoms, events)?;
     let numbers = numbers_after(alloc, state, &state.numbers, events)?;
@@ -117,8 +128,10 @@ pub fn apply(alloc: Global, state: &State, events: &[EventRef<'_>]) -> Result<Ou
     requires fits { list_all (fits_in state.now) events.now ≡ true }
     ensures ok { IfOk result (Applies state.now events.now) }
     ensures task { IfOk result (λ o. OnNext o (OfOneTask state.now)) }
-    ensures small { IfOk result (λ o. OnNext o (λ _. StaysSmall state.now.scale (state_of state.now) events.now)) }
-    ensures range { IfErr result (λ e. OnRange e (Passes state.now.scale (state_of state.now) events.now)) }
+    ensures small { IfOk result
+        (λ o. OnNext o (λ _. StaysSmall state.now.scale (state_of state.now) events.now)) }
+    ensures range { IfErr result
+        (λ e. OnRange e (Passes state.now.scale (state_of state.now) events.now)) }
 {
     if let Some(i) = first_undefined(state, events)? {
         return Ok(Outcome::Fails(i, Why::Undefined));

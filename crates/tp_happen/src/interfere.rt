@@ -125,7 +125,8 @@ fn rule_reads(event: &GroundEvent, fluent: u32) -> bool
 
 #[tactic(auto, using(crate::proofs::Meets::has_append))]
 fn condition_or_effects_read(event: &GroundEvent, fluent: u32) -> bool
-    ensures { result ≡ has (fluents_in event.now.condition ++ flat_map (λ w. fluents_of w.value) event.now.writes.items) fluent }
+    ensures { result ≡ has (fluents_in event.now.condition
+        ++ flat_map (λ w. fluents_of w.value) event.now.writes.items) fluent }
 {
     mentions_fluent(&event.condition, fluent) || effects_read(event, fluent)
 }
@@ -163,7 +164,8 @@ fn some_is_read(effects: &[NumericEffect], event: &GroundEvent) -> bool
 }
 
 fn some_set_is_written(effects: &[NumericEffect], event: &GroundEvent) -> bool
-    ensures { result ≡ list_any (λ w. not (spec.is_additive w.change) && has (fluents_written event.now) w.fluent) effects.now }
+    ensures { result ≡ list_any (λ w.
+        not (spec.is_additive w.change) && has (fluents_written event.now) w.fluent) effects.now }
 {
     effects
         .iter()
@@ -192,14 +194,15 @@ fn sets_written(a: &GroundEvent, b: &GroundEvent) -> bool
 
 /// Whether an event writes a fluent that the other reads, or sets one that it writes.
 fn overwrites(a: &GroundEvent, b: &GroundEvent) -> bool
-    ensures { result ≡ (meets (fluents_written a.now) (fluents_read b.now) || meets (fluents_set a.now) (fluents_written b.now)) }
+    ensures { result ≡ (meets (fluents_written a.now) (fluents_read b.now)
+        || meets (fluents_set a.now) (fluents_written b.now)) }
 {
     writes_read(a, b) || sets_written(a, b)
 }
 
 fn adds_deleted_or_overwrites(a: &GroundEvent, b: &GroundEvent) -> bool
-    ensures { result ≡ (meets a.now.adds.items b.now.deletes.items
-        || (meets (fluents_written a.now) (fluents_read b.now) || meets (fluents_set a.now) (fluents_written b.now))) }
+    ensures { result ≡ (meets a.now.adds.items b.now.deletes.items || (meets (fluents_written a.now)
+        (fluents_read b.now) || meets (fluents_set a.now) (fluents_written b.now))) }
 {
     some_is_in(&a.adds, &b.deletes) || overwrites(a, b)
 }

@@ -32,7 +32,8 @@ pub(crate) trait Labels {
     /// The word at a place of an action's words, if there is one.
     fn word(&self, action: ActionId, place: usize) -> Option<&str>
         ensures few { IfSome result (λ _. place + 1 < 2 ^ 64) }
-        ensures word { option_map (λ w. w.now) result ≡ slice_get ((labelled self.now).words action) place };
+        ensures word { option_map (λ w. w.now) result
+            ≡ slice_get ((labelled self.now).words action) place };
 }
 
 fn lasts(body: Option<&Body>) -> bool

@@ -22,8 +22,10 @@ fn part_of(body: &Body, part: Part) -> Option<Event<'_>>
 /// That event of an action, None where the action has none.
 #[tactic(auto, using(crate::proofs::Lent::lent_fits))]
 pub fn event<'t>(task: &'t Task, action: ActionId, part: Part) -> Option<Event<'t>>
-    ensures value { result ≡ option_and_then (λ b. part_of b part) (slice_get task.now.actions.items action.0) }
-    ensures fits { IfSome result (λ e. event_fits (length task.now.initial_atoms.items) (length task.now.initial_numbers.items) e ≡ true) }
+    ensures value { result
+        ≡ option_and_then (λ b. part_of b part) (slice_get task.now.actions.items action.0) }
+    ensures fits { IfSome result (λ e. event_fits
+        (length task.now.initial_atoms.items) (length task.now.initial_numbers.items) e ≡ true) }
 {
     part_of(task.actions.get(action.0 as usize)?, part)
 }

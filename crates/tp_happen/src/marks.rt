@@ -83,7 +83,8 @@ fn ascii_text(bytes: &[u8]) -> &str
 
 /// The first mark of a line, and what follows it.
 pub(crate) fn next_mark(line: &[u8]) -> Option<(Mark<'_>, &[u8])>
-    ensures mark { MatchOption result (marks line.now ≡ []) (λ r. marks line.now ≡ seen r.0 ∷ marks r.1.now) }
+    ensures mark { MatchOption result
+        (marks line.now ≡ []) (λ r. marks line.now ≡ seen r.0 ∷ marks r.1.now) }
     ensures shorter { IfSome result (λ r. length r.1.now < length line.now) }
 {
     let front = after_blanks(line);

@@ -101,7 +101,8 @@ fn first_at(table: &[Option<usize>], numbers: &[u32]) -> Option<usize>
 
 /// Enters an event in a table at some numbers.
 fn mark(table: &mut [Option<usize>], numbers: &[u32], event: usize)
-    ensures { (a : ℕ) → a < length table.old → slice_index_or table.new a None ≡ (if has numbers.now a then Some event else slice_index_or table.old a None) }
+    ensures { (a : ℕ) → a < length table.old → slice_index_or table.new a None
+        ≡ (if has numbers.now a then Some event else slice_index_or table.old a None) }
 {
     for number in numbers {
         let at = *number as usize;
@@ -120,10 +121,13 @@ fn entered(
     doers: &mut [Option<usize>],
     others: &mut [Option<usize>],
 ) -> Result<Option<usize>, AllocError>
-    ensures first { IfOk result (λ r. r ≡ earlier (first_of (λ x. slice_index_or others.old x None) (done way event.now))
+    ensures first { IfOk result
+        (λ r. r ≡ earlier (first_of (λ x. slice_index_or others.old x None) (done way event.now))
         (first_of (λ x. slice_index_or doers.old x None) (met way event.now))) }
-    ensures doers { OnOk result ((a : ℕ) → a < length doers.old → slice_index_or doers.new a None ≡ (if has (done way event.now) a then Some i else slice_index_or doers.old a None)) }
-    ensures others { OnOk result ((a : ℕ) → a < length others.old → slice_index_or others.new a None ≡ (if has (met way event.now) a then Some i else slice_index_or others.old a None)) }
+    ensures doers { OnOk result ((a : ℕ) → a < length doers.old → slice_index_or doers.new a None
+        ≡ (if has (done way event.now) a then Some i else slice_index_or doers.old a None)) }
+    ensures others { OnOk result ((a : ℕ) → a < length others.old → slice_index_or others.new a None
+        ≡ (if has (met way event.now) a then Some i else slice_index_or others.old a None)) }
 {
     let done = done(alloc, way, event)?;
     let met = met(alloc, way, event)?;

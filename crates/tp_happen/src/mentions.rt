@@ -85,7 +85,8 @@ fn push_fluents_in_each(conds: &[Cond], into: &mut Vec<u32>) -> Result<(), Alloc
 }
 
 fn push_values(effects: &[NumericEffect], into: &mut Vec<u32>) -> Result<(), AllocError>
-    ensures { OnOk result (into.new.items ≡ into.old.items ++ flat_map (λ w. fluents_of w.value) effects.now) }
+    ensures { OnOk result
+        (into.new.items ≡ into.old.items ++ flat_map (λ w. fluents_of w.value) effects.now) }
 {
     for effect in effects {
         push_fluents(&effect.value, into)?;
@@ -94,7 +95,8 @@ fn push_values(effects: &[NumericEffect], into: &mut Vec<u32>) -> Result<(), All
 }
 
 fn push_limits(rule: &[Limit], into: &mut Vec<u32>) -> Result<(), AllocError>
-    ensures { OnOk result (into.new.items ≡ into.old.items ++ flat_map (λ l. fluents_of l.value) rule.now) }
+    ensures { OnOk result
+        (into.new.items ≡ into.old.items ++ flat_map (λ l. fluents_of l.value) rule.now) }
 {
     for limit in rule {
         push_fluents(&limit.value, into)?;
@@ -123,7 +125,8 @@ pub(crate) fn push_written(effects: &[NumericEffect], into: &mut Vec<u32>) -> Re
 
 /// Appends the fluents that effects set.
 pub(crate) fn push_set(effects: &[NumericEffect], into: &mut Vec<u32>) -> Result<(), AllocError>
-    ensures { OnOk result (into.new.items ≡ into.old.items ++ map (λ w. w.fluent) (filter (λ w. not (spec.is_additive w.change)) effects.now)) }
+    ensures { OnOk result (into.new.items ≡ into.old.items
+        ++ map (λ w. w.fluent) (filter (λ w. not (spec.is_additive w.change)) effects.now)) }
 {
     for effect in effects {
         if !is_additive(effect.change) {

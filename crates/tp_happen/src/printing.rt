@@ -47,7 +47,8 @@ fn write_time_before<W: Sink>(
     n: u32,
     behind: &[u8],
 ) -> Result<(), Failed>
-    ensures bytes { Writes (W.held writer.old) (W.held writer.new) (time_text scale n ++ behind.now) result }
+    ensures bytes { Writes
+        (W.held writer.old) (W.held writer.new) (time_text scale n ++ behind.now) result }
     ensures cause { W.failures writer.new ≡ failures_after (W.failures writer.old) result }
 {
     write_time(writer, scale, n)?;
@@ -73,7 +74,8 @@ fn space_before(place: usize) -> &'static [u8]
 
 // An action's words, with one space between.
 fn write_words<W: Sink, T: Labels>(writer: &mut W, task: &T, action: ActionId) -> Result<(), Failed>
-    ensures bytes { Writes (W.held writer.old) (W.held writer.new) (words_text ((T.labelled task.now).words action)) result }
+    ensures bytes { Writes (W.held writer.old)
+        (W.held writer.new) (words_text ((T.labelled task.now).words action)) result }
     ensures cause { W.failures writer.new ≡ failures_after (W.failures writer.old) result }
 {
     let mut place = 0usize;
@@ -85,7 +87,8 @@ fn write_words<W: Sink, T: Labels>(writer: &mut W, task: &T, action: ActionId) -
 }
 
 fn write_duration<W: Sink>(writer: &mut W, scale: Scale, duration: u32) -> Result<(), Failed>
-    ensures bytes { Writes (W.held writer.old) (W.held writer.new) (end_text scale true duration) result }
+    ensures bytes { Writes
+        (W.held writer.old) (W.held writer.new) (end_text scale true duration) result }
     ensures cause { W.failures writer.new ≡ failures_after (W.failures writer.old) result }
 {
     push_all(writer, b") [")?;
@@ -99,7 +102,8 @@ fn write_end<W: Sink>(
     is_durative: bool,
     duration: u32,
 ) -> Result<(), Failed>
-    ensures bytes { Writes (W.held writer.old) (W.held writer.new) (end_text scale is_durative duration) result }
+    ensures bytes { Writes
+        (W.held writer.old) (W.held writer.new) (end_text scale is_durative duration) result }
     ensures cause { W.failures writer.new ≡ failures_after (W.failures writer.old) result }
 {
     if is_durative {
@@ -111,7 +115,9 @@ fn write_end<W: Sink>(
 
 // The words of a step's action, and its duration.
 fn write_action<W: Sink, T: Labels>(writer: &mut W, task: &T, step: Step) -> Result<(), Failed>
-    ensures bytes { Writes (W.held writer.old) (W.held writer.new) (words_text ((T.labelled task.now).words step.action) ++ end_text (T.labelled task.now).scale ((T.labelled task.now).is_durative step.action) step.duration) result }
+    ensures bytes { Writes (W.held writer.old) (W.held writer.new) (words_text
+        ((T.labelled task.now).words step.action) ++ end_text (T.labelled task.now).scale
+        ((T.labelled task.now).is_durative step.action) step.duration) result }
     ensures cause { W.failures writer.new ≡ failures_after (W.failures writer.old) result }
 {
     write_words(writer, task, step.action)?;
@@ -124,7 +130,8 @@ fn write_action<W: Sink, T: Labels>(writer: &mut W, task: &T, step: Step) -> Res
 }
 
 fn write_step<W: Sink, T: Labels>(writer: &mut W, task: &T, step: Step) -> Result<(), Failed>
-    ensures bytes { Writes (W.held writer.old) (W.held writer.new) (step_text (T.labelled task.now) step) result }
+    ensures bytes { Writes
+        (W.held writer.old) (W.held writer.new) (step_text (T.labelled task.now) step) result }
     ensures cause { W.failures writer.new ≡ failures_after (W.failures writer.old) result }
 {
     write_time_before(writer, task.scale(), step.tick, b": (")?;
@@ -137,7 +144,8 @@ pub(crate) fn write_steps<W: Sink, T: Labels>(
     task: &T,
     writer: &mut W,
 ) -> Result<(), Failed>
-    ensures bytes { Writes (W.held writer.old) (W.held writer.new) (plan_text (T.labelled task.now) steps.now) result }
+    ensures bytes { Writes
+        (W.held writer.old) (W.held writer.new) (plan_text (T.labelled task.now) steps.now) result }
     ensures cause { W.failures writer.new ≡ failures_after (W.failures writer.old) result }
 {
     for step in steps {

@@ -119,7 +119,8 @@ fn lasting(
     action: ActionId,
     is_durative: bool,
 ) -> Result<Step, Wrong>
-    ensures value { result ≡ lasting (scale_ticks scale) horizon (form_view form.now) action is_durative (form_view form.now).duration }
+    ensures value { result ≡ lasting (scale_ticks scale) horizon
+        (form_view form.now) action is_durative (form_view form.now).duration }
     ensures ends { IfOk result (λ s. s.tick + s.duration ≤ horizon) }
     ensures action { IfOk result (λ s. s.action ≡ action) }
     ensures lasts { IfOk result (λ s. (is_durative || s.duration == 0) ≡ true) }
@@ -168,7 +169,8 @@ fn read_step<T: Labels>(
 
 // The steps that lines spell.
 fn read_steps<T: Labels>(alloc: Global, task: &T, text: &[u8]) -> Result<Vec<Step>, PlanFault>
-    ensures spelled { IfOk result (λ v. LinesSpell (T.labelled task.now) (lines_of text.now) v.items) }
+    ensures spelled { IfOk result
+        (λ v. LinesSpell (T.labelled task.now) (lines_of text.now) v.items) }
     ensures plan { IfOk result (λ v. IsPlan v.items) }
     ensures known { IfOk result (λ v. AreKnown (T.labelled task.now) v.items) }
     ensures accepted { OnOk result (refusal (T.labelled task.now) (lines_of text.now) ≡ None) }

@@ -24,7 +24,8 @@ impl Model for State {
 
     ghost Value = { Stored };
 
-    ghost view = { λ s. record { scale = scale_ticks s.scale; atoms = s.atoms.items; numbers = s.numbers.items } };
+    ghost view = { λ s.
+        record { scale = scale_ticks s.scale; atoms = s.atoms.items; numbers = s.numbers.items } };
 }
 
 impl State {

@@ -25,7 +25,8 @@ pub fn read_plan(alloc: Global, text: &str, task: &Task) -> Result<Plan, PlanFau
 
 /// Writes a plan of a task, a line for each step. It takes no memory. Where the writer fails, it has taken some first part.
 pub fn print_plan<W: Sink>(plan: &Plan, task: &Task, writer: &mut W) -> Result<(), Failed>
-    ensures bytes { Writes (W.held writer.old) (W.held writer.new) (plan_text (labelled task.now) plan.now) result }
+    ensures bytes { Writes
+        (W.held writer.old) (W.held writer.new) (plan_text (labelled task.now) plan.now) result }
     ensures cause { W.failures writer.new ≡ failures_after (W.failures writer.old) result }
 {
     write_steps(plan.steps(), task, writer)

@@ -77,7 +77,8 @@ fn negated(x: Option<i64>) -> Option<i64>
 pub(crate) fn sum(x: Option<i64>, y: Option<i64>) -> Result<Option<i64>, Range>
     requires x { is_small x ≡ true }
     requires y { is_small y ≡ true }
-    ensures ok { IfOk result (λ v. (v ≡ spec.both ◌+ℤ◌ x y) × (is_small (spec.both ◌+ℤ◌ x y) ≡ true)) }
+    ensures ok { IfOk result (λ v. (v ≡ spec.both ◌+ℤ◌ x y)
+        × (is_small (spec.both ◌+ℤ◌ x y) ≡ true)) }
     ensures err { OnErr result (is_small (spec.both ◌+ℤ◌ x y) ≡ false) }
 {
     match (x, y) {
@@ -89,7 +90,8 @@ pub(crate) fn sum(x: Option<i64>, y: Option<i64>) -> Result<Option<i64>, Range>
 pub(crate) fn difference(x: Option<i64>, y: Option<i64>) -> Result<Option<i64>, Range>
     requires x { is_small x ≡ true }
     requires y { is_small y ≡ true }
-    ensures ok { IfOk result (λ v. (v ≡ spec.both ◌-ℤ◌ x y) × (is_small (spec.both ◌-ℤ◌ x y) ≡ true)) }
+    ensures ok { IfOk result (λ v. (v ≡ spec.both ◌-ℤ◌ x y)
+        × (is_small (spec.both ◌-ℤ◌ x y) ≡ true)) }
     ensures err { OnErr result (is_small (spec.both ◌-ℤ◌ x y) ≡ false) }
 {
     match (x, y) {
@@ -101,7 +103,8 @@ pub(crate) fn difference(x: Option<i64>, y: Option<i64>) -> Result<Option<i64>, 
 pub(crate) fn product(x: Option<i64>, y: Option<i64>) -> Result<Option<i64>, Range>
     requires x { is_small x ≡ true }
     requires y { is_small y ≡ true }
-    ensures ok { IfOk result (λ v. (v ≡ spec.both ◌*ℤ◌ x y) × (is_small (spec.both ◌*ℤ◌ x y) ≡ true)) }
+    ensures ok { IfOk result (λ v. (v ≡ spec.both ◌*ℤ◌ x y)
+        × (is_small (spec.both ◌*ℤ◌ x y) ≡ true)) }
     ensures err { OnErr result (is_small (spec.both ◌*ℤ◌ x y) ≡ false) }
 {
     match (x, y) {

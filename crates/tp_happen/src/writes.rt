@@ -14,7 +14,8 @@ use tp_ground::{Change, FluentId, NumericEffect};
 /// Writes a truth value to some atoms.
 fn write_atoms(atoms: &mut [bool], which: &[u32], truth: bool)
     requires { All (λ a. a < length atoms.old) which.now }
-    ensures { (a : ℕ) → slice_index_or atoms.new a false ≡ (if has which.now a then truth else slice_index_or atoms.old a false) }
+    ensures { (a : ℕ) → slice_index_or atoms.new a false
+        ≡ (if has which.now a then truth else slice_index_or atoms.old a false) }
 {
     for a in which {
         atoms[*a as usize] = truth;
@@ -28,9 +29,12 @@ fn written(
     duration: Option<i64>,
     effect: &NumericEffect,
 ) -> Result<Option<i64>, Range>
-    ensures ok { IfOk result (λ v. v ≡ after_write (state_of state.now) duration effect.now effect.now.change now) }
-    ensures small { OnOk result ((effect_small (state_of state.now) duration effect.now && sum_small (state_of state.now) duration effect.now effect.now.change now) ≡ true) }
-    ensures err { OnErr result ((effect_small (state_of state.now) duration effect.now && sum_small (state_of state.now) duration effect.now effect.now.change now) ≡ false) }
+    ensures ok { IfOk result
+        (λ v. v ≡ after_write (state_of state.now) duration effect.now effect.now.change now) }
+    ensures small { OnOk result ((effect_small (state_of state.now) duration effect.now
+        && sum_small (state_of state.now) duration effect.now effect.now.change now) ≡ true) }
+    ensures err { OnErr result ((effect_small (state_of state.now) duration effect.now
+        && sum_small (state_of state.now) duration effect.now effect.now.change now) ≡ false) }
 {
     let right = value(state, duration, &effect.value)?;
     match effect.change {
@@ -49,12 +53,16 @@ fn write_effects(
     effects: &[NumericEffect],
 ) -> Result<(), Range>
     requires { All (λ w. w.fluent < length numbers.old) effects.now }
-    ensures ok { OnOk result ((f : ℕ) → slice_index_or numbers.new f None
-        ≡ after_writes (state_of state.now) duration effects.now f (slice_index_or numbers.old f None)) }
-    ensures expressions { OnOk result (list_all (effect_small (state_of state.now) duration) effects.now ≡ true) }
-    ensures sums { OnOk result ((f : ℕ) → sums_small (state_of state.now) duration effects.now f (slice_index_or numbers.old f None) ≡ true) }
-    ensures err { OnErr result ((list_all (effect_small (state_of state.now) duration) effects.now ≡ false)
-        ⊎ ((f : ℕ) × (sums_small (state_of state.now) duration effects.now f (slice_index_or numbers.old f None) ≡ false))) }
+    ensures ok { OnOk result ((f : ℕ) → slice_index_or numbers.new f None ≡ after_writes
+        (state_of state.now) duration effects.now f (slice_index_or numbers.old f None)) }
+    ensures expressions { OnOk result
+        (list_all (effect_small (state_of state.now) duration) effects.now ≡ true) }
+    ensures sums { OnOk result ((f : ℕ) → sums_small
+        (state_of state.now) duration effects.now f (slice_index_or numbers.old f None) ≡ true) }
+    ensures err { OnErr result
+        ((list_all (effect_small (state_of state.now) duration) effects.now ≡ false)
+        ⊎ ((f : ℕ) × (sums_small
+        (state_of state.now) duration effects.now f (slice_index_or numbers.old f None) ≡ false))) }
 {
     for effect in effects {
         let fluent = effect.fluent as usize;
@@ -66,7 +74,8 @@ fn write_effects(
 /// Sets what the events delete to false.
 pub(crate) fn delete_all(atoms: &mut [bool], events: &[EventRef<'_>])
     requires { All (λ t. All (λ a. a < length atoms.old) t.event.deletes.items) events.now }
-    ensures { (a : ℕ) → slice_index_or atoms.new a false ≡ after_deletes events.now a (slice_index_or atoms.old a false) }
+    ensures { (a : ℕ) → slice_index_or atoms.new a false
+        ≡ after_deletes events.now a (slice_index_or atoms.old a false) }
 {
     for event in events {
         write_atoms(atoms, &event.body().deletes, false);
@@ -76,7 +85,8 @@ pub(crate) fn delete_all(atoms: &mut [bool], events: &[EventRef<'_>])
 /// Sets what the events add to true.
 pub(crate) fn add_all(atoms: &mut [bool], events: &[EventRef<'_>])
     requires { All (λ t. All (λ a. a < length atoms.old) t.event.adds.items) events.now }
-    ensures { (a : ℕ) → slice_index_or atoms.new a false ≡ after_adds events.now a (slice_index_or atoms.old a false) }
+    ensures { (a : ℕ) → slice_index_or atoms.new a false
+        ≡ after_adds events.now a (slice_index_or atoms.old a false) }
 {
     for event in events {
         write_atoms(atoms, &event.body().adds, true);
@@ -90,12 +100,16 @@ pub(crate) fn write_all(
     events: &[EventRef<'_>],
 ) -> Result<(), Range>
     requires { All (λ t. All (λ w. w.fluent < length numbers.old) t.event.writes.items) events.now }
-    ensures ok { OnOk result ((f : ℕ) → slice_index_or numbers.new f None
-        ≡ after_events state.now.scale (state_of state.now) events.now f (slice_index_or numbers.old f None)) }
-    ensures expressions { OnOk result (list_all (effects_small state.now.scale (state_of state.now)) events.now ≡ true) }
-    ensures sums { OnOk result ((f : ℕ) → all_sums_small state.now.scale (state_of state.now) events.now f (slice_index_or numbers.old f None) ≡ true) }
-    ensures err { OnErr result ((list_all (effects_small state.now.scale (state_of state.now)) events.now ≡ false)
-        ⊎ ((f : ℕ) × (all_sums_small state.now.scale (state_of state.now) events.now f (slice_index_or numbers.old f None) ≡ false))) }
+    ensures ok { OnOk result ((f : ℕ) → slice_index_or numbers.new f None ≡ after_events
+        state.now.scale (state_of state.now) events.now f (slice_index_or numbers.old f None)) }
+    ensures expressions { OnOk result
+        (list_all (effects_small state.now.scale (state_of state.now)) events.now ≡ true) }
+    ensures sums { OnOk result ((f : ℕ) → all_sums_small state.now.scale
+        (state_of state.now) events.now f (slice_index_or numbers.old f None) ≡ true) }
+    ensures err { OnErr result
+        ((list_all (effects_small state.now.scale (state_of state.now)) events.now ≡ false)
+        ⊎ ((f : ℕ) × (all_sums_small state.now.scale
+        (state_of state.now) events.now f (slice_index_or numbers.old f None) ≡ false))) }
 {
     for event in events {
         let duration = state.duration(event.ticks());

@@ -15,4 +15,11 @@ abbrev pub scope_view : Scope → List Declared
 scope_view = fold-Scope (List Declared) scope_step
 
 abbrev pub symbols_view : declared.Symbols → Symbols
-symbols_view s = record { types = types_view s.types; objects = map typed_view s.constants ++ map typed_view s.objects; predicates = map form_view s.predicates; functions = map form_view s.functions }
+symbols_view s =
+    record {
+      types = types_view s.types;
+      objects = map typed_view s.constants ++ map typed_view
+          s.objects;
+      predicates = map form_view s.predicates;
+      functions = map form_view s.functions;
+    }

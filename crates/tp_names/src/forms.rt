@@ -45,7 +45,8 @@ fn forms_of(
     trees: &[Tree],
     at: u32,
 ) -> Result<Vec<Signature>, SyntaxFault>
-    ensures { Gives (λ v. map form_view v.items) result (forms_of (types_view types.now) (shapes trees.now)) }
+    ensures { Gives
+        (λ v. map form_view v.items) result (forms_of (types_view types.now) (shapes trees.now)) }
 {
     let mut forms = Vec::new(alloc);
     for tree in trees {
@@ -77,7 +78,8 @@ fn numeric_forms(
     trees: &[Tree],
     at: u32,
 ) -> Result<Vec<Signature>, SyntaxFault>
-    ensures { Gives (λ v. map form_view v.items) result (numeric_forms (types_view types.now) false (shapes trees.now)) }
+    ensures { Gives (λ v. map form_view v.items) result
+        (numeric_forms (types_view types.now) false (shapes trees.now)) }
 {
     let mut forms = Vec::new(alloc);
     let mut rest = trees;
@@ -137,7 +139,8 @@ pub fn predicates_in(
     trees: &[Tree],
     at: u32,
 ) -> Result<Vec<Signature>, SyntaxFault>
-    ensures { Gives (λ v. map form_view v.items) result (predicates_in (types_view types.now) (shapes trees.now)) }
+    ensures { Gives (λ v. map form_view v.items) result
+        (predicates_in (types_view types.now) (shapes trees.now)) }
 {
     let forms = forms_of(alloc, types, trees, at)?;
     named_once(alloc, forms, trees, at)
@@ -150,7 +153,8 @@ pub fn functions_in(
     trees: &[Tree],
     at: u32,
 ) -> Result<Vec<Signature>, SyntaxFault>
-    ensures { Gives (λ v. map form_view v.items) result (functions_in (types_view types.now) (shapes trees.now)) }
+    ensures { Gives (λ v. map form_view v.items) result
+        (functions_in (types_view types.now) (shapes trees.now)) }
 {
     let forms = numeric_forms(alloc, types, trees, at)?;
     named_once(alloc, forms, trees, at)

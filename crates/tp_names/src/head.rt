@@ -24,7 +24,8 @@ fn kind_and_name(
     at: u32,
 ) -> Result<String, SyntaxFault>
     requires { IsLower kind.now }
-    ensures { Gives (λ s. string_bytes s) result (kind_and_name kind.now (shape_of first.now) (shape_of second.now)) }
+    ensures { Gives (λ s. string_bytes s) result
+        (kind_and_name kind.now (shape_of first.now) (shape_of second.now)) }
 {
     let Tree::Word(word) = first else {
         return Err(SyntaxFault::Shape(at));
@@ -95,7 +96,8 @@ pub fn requirements_in(alloc: Global, trees: &[Tree], at: u32) -> Result<Vec<Str
 /// What stands behind `define`: the first tree of it, and the rest.
 #[tactic(auto, unfolding(tp_ast::specs::Domains::defined))]
 pub fn defined<'t, 'a>(tree: &'t Tree<'a>) -> Option<(&'t Tree<'a>, &'t [Tree<'a>])>
-    ensures { option_map (λ p. (shape_of p.0.now, shapes p.1.now)) result ≡ defined (shape_of tree.now) }
+    ensures { option_map (λ p. (shape_of p.0.now, shapes p.1.now)) result
+        ≡ defined (shape_of tree.now) }
 {
     let Tree::List { items, .. } = tree else {
         return None;

@@ -21,7 +21,8 @@ pub fn only<'t, 'a>(trees: &'t [Tree<'a>]) -> Option<&'t Tree<'a>>
 /// The two trees that stand there.
 #[tactic(auto, unfolding(tp_ast::specs::Lists::both))]
 pub fn both<'t, 'a>(trees: &'t [Tree<'a>]) -> Option<(&'t Tree<'a>, &'t Tree<'a>)>
-    ensures { option_map (λ p. (shape_of p.0.now, shape_of p.1.now)) result ≡ both (shapes trees.now) }
+    ensures { option_map (λ p. (shape_of p.0.now, shape_of p.1.now)) result
+        ≡ both (shapes trees.now) }
 {
     let [first, rest @ ..] = trees else {
         return None;
@@ -33,7 +34,8 @@ pub fn both<'t, 'a>(trees: &'t [Tree<'a>]) -> Option<(&'t Tree<'a>, &'t Tree<'a>
 /// The first tree, and those behind it.
 #[tactic(auto, unfolding(tp_ast::specs::Lists::first_of))]
 pub fn first_of<'t, 'a>(trees: &'t [Tree<'a>]) -> Option<(&'t Tree<'a>, &'t [Tree<'a>])>
-    ensures { option_map (λ p. (shape_of p.0.now, shapes p.1.now)) result ≡ first_of (shapes trees.now) }
+    ensures { option_map (λ p. (shape_of p.0.now, shapes p.1.now)) result
+        ≡ first_of (shapes trees.now) }
 {
     let [tree, more @ ..] = trees else {
         return None;

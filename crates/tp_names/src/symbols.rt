@@ -28,7 +28,8 @@ pub enum Scope<'a> {
 }
 
 fn types_found<'a>(name: &str, declared: &'a Lookup<Typed>) -> Option<&'a [String]>
-    ensures { option_map (λ ts. map string_bytes ts.now) result ≡ types_of name.now (map typed_view declared.now) }
+    ensures { option_map (λ ts. map string_bytes ts.now) result
+        ≡ types_of name.now (map typed_view declared.now) }
 {
     match declared.find(name) {
         Some(typed) => Some(typed.type_names()),
@@ -37,7 +38,8 @@ fn types_found<'a>(name: &str, declared: &'a Lookup<Typed>) -> Option<&'a [Strin
 }
 
 fn types_among<'a>(name: &str, vars: &'a Variables) -> Option<&'a [String]>
-    ensures { option_map (λ ts. map string_bytes ts.now) result ≡ types_of name.now (map typed_view vars.now) }
+    ensures { option_map (λ ts. map string_bytes ts.now) result
+        ≡ types_of name.now (map typed_view vars.now) }
 {
     match vars.find(name) {
         Some(typed) => Some(typed.type_names()),
@@ -46,7 +48,8 @@ fn types_among<'a>(name: &str, vars: &'a Variables) -> Option<&'a [String]>
 }
 
 pub fn variable_types<'a>(name: &str, scope: &'a Scope) -> Option<&'a [String]>
-    ensures { option_map (λ ts. map string_bytes ts.now) result ≡ types_of name.now (scope_view scope.now) }
+    ensures { option_map (λ ts. map string_bytes ts.now) result
+        ≡ types_of name.now (scope_view scope.now) }
 {
     match scope {
         Scope::Empty => None,
@@ -68,14 +71,16 @@ pub struct Symbols<'a> {
 }
 
 fn form_of<'a>(name: &str, forms: &Lookup<'a, Signature>) -> Option<&'a Signature>
-    ensures { option_map (λ f. form_view f.now) result ≡ form_of name.now (map form_view forms.now) }
+    ensures { option_map (λ f. form_view f.now) result
+        ≡ form_of name.now (map form_view forms.now) }
 {
     forms.find(name)
 }
 
 // The types of an object that is declared.
 fn object_types<'a>(symbols: &'a Symbols, name: &str) -> Option<&'a [String]>
-    ensures { option_map (λ ts. map string_bytes ts.now) result ≡ types_of name.now (symbols_view symbols.now).objects }
+    ensures { option_map (λ ts. map string_bytes ts.now) result
+        ≡ types_of name.now (symbols_view symbols.now).objects }
 {
     match types_found(name, &symbols.constants) {
         Some(types) => Some(types),
@@ -89,7 +94,8 @@ fn argument_types<'a>(
     scope: &'a Scope,
     argument: &Term,
 ) -> Option<&'a [String]>
-    ensures { option_map (λ ts. map string_bytes ts.now) result ≡ argument_types (symbols_view symbols.now).objects (scope_view scope.now) (term_view argument.now) }
+    ensures { option_map (λ ts. map string_bytes ts.now) result ≡ argument_types
+        (symbols_view symbols.now).objects (scope_view scope.now) (term_view argument.now) }
 {
     match argument {
         Term::Object(name) => object_types(symbols, name.as_str()),
@@ -105,7 +111,9 @@ fn argument_fits(
     argument: &Term,
     parameter: &[String],
 ) -> Result<bool, AllocError>
-    ensures { IfOk result (λ b. b ≡ argument_fits (symbols_view symbols.now).types (symbols_view symbols.now).objects (scope_view scope.now) (term_view argument.now) (map string_bytes parameter.now)) }
+    ensures { IfOk result
+        (λ b. b ≡ argument_fits (symbols_view symbols.now).types (symbols_view symbols.now).objects
+        (scope_view scope.now) (term_view argument.now) (map string_bytes parameter.now)) }
 {
     match argument_types(symbols, scope, argument) {
         None => Ok(false),
@@ -121,7 +129,9 @@ fn arguments_fit(
     arguments: &[Term],
     parameters: &[Typed],
 ) -> Result<bool, AllocError>
-    ensures { IfOk result (λ b. b ≡ arguments_fit (symbols_view symbols.now).types (symbols_view symbols.now).objects (scope_view scope.now) (map term_view arguments.now) (map typed_view parameters.now)) }
+    ensures { IfOk result
+        (λ b. b ≡ arguments_fit (symbols_view symbols.now).types (symbols_view symbols.now).objects
+        (scope_view scope.now) (map term_view arguments.now) (map typed_view parameters.now)) }
 {
     let mut left = arguments;
     let mut open = parameters;
@@ -165,7 +175,8 @@ pub fn atom_in(
     args: &[Tree],
     at: u32,
 ) -> Result<Atom, SyntaxFault>
-    ensures { Gives atom_view result (atom_in (symbols_view symbols.now) (map form_view forms.now) (scope_view scope.now) word.now.text.now (shapes args.now)) }
+    ensures { Gives atom_view result (atom_in (symbols_view symbols.now)
+        (map form_view forms.now) (scope_view scope.now) word.now.text.now (shapes args.now)) }
 {
     let name = name_of(alloc, word.text, at)?;
     let Some(form) = form_of(name.as_str(), forms) else {
@@ -180,7 +191,8 @@ pub fn atom_in(
 
 /// Whether an object is declared, or a variable in scope.
 pub fn argument_known(symbols: &Symbols, scope: &Scope, argument: &Term) -> bool
-    ensures { result ≡ is_some (argument_types (symbols_view symbols.now).objects (scope_view scope.now) (term_view argument.now)) }
+    ensures { result ≡ is_some (argument_types
+        (symbols_view symbols.now).objects (scope_view scope.now) (term_view argument.now)) }
 {
     argument_types(symbols, scope, argument).is_some()
 }

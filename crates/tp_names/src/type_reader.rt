@@ -57,7 +57,8 @@ fn type_below(
 }
 
 fn types_below(alloc: Global, items: &[Typed]) -> Result<Vec<TypeName>, AllocError>
-    ensures { IfOk result (λ v. map parent_view v.items ≡ map type_below (map typed_view items.now)) }
+    ensures { IfOk result
+        (λ v. map parent_view v.items ≡ map type_below (map typed_view items.now)) }
 {
     let mut types = Vec::new(alloc);
     for item in items {
@@ -75,7 +76,8 @@ fn is_object(declared: &TypeName) -> bool
 
 // `object` is below nothing else.
 fn object_is_highest(types: &[TypeName]) -> bool
-    ensures { result ≡ list_all (λ p. not (is_object p) || bytes_eq p.parent object) (map parent_view types.now) }
+    ensures { result ≡ list_all
+        (λ p. not (is_object p) || bytes_eq p.parent object) (map parent_view types.now) }
 {
     for declared in types {
         if is_object(declared) && declared.parent.as_str() != "object" {
@@ -86,7 +88,8 @@ fn object_is_highest(types: &[TypeName]) -> bool
 }
 
 fn without_object(alloc: Global, listed: &[TypeName]) -> Result<Vec<TypeName>, AllocError>
-    ensures { IfOk result (λ v. map parent_view v.items ≡ filter (λ p. not (is_object p)) (map parent_view listed.now)) }
+    ensures { IfOk result (λ v.
+        map parent_view v.items ≡ filter (λ p. not (is_object p)) (map parent_view listed.now)) }
 {
     let mut types = Vec::new(alloc);
     for declared in listed {
@@ -126,7 +129,8 @@ fn mention<'a>(
     done: &mut Vec<TypeName>,
     parent: &'a str,
 ) -> Result<(), AllocError>
-    ensures { OnOk result ((p : Parent) (ps : List Parent) → p.parent ≡ parent.now → to_mention done.new.items known.new ps ≡ to_mention done.old.items known.old (p ∷ ps)) }
+    ensures { OnOk result ((p : Parent) (ps : List Parent) → p.parent ≡ parent.now
+        → to_mention done.new.items known.new ps ≡ to_mention done.old.items known.old (p ∷ ps)) }
 {
     if !known.insert(parent)? {
         return Ok(());
@@ -137,7 +141,8 @@ fn mention<'a>(
 
 // Types that are declared by their mention alone.
 fn mentioned(alloc: Global, types: &[TypeName]) -> Result<Vec<TypeName>, AllocError>
-    ensures { IfOk result (λ v. map parent_view v.items ≡ mentioned (object ∷ map (λ p. p.name) (map parent_view types.now)) (map parent_view types.now)) }
+    ensures { IfOk result (λ v. map parent_view v.items ≡ mentioned
+        (object ∷ map (λ p. p.name) (map parent_view types.now)) (map parent_view types.now)) }
 {
     let mut known = known_names(alloc, types)?;
     let mut done = Vec::new(alloc);
@@ -149,7 +154,8 @@ fn mentioned(alloc: Global, types: &[TypeName]) -> Result<Vec<TypeName>, AllocEr
 
 // All types but `object`, those that are declared by their mention alone last.
 fn with_mentioned(alloc: Global, listed: &[TypeName]) -> Result<Vec<TypeName>, AllocError>
-    ensures { IfOk result (λ v. map parent_view v.items ≡ with_mentioned (filter (λ p. not (is_object p)) (map parent_view listed.now))) }
+    ensures { IfOk result (λ v. map parent_view v.items
+        ≡ with_mentioned (filter (λ p. not (is_object p)) (map parent_view listed.now))) }
 {
     let mut types = without_object(alloc, listed)?;
     for declared in mentioned(alloc, &types)? {
@@ -165,7 +171,8 @@ fn types_from(
     trees: &[Tree],
     at: u32,
 ) -> Result<Vec<TypeName>, SyntaxFault>
-    ensures { Gives (λ v. map parent_view v.items) result (types_from (map parent_view listed.now)) }
+    ensures { Gives
+        (λ v. map parent_view v.items) result (types_from (map parent_view listed.now)) }
 {
     if let Some(number) = second_named(alloc, listed)? {
         return Err(SyntaxFault::Twice(item_place(trees, number, at)));

@@ -145,7 +145,8 @@ fn give(
     names: &[String],
     types: Vec<String>,
 ) -> Result<(), AllocError>
-    ensures { OnOk result (map typed_view done.new.items ≡ map typed_view done.old.items ++ map (given (map string_bytes types.items)) (map string_bytes names.now)) }
+    ensures { OnOk result (map typed_view done.new.items ≡ map typed_view done.old.items
+        ++ map (given (map string_bytes types.items)) (map string_bytes names.now)) }
 {
     let shared = Rc::new(alloc, types)?;
     for name in names {
@@ -165,7 +166,8 @@ pub struct Listed {
 
 // Whether these types are declared too.
 fn declared_too(so_far: bool, types: &Types, names: &[String]) -> bool
-    ensures { result ≡ (so_far && list_all (is_type (types_view types.now)) (map string_bytes names.now)) }
+    ensures { result
+        ≡ (so_far && list_all (is_type (types_view types.now)) (map string_bytes names.now)) }
 {
     so_far && are_types(types, names)
 }
@@ -179,8 +181,10 @@ pub fn typed_items(
     trees: &[Tree],
     at: u32,
 ) -> Result<Listed, SyntaxFault>
-    ensures items { Gives (λ l. map typed_view l.items.items) result (typed_list items (shapes trees.now)) }
-    ensures declared { IfOk result (λ l. l.are_declared ≡ list_all (λ d. list_all (is_type (types_view types.now)) d.types) (map typed_view l.items.items)) }
+    ensures items { Gives
+        (λ l. map typed_view l.items.items) result (typed_list items (shapes trees.now)) }
+    ensures declared { IfOk result (λ l. l.are_declared ≡ list_all
+        (λ d. list_all (is_type (types_view types.now)) d.types) (map typed_view l.items.items)) }
 {
     let mut done = Vec::new(alloc);
     let mut are_declared = true;
@@ -228,7 +232,8 @@ pub fn typed_list(
 
 // The number of the first item whose name stands before it, too.
 fn named_again(alloc: Global, items: &[Typed]) -> Result<Option<usize>, AllocError>
-    ensures { IfOk result (λ o. is_some o ≡ has_twice (map (λ d. d.name) (map typed_view items.now))) }
+    ensures { IfOk result
+        (λ o. is_some o ≡ has_twice (map (λ d. d.name) (map typed_view items.now))) }
 {
     let mut names = Vec::new(alloc);
     for item in items {
@@ -305,8 +310,10 @@ fn declared(
     trees: &[Tree],
     at: u32,
 ) -> Result<Vec<Typed>, SyntaxFault>
-    requires { listed.are_declared ≡ list_all (λ d. list_all (is_type (types_view types.now)) d.types) (map typed_view listed.items.items) }
-    ensures { let ds = map typed_view listed.items.items in Gives (λ v. map typed_view v.items) result (provided (are_declared (types_view types.now) ds) ds) }
+    requires { listed.are_declared ≡ list_all (λ d.
+        list_all (is_type (types_view types.now)) d.types) (map typed_view listed.items.items) }
+    ensures { let ds = map typed_view listed.items.items in Gives (λ v. map typed_view v.items)
+        result (provided (are_declared (types_view types.now) ds) ds) }
 {
     let Listed {
         items,
@@ -322,7 +329,8 @@ fn declared(
 }
 
 fn has_duration(items: &[Typed]) -> bool
-    ensures { result ≡ list_any (λ v. bytes_eq v.name (codes "?duration")) (map typed_view items.now) }
+    ensures { result
+        ≡ list_any (λ v. bytes_eq v.name (codes "?duration")) (map typed_view items.now) }
 {
     for item in items {
         if item.name.as_str() == "?duration" {
@@ -340,7 +348,8 @@ pub fn objects_in(
     trees: &[Tree],
     at: u32,
 ) -> Result<Vec<Typed>, SyntaxFault>
-    ensures { Gives (λ v. map typed_view v.items) result (objects_in (types_view types.now) (shapes trees.now)) }
+    ensures { Gives (λ v. map typed_view v.items) result
+        (objects_in (types_view types.now) (shapes trees.now)) }
 {
     let items = typed_items(alloc, types, Items::Names, trees, at)?;
     declared(alloc, types, items, trees, at)
@@ -354,7 +363,8 @@ pub fn parameters_of(
     trees: &[Tree],
     at: u32,
 ) -> Result<Vec<Typed>, SyntaxFault>
-    ensures { Gives (λ v. map typed_view v.items) result (parameters_of (types_view types.now) (shapes trees.now)) }
+    ensures { Gives (λ v. map typed_view v.items) result
+        (parameters_of (types_view types.now) (shapes trees.now)) }
 {
     let vars = typed_items(alloc, types, Items::Variables, trees, at)?;
     if has_duration(&vars.items) {
@@ -370,7 +380,8 @@ pub fn parameters_at(
     tree: &Tree,
     at: u32,
 ) -> Result<Vec<Typed>, SyntaxFault>
-    ensures { Gives (λ v. map typed_view v.items) result (parameters_at (types_view types.now) (shape_of tree.now)) }
+    ensures { Gives (λ v. map typed_view v.items) result
+        (parameters_at (types_view types.now) (shape_of tree.now)) }
 {
     match tree {
         Tree::Word(_) => Err(SyntaxFault::Shape(at)),

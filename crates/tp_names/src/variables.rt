@@ -41,7 +41,8 @@ fn put(
     name: &str,
     place: usize,
 ) -> Result<(), AllocError>
-    ensures { OnOk result ((n : List ℕ) → get_by_text places.new n ≡ or_place (get_by_text places.old n) name.now place n) }
+    ensures { OnOk result ((n : List ℕ)
+        → get_by_text places.new n ≡ or_place (get_by_text places.old n) name.now place n) }
 {
     if places.contains_key(name) {
         return Ok(());

@@ -27,10 +27,17 @@ name_at names k = slice_index_or names k New
 
 -- Each name is of an edge of the situation, whose bound stands at its place; and each edge that is among those
 -- that are looked at has a place.
-pub record ListsArcs (among : Edge → Type 0) (s : Situation) (names : List Edge) (arcs : List Arc) : Type 0 where
+pub record ListsArcs (among : Edge → Type 0) (s : Situation) (names : List Edge)
+    (arcs : List Arc) : Type 0 where
   pub len : length names ≡ length arcs
-  pub exist : (k : ℕ) → k < length arcs → (b : Bound) × (bound_of s (name_at names k) ≡ Some b) × (arc_at arcs k ≡ arc_of b)
-  pub all : (e : Edge) (b : Bound) → bound_of s e ≡ Some b → among e → (k : ℕ) × (k < length arcs) × (name_at names k ≡ e)
+  pub exist :
+      (k : ℕ) → k < length arcs → (b : Bound)
+      × (bound_of s (name_at names k) ≡ Some b)
+      × (arc_at arcs k ≡ arc_of b)
+  pub all :
+      (e : Edge) (b : Bound) → bound_of s e ≡ Some b → among e → (k : ℕ)
+      × (k < length arcs)
+      × (name_at names k ≡ e)
 
 -- these are all edges of the situation
 abbrev pub AreArcs : Situation → List Edge → List Arc → Type 0
@@ -40,7 +47,11 @@ AreArcs s names arcs = ListsArcs (λ _. Unit {0}) s names arcs
 abbrev pub Stand : Situation → List Edge → List Arc → Type 0
 Stand asked names arcs =
     (k : ℕ) → k < length arcs
-    → (b : Bound) × (bound_of asked (name_at names k) ≡ Some b) × (number_of b.from ≡ (arc_at arcs k).from) × (number_of b.to ≡ (arc_at arcs k).to) × (b.w ≤ℤ (arc_at arcs k).weight)
+    → (b : Bound)
+    × (bound_of asked (name_at names k) ≡ Some b)
+    × (number_of b.from ≡ (arc_at arcs k).from)
+    × (number_of b.to ≡ (arc_at arcs k).to)
+    × (b.w ≤ℤ (arc_at arcs k).weight)
 
 -- the floor of an event at this moment, where these are the lags
 abbrev pub floor_at : ℕ → List ℕ → ℕ → ℕ
@@ -52,13 +63,17 @@ raised_by now lags (Own id) a = a
 raised_by now lags New a = a
 raised_by now lags (PastHigh e) a = a
 raised_by now lags (PastLow e) a = a
-raised_by now lags (Now e) a = record { from = a.from; to = a.to; weight = pos 0 -ℤ pos (floor_at now lags e) }
+raised_by now lags (Now e) a =
+    record { from = a.from; to = a.to; weight = pos 0 -ℤ pos (floor_at now lags e) }
 raised_by now lags (End e) a = a
 
 -- the arcs when now is raised, in the same order
-pub record AreRaised (now : ℕ) (lags : List ℕ) (names : List Edge) (arcs raised : List Arc) : Type 0 where
+pub record AreRaised (now : ℕ) (lags : List ℕ) (names : List Edge)
+    (arcs raised : List Arc) : Type 0 where
   pub len : length raised ≡ length arcs
-  pub each : (k : ℕ) → k < length arcs → arc_at raised k ≡ raised_by now lags (name_at names k) (arc_at arcs k)
+  pub each :
+      (k : ℕ)
+      → k < length arcs → arc_at raised k ≡ raised_by now lags (name_at names k) (arc_at arcs k)
 
 -- the name of an edge when e is dispatched: its floor and its end give way to its moment
 abbrev pub past_name : ℕ → Edge → Edge
@@ -75,8 +90,10 @@ past_arc e moment (Own id) a = a
 past_arc e moment New a = a
 past_arc e moment (PastHigh k) a = a
 past_arc e moment (PastLow k) a = a
-past_arc e moment (Now k) a = cond (nat_eq k e) (record { from = a.from; to = a.to; weight = pos 0 -ℤ pos moment }) a
-past_arc e moment (End k) a = cond (nat_eq k e) (record { from = a.from; to = a.to; weight = pos moment }) a
+past_arc e moment (Now k) a =
+    cond (nat_eq k e) (record { from = a.from; to = a.to; weight = pos 0 -ℤ pos moment }) a
+past_arc e moment (End k) a =
+    cond (nat_eq k e) (record { from = a.from; to = a.to; weight = pos moment }) a
 
 -- the names when e is dispatched, in the same order
 pub record AreNamesPast (e : ℕ) (names past : List Edge) : Type 0 where
@@ -86,12 +103,15 @@ pub record AreNamesPast (e : ℕ) (names past : List Edge) : Type 0 where
 -- the arcs when e is dispatched at the moment, in the same order
 pub record AreArcsPast (e moment : ℕ) (names : List Edge) (arcs past : List Arc) : Type 0 where
   pub len : length past ≡ length arcs
-  pub each : (k : ℕ) → k < length arcs → arc_at past k ≡ past_arc e moment (name_at names k) (arc_at arcs k)
+  pub each :
+      (k : ℕ)
+      → k < length arcs → arc_at past k ≡ past_arc e moment (name_at names k) (arc_at arcs k)
 
 -- every event that is not dispatched can wait until its floor
 abbrev pub AllWait : List (Option ℕ) → List ℕ → List ℕ → ℕ → Type 0
 AllWait fixed high lags now =
-    (k : ℕ) → k < length fixed → slice_index_or fixed k None ≡ None → floor_at now lags k ≤ slice_index high (suc k)
+    (k : ℕ) → k < length fixed
+    → slice_index_or fixed k None ≡ None → floor_at now lags k ≤ slice_index high (suc k)
 
 -- the event is not dispatched, and has to happen before its floor
 pub record CannotWait (fixed : List (Option ℕ)) (high lags : List ℕ) (now e : ℕ) : Type 0 where
@@ -100,7 +120,8 @@ pub record CannotWait (fixed : List (Option ℕ)) (high lags : List ℕ) (now e 
   pub early : slice_index high (suc e) < floor_at now lags e
 
 -- no solution of the arcs meets the new one too
-pub record IsContrary (names : List Edge) (arcs : List Arc) (low : List ℕ) (new : Arc) : Type 0 where
+pub record IsContrary (names : List Edge) (arcs : List Arc) (low : List ℕ)
+    (new : Arc) : Type 0 where
   pub len : length names ≡ length arcs
   pub holds : HoldsLeast arcs low
   pub weight : IsSmallWeight new.weight
@@ -109,4 +130,7 @@ pub record IsContrary (names : List Edge) (arcs : List Arc) (low : List ℕ) (ne
 
 -- these are the names of a negative cycle that begins with the new arc, whose name is the first one
 abbrev pub NamesCycle : List Edge → List Arc → Edge → Arc → List Edge → Type 0
-NamesCycle names arcs first new edges = (cycle : List ℕ) × CycleBeginsWith (arcs ++ new ∷ []) (length arcs) cycle × (edges ≡ map (name_at (names ++ first ∷ [])) cycle)
+NamesCycle names arcs first new edges =
+    (cycle : List ℕ)
+    × CycleBeginsWith (arcs ++ new ∷ []) (length arcs) cycle
+    × (edges ≡ map (name_at (names ++ first ∷ [])) cycle)

@@ -22,7 +22,8 @@ arc_at arcs k = slice_index_or arcs k no_arc
 -- the arcs of these numbers lead from a to b
 abbrev pub IsChain : List Arc → ℕ → ℕ → List ℕ → Type 0
 IsChain arcs a b [] = a ≡ b
-IsChain arcs a b (k ∷ ks) = (k < length arcs) × ((arc_at arcs k).from ≡ a) × IsChain arcs (arc_at arcs k).to b ks
+IsChain arcs a b (k ∷ ks) =
+    (k < length arcs) × ((arc_at arcs k).from ≡ a) × IsChain arcs (arc_at arcs k).to b ks
 
 -- the sum of the weights of the arcs of these numbers
 abbrev pub weight_of : List Arc → List ℕ → ℤ

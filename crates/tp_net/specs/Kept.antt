@@ -22,7 +22,8 @@ pub record IsFit (s : Situation) : Type 0 where
   pub asks_nothing : s.proposed ≡ None
 
 -- the arcs are those of the situation, and the kept moments are the least and the greatest that they leave
-pub record IsKept (s : Situation) (names : List Edge) (arcs : List Arc) (low high : List ℕ) : Type 0 where
+pub record IsKept (s : Situation) (names : List Edge) (arcs : List Arc)
+    (low high : List ℕ) : Type 0 where
   pub fit : IsFit s
   pub listed : AreArcs s names arcs
   pub exact : AreExact arcs low high

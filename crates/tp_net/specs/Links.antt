@@ -31,12 +31,15 @@ pub record IsParent (links : List Link) (g r : ℕ → ℕ) (x p : ℕ) : Type 0
   pub earlier : 0 < r x → r (link_at links p).to < r x
 
 -- amounts g, ranks r (0: not settled yet) and parents p, while the links that end at `point` are gone through
-pub record Spreading (links : List Link) (seed amount point : ℕ) (seen : ℕ → Type 0) (g r p : ℕ → ℕ) : Type 0 where
+pub record Spreading (links : List Link) (seed amount point : ℕ) (seen : ℕ → Type 0)
+    (g r p : ℕ → ℕ) : Type 0 where
   pub seeded : g seed ≡ amount
   pub first : r seed ≡ 0 → (x : ℕ) → x ≢ seed → g x ≡ 0
   pub order : (x y : ℕ) → 0 < r x → r y ≡ 0 → g y ≤ g x
   pub positive : (x : ℕ) → 0 < r x → 0 < g x
-  pub closed : (k : ℕ) → k < length links → 0 < r (link_at links k).to → ((link_at links k).to ≡ point → seen k) → MeetsLink g (link_at links k)
+  pub closed :
+      (k : ℕ) → k < length links → 0 < r (link_at links k).to
+      → ((link_at links k).to ≡ point → seen k) → MeetsLink g (link_at links k)
   pub least : (h : ℕ → ℕ) → IsClosed h links → amount ≤ h seed → (x : ℕ) → g x ≤ h x
   pub parents : (x : ℕ) → x ≢ seed → 0 < g x → IsParent links g r x (p x)
 
@@ -47,23 +50,28 @@ pub record IsNext (g r : ℕ → ℕ) (y : ℕ) : Type 0 where
   pub most : (x : ℕ) → r x ≡ 0 → g x ≤ g y
 
 -- all points with something are settled
-pub record IsSpread (links : List Link) (seed amount : ℕ) (amounts ranks parents : List ℕ) : Type 0 where
+pub record IsSpread (links : List Link) (seed amount : ℕ)
+    (amounts ranks parents : List ℕ) : Type 0 where
   pub ranks_len : length ranks ≡ length amounts
   pub parents_len : length parents ≡ length amounts
-  pub spreading : Spreading links seed amount 0 (λ k. k < length links) (λ x. slice_index amounts x) (λ x. slice_index ranks x) (λ x. slice_index parents x)
+  pub spreading :
+      Spreading links seed amount 0 (λ k. k < length links)
+      (λ x. slice_index amounts x) (λ x. slice_index ranks x) (λ x. slice_index parents x)
   pub ended : (x : ℕ) → slice_index ranks x ≡ 0 → slice_index amounts x ≡ 0
 
 -- the links of these numbers lead from a to b
 abbrev pub IsLinkChain : List Link → ℕ → ℕ → List ℕ → Type 0
 IsLinkChain links a b [] = a ≡ b
-IsLinkChain links a b (k ∷ ks) = (k < length links) × ((link_at links k).from ≡ a) × IsLinkChain links (link_at links k).to b ks
+IsLinkChain links a b (k ∷ ks) =
+    (k < length links) × ((link_at links k).from ≡ a) × IsLinkChain links (link_at links k).to b ks
 
 -- the sum of the slacks of the links of these numbers
 abbrev pub slack_of : List Link → List ℕ → ℕ
 slack_of links ks = sum_by (λ k. (link_at links k).slack) ks
 
 -- links from the target to the seed, no two of which begin at one point
-pub record IsTrace (links : List Link) (target seed amount : ℕ) (left : ℕ) (path : List ℕ) : Type 0 where
+pub record IsTrace (links : List Link) (target seed amount : ℕ) (left : ℕ)
+    (path : List ℕ) : Type 0 where
   pub chain : IsLinkChain links target seed path
   pub total : slack_of links path + left ≡ amount
   pub simple : AllPairs (λ j k. (link_at links j).from ≢ (link_at links k).from) path

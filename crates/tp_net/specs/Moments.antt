@@ -18,8 +18,10 @@ pub record CycleBeginsWith (arcs : List Arc) (first : ℕ) (cycle : List ℕ) : 
 
 -- the least moments with a new arc, or a negative cycle that begins with it
 abbrev pub IsRaised : List Arc → Arc → ℕ → Raised → Type 0
-IsRaised arcs new points (Stands low) = (length low.items ≡ points) × IsLeast (arcs ++ new ∷ []) low.items
-IsRaised arcs new points (Circle cycle) = CycleBeginsWith (arcs ++ new ∷ []) (length arcs) cycle.items
+IsRaised arcs new points (Stands low) =
+    (length low.items ≡ points) × IsLeast (arcs ++ new ∷ []) low.items
+IsRaised arcs new points (Circle cycle) =
+    CycleBeginsWith (arcs ++ new ∷ []) (length arcs) cycle.items
 
 -- the least and the greatest moments, for each point
 pub record AreExact (arcs : List Arc) (low high : List ℕ) : Type 0 where
@@ -29,16 +31,29 @@ pub record AreExact (arcs : List Arc) (low high : List ℕ) : Type 0 where
 
 -- the windows with a new arc, or a negative cycle that begins with it
 abbrev pub IsAdded : List Arc → Arc → ℕ → Added → Type 0
-IsAdded arcs new points (Both low high) = (length low.items ≡ points) × AreExact (arcs ++ new ∷ []) low.items high.items
-IsAdded arcs new points (Refused cycle) = CycleBeginsWith (arcs ++ new ∷ []) (length arcs) cycle.items
+IsAdded arcs new points (Both low high) =
+    (length low.items ≡ points) × AreExact (arcs ++ new ∷ []) low.items high.items
+IsAdded arcs new points (Refused cycle) =
+    CycleBeginsWith (arcs ++ new ∷ []) (length arcs) cycle.items
 
 -- each other point has an arc to the origin that is not far from tight at the known moments
 abbrev pub ReachOrigin : List Arc → List ℕ → ℕ → Type 0
-ReachOrigin arcs known amount = (x : ℕ) → 0 < x → x < length known → (k : ℕ) × (k < length arcs) × ((arc_at arcs k).from ≡ x) × ((arc_at arcs k).to ≡ 0) × ((pos (slice_index known x) +ℤ (arc_at arcs k).weight) <ℤ pos amount) × (pos 0 ≤ℤ (pos 0 -ℤ (arc_at arcs k).weight))
+ReachOrigin arcs known amount =
+    (x : ℕ) → 0 < x → x < length known → (k : ℕ)
+    × (k < length arcs)
+    × ((arc_at arcs k).from ≡ x)
+    × ((arc_at arcs k).to ≡ 0)
+    × ((pos (slice_index known x) +ℤ (arc_at arcs k).weight) <ℤ pos amount)
+    × (pos 0 ≤ℤ (pos 0 -ℤ (arc_at arcs k).weight))
 
 -- each other point has an arc from the origin that is not far from tight at the known moments
 abbrev pub FromOrigin : List Arc → List ℕ → ℕ → Type 0
-FromOrigin arcs known amount = (x : ℕ) → 0 < x → x < length known → (k : ℕ) × (k < length arcs) × ((arc_at arcs k).from ≡ 0) × ((arc_at arcs k).to ≡ x) × ((arc_at arcs k).weight <ℤ (pos (slice_index known x) +ℤ pos amount))
+FromOrigin arcs known amount =
+    (x : ℕ) → 0 < x → x < length known → (k : ℕ)
+    × (k < length arcs)
+    × ((arc_at arcs k).from ≡ 0)
+    × ((arc_at arcs k).to ≡ x)
+    × ((arc_at arcs k).weight <ℤ (pos (slice_index known x) +ℤ pos amount))
 
 -- least moments of the arcs, with all numbers far from the ends of the machine's
 pub record HoldsLeast (arcs : List Arc) (low : List ℕ) : Type 0 where

@@ -5,4 +5,12 @@ use Rattle.tp_bounds.specs.Situation.{Situation}
 
 -- a situation with no bound, at 0, in which nothing is dispatched and no event is reported late
 abbrev pub new_situation : ℕ → ℕ → Situation
-new_situation events horizon = record { horizon = horizon; clock = 0; bounds = empty; fixed = replicate events None; lags = replicate events 0; proposed = None }
+new_situation events horizon =
+    record {
+      horizon = horizon;
+      clock = 0;
+      bounds = empty;
+      fixed = replicate events None;
+      lags = replicate events 0;
+      proposed = None;
+    }

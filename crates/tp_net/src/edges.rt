@@ -77,7 +77,8 @@ pub fn without(
     id: BoundId,
 ) -> Result<(Vec<Edge>, Vec<Arc>), AllocError>
     requires { length names.now ≡ length arcs.now }
-    ensures { IfOk result (λ r. (s : Situation) → AreArcs s names.now arcs.now → AreArcs (without_bound s id.0) r.0.items r.1.items) }
+    ensures { IfOk result (λ r. (s : Situation)
+        → AreArcs s names.now arcs.now → AreArcs (without_bound s id.0) r.0.items r.1.items) }
 {
     let mut left_names = Vec::new(alloc);
     let mut left_arcs = Vec::new(alloc);

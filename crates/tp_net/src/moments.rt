@@ -21,9 +21,11 @@ pub enum Raised {
 /// Moments with what each point gains.
 fn sums(alloc: Global, low: &[u64], amounts: &[u64]) -> Result<Vec<u64>, AllocError>
     requires len { length amounts.now ≡ length low.now }
-    requires fits { (x : ℕ) → x < length low.now → slice_index low.now x + slice_index amounts.now x < 2 ^ 64 }
+    requires fits { (x : ℕ)
+        → x < length low.now → slice_index low.now x + slice_index amounts.now x < 2 ^ 64 }
     ensures len { IfOk result (λ s. vec_len s ≡ length low.now) }
-    ensures each { IfOk result (λ s. (x : ℕ) → x < length low.now → slice_index s.items x ≡ slice_index low.now x + slice_index amounts.now x) }
+    ensures each { IfOk result (λ s. (x : ℕ) → x < length low.now
+        → slice_index s.items x ≡ slice_index low.now x + slice_index amounts.now x) }
 {
     let mut sums = Vec::new(alloc);
     for x in 0..low.len() {
@@ -36,7 +38,8 @@ fn sums(alloc: Global, low: &[u64], amounts: &[u64]) -> Result<Vec<u64>, AllocEr
 fn differences(alloc: Global, high: &[u64], amounts: &[u64]) -> Result<Vec<u64>, AllocError>
     requires len { length amounts.now ≡ length high.now }
     ensures len { IfOk result (λ s. vec_len s ≡ length high.now) }
-    ensures each { IfOk result (λ s. (x : ℕ) → x < length high.now → slice_index s.items x ≡ slice_index high.now x - slice_index amounts.now x) }
+    ensures each { IfOk result (λ s. (x : ℕ) → x < length high.now
+        → slice_index s.items x ≡ slice_index high.now x - slice_index amounts.now x) }
 {
     let mut differences = Vec::new(alloc);
     for x in 0..high.len() {
@@ -151,7 +154,8 @@ fn ceilings(alloc: Global, known: &[u64], amount: u64) -> Result<Vec<u64>, Alloc
     requires amount { amount < 2 ^ 41 }
     ensures len { IfOk result (λ r. length r.items ≡ length known.now) }
     ensures start { IfOk result (λ r. slice_index r.items 0 ≡ 0) }
-    ensures each { IfOk result (λ r. (x : ℕ) → 0 < x → x < length known.now → slice_index r.items x ≡ slice_index known.now x + amount) }
+    ensures each { IfOk result (λ r. (x : ℕ)
+        → 0 < x → x < length known.now → slice_index r.items x ≡ slice_index known.now x + amount) }
 {
     let mut ceilings = Vec::new(alloc);
     ceilings.push(0)?;
@@ -206,7 +210,8 @@ pub fn contrary_cycle(
     requires weight { IsSmallWeight new.weight }
     requires among { JoinsPoints (length low.now) new }
     requires none { HasNoSolution (arcs.now ++ new ∷ []) }
-    ensures { IfOk result (λ cycle. CycleBeginsWith (arcs.now ++ new ∷ []) (length arcs.now) cycle.items) }
+    ensures { IfOk result
+        (λ cycle. CycleBeginsWith (arcs.now ++ new ∷ []) (length arcs.now) cycle.items) }
 {
     match raise(alloc, arcs, low, new)? {
         Raised::Circle(cycle) => Ok(cycle),

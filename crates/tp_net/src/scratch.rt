@@ -45,9 +45,26 @@ impl Model for ScratchNet {
 
     ghost coded = { coded_situation };
 
-    ghost view = { λ a. record { horizon = a.horizon; clock = a.clock; bounds = held a.bounds.entries; fixed = a.fixed.items; lags = a.lags.items; proposed = None } };
+    ghost view = { λ a. record {
+      horizon = a.horizon;
+      clock = a.clock;
+      bounds
+          = held a.bounds.entries;
+      fixed = a.fixed.items;
+      lags = a.lags.items;
+      proposed = None;
+    } };
 
-    ghost invariant = { λ a. IsKept (record { horizon = a.horizon; clock = a.clock; bounds = held a.bounds.entries; fixed = a.fixed.items; lags = a.lags.items; proposed = None }) a.names.items a.arcs.items a.low.items a.high.items };
+    ghost invariant = { λ a. IsKept (record {
+      horizon = a.horizon;
+      clock = a.clock;
+      bounds
+          = held a.bounds.entries;
+      fixed = a.fixed.items;
+      lags = a.lags.items;
+      proposed = None;
+    })
+        a.names.items a.arcs.items a.low.items a.high.items };
 }
 
 /// The greatest moments of the origin and of events that nothing keeps from the horizon.
@@ -65,7 +82,8 @@ fn tops(alloc: Global, events: u16, horizon: u32) -> Result<Vec<u64>, AllocError
 fn late(fixed: &[Option<u32>], high: &[u64], lags: &[u32], now: u32) -> Option<u16>
     requires events { length fixed.now ≤ 1024 }
     requires points { length high.now ≡ suc (length fixed.now) }
-    ensures { MatchOption result (AllWait fixed.now high.now lags.now now) (CannotWait fixed.now high.now lags.now now) }
+    ensures { MatchOption result
+        (AllWait fixed.now high.now lags.now now) (CannotWait fixed.now high.now lags.now now) }
 {
     for e in 0..fixed.len() {
         if fixed[e].is_none() && high[e + 1] < u64::from(floor(lags, e as u16, now)) {
@@ -79,7 +97,8 @@ fn late(fixed: &[Option<u32>], high: &[u64], lags: &[u32], now: u32) -> Option<u
 fn between(alloc: Global, low: &[u64], high: &[u64], back: u64) -> Result<Vec<u64>, AllocError>
     requires { length low.now ≡ length high.now }
     ensures len { IfOk result (λ r. length r.items ≡ length low.now) }
-    ensures each { IfOk result (λ r. (x : ℕ) → x < length low.now → slice_index r.items x ≡ max (slice_index low.now x) (slice_index high.now x - back)) }
+    ensures each { IfOk result (λ r. (x : ℕ) → x < length low.now
+        → slice_index r.items x ≡ max (slice_index low.now x) (slice_index high.now x - back)) }
 {
     let mut between = Vec::new(alloc);
     for x in 0..low.len() {
@@ -97,7 +116,8 @@ fn enter(
     bound: Bound,
     new: Arc,
 ) -> Result<(), AllocError>
-    ensures bounds { OnOk result (held bounds.new.entries ≡ insert (held bounds.old.entries) id.0 bound) }
+    ensures bounds { OnOk result
+        (held bounds.new.entries ≡ insert (held bounds.old.entries) id.0 bound) }
     ensures names { OnOk result (names.new.items ≡ names.old.items ++ Own id ∷ []) }
     ensures arcs { OnOk result (arcs.new.items ≡ arcs.old.items ++ new ∷ []) }
     ensures err_bounds { OnErr result (bounds.new.entries ≡ bounds.old.entries) }

@@ -73,7 +73,8 @@ pub fn down_links(alloc: Global, arcs: &[Arc], high: &[u64]) -> Result<Vec<Link>
     requires weights { All (λ e. IsSmallWeight e.weight) arcs.now }
     requires among { All (JoinsPoints (length high.now)) arcs.now }
     requires met { All (MeetsArc (moment high.now)) arcs.now }
-    ensures { IfOk result (λ links. AreDownLinks (λ x. slice_index high.now x) arcs.now links.items) }
+    ensures { IfOk result
+        (λ links. AreDownLinks (λ x. slice_index high.now x) arcs.now links.items) }
 {
     let mut links = Vec::new(alloc);
     for arc in arcs {

@@ -18,7 +18,9 @@ pub struct Link {
 /// Of the points that are not settled (rank 0) one with the most, if any has something.
 fn next_point(amounts: &[u64], ranks: &[usize]) -> Option<usize>
     requires { length ranks.now ≡ length amounts.now }
-    ensures { MatchOption result ((x : ℕ) → slice_index ranks.now x ≡ 0 → slice_index amounts.now x ≡ 0) (λ y. (y < length amounts.now) × IsNext (λ x. slice_index amounts.now x) (λ x. slice_index ranks.now x) y) }
+    ensures { MatchOption result ((x : ℕ) → slice_index ranks.now x ≡ 0
+        → slice_index amounts.now x ≡ 0) (λ y. (y < length amounts.now)
+        × IsNext (λ x. slice_index amounts.now x) (λ x. slice_index ranks.now x) y) }
 {
     let mut best = 0;
     let mut most = 0;
@@ -38,8 +40,12 @@ fn relax(links: &[Link], point: usize, ranks: &[usize], amounts: &mut [u64], par
     requires ranks { length ranks.now ≡ length amounts.old }
     requires parents { length parents.old ≡ length amounts.old }
     requires settled { 0 < slice_index ranks.now point }
-    requires last { (x : ℕ) → 0 < slice_index ranks.now x → slice_index amounts.old point ≤ slice_index amounts.old x }
-    ensures { (seed amount : ℕ) → Spreading links.now seed amount point (λ k. k < 0) (λ x. slice_index amounts.old x) (λ x. slice_index ranks.now x) (λ x. slice_index parents.old x) → Spreading links.now seed amount point (λ k. k < length links.now) (λ x. slice_index amounts.new x) (λ x. slice_index ranks.now x) (λ x. slice_index parents.new x) }
+    requires last { (x : ℕ)
+        → 0 < slice_index ranks.now x → slice_index amounts.old point ≤ slice_index amounts.old x }
+    ensures { (seed amount : ℕ) → Spreading links.now seed amount point (λ k. k < 0) (λ x.
+        slice_index amounts.old x) (λ x. slice_index ranks.now x) (λ x. slice_index parents.old x)
+        → Spreading links.now seed amount point (λ k. k < length links.now) (λ x.
+        slice_index amounts.new x) (λ x. slice_index ranks.now x) (λ x. slice_index parents.new x) }
 {
     for (index, link) in links.iter().enumerate() {
         if link.to == point && ranks[link.from] == 0 {
@@ -71,7 +77,8 @@ pub fn spread(
     requires among { AreAmong points links.now }
     requires seed { seed < points }
     ensures len { IfOk result (λ s. vec_len s.amounts ≡ points) }
-    ensures spread { IfOk result (λ s. IsSpread links.now seed amount s.amounts.items s.ranks.items s.parents.items) }
+    ensures spread { IfOk result
+        (λ s. IsSpread links.now seed amount s.amounts.items s.ranks.items s.parents.items) }
 {
     let mut amounts = vec![in alloc; 0u64; points]?;
     let mut ranks = vec![in alloc; 0usize; points]?;
@@ -99,8 +106,11 @@ pub fn trace(
     spreads: &Spreads,
 ) -> Result<Vec<usize>, AllocError>
     requires positive { 0 < slice_index spreads.now.amounts.items target }
-    requires spread { IsSpread links.now seed (slice_index spreads.now.amounts.items seed) spreads.now.amounts.items spreads.now.ranks.items spreads.now.parents.items }
-    ensures { IfOk result (λ path. IsTrace links.now target seed (slice_index spreads.now.amounts.items seed) (slice_index spreads.now.amounts.items target) path.items) }
+    requires spread { IsSpread links.now seed (slice_index spreads.now.amounts.items seed)
+        spreads.now.amounts.items spreads.now.ranks.items spreads.now.parents.items }
+    ensures { IfOk result
+        (λ path. IsTrace links.now target seed (slice_index spreads.now.amounts.items seed)
+        (slice_index spreads.now.amounts.items target) path.items) }
 {
     let mut path = Vec::new(alloc);
     let mut point = target;

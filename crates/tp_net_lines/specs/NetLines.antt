@@ -16,7 +16,9 @@ point_text Origin = codes " o"
 point_text (Event e) = codes " " ++ decimal e
 
 abbrev pub bound_line : ℕ → Bound → List ℕ
-bound_line id b = codes "bound " ++ (decimal id ++ (point_text b.from ++ (point_text b.to ++ (codes " " ++ (signed_decimal b.w ++ codes "\n")))))
+bound_line id b =
+    codes "bound " ++ (decimal id ++ (point_text b.from
+    ++ (point_text b.to ++ (codes " " ++ (signed_decimal b.w ++ codes "\n")))))
 
 -- a line for each item, by its number
 abbrev pub lines_from : {X : Type 0} → (ℕ → X → List ℕ) → ℕ → List X → List ℕ
@@ -24,4 +26,6 @@ lines_from line k [] = []
 lines_from line k (x ∷ xs) = line k x ++ lines_from line (suc k) xs
 
 abbrev pub network_lines : PlanNet → List ℕ
-network_lines n = lines_from event_line 0 (map string_bytes n.events.items) ++ lines_from bound_line 0 n.bounds.items
+network_lines n =
+    lines_from event_line 0 (map string_bytes n.events.items)
+    ++ lines_from bound_line 0 n.bounds.items

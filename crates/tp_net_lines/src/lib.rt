@@ -30,7 +30,8 @@ fn put_bound(text: &mut String, id: usize, bound: Bound) -> Result<(), AllocErro
 
 /// Puts the lines of bounds at the end of a text.
 fn put_bounds(text: &mut String, bounds: &[Bound]) -> Result<(), AllocError>
-    ensures { OnOk result (string_bytes text.new ≡ string_bytes text.old ++ lines_from bound_line 0 bounds.now) }
+    ensures { OnOk result
+        (string_bytes text.new ≡ string_bytes text.old ++ lines_from bound_line 0 bounds.now) }
 {
     for (id, bound) in bounds.iter().enumerate() {
         put_bound(text, id, *bound)?;
@@ -40,14 +41,16 @@ fn put_bounds(text: &mut String, bounds: &[Bound]) -> Result<(), AllocError>
 
 /// Puts the line of an event at the end of a text.
 fn put_event(text: &mut String, e: usize, event: &str) -> Result<(), AllocError>
-    ensures { OnOk result (string_bytes text.new ≡ string_bytes text.old ++ event_line e event.now) }
+    ensures { OnOk result
+        (string_bytes text.new ≡ string_bytes text.old ++ event_line e event.now) }
 {
     writeln!(text, "event {e} {event}")
 }
 
 /// Puts the lines of events at the end of a text.
 fn put_events(text: &mut String, events: &[String]) -> Result<(), AllocError>
-    ensures { OnOk result (string_bytes text.new ≡ string_bytes text.old ++ lines_from event_line 0 (map string_bytes events.now)) }
+    ensures { OnOk result (string_bytes text.new
+        ≡ string_bytes text.old ++ lines_from event_line 0 (map string_bytes events.now)) }
 {
     for (e, event) in events.iter().enumerate() {
         put_event(text, e, event.as_str())?;

@@ -45,7 +45,9 @@ pub record Took (old new : Option (List ℕ)) (bytes : List ℕ) : Type 0 where
 
 -- '(define (domain NAME)', the sections and actions, ')'
 abbrev pub domain_text : Domain → List ℕ
-domain_text d = codes "(define " ++ (shape_text (name_shape d) ++ 10 ∷ (lines_text (section_shapes d) ++ 41 ∷ 10 ∷ []))
+domain_text d =
+    codes "(define "
+    ++ (shape_text (name_shape d) ++ 10 ∷ (lines_text (section_shapes d) ++ 41 ∷ 10 ∷ []))
 
 -- what is printed of a domain that some text spells is read again to the same
 abbrev pub IsSpelledAgain : Domain → Type 0

@@ -51,15 +51,19 @@ types_shape (t ∷ u ∷ ts) = headed (codes "either") (name_shapes (t ∷ u ∷
 -- each item carries its own '- T'
 abbrev pub typed_shapes : List Declared → Shapes
 typed_shapes [] = no_shapes
-typed_shapes (d ∷ ds) = shape (leaf d.name) (shape (leaf (codes "-")) (shape (types_shape d.types) (typed_shapes ds)))
+typed_shapes (d ∷ ds) =
+    shape (leaf d.name) (shape (leaf (codes "-")) (shape (types_shape d.types) (typed_shapes ds)))
 
 abbrev pub expression_shape : Expression → Shape
 expression_shape (number n) = leaf (signed_decimal n)
 expression_shape (fluent f) = fact_shape f
-expression_shape (sum x y) = headed (codes "+") (two_shapes (expression_shape x) (expression_shape y))
+expression_shape (sum x y) =
+    headed (codes "+") (two_shapes (expression_shape x) (expression_shape y))
 expression_shape (negative x) = headed (codes "-") (one_shape (expression_shape x))
-expression_shape (difference x y) = headed (codes "-") (two_shapes (expression_shape x) (expression_shape y))
-expression_shape (product x y) = headed (codes "*") (two_shapes (expression_shape x) (expression_shape y))
+expression_shape (difference x y) =
+    headed (codes "-") (two_shapes (expression_shape x) (expression_shape y))
+expression_shape (product x y) =
+    headed (codes "*") (two_shapes (expression_shape x) (expression_shape y))
 expression_shape the_duration = leaf (codes "?duration")
 
 abbrev pub comparison_word : Comparison → List ℕ
@@ -74,12 +78,16 @@ abbrev mutual
   condition_shape (all_of cs) = headed (codes "and") (condition_shapes cs)
   condition_shape (any_of cs) = headed (codes "or") (condition_shapes cs)
   condition_shape (negation c) = headed (codes "not") (one_shape (condition_shape c))
-  condition_shape (implies c d) = headed (codes "imply") (two_shapes (condition_shape c) (condition_shape d))
-  condition_shape (for_all vs c) = headed (codes "forall") (two_shapes (node (typed_shapes vs)) (condition_shape c))
-  condition_shape (for_some vs c) = headed (codes "exists") (two_shapes (node (typed_shapes vs)) (condition_shape c))
+  condition_shape (implies c d) =
+      headed (codes "imply") (two_shapes (condition_shape c) (condition_shape d))
+  condition_shape (for_all vs c) =
+      headed (codes "forall") (two_shapes (node (typed_shapes vs)) (condition_shape c))
+  condition_shape (for_some vs c) =
+      headed (codes "exists") (two_shapes (node (typed_shapes vs)) (condition_shape c))
   condition_shape (fact f) = fact_shape f
   condition_shape (same a b) = headed (codes "=") (two_shapes (argument_shape a) (argument_shape b))
-  condition_shape (compared op x y) = headed (comparison_word op) (two_shapes (expression_shape x) (expression_shape y))
+  condition_shape (compared op x y) =
+      headed (comparison_word op) (two_shapes (expression_shape x) (expression_shape y))
 
   pub condition_shapes : Conditions → Shapes
   condition_shapes no_conditions = no_shapes
@@ -88,7 +96,8 @@ abbrev mutual
 abbrev mutual
   pub joined_shape : {A : Type 0} → (A → Shape) → Joined A → Shape
   joined_shape f (all_parts ps) = headed (codes "and") (part_shapes f ps)
-  joined_shape f (for_each vs j) = headed (codes "forall") (two_shapes (node (typed_shapes vs)) (joined_shape f j))
+  joined_shape f (for_each vs j) =
+      headed (codes "forall") (two_shapes (node (typed_shapes vs)) (joined_shape f j))
   joined_shape f (one x) = f x
 
   pub part_shapes : {A : Type 0} → (A → Shape) → Parts A → Shapes
@@ -104,7 +113,8 @@ writing_word ScaleUp = codes "scale-up"
 abbrev pub outcome_shape : Outcome → Shape
 outcome_shape (adds f) = fact_shape f
 outcome_shape (deletes f) = headed (codes "not") (one_shape (fact_shape f))
-outcome_shape (writes op f x) = headed (writing_word op) (two_shapes (fact_shape f) (expression_shape x))
+outcome_shape (writes op f x) =
+    headed (writing_word op) (two_shapes (fact_shape f) (expression_shape x))
 
 abbrev pub effect_shape : Effect → Shape
 effect_shape e = joined_shape outcome_shape e
@@ -125,7 +135,8 @@ timed_shape f t = headed (mark_word t.mark) (two_shapes (leaf (moment_word t.mar
 abbrev mutual
   pub rule_shape : Rule → Shape
   rule_shape (all_rules rs) = headed (codes "and") (rule_shapes rs)
-  rule_shape (rule op x) = headed (comparison_word op) (two_shapes (leaf (codes "?duration")) (expression_shape x))
+  rule_shape (rule op x) =
+      headed (comparison_word op) (two_shapes (leaf (codes "?duration")) (expression_shape x))
 
   pub rule_shapes : Rules → Shapes
   rule_shapes no_rules = no_shapes
@@ -136,10 +147,14 @@ abbrev pub field_before : List ℕ → Shape → Shapes → Shapes
 field_before w s rest = shape (leaf w) (shape s rest)
 
 abbrev pub moment_shapes : Joined (Timed Condition) → Joined (Timed Effect) → Shapes
-moment_shapes c e = field_before (codes ":condition") (joined_shape (timed_shape condition_shape) c) (field_before (codes ":effect") (joined_shape (timed_shape effect_shape) e) no_shapes)
+moment_shapes c e =
+    field_before (codes ":condition") (joined_shape (timed_shape condition_shape) c)
+    (field_before (codes ":effect") (joined_shape (timed_shape effect_shape) e) no_shapes)
 
 abbrev pub body_shapes : Body → Shapes
-body_shapes (instant c e) = field_before (codes ":precondition") (condition_shape c) (field_before (codes ":effect") (effect_shape e) no_shapes)
+body_shapes (instant c e) =
+    field_before (codes ":precondition")
+    (condition_shape c) (field_before (codes ":effect") (effect_shape e) no_shapes)
 body_shapes (durative r c e) = field_before (codes ":duration") (rule_shape r) (moment_shapes c e)
 
 abbrev pub body_word : Body → List ℕ
@@ -147,7 +162,8 @@ body_word (instant c e) = codes ":action"
 body_word (durative r c e) = codes ":durative-action"
 
 abbrev pub field_shapes : Action → Shapes
-field_shapes a = field_before (codes ":parameters") (node (typed_shapes a.parameters)) (body_shapes a.body)
+field_shapes a =
+    field_before (codes ":parameters") (node (typed_shapes a.parameters)) (body_shapes a.body)
 
 abbrev pub action_shape : Action → Shape
 action_shape a = headed (body_word a.body) (shape (leaf a.name) (field_shapes a))
@@ -158,7 +174,8 @@ action_shapes (a ∷ more) = shape (action_shape a) (action_shapes more)
 
 abbrev pub type_shapes : List Parent → Shapes
 type_shapes [] = no_shapes
-type_shapes (t ∷ ts) = shape (leaf t.name) (shape (leaf (codes "-")) (shape (leaf t.parent) (type_shapes ts)))
+type_shapes (t ∷ ts) =
+    shape (leaf t.name) (shape (leaf (codes "-")) (shape (leaf t.parent) (type_shapes ts)))
 
 -- of predicates and functions: functions carry no type
 abbrev pub form_shape : Form → Shape

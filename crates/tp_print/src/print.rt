@@ -26,7 +26,8 @@ fn print_moments<W: Sink>(
     condition: &TimedCond,
     effect: &TimedEffect,
 ) -> Result<(), Failed>
-    ensures bytes { OnOk result (Took (W.held writer.old) (W.held writer.new) (more_text (moment_shapes (timed_condition_view condition.now) (timed_effect_view effect.now)))) }
+    ensures bytes { OnOk result (Took (W.held writer.old) (W.held writer.new) (more_text
+        (moment_shapes (timed_condition_view condition.now) (timed_effect_view effect.now)))) }
     ensures cause { W.failures writer.new ≡ failures_after (W.failures writer.old) result }
 {
     put(writer, b" :condition ")?;
@@ -37,7 +38,8 @@ fn print_moments<W: Sink>(
 
 // The fields behind an action's parameters.
 fn print_body<W: Sink>(writer: &mut W, body: &Body) -> Result<(), Failed>
-    ensures bytes { OnOk result (Took (W.held writer.old) (W.held writer.new) (more_text (body_shapes (body_view body.now)))) }
+    ensures bytes { OnOk result (Took
+        (W.held writer.old) (W.held writer.new) (more_text (body_shapes (body_view body.now)))) }
     ensures cause { W.failures writer.new ≡ failures_after (W.failures writer.old) result }
 {
     match body {
@@ -64,7 +66,8 @@ fn print_body<W: Sink>(writer: &mut W, body: &Body) -> Result<(), Failed>
 
 // An action's fields.
 fn print_fields<W: Sink>(writer: &mut W, action: &Action) -> Result<(), Failed>
-    ensures bytes { OnOk result (Took (W.held writer.old) (W.held writer.new) (more_text (field_shapes (action_view action.now)))) }
+    ensures bytes { OnOk result (Took (W.held writer.old)
+        (W.held writer.new) (more_text (field_shapes (action_view action.now)))) }
     ensures cause { W.failures writer.new ≡ failures_after (W.failures writer.old) result }
 {
     put(writer, b" :parameters ")?;
@@ -83,7 +86,8 @@ fn action_word(body: &Body) -> &'static [u8]
 }
 
 fn print_action<W: Sink>(writer: &mut W, action: &Action) -> Result<(), Failed>
-    ensures bytes { OnOk result (Took (W.held writer.old) (W.held writer.new) (shape_text (action_shape (action_view action.now)) ++ 10 ∷ [])) }
+    ensures bytes { OnOk result (Took (W.held writer.old)
+        (W.held writer.new) (shape_text (action_shape (action_view action.now)) ++ 10 ∷ [])) }
     ensures cause { W.failures writer.new ≡ failures_after (W.failures writer.old) result }
 {
     put(writer, action_word(&action.body))?;
@@ -94,7 +98,8 @@ fn print_action<W: Sink>(writer: &mut W, action: &Action) -> Result<(), Failed>
 
 // Actions, each on a line of its own.
 fn print_actions<W: Sink>(writer: &mut W, actions: &[Action]) -> Result<(), Failed>
-    ensures bytes { OnOk result (Took (W.held writer.old) (W.held writer.new) (lines_text (action_shapes (map action_view actions.now)))) }
+    ensures bytes { OnOk result (Took (W.held writer.old)
+        (W.held writer.new) (lines_text (action_shapes (map action_view actions.now)))) }
     ensures cause { W.failures writer.new ≡ failures_after (W.failures writer.old) result }
 {
     for action in actions {
@@ -105,7 +110,8 @@ fn print_actions<W: Sink>(writer: &mut W, actions: &[Action]) -> Result<(), Fail
 
 // Types with those above them, each after a space.
 fn print_parents<W: Sink>(writer: &mut W, types: &[TypeName]) -> Result<(), Failed>
-    ensures bytes { OnOk result (Took (W.held writer.old) (W.held writer.new) (more_text (type_shapes (map parent_view types.now)))) }
+    ensures bytes { OnOk result (Took (W.held writer.old)
+        (W.held writer.new) (more_text (type_shapes (map parent_view types.now)))) }
     ensures cause { W.failures writer.new ≡ failures_after (W.failures writer.old) result }
 {
     for declared in types {
@@ -118,7 +124,8 @@ fn print_parents<W: Sink>(writer: &mut W, types: &[TypeName]) -> Result<(), Fail
 }
 
 fn print_form<W: Sink>(writer: &mut W, form: &Signature) -> Result<(), Failed>
-    ensures bytes { OnOk result (Took (W.held writer.old) (W.held writer.new) (shape_text (form_shape (form_view form.now)))) }
+    ensures bytes { OnOk result (Took
+        (W.held writer.old) (W.held writer.new) (shape_text (form_shape (form_view form.now)))) }
     ensures cause { W.failures writer.new ≡ failures_after (W.failures writer.old) result }
 {
     put(writer, b"(")?;
@@ -129,7 +136,8 @@ fn print_form<W: Sink>(writer: &mut W, form: &Signature) -> Result<(), Failed>
 
 // Predicates or functions, each after a space.
 fn print_forms<W: Sink>(writer: &mut W, forms: &[Signature]) -> Result<(), Failed>
-    ensures bytes { OnOk result (Took (W.held writer.old) (W.held writer.new) (more_text (form_shapes (map form_view forms.now)))) }
+    ensures bytes { OnOk result (Took (W.held writer.old)
+        (W.held writer.new) (more_text (form_shapes (map form_view forms.now)))) }
     ensures cause { W.failures writer.new ≡ failures_after (W.failures writer.old) result }
 {
     for form in forms {
@@ -140,7 +148,8 @@ fn print_forms<W: Sink>(writer: &mut W, forms: &[Signature]) -> Result<(), Faile
 }
 
 fn print_requirements<W: Sink>(writer: &mut W, words: &[String]) -> Result<(), Failed>
-    ensures bytes { OnOk result (Took (W.held writer.old) (W.held writer.new) (section_line (codes ":requirements") (name_shapes (map string_bytes words.now)))) }
+    ensures bytes { OnOk result (Took (W.held writer.old) (W.held writer.new)
+        (section_line (codes ":requirements") (name_shapes (map string_bytes words.now)))) }
     ensures cause { W.failures writer.new ≡ failures_after (W.failures writer.old) result }
 {
     if words.is_empty() {
@@ -152,7 +161,8 @@ fn print_requirements<W: Sink>(writer: &mut W, words: &[String]) -> Result<(), F
 }
 
 fn print_type_section<W: Sink>(writer: &mut W, types: &[TypeName]) -> Result<(), Failed>
-    ensures bytes { OnOk result (Took (W.held writer.old) (W.held writer.new) (section_line (codes ":types") (type_shapes (map parent_view types.now)))) }
+    ensures bytes { OnOk result (Took (W.held writer.old) (W.held writer.new)
+        (section_line (codes ":types") (type_shapes (map parent_view types.now)))) }
     ensures cause { W.failures writer.new ≡ failures_after (W.failures writer.old) result }
 {
     if types.is_empty() {
@@ -164,7 +174,8 @@ fn print_type_section<W: Sink>(writer: &mut W, types: &[TypeName]) -> Result<(),
 }
 
 fn print_constants<W: Sink>(writer: &mut W, constants: &[Typed]) -> Result<(), Failed>
-    ensures bytes { OnOk result (Took (W.held writer.old) (W.held writer.new) (section_line (codes ":constants") (typed_shapes (map typed_view constants.now)))) }
+    ensures bytes { OnOk result (Took (W.held writer.old) (W.held writer.new)
+        (section_line (codes ":constants") (typed_shapes (map typed_view constants.now)))) }
     ensures cause { W.failures writer.new ≡ failures_after (W.failures writer.old) result }
 {
     if constants.is_empty() {
@@ -176,7 +187,8 @@ fn print_constants<W: Sink>(writer: &mut W, constants: &[Typed]) -> Result<(), F
 }
 
 fn print_predicates<W: Sink>(writer: &mut W, forms: &[Signature]) -> Result<(), Failed>
-    ensures bytes { OnOk result (Took (W.held writer.old) (W.held writer.new) (section_line (codes ":predicates") (form_shapes (map form_view forms.now)))) }
+    ensures bytes { OnOk result (Took (W.held writer.old) (W.held writer.new)
+        (section_line (codes ":predicates") (form_shapes (map form_view forms.now)))) }
     ensures cause { W.failures writer.new ≡ failures_after (W.failures writer.old) result }
 {
     if forms.is_empty() {
@@ -188,7 +200,8 @@ fn print_predicates<W: Sink>(writer: &mut W, forms: &[Signature]) -> Result<(), 
 }
 
 fn print_functions<W: Sink>(writer: &mut W, forms: &[Signature]) -> Result<(), Failed>
-    ensures bytes { OnOk result (Took (W.held writer.old) (W.held writer.new) (section_line (codes ":functions") (form_shapes (map form_view forms.now)))) }
+    ensures bytes { OnOk result (Took (W.held writer.old) (W.held writer.new)
+        (section_line (codes ":functions") (form_shapes (map form_view forms.now)))) }
     ensures cause { W.failures writer.new ≡ failures_after (W.failures writer.old) result }
 {
     if forms.is_empty() {
@@ -201,7 +214,8 @@ fn print_functions<W: Sink>(writer: &mut W, forms: &[Signature]) -> Result<(), F
 
 // The sections that declare something.
 fn print_declarations<W: Sink>(writer: &mut W, domain: &Domain) -> Result<(), Failed>
-    ensures bytes { OnOk result (Took (W.held writer.old) (W.held writer.new) (declarations_text (domain_view domain.now))) }
+    ensures bytes { OnOk result (Took
+        (W.held writer.old) (W.held writer.new) (declarations_text (domain_view domain.now))) }
     ensures cause { W.failures writer.new ≡ failures_after (W.failures writer.old) result }
 {
     print_requirements(writer, &domain.requirements)?;
@@ -213,7 +227,8 @@ fn print_declarations<W: Sink>(writer: &mut W, domain: &Domain) -> Result<(), Fa
 
 // The line that a domain begins with.
 fn print_name<W: Sink>(writer: &mut W, domain: &Domain) -> Result<(), Failed>
-    ensures bytes { OnOk result (Took (W.held writer.old) (W.held writer.new) (codes "(define " ++ (shape_text (name_shape (domain_view domain.now)) ++ 10 ∷ []))) }
+    ensures bytes { OnOk result (Took (W.held writer.old) (W.held writer.new)
+        (codes "(define " ++ (shape_text (name_shape (domain_view domain.now)) ++ 10 ∷ []))) }
     ensures cause { W.failures writer.new ≡ failures_after (W.failures writer.old) result }
 {
     put(writer, b"(define (domain ")?;
@@ -222,7 +237,8 @@ fn print_name<W: Sink>(writer: &mut W, domain: &Domain) -> Result<(), Failed>
 }
 
 fn print_lines<W: Sink>(writer: &mut W, domain: &Domain) -> Result<(), Failed>
-    ensures bytes { OnOk result (Took (W.held writer.old) (W.held writer.new) (domain_text (domain_view domain.now))) }
+    ensures bytes { OnOk result
+        (Took (W.held writer.old) (W.held writer.new) (domain_text (domain_view domain.now))) }
     ensures cause { W.failures writer.new ≡ failures_after (W.failures writer.old) result }
 {
     print_name(writer, domain)?;
@@ -235,7 +251,8 @@ fn print_lines<W: Sink>(writer: &mut W, domain: &Domain) -> Result<(), Failed>
 /// Where the writer fails, it has taken some first part.
 pub fn print_domain<W: Sink>(domain: &Domain, writer: &mut W) -> Result<(), Failed>
     ensures spells { IsSpelledAgain (domain_view domain.now) }
-    ensures bytes { OnOk result (Appends (W.held writer.old) (W.held writer.new) (domain_text (domain_view domain.now))) }
+    ensures bytes { OnOk result
+        (Appends (W.held writer.old) (W.held writer.new) (domain_text (domain_view domain.now))) }
     ensures cause { W.failures writer.new ≡ failures_after (W.failures writer.old) result }
 {
     print_lines(writer, domain)

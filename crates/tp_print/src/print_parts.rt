@@ -40,7 +40,8 @@ pub fn put<W: Sink>(writer: &mut W, bytes: &[u8]) -> Result<(), Failed>
 
 // Names, each after a space.
 pub fn print_names<W: Sink>(writer: &mut W, names: &[String]) -> Result<(), Failed>
-    ensures bytes { OnOk result (Took (W.held writer.old) (W.held writer.new) (more_text (name_shapes (map string_bytes names.now)))) }
+    ensures bytes { OnOk result (Took (W.held writer.old)
+        (W.held writer.new) (more_text (name_shapes (map string_bytes names.now)))) }
     ensures cause { W.failures writer.new ≡ failures_after (W.failures writer.old) result }
 {
     for name in names {
@@ -52,7 +53,8 @@ pub fn print_names<W: Sink>(writer: &mut W, names: &[String]) -> Result<(), Fail
 
 // The type of an item, or the choice that it has.
 fn print_types<W: Sink>(writer: &mut W, types: &[String]) -> Result<(), Failed>
-    ensures bytes { OnOk result (Took (W.held writer.old) (W.held writer.new) (shape_text (types_shape (map string_bytes types.now)))) }
+    ensures bytes { OnOk result (Took (W.held writer.old)
+        (W.held writer.new) (shape_text (types_shape (map string_bytes types.now)))) }
     ensures cause { W.failures writer.new ≡ failures_after (W.failures writer.old) result }
 {
     if let [only] = types {
@@ -65,7 +67,8 @@ fn print_types<W: Sink>(writer: &mut W, types: &[String]) -> Result<(), Failed>
 
 // A name with its types.
 fn print_item<W: Sink>(writer: &mut W, item: &Typed) -> Result<(), Failed>
-    ensures bytes { OnOk result (Took (W.held writer.old) (W.held writer.new) (item_text (typed_view item.now))) }
+    ensures bytes { OnOk result
+        (Took (W.held writer.old) (W.held writer.new) (item_text (typed_view item.now))) }
     ensures cause { W.failures writer.new ≡ failures_after (W.failures writer.old) result }
 {
     put(writer, item.name.as_bytes())?;
@@ -75,7 +78,8 @@ fn print_item<W: Sink>(writer: &mut W, item: &Typed) -> Result<(), Failed>
 
 // A typed list, each item after a space.
 pub fn print_items<W: Sink>(writer: &mut W, items: &[Typed]) -> Result<(), Failed>
-    ensures bytes { OnOk result (Took (W.held writer.old) (W.held writer.new) (more_text (typed_shapes (map typed_view items.now)))) }
+    ensures bytes { OnOk result (Took (W.held writer.old)
+        (W.held writer.new) (more_text (typed_shapes (map typed_view items.now)))) }
     ensures cause { W.failures writer.new ≡ failures_after (W.failures writer.old) result }
 {
     for item in items {
@@ -87,7 +91,8 @@ pub fn print_items<W: Sink>(writer: &mut W, items: &[Typed]) -> Result<(), Faile
 
 // Variables in parentheses.
 pub fn print_variables<W: Sink>(writer: &mut W, items: &[Typed]) -> Result<(), Failed>
-    ensures bytes { OnOk result (Took (W.held writer.old) (W.held writer.new) (shape_text (node (typed_shapes (map typed_view items.now))))) }
+    ensures bytes { OnOk result (Took (W.held writer.old)
+        (W.held writer.new) (shape_text (node (typed_shapes (map typed_view items.now))))) }
     ensures cause { W.failures writer.new ≡ failures_after (W.failures writer.old) result }
 {
     let [first, rest @ ..] = items else {
@@ -100,7 +105,8 @@ pub fn print_variables<W: Sink>(writer: &mut W, items: &[Typed]) -> Result<(), F
 }
 
 fn print_term<W: Sink>(writer: &mut W, term: &Term) -> Result<(), Failed>
-    ensures bytes { OnOk result (Took (W.held writer.old) (W.held writer.new) (shape_text (argument_shape (term_view term.now)))) }
+    ensures bytes { OnOk result (Took (W.held writer.old)
+        (W.held writer.new) (shape_text (argument_shape (term_view term.now)))) }
     ensures cause { W.failures writer.new ≡ failures_after (W.failures writer.old) result }
 {
     match term {
@@ -111,7 +117,8 @@ fn print_term<W: Sink>(writer: &mut W, term: &Term) -> Result<(), Failed>
 
 // Terms, each after a space.
 fn print_terms<W: Sink>(writer: &mut W, terms: &[Term]) -> Result<(), Failed>
-    ensures bytes { OnOk result (Took (W.held writer.old) (W.held writer.new) (more_text (argument_shapes (map term_view terms.now)))) }
+    ensures bytes { OnOk result (Took (W.held writer.old)
+        (W.held writer.new) (more_text (argument_shapes (map term_view terms.now)))) }
     ensures cause { W.failures writer.new ≡ failures_after (W.failures writer.old) result }
 {
     for term in terms {
@@ -122,7 +129,8 @@ fn print_terms<W: Sink>(writer: &mut W, terms: &[Term]) -> Result<(), Failed>
 }
 
 fn print_atom<W: Sink>(writer: &mut W, atom: &Atom) -> Result<(), Failed>
-    ensures bytes { OnOk result (Took (W.held writer.old) (W.held writer.new) (shape_text (fact_shape (atom_view atom.now)))) }
+    ensures bytes { OnOk result (Took
+        (W.held writer.old) (W.held writer.new) (shape_text (fact_shape (atom_view atom.now)))) }
     ensures cause { W.failures writer.new ≡ failures_after (W.failures writer.old) result }
 {
     put(writer, b"(")?;
@@ -132,7 +140,8 @@ fn print_atom<W: Sink>(writer: &mut W, atom: &Atom) -> Result<(), Failed>
 }
 
 fn print_number<W: Sink>(writer: &mut W, number: i64) -> Result<(), Failed>
-    ensures bytes { OnOk result (Took (W.held writer.old) (W.held writer.new) (signed_decimal number)) }
+    ensures bytes { OnOk result
+        (Took (W.held writer.old) (W.held writer.new) (signed_decimal number)) }
     ensures cause { W.failures writer.new ≡ failures_after (W.failures writer.old) result }
 {
     let mut buffer = Buffer::new();
@@ -142,7 +151,8 @@ fn print_number<W: Sink>(writer: &mut W, number: i64) -> Result<(), Failed>
 // The last operand after a space, and the end of its list.
 #[cycle(print_expr)]
 fn print_last_operand<W: Sink>(writer: &mut W, expr: &Expr) -> Result<(), Failed>
-    ensures bytes { OnOk result (Took (W.held writer.old) (W.held writer.new) (32 ∷ (shape_text (expression_shape (expr_view expr.now)) ++ 41 ∷ []))) }
+    ensures bytes { OnOk result (Took (W.held writer.old) (W.held writer.new)
+        (32 ∷ (shape_text (expression_shape (expr_view expr.now)) ++ 41 ∷ []))) }
     ensures cause { W.failures writer.new ≡ failures_after (W.failures writer.old) result }
 {
     put(writer, b" ")?;
@@ -152,7 +162,8 @@ fn print_last_operand<W: Sink>(writer: &mut W, expr: &Expr) -> Result<(), Failed
 
 #[cycle(print_expr)]
 fn print_expr<W: Sink>(writer: &mut W, expr: &Expr) -> Result<(), Failed>
-    ensures bytes { OnOk result (Took (W.held writer.old) (W.held writer.new) (shape_text (expression_shape (expr_view expr.now)))) }
+    ensures bytes { OnOk result (Took (W.held writer.old)
+        (W.held writer.new) (shape_text (expression_shape (expr_view expr.now)))) }
     ensures cause { W.failures writer.new ≡ failures_after (W.failures writer.old) result }
 {
     match expr {
@@ -195,7 +206,8 @@ fn comparison_word(comparison: Comparison) -> &'static [u8]
 
 // Two operands, each after a space, and the end of their list.
 fn print_operands<W: Sink>(writer: &mut W, a: &Expr, b: &Expr) -> Result<(), Failed>
-    ensures bytes { OnOk result (Took (W.held writer.old) (W.held writer.new) (operands_text (expression_shape (expr_view a.now)) (expression_shape (expr_view b.now)))) }
+    ensures bytes { OnOk result (Took (W.held writer.old) (W.held writer.new)
+        (operands_text (expression_shape (expr_view a.now)) (expression_shape (expr_view b.now)))) }
     ensures cause { W.failures writer.new ≡ failures_after (W.failures writer.old) result }
 {
     put(writer, b" ")?;
@@ -210,7 +222,8 @@ fn print_comparison<W: Sink>(
     a: &Expr,
     b: &Expr,
 ) -> Result<(), Failed>
-    ensures bytes { OnOk result (Took (W.held writer.old) (W.held writer.new) (shape_text (condition_shape (compared comparison (expr_view a.now) (expr_view b.now))))) }
+    ensures bytes { OnOk result (Took (W.held writer.old) (W.held writer.new)
+        (shape_text (condition_shape (compared comparison (expr_view a.now) (expr_view b.now))))) }
     ensures cause { W.failures writer.new ≡ failures_after (W.failures writer.old) result }
 {
     put(writer, b"(")?;
@@ -220,7 +233,8 @@ fn print_comparison<W: Sink>(
 
 // Two objects that are one.
 fn print_same<W: Sink>(writer: &mut W, a: &Term, b: &Term) -> Result<(), Failed>
-    ensures bytes { OnOk result (Took (W.held writer.old) (W.held writer.new) (shape_text (condition_shape (same (term_view a.now) (term_view b.now))))) }
+    ensures bytes { OnOk result (Took (W.held writer.old) (W.held writer.new)
+        (shape_text (condition_shape (same (term_view a.now) (term_view b.now))))) }
     ensures cause { W.failures writer.new ≡ failures_after (W.failures writer.old) result }
 {
     put(writer, b"(= ")?;
@@ -233,7 +247,8 @@ fn print_same<W: Sink>(writer: &mut W, a: &Term, b: &Term) -> Result<(), Failed>
 // Conditions, each after a space.
 #[cycle(print_cond)]
 fn print_conds<W: Sink>(writer: &mut W, conds: &[Cond]) -> Result<(), Failed>
-    ensures bytes { OnOk result (Took (W.held writer.old) (W.held writer.new) (more_text (condition_shapes (conditions (map cond_view conds.now))))) }
+    ensures bytes { OnOk result (Took (W.held writer.old)
+        (W.held writer.new) (more_text (condition_shapes (conditions (map cond_view conds.now))))) }
     ensures cause { W.failures writer.new ≡ failures_after (W.failures writer.old) result }
 {
     for cond in conds {
@@ -246,7 +261,8 @@ fn print_conds<W: Sink>(writer: &mut W, conds: &[Cond]) -> Result<(), Failed>
 // Conditions behind a word, and the end of their list.
 #[cycle(print_cond)]
 fn print_junction<W: Sink>(writer: &mut W, word: &[u8], conds: &[Cond]) -> Result<(), Failed>
-    ensures bytes { OnOk result (Took (W.held writer.old) (W.held writer.new) (word.now ++ (more_text (condition_shapes (conditions (map cond_view conds.now))) ++ 41 ∷ []))) }
+    ensures bytes { OnOk result (Took (W.held writer.old) (W.held writer.new) (word.now
+        ++ (more_text (condition_shapes (conditions (map cond_view conds.now))) ++ 41 ∷ []))) }
     ensures cause { W.failures writer.new ≡ failures_after (W.failures writer.old) result }
 {
     put(writer, word)?;
@@ -257,7 +273,8 @@ fn print_junction<W: Sink>(writer: &mut W, word: &[u8], conds: &[Cond]) -> Resul
 // The last condition of a list after a space, and the list's end.
 #[cycle(print_cond)]
 fn print_last_cond<W: Sink>(writer: &mut W, cond: &Cond) -> Result<(), Failed>
-    ensures bytes { OnOk result (Took (W.held writer.old) (W.held writer.new) (32 ∷ (shape_text (condition_shape (cond_view cond.now)) ++ 41 ∷ []))) }
+    ensures bytes { OnOk result (Took (W.held writer.old)
+        (W.held writer.new) (32 ∷ (shape_text (condition_shape (cond_view cond.now)) ++ 41 ∷ []))) }
     ensures cause { W.failures writer.new ≡ failures_after (W.failures writer.old) result }
 {
     put(writer, b" ")?;
@@ -267,7 +284,8 @@ fn print_last_cond<W: Sink>(writer: &mut W, cond: &Cond) -> Result<(), Failed>
 
 #[cycle(print_cond)]
 pub fn print_cond<W: Sink>(writer: &mut W, cond: &Cond) -> Result<(), Failed>
-    ensures bytes { OnOk result (Took (W.held writer.old) (W.held writer.new) (shape_text (condition_shape (cond_view cond.now)))) }
+    ensures bytes { OnOk result (Took (W.held writer.old)
+        (W.held writer.new) (shape_text (condition_shape (cond_view cond.now)))) }
     ensures cause { W.failures writer.new ≡ failures_after (W.failures writer.old) result }
 {
     match cond {
@@ -309,14 +327,16 @@ pub trait Printed {
     ghost tree: { Seen → Shape };
 
     fn print<W: Sink>(&self, writer: &mut W) -> Result<(), Failed>
-        ensures bytes { OnOk result (Took (W.held writer.old) (W.held writer.new) (shape_text (tree (seen self.now)))) }
+        ensures bytes { OnOk result
+            (Took (W.held writer.old) (W.held writer.new) (shape_text (tree (seen self.now)))) }
         ensures cause { W.failures writer.new ≡ failures_after (W.failures writer.old) result };
 }
 
 // Parts, each after a space.
 #[cycle(print_joined)]
 fn print_parts<P: Printed, W: Sink>(writer: &mut W, members: &[Joined<P>]) -> Result<(), Failed>
-    ensures bytes { OnOk result (Took (W.held writer.old) (W.held writer.new) (more_text (part_shapes P.tree (parts (map (joined_view P.seen) members.now))))) }
+    ensures bytes { OnOk result (Took (W.held writer.old) (W.held writer.new)
+        (more_text (part_shapes P.tree (parts (map (joined_view P.seen) members.now))))) }
     ensures cause { W.failures writer.new ≡ failures_after (W.failures writer.old) result }
 {
     for part in members {
@@ -328,7 +348,8 @@ fn print_parts<P: Printed, W: Sink>(writer: &mut W, members: &[Joined<P>]) -> Re
 
 #[cycle(print_joined)]
 pub fn print_joined<P: Printed, W: Sink>(writer: &mut W, joined: &Joined<P>) -> Result<(), Failed>
-    ensures bytes { OnOk result (Took (W.held writer.old) (W.held writer.new) (shape_text (joined_shape P.tree (joined_view P.seen joined.now)))) }
+    ensures bytes { OnOk result (Took (W.held writer.old)
+        (W.held writer.new) (shape_text (joined_shape P.tree (joined_view P.seen joined.now)))) }
     ensures cause { W.failures writer.new ≡ failures_after (W.failures writer.old) result }
 {
     match joined {
@@ -361,7 +382,8 @@ fn writing_word(writing: Writing) -> &'static [u8]
 
 // A fluent and its value, each after a space, and the end of their list.
 fn print_target<W: Sink>(writer: &mut W, fluent: &Atom, value: &Expr) -> Result<(), Failed>
-    ensures bytes { OnOk result (Took (W.held writer.old) (W.held writer.new) (operands_text (fact_shape (atom_view fluent.now)) (expression_shape (expr_view value.now)))) }
+    ensures bytes { OnOk result (Took (W.held writer.old) (W.held writer.new) (operands_text
+        (fact_shape (atom_view fluent.now)) (expression_shape (expr_view value.now)))) }
     ensures cause { W.failures writer.new ≡ failures_after (W.failures writer.old) result }
 {
     put(writer, b" ")?;
@@ -378,7 +400,8 @@ fn print_write<W: Sink>(
     fluent: &Atom,
     value: &Expr,
 ) -> Result<(), Failed>
-    ensures bytes { OnOk result (Took (W.held writer.old) (W.held writer.new) (shape_text (outcome_shape (writes writing (atom_view fluent.now) (expr_view value.now))))) }
+    ensures bytes { OnOk result (Took (W.held writer.old) (W.held writer.new) (shape_text
+        (outcome_shape (writes writing (atom_view fluent.now) (expr_view value.now))))) }
     ensures cause { W.failures writer.new ≡ failures_after (W.failures writer.old) result }
 {
     put(writer, b"(")?;
@@ -450,7 +473,8 @@ impl Printed for Timed<Effect> {
 // Rules, each after a space.
 #[cycle(print_rule)]
 fn print_rules<W: Sink>(writer: &mut W, rules: &[DurationRule]) -> Result<(), Failed>
-    ensures bytes { OnOk result (Took (W.held writer.old) (W.held writer.new) (more_text (rule_shapes (rules_in (map rule_view rules.now))))) }
+    ensures bytes { OnOk result (Took (W.held writer.old)
+        (W.held writer.new) (more_text (rule_shapes (rules_in (map rule_view rules.now))))) }
     ensures cause { W.failures writer.new ≡ failures_after (W.failures writer.old) result }
 {
     for rule in rules {
@@ -462,7 +486,8 @@ fn print_rules<W: Sink>(writer: &mut W, rules: &[DurationRule]) -> Result<(), Fa
 
 #[cycle(print_rule)]
 pub fn print_rule<W: Sink>(writer: &mut W, rule: &DurationRule) -> Result<(), Failed>
-    ensures bytes { OnOk result (Took (W.held writer.old) (W.held writer.new) (shape_text (rule_shape (rule_view rule.now)))) }
+    ensures bytes { OnOk result (Took
+        (W.held writer.old) (W.held writer.new) (shape_text (rule_shape (rule_view rule.now)))) }
     ensures cause { W.failures writer.new ≡ failures_after (W.failures writer.old) result }
 {
     match rule {

@@ -204,7 +204,8 @@ fn complete(alloc: Global, reach: &mut [bool], actions: &[Body]) -> Result<(), A
 /// The relaxed reach of a task: the truth of each atom (the delete relaxation of Bonet and Geffner 2001). It costs the
 /// sizes of all conditions and adds, a few times.
 pub fn reach(alloc: Global, task: &Task) -> Result<Vec<bool>, AllocError>
-    ensures { IfOk result (λ v. IsReach (first_state task.now) (acts_of task.now) (set_of v.items)) }
+    ensures { IfOk result
+        (λ v. IsReach (first_state task.now) (acts_of task.now) (set_of v.items)) }
 {
     let mut atoms = Vec::from_slice(alloc, &task.initial_atoms)?;
     complete(alloc, atoms.as_mut_slice(), &task.actions)?;

@@ -81,7 +81,8 @@ fn combined(alloc: Global, head: Head, conds: Vec<Cond>, at: u32) -> Result<Cond
 }
 
 fn bound(alloc: Global, head: Head, vars: Vec<Typed>, inner: Cond) -> Result<Cond, SyntaxFault>
-    ensures { Gives cond_view result (Some (bound head (map typed_view vars.items) (cond_view inner))) }
+    ensures { Gives cond_view result
+        (Some (bound head (map typed_view vars.items) (cond_view inner))) }
 {
     let inner = Box::new(alloc, inner)?;
     match head {
@@ -142,7 +143,8 @@ fn relation(
     args: &[Tree],
     at: u32,
 ) -> Result<Cond, SyntaxFault>
-    ensures { Gives cond_view result (relation (symbols_view symbols.now) (scope_view scope.now) head (shapes args.now)) }
+    ensures { Gives cond_view result
+        (relation (symbols_view symbols.now) (scope_view scope.now) head (shapes args.now)) }
 {
     match read_exprs(alloc, args, symbols, scope, false, at) {
         Ok(exprs) => related(head, exprs, at),
@@ -170,7 +172,8 @@ fn equated(
     trees: &[Tree],
     at: u32,
 ) -> Result<Cond, SyntaxFault>
-    ensures { Gives cond_view result (equated (symbols_view symbols.now) (scope_view scope.now) (map term_view terms.items)) }
+    ensures { Gives cond_view result
+        (equated (symbols_view symbols.now) (scope_view scope.now) (map term_view terms.items)) }
 {
     let second = terms.pop();
     let first = terms.pop();
@@ -195,7 +198,8 @@ fn equality(
     args: &[Tree],
     at: u32,
 ) -> Result<Cond, SyntaxFault>
-    ensures { Gives cond_view result (equality (symbols_view symbols.now) (scope_view scope.now) (shapes args.now)) }
+    ensures { Gives cond_view result
+        (equality (symbols_view symbols.now) (scope_view scope.now) (shapes args.now)) }
 {
     let terms = terms_of(alloc, args, at)?;
     equated(symbols, scope, terms, args, at)
@@ -209,7 +213,9 @@ fn fact(
     args: &[Tree],
     at: u32,
 ) -> Result<Cond, SyntaxFault>
-    ensures { Gives cond_view result (option_map fact (atom_in (symbols_view symbols.now) (symbols_view symbols.now).predicates (scope_view scope.now) word.now.text.now (shapes args.now))) }
+    ensures { Gives cond_view result
+        (option_map fact (atom_in (symbols_view symbols.now) (symbols_view symbols.now).predicates
+        (scope_view scope.now) word.now.text.now (shapes args.now))) }
 {
     let atom = atom_in(alloc, symbols, &symbols.predicates, scope, word, args, at)?;
     Ok(Cond::Atom(atom))
@@ -246,7 +252,8 @@ fn simple(
     args: &[Tree],
     at: u32,
 ) -> Result<Cond, SyntaxFault>
-    ensures { Gives cond_view result (simple (symbols_view symbols.now) (scope_view scope.now) head word.now.text.now (shapes args.now)) }
+    ensures { Gives cond_view result (simple (symbols_view symbols.now)
+        (scope_view scope.now) head word.now.text.now (shapes args.now)) }
 {
     match head {
         Head::Equal => {
@@ -273,7 +280,8 @@ fn read_conds(
     scope: &Scope,
     at: u32,
 ) -> Result<Vec<Cond>, SyntaxFault>
-    ensures { Gives (λ v. map cond_view v.items) result (conditions_of (symbols_view symbols.now) (scope_view scope.now) (shapes trees.now)) }
+    ensures { Gives (λ v. map cond_view v.items) result
+        (conditions_of (symbols_view symbols.now) (scope_view scope.now) (shapes trees.now)) }
 {
     let mut conds = Vec::new(alloc);
     for tree in trees {
@@ -292,7 +300,8 @@ fn read_bound(
     head: Head,
     at: u32,
 ) -> Result<Cond, SyntaxFault>
-    ensures { Gives cond_view result (bound_condition (symbols_view symbols.now) (scope_view scope.now) head (shapes args.now)) }
+    ensures { Gives cond_view result
+        (bound_condition (symbols_view symbols.now) (scope_view scope.now) head (shapes args.now)) }
 {
     let [list, body @ ..] = args else {
         return Err(SyntaxFault::Shape(at));
@@ -319,7 +328,8 @@ pub fn read_cond(
     scope: &Scope,
     at: u32,
 ) -> Result<Cond, SyntaxFault>
-    ensures { Gives cond_view result (condition_of (symbols_view symbols.now) (scope_view scope.now) (shape_of tree.now)) }
+    ensures { Gives cond_view result
+        (condition_of (symbols_view symbols.now) (scope_view scope.now) (shape_of tree.now)) }
 {
     let (items, at) = match tree {
         Tree::Word(_) => return Err(SyntaxFault::Shape(at)),

@@ -34,7 +34,8 @@ pub fn atom_at(
     tree: &Tree,
     at: u32,
 ) -> Result<Atom, SyntaxFault>
-    ensures { Gives atom_view result (atom_at (symbols_view symbols.now) (map form_view forms.now) (scope_view scope.now) (shape_of tree.now)) }
+    ensures { Gives atom_view result (atom_at (symbols_view symbols.now)
+        (map form_view forms.now) (scope_view scope.now) (shape_of tree.now)) }
 {
     let (items, at) = match tree {
         Tree::Word(_) => return Err(SyntaxFault::Shape(at)),
@@ -57,7 +58,8 @@ fn deleted(
     args: &[Tree],
     at: u32,
 ) -> Result<Outcome, SyntaxFault>
-    ensures { Gives outcome_view result (deleted (symbols_view symbols.now) (scope_view scope.now) (shapes args.now)) }
+    ensures { Gives outcome_view result
+        (deleted (symbols_view symbols.now) (scope_view scope.now) (shapes args.now)) }
 {
     let Some(tree) = only(args) else {
         return Err(SyntaxFault::Shape(at));
@@ -76,7 +78,8 @@ fn written(
     args: &[Tree],
     at: u32,
 ) -> Result<Outcome, SyntaxFault>
-    ensures { Gives outcome_view result (written (symbols_view symbols.now) (terms_for (scope_view scope.now) duration) writing (shapes args.now)) }
+    ensures { Gives outcome_view result (written (symbols_view symbols.now)
+        (terms_for (scope_view scope.now) duration) writing (shapes args.now)) }
 {
     let Some((fluent, value)) = both(args) else {
         return Err(SyntaxFault::Shape(at));
@@ -97,7 +100,8 @@ fn changed(
     args: &[Tree],
     at: u32,
 ) -> Result<Outcome, SyntaxFault>
-    ensures { Gives outcome_view result (changed change (symbols_view symbols.now) duration (scope_view scope.now) word.now.text.now (shapes args.now)) }
+    ensures { Gives outcome_view result (changed change (symbols_view symbols.now) duration
+        (scope_view scope.now) word.now.text.now (shapes args.now)) }
 {
     let writing = match change {
         Change::Other => {
@@ -153,7 +157,8 @@ pub fn read_effect(
     scope: &Scope,
     at: u32,
 ) -> Result<Effect, SyntaxFault>
-    ensures { Gives effect_view result (effect_of (symbols_view symbols.now) false (scope_view scope.now) (shape_of tree.now)) }
+    ensures { Gives effect_view result
+        (effect_of (symbols_view symbols.now) false (scope_view scope.now) (shape_of tree.now)) }
 {
     read_joined(alloc, tree, symbols, false, scope, at)
 }

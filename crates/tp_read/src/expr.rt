@@ -130,7 +130,8 @@ pub fn read_exprs(
     duration: bool,
     at: u32,
 ) -> Result<Vec<Expr>, SyntaxFault>
-    ensures { Gives (λ v. map expr_view v.items) result (expressions_of (symbols_view symbols.now) (terms_for (scope_view scope.now) duration) (shapes trees.now)) }
+    ensures { Gives (λ v. map expr_view v.items) result (expressions_of
+        (symbols_view symbols.now) (terms_for (scope_view scope.now) duration) (shapes trees.now)) }
 {
     let mut exprs = Vec::new(alloc);
     for tree in trees {
@@ -149,7 +150,8 @@ pub fn read_expr(
     duration: bool,
     at: u32,
 ) -> Result<Expr, SyntaxFault>
-    ensures { Gives expr_view result (expression_of (symbols_view symbols.now) (terms_for (scope_view scope.now) duration) (shape_of tree.now)) }
+    ensures { Gives expr_view result (expression_of (symbols_view symbols.now)
+        (terms_for (scope_view scope.now) duration) (shape_of tree.now)) }
 {
     let (items, at) = match tree {
         Tree::Word(token) => return word_expression(token, duration, at),
@@ -190,7 +192,8 @@ pub fn read_value(
     duration: bool,
     at: u32,
 ) -> Result<Expr, SyntaxFault>
-    ensures { Gives expr_view result (expression_of (symbols_view symbols.now) (terms_for (scope_view scope.now) duration) (shape_of tree.now)) }
+    ensures { Gives expr_view result (expression_of (symbols_view symbols.now)
+        (terms_for (scope_view scope.now) duration) (shape_of tree.now)) }
 {
     match read_expr(alloc, tree, symbols, scope, duration, at) {
         Ok(value) => Ok(value),

@@ -40,7 +40,8 @@ pub trait Part: Drop {
         args: &[Tree],
         at: u32,
     ) -> Result<Self, SyntaxFault>
-        ensures { Gives seen result (spelled (symbols_view symbols.now) duration (scope_view scope.now) word.now.text.now (shapes args.now)) };
+        ensures { Gives seen result (spelled (symbols_view symbols.now) duration
+            (scope_view scope.now) word.now.text.now (shapes args.now)) };
 }
 
 #[cycle(joined)]
@@ -52,7 +53,9 @@ fn read_parts<P: Part>(
     scope: &Scope,
     at: u32,
 ) -> Result<Vec<Joined<P>>, SyntaxFault>
-    ensures { Gives (λ v. map (joined_view P.seen) v.items) result (parts_of (symbols_view symbols.now).types (P.spelled (symbols_view symbols.now) duration) (scope_view scope.now) (shapes trees.now)) }
+    ensures { Gives
+        (λ v. map (joined_view P.seen) v.items) result (parts_of (symbols_view symbols.now).types
+        (P.spelled (symbols_view symbols.now) duration) (scope_view scope.now) (shapes trees.now)) }
 {
     let mut parts = Vec::new(alloc);
     for tree in trees {
@@ -71,7 +74,8 @@ fn read_bound<P: Part>(
     scope: &Scope,
     at: u32,
 ) -> Result<Joined<P>, SyntaxFault>
-    ensures { Gives (joined_view P.seen) result (bound_parts (symbols_view symbols.now).types (P.spelled (symbols_view symbols.now) duration) (scope_view scope.now) (shapes args.now)) }
+    ensures { Gives (joined_view P.seen) result (bound_parts (symbols_view symbols.now).types
+        (P.spelled (symbols_view symbols.now) duration) (scope_view scope.now) (shapes args.now)) }
 {
     let [list, body @ ..] = args else {
         return Err(SyntaxFault::Shape(at));
@@ -99,7 +103,9 @@ pub fn read_joined<P: Part>(
     scope: &Scope,
     at: u32,
 ) -> Result<Joined<P>, SyntaxFault>
-    ensures { Gives (joined_view P.seen) result (joined_of (symbols_view symbols.now).types (P.spelled (symbols_view symbols.now) duration) (scope_view scope.now) (shape_of tree.now)) }
+    ensures { Gives (joined_view P.seen) result
+        (joined_of (symbols_view symbols.now).types (P.spelled (symbols_view symbols.now) duration)
+        (scope_view scope.now) (shape_of tree.now)) }
 {
     let (items, at) = match tree {
         Tree::Word(_) => return Err(SyntaxFault::Shape(at)),

@@ -59,7 +59,8 @@ fn limited(
     args: &[Tree],
     at: u32,
 ) -> Result<DurationRule, SyntaxFault>
-    ensures { Gives rule_view result (limited (symbols_view symbols.now) (scope_view scope.now) word.now.text.now (shapes args.now)) }
+    ensures { Gives rule_view result (limited
+        (symbols_view symbols.now) (scope_view scope.now) word.now.text.now (shapes args.now)) }
 {
     let Some(comparison) = duration_comparison(head_of(word.text)) else {
         return Err(SyntaxFault::Shape(at));
@@ -83,7 +84,8 @@ fn read_start(
     scope: &Scope,
     at: u32,
 ) -> Result<DurationRule, SyntaxFault>
-    ensures { Gives rule_view result (start_rule (symbols_view symbols.now) (scope_view scope.now) (shapes args.now)) }
+    ensures { Gives rule_view result
+        (start_rule (symbols_view symbols.now) (scope_view scope.now) (shapes args.now)) }
 {
     let [moment, body @ ..] = args else {
         return Err(SyntaxFault::Shape(at));
@@ -118,7 +120,8 @@ fn read_rules(
     scope: &Scope,
     at: u32,
 ) -> Result<Vec<DurationRule>, SyntaxFault>
-    ensures { Gives (λ v. map rule_view v.items) result (rules_of (symbols_view symbols.now) (scope_view scope.now) (shapes trees.now)) }
+    ensures { Gives (λ v. map rule_view v.items) result
+        (rules_of (symbols_view symbols.now) (scope_view scope.now) (shapes trees.now)) }
 {
     let mut rules = Vec::new(alloc);
     for tree in trees {
@@ -136,7 +139,8 @@ pub fn read_rule(
     scope: &Scope,
     at: u32,
 ) -> Result<DurationRule, SyntaxFault>
-    ensures { Gives rule_view result (rule_of (symbols_view symbols.now) (scope_view scope.now) (shape_of tree.now)) }
+    ensures { Gives rule_view result
+        (rule_of (symbols_view symbols.now) (scope_view scope.now) (shape_of tree.now)) }
 {
     let (items, at) = match tree {
         Tree::Word(_) => return Err(SyntaxFault::Shape(at)),

@@ -36,7 +36,8 @@ fn mark_at(word: &Token, tree: &Tree) -> Option<Mark>
 // The mark and the tree behind it.
 #[tactic(auto, unfolding(tp_ast::specs::Effects::marked_tree))]
 fn marked_tree<'t, 'a>(word: &Token, args: &'t [Tree<'a>]) -> Option<(Mark, &'t Tree<'a>)>
-    ensures { option_map (λ p. (p.0, shape_of p.1.now)) result ≡ marked_tree word.now.text.now (shapes args.now) }
+    ensures { option_map (λ p. (p.0, shape_of p.1.now)) result
+        ≡ marked_tree word.now.text.now (shapes args.now) }
 {
     let (moment, tree) = both(args)?;
     let mark = mark_at(word, moment)?;
@@ -115,7 +116,8 @@ fn effect_at(
     tree: &Tree,
     at: u32,
 ) -> Result<Effect, SyntaxFault>
-    ensures { Gives effect_view result (effect_at (symbols_view symbols.now) (scope_view scope.now) mark (shape_of tree.now)) }
+    ensures { Gives effect_view result
+        (effect_at (symbols_view symbols.now) (scope_view scope.now) mark (shape_of tree.now)) }
 {
     match mark {
         Mark::OverAll => Err(SyntaxFault::Shape(at)),
@@ -156,7 +158,8 @@ pub fn read_timed_cond(
     scope: &Scope,
     at: u32,
 ) -> Result<TimedCond, SyntaxFault>
-    ensures { Gives timed_condition_view result (timed_condition_of (symbols_view symbols.now) (scope_view scope.now) (shape_of tree.now)) }
+    ensures { Gives timed_condition_view result
+        (timed_condition_of (symbols_view symbols.now) (scope_view scope.now) (shape_of tree.now)) }
 {
     read_joined(alloc, tree, symbols, false, scope, at)
 }
@@ -169,7 +172,8 @@ pub fn read_timed_effect(
     scope: &Scope,
     at: u32,
 ) -> Result<TimedEffect, SyntaxFault>
-    ensures { Gives timed_effect_view result (timed_effect_of (symbols_view symbols.now) (scope_view scope.now) (shape_of tree.now)) }
+    ensures { Gives timed_effect_view result
+        (timed_effect_of (symbols_view symbols.now) (scope_view scope.now) (shape_of tree.now)) }
 {
     read_joined(alloc, tree, symbols, true, scope, at)
 }

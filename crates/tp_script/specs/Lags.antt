@@ -31,17 +31,26 @@ pub record MaySet (s : Situation) (lag : ℕ × ℕ) : Type 0 where
 -- the lags of these lines are set, one after another
 abbrev pub SetsLags : Situation → List (List ℕ) → Situation → Type 0
 SetsLags old [] new = new ≡ old
-SetsLags old (line ∷ lines) new = (lag : ℕ × ℕ) × (lag_spelled line ≡ Some lag) × MaySet old lag × SetsLags (with_lag old lag.0 lag.1) lines new
+SetsLags old (line ∷ lines) new =
+    (lag : ℕ × ℕ)
+    × (lag_spelled line ≡ Some lag)
+    × MaySet old lag
+    × SetsLags (with_lag old lag.0 lag.1) lines new
 
 -- what is left, where it is known, does not begin with the line of a lag, or with one of more bytes than may be taken
 abbrev pub NoLagNext : Option (List ℕ) → ℕ → Type 0
 NoLagNext None may = Unit {0}
-NoLagNext (Some bytes) may = (line : List ℕ) (rest : List (List ℕ)) → lines_of bytes ≡ line ∷ rest → (lag_spelled line ≡ None) ⊎ (may ≤ length line)
+NoLagNext (Some bytes) may =
+    (line : List ℕ) (rest : List (List ℕ))
+    → lines_of bytes ≡ line ∷ rest → (lag_spelled line ≡ None)
+    ⊎ (may ≤ length line)
 
 -- the line of a lag is taken, or nothing is
 abbrev pub TakesLag : Reading → Reading → Result (Option (ℕ × ℕ)) Failed → Type 0
-TakesLag old new (Ok (Some lag)) = (line : List ℕ) × TakesWhole old new line × (lag_spelled line ≡ Some lag)
-TakesLag old new (Ok None) = Keeps old.rest new.rest × (new.taken ≡ old.taken) × NoLagNext new.rest (new.most - new.taken)
+TakesLag old new (Ok (Some lag)) =
+    (line : List ℕ) × TakesWhole old new line × (lag_spelled line ≡ Some lag)
+TakesLag old new (Ok None) =
+    Keeps old.rest new.rest × (new.taken ≡ old.taken) × NoLagNext new.rest (new.most - new.taken)
 TakesLag old new (Err e) = Keeps old.rest new.rest × (new.taken ≡ old.taken)
 
 -- these lines of lags were taken, and the lags set
@@ -52,11 +61,21 @@ pub record TakesLags (old new : Reading) (s t : Situation) (lines : List (List �
 
 -- All lines of lags were taken and the lags set. Or the reader failed behind some of them; or behind some of them stood one that
 -- names no event, an event that has a lag already, or a lag out of range, and was taken too
-abbrev pub ReadsLags : Reading → Reading → Situation → Situation → Result (Unit {0}) ServeFault → Type 0
-ReadsLags old new s t (Ok x) = (lines : List (List ℕ)) × TakesLags old new s t lines × NoLagNext new.rest (new.most - new.taken)
+abbrev pub ReadsLags :
+    Reading → Reading → Situation → Situation → Result (Unit {0}) ServeFault → Type 0
+ReadsLags old new s t (Ok x) =
+    (lines : List (List ℕ))
+    × TakesLags old new s t lines
+    × NoLagNext new.rest (new.most - new.taken)
 ReadsLags old new s t (Err Read) = (lines : List (List ℕ)) × TakesLags old new s t lines
 ReadsLags old new s t (Err Head) =
-    (lines : List (List ℕ)) × (mid : Reading) × (line : List ℕ) × (lag : ℕ × ℕ) × TakesLags old mid s t lines × TakesWhole mid new line × (lag_spelled line ≡ Some lag)
+    (lines : List (List ℕ))
+    × (mid : Reading)
+    × (line : List ℕ)
+    × (lag : ℕ × ℕ)
+    × TakesLags old mid s t lines
+    × TakesWhole mid new line
+    × (lag_spelled line ≡ Some lag)
     × ¬ MaySet t lag
 ReadsLags old new s t (Err Write) = ⊥
 ReadsLags old new s t (Err Memory) = ⊥
@@ -70,11 +89,19 @@ pub record Grows (old new : Pending) (count : ℕ) : Type 0 where
   pub end : count ≡ 0 → length old.ready ≤ 256 → IsAtEnd new.left
 
 -- a source gives bytes behind the first ones, none only at its end or where there is no room
-abbrev pub PullsBehind : Option (List ℕ) → Option (List ℕ) → List ℕ → List ℕ → ℕ → Result ℕ Failed → Type 0
+abbrev pub PullsBehind :
+    Option (List ℕ) → Option (List ℕ) → List ℕ → List ℕ → ℕ → Result ℕ Failed → Type 0
 PullsBehind old new before after end (Ok n) =
-    (more : List ℕ) × (take (end + n) after ≡ take end before ++ more) × (length more ≡ n) × (end + n ≤ length after) × Consumes old new more × (n ≡ 0 → end < length before → IsAtEnd new)
+    (more : List ℕ)
+    × (take (end + n) after ≡ take end before ++ more)
+    × (length more ≡ n)
+    × (end + n ≤ length after)
+    × Consumes old new more
+    × (n ≡ 0 → end < length before → IsAtEnd new)
 PullsBehind old new before after end (Err e) = (take end after ≡ take end before) × Keeps old new
 
 -- a line's end is at hand, or more bytes than the line of a lag has, or all that is left
 abbrev pub IsInSight : Pending → Type 0
-IsInSight p = ((k : ℕ) × (k < length p.ready) × (slice_index p.ready k ≡ 10)) ⊎ ((256 < length p.ready) ⊎ IsAtEnd p.left)
+IsInSight p =
+    ((k : ℕ) × (k < length p.ready) × (slice_index p.ready k ≡ 10))
+    ⊎ ((256 < length p.ready) ⊎ IsAtEnd p.left)

@@ -40,4 +40,5 @@ IsSpelled command = (line : List ℕ) × (command_of line ≡ Some command)
 
 -- a command that some line spells is read again from its one spelling
 abbrev pub AreReadAgain : Type 0
-AreReadAgain = (command : Command) → IsSpelled command → command_of (command_text command) ≡ Some command
+AreReadAgain =
+    (command : Command) → IsSpelled command → command_of (command_text command) ≡ Some command

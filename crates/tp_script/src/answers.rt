@@ -38,7 +38,8 @@ fn write_moment<W: Sink>(writer: &mut W, moment: (u32, bool)) -> Result<(), Fail
 
 /// Writes the moments of a report.
 fn write_moments<W: Sink>(writer: &mut W, moments: &[(u32, bool)]) -> Result<(), Failed>
-    ensures bytes { Writes (W.held writer.old) (W.held writer.new) (flat_map moment_text moments.now) result }
+    ensures bytes { Writes
+        (W.held writer.old) (W.held writer.new) (flat_map moment_text moments.now) result }
     ensures cause { W.failures writer.new ≡ failures_after (W.failures writer.old) result }
 {
     for moment in moments {
@@ -49,7 +50,8 @@ fn write_moments<W: Sink>(writer: &mut W, moments: &[(u32, bool)]) -> Result<(),
 
 /// A report's line up to its moments.
 fn report_head(report: &Report) -> Text
-    ensures { result ≡ codes "report " ++ decimal report.entry.now.now ++ codes " " ++ kind_text report.entry.now.kind }
+    ensures { result ≡ codes "report "
+        ++ decimal report.entry.now.now ++ codes " " ++ kind_text report.entry.now.kind }
 {
     let mut text = Text::new(b"report ");
     text.put_number(report.now);
@@ -60,7 +62,8 @@ fn report_head(report: &Report) -> Text
 
 /// Writes the line of a report.
 fn write_report<W: Sink>(writer: &mut W, report: &Report) -> Result<(), Failed>
-    ensures bytes { Writes (W.held writer.old) (W.held writer.new) (line_of (Reported report.entry.now)) result }
+    ensures bytes { Writes
+        (W.held writer.old) (W.held writer.new) (line_of (Reported report.entry.now)) result }
     ensures cause { W.failures writer.new ≡ failures_after (W.failures writer.old) result }
 {
     let head = report_head(report);
@@ -111,7 +114,8 @@ fn write_edges<W: Sink>(writer: &mut W, edges: &[Edge]) -> Result<(), Failed>
 
 /// Writes the line of a conflict.
 fn write_conflict<W: Sink>(writer: &mut W, reason: &Reason) -> Result<(), Failed>
-    ensures bytes { Writes (W.held writer.old) (W.held writer.new) (line_of (Refused (Conflict reason.now))) result }
+    ensures bytes { Writes
+        (W.held writer.old) (W.held writer.new) (line_of (Refused (Conflict reason.now))) result }
     ensures cause { W.failures writer.new ≡ failures_after (W.failures writer.old) result }
 {
     push_all(writer, b"refused conflict")?;
@@ -121,7 +125,8 @@ fn write_conflict<W: Sink>(writer: &mut W, reason: &Reason) -> Result<(), Failed
 
 /// Writes the line of a refusal.
 fn write_refusal<W: Sink>(writer: &mut W, refusal: &Refusal) -> Result<(), Failed>
-    ensures bytes { Writes (W.held writer.old) (W.held writer.new) (line_of (Refused refusal.now)) result }
+    ensures bytes { Writes
+        (W.held writer.old) (W.held writer.new) (line_of (Refused refusal.now)) result }
     ensures cause { W.failures writer.new ≡ failures_after (W.failures writer.old) result }
 {
     match refusal {

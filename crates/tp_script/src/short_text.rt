@@ -79,7 +79,8 @@ impl Text {
 /// some first part of the line.
 pub fn write_numbered<W: Sink>(writer: &mut W, word: &[u8], n: u32) -> Result<(), Failed>
     requires { length word.now ≤ 20 }
-    ensures bytes { Writes (W.held writer.old) (W.held writer.new) (word.now ++ decimal n ++ codes "\n") result }
+    ensures bytes { Writes
+        (W.held writer.old) (W.held writer.new) (word.now ++ decimal n ++ codes "\n") result }
     ensures cause { W.failures writer.new ≡ failures_after (W.failures writer.old) result }
 {
     let mut text = Text::new(word);

@@ -55,8 +55,9 @@ pub fn judge<'t>(
     chosen: &[u32],
 ) -> Result<Option<ValidPlan<'t>>, SearchFault>
     requires { IsNode (length task.now.actions.items) chosen.now }
-    ensures { IfOk result (λ r. MatchOption r (¬ IsValidPlan task.now (steps_at chosen.now))
-        (λ v. (v.task ≡ task.now) × (v.steps ≡ steps_at chosen.now) × IsValidPlan task.now (steps_at chosen.now))) }
+    ensures { IfOk result
+        (λ r. MatchOption r (¬ IsValidPlan task.now (steps_at chosen.now)) (λ v. (v.task ≡ task.now)
+        × (v.steps ≡ steps_at chosen.now) × IsValidPlan task.now (steps_at chosen.now))) }
 {
     let plan = plan_of(alloc, chosen)?;
     match validate(alloc, task, plan) {
@@ -81,7 +82,8 @@ fn first_after(chosen: &[u32]) -> u32
 // Whether an event can happen alone in a state.
 fn happens_alone(alloc: Global, state: &State, only: Event<'_>) -> Result<bool, SearchFault>
     requires { event_fits (length state.now.atoms) (length state.now.numbers) only ≡ true }
-    ensures { IfOk result (λ r. r ≡ false → ¬ CanHappen state.now.scale (state_of state.now) (alone only.entry)) }
+    ensures { IfOk result
+        (λ r. r ≡ false → ¬ CanHappen state.now.scale (state_of state.now) (alone only.entry)) }
 {
     let events = [EventRef::new(only, 0)];
     match apply(alloc, state, &events) {
@@ -104,7 +106,8 @@ fn can_begin(alloc: Global, task: &Task, state: &State, action: u32) -> Result<b
 }
 
 fn push_if(found: &mut Vec<u32>, action: u32, wanted: bool) -> Result<(), AllocError>
-    ensures { OnOk result (found.new.items ≡ (if wanted then found.old.items ++ action ∷ [] else found.old.items)) }
+    ensures { OnOk result
+        (found.new.items ≡ (if wanted then found.old.items ++ action ∷ [] else found.old.items)) }
 {
     if wanted {
         found.push(action)?;
@@ -178,7 +181,8 @@ fn add_child(
     requires is_node { IsNode (length task.now.actions.items) chosen.now }
     requires room { length chosen.now < 512 }
     requires action { action < length task.now.actions.items }
-    ensures { OnOk result (HasChildren task.now first (action ∷ []) chosen.now arena.old arena.new) }
+    ensures { OnOk result
+        (HasChildren task.now first (action ∷ []) chosen.now arena.old arena.new) }
 {
     if action < first || !is_apart(task, chosen, action) {
         return Ok(());
@@ -199,7 +203,8 @@ fn expand(
     requires chosen { chosen.now ≡ slice_index_or arena.old node [] }
     requires is_node { IsNode (length task.now.actions.items) chosen.now }
     requires actions { AllByRecursion (λ a. a < length task.now.actions.items) candidates.now }
-    ensures { OnOk result (HasChildren task.now first candidates.now chosen.now arena.old arena.new) }
+    ensures { OnOk result
+        (HasChildren task.now first candidates.now chosen.now arena.old arena.new) }
 {
     if chosen.len() >= 512 {
         return Ok(());

@@ -59,7 +59,8 @@ fn judged<'t>(
     plan: Plan,
 ) -> Result<Option<ValidPlan<'t>>, SearchFault>
     requires { IsOfTask task.now plan }
-    ensures { IfOk result (λ r. IfSome r (λ v. (v.task ≡ task.now) × (v.steps ≡ plan) × IsValidPlan task.now plan)) }
+    ensures { IfOk result
+        (λ r. IfSome r (λ v. (v.task ≡ task.now) × (v.steps ≡ plan) × IsValidPlan task.now plan)) }
 {
     match validate(alloc, task, plan) {
         Ok(Verdict::Valid(valid)) => Ok(Some(valid)),
@@ -76,7 +77,8 @@ pub fn certified<'t>(
     horizon: u32,
     steps: Vec<Step>,
 ) -> Result<Option<ValidPlan<'t>>, SearchFault>
-    ensures { IfOk result (λ r. IfSome r (λ v. (v.task ≡ task.now) × EndsBy horizon v.steps × IsValidPlan task.now v.steps)) }
+    ensures { IfOk result (λ r. IfSome r
+        (λ v. (v.task ≡ task.now) × EndsBy horizon v.steps × IsValidPlan task.now v.steps)) }
 {
     if is_plan_within(task, &steps, horizon) {
         judged(alloc, task, Plan::new(steps))

@@ -37,7 +37,8 @@ fn plan_at<'t>(
     node: u32,
     horizon: u32,
 ) -> Result<Option<ValidPlan<'t>>, SearchFault>
-    ensures { IfOk result (λ r. IfSome r (λ v. (v.task ≡ task.now) × EndsBy horizon v.steps × IsValidPlan task.now v.steps)) }
+    ensures { IfOk result (λ r. IfSome r
+        (λ v. (v.task ≡ task.now) × EndsBy horizon v.steps × IsValidPlan task.now v.steps)) }
 {
     let chosen = frontier.steps(node)?;
     let steps = steps_of(alloc, &chosen)?;

@@ -27,7 +27,8 @@ are_fields_of lasts fs = list_all (λ f. is_field_of lasts f.key) fs
 
 -- each at most once, of an action or of a durative one
 abbrev pub checked_fields : Bool → Shapes → Option (List actions.Field)
-checked_fields lasts ss = fields_of ss >>= λ fs. provided (each_once fs && are_fields_of lasts fs) fs
+checked_fields lasts ss =
+    fields_of ss >>= λ fs. provided (each_once fs && are_fields_of lasts fs) fs
 
 -- the rule, which may not be missing
 abbrev pub duration_field : Symbols → List Declared → List actions.Field → Option Rule

@@ -32,7 +32,8 @@ checked_sections ss = sections_of ss >>= λ ps. provided (each_once ps) ps
 
 -- the actions, each named once
 abbrev pub actions_once : Symbols → List Part → Option (List Action)
-actions_once σ ps = actions_in σ ps >>= λ as_. provided (not (has_twice (map (λ a. a.name) as_))) as_
+actions_once σ ps =
+    actions_in σ ps >>= λ as_. provided (not (has_twice (map (λ a. a.name) as_))) as_
 
 -- whether the actions of a section last, if it has one
 abbrev pub action_kind : Section → Option Bool

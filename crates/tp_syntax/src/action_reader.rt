@@ -46,7 +46,8 @@ fn parameters(
     fields: &[Field],
     at: u32,
 ) -> Result<Vec<Typed>, SyntaxFault>
-    ensures { Gives (λ v. map typed_view v.items) result (or_missing [] (parameters_at (types_view types.now)) (field keys.Parameters (map field_view fields.now))) }
+    ensures { Gives (λ v. map typed_view v.items) result (or_missing [] (parameters_at
+        (types_view types.now)) (field keys.Parameters (map field_view fields.now))) }
 {
     match find_field(Key::Parameters, fields) {
         Some(list) => parameters_at(alloc, types, list.value, at),
@@ -61,7 +62,9 @@ fn precondition(
     fields: &[Field],
     at: u32,
 ) -> Result<Cond, SyntaxFault>
-    ensures { Gives cond_view result (or_missing (all_of no_conditions) (condition_of (symbols_view symbols.now) (scope_view scope.now)) (field keys.Precondition (map field_view fields.now))) }
+    ensures { Gives cond_view result
+        (or_missing (all_of no_conditions) (condition_of (symbols_view symbols.now)
+        (scope_view scope.now)) (field keys.Precondition (map field_view fields.now))) }
 {
     match find_field(Key::Precondition, fields) {
         Some(cond) => read_cond(alloc, cond.value, symbols, scope, at),
@@ -76,7 +79,9 @@ fn effect(
     fields: &[Field],
     at: u32,
 ) -> Result<Effect, SyntaxFault>
-    ensures { Gives effect_view result (or_missing (all_parts no_parts) (effect_of (symbols_view symbols.now) false (scope_view scope.now)) (field keys.Effect (map field_view fields.now))) }
+    ensures { Gives effect_view result
+        (or_missing (all_parts no_parts) (effect_of (symbols_view symbols.now) false
+        (scope_view scope.now)) (field keys.Effect (map field_view fields.now))) }
 {
     match find_field(Key::Effect, fields) {
         Some(effect) => read_effect(alloc, effect.value, symbols, scope, at),
@@ -92,7 +97,8 @@ fn duration(
     fields: &[Field],
     at: u32,
 ) -> Result<DurationRule, SyntaxFault>
-    ensures { Gives rule_view result (duration_field (symbols_view symbols.now) (scope_view scope.now) (map field_view fields.now)) }
+    ensures { Gives rule_view result (duration_field
+        (symbols_view symbols.now) (scope_view scope.now) (map field_view fields.now)) }
 {
     match find_field(Key::Duration, fields) {
         Some(rule) => read_rule(alloc, rule.value, symbols, scope, at),
@@ -107,7 +113,9 @@ fn timed_condition(
     fields: &[Field],
     at: u32,
 ) -> Result<TimedCond, SyntaxFault>
-    ensures { Gives timed_condition_view result (or_missing (all_parts no_parts) (timed_condition_of (symbols_view symbols.now) (scope_view scope.now)) (field keys.Condition (map field_view fields.now))) }
+    ensures { Gives timed_condition_view result
+        (or_missing (all_parts no_parts) (timed_condition_of (symbols_view symbols.now)
+        (scope_view scope.now)) (field keys.Condition (map field_view fields.now))) }
 {
     match find_field(Key::Condition, fields) {
         Some(cond) => read_timed_cond(alloc, cond.value, symbols, scope, at),
@@ -122,7 +130,9 @@ fn timed_effect(
     fields: &[Field],
     at: u32,
 ) -> Result<TimedEffect, SyntaxFault>
-    ensures { Gives timed_effect_view result (or_missing (all_parts no_parts) (timed_effect_of (symbols_view symbols.now) (scope_view scope.now)) (field keys.Effect (map field_view fields.now))) }
+    ensures { Gives timed_effect_view result
+        (or_missing (all_parts no_parts) (timed_effect_of (symbols_view symbols.now)
+        (scope_view scope.now)) (field keys.Effect (map field_view fields.now))) }
 {
     match find_field(Key::Effect, fields) {
         Some(effect) => read_timed_effect(alloc, effect.value, symbols, scope, at),
@@ -137,7 +147,8 @@ fn instant(
     fields: &[Field],
     at: u32,
 ) -> Result<Body, SyntaxFault>
-    ensures { Gives body_view result (body_of (symbols_view symbols.now) false (scope_view scope.now) (map field_view fields.now)) }
+    ensures { Gives body_view result (body_of
+        (symbols_view symbols.now) false (scope_view scope.now) (map field_view fields.now)) }
 {
     let precondition = precondition(alloc, symbols, scope, fields, at)?;
     let effect = effect(alloc, symbols, scope, fields, at)?;
@@ -154,7 +165,8 @@ fn durative(
     fields: &[Field],
     at: u32,
 ) -> Result<Body, SyntaxFault>
-    ensures { Gives body_view result (body_of (symbols_view symbols.now) true (scope_view scope.now) (map field_view fields.now)) }
+    ensures { Gives body_view result (body_of
+        (symbols_view symbols.now) true (scope_view scope.now) (map field_view fields.now)) }
 {
     let duration = duration(alloc, symbols, scope, fields, at)?;
     let condition = timed_condition(alloc, symbols, scope, fields, at)?;
@@ -174,7 +186,8 @@ fn body(
     fields: &[Field],
     at: u32,
 ) -> Result<Body, SyntaxFault>
-    ensures { Gives body_view result (body_of (symbols_view symbols.now) lasts (map typed_view parameters.now) (map field_view fields.now)) }
+    ensures { Gives body_view result (body_of (symbols_view symbols.now) lasts
+        (map typed_view parameters.now) (map field_view fields.now)) }
 {
     let none = Scope::Empty;
     let scope = Scope::Inner(parameters, &none);
@@ -193,7 +206,8 @@ pub fn read_action(
     symbols: &Symbols,
     at: u32,
 ) -> Result<Action, SyntaxFault>
-    ensures { Gives action_view result (action_of (symbols_view symbols.now) lasts (shapes trees.now)) }
+    ensures { Gives action_view result
+        (action_of (symbols_view symbols.now) lasts (shapes trees.now)) }
 {
     let [first, rest @ ..] = trees else {
         return Err(SyntaxFault::Shape(at));

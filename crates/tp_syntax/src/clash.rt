@@ -23,7 +23,8 @@ impl<'a> Said<'a> {
     // Whether an entry disagrees with one before it. It joins them.
     fn add(&mut self, entry: &'a Initial) -> Result<bool, AllocError>
         ensures clashes { IfOk result (λ b. b ≡ clashes self.old (initial_view entry.now)) }
-        ensures noted { OnOk result ((i : InitialEntry) → clashes self.new i ≡ (clashes self.old i || clash i (initial_view entry.now))) }
+        ensures noted { OnOk result ((i : InitialEntry)
+            → clashes self.new i ≡ (clashes self.old i || clash i (initial_view entry.now))) }
     {
         match entry {
             Initial::Holds(atom) => {

@@ -54,7 +54,8 @@ fn add_action(
     symbols: &Symbols,
     part: &SectionBody,
 ) -> Result<(), SyntaxFault>
-    ensures { Adds (map action_view actions.old.items) (map action_view actions.new.items) result (action_at (symbols_view symbols.now) part.now.section (shapes part.now.body.now)) }
+    ensures { Adds (map action_view actions.old.items) (map action_view actions.new.items) result
+        (action_at (symbols_view symbols.now) part.now.section (shapes part.now.body.now)) }
 {
     let Some(lasts) = action_kind(part.section) else {
         return Ok(());
@@ -68,7 +69,8 @@ fn actions_in(
     symbols: &Symbols,
     parts: &[SectionBody],
 ) -> Result<Vec<Action>, SyntaxFault>
-    ensures { Gives (λ v. map action_view v.items) result (actions_in (symbols_view symbols.now) (map part_view parts.now)) }
+    ensures { Gives (λ v. map action_view v.items) result
+        (actions_in (symbols_view symbols.now) (map part_view parts.now)) }
 {
     let mut actions = Vec::new(alloc);
     for part in parts {
@@ -97,7 +99,8 @@ fn actions_once(
     symbols: &Symbols,
     parts: &[SectionBody],
 ) -> Result<Vec<Action>, SyntaxFault>
-    ensures { Gives (λ v. map action_view v.items) result (actions_once (symbols_view symbols.now) (map part_view parts.now)) }
+    ensures { Gives (λ v. map action_view v.items) result
+        (actions_once (symbols_view symbols.now) (map part_view parts.now)) }
 {
     let actions = actions_in(alloc, symbols, parts)?;
     if let Some(number) = second_named(alloc, &actions)? {
@@ -107,21 +110,24 @@ fn actions_once(
 }
 
 fn requirements(alloc: Global, parts: &[SectionBody]) -> Result<Vec<String>, SyntaxFault>
-    ensures { Gives (λ v. map string_bytes v.items) result (requirements_in (section sections.Requirements (map part_view parts.now))) }
+    ensures { Gives (λ v. map string_bytes v.items) result
+        (requirements_in (section sections.Requirements (map part_view parts.now))) }
 {
     let part = find_section(Section::Requirements, parts);
     requirements_in(alloc, part.body, part.at)
 }
 
 fn types(alloc: Global, parts: &[SectionBody]) -> Result<Vec<TypeName>, SyntaxFault>
-    ensures { Gives (λ v. map parent_view v.items) result (types_in (section sections.Types (map part_view parts.now))) }
+    ensures { Gives (λ v. map parent_view v.items) result
+        (types_in (section sections.Types (map part_view parts.now))) }
 {
     let part = find_section(Section::Types, parts);
     types_in(alloc, part.body, part.at)
 }
 
 fn constants(alloc: Global, types: &Types, parts: &[SectionBody]) -> Result<Vec<Typed>, SyntaxFault>
-    ensures { Gives (λ v. map typed_view v.items) result (objects_in (types_view types.now) (section sections.Constants (map part_view parts.now))) }
+    ensures { Gives (λ v. map typed_view v.items) result
+        (objects_in (types_view types.now) (section sections.Constants (map part_view parts.now))) }
 {
     let part = find_section(Section::Constants, parts);
     objects_in(alloc, types, part.body, part.at)
@@ -132,7 +138,8 @@ fn predicates(
     types: &Types,
     parts: &[SectionBody],
 ) -> Result<Vec<Signature>, SyntaxFault>
-    ensures { Gives (λ v. map form_view v.items) result (predicates_in (types_view types.now) (section sections.Predicates (map part_view parts.now))) }
+    ensures { Gives (λ v. map form_view v.items) result (predicates_in
+        (types_view types.now) (section sections.Predicates (map part_view parts.now))) }
 {
     let part = find_section(Section::Predicates, parts);
     predicates_in(alloc, types, part.body, part.at)
@@ -143,7 +150,8 @@ fn functions(
     types: &Types,
     parts: &[SectionBody],
 ) -> Result<Vec<Signature>, SyntaxFault>
-    ensures { Gives (λ v. map form_view v.items) result (functions_in (types_view types.now) (section sections.Functions (map part_view parts.now))) }
+    ensures { Gives (λ v. map form_view v.items) result (functions_in
+        (types_view types.now) (section sections.Functions (map part_view parts.now))) }
 {
     let part = find_section(Section::Functions, parts);
     functions_in(alloc, types, part.body, part.at)
@@ -158,7 +166,9 @@ fn actions_over<'d>(
     functions: &'d [Signature],
     parts: &[SectionBody],
 ) -> Result<Vec<Action>, SyntaxFault>
-    ensures { Gives (λ v. map action_view v.items) result (actions_once (domain_symbols (types_view types.entry) (map typed_view constants.now) (map form_view predicates.now) (map form_view functions.now)) (map part_view parts.now)) }
+    ensures { Gives (λ v. map action_view v.items) result
+        (actions_once (domain_symbols (types_view types.entry) (map typed_view constants.now)
+        (map form_view predicates.now) (map form_view functions.now)) (map part_view parts.now)) }
 {
     let constants = Lookup::new(alloc, constants)?;
     let objects = Lookup::listed(&[]);

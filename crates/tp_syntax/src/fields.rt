@@ -76,7 +76,8 @@ fn is_key(field: &Field, key: Key) -> bool
 
 /// The first field of a key.
 pub fn find_field<'t, 'a>(key: Key, fields: &[Field<'t, 'a>]) -> Option<Field<'t, 'a>>
-    ensures { option_map (λ f. shape_of f.value.now) result ≡ field key (map field_view fields.now) }
+    ensures { option_map (λ f. shape_of f.value.now) result
+        ≡ field key (map field_view fields.now) }
 {
     for candidate in fields {
         if is_key(candidate, key) {

@@ -94,7 +94,8 @@ fn held(
     args: &[Tree],
     at: u32,
 ) -> Result<Initial, SyntaxFault>
-    ensures { Gives initial_view result (option_map holds (atom_in (symbols_view symbols.now) (symbols_view symbols.now).predicates [] word.now.text.now (shapes args.now))) }
+    ensures { Gives initial_view result (option_map holds (atom_in (symbols_view symbols.now)
+        (symbols_view symbols.now).predicates [] word.now.text.now (shapes args.now))) }
 {
     let none = Scope::Empty;
     match atom_in(alloc, symbols, &symbols.predicates, &none, word, args, at) {
@@ -111,7 +112,8 @@ fn initial_list(
     args: &[Tree],
     at: u32,
 ) -> Result<Initial, SyntaxFault>
-    ensures { Gives initial_view result (initial_list (symbols_view symbols.now) word.now.text.now (shapes args.now)) }
+    ensures { Gives initial_view result
+        (initial_list (symbols_view symbols.now) word.now.text.now (shapes args.now)) }
 {
     if is_word(word.text, "not") {
         denied(alloc, symbols, args, at)
@@ -129,7 +131,8 @@ fn initial_at(
     tree: &Tree,
     section: u32,
 ) -> Result<Initial, SyntaxFault>
-    ensures { Gives initial_view result (initial_at (symbols_view symbols.now) (shape_of tree.now)) }
+    ensures { Gives initial_view result
+        (initial_at (symbols_view symbols.now) (shape_of tree.now)) }
 {
     let (items, at) = match tree {
         Tree::Word(_) => return Err(SyntaxFault::Shape(section)),
@@ -151,7 +154,8 @@ pub fn initial_of(
     trees: &[Tree],
     section: u32,
 ) -> Result<Vec<Initial>, SyntaxFault>
-    ensures { Gives (λ v. map initial_view v.items) result (initial_of (symbols_view symbols.now) (shapes trees.now)) }
+    ensures { Gives (λ v. map initial_view v.items) result
+        (initial_of (symbols_view symbols.now) (shapes trees.now)) }
 {
     let mut entries = Vec::new(alloc);
     for tree in trees {

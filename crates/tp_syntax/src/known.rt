@@ -21,7 +21,9 @@ pub fn with_signatures<'d>(
     predicates: &'d [Signature],
     functions: &'d [Signature],
 ) -> Result<Symbols<'d>, AllocError>
-    ensures { IfOk result (λ s. symbols_view s ≡ domain_symbols (types_view types.entry) (map typed_view constants.entry ++ map typed_view objects.entry) (map form_view predicates.now) (map form_view functions.now)) }
+    ensures { IfOk result (λ s. symbols_view s ≡ domain_symbols
+        (types_view types.entry) (map typed_view constants.entry ++ map typed_view objects.entry)
+        (map form_view predicates.now) (map form_view functions.now)) }
 {
     let predicates = Lookup::new(alloc, predicates)?;
     let functions = Lookup::new(alloc, functions)?;

@@ -63,7 +63,8 @@ fn named_again(
     constants: &[Typed],
     objects: &[Typed],
 ) -> Result<Option<usize>, AllocError>
-    ensures { IfOk result (λ o. is_some o ≡ has_twice (map (λ d. d.name) (map typed_view constants.now ++ map typed_view objects.now))) }
+    ensures { IfOk result (λ o. is_some o ≡ has_twice
+        (map (λ d. d.name) (map typed_view constants.now ++ map typed_view objects.now))) }
 {
     let mut names = Vec::new(alloc);
     for constant in constants {
@@ -83,7 +84,8 @@ fn new_objects(
     trees: &[Tree],
     at: u32,
 ) -> Result<Vec<Typed>, SyntaxFault>
-    ensures { Gives (λ v. map typed_view v.items) result (new_objects (domain_view domain.now) (shapes trees.now)) }
+    ensures { Gives (λ v. map typed_view v.items) result
+        (new_objects (domain_view domain.now) (shapes trees.now)) }
 {
     let types = Types::new(alloc, &domain.types)?;
     let objects = objects_in(alloc, &types, trees, at)?;
@@ -118,7 +120,8 @@ fn initial_in(
     parts: &[Part],
     at: u32,
 ) -> Result<Vec<Initial>, SyntaxFault>
-    ensures { Gives (λ v. map initial_view v.items) result (initial_of (symbols_view symbols.now) (section sections.Init (map part_view parts.now))) }
+    ensures { Gives (λ v. map initial_view v.items) result
+        (initial_of (symbols_view symbols.now) (section sections.Init (map part_view parts.now))) }
 {
     let entries = body_of(ProblemSection::Init, parts);
     let entries_at = start_of(ProblemSection::Init, parts, at);
@@ -127,7 +130,8 @@ fn initial_in(
 
 // What is to hold, by the sections of the problem at `at`.
 fn goal_of(alloc: Global, symbols: &Symbols, parts: &[Part], at: u32) -> Result<Cond, SyntaxFault>
-    ensures { Gives cond_view result (goal_in (symbols_view symbols.now) (section sections.Goal (map part_view parts.now))) }
+    ensures { Gives cond_view result
+        (goal_in (symbols_view symbols.now) (section sections.Goal (map part_view parts.now))) }
 {
     let goals = body_of(ProblemSection::Goal, parts);
     let goals_at = start_of(ProblemSection::Goal, parts, at);
@@ -142,7 +146,8 @@ fn stated(
     parts: &[Part],
     at: u32,
 ) -> Result<(Vec<Initial>, Cond), SyntaxFault>
-    ensures { Gives (λ r. (map initial_view r.0.items, cond_view r.1)) result (stated (symbols_view symbols.now) (map part_view parts.now)) }
+    ensures { Gives (λ r. (map initial_view r.0.items, cond_view r.1)) result
+        (stated (symbols_view symbols.now) (map part_view parts.now)) }
 {
     let initial = initial_in(alloc, symbols, parts, at)?;
     let goal = goal_of(alloc, symbols, parts, at)?;
@@ -159,7 +164,8 @@ fn symbols_with<'d>(
     domain: &'d Domain,
     objects: &'d [Typed],
 ) -> Result<Symbols<'d>, AllocError>
-    ensures { IfOk result (λ s. symbols_view s ≡ symbols_with (domain_view domain.now) (map typed_view objects.now)) }
+    ensures { IfOk result
+        (λ s. symbols_view s ≡ symbols_with (domain_view domain.now) (map typed_view objects.now)) }
 {
     let types = Types::new(alloc, &domain.types)?;
     let constants = Lookup::new(alloc, &domain.constants)?;
@@ -181,7 +187,8 @@ fn stated_of(
     parts: &[Part],
     at: u32,
 ) -> Result<(Vec<Initial>, Cond), SyntaxFault>
-    ensures { Gives (λ r. (map initial_view r.0.items, cond_view r.1)) result (stated (symbols_with (domain_view domain.now) (map typed_view objects.now)) (map part_view parts.now)) }
+    ensures { Gives (λ r. (map initial_view r.0.items, cond_view r.1)) result (stated (symbols_with
+        (domain_view domain.now) (map typed_view objects.now)) (map part_view parts.now)) }
 {
     let symbols = symbols_with(alloc, domain, objects)?;
     stated(alloc, &symbols, parts, at)
@@ -195,7 +202,8 @@ fn problem_with(
     parts: &[Part],
     at: u32,
 ) -> Result<Problem, SyntaxFault>
-    ensures { Gives problem_view result (problem_with (domain_view domain.now) (string_bytes name) (map part_view parts.now)) }
+    ensures { Gives problem_view result
+        (problem_with (domain_view domain.now) (string_bytes name) (map part_view parts.now)) }
 {
     let words = body_of(ProblemSection::Requirements, parts);
     let words_at = start_of(ProblemSection::Requirements, parts, at);
@@ -221,7 +229,8 @@ fn own_name(
     of: &Tree,
     at: u32,
 ) -> Result<String, SyntaxFault>
-    ensures { Gives (λ s. string_bytes s) result (own_name (domain_view domain.now) (shape_of head.now) (shape_of of.now)) }
+    ensures { Gives (λ s. string_bytes s) result
+        (own_name (domain_view domain.now) (shape_of head.now) (shape_of of.now)) }
 {
     let name = named(alloc, "problem", head, at)?;
     let owner = named(alloc, ":domain", of, at)?;
@@ -249,7 +258,8 @@ fn problem_of(alloc: Global, domain: &Domain, tree: &Tree) -> Result<Problem, Sy
 
 /// The problem of this domain that the text spells.
 pub fn read_problem(alloc: Global, text: &str, domain: &Domain) -> Result<Problem, SyntaxFault>
-    ensures found { IfOk result (λ p. SpellsProblem (domain_view domain.now) text.now (problem_view p)) }
+    ensures found { IfOk result
+        (λ p. SpellsProblem (domain_view domain.now) text.now (problem_view p)) }
     ensures limited { OnOk result (length text.now ≤ max_text) }
     ensures nested { OnOk result (NestsUpTo text.now 64) }
     ensures refused { IfErr result (λ e. IsRefusedProblem (domain_view domain.now) text.now e) }

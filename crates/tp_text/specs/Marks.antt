@@ -77,4 +77,5 @@ unfoldable mutual
   -- a comment runs to the end of its line
   pub after_comment : ℕ → List ℕ → Marks
   after_comment at [] = Ok []
-  after_comment at (b ∷ bs) = elim (b == 10) [ true ↦ placed (at + 1) bs | false ↦ after_comment (at + 1) bs ]
+  after_comment at (b ∷ bs) =
+      elim (b == 10) [ true ↦ placed (at + 1) bs | false ↦ after_comment (at + 1) bs ]

@@ -25,7 +25,8 @@ is_natural (b ∷ bs) = list_all is_ascii_digit (b ∷ bs)
 
 -- the number that digits make, if it is below a limit
 abbrev pub natural_below : ℕ → List ℕ → Option ℕ
-natural_below limit ds = if is_natural ds && nat_lt (digits_value 10 ds) limit then Some (digits_value 10 ds) else None
+natural_below limit ds =
+    if is_natural ds && nat_lt (digits_value 10 ds) limit then Some (digits_value 10 ds) else None
 
 -- '-' or nothing, and then digits
 unfoldable pub signed : List ℕ → Option ℤ
@@ -40,7 +41,8 @@ whole_of w = if all_zeros (after_point w) then signed (before_point w) else None
 
 -- digits, or digits, '.', digits
 abbrev pub has_time_form : List ℕ → Bool
-has_time_form w = is_natural (before_point w) && (not (list_any (λ b. b == 46) w) || is_natural (after_point w))
+has_time_form w =
+    is_natural (before_point w) && (not (list_any (λ b. b == 46) w) || is_natural (after_point w))
 
 -- a quotient that leaves nothing
 abbrev pub exact : ℕ → ℕ → Option ℕ
@@ -48,7 +50,9 @@ exact n d = if n % d == 0 then Some (n / d) else None
 
 -- the value times the ticks of a unit, if that is whole: the digits without the point, by ten for each behind it
 unfoldable pub time_of : ℕ → List ℕ → Option ℕ
-time_of scale w = if has_time_form w then exact (digits_value 10 (before_point w ++ after_point w) * scale) (10 ^ length (after_point w)) else None
+time_of scale w =
+    if has_time_form w then exact (digits_value 10 (before_point w ++ after_point w) * scale)
+    (10 ^ length (after_point w)) else None
 
 abbrev pub below : ℕ → Option ℕ → Option ℕ
 below limit None = None

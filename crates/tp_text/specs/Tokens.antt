@@ -37,8 +37,17 @@ HasNoMarks text faults.Empty = ⊥
 
 -- what stands at the front of bytes, and how long it is
 abbrev pub Begins : Piece → List ℕ → Type 0
-Begins (Blank n) bytes = (0 < n) × (n ≤ length bytes) × ((at : ℕ) → placed at bytes ≡ placed (at + n) (drop n bytes))
-Begins (Mark n) bytes = (0 < n) × (n ≤ length bytes) × IsAscii (take n bytes) × ((at : ℕ) → placed at bytes ≡ before (record { mark = mark_of (take n bytes); start = at; stop = at + n }) (placed (at + n) (drop n bytes)))
+Begins (Blank n) bytes =
+    (0 < n) × (n ≤ length bytes) × ((at : ℕ) → placed at bytes ≡ placed (at + n) (drop n bytes))
+Begins (Mark n) bytes =
+    (0 < n)
+    × (n ≤ length bytes)
+    × IsAscii (take n bytes)
+    × ((at : ℕ) → placed at bytes ≡ before (record {
+      mark = mark_of (take n bytes);
+      start = at;
+      stop = at + n;
+    }) (placed (at + n) (drop n bytes)))
 Begins Bad bytes = (at : ℕ) → placed at bytes ≡ Err at
 
 -- Tokens in order behind a place of a text: no mark stands before the first (so only blanks and comments do), each is the
@@ -46,5 +55,8 @@ Begins Bad bytes = (at : ℕ) → placed at bytes ≡ Err at
 abbrev pub Covers : List ℕ → ℕ → List Token → Type 0
 Covers text from [] = placed from (drop from text) ≡ Ok []
 Covers text from (t ∷ ts) =
-    (from ≤ t.span.start) × (placed from (drop from text) ≡ placed t.span.start (drop t.span.start text))
-    × (t.span.start < t.span.stop) × (t.text.now ≡ take (t.span.stop - t.span.start) (drop t.span.start text)) × Covers text t.span.stop ts
+    (from ≤ t.span.start)
+    × (placed from (drop from text) ≡ placed t.span.start (drop t.span.start text))
+    × (t.span.start < t.span.stop)
+    × (t.text.now ≡ take (t.span.stop - t.span.start) (drop t.span.start text))
+    × Covers text t.span.stop ts

@@ -56,11 +56,16 @@ rights (word w ∷ ms) = rights ms
 
 -- a list begins where 64 are open, or more
 abbrev pub IsDeep : List Mark → Type 0
-IsDeep ms = (front : List Mark) × (rest : List Mark) × (ms ≡ front ++ left ∷ rest) × (rights front + 64 ≤ lefts front)
+IsDeep ms =
+    (front : List Mark)
+    × (rest : List Mark)
+    × (ms ≡ front ++ left ∷ rest)
+    × (rights front + 64 ≤ lefts front)
 
 -- the marks that a tree writes are so exactly if it has a list inside 64 others
 abbrev pub DeepIsNested : Type 0
-DeepIsNested = (s : Shape) → (IsDeep (written s) → 64 < nesting s) × (64 < nesting s → IsDeep (written s))
+DeepIsNested =
+    (s : Shape) → (IsDeep (written s) → 64 < nesting s) × (64 < nesting s → IsDeep (written s))
 
 -- no tree writes these marks
 abbrev pub IsNoTree : List Mark → Type 0
@@ -122,5 +127,6 @@ IsRefused text faults.TooLong = max_text < length text
 IsRefused text (faults.BadByte at) = SpellsNothing text
 IsRefused text (faults.Unclosed at) = SpellsNothing text
 IsRefused text (faults.Extra at) = SpellsNothing text
-IsRefused text (faults.Depth at) = (ps : List Placed) × (placed 0 text ≡ Ok ps) × IsDeep (marks_only ps)
+IsRefused text (faults.Depth at) =
+    (ps : List Placed) × (placed 0 text ≡ Ok ps) × IsDeep (marks_only ps)
 IsRefused text faults.Empty = SpellsNothing text

@@ -53,7 +53,8 @@ fn word_len(bytes: &[u8]) -> usize
 // How many bytes of a comment stand at the front, its LF among them.
 fn comment_len(bytes: &[u8]) -> usize
     ensures in_range { result ≤ length bytes.now }
-    ensures skips { (at : ℕ) → after_comment at bytes.now ≡ placed (at + result) (drop result bytes.now) }
+    ensures skips { (at : ℕ)
+        → after_comment at bytes.now ≡ placed (at + result) (drop result bytes.now) }
 {
     for (n, b) in bytes.iter().enumerate() {
         if *b == b'\n' {

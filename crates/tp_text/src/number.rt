@@ -22,7 +22,8 @@ pub enum Scale {
 impl Scale {
     /// The scale with so many ticks to a unit: 1, 10, 100 or 1000.
     pub fn from_number(ticks: u32) -> Option<Scale>
-        ensures { MatchOption result ((scale : Scale) → scale_ticks scale ≢ ticks) (λ scale. scale_ticks scale ≡ ticks) }
+        ensures { MatchOption result
+            ((scale : Scale) → scale_ticks scale ≢ ticks) (λ scale. scale_ticks scale ≡ ticks) }
     {
         match ticks {
             1 => Some(Scale::One),
@@ -144,7 +145,8 @@ fn natural(digits: &[u8]) -> Option<u32>
 // The ticks of a fraction: its first digit counts tenths of a unit. Digits finer than a tick must be zeros.
 fn fraction_ticks(digits: &[u8], scale: Scale) -> Option<u32>
     requires { list_all is_ascii_digit digits.now ≡ true }
-    ensures { result ≡ exact (digits_value 10 digits.now * scale_ticks scale) (10 ^ length digits.now) }
+    ensures { result
+        ≡ exact (digits_value 10 digits.now * scale_ticks scale) (10 ^ length digits.now) }
 {
     let mut unit = scale.ticks();
     let mut ticks = 0;

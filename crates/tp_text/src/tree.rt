@@ -65,7 +65,8 @@ fn kind_of(token: &Token) -> Kind
 
 impl<'a> Builder<'a> {
     fn begin(&mut self, alloc: Global, start: u32) -> Result<(), TextFault>
-        requires { IsOneTree self.old.outer.items self.old.items.items × IsOpen self.old.outer.items self.old.items.items }
+        requires { IsOneTree self.old.outer.items self.old.items.items
+            × IsOpen self.old.outer.items self.old.items.items }
         ensures ok { OnOk result (built self.new ≡ built self.old ++ left ∷ []) }
         ensures one { OnOk result (IsOneTree self.new.outer.items self.new.items.items) }
         ensures room { OnOk result (lefts (built self.old) < rights (built self.old) + 64) }
@@ -80,7 +81,8 @@ impl<'a> Builder<'a> {
     }
 
     fn end(&mut self, span: Span) -> Result<(), TextFault>
-        requires { IsOneTree self.old.outer.items self.old.items.items × IsOpen self.old.outer.items self.old.items.items }
+        requires { IsOneTree self.old.outer.items self.old.items.items
+            × IsOpen self.old.outer.items self.old.items.items }
         ensures ok { OnOk result (built self.new ≡ built self.old ++ right ∷ []) }
         ensures one { OnOk result (IsOneTree self.new.outer.items self.new.items.items) }
         ensures refused { IfErr result (λ e. CannotGoOn (built self.old) right e) }
@@ -96,10 +98,13 @@ impl<'a> Builder<'a> {
     }
 
     fn add(&mut self, token: Token<'a>) -> Result<(), TextFault>
-        requires { IsOneTree self.old.outer.items self.old.items.items × IsOpen self.old.outer.items self.old.items.items }
-        ensures ok { OnOk result (built self.new ≡ built self.old ++ word token.entry.text.now ∷ []) }
+        requires { IsOneTree self.old.outer.items self.old.items.items
+            × IsOpen self.old.outer.items self.old.items.items }
+        ensures ok { OnOk result
+            (built self.new ≡ built self.old ++ word token.entry.text.now ∷ []) }
         ensures one { OnOk result (IsOneTree self.new.outer.items self.new.items.items) }
-        ensures refused { IfErr result (λ e. CannotGoOn (built self.old) (word token.entry.text.now) e) }
+        ensures refused { IfErr result
+            (λ e. CannotGoOn (built self.old) (word token.entry.text.now) e) }
     {
         self.items.push(make_word(token))?;
         Ok(())
@@ -107,10 +112,12 @@ impl<'a> Builder<'a> {
 
     fn step(&mut self, alloc: Global, token: &Token<'a>) -> Result<(), TextFault>
         requires { IsOneTree self.old.outer.items self.old.items.items }
-        ensures ok { OnOk result (built self.new ≡ built self.old ++ mark_of token.now.text.now ∷ []) }
+        ensures ok { OnOk result
+            (built self.new ≡ built self.old ++ mark_of token.now.text.now ∷ []) }
         ensures one { OnOk result (IsOneTree self.new.outer.items self.new.items.items) }
         ensures room { OnOk result (HasRoom (built self.old) (mark_of token.now.text.now)) }
-        ensures refused { IfErr result (λ e. CannotGoOn (built self.old) (mark_of token.now.text.now) e) }
+        ensures refused { IfErr result
+            (λ e. CannotGoOn (built self.old) (mark_of token.now.text.now) e) }
     {
         if self.outer.is_empty() && !self.items.is_empty() {
             return Err(TextFault::Extra(token.span.start));

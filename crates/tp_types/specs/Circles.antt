@@ -21,4 +21,6 @@ fits_above (Some s) None limit = false
 fits_above (Some s) (Some r) limit = nat_lt s r && nat_le r limit
 
 abbrev pub is_ranked : List TypeName → List ℕ → Name → Bool
-is_ranked ts ranks t = fits_above (parent_of t (map parent_view ts) >>= rank_of (map type_name ts) ranks) (rank_of (map type_name ts) ranks t) (length ts)
+is_ranked ts ranks t =
+    fits_above (parent_of t (map parent_view ts) >>= rank_of (map type_name ts) ranks)
+    (rank_of (map type_name ts) ranks t) (length ts)

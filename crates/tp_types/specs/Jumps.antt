@@ -9,7 +9,8 @@ use Rattle.tp_ast.specs.declared.types.TypeName.{TypeName}
 
 -- the type whose place is noted for a type, if any is
 abbrev pub jump_of : List TypeName → List ℕ → Name → Option Name
-jump_of ts jumps t = place_of t (map type_name ts) >>= slice_get jumps >>= λ k. option_map type_name (slice_get ts k)
+jump_of ts jumps t =
+    place_of t (map type_name ts) >>= slice_get jumps >>= λ k. option_map type_name (slice_get ts k)
 
 abbrev pub is_name : Option Name → Name → Bool
 is_name None j = false
@@ -18,11 +19,17 @@ is_name (Some q) j = bytes_eq q j
 -- the parent, or where two jumps from it lead
 abbrev pub leads_up : List TypeName → List ℕ → Option Name → Option Name → Bool
 leads_up ts jumps parent None = true
-leads_up ts jumps parent (Some j) = is_name parent j || is_name (parent >>= jump_of ts jumps >>= jump_of ts jumps) j
+leads_up ts jumps parent (Some j) =
+    is_name parent j || is_name (parent >>= jump_of ts jumps >>= jump_of ts jumps) j
 
 abbrev pub is_jump : List TypeName → List ℕ → Name → Bool
 is_jump ts jumps t = leads_up ts jumps (parent_of t (map parent_view ts)) (jump_of ts jumps t)
 
 -- Of a higher rank, and no type that stands as high as j does is passed over.
 abbrev pub IsAbove : List TypeName → List ℕ → Name → Name → Type 0
-IsAbove ts ranks t j = (p : Name) (r s a : ℕ) → rank_of (map type_name ts) ranks t ≡ Some r → rank_of (map type_name ts) ranks j ≡ Some s → rank_of (map type_name ts) ranks p ≡ Some a → a ≤ s → (s < r) × (at_or_below (map parent_view ts) (length ts) t p ≡ at_or_below (map parent_view ts) (length ts) j p)
+IsAbove ts ranks t j =
+    (p : Name) (r s a : ℕ)
+    → rank_of (map type_name ts) ranks t ≡ Some r → rank_of (map type_name ts) ranks j ≡ Some s
+    → rank_of (map type_name ts) ranks p ≡ Some a → a ≤ s → (s < r)
+    × (at_or_below (map parent_view ts) (length ts) t p
+    ≡ at_or_below (map parent_view ts) (length ts) j p)

@@ -18,7 +18,8 @@ pub fn parent_of<'a>(
     name: &str,
 ) -> Option<&'a String>
     requires { IsTable places.now (map type_name types.now) }
-    ensures { option_map (λ p. string_bytes p.now) result ≡ parent_of name.now (map parent_view types.now) }
+    ensures { option_map (λ p. string_bytes p.now) result
+        ≡ parent_of name.now (map parent_view types.now) }
 {
     let Some(place) = places.get(name) else {
         return None;
@@ -36,7 +37,8 @@ fn is_below_object<'a>(
     start: &'a String,
 ) -> bool
     requires { IsTable places.now (map type_name types.now) }
-    ensures { result ≡ at_or_below (map parent_view types.now) (length types.now) (string_bytes start.now) object }
+    ensures { result ≡ at_or_below
+        (map parent_view types.now) (length types.now) (string_bytes start.now) object }
 {
     let mut current = start;
     let mut left = types.len();

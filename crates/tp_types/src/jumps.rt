@@ -183,7 +183,8 @@ pub fn climb<'a>(
     requires table { IsTable places.now (map type_name types.now) }
     requires ranked { list_all (is_ranked types.now ranks.now) (map type_name types.now) ≡ true }
     requires jumps { list_all (is_jump types.now jumps.now) (map type_name types.now) ≡ true }
-    ensures { IfSome result (λ b. b ≡ at_or_below (map parent_view types.now) (length types.now) start.now above.now) }
+    ensures { IfSome result
+        (λ b. b ≡ at_or_below (map parent_view types.now) (length types.now) start.now above.now) }
 {
     let Some(least) = rank_of(types, places, ranks, above) else {
         return None;

@@ -16,7 +16,8 @@ use tp_ast::types::TypeName;
 
 /// What is left of a list behind the front that it shares with another: types that are in both fit.
 pub fn past_shared<'a>(argument: &'a [String], parameter: &[String]) -> &'a [String]
-    ensures { map string_bytes result.now ≡ past_shared (map string_bytes argument.now) (map string_bytes parameter.now) }
+    ensures { map string_bytes result.now
+        ≡ past_shared (map string_bytes argument.now) (map string_bytes parameter.now) }
 {
     let mut left = argument;
     let mut open = parameter;
@@ -35,7 +36,8 @@ pub fn past_shared<'a>(argument: &'a [String], parameter: &[String]) -> &'a [Str
 
 // A mark on each of these types.
 fn marked<'a>(alloc: Global, parameter: &'a [String]) -> Result<NameSet<'a>, AllocError>
-    ensures { IfOk result (λ s. (n : Name) → has_mark s n ≡ list_any (bytes_eq n) (map string_bytes parameter.now)) }
+    ensures { IfOk result
+        (λ s. (n : Name) → has_mark s n ≡ list_any (bytes_eq n) (map string_bytes parameter.now)) }
 {
     let mut marks = NameSet::new(alloc);
     for name in parameter {
@@ -56,7 +58,8 @@ fn leads_to_mark<'a>(
     requires table { IsTable places.now (map type_name types.now) }
     requires ranked { list_all (is_ranked types.now ranks.now) (map type_name types.now) ≡ true }
     requires marks { AreMarks types.now (map string_bytes parameter.now) marks.now }
-    ensures { IfSome result (λ b. b ≡ fits types.now (map string_bytes parameter.now) (string_bytes start.now)) }
+    ensures { IfSome result
+        (λ b. b ≡ fits types.now (map string_bytes parameter.now) (string_bytes start.now)) }
 {
     let _ = ranks;
     let _ = parameter;
@@ -87,7 +90,8 @@ fn mark_way<'a>(
     requires table { IsTable places.now (map type_name types.now) }
     requires ranked { list_all (is_ranked types.now ranks.now) (map type_name types.now) ≡ true }
     requires marks { AreMarks types.now (map string_bytes parameter.now) marks.old }
-    requires fits { fits types.now (map string_bytes parameter.now) (string_bytes start.now) ≡ true }
+    requires fits { fits types.now (map string_bytes parameter.now) (string_bytes start.now)
+        ≡ true }
     ensures { OnOk result (AreMarks types.now (map string_bytes parameter.now) marks.new) }
 {
     let _ = ranks;
@@ -120,7 +124,8 @@ pub fn fit_by_marks<'a>(
 ) -> Result<Option<bool>, AllocError>
     requires table { IsTable places.now (map type_name types.now) }
     requires ranked { list_all (is_ranked types.now ranks.now) (map type_name types.now) ≡ true }
-    ensures { IfOk result (λ o. IfSome o (λ b. b ≡ types_fit (map parent_view types.now) (map string_bytes argument.now) (map string_bytes parameter.now))) }
+    ensures { IfOk result (λ o. IfSome o (λ b. b ≡ types_fit (map parent_view types.now)
+        (map string_bytes argument.now) (map string_bytes parameter.now))) }
 {
     let mut marks = marked(alloc, parameter)?;
     for below in argument {

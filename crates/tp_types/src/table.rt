@@ -26,7 +26,8 @@ fn put<'a>(
     name: &'a str,
     place: usize,
 ) -> Result<(), AllocError>
-    ensures { OnOk result ((n : List ℕ) → found places.new n ≡ or_place (found places.old n) name.now place n) }
+    ensures { OnOk result
+        ((n : List ℕ) → found places.new n ≡ or_place (found places.old n) name.now place n) }
 {
     if places.contains_key(name) {
         return Ok(());

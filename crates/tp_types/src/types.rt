@@ -88,7 +88,8 @@ impl<'a> Types<'a> {
 }
 
 fn parent_among<'a>(name: &str, types: &'a [TypeName]) -> Option<&'a String>
-    ensures { option_map (λ p. string_bytes p.now) result ≡ parent_of name.now (map parent_view types.now) }
+    ensures { option_map (λ p. string_bytes p.now) result
+        ≡ parent_of name.now (map parent_view types.now) }
 {
     for declared in types {
         if declared.name.as_str() == name {
@@ -99,7 +100,8 @@ fn parent_among<'a>(name: &str, types: &'a [TypeName]) -> Option<&'a String>
 }
 
 fn parent_of<'a>(name: &str, types: &Types<'a>) -> Option<&'a String>
-    ensures { option_map (λ p. string_bytes p.now) result ≡ parent_of name.now (types_view types.now) }
+    ensures { option_map (λ p. string_bytes p.now) result
+        ≡ parent_of name.now (types_view types.now) }
 {
     match &types.table {
         Some(table) => parent_in(types.declared, &table.places, name),
@@ -109,7 +111,8 @@ fn parent_of<'a>(name: &str, types: &Types<'a>) -> Option<&'a String>
 
 // What a climb by jumps tells, if there is a table: whether a type is another, or stands below it.
 fn climbed(types: &Types, below: &str, above: &str) -> Option<bool>
-    ensures { IfSome result (λ b. b ≡ at_or_below (types_view types.now) (length types.now) below.now above.now) }
+    ensures { IfSome result
+        (λ b. b ≡ at_or_below (types_view types.now) (length types.now) below.now above.now) }
 {
     let Some(table) = &types.table else {
         return None;
@@ -173,7 +176,9 @@ fn is_below(types: &Types, below: &str, above: &str) -> bool
 
 // Whether a type is at or below one of these.
 fn type_fits(types: &Types, below: &str, parameter: &[String]) -> bool
-    ensures { result ≡ list_any (λ p. at_or_below (types_view types.now) (length types.now) below.now p) (map string_bytes parameter.now) }
+    ensures { result
+        ≡ list_any (λ p. at_or_below (types_view types.now) (length types.now) below.now p)
+        (map string_bytes parameter.now) }
 {
     for above in parameter {
         if is_below(types, below, above.as_str()) {
@@ -185,7 +190,8 @@ fn type_fits(types: &Types, below: &str, parameter: &[String]) -> bool
 
 // Whether each of some types is at or below one of these.
 pub fn types_fit(types: &Types, argument: &[String], parameter: &[String]) -> bool
-    ensures { result ≡ types_fit (types_view types.now) (map string_bytes argument.now) (map string_bytes parameter.now) }
+    ensures { result ≡ types_fit
+        (types_view types.now) (map string_bytes argument.now) (map string_bytes parameter.now) }
 {
     for below in argument {
         if !type_fits(types, below.as_str(), parameter) {
@@ -206,7 +212,8 @@ pub fn long_lists_fit(
     argument: &[String],
     parameter: &[String],
 ) -> Result<bool, AllocError>
-    ensures { IfOk result (λ b. b ≡ types_fit (types_view types.now) (map string_bytes argument.now) (map string_bytes parameter.now)) }
+    ensures { IfOk result (λ b. b ≡ types_fit
+        (types_view types.now) (map string_bytes argument.now) (map string_bytes parameter.now)) }
 {
     let rest = past_shared(argument, parameter);
     if rest.len() <= FEW || parameter.len() <= FEW {
@@ -225,7 +232,8 @@ fn fit_by_table(
     argument: &[String],
     parameter: &[String],
 ) -> Result<Option<bool>, AllocError>
-    ensures { IfOk result (λ o. IfSome o (λ b. b ≡ types_fit (types_view types.now) (map string_bytes argument.now) (map string_bytes parameter.now))) }
+    ensures { IfOk result (λ o. IfSome o (λ b. b ≡ types_fit
+        (types_view types.now) (map string_bytes argument.now) (map string_bytes parameter.now))) }
 {
     let Some(table) = &types.table else {
         return Ok(None);

@@ -14,12 +14,14 @@ use Rattle.tp_validate.specs.declared.verdicts.ValidateFault.TheVariants.{Memory
 
 -- the first fault of a plan, by its tick
 abbrev pub IsFirst : Task → List Step → ℕ → Fault → Type 0
-IsFirst t steps tick why = IsFirstFault (scale_of t) (begin t) t.goal (plan_of t steps) tick (told why)
+IsFirst t steps tick why =
+    IsFirstFault (scale_of t) (begin t) t.goal (plan_of t steps) tick (told why)
 
 -- Valid only for a valid plan, and that plan; Invalid only for one that is not, with its first fault and the plan.
 abbrev pub IsVerdict : Task → List Step → Verdict → Type 0
 IsVerdict t steps (Valid v) = (v.task ≡ t) × (v.steps ≡ steps) × IsValidPlan t steps
-IsVerdict t steps (Invalid plan tick why) = (plan ≡ steps) × IsFirst t steps tick why × (¬ IsValidPlan t steps)
+IsVerdict t steps (Invalid plan tick why) =
+    (plan ≡ steps) × IsFirst t steps tick why × (¬ IsValidPlan t steps)
 
 -- A fault hands the plan back; Range comes only where a number passes the limit.
 abbrev pub IsFault : Task → List Step → ValidateFault → Type 0

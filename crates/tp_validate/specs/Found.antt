@@ -21,7 +21,8 @@ told (Duration p) = verdict.Duration p
 told Goal = verdict.Goal
 
 -- There is no fault, and the new state is what the events make of the old one.
-pub record GoesOn (old : Stored) (m : ℕ) (ps : List Planned) (es : List Placed) (new : Stored) : Type 0 where
+pub record GoesOn (old : Stored) (m : ℕ) (ps : List Planned) (es : List Placed)
+    (new : Stored) : Type 0 where
   pub clear : fault_from old.scale (state_of old) m ps es ≡ None
   pub after : state_of new ≡ after_of old.scale (state_of old) (at m es)
   pub task : OfOneTask old new

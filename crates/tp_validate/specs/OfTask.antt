@@ -14,7 +14,9 @@ use Rattle.tp_happen.specs.TaskLabels.{is_durative}
 
 -- a step's action is the task's, and if it is instantaneous the step lasts no tick
 abbrev pub is_step_of : Task → Step → Bool
-is_step_of t s = nat_lt s.action.0 (length t.actions.items) && (is_durative (slice_get t.actions.items s.action.0) || s.duration == 0)
+is_step_of t s =
+    nat_lt s.action.0 (length t.actions.items)
+    && (is_durative (slice_get t.actions.items s.action.0) || s.duration == 0)
 
 abbrev pub IsOfTask : Task → List Step → Type 0
 IsOfTask t steps = list_all (is_step_of t) steps ≡ true
@@ -26,7 +28,8 @@ step_of s b = record { moment = s.tick; duration = s.duration; body = b }
 -- the steps in order, each with what its action does
 abbrev pub planned : List Body → List Step → List Planned
 planned bodies [] = []
-planned bodies (s ∷ ss) = option_to_list (option_map (step_of s) (slice_get bodies s.action.0)) ++ planned bodies ss
+planned bodies (s ∷ ss) =
+    option_to_list (option_map (step_of s) (slice_get bodies s.action.0)) ++ planned bodies ss
 
 abbrev pub plan_of : Task → List Step → List Planned
 plan_of t steps = planned t.actions.items steps

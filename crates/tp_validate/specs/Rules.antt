@@ -10,12 +10,14 @@ use Rattle.tp_happen.specs.Small.{values_small}
 
 -- a comparison of the rule holds for so many ticks
 abbrev pub limit_holds : ℕ → State → ℕ → Limit → Bool
-limit_holds scale s ticks l = compares_values l.how (Some (pos ticks)) (both ◌*ℤ◌ (Some (pos scale)) (value s None l.value))
+limit_holds scale s ticks l =
+    compares_values l.how (Some (pos ticks)) (both ◌*ℤ◌ (Some (pos scale)) (value s None l.value))
 
 -- the expressions of an action's duration rule are small
 abbrev pub start_small : State → Body → Bool
 start_small s (Instant e) = true
-start_small s (Durative start end invariant) = list_all (λ l. values_small s None l.value) start.rule.items
+start_small s (Durative start end invariant) =
+    list_all (λ l. values_small s None l.value) start.rule.items
 
 -- those of a step, if it starts at the moment
 abbrev pub rule_small_at : State → ℕ → Planned → Bool

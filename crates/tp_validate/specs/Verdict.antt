@@ -20,7 +20,8 @@ pub record IsSound (t : Task) (steps : List Step) : Type 0 where
 pub record PassesIn (t : Task) (steps : List Step) : Type 0 where
   pub moment : ℕ
   pub before : (k : ℕ) → k < moment → fault_in t steps k ≡ None
-  pub passes : PassesAt (scale_of t) (state_at t steps moment) moment (plan_of t steps) (events_of t steps)
+  pub passes :
+      PassesAt (scale_of t) (state_at t steps moment) moment (plan_of t steps) (events_of t steps)
       ⊎ (((k : ℕ) → fault_in t steps k ≡ None) × (all_small (last_state t steps) t.goal ≡ false))
 
 -- What is known of a validated plan: it is of its task, and it is sound.

@@ -37,7 +37,8 @@ fn count_until(agenda: &[PlacedEvent<'_>], moment: u32) -> usize
 /// The first tick of an agenda, None if it has no event.
 pub fn next_tick<'a, 't>(agenda: &'a [PlacedEvent<'t>]) -> Option<Tick<'a, 't>>
     requires { IsNonDecreasingBy (λ e. e.moment) agenda.now }
-    ensures { MatchOption result (agenda.now ≡ []) (λ t. IsNextTick agenda.now t.moment t.there.now) }
+    ensures { MatchOption result
+        (agenda.now ≡ []) (λ t. IsNextTick agenda.now t.moment t.there.now) }
 {
     let moment = agenda.first()?.moment();
     let (there, _) = agenda.split_at(count_until(agenda, moment));

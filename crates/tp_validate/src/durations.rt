@@ -30,7 +30,8 @@ pub fn in_ticks(scale: Scale, units: i64) -> i64
 }
 
 fn limit_holds(state: &State, ticks: u32, limit: &Limit) -> Result<bool, Range>
-    ensures ok { IfOk result (λ r. r ≡ limit_holds state.now.scale (state_of state.now) ticks limit.now) }
+    ensures ok { IfOk result
+        (λ r. r ≡ limit_holds state.now.scale (state_of state.now) ticks limit.now) }
     ensures err { OnErr result (values_small (state_of state.now) None limit.now.value ≡ false) }
 {
     match value(state, None, &limit.value)? {
@@ -40,8 +41,10 @@ fn limit_holds(state: &State, ticks: u32, limit: &Limit) -> Result<bool, Range>
 }
 
 fn limits_hold(state: &State, ticks: u32, rule: &[Limit]) -> Result<bool, Range>
-    ensures ok { IfOk result (λ r. r ≡ list_all (limit_holds state.now.scale (state_of state.now) ticks) rule.now) }
-    ensures err { OnErr result (list_all (λ l. values_small (state_of state.now) None l.value) rule.now ≡ false) }
+    ensures ok { IfOk result
+        (λ r. r ≡ list_all (limit_holds state.now.scale (state_of state.now) ticks) rule.now) }
+    ensures err { OnErr result
+        (list_all (λ l. values_small (state_of state.now) None l.value) rule.now ≡ false) }
 {
     for limit in rule {
         if !limit_holds(state, ticks, limit)? {
@@ -53,8 +56,10 @@ fn limits_hold(state: &State, ticks: u32, rule: &[Limit]) -> Result<bool, Range>
 
 // Whether so many ticks are at least one, and keep the rule.
 fn is_lawful(state: &State, ticks: u32, rule: &[Limit]) -> Result<bool, Range>
-    ensures ok { IfOk result (λ r. r ≡ (nat_le 1 ticks && list_all (limit_holds state.now.scale (state_of state.now) ticks) rule.now)) }
-    ensures err { OnErr result (list_all (λ l. values_small (state_of state.now) None l.value) rule.now ≡ false) }
+    ensures ok { IfOk result (λ r. r ≡ (nat_le 1 ticks
+        && list_all (limit_holds state.now.scale (state_of state.now) ticks) rule.now)) }
+    ensures err { OnErr result
+        (list_all (λ l. values_small (state_of state.now) None l.value) rule.now ≡ false) }
 {
     let holds = limits_hold(state, ticks, rule)?;
     Ok(1 <= ticks && holds)
@@ -62,7 +67,8 @@ fn is_lawful(state: &State, ticks: u32, rule: &[Limit]) -> Result<bool, Range>
 
 // Whether the rule has values, and the ticks are none or break it.
 fn is_unlawful(state: &State, ticks: u32, body: &Body) -> Result<bool, Range>
-    ensures ok { IfOk result (λ r. r ≡ verdict.is_unlawful state.now.scale (state_of state.now) ticks body.now) }
+    ensures ok { IfOk result
+        (λ r. r ≡ verdict.is_unlawful state.now.scale (state_of state.now) ticks body.now) }
     ensures err { OnErr result (start_small (state_of state.now) body.now ≡ false) }
 {
     match body {
@@ -83,9 +89,12 @@ fn unlawful_among(
     steps: &[PlannedStep<'_>],
     moment: u32,
 ) -> Result<Option<usize>, Range>
-    ensures ok { IfOk result (λ r. r ≡ position_from (λ p. (p.moment == moment) && verdict.is_unlawful state.now.scale (state_of state.now) p.duration p.body) 0 steps.now) }
+    ensures ok { IfOk result
+        (λ r. r ≡ position_from (λ p. (p.moment == moment) && verdict.is_unlawful state.now.scale
+        (state_of state.now) p.duration p.body) 0 steps.now) }
     ensures place { IfOk result (λ r. IfSome r (λ i. i < length steps.now)) }
-    ensures err { OnErr result (list_all (rule_small_at (state_of state.now) moment) steps.now ≡ false) }
+    ensures err { OnErr result
+        (list_all (rule_small_at (state_of state.now) moment) steps.now ≡ false) }
 {
     for (i, step) in steps.iter().enumerate() {
         if step.tick == moment && is_unlawful(state, step.duration, step.body)? {
@@ -104,9 +113,12 @@ pub fn first_unlawful(
     moment: u32,
 ) -> Result<Option<usize>, Range>
     requires starting { starting_at moment starting.now ≡ starting_at moment steps.now }
-    ensures ok { IfOk result (λ r. r ≡ position_from (λ p. (p.moment == moment) && verdict.is_unlawful state.now.scale (state_of state.now) p.duration p.body) 0 steps.now) }
+    ensures ok { IfOk result
+        (λ r. r ≡ position_from (λ p. (p.moment == moment) && verdict.is_unlawful state.now.scale
+        (state_of state.now) p.duration p.body) 0 steps.now) }
     ensures place { IfOk result (λ r. IfSome r (λ i. i < length steps.now)) }
-    ensures err { OnErr result (list_all (rule_small_at (state_of state.now) moment) steps.now ≡ false) }
+    ensures err { OnErr result
+        (list_all (rule_small_at (state_of state.now) moment) steps.now ≡ false) }
 {
     match unlawful_among(state, starting, moment)? {
         Some(_) => unlawful_among(state, steps, moment),

@@ -78,7 +78,13 @@ impl<'t> Model for PlacedEvent<'t> {
 
     ghost coded = { Prim.hlevel (codes, ground_event.the_row.coded) };
 
-    ghost view = { λ e. record { number = e.number; first = e.first; last = e.last; moment = e.moment; timed = record { event = e.event.now; ticks = e.ticks } } };
+    ghost view = { λ e. record {
+      number = e.number;
+      first = e.first;
+      last = e.last;
+      moment = e.moment;
+      timed = record { event = e.event.now; ticks = e.ticks };
+    } };
 }
 
 impl<'t> PlacedEvent<'t> {
@@ -155,7 +161,8 @@ fn place<'t>(
 ) -> Result<u16, AllocError>
     requires room { next ≤ 1022 }
     requires ends { step.now.moment + step.now.duration ≤ 1000000000 }
-    ensures events { OnOk result (events.new.items ≡ events.old.items ++ events_of next step.now step.now.body) }
+    ensures events { OnOk result
+        (events.new.items ≡ events.old.items ++ events_of next step.now step.now.body) }
     ensures next { IfOk result (λ n. n ≡ next + count_of step.now.body) }
     ensures few { IfOk result (λ n. n ≤ next + 2) }
 {

@@ -33,7 +33,8 @@ pub fn go_on<'t>(
     starting: &[PlannedStep<'t>],
     moment: u32,
 ) -> Result<(), AllocError>
-    ensures { OnOk result (running.new.items ≡ filter (λ p. nat_lt moment (p.moment + p.duration)) (running.old.items ++ starting.now)) }
+    ensures { OnOk result (running.new.items
+        ≡ filter (λ p. nat_lt moment (p.moment + p.duration)) (running.old.items ++ starting.now)) }
 {
     for step in starting {
         running.push(step.again())?;

@@ -51,8 +51,10 @@ fn named(there: &[PlacedEvent<'_>], place: usize, why: Why) -> Fault
 
 // Whether a step's invariant runs past a moment and does not hold after it.
 fn is_broken(after: &State, step: &PlannedStep<'_>, moment: u32) -> Result<bool, Range>
-    ensures ok { IfOk result (λ r. r ≡ verdict.is_broken (state_of after.now) moment step.now step.now.body) }
-    ensures err { OnErr result (invariant_small (state_of after.now) moment step.now step.now.body ≡ false) }
+    ensures ok { IfOk result
+        (λ r. r ≡ verdict.is_broken (state_of after.now) moment step.now step.now.body) }
+    ensures err { OnErr result
+        (invariant_small (state_of after.now) moment step.now step.now.body ≡ false) }
 {
     let tick = step.tick;
     let duration = step.duration;
@@ -73,9 +75,11 @@ fn broken_among(
     steps: &[PlannedStep<'_>],
     moment: u32,
 ) -> Result<Option<usize>, Range>
-    ensures ok { IfOk result (λ r. r ≡ position_from (λ p. verdict.is_broken (state_of after.now) moment p p.body) 0 steps.now) }
+    ensures ok { IfOk result (λ r. r
+        ≡ position_from (λ p. verdict.is_broken (state_of after.now) moment p p.body) 0 steps.now) }
     ensures place { IfOk result (λ r. IfSome r (λ i. i < length steps.now)) }
-    ensures err { OnErr result (list_all (λ p. invariant_small (state_of after.now) moment p p.body) steps.now ≡ false) }
+    ensures err { OnErr result
+        (list_all (λ p. invariant_small (state_of after.now) moment p p.body) steps.now ≡ false) }
 {
     for (i, step) in steps.iter().enumerate() {
         if is_broken(after, step, moment)? {
@@ -94,9 +98,11 @@ fn first_broken(
     moment: u32,
 ) -> Result<Option<usize>, Range>
     requires running { IsRunning steps.now (moment + 1) running.now }
-    ensures ok { IfOk result (λ r. r ≡ position_from (λ p. verdict.is_broken (state_of after.now) moment p p.body) 0 steps.now) }
+    ensures ok { IfOk result (λ r. r
+        ≡ position_from (λ p. verdict.is_broken (state_of after.now) moment p p.body) 0 steps.now) }
     ensures place { IfOk result (λ r. IfSome r (λ i. i < length steps.now)) }
-    ensures err { OnErr result (list_all (λ p. invariant_small (state_of after.now) moment p p.body) steps.now ≡ false) }
+    ensures err { OnErr result
+        (list_all (λ p. invariant_small (state_of after.now) moment p p.body) steps.now ≡ false) }
 {
     match broken_among(after, running, moment)? {
         Some(_) => broken_among(after, steps, moment),
@@ -120,7 +126,8 @@ pub fn judge_tick(
     requires there { there.now ≡ here moment (events steps.now) }
     requires fits { list_all (fits_in state.now) (at moment (events steps.now)) ≡ true }
     ensures found { IfOk result (IsFound state.now moment steps.now (events steps.now)) }
-    ensures range { IfErr result (λ e. OnRange e (PassesAt state.now.scale (state_of state.now) moment steps.now (events steps.now))) }
+    ensures range { IfErr result (λ e. OnRange e
+        (PassesAt state.now.scale (state_of state.now) moment steps.now (events steps.now))) }
 {
     if let Some(step) = first_unlawful(state, steps, starting, moment)? {
         return Ok(Judged::Faulty(Fault::Duration(step as u16)));

@@ -103,7 +103,8 @@ fn run(
     requires few { length steps.now ≤ 512 }
     requires roster { IsRoster steps.now 0 roster.now }
     requires agenda { IsAgenda (events steps.now) 0 agenda.now }
-    requires fits { list_all (λ p. body_fits (length task.now.initial_atoms.items) (length task.now.initial_numbers.items) p.body) steps.now ≡ true }
+    requires fits { list_all (λ p. body_fits (length task.now.initial_atoms.items)
+        (length task.now.initial_numbers.items) p.body) steps.now ≡ true }
     requires ends { last_moment (events steps.now) ≤ 1000000000 }
     ensures ran { IfOk result (IsRan task.now steps.now) }
     ensures range { IfErr result (λ e. OnRange e (PassesBy task.now steps.now)) }
@@ -169,7 +170,8 @@ fn carry_out(alloc: Global, task: &Task, steps: &[Step]) -> Result<Ran, ApplyFau
 // The tick of the first fault and why, None for a plan that has none.
 fn judge(alloc: Global, task: &Task, steps: &[Step]) -> Result<Option<(u32, Fault)>, ApplyFault>
     requires { IsPlan steps.now }
-    ensures ok { IfOk result (λ r. MatchOption r (IsSound task.now steps.now) (λ f. IsFirst task.now steps.now f.0 f.1)) }
+    ensures ok { IfOk result (λ r.
+        MatchOption r (IsSound task.now steps.now) (λ f. IsFirst task.now steps.now f.0 f.1)) }
     ensures range { IfErr result (λ e. OnRange e (PassesIn task.now steps.now)) }
 {
     match carry_out(alloc, task, steps)? {

@@ -35,7 +35,8 @@ struct Changes {
 }
 
 fn split(alloc: Global, outcomes: Vec<NumberedOutcome>) -> Result<Changes, AllocError>
-    ensures { IfOk result (λ s. AreSplit outcomes.items s.adds.items s.deletes.items s.writes.items) }
+    ensures { IfOk result
+        (λ s. AreSplit outcomes.items s.adds.items s.deletes.items s.writes.items) }
 {
     let mut adds = Vec::new(alloc);
     let mut deletes = Vec::new(alloc);
@@ -61,7 +62,9 @@ fn event(
     outcomes: Vec<NumberedOutcome>,
     rule: Vec<Limit>,
 ) -> Result<GroundEvent, AllocError>
-    ensures { IfOk result (λ e. (t : Tables) → named_event t e ≡ happening (named_condition t condition) (map (named_outcome t) outcomes.items) (map (named_limit t) rule.items)) }
+    ensures { IfOk result
+        (λ e. (t : Tables) → named_event t e ≡ happening (named_condition t condition)
+        (map (named_outcome t) outcomes.items) (map (named_limit t) rule.items)) }
 {
     let Changes {
         adds,
@@ -86,7 +89,10 @@ fn condition_at(
     numbering: &mut Numbering,
     condition: &TimedCond,
 ) -> Result<Cond, GroundFault>
-    ensures { Lowers named_condition numbering.old result numbering.new (condition_at (universe_view universe.now) mark (env_view env.now) (timed_condition_view condition.now)) (of_condition (condition_at (universe_view universe.now) mark (env_view env.now) (timed_condition_view condition.now))) }
+    ensures { Lowers named_condition numbering.old result numbering.new (condition_at
+        (universe_view universe.now) mark (env_view env.now) (timed_condition_view condition.now))
+        (of_condition (condition_at (universe_view universe.now) mark
+        (env_view env.now) (timed_condition_view condition.now))) }
 {
     Ok(Cond::And(joined(alloc, universe, env, mark, numbering, condition)?))
 }
@@ -100,7 +106,11 @@ fn start(
     condition: &TimedCond,
     effect: &TimedEffect,
 ) -> Result<GroundEvent, GroundFault>
-    ensures { Lowers named_event numbering.old result numbering.new (start_in (universe_view universe.now) (env_view env.now) (rule_view duration.now) (timed_condition_view condition.now) (timed_effect_view effect.now)) (of_start (universe_view universe.now) (env_view env.now) (rule_view duration.now) (timed_condition_view condition.now) (timed_effect_view effect.now)) }
+    ensures { Lowers named_event numbering.old result numbering.new
+        (start_in (universe_view universe.now) (env_view env.now) (rule_view duration.now)
+        (timed_condition_view condition.now) (timed_effect_view effect.now))
+        (of_start (universe_view universe.now) (env_view env.now) (rule_view duration.now)
+        (timed_condition_view condition.now) (timed_effect_view effect.now)) }
 {
     let condition = condition_at(alloc, universe, env, Mark::AtStart, numbering, condition)?;
     let outcomes = joined(alloc, universe, env, Mark::AtStart, numbering, effect)?;
@@ -116,7 +126,10 @@ fn end(
     condition: &TimedCond,
     effect: &TimedEffect,
 ) -> Result<GroundEvent, GroundFault>
-    ensures { Lowers named_event numbering.old result numbering.new (end_in (universe_view universe.now) (env_view env.now) (timed_condition_view condition.now) (timed_effect_view effect.now)) (of_end (universe_view universe.now) (env_view env.now) (timed_condition_view condition.now) (timed_effect_view effect.now)) }
+    ensures { Lowers named_event numbering.old result numbering.new
+        (end_in (universe_view universe.now) (env_view env.now) (timed_condition_view condition.now)
+        (timed_effect_view effect.now)) (of_end (universe_view universe.now)
+        (env_view env.now) (timed_condition_view condition.now) (timed_effect_view effect.now)) }
 {
     let condition = condition_at(alloc, universe, env, Mark::AtEnd, numbering, condition)?;
     let outcomes = joined(alloc, universe, env, Mark::AtEnd, numbering, effect)?;
@@ -131,7 +144,10 @@ fn instant(
     precondition: &tp_syntax::Cond,
     effect: &Effect,
 ) -> Result<GroundEvent, GroundFault>
-    ensures { Lowers named_event numbering.old result numbering.new (instant_in (universe_view universe.now) (env_view env.now) (cond_view precondition.now) (effect_view effect.now)) (of_instant (universe_view universe.now) (env_view env.now) (cond_view precondition.now) (effect_view effect.now)) }
+    ensures { Lowers named_event numbering.old result numbering.new
+        (instant_in (universe_view universe.now) (env_view env.now) (cond_view precondition.now)
+        (effect_view effect.now)) (of_instant (universe_view universe.now)
+        (env_view env.now) (cond_view precondition.now) (effect_view effect.now)) }
 {
     let condition = condition(alloc, universe, env, numbering, precondition)?;
     let outcomes = joined(alloc, universe, env, Mark::AtStart, numbering, effect)?;
@@ -154,7 +170,15 @@ fn ends_of(
     condition: &TimedCond,
     effect: &TimedEffect,
 ) -> Result<Ends, GroundFault>
-    ensures { Lowers named_ends numbering.old result numbering.new (start_in (universe_view universe.now) (env_view env.now) (rule_view duration.now) (timed_condition_view condition.now) (timed_effect_view effect.now), end_in (universe_view universe.now) (env_view env.now) (timed_condition_view condition.now) (timed_effect_view effect.now)) (of_start (universe_view universe.now) (env_view env.now) (rule_view duration.now) (timed_condition_view condition.now) (timed_effect_view effect.now) then of_end (universe_view universe.now) (env_view env.now) (timed_condition_view condition.now) (timed_effect_view effect.now)) }
+    ensures { Lowers named_ends numbering.old result numbering.new (
+      start_in (universe_view universe.now) (env_view env.now) (rule_view duration.now)
+          (timed_condition_view condition.now) (timed_effect_view effect.now),
+      end_in (universe_view universe.now) (env_view env.now) (timed_condition_view condition.now)
+          (timed_effect_view effect.now),
+    ) (of_start (universe_view universe.now) (env_view env.now)
+        (rule_view duration.now) (timed_condition_view condition.now) (timed_effect_view effect.now)
+        then of_end (universe_view universe.now)
+        (env_view env.now) (timed_condition_view condition.now) (timed_effect_view effect.now)) }
 {
     let first = start(alloc, universe, env, numbering, duration, condition, effect)?;
     let last = end(alloc, universe, env, numbering, condition, effect)?;
@@ -171,7 +195,11 @@ fn durative(
     condition: &TimedCond,
     effect: &TimedEffect,
 ) -> Result<Body, GroundFault>
-    ensures { Lowers named_body numbering.old result numbering.new (body_in (universe_view universe.now) (env_view env.now) (durative (rule_view duration.now) (timed_condition_view condition.now) (timed_effect_view effect.now))) (of_body (universe_view universe.now) (env_view env.now) (durative (rule_view duration.now) (timed_condition_view condition.now) (timed_effect_view effect.now))) }
+    ensures { Lowers named_body numbering.old result numbering.new
+        (body_in (universe_view universe.now) (env_view env.now) (durative (rule_view duration.now)
+        (timed_condition_view condition.now) (timed_effect_view effect.now)))
+        (of_body (universe_view universe.now) (env_view env.now) (durative (rule_view duration.now)
+        (timed_condition_view condition.now) (timed_effect_view effect.now))) }
 {
     let ends = ends_of(alloc, universe, env, numbering, duration, condition, effect)?;
     let between = condition_at(alloc, universe, env, Mark::OverAll, numbering, condition)?;
@@ -186,7 +214,9 @@ pub fn body(
     numbering: &mut Numbering,
     body: &tp_syntax::Body,
 ) -> Result<Body, GroundFault>
-    ensures { Lowers named_body numbering.old result numbering.new (body_in (universe_view universe.now) (env_view env.now) (body_view body.now)) (of_body (universe_view universe.now) (env_view env.now) (body_view body.now)) }
+    ensures { Lowers named_body numbering.old result numbering.new
+        (body_in (universe_view universe.now) (env_view env.now) (body_view body.now))
+        (of_body (universe_view universe.now) (env_view env.now) (body_view body.now)) }
 {
     match body {
         tp_syntax::Body::Instant {

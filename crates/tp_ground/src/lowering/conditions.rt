@@ -31,7 +31,9 @@ pub fn atom(
     numbering: &mut Numbering,
     atom: &Atom,
 ) -> Result<u32, GroundFault>
-    ensures { Lowers (λ t i. words_at t.atoms i) numbering.old result numbering.new (words_in (env_view env.now) (atom_view atom.now)) (an_atom (words_in (env_view env.now) (atom_view atom.now))) }
+    ensures { Lowers (λ t i. words_at t.atoms i) numbering.old result numbering.new
+        (words_in (env_view env.now) (atom_view atom.now))
+        (an_atom (words_in (env_view env.now) (atom_view atom.now))) }
 {
     let words = words_in(alloc, env, atom)?;
     numbering.atom(&words)
@@ -43,7 +45,9 @@ fn fact(
     numbering: &mut Numbering,
     fact: &Atom,
 ) -> Result<Cond, GroundFault>
-    ensures { Lowers named_condition numbering.old result numbering.new (cond_atom (words_in (env_view env.now) (atom_view fact.now))) (an_atom (words_in (env_view env.now) (atom_view fact.now))) }
+    ensures { Lowers named_condition numbering.old result numbering.new
+        (cond_atom (words_in (env_view env.now) (atom_view fact.now)))
+        (an_atom (words_in (env_view env.now) (atom_view fact.now))) }
 {
     let number = atom(alloc, env, numbering, fact)?;
     Ok(Cond::Atom(number))
@@ -51,7 +55,8 @@ fn fact(
 
 // An equality of objects: the empty conjunction holds, the empty disjunction doesn't.
 fn same(alloc: Global, env: &Env, left: &Term, right: &Term) -> Cond
-    ensures { (t : Tables) → named_condition t result ≡ same_in (env_view env.now) (term_view left.now) (term_view right.now) }
+    ensures { (t : Tables) → named_condition t result
+        ≡ same_in (env_view env.now) (term_view left.now) (term_view right.now) }
 {
     if object_for(env, left) == object_for(env, right) {
         Cond::And(Vec::new(alloc))
@@ -68,7 +73,9 @@ fn compared(
     left: &Expr,
     right: &Expr,
 ) -> Result<Cond, GroundFault>
-    ensures { Lowers named_condition numbering.old result numbering.new (compared_in (env_view env.now) comparison (expr_view left.now) (expr_view right.now)) (of_condition (compared_in (env_view env.now) comparison (expr_view left.now) (expr_view right.now))) }
+    ensures { Lowers named_condition numbering.old result numbering.new (compared_in
+        (env_view env.now) comparison (expr_view left.now) (expr_view right.now)) (of_condition
+        (compared_in (env_view env.now) comparison (expr_view left.now) (expr_view right.now))) }
 {
     let x = expression(alloc, env, numbering, left)?;
     let y = expression(alloc, env, numbering, right)?;
@@ -77,7 +84,8 @@ fn compared(
 
 // One of two.
 fn either(alloc: Global, first: Cond, second: Cond) -> Result<Cond, AllocError>
-    ensures { IfOk result (λ c. (t : Tables) → named_condition t c ≡ either (named_condition t first) (named_condition t second)) }
+    ensures { IfOk result (λ c. (t : Tables)
+        → named_condition t c ≡ either (named_condition t first) (named_condition t second)) }
 {
     let mut conds = Vec::with_capacity(alloc, 2)?;
     conds.push(first)?;
@@ -93,7 +101,10 @@ fn conditions(
     numbering: &mut Numbering,
     conds: &[tp_syntax::Cond],
 ) -> Result<Vec<Cond>, GroundFault>
-    ensures { Lowers (λ t v. map (named_condition t) v.items) numbering.old result numbering.new (map (λ c. condition_in (universe_view universe.now) (env_view env.now) (cond_view c)) conds.now) (of_each of_condition (map (λ c. condition_in (universe_view universe.now) (env_view env.now) (cond_view c)) conds.now)) }
+    ensures { Lowers (λ t v. map (named_condition t) v.items) numbering.old result numbering.new
+        (map (λ c. condition_in (universe_view universe.now) (env_view env.now) (cond_view c))
+        conds.now) (of_each of_condition (map (λ c.
+        condition_in (universe_view universe.now) (env_view env.now) (cond_view c)) conds.now)) }
 {
     let mut lowered = Vec::with_capacity(alloc, conds.len())?;
     for cond in conds {
@@ -112,7 +123,12 @@ fn under_each(
     variables: &[Typed],
     cond: &tp_syntax::Cond,
 ) -> Result<Vec<Cond>, GroundFault>
-    ensures { Lowers (λ t v. map (named_condition t) v.items) numbering.old result numbering.new (map (λ e. condition_in (universe_view universe.now) e (cond_view cond.now)) (inner (universe_view universe.now) (env_view env.now) (map typed_view variables.now))) (of_each of_condition (map (λ e. condition_in (universe_view universe.now) e (cond_view cond.now)) (inner (universe_view universe.now) (env_view env.now) (map typed_view variables.now)))) }
+    ensures { Lowers (λ t v. map (named_condition t) v.items) numbering.old result numbering.new
+        (map (λ e. condition_in (universe_view universe.now) e (cond_view cond.now))
+        (inner (universe_view universe.now) (env_view env.now) (map typed_view variables.now)))
+        (of_each of_condition
+        (map (λ e. condition_in (universe_view universe.now) e (cond_view cond.now))
+        (inner (universe_view universe.now) (env_view env.now) (map typed_view variables.now)))) }
 {
     let mut rows = rows_of(alloc, universe, variables)?;
     let mut lowered = Vec::with_capacity(alloc, rows.count)?;
@@ -132,7 +148,9 @@ fn negated(
     numbering: &mut Numbering,
     cond: &tp_syntax::Cond,
 ) -> Result<Cond, GroundFault>
-    ensures { Lowers named_condition numbering.old result numbering.new (negation (condition_in (universe_view universe.now) (env_view env.now) (cond_view cond.now))) (of_condition (condition_in (universe_view universe.now) (env_view env.now) (cond_view cond.now))) }
+    ensures { Lowers named_condition numbering.old result numbering.new (negation (condition_in
+        (universe_view universe.now) (env_view env.now) (cond_view cond.now))) (of_condition
+        (condition_in (universe_view universe.now) (env_view env.now) (cond_view cond.now))) }
 {
     let lowered = condition(alloc, universe, env, numbering, cond)?;
     Ok(Cond::Not(Box::new(alloc, lowered)?))
@@ -146,7 +164,11 @@ fn conjunction(
     numbering: &mut Numbering,
     conds: &[tp_syntax::Cond],
 ) -> Result<Cond, GroundFault>
-    ensures { Lowers named_condition numbering.old result numbering.new (all_of (conditions_from (map (λ c. condition_in (universe_view universe.now) (env_view env.now) (cond_view c)) conds.now))) (of_condition (all_of (conditions_from (map (λ c. condition_in (universe_view universe.now) (env_view env.now) (cond_view c)) conds.now)))) }
+    ensures { Lowers named_condition numbering.old result numbering.new
+        (all_of (conditions_from (map (λ c.
+        condition_in (universe_view universe.now) (env_view env.now) (cond_view c)) conds.now)))
+        (of_condition (all_of (conditions_from (map (λ c.
+        condition_in (universe_view universe.now) (env_view env.now) (cond_view c)) conds.now)))) }
 {
     Ok(Cond::And(conditions(alloc, universe, env, numbering, conds)?))
 }
@@ -159,7 +181,11 @@ fn disjunction(
     numbering: &mut Numbering,
     conds: &[tp_syntax::Cond],
 ) -> Result<Cond, GroundFault>
-    ensures { Lowers named_condition numbering.old result numbering.new (any_of (conditions_from (map (λ c. condition_in (universe_view universe.now) (env_view env.now) (cond_view c)) conds.now))) (of_condition (any_of (conditions_from (map (λ c. condition_in (universe_view universe.now) (env_view env.now) (cond_view c)) conds.now)))) }
+    ensures { Lowers named_condition numbering.old result numbering.new
+        (any_of (conditions_from (map (λ c.
+        condition_in (universe_view universe.now) (env_view env.now) (cond_view c)) conds.now)))
+        (of_condition (any_of (conditions_from (map (λ c.
+        condition_in (universe_view universe.now) (env_view env.now) (cond_view c)) conds.now)))) }
 {
     Ok(Cond::Or(conditions(alloc, universe, env, numbering, conds)?))
 }
@@ -173,7 +199,12 @@ fn for_all(
     variables: &[Typed],
     cond: &tp_syntax::Cond,
 ) -> Result<Cond, GroundFault>
-    ensures { Lowers named_condition numbering.old result numbering.new (all_of (conditions_from (map (λ e. condition_in (universe_view universe.now) e (cond_view cond.now)) (inner (universe_view universe.now) (env_view env.now) (map typed_view variables.now))))) (of_condition (all_of (conditions_from (map (λ e. condition_in (universe_view universe.now) e (cond_view cond.now)) (inner (universe_view universe.now) (env_view env.now) (map typed_view variables.now)))))) }
+    ensures { Lowers named_condition numbering.old result numbering.new (all_of (conditions_from
+        (map (λ e. condition_in (universe_view universe.now) e (cond_view cond.now))
+        (inner (universe_view universe.now) (env_view env.now) (map typed_view variables.now)))))
+        (of_condition (all_of (conditions_from
+        (map (λ e. condition_in (universe_view universe.now) e (cond_view cond.now))
+        (inner (universe_view universe.now) (env_view env.now) (map typed_view variables.now)))))) }
 {
     Ok(Cond::And(under_each(alloc, universe, env, numbering, variables, cond)?))
 }
@@ -187,7 +218,12 @@ fn for_some(
     variables: &[Typed],
     cond: &tp_syntax::Cond,
 ) -> Result<Cond, GroundFault>
-    ensures { Lowers named_condition numbering.old result numbering.new (any_of (conditions_from (map (λ e. condition_in (universe_view universe.now) e (cond_view cond.now)) (inner (universe_view universe.now) (env_view env.now) (map typed_view variables.now))))) (of_condition (any_of (conditions_from (map (λ e. condition_in (universe_view universe.now) e (cond_view cond.now)) (inner (universe_view universe.now) (env_view env.now) (map typed_view variables.now)))))) }
+    ensures { Lowers named_condition numbering.old result numbering.new (any_of (conditions_from
+        (map (λ e. condition_in (universe_view universe.now) e (cond_view cond.now))
+        (inner (universe_view universe.now) (env_view env.now) (map typed_view variables.now)))))
+        (of_condition (any_of (conditions_from
+        (map (λ e. condition_in (universe_view universe.now) e (cond_view cond.now))
+        (inner (universe_view universe.now) (env_view env.now) (map typed_view variables.now)))))) }
 {
     Ok(Cond::Or(under_each(alloc, universe, env, numbering, variables, cond)?))
 }
@@ -201,7 +237,9 @@ pub fn condition(
     numbering: &mut Numbering,
     cond: &tp_syntax::Cond,
 ) -> Result<Cond, GroundFault>
-    ensures { Lowers named_condition numbering.old result numbering.new (condition_in (universe_view universe.now) (env_view env.now) (cond_view cond.now)) (of_condition (condition_in (universe_view universe.now) (env_view env.now) (cond_view cond.now))) }
+    ensures { Lowers named_condition numbering.old result numbering.new (condition_in
+        (universe_view universe.now) (env_view env.now) (cond_view cond.now)) (of_condition
+        (condition_in (universe_view universe.now) (env_view env.now) (cond_view cond.now))) }
 {
     match cond {
         tp_syntax::Cond::And(conds) => conjunction(alloc, universe, env, numbering, conds),

@@ -53,7 +53,9 @@ fn write(
     atom: &Atom,
     value: &Expr,
 ) -> Result<NumberedOutcome, GroundFault>
-    ensures { Lowers named_outcome numbering.old result numbering.new (outcome_in (env_view env.now) (writes writing (atom_view atom.now) (expr_view value.now))) (of_outcome (outcome_in (env_view env.now) (writes writing (atom_view atom.now) (expr_view value.now)))) }
+    ensures { Lowers named_outcome numbering.old result numbering.new (outcome_in (env_view env.now)
+        (writes writing (atom_view atom.now) (expr_view value.now))) (of_outcome (outcome_in
+        (env_view env.now) (writes writing (atom_view atom.now) (expr_view value.now)))) }
 {
     let fluent = fluent(alloc, env, numbering, atom)?;
     let value = expression(alloc, env, numbering, value)?;
@@ -70,7 +72,9 @@ fn outcome(
     numbering: &mut Numbering,
     outcome: &Outcome,
 ) -> Result<NumberedOutcome, GroundFault>
-    ensures { Lowers named_outcome numbering.old result numbering.new (outcome_in (env_view env.now) (outcome_view outcome.now)) (of_outcome (outcome_in (env_view env.now) (outcome_view outcome.now))) }
+    ensures { Lowers named_outcome numbering.old result numbering.new
+        (outcome_in (env_view env.now) (outcome_view outcome.now))
+        (of_outcome (outcome_in (env_view env.now) (outcome_view outcome.now))) }
 {
     match outcome {
         Outcome::Add(added) => {
@@ -103,7 +107,10 @@ fn conjunct(
     numbering: &mut Numbering,
     cond: &tp_syntax::Cond,
 ) -> Result<Vec<Cond>, GroundFault>
-    ensures { Lowers (λ t v. map (named_condition t) v.items) numbering.old result numbering.new (condition_in (universe_view universe.now) (env_view env.now) (cond_view cond.now) ∷ []) (of_each of_condition (condition_in (universe_view universe.now) (env_view env.now) (cond_view cond.now) ∷ [])) }
+    ensures { Lowers (λ t v. map (named_condition t) v.items) numbering.old result numbering.new
+        (condition_in (universe_view universe.now) (env_view env.now) (cond_view cond.now) ∷ [])
+        (of_each of_condition
+        (condition_in (universe_view universe.now) (env_view env.now) (cond_view cond.now) ∷ [])) }
 {
     let mut one = Vec::with_capacity(alloc, 1)?;
     one.push(condition(alloc, universe, env, numbering, cond)?)?;

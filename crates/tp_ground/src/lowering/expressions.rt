@@ -38,7 +38,9 @@ pub fn fluent(
     numbering: &mut Numbering,
     atom: &Atom,
 ) -> Result<u32, GroundFault>
-    ensures { Lowers (λ t i. words_at t.fluents i) numbering.old result numbering.new (words_in (env_view env.now) (atom_view atom.now)) (a_fluent (words_in (env_view env.now) (atom_view atom.now))) }
+    ensures { Lowers (λ t i. words_at t.fluents i) numbering.old result numbering.new
+        (words_in (env_view env.now) (atom_view atom.now))
+        (a_fluent (words_in (env_view env.now) (atom_view atom.now))) }
 {
     let words = words_in(alloc, env, atom)?;
     numbering.fluent(&words)
@@ -51,7 +53,9 @@ fn operand(
     numbering: &mut Numbering,
     expr: &tp_syntax::Expr,
 ) -> Result<Box<Expr>, GroundFault>
-    ensures { Lowers (λ t b. named_expression t b.value) numbering.old result numbering.new (expression_in (env_view env.now) (expr_view expr.now)) (of_expression (expression_in (env_view env.now) (expr_view expr.now))) }
+    ensures { Lowers (λ t b. named_expression t b.value) numbering.old result numbering.new
+        (expression_in (env_view env.now) (expr_view expr.now))
+        (of_expression (expression_in (env_view env.now) (expr_view expr.now))) }
 {
     let lowered = expression(alloc, env, numbering, expr)?;
     Ok(Box::new(alloc, lowered)?)
@@ -65,7 +69,9 @@ pub fn expression(
     numbering: &mut Numbering,
     expr: &tp_syntax::Expr,
 ) -> Result<Expr, GroundFault>
-    ensures { Lowers named_expression numbering.old result numbering.new (expression_in (env_view env.now) (expr_view expr.now)) (of_expression (expression_in (env_view env.now) (expr_view expr.now))) }
+    ensures { Lowers named_expression numbering.old result numbering.new
+        (expression_in (env_view env.now) (expr_view expr.now))
+        (of_expression (expression_in (env_view env.now) (expr_view expr.now))) }
 {
     match expr {
         tp_syntax::Expr::Number(number) => Ok(Expr::Number(*number)),

@@ -49,7 +49,9 @@ pub trait Part: Drop {
         mark: Mark,
         numbering: &mut Numbering,
     ) -> Result<Vec<Self::Lowered>, GroundFault>
-        ensures { Lowers (λ t v. map (named t) v.items) numbering.old result numbering.new (written (universe_view universe.now) mark (env_view env.now) (seen self.now)) (of_each mentions (written (universe_view universe.now) mark (env_view env.now) (seen self.now))) };
+        ensures { Lowers (λ t v. map (named t) v.items) numbering.old result numbering.new (written
+            (universe_view universe.now) mark (env_view env.now) (seen self.now)) (of_each mentions
+            (written (universe_view universe.now) mark (env_view env.now) (seen self.now))) };
 }
 
 #[cycle(joined)]
@@ -61,7 +63,11 @@ fn all_parts<P: Part>(
     numbering: &mut Numbering,
     parts: &[Joined<P>],
 ) -> Result<Vec<P::Lowered>, GroundFault>
-    ensures { Lowers (λ t v. map (P.named t) v.items) numbering.old result numbering.new (flat_map (λ p. parts_in (universe_view universe.now) (P.written (universe_view universe.now) mark) (env_view env.now) (joined_view P.seen p)) parts.now) (of_each P.mentions (flat_map (λ p. parts_in (universe_view universe.now) (P.written (universe_view universe.now) mark) (env_view env.now) (joined_view P.seen p)) parts.now)) }
+    ensures { Lowers (λ t v. map (P.named t) v.items) numbering.old result numbering.new
+        (flat_map (λ p. parts_in (universe_view universe.now) (P.written
+        (universe_view universe.now) mark) (env_view env.now) (joined_view P.seen p)) parts.now)
+        (of_each P.mentions (flat_map (λ p. parts_in (universe_view universe.now) (P.written
+        (universe_view universe.now) mark) (env_view env.now) (joined_view P.seen p)) parts.now)) }
 {
     let mut lowered = Vec::new(alloc);
     for part in parts {
@@ -82,7 +88,13 @@ fn under_each<P: Part>(
     variables: &[Typed],
     part: &Joined<P>,
 ) -> Result<Vec<P::Lowered>, GroundFault>
-    ensures { Lowers (λ t v. map (P.named t) v.items) numbering.old result numbering.new (flat_map (λ e. parts_in (universe_view universe.now) (P.written (universe_view universe.now) mark) e (joined_view P.seen part.now)) (inner (universe_view universe.now) (env_view env.now) (map typed_view variables.now))) (of_each P.mentions (flat_map (λ e. parts_in (universe_view universe.now) (P.written (universe_view universe.now) mark) e (joined_view P.seen part.now)) (inner (universe_view universe.now) (env_view env.now) (map typed_view variables.now)))) }
+    ensures { Lowers (λ t v. map (P.named t) v.items) numbering.old result numbering.new
+        (flat_map (λ e. parts_in (universe_view universe.now)
+        (P.written (universe_view universe.now) mark) e (joined_view P.seen part.now))
+        (inner (universe_view universe.now) (env_view env.now) (map typed_view variables.now)))
+        (of_each P.mentions (flat_map (λ e. parts_in (universe_view universe.now)
+        (P.written (universe_view universe.now) mark) e (joined_view P.seen part.now))
+        (inner (universe_view universe.now) (env_view env.now) (map typed_view variables.now)))) }
 {
     let mut rows = rows_of(alloc, universe, variables)?;
     let mut lowered = Vec::with_capacity(alloc, rows.count)?;
@@ -105,7 +117,11 @@ pub fn joined<P: Part>(
     numbering: &mut Numbering,
     part: &Joined<P>,
 ) -> Result<Vec<P::Lowered>, GroundFault>
-    ensures { Lowers (λ t v. map (P.named t) v.items) numbering.old result numbering.new (parts_in (universe_view universe.now) (P.written (universe_view universe.now) mark) (env_view env.now) (joined_view P.seen part.now)) (of_each P.mentions (parts_in (universe_view universe.now) (P.written (universe_view universe.now) mark) (env_view env.now) (joined_view P.seen part.now))) }
+    ensures { Lowers (λ t v. map (P.named t) v.items) numbering.old result numbering.new
+        (parts_in (universe_view universe.now) (P.written (universe_view universe.now) mark)
+        (env_view env.now) (joined_view P.seen part.now))
+        (of_each P.mentions (parts_in (universe_view universe.now) (P.written
+        (universe_view universe.now) mark) (env_view env.now) (joined_view P.seen part.now))) }
 {
     match part {
         Joined::And(parts) => all_parts(alloc, universe, env, mark, numbering, parts),

@@ -24,7 +24,9 @@ fn all_limits(
     numbering: &mut Numbering,
     rules: &[DurationRule],
 ) -> Result<Vec<Limit>, GroundFault>
-    ensures { Lowers (λ t v. map (named_limit t) v.items) numbering.old result numbering.new (flat_map (λ r. limits_in (env_view env.now) (rule_view r)) rules.now) (of_each of_limit (flat_map (λ r. limits_in (env_view env.now) (rule_view r)) rules.now)) }
+    ensures { Lowers (λ t v. map (named_limit t) v.items) numbering.old result numbering.new
+        (flat_map (λ r. limits_in (env_view env.now) (rule_view r)) rules.now)
+        (of_each of_limit (flat_map (λ r. limits_in (env_view env.now) (rule_view r)) rules.now)) }
 {
     let mut lowered = Vec::new(alloc);
     for rule in rules {
@@ -42,7 +44,9 @@ pub fn limits(
     numbering: &mut Numbering,
     rule: &DurationRule,
 ) -> Result<Vec<Limit>, GroundFault>
-    ensures { Lowers (λ t v. map (named_limit t) v.items) numbering.old result numbering.new (limits_in (env_view env.now) (rule_view rule.now)) (of_each of_limit (limits_in (env_view env.now) (rule_view rule.now))) }
+    ensures { Lowers (λ t v. map (named_limit t) v.items) numbering.old result numbering.new
+        (limits_in (env_view env.now) (rule_view rule.now))
+        (of_each of_limit (limits_in (env_view env.now) (rule_view rule.now))) }
 {
     match rule {
         DurationRule::And(rules) => all_limits(alloc, env, numbering, rules),
