@@ -1,7 +1,7 @@
 //! Fluents of a tank and of a counter: what writes do to them, one by one and at once.
 
 use crate::rows::Named::Only;
-use crate::rows::{Named, Row, Then, are_rows};
+use crate::rows::{Named, Row, Then, are_rows, copies_are_the_same};
 use crate::worlds::{TANKS, World};
 use std::test::Fail;
 use tp_happen::Why;
@@ -19,7 +19,9 @@ const COUNTER: &str = "(define (domain counter)
  (:action blink :parameters () :precondition (on) :effect (and (not (on)) (on)))
  (:action look :parameters () :precondition (not (= (z) 1)) :effect ())
  (:action spend :parameters () :effect (decrease (x) 1))
- (:action move :parameters () :effect (and (assign (y) 0) (increase (x) (y)))))";
+ (:action move :parameters () :effect (and (assign (y) 0) (increase (x) (y))))
+ (:action light :parameters () :effect (on))
+ (:action dim :parameters () :effect (not (on))))";
 
 // The fluents x and y are 3 and 2, z has no value, and (on) is false.
 const COUNTING: &str = "(define (problem p) (:domain counter)
@@ -157,4 +159,139 @@ fn an_atom_deleted_and_added_at_once_is_true(rt: HostRuntime) -> Result<(), Fail
         ..COUNTERS
     };
     are_rows(&rt, rt.alloc(), world, &SHINES)
+}
+
+#[test]
+fn a_state_is_the_same_as_its_copy(rt: HostRuntime) -> Result<(), Fail> {
+    copies_are_the_same(&rt, rt.alloc(), COUNTERS, &[&[Only("grow")]])
+}
+
+#[test]
+fn states_may_differ_in_an_atom_alone(rt: HostRuntime) -> Result<(), Fail> {
+    copies_are_the_same(&rt, rt.alloc(), COUNTERS, &[&[Only("light")]])
+}
+
+const GROW: Named<'static> = Only("grow");
+
+const SPEND: Named<'static> = Only("spend");
+
+const LIGHT: Named<'static> = Only("light");
+
+// So many events at once that they are not compared in pairs.
+const CROWDS: [Row<'static>; 5] = [
+    Row(
+        &[&[GROW; 20]],
+        Then::Numbers(&[(0, Some(3)), (1, Some(22))]),
+    ),
+    Row(&[&[Only("twice"); 20]], Then::Fails(0, Why::Interferes(1))),
+    Row(
+        &[&[
+            GROW,
+            GROW,
+            GROW,
+            GROW,
+            GROW,
+            GROW,
+            GROW,
+            GROW,
+            GROW,
+            GROW,
+            GROW,
+            GROW,
+            GROW,
+            GROW,
+            GROW,
+            GROW,
+            GROW,
+            Only("set"),
+            Only("up"),
+        ]],
+        Then::Fails(0, Why::Interferes(18)),
+    ),
+    Row(
+        &[&[
+            GROW,
+            SPEND,
+            SPEND,
+            SPEND,
+            SPEND,
+            SPEND,
+            SPEND,
+            SPEND,
+            SPEND,
+            SPEND,
+            SPEND,
+            SPEND,
+            SPEND,
+            SPEND,
+            SPEND,
+            SPEND,
+            SPEND,
+            GROW,
+            Only("set"),
+        ]],
+        Then::Fails(1, Why::Interferes(18)),
+    ),
+    Row(
+        &[&[
+            GROW,
+            GROW,
+            LIGHT,
+            LIGHT,
+            LIGHT,
+            LIGHT,
+            LIGHT,
+            LIGHT,
+            LIGHT,
+            LIGHT,
+            LIGHT,
+            LIGHT,
+            LIGHT,
+            LIGHT,
+            LIGHT,
+            LIGHT,
+            LIGHT,
+            LIGHT,
+            Only("dim"),
+        ]],
+        Then::Fails(2, Why::Interferes(18)),
+    ),
+];
+
+#[test]
+fn a_crowd_of_events_at_once(rt: HostRuntime) -> Result<(), Fail> {
+    are_rows(&rt, rt.alloc(), COUNTERS, &CROWDS)
+}
+
+const SHINE: [Row<'static>; 1] = [Row(
+    &[&[
+        LIGHT,
+        LIGHT,
+        LIGHT,
+        LIGHT,
+        LIGHT,
+        LIGHT,
+        LIGHT,
+        LIGHT,
+        LIGHT,
+        LIGHT,
+        LIGHT,
+        LIGHT,
+        LIGHT,
+        LIGHT,
+        LIGHT,
+        LIGHT,
+        Only("blink"),
+        LIGHT,
+    ]],
+    Then::Fails(0, Why::Interferes(16)),
+)];
+
+#[test]
+fn a_condition_on_what_a_crowd_changes(rt: HostRuntime) -> Result<(), Fail> {
+    let world = World {
+        problem: SHINING,
+        ..COUNTERS
+    };
+    are_rows(&rt, rt.alloc(), world, &SHINE)
 }

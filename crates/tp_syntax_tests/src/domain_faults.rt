@@ -84,6 +84,46 @@ fn types_must_fit(rt: HostRuntime) -> Result<(), Fail> {
     Ok(())
 }
 
+// What a variable of the first types and a parameter of the second make of an atom.
+fn fit_fault(
+    alloc: Global,
+    argument: &str,
+    parameter: &str,
+) -> Result<(Option<SyntaxFault>, u32), Fail> {
+    let mut text = String::from_str(
+        alloc,
+        "(define (domain d) (:types a b c d e - g f - h) (:predicates (p ?x - (either ",
+    )?;
+    text.push_str(parameter)?;
+    text.push_str("))) (:action n :parameters (?y - (either ")?;
+    text.push_str(argument)?;
+    text.push_str(")) :effect ^(p ?y)))")?;
+    fault_of(alloc, text.as_str())
+}
+
+#[test]
+fn long_lists_of_types_fit(rt: HostRuntime) -> Result<(), Fail> {
+    for (argument, parameter) in [
+        ("f e d c b a", "g h c b a"),
+        ("a b c d e f", "a b c d e f"),
+        ("a b f e d c g h", "a b h g object"),
+        ("f e d c b a f e d c", "object a b c d"),
+    ] {
+        let (fault, _) = fit_fault(rt.alloc(), argument, parameter)?;
+        assert!(rt; fault.is_none(), "in {argument}");
+    }
+    for (argument, parameter) in [
+        ("e d c b f", "g a b c d"),
+        ("a b c d e h", "a b c d e f"),
+        ("a b c d e g h", "a b c d e f h"),
+        ("object a b c d", "g h a b c"),
+    ] {
+        let (fault, place) = fit_fault(rt.alloc(), argument, parameter)?;
+        assert!(rt; fault == Some(SyntaxFault::Types(place)), "in {argument}");
+    }
+    Ok(())
+}
+
 #[test]
 fn many_variables_keep_their_types(rt: HostRuntime) -> Result<(), Fail> {
     for marked in ["^(p ?a)", "^(p ?i)", "(forall (?j - u) ^(p ?j))"] {
