@@ -1,5 +1,5 @@
-//! The audit of a whole journal: each line is read once, the head is compared with the executive's own, and each answer is
-//! judged by the machine.
+//! The audit of a whole journal: each line is read once, the head is compared with the executive's
+//! own, and each answer is judged by the machine.
 
 ghost use Rattle.std.specs.Prelude.{◌≡◌, ◌+◌, ◌≤◌, ◌↔◌, [], true, drop, length, IsTrue, Some, IfOk};
 ghost use Rattle.tp_script.specs.Reading.{SameLimits};
@@ -53,7 +53,8 @@ pub(crate) fn take_line<R: Source>(lines: &mut Lines<R>, number: u64) -> Result<
 /// What a line of a head brought.
 #[derive(Clone, Copy)]
 enum Turn {
-    /// It is the next line of the executive's head: what the lines call for then, and how many bytes it has with its end.
+    /// It is the next line of the executive's head: what the lines call for then, and how many
+    /// bytes it has with its end.
     Goes(Place, usize),
     /// The head is over, and a question was put.
     Asks(Asked),
@@ -61,7 +62,8 @@ enum Turn {
     Stops,
 }
 
-/// What a head was found to be: its version, how many lines were taken, and the question behind it, if there is one.
+/// What a head was found to be: its version, how many lines were taken, and the question behind it,
+/// if there is one.
 #[derive(Clone, Copy)]
 struct Headed {
     version: u8,
@@ -396,15 +398,17 @@ fn take_pair<N: Net, R: Source>(
     }
 }
 
-/// Audits a journal: whether its lines are one of the executive, which is new, and how many pairs it has. Each line is read
-/// once, and each command that was accepted is carried out, so that an audit costs what the run did, and twice the bytes; a
-/// refusal is judged without it, by about 4 look-ups for each edge of its reason. It takes memory for the executive's head, for
-/// one line at a time, and for what the commands take. The executive is dropped.
+/// Audits a journal: whether its lines are one of the executive, which is new, and how many pairs
+/// it has. Each line is read once, and each command that was accepted is carried out, so that an
+/// audit costs what the run did, and twice the bytes; a refusal is judged without it, by about 4
+/// look-ups for each edge of its reason. It takes memory for the executive's head, for one line at
+/// a time, and for what the commands take. The executive is dropped.
 ///
 /// # Errors
-/// `Line(n)` where line n is the first that breaks the format, or does not end within 2^32 bytes; `Wrong(n)` where the lines
-/// before are a journal and the machine does not allow that answer; `Head` for the head of another executive; `Memory` where a
-/// growth is refused; `Read` where the reader fails.
+/// `Line(n)` where line n is the first that breaks the format, or does not end within 2^32 bytes;
+/// `Wrong(n)` where the lines before are a journal and the machine does not allow that answer;
+/// `Head` for the head of another executive; `Memory` where a growth is refused; `Read` where the
+/// reader fails.
 pub fn audit<N: Net + Drop, R: Source>(
     alloc: Global,
     mut executive: Executive<N>,

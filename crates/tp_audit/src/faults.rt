@@ -22,8 +22,8 @@ pub enum AuditFault {
     Head,
 }
 
-/// The head of a journal: its version, the events and the horizon of the network, the number of own bounds if the network came from a
-/// plan, and the lags that are not 0, by rising event.
+/// The head of a journal: its version, the events and the horizon of the network, the number of own
+/// bounds if the network came from a plan, and the lags that are not 0, by rising event.
 #[derive(Debug, Drop)]
 pub struct JournalHead {
     pub version: u8,

@@ -32,9 +32,11 @@ pub(crate) enum Place {
     Network(u8),
     /// Where the bounds come from. Told: the version, and how many events there are.
     Kind(u8, u16),
-    /// An own bound. Told: the version, the events, the bound's identifier, and how many own bounds there are.
+    /// An own bound. Told: the version, the events, the bound's identifier, and how many own bounds
+    /// there are.
     Own(u8, u16, u32, u32),
-    /// A lag, or a question, or the end. Told: the version, the events, and the least event whose lag may come.
+    /// A lag, or a question, or the end. Told: the version, the events, and the least event whose
+    /// lag may come.
     Lag(u8, u16, u32),
     /// A question, or the end. Told: the version.
     Question(u8),
@@ -55,8 +57,8 @@ enum Mark {
     Other,
 }
 
-/// What the next byte is, if it may follow: a space follows no space and no blank is another byte, and no digit follows a zero with
-/// which a number begins.
+/// What the next byte is, if it may follow: a space follows no space and no blank is another byte,
+/// and no digit follows a zero with which a number begins.
 fn mark_after(mark: Mark, b: u8) -> Option<Mark>
     ensures { result ≡ mark_after mark b }
 {

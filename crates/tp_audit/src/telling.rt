@@ -170,12 +170,12 @@ fn take_any<R: Source>(
     }
 }
 
-/// Reads the head of a journal, and the question behind it, if there is one. It takes memory for the lags and for that
-/// question, and reads each line twice.
+/// Reads the head of a journal, and the question behind it, if there is one. It takes memory for
+/// the lags and for that question, and reads each line twice.
 ///
 /// # Errors
-/// `Line(n)` where line n is the first that breaks the format, or does not end within 2^32 bytes; `Memory` where a growth is
-/// refused; `Read` where the reader fails.
+/// `Line(n)` where line n is the first that breaks the format, or does not end within 2^32 bytes;
+/// `Memory` where a growth is refused; `Read` where the reader fails.
 pub fn journal_head<R: Source>(
     alloc: Global,
     lines: &mut Lines<R>,
