@@ -10,6 +10,8 @@ use Rattle.tp_ground.specs.declared.task.Task.{Task}
 use Rattle.tp_happen.specs.declared.plans.Step.{Step}
 use Rattle.tp_plan_runs.specs.Invalid.{SaysInvalid, SaysInvalidPart}
 use Rattle.tp_plan_runs.specs.Runs.{EndsInNone, EndsInPart, EndsInPlan, RunsPart, RunsToNone, RunsToPlan, WritesPart}
+use Rattle.tp_plan_search.specs.Searches.{SaysNoPlan, SearchesPart, WritesPlan}
+use Rattle.tp_plan_search.specs.declared.search_words.SearchWords.{SearchWords}
 use Rattle.tp_program.specs.Checks.{SaysPart, SaysValid}
 use Rattle.tp_program.specs.Done.{AnswersNo, DoesPart, DoesWhatIsAsked, IsAnsweredNo, IsDone, IsPartDone}
 use Rattle.tp_program.specs.Networks.{ShowsNetwork, ShowsPart}
@@ -18,7 +20,7 @@ use Rattle.tp_program.specs.Requests.{AsksFor, AsksForNoCommands}
 use Rattle.tp_program.specs.Streams.{Ends, HandsOn, Runs, TellsSome}
 use Rattle.tp_plan_files.specs.declared.plan_words.PlanWords.{PlanWords}
 use Rattle.tp_program.specs.declared.requests.Request.{Request}
-use Rattle.tp_program.specs.declared.requests.Request.TheVariants.{Bare, Check, Net, Run, Help}
+use Rattle.tp_program.specs.declared.requests.Request.TheVariants.{Bare, Check, Net, Run, Plan, Help}
 
 -- what was appended there was appended here
 abbrev pub Shift : Option (List ℕ) → Option (List ℕ) → Option (List ℕ) → Option (List ℕ) → Type 0
@@ -161,11 +163,23 @@ runs_part_over files w input a b c d over (inr (inl h)) = inr (inl (invalid_part
 runs_part_over files w input a b c d over (inr (inr h)) =
     inr (inr (h.0, h.1, h.2, h.3, writes_part_over h.0 h.1 w.horizon input a b c d over h.4))
 
+plan_over : (files : List ℕ → Option (List ℕ)) (w : SearchWords) (a b c d : Option (List ℕ)) → Shift a b c d → WritesPlan files w a b → WritesPlan files w c d
+plan_over files w a b c d over h = record { task = h.task; text = h.text; named = h.named; plan = h.plan; written = over _ h.written }
+
+no_plan_over : (files : List ℕ → Option (List ℕ)) (w : SearchWords) (a b c d : Option (List ℕ)) → Shift a b c d → SaysNoPlan files w a b → SaysNoPlan files w c d
+no_plan_over files w a b c d over h = record { task = h.task; line = h.line; named = h.named; why = h.why; written = over _ h.written }
+
+searches_part_over : (files : List ℕ → Option (List ℕ)) (w : SearchWords) (a b c d : Option (List ℕ)) → Shift a b c d → SearchesPart files w a b → SearchesPart files w c d
+searches_part_over files w a b c d over (inl none) = inl (over _ none)
+searches_part_over files w a b c d over (inr h) =
+    inr (record { task = h.task; text = h.text; named = h.named; is = h.is; part = part_over a b c d _ over h.part })
+
 done_over : (request : Request) (files : List ℕ → Option (List ℕ)) (input a b c d : Option (List ℕ)) → Shift a b c d → IsDone request files input a b → IsDone request files input c d
 done_over Bare files input a b c d over h = all_over input a b c d over h
 done_over (Check w) files input a b c d over h = valid_over files w a b c d over h
 done_over (Net w) files input a b c d over h = network_over files w a b c d over h
 done_over (Run w) files input a b c d over h = run_over files w input a b c d over h
+done_over (Plan w) files input a b c d over h = plan_over files w a b c d over h
 done_over (Help text) files input a b c d over h = over _ h
 
 part_done_over : (request : Request) (files : List ℕ → Option (List ℕ)) (input a b c d : Option (List ℕ)) → Shift a b c d → IsPartDone request files input a b → IsPartDone request files input c d
@@ -173,6 +187,7 @@ part_done_over Bare files input a b c d over h = answers_part_over input a b c d
 part_done_over (Check w) files input a b c d over h = says_part_over files w a b c d over h
 part_done_over (Net w) files input a b c d over h = shows_part_over files w a b c d over h
 part_done_over (Run w) files input a b c d over h = runs_part_over files w input a b c d over h
+part_done_over (Plan w) files input a b c d over h = searches_part_over files w a b c d over h
 part_done_over (Help text) files input a b c d over h = part_over a b c d _ over h
 
 pub does_over : (words : List (List ℕ)) (files : List ℕ → Option (List ℕ)) (input a b c d : Option (List ℕ)) → Shift a b c d → DoesWhatIsAsked words files input a b → DoesWhatIsAsked words files input c d
@@ -184,6 +199,7 @@ said_over Bare files input a b c d over h = absurd h
 said_over (Check w) files input a b c d over h = invalid_over files w a b c d over h
 said_over (Net w) files input a b c d over h = invalid_over files w a b c d over h
 said_over (Run w) files input a b c d over h = runs_none_over files w input a b c d over h
+said_over (Plan w) files input a b c d over h = no_plan_over files w a b c d over h
 said_over (Help text) files input a b c d over h = absurd h
 
 pub no_over : (words : List (List ℕ)) (files : List ℕ → Option (List ℕ)) (input a b c d : Option (List ℕ)) → Shift a b c d → AnswersNo words files input a b → AnswersNo words files input c d

@@ -6,11 +6,12 @@ use Rattle.tp_device.specs.Bytes.{AppendsPart}
 use Rattle.tp_bare.specs.Bare.{AnswersAll, AnswersPart}
 use Rattle.tp_plan_runs.specs.Invalid.{SaysInvalid}
 use Rattle.tp_plan_runs.specs.Runs.{RunsPart, RunsToNone, RunsToPlan}
+use Rattle.tp_plan_search.specs.Searches.{SaysNoPlan, SearchesPart, WritesPlan}
 use Rattle.tp_program.specs.Checks.{SaysPart, SaysValid}
 use Rattle.tp_program.specs.Networks.{ShowsNetwork, ShowsPart}
 use Rattle.tp_program.specs.Requests.{AsksFor}
 use Rattle.tp_program.specs.declared.requests.Request.{Request}
-use Rattle.tp_program.specs.declared.requests.Request.TheVariants.{Bare, Check, Net, Run, Help}
+use Rattle.tp_program.specs.declared.requests.Request.TheVariants.{Bare, Check, Net, Run, Plan, Help}
 
 -- all commands of the input were answered; the plan is valid and that was written; its network was written; all commands of the input were
 -- answered on that network, and the plan of the run was written; or the help was written
@@ -19,6 +20,7 @@ IsDone Bare files input held now = AnswersAll input held now
 IsDone (Check w) files input held now = SaysValid files w held now
 IsDone (Net w) files input held now = ShowsNetwork files w held now
 IsDone (Run w) files input held now = RunsToPlan files w input held now
+IsDone (Plan w) files input held now = WritesPlan files w held now
 IsDone (Help text) files input held now = Appends held now (string_bytes text)
 
 -- the words ask for something, and it was done
@@ -33,6 +35,7 @@ IsAnsweredNo Bare files input held now = ⊥
 IsAnsweredNo (Check w) files input held now = SaysInvalid files w held now
 IsAnsweredNo (Net w) files input held now = SaysInvalid files w held now
 IsAnsweredNo (Run w) files input held now = RunsToNone files w input held now
+IsAnsweredNo (Plan w) files input held now = SaysNoPlan files w held now
 IsAnsweredNo (Help text) files input held now = ⊥
 
 -- the words ask for the verdict on a plan, for its network or for its run, and the answer is no
@@ -47,6 +50,7 @@ IsPartDone Bare files input held now = AnswersPart input held now
 IsPartDone (Check w) files input held now = SaysPart files w held now
 IsPartDone (Net w) files input held now = ShowsPart files w held now
 IsPartDone (Run w) files input held now = RunsPart files w input held now
+IsPartDone (Plan w) files input held now = SearchesPart files w held now
 IsPartDone (Help text) files input held now = AppendsPart held now (string_bytes text)
 
 -- nothing was written, or the words ask for something, and some first part of it was written

@@ -24,7 +24,8 @@ mod streams;
 mod words;
 
 pub use arguments::{
-    Refusal, bare_calls, check_calls, net_calls, read_words, requests_are_distinct, run_calls,
+    Refusal, bare_calls, check_calls, net_calls, plan_calls, read_words, requests_are_distinct,
+    run_calls,
 };
 pub use requests::Request;
 pub use stops::{PlanStop, stop_line};

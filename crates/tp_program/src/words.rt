@@ -18,6 +18,7 @@ use tp_bare::run_bare;
 use tp_device::{Sink, Source, push_all};
 use tp_files::{FaultLine, Files, OUT_OF_ORDER, REFUSED, complain, complain_more};
 use tp_plan_runs::run_run;
+use tp_plan_search::run_plan;
 
 /// Does what the words ask for. Answers the exit status, and for another than 0 and 1 writes one fault line.
 pub fn run_words<N: Files, I: Source + Drop, O: Sink, F: Sink>(
@@ -66,6 +67,7 @@ pub fn run_words<N: Files, I: Source + Drop, O: Sink, F: Sink>(
         Ok(Request::Check(plan)) => run_check(alloc, files, plan, output, faults),
         Ok(Request::Net(plan)) => run_net(alloc, files, plan, output, faults),
         Ok(Request::Run(plan)) => run_run(alloc, files, plan, input, output, faults),
+        Ok(Request::Plan(search)) => run_plan(alloc, files, search, output, faults),
         Ok(Request::Help(text)) => show(text.as_str(), output, faults),
         Err(Refusal::Words(text)) => refuse_words(text, faults),
         Err(Refusal::Memory) => complain(faults, FaultLine::out_of_order("arguments", "2 memory")),
