@@ -28,6 +28,16 @@ horizon_rule = record (new_rule (codes "horizon")) {
   parser = Some (vp.Signed (pos 0) (pos 1000000000));
 }
 
+-- `--budget`, from 0 to 1000000, by default 100000
+abbrev pub budget_rule : Rule
+budget_rule = record (new_rule (codes "budget")) {
+  long = Some (codes "budget");
+  action = Some Set;
+  value_names = 1;
+  defaults = codes "100000" ∷ [];
+  parser = Some (vp.Signed (pos 0) (pos 1000000));
+}
+
 -- the files of a plan, and how its time is measured
 abbrev pub plan_app : App → App
 plan_app named =
@@ -40,11 +50,28 @@ check_app = plan_app (new_app (codes "check"))
 abbrev pub net_app : App
 net_app = plan_app (new_app (codes "net"))
 
+abbrev pub run_app : App
+run_app = plan_app (new_app (codes "run"))
+
+-- the files of a problem, how time is measured, and the budget of a search
+abbrev pub search_app : App
+search_app =
+    let files = with_rule (with_rule (new_app (codes "plan")) (file_rule (codes "DOMAIN"))) (file_rule (codes "PROBLEM")) in
+    with_rule (with_rule (with_rule files scale_rule) horizon_rule) budget_rule
+
 -- the program's words begin after its name, and it tells its version
 abbrev pub start_app : App
 start_app =
     let named = new_app (codes "tempo") in
     record named { top = record named.top { no_binary_name = true; has_version = true } }
 
+-- with the commands that judge a plan
+abbrev pub judging_app : App
+judging_app = with_subcommand (with_subcommand start_app (new_app (codes "bare")).top) check_app.top
+
+-- and the network of one
+abbrev pub network_app : App
+network_app = with_subcommand judging_app net_app.top
+
 abbrev pub tempo_app : App
-tempo_app = with_subcommand (with_subcommand (with_subcommand start_app (new_app (codes "bare")).top) check_app.top) net_app.top
+tempo_app = with_subcommand (with_subcommand network_app run_app.top) search_app.top

@@ -7,14 +7,15 @@ use Rattle.clap.specs.declared.error.kind.ErrorKind.TheVariants.{DisplayHelp, Di
 use Rattle.tp_text.specs.Scales.{scale_ticks}
 use Rattle.tp_program.specs.Commands.{tempo_app}
 use Rattle.tp_plan_files.specs.declared.plan_words.PlanWords.{PlanWords}
+use Rattle.tp_plan_search.specs.declared.search_words.SearchWords.{SearchWords}
 use Rattle.tp_program.specs.declared.requests.Request.{Request}
-use Rattle.tp_program.specs.declared.requests.Request.TheVariants.{Bare, Check, Net, Help}
+use Rattle.tp_program.specs.declared.requests.Request.TheVariants.{Bare, Check, Net, Run, Plan, Help}
 
 -- the text is there, and its digits make the number
 abbrev pub Spells : Option Text → ℕ → Type 0
 Spells text n = (t : Text) × (text ≡ Some t) × (digits_value 10 (without_leading_plus t) ≡ n)
 
--- the values of `check` and `net`, or their defaults
+-- the values of `check`, `net` and `run`, or their defaults
 pub record IsPlanWords (rows : List Row) (w : PlanWords) : Type 0 where
   pub domain : first_of (codes "DOMAIN") rows ≡ Some w.domain.now
   pub problem : first_of (codes "PROBLEM") rows ≡ Some w.problem.now
@@ -22,6 +23,16 @@ pub record IsPlanWords (rows : List Row) (w : PlanWords) : Type 0 where
   pub scale : Spells (one_of (codes "scale") rows) (scale_ticks w.scale)
   pub horizon : Spells (one_of (codes "horizon") rows) w.horizon
   pub within : w.horizon ≤ 1000000000
+
+-- the values of `plan`, or their defaults
+pub record IsSearchWords (rows : List Row) (w : SearchWords) : Type 0 where
+  pub domain : first_of (codes "DOMAIN") rows ≡ Some w.domain.now
+  pub problem : first_of (codes "PROBLEM") rows ≡ Some w.problem.now
+  pub scale : Spells (one_of (codes "scale") rows) (scale_ticks w.scale)
+  pub horizon : Spells (one_of (codes "horizon") rows) w.horizon
+  pub within : w.horizon ≤ 1000000000
+  pub budget : Spells (one_of (codes "budget") rows) w.budget
+  pub most : w.budget ≤ 1000000
 
 -- no command is named, or `bare`
 abbrev pub NamesBare : Option (Text × List Row) → Type 0
@@ -33,6 +44,8 @@ abbrev pub AsksBy : Option (Text × List Row) → Request → Type 0
 AsksBy named Bare = NamesBare named
 AsksBy named (Check w) = (rows : List Row) × (named ≡ Some (codes "check", rows)) × IsPlanWords rows w
 AsksBy named (Net w) = (rows : List Row) × (named ≡ Some (codes "net", rows)) × IsPlanWords rows w
+AsksBy named (Run w) = (rows : List Row) × (named ≡ Some (codes "run", rows)) × IsPlanWords rows w
+AsksBy named (Plan w) = (rows : List Row) × (named ≡ Some (codes "plan", rows)) × IsSearchWords rows w
 AsksBy named (Help text) = ⊥
 
 -- a parse that ends so gives a text that was called for
@@ -45,16 +58,28 @@ AsksFor words (Help text) = IsAmong DisplayHelp (fault_of tempo_app words) ⊎ I
 AsksFor words Bare = (fault_of tempo_app words ≡ []) × AsksBy (subcommand_of tempo_app words) Bare
 AsksFor words (Check w) = (fault_of tempo_app words ≡ []) × AsksBy (subcommand_of tempo_app words) (Check w)
 AsksFor words (Net w) = (fault_of tempo_app words ≡ []) × AsksBy (subcommand_of tempo_app words) (Net w)
+AsksFor words (Run w) = (fault_of tempo_app words ≡ []) × AsksBy (subcommand_of tempo_app words) (Run w)
+AsksFor words (Plan w) = (fault_of tempo_app words ≡ []) × AsksBy (subcommand_of tempo_app words) (Plan w)
 
--- the words ask for no network of bounds: for something else, or for nothing
-abbrev pub AsksForNoNetwork : List Text → Type 0
-AsksForNoNetwork words = AsksFor words Bare → ⊥
+-- the words ask for no answers to commands: for something else, or for nothing
+pub record AsksForNoCommands (words : List Text) : Type 0 where
+  pub no_bare : AsksFor words Bare → ⊥
+  pub no_run : (w : PlanWords) → AsksFor words (Run w) → ⊥
 
--- words ask for one kind of thing at most: for commands on a network, for a verdict, for the network of a plan, or for help
+-- words ask for one kind of thing at most: for commands on a network, for a verdict, for the network of a plan, for its run, for a plan, or for help
 pub record AskForOneThing (words : List Text) : Type 0 where
   pub bare_check : (w : PlanWords) → AsksFor words Bare → AsksFor words (Check w) → ⊥
   pub bare_net : (w : PlanWords) → AsksFor words Bare → AsksFor words (Net w) → ⊥
   pub check_net : (v w : PlanWords) → AsksFor words (Check v) → AsksFor words (Net w) → ⊥
   pub net_help : (w : PlanWords) (text : _) → AsksFor words (Net w) → AsksFor words (Help text) → ⊥
   pub bare_help : (text : _) → AsksFor words Bare → AsksFor words (Help text) → ⊥
+  pub bare_run : (w : PlanWords) → AsksFor words Bare → AsksFor words (Run w) → ⊥
+  pub check_run : (v w : PlanWords) → AsksFor words (Check v) → AsksFor words (Run w) → ⊥
+  pub net_run : (v w : PlanWords) → AsksFor words (Net v) → AsksFor words (Run w) → ⊥
+  pub run_help : (w : PlanWords) (text : _) → AsksFor words (Run w) → AsksFor words (Help text) → ⊥
+  pub bare_plan : (w : SearchWords) → AsksFor words Bare → AsksFor words (Plan w) → ⊥
+  pub check_plan : (v : PlanWords) (w : SearchWords) → AsksFor words (Check v) → AsksFor words (Plan w) → ⊥
+  pub net_plan : (v : PlanWords) (w : SearchWords) → AsksFor words (Net v) → AsksFor words (Plan w) → ⊥
+  pub run_plan : (v : PlanWords) (w : SearchWords) → AsksFor words (Run v) → AsksFor words (Plan w) → ⊥
+  pub plan_help : (w : SearchWords) (text : _) → AsksFor words (Plan w) → AsksFor words (Help text) → ⊥
   pub check_help : (w : PlanWords) (text : _) → AsksFor words (Check w) → AsksFor words (Help text) → ⊥

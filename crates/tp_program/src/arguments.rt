@@ -5,7 +5,8 @@ ghost use Rattle.clap.specs.Words.{Text, Row, first_of, found_of, kind_of, one_o
 ghost use Rattle.clap.specs.declared.error.kind.ErrorKind.TheVariants as kinds;
 ghost use Rattle.tp_text.specs.Scales.{scale_ticks};
 ghost use Rattle.tp_plan_files.specs.declared.plan_words.PlanWords.{PlanWords};
-ghost use Rattle.tp_program.specs.Requests.{AskForOneThing, AsksBy, AsksFor, IsPlanWords, NamesBare, Spells, TellsText};
+ghost use Rattle.tp_plan_search.specs.declared.search_words.SearchWords.{SearchWords};
+ghost use Rattle.tp_program.specs.Requests.{AskForOneThing, AsksBy, AsksFor, IsPlanWords, IsSearchWords, NamesBare, Spells, TellsText};
 
 use crate::commands::tempo_command;
 use crate::requests::Request;
@@ -13,6 +14,7 @@ use clap::error::ErrorKind;
 use clap::{ArgMatches, Error};
 use std::alloc::{AllocError, Global};
 use tp_plan_files::PlanWords;
+use tp_plan_search::SearchWords;
 use tp_text::Scale;
 
 /// Why a call's words ask for nothing.
@@ -36,6 +38,9 @@ impl From<AllocError> for Refusal {
 
 /// The greatest horizon.
 const GREATEST_HORIZON: u32 = 1_000_000_000;
+
+/// The greatest budget of a search.
+const GREATEST_BUDGET: u32 = 1_000_000;
 
 /// The value of a word.
 fn word<'w>(matches: &ArgMatches<'w>, id: &str) -> Option<&'w str>
@@ -79,6 +84,27 @@ fn plan_words<'w>(matches: &ArgMatches<'w>) -> Option<PlanWords<'w>>
     })
 }
 
+/// The files of a problem, how time is measured, and the budget of a search.
+fn search_words<'w>(matches: &ArgMatches<'w>) -> Option<SearchWords<'w>>
+    ensures { IfSome result (IsSearchWords (rows_of (found_of matches.now))) }
+{
+    let domain = word(matches, "DOMAIN")?;
+    let problem = word(matches, "PROBLEM")?;
+    let scale = scale(matches)?;
+    let horizon = number(matches, "horizon")?;
+    let budget = number(matches, "budget")?;
+    if horizon > GREATEST_HORIZON || budget > GREATEST_BUDGET {
+        return None;
+    }
+    Some(SearchWords {
+        domain,
+        problem,
+        scale,
+        horizon,
+        budget,
+    })
+}
+
 /// What a command with its values asks for.
 fn asked_by<'w>(name: &str, matches: &ArgMatches<'w>) -> Result<Request<'w>, Refusal>
     ensures asked { IfOk result (AsksBy (Some (name.now, rows_of (found_of matches.now)))) }
@@ -95,6 +121,16 @@ fn asked_by<'w>(name: &str, matches: &ArgMatches<'w>) -> Result<Request<'w>, Ref
     if name == "net" {
         if let Some(words) = plan_words(matches) {
             return Ok(Request::Net(words));
+        }
+    }
+    if name == "run" {
+        if let Some(words) = plan_words(matches) {
+            return Ok(Request::Run(words));
+        }
+    }
+    if name == "plan" {
+        if let Some(words) = search_words(matches) {
+            return Ok(Request::Plan(words));
         }
     }
     Err(Refusal::Words(None))
@@ -162,6 +198,20 @@ pub fn net_calls()
     ensures { (w : PlanWords) → w.domain.now ≡ codes "d" → w.problem.now ≡ codes "p" → w.plan.now ≡ codes "l"
         → scale_ticks w.scale ≡ 1000 → w.horizon ≡ 1000000
         → AsksFor (codes "net" ∷ codes "d" ∷ codes "p" ∷ codes "--scale" ∷ codes "1000" ∷ codes "l" ∷ []) (Request.Net w) }
+{}
+
+/// The same of `run`.
+pub fn run_calls()
+    ensures { (w : PlanWords) → w.domain.now ≡ codes "d" → w.problem.now ≡ codes "p" → w.plan.now ≡ codes "l"
+        → scale_ticks w.scale ≡ 1000 → w.horizon ≡ 1000000
+        → AsksFor (codes "run" ∷ codes "d" ∷ codes "p" ∷ codes "--scale" ∷ codes "1000" ∷ codes "l" ∷ []) (Request.Run w) }
+{}
+
+/// Files and options of `plan`, with a horizon of 1000000 where none is given.
+pub fn plan_calls()
+    ensures { (w : SearchWords) → w.domain.now ≡ codes "d" → w.problem.now ≡ codes "p"
+        → scale_ticks w.scale ≡ 1 → w.horizon ≡ 1000000 → w.budget ≡ 7
+        → AsksFor (codes "plan" ∷ codes "d" ∷ codes "p" ∷ codes "--budget" ∷ codes "7" ∷ []) (Request.Plan w) }
 {}
 
 /// Words ask for one kind of thing at most.

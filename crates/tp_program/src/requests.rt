@@ -1,5 +1,6 @@
 // What a call may ask for.
 use tp_plan_files::PlanWords;
+use tp_plan_search::SearchWords;
 
 /// What a call asks for.
 #[derive(Drop)]
@@ -10,6 +11,10 @@ pub enum Request<'w> {
     Check(PlanWords<'w>),
     /// The network of a plan.
     Net(PlanWords<'w>),
+    /// The answers to the commands of the input on the network of a plan, and the plan of that run.
+    Run(PlanWords<'w>),
+    /// A plan of a problem.
+    Plan(SearchWords<'w>),
     /// A text of help, or the version.
     Help(String),
 }

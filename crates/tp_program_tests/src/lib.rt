@@ -5,6 +5,8 @@
 //! - `examples`, `faults`: networks, worked by hand, and what ends them early
 //! - `check`: verdicts on plans in files, worked by hand
 //! - `net`: networks of plans in files, worked by hand
+//! - `run`: runs of plans in files, worked by hand
+//! - `plan`: plans that are found, and why there is none, worked by hand
 //! - `files`: texts that are read of files
 //! - `fault_lines`: the line of each fault, and its exit status
 #![tactic(auto)]
@@ -25,3 +27,7 @@ mod faults;
 mod files;
 #[cfg(test)]
 mod net;
+#[cfg(test)]
+mod plan;
+#[cfg(test)]
+mod run;
