@@ -200,15 +200,8 @@ no_text : (faults : List ErrorKind) → faults ≡ [] → IsAmong DisplayHelp fa
 no_text faults none (inl help) = subst (λ ks. IsAmong DisplayHelp ks) none help
 no_text faults none (inr version) = subst (λ ks. IsAmong DisplayVersion ks) none version
 
-abbrev first_letter : Text → ℕ
-first_letter [] = 0
-first_letter (c ∷ cs) = c
-
 run_or_net : codes "net" ≡ codes "run" → ⊥
-run_or_net same =
-    let letter : 110 ≡ 114 = ap first_letter same in
-    let no_letter : ⊥ = omega arith in
-    no_letter
+run_or_net same = let first : 110 ≡ 114 = ap first_letter same in omega (arith, first)
 
 run_or_check : codes "check" ≡ codes "run" → ⊥
 run_or_check same = cc
