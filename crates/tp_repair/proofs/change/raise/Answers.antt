@@ -45,6 +45,7 @@ returns-clause-ok c =
         few = w.few;
       };
       edges = e.mapped;
+      degrees = e.degrees;
       exact = floors_exact c.args.now c.args.lags.now c.args.floors.now c.args.fixed.now old low g.high.items amounts c.requires.exact c.requires.holds.origin c.requires.wait r
           b.0 new c.move_up.new.low.items b.1 c.requires.only c.requires.floors b.2 c.requires.from e.mapped c.move_up.ensures.len c.move_up.ensures.each;
     }
