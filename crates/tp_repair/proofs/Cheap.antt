@@ -1,5 +1,5 @@
 -- What a change looks at, by the events whose windows move.
-use Rattle.std.proofs.Common.{◌≡◌, ◌≢◌, ℕ, zero, suc, ◌+◌, ◌<◌, ◌≤◌, ◌⊎◌, inl, inr, Bool, true, false, not, ◌&&◌, cond, nat_eq, nat_lt, List, length, get_or, refl, sym, ◌∙◌, ap, subst, arith}
+use Rattle.std.proofs.Common.{◌≡◌, ◌≢◌, ℕ, zero, suc, ◌+◌, ◌*◌, ◌<◌, ◌≤◌, ◌⊎◌, inl, inr, Bool, true, false, not, ◌&&◌, cond, nat_eq, nat_lt, List, [], length, get_or, refl, sym, ◌∙◌, ap, subst, arith}
 use Rattle.std.specs.BTreeMap.{BTreeMap}
 use Rattle.std.proofs.lemmas.Int.{ints}
 use Rattle.std.proofs.lemmas.Bool.Decides.{nat_tests}
@@ -13,6 +13,7 @@ use Rattle.tp_repair.specs.Store.{keys_of}
 use Rattle.tp_repair.specs.Flow.{sum_to, looks_at}
 use Rattle.tp_repair.specs.Engine.{IsRepaired}
 use Rattle.tp_repair.specs.Costs.{degree, AreWindows, has_moved, how_many, degrees_of, IsCheap}
+use Rattle.tp_repair.specs.Told.{edge_count}
 use Rattle.tp_repair.proofs.Repaired.{kept}
 
 -- ---- sums
@@ -184,3 +185,39 @@ module _ (s s' : Situation) (count count' : ℕ) (keys keys' : BTreeMap ℕ ℕ)
         let most = sum_le (λ e. cond (nat_lt 0 (get_or up (suc e) 0)) (length (keys_of Up g.store (suc e))) 0 + cond (nat_lt 0 (get_or down (suc e) 0)) (length (keys_of Down g.store (suc e))) 0) (λ e. cond (has_moved low high low' high' e) (degree s e) 0) (event_count s) (each_most low high low' high' w w') in
         let least = sum_le (λ e. cond (has_moved low high low' high' e) 1 0) (λ e. cond (nat_lt 0 (get_or up (suc e) 0)) (length (keys_of Up g.store (suc e))) 0 + cond (nat_lt 0 (get_or down (suc e) 0)) (length (keys_of Down g.store (suc e))) 0) (event_count s) (each_least low high low' high' w w') in
         (omega (arith, total, most), omega (arith, total, least))
+
+-- where nothing moves, nothing is looked at
+none_read : (keys : ℕ → List ℕ) (p : ℕ) → looks_at keys (λ x. get_or [] x 0) p ≡ 0
+none_read keys zero = refl
+none_read keys (suc p) = let h = none_read keys p in let e = tested_none (get_or [] p 0) (length (keys p)) refl in omega (arith, h, e)
+
+pub read_most : (keys : ℕ → List ℕ) (g : ℕ → ℕ) (p : ℕ) → looks_at keys g p ≤ sum_to (λ y. length (keys y)) p
+read_most keys g p = sum_le (λ y. cond (nat_lt 0 (g y)) (length (keys y)) 0) (λ y. length (keys y)) p (λ y _. part (nat_lt 0 (g y)) (length (keys y)))
+  where
+    part : (b : Bool) (k : ℕ) → cond b k 0 ≤ k
+    part true k = omega arith
+    part false k = omega arith
+
+-- the greatest moments stay
+module _ (s s' : Situation) (count count' : ℕ) (keys keys' : BTreeMap ℕ ℕ) (floors ends floors' ends' : List ℕ) (g g' : Engine) (up : List ℕ) (looks : ℕ)
+    (r : IsRepaired s count keys floors ends g)
+    (r' : IsRepaired s' count' keys' floors' ends' g')
+    (events : event_count s' ≡ event_count s)
+    (rises : (x : ℕ) → x < length g.low.items → get_or g'.low.items x 0 ≡ get_or g.low.items x 0 + get_or up x 0)
+    (stays : g'.high.items ≡ g.high.items)
+    (looks_is : looks ≡ looks_at (keys_of Up g.store) (λ x. get_or up x 0) (length g.low.items))
+  where
+    pub cheap_up : IsCheap 0 s s' looks
+    cheap_up =
+        let none = none_read (keys_of Down g.store) (length g.low.items) in
+        cheap s s' count count' keys keys' floors ends floors' ends' g g' up [] 0 looks r r' events rises
+        (λ x _. (let h : get_or g'.high.items x 0 ≡ get_or g.high.items x 0 = ap (λ xs. get_or xs x 0) stays in let e : ◌≡◌ {A = ℕ} (get_or [] x 0) 0 = refl in omega (arith, h, e)))
+        (omega (arith, none, looks_is))
+
+-- nothing moves
+pub cheap_still : (s : Situation) (count : ℕ) (keys : BTreeMap ℕ ℕ) (floors ends : List ℕ) (g : Engine) → IsRepaired s count keys floors ends g → IsCheap 0 s s 0
+cheap_still s count keys floors ends g r =
+    cheap_up s s count count keys keys floors ends floors ends g g [] 0 r r refl (λ x _. (let e : ◌≡◌ {A = ℕ} (get_or [] x 0) 0 = refl in omega (arith, e))) refl (sym (none_read (keys_of Up g.store) (length g.low.items)))
+
+pub edges_are : (s : Situation) (count : ℕ) (keys : BTreeMap ℕ ℕ) (floors ends : List ℕ) (g : Engine) → IsRepaired s count keys floors ends g → edge_count s ≡ count + 2 * event_count s
+edges_are s count keys floors ends g r = ap (λ n. n + 2 * event_count s) r.counted.many

@@ -138,3 +138,19 @@ returns-clause-ok c =
           t s (ap pos at)
           (c.move_up.ensures.len ∙ (c.requires.exact.len ∙ sym c.move_down.ensures.len));
     }
+
+pub returns-clause-moves : goal.returns-clause-moves
+returns-clause-moves c =
+    let g : Engine = c.args.engine.now in
+    let arcs = arcs_of g.store.nodes.slots in
+    let e = c.args.e in
+    let m = c.args.moment in
+    let falls : Falls arcs (arc_of (at_most e m)) g.high.items c.fall.new.work.amounts.items = simp (c.deref-2.ensures.value, c.stop_arc-stop.ensures) at c.in_ok-fall.ensures.falls in
+    let len = c.requires.exact.len in
+    record {
+      up = c.move_up.ensures.each;
+      down = λ x within.
+          (let h = c.move_down.ensures.each x (omega (arith, within, len)) in
+          let w = falls.within x (omega (arith, within, len)) in
+          omega (arith, h, w));
+    }
