@@ -26,7 +26,8 @@ use Rattle.tp_net.proofs.Removals.{still_there, was_there, none_left, get_remove
 use Rattle.tp_repair.specs.declared.store.Node.{Node}
 use Rattle.tp_repair.specs.declared.engine.Engine.{Engine}
 use Rattle.tp_net.specs.Moments.{IsStart}
-use Rattle.tp_repair.specs.Store.{names_of, kept_arcs, KeepsOthers}
+use Rattle.tp_repair.specs.Store.{names_of, kept_arcs, KeepsOthers, keys_of, near, one_at}
+use Rattle.tp_repair.proofs.Degrees.{counted_same, counted_left}
 use Rattle.tp_repair.specs.Kept.{IsUnder, AreNodes}
 use Rattle.tp_repair.specs.Engine.{IsWired, IsRepaired, AreMapped, IsChanged, IsLeft, IsUntouched}
 use Rattle.tp_repair.specs.Slots.{raised_node, raised_slots, past_node, past_slots, left_slots, IsOpenFloor}
@@ -53,7 +54,7 @@ use Rattle.tp_repair.proofs.Repaired.{kept, among, weights, wired_here, under_ke
 
 pub repaired_untouched : (s : Situation) (count : ℕ) (keys : BTreeMap ℕ ℕ) (floors ends : List ℕ) (g g' : Engine) (bounds : BTreeMap ℕ Bound) → IsRepaired s count keys floors ends g → IsUntouched g g' → IsRepaired s count keys floors ends g'
 repaired_untouched s count keys floors ends g g' bounds r u =
-    let v : IsUnbrought g g' bounds bounds keys keys = record { wired = u.wired; edges = u.edges; low = u.low; high = u.high; holds = refl; finds = λ q. refl } in
+    let v : IsUnbrought g g' bounds bounds keys keys = record { wired = u.wired; edges = u.edges; degrees = u.degrees; low = u.low; high = u.high; holds = refl; finds = λ q. refl } in
     repaired_unbrought s count keys keys floors ends g g' bounds bounds r v
 
 changed_wired : (f : Node → Node) (s : Situation) (count : ℕ) (keys : BTreeMap ℕ ℕ) (floors ends : List ℕ) (g g' : Engine) → IsRepaired s count keys floors ends g → IsChanged f g g' → IsWired (suc (event_count s)) (count + 2 * event_count s) g'
@@ -100,6 +101,7 @@ repaired_raised s now count keys floors ends g g' r c soon = record {
   spare = r.spare;
   floors_len = r.floors_len;
   ends_len = r.ends_len;
+  counted = counted_same s (at_moment s now) count g.store g'.store refl refl c.degrees r.counted;
 }
 
 -- where the floors of events that are not fixed stand
@@ -210,6 +212,7 @@ repaired_fixed s e m count keys floors ends g g' r c lt free floor soon =
       spare = r.spare;
       floors_len = r.floors_len ∙ sym len;
       ends_len = r.ends_len ∙ sym len;
+      counted = counted_same s (with_fixed s e m) count g.store g'.store refl len c.degrees r.counted;
     }
 
 -- ---- a bound leaves
@@ -223,6 +226,14 @@ own_there s count keys floors ends g id b key r is key_is =
     let both : Some x.0 ≡ Some key = sym under ∙ key_is in
     let it : x.0 ≡ key = cc in
     (x.1, ap (λ k. slice_index_or g.store.nodes.slots k None) (sym it) ∙ x.2, x.3)
+
+own_arc : (s : Situation) (count : ℕ) (keys : BTreeMap ℕ ℕ) (floors ends : List ℕ) (g : Engine) (id : BoundId) (b : Bound) (key : ℕ) → IsRepaired s count keys floors ends g → get s.bounds id.0 ≡ Some b
+    → (own : (n : Node) × (slice_index_or g.store.nodes.slots key None ≡ Some n) × (n.name ≡ Own id)) → own.0.arc ≡ arc_of b
+own_arc s count keys floors ends g id b key r is own =
+    let x = r.nodes.exist key own.0 own.1 in
+    let both : Some b ≡ Some x.0 = sym is ∙ (sym (ap (bound_of s) own.2) ∙ x.1) in
+    let it : b ≡ x.0 = cc in
+    x.2 ∙ ap arc_of (sym it)
 
 module _ (s : Situation) (keys keys' : BTreeMap ℕ ℕ) (floors ends : List ℕ) (old : List (Option Node)) (id : BoundId) (key : ℕ)
     (a : AreNodes s keys floors ends old)
@@ -317,6 +328,9 @@ repaired_left s count keys keys' floors ends g g' id b key r is key_is finds l =
           ]);
       floors_len = r.floors_len;
       ends_len = r.ends_len;
+      counted = (let own = own_there s (count + 1) keys floors ends g id b key r is key_is in
+          let b_is = own_arc s (count + 1) keys floors ends g id b key r is own in
+          counted_left s count id.0 b g.store g'.store is (λ d y. subst (λ (a : Arc). length (keys_of d g'.store y) + one_at (near d a) y ≡ length (keys_of d g.store y)) b_is (l.fewer own.0 own.1 d y)) r.counted);
     }
 
 -- ---- reasons

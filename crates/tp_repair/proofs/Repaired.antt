@@ -32,6 +32,7 @@ use Rattle.tp_repair.specs.Engine.{IsWired, AreSame, IsEntered, IsRepaired}
 use Rattle.tp_repair.specs.Bringing.{IsUnbrought, IsBroughtIn}
 use Rattle.tp_repair.proofs.Nodes.{nodes_listed, exact_kept, all_arcs, exact_alike}
 use Rattle.tp_repair.proofs.Wires.{entered_node, same_there, same_back}
+use Rattle.tp_repair.proofs.Degrees.{counted_brought, counted_same}
 
 module _ (s : Situation) (count : ℕ) (keys : BTreeMap ℕ ℕ) (floors ends : List ℕ) (g : Engine) (r : IsRepaired s count keys floors ends g) where
   pub kept : IsKept s (names_of g.store.nodes.slots) (kept_arcs g.store.nodes.slots) g.low.items g.high.items
@@ -165,6 +166,7 @@ repaired_brought s count keys keys' floors ends g g' id b bounds bounds' r none 
           ]);
       floors_len = r.floors_len;
       ends_len = r.ends_len;
+      counted = counted_brought s count (length bounds'.entries) id.0 b g.store g'.store none (let l = i.recorded.len in omega (arith, is, l)) i.more r.counted;
     }
 
 -- ---- nothing changed
@@ -182,6 +184,7 @@ repaired_unbrought s count keys keys' floors ends g g' bounds bounds' r u =
       spare = λ q free. u.finds q ∙ r.spare q free;
       floors_len = r.floors_len;
       ends_len = r.ends_len;
+      counted = counted_same s s count g.store g'.store refl refl u.degrees r.counted;
     }
 
 -- ---- a report may come late
@@ -201,6 +204,7 @@ repaired_lagged s e lag count keys floors ends g r start lt few = record {
   spare = r.spare;
   floors_len = r.floors_len;
   ends_len = r.ends_len;
+  counted = counted_same s (with_lag s e lag) count g.store g.store refl refl (λ d y. refl) r.counted;
 }
 
 -- ---- the count of looks begins anew
@@ -233,4 +237,5 @@ relooked s count keys floors ends g n r =
       spare = r.spare;
       floors_len = r.floors_len;
       ends_len = r.ends_len;
+      counted = r.counted;
     }

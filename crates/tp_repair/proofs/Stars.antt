@@ -1,5 +1,5 @@
 -- The edges of events with the origin.
-use Rattle.std.proofs.Common.{◌≡◌, ℕ, zero, suc, ◌+◌, ◌*◌, ◌<◌, ◌≤◌, ◌⊎◌, inl, inr, List, [], ◌∷◌, ◌++◌, length, length-append, get_or, refl, sym, ◌∙◌, ap, subst, arith}
+use Rattle.std.proofs.Common.{◌≡◌, ◌≢◌, ℕ, zero, suc, ◌+◌, ◌*◌, ◌<◌, ◌≤◌, ◌⊎◌, inl, inr, List, [], ◌∷◌, ◌++◌, length, length-append, get_or, refl, sym, ◌∙◌, ap, subst, arith}
 use Rattle.std.specs.Prelude.{Option, Some, None, slice_index_or}
 use Rattle.std.specs.BTreeMap.{BTreeMap}
 use Rattle.std.proofs.lemmas.Option.{none-some}
@@ -19,7 +19,9 @@ use Rattle.tp_repair.specs.declared.store.Node.{Node}
 use Rattle.tp_repair.specs.declared.store.Store.{Store}
 use Rattle.tp_repair.specs.declared.store.Direction.{Direction}
 use Rattle.tp_repair.specs.declared.store.Direction.TheVariants.{Up, Down}
-use Rattle.tp_repair.specs.Store.{keys_of, near, AreHalves, SamePoints}
+use Rattle.tp_repair.specs.Store.{keys_of, near, one_at, AreHalves, SamePoints}
+use Rattle.tp_repair.proofs.Halves.{one_here, one_there}
+use Rattle.tp_repair.proofs.Degrees.{counted_new}
 use Rattle.tp_repair.specs.Flow.{sum_to}
 use Rattle.tp_repair.specs.Kept.{IsUnder, AreNodes}
 use Rattle.tp_repair.specs.Engine.{IsEntered}
@@ -69,6 +71,35 @@ module _ (horizon points e : ℕ) (floors ends : List ℕ) (store mid new : Stor
 
     stays_both : (k : ℕ) (n : Node) → slice_index_or store.nodes.slots k None ≡ Some n → slice_index_or new.nodes.slots k None ≡ Some n
     stays_both k n is = stays k n (first.others k (λ same. none-some n (sym first.free ∙ (ap (λ j. slice_index_or store.nodes.slots j None) (sym same) ∙ is))) ∙ is)
+
+    -- an event whose edges come has one in each direction, and the others as many as before
+    grown_one : (d : Direction) (j : ℕ) → length (keys_of d store (suc j)) ≡ 0 → j ≡ e → length (keys_of d new (suc j)) ≡ 1
+    grown_one Up j n same =
+        let a = more1 Up (suc j) in
+        let b = more2 Up (suc j) in
+        let o : one_at 0 (suc j) ≡ 0 = one_there 0 (suc j) (λ z. omega (arith, z)) in
+        let i : one_at (suc e) (suc j) ≡ 1 = one_here (suc e) (suc j) (ap suc same) in
+        omega (arith, a, b, o, i, n)
+    grown_one Down j n same =
+        let a = more1 Down (suc j) in
+        let b = more2 Down (suc j) in
+        let o : one_at 0 (suc j) ≡ 0 = one_there 0 (suc j) (λ z. omega (arith, z)) in
+        let i : one_at (suc e) (suc j) ≡ 1 = one_here (suc e) (suc j) (ap suc same) in
+        omega (arith, a, b, o, i, n)
+
+    grown_other : (d : Direction) (j k : ℕ) → length (keys_of d store (suc j)) ≡ k → j ≢ e → length (keys_of d new (suc j)) ≡ k
+    grown_other Up j k n ne =
+        let a = more1 Up (suc j) in
+        let b = more2 Up (suc j) in
+        let o : one_at 0 (suc j) ≡ 0 = one_there 0 (suc j) (λ z. omega (arith, z)) in
+        let i : one_at (suc e) (suc j) ≡ 0 = one_there (suc e) (suc j) (λ z. ne (omega (arith, z))) in
+        omega (arith, a, b, o, i, n)
+    grown_other Down j k n ne =
+        let a = more1 Down (suc j) in
+        let b = more2 Down (suc j) in
+        let o : one_at 0 (suc j) ≡ 0 = one_there 0 (suc j) (λ z. omega (arith, z)) in
+        let i : one_at (suc e) (suc j) ≡ 0 = one_there (suc e) (suc j) (λ z. ne (omega (arith, z))) in
+        omega (arith, a, b, o, i, n)
 
     old_one : (k : ℕ) (n : Node) → slice_index_or store.nodes.slots k None ≡ Some n → (j : ℕ) × (j < e + 1) × (IsFloor (floors ++ k1 ∷ []) j k n ⊎ IsEnd horizon (ends ++ k2 ∷ []) j k n)
     old_one k n is =
@@ -134,6 +165,12 @@ module _ (horizon points e : ℕ) (floors ends : List ℕ) (store mid new : Stor
           let b = sum_more (λ y. length (keys_of d mid y)) (λ y. length (keys_of d new y)) (near d (arc_of (at_most e horizon))) points (more2 d) (near_high d) in
           let c = s.many d in
           omega (arith, a, b, c));
+      one = λ d j lt.
+          (elim (same_or j e) [
+            | inl same ↦ (let n = s.none d j (omega (arith, same)) in grown_one d j n same)
+            | inr ne ↦ (let n = s.one d j (omega (arith, lt, ne)) in grown_other d j 1 n ne)
+          ]);
+      none = λ d j le. (let n = s.none d j (omega (arith, le)) in grown_other d j 0 n (λ same. omega (arith, same, le)));
     }
 
 sum_none : (f : ℕ → ℕ) (n : ℕ) → ((y : ℕ) → f y ≡ 0) → sum_to f n ≡ 0
@@ -153,6 +190,8 @@ star_begun horizon points store into_len out_len halves_in halves_out none degre
   floor = λ j lt. absurd (omega (arith, lt));
   end = λ j lt. absurd (omega (arith, lt));
   many = λ d. sum_none (λ y. length (keys_of d store y)) points (degrees d);
+  one = λ d j lt. absurd (omega (arith, lt));
+  none = λ d j le. degrees d (suc j);
 }
 
 -- they are the edges of a network with no bound
@@ -215,4 +254,5 @@ begun events horizon floors ends keys g few soon s none low high up down =
       spare = λ q _. none q;
       floors_len = s.floors_len ∙ sym count;
       ends_len = s.ends_len ∙ sym count;
+      counted = counted_new events horizon g.store (λ d e lt. s.one d e (omega (arith, lt, count)));
     }

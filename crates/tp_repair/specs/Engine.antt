@@ -13,10 +13,12 @@ use Rattle.tp_net.specs.Kept.{IsFit}
 use Rattle.tp_repair.specs.declared.store.Node.{Node}
 use Rattle.tp_repair.specs.declared.engine.Engine.{Engine}
 use Rattle.tp_repair.specs.declared.store.Direction.TheVariants.{Up, Down}
-use Rattle.tp_repair.specs.Store.{arcs_of, keys_of, AreHalves, IsNode, KeepsOthers}
+use Rattle.tp_repair.specs.Store.{arcs_of, keys_of, near, one_at, AreHalves, IsNode, KeepsOthers}
+use Rattle.tp_repair.specs.declared.store.Direction.{Direction}
 use Rattle.tp_repair.specs.Flow.{sum_to}
 use Rattle.tp_repair.specs.Work.{IsIdle}
 use Rattle.tp_repair.specs.Kept.{AreNodes}
+use Rattle.tp_repair.specs.Costs.{AreCountedEdges, SameDegrees}
 
 -- the lists are right, for so many points and so many edges, and nothing is being worked out
 pub record IsWired (points edges : ℕ) (g : Engine) : Type 0 where
@@ -54,11 +56,13 @@ pub record IsRepaired (s : Situation) (count : ℕ) (keys : BTreeMap ℕ ℕ) (f
   pub spare : (q : ℕ) → map.get s.bounds q ≡ None → tree.get nat_cmp keys q ≡ None
   pub floors_len : length floors ≡ event_count s
   pub ends_len : length ends ≡ event_count s
+  pub counted : AreCountedEdges s count g.store
 
 -- the edges, the moments and the lists are as before
 pub record IsUntouched (g g' : Engine) : Type 0 where
   pub wired : (edges : ℕ) → IsWired (length g.low.items) edges g → IsWired (length g.low.items) edges g'
   pub edges : AreSame g.store.nodes.slots g'.store.nodes.slots
+  pub degrees : SameDegrees g.store g'.store
   pub low : g'.low.items ≡ g.low.items
   pub high : g'.high.items ≡ g.high.items
 
@@ -71,6 +75,7 @@ pub record AreMapped (f : Node → Node) (old new : List (Option Node)) : Type 0
 pub record IsChanged (f : Node → Node) (g g' : Engine) : Type 0 where
   pub wired : (edges : ℕ) → IsWired (length g.low.items) edges g → IsWired (length g.low.items) edges g'
   pub edges : AreMapped f g.store.nodes.slots g'.store.nodes.slots
+  pub degrees : SameDegrees g.store g'.store
   pub exact : AreExact (arcs_of g'.store.nodes.slots) g'.low.items g'.high.items
 
 -- the edge under a key is gone
@@ -78,6 +83,9 @@ pub record IsLeft (key : ℕ) (g g' : Engine) : Type 0 where
   pub wired : (edges : ℕ) → IsWired (length g.low.items) (edges + 1) g → IsWired (length g.low.items) edges g'
   pub gone : slice_index_or g'.store.nodes.slots key None ≡ None
   pub keeps : KeepsOthers key g.store.nodes.slots g'.store.nodes.slots
+  pub fewer :
+      (n : Node) → slice_index_or g.store.nodes.slots key None ≡ Some n → (d : Direction) (y : ℕ)
+      → length (keys_of d g'.store y) + one_at (near d n.arc) y ≡ length (keys_of d g.store y)
   pub exact : AreExact (arcs_of g'.store.nodes.slots) g'.low.items g'.high.items
 
 -- an edge that is tight neither at the least moments nor at the greatest ones

@@ -1,5 +1,5 @@
 -- The edges of events with the origin, before any bound.
-use Rattle.std.specs.Prelude.{◌≡◌, ◌⊎◌, ℕ, ◌*◌, ◌<◌, List, length, slice_index, slice_index_or, Some, None}
+use Rattle.std.specs.Prelude.{◌≡◌, ◌⊎◌, ℕ, suc, ◌*◌, ◌<◌, ◌≤◌, List, length, slice_index, slice_index_or, Some, None}
 use Rattle.tp_bounds.specs.declared.Edge.TheVariants.{Now, End}
 use Rattle.tp_bounds.specs.Reasons.{at_least, at_most}
 use Rattle.tp_net.specs.Arcs.{arc_of}
@@ -33,3 +33,5 @@ pub record IsStar (horizon points upto : ℕ) (floors ends : List ℕ) (store : 
   pub floor : (j : ℕ) → j < upto → (n : Node) × (slice_index_or store.nodes.slots (slice_index floors j) None ≡ Some n) × (n.name ≡ Now j)
   pub end : (j : ℕ) → j < upto → (n : Node) × (slice_index_or store.nodes.slots (slice_index ends j) None ≡ Some n) × (n.name ≡ End j)
   pub many : (d : Direction) → sum_to (λ y. length (keys_of d store y)) points ≡ 2 * upto
+  pub one : (d : Direction) (j : ℕ) → j < upto → length (keys_of d store (suc j)) ≡ 1
+  pub none : (d : Direction) (j : ℕ) → upto ≤ j → length (keys_of d store (suc j)) ≡ 0

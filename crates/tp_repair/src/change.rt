@@ -10,6 +10,7 @@ ghost use Rattle.tp_net.specs.Sizes.{IsSmall, IsSmallWeight};
 ghost use Rattle.tp_repair.specs.declared.store.Node.{Node};
 ghost use Rattle.tp_repair.specs.Store.{kept_arcs, AreHalves, SamePoints, keys_of, arcs_of};
 ghost use Rattle.tp_repair.specs.Engine.{IsWired, IsUntouched, IsChanged, IsLeft, AreMapped, IsLoose};
+ghost use Rattle.tp_repair.specs.Bringing.{AreMovedBy};
 ghost use Rattle.tp_repair.specs.Slots.{left_slots, past_node, raised_node, IsOpenFloor};
 ghost use Rattle.tp_repair.specs.Asked.{IsFromEvent};
 ghost use Rattle.tp_repair.specs.Flow.{looks_at};
@@ -72,6 +73,7 @@ pub fn leave(alloc: Global, engine: &mut Engine, key: usize, amount: u64) -> Res
     ensures ok { OnOk result (IsLeft key engine.old engine.new) }
     ensures err { OnErr result (IsUntouched engine.old engine.new) }
     ensures looks { (edges : ℕ) → IsWired (length engine.old.low.items) edges engine.old → OnOk result (engine.new.looks ≤ 8 * edges + 1) }
+    ensures err_looks { OnErr result (engine.new.looks ≡ engine.old.looks) }
     ensures loose { (n : Node) → get engine.old.store.nodes key ≡ Some n → IsLoose engine.old.low.items engine.old.high.items n.arc → OnOk result ((engine.new.looks ≡ 1) × (engine.new.low.items ≡ engine.old.low.items) × (engine.new.high.items ≡ engine.old.high.items)) }
 {
     let node = engine.store.nodes[key];
@@ -109,6 +111,7 @@ pub fn settle(
     ensures ok { OnOk result (IsChanged (past_node e moment) engine.old engine.new) }
     ensures err { OnErr result (IsUntouched engine.old engine.new) }
     ensures looks { OnOk result (engine.new.looks ≡ (1 + looks_at (keys_of Up engine.old.store) (λ x. slice_index engine.new.up.amounts.items x) (length engine.old.low.items)) + (1 + looks_at (keys_of Down engine.old.store) (λ x. slice_index engine.new.down.amounts.items x) (length engine.old.low.items))) }
+    ensures moves { OnOk result (AreMovedBy engine.old engine.new) }
     ensures most { (edges : ℕ) → IsWired (length engine.old.low.items) edges engine.old → engine.new.looks ≤ 2 * (edges + 1) }
 {
     let start = start_arc(e, moment);
@@ -190,6 +193,8 @@ pub fn raise(
     ensures err { OnErr result (IsUntouched engine.old engine.new) }
     ensures looks { OnOk result (engine.new.looks ≡ looks_at (keys_of Up engine.old.store) (λ x. slice_index engine.new.up.amounts.items x) (length engine.old.low.items)) }
     ensures moved { OnOk result ((x : ℕ) → x < length engine.old.low.items → slice_index engine.new.low.items x ≡ slice_index engine.old.low.items x + slice_index engine.new.up.amounts.items x) }
+    ensures stays { OnOk result (engine.new.high.items ≡ engine.old.high.items) }
+    ensures most { (edges : ℕ) → IsWired (length engine.old.low.items) edges engine.old → engine.new.looks ≤ edges }
     ensures err_looks { OnErr result (engine.new.looks ≡ 0) }
 {
     let looks = rise_floors(&engine.store, &engine.low, &mut engine.up, fixed, lags, now)?;

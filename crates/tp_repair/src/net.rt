@@ -2,9 +2,11 @@
 ghost use Rattle.std.specs.Prelude.{◌≡◌, ◌≢◌, ◌↔◌, ℕ, ◌+◌, ◌*◌, ◌<◌, ◌≤◌, ◌∷◌, length, IfOk, OnOk, OnErr, MatchOption, map, replicate, suc, true, false, Some, None};
 ghost use Rattle.std.specs.FinMap as finite;
 ghost use Rattle.tp_bounds.specs.Situation.{event_count, fixed_at, floor_of, HasPoint, IsInRange};
-ghost use Rattle.tp_bounds.specs.Changes.{with_bound, proposing, at_moment, with_fixed};
+ghost use Rattle.tp_bounds.specs.Schedule.{HasSchedule};
+ghost use Rattle.tp_bounds.specs.Changes.{with_bound, without_bound, proposing, at_moment, with_fixed};
 ghost use Rattle.tp_net.specs.Faults.{RefusesBy, IsNew, IsNow, IsPastOf, SaysBetween, IsBetween};
 ghost use Rattle.tp_repair.specs.Told.{edge_count};
+ghost use Rattle.tp_repair.specs.Costs.{IsCheap};
 ghost use Rattle.std.specs.Ordering.{nat_cmp};
 ghost use Rattle.std.specs.BTreeMap.{BTreeMap, get};
 ghost use Rattle.tp_net.specs.NewNet.{new_situation};
@@ -238,6 +240,7 @@ impl Net for RepairNet {
         ensures between { SaysBetween result ↔ ((true ≡ false) × IsBetween bound) }
         ensures most { self.new.looks ≤ 2 * (edge_count self.old.situation + 1) }
         ensures some { OnOk result (2 ≤ self.new.looks) }
+        ensures cheap { OnOk result (IsCheap 2 self.old.situation (with_bound self.old.situation id.0 bound) self.new.looks) }
     {
         self.engine.looks = 0;
         // there are no more identifiers
@@ -259,7 +262,14 @@ impl Net for RepairNet {
         Ok(())
     }
 
-    fn remove(&mut self, id: BoundId) -> Result<(), AllocError> {
+    /// It looks at each edge at most four times a direction, and at that of the bound once.
+    fn remove(&mut self, id: BoundId) -> Result<(), AllocError>
+        requires in_force { finite.get self.old.situation.bounds id.0 ≢ None }
+        ensures ok { OnOk result (self.new.situation ≡ without_bound self.old.situation id.0) }
+        ensures err { OnErr result (self.new.situation ≡ self.old.situation) }
+        ensures possible { OnOk result (HasSchedule (without_bound self.old.situation id.0)) }
+        ensures most { self.new.looks ≤ 8 * edge_count self.old.situation + 1 }
+    {
         self.engine.looks = 0;
         let alloc = *self.fixed.allocator();
         let amount = u64::from(self.horizon) + 1;
@@ -279,6 +289,8 @@ impl Net for RepairNet {
         ensures exact { RefusesBy IsNow (at_moment self.old.situation now) (at_moment self.old.situation now) result }
         ensures between { ¬ SaysBetween result }
         ensures still { now ≡ self.old.situation.clock → self.new.looks ≡ 0 }
+        ensures most { self.new.looks ≤ edge_count self.old.situation + 1 }
+        ensures cheap { OnOk result (IsCheap 0 self.old.situation (at_moment self.old.situation now) self.new.looks) }
     {
         self.engine.looks = 0;
         if now == self.clock {
@@ -305,7 +317,9 @@ impl Net for RepairNet {
         ensures err { OnErr result (self.new.situation ≡ self.old.situation) }
         ensures exact { RefusesBy (IsPastOf e) (with_fixed self.old.situation e moment) (with_fixed self.old.situation e moment) result }
         ensures between { ¬ SaysBetween result }
+        ensures most { self.new.looks ≤ 2 * (edge_count self.old.situation + 1) }
         ensures some { OnOk result (2 ≤ self.new.looks) }
+        ensures cheap { OnOk result (IsCheap 2 self.old.situation (with_fixed self.old.situation e moment) self.new.looks) }
     {
         self.engine.looks = 0;
         let alloc = *self.fixed.allocator();

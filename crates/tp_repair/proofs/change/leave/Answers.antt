@@ -46,6 +46,7 @@ returns-clause-ok c =
       wired = λ edges w. wired_looks p edges 1 g c.remove.new.store (wired_removed p edges g c.remove.new.store n.arc joins w f.points f.halves_in f.halves_out (f.degrees n at));
       gone = f.gone;
       keeps = f.others;
+      fewer = f.degrees;
       exact = loose_exact old new key g.low.items g.high.items c.requires.exact
           (λ k x ne is. (let h = f.others.forth k x ne is in (h.0, h.1, h.3)))
           (λ k m is.

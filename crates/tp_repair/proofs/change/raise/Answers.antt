@@ -1,9 +1,11 @@
-use Rattle.std.proofs.Common.{◌≡◌, ℕ, List, length, ap, ◌∙◌, arith}
+use Rattle.std.proofs.Common.{◌≡◌, ℕ, List, length, get_or, ap, ◌∙◌, arith}
 use Rattle.tp_repair.specs.declared.engine.Engine.{Engine}
 use Rattle.tp_repair.specs.declared.store.Direction.TheVariants.{Up, Down}
 use Rattle.tp_repair.specs.Store.{arcs_of, keys_of}
 use Rattle.tp_repair.specs.Asked.{AsksFloor, IsRaisedTo}
 use Rattle.tp_repair.proofs.Wires.{sum_same}
+use Rattle.tp_repair.specs.Flow.{looks_at}
+use Rattle.tp_repair.proofs.Cheap.{read_most}
 use Rattle.tp_repair.proofs.Rises.{floors_below_high, floors_exact}
 use Rattle.tp_repair.proofs.change.raise.Goals as goal
 
@@ -45,6 +47,16 @@ returns-clause-ok c =
         few = w.few;
       };
       edges = e.mapped;
+      degrees = e.degrees;
       exact = floors_exact c.args.now c.args.lags.now c.args.floors.now c.args.fixed.now old low g.high.items amounts c.requires.exact c.requires.holds.origin c.requires.wait r
           b.0 new c.move_up.new.low.items b.1 c.requires.only c.requires.floors b.2 c.requires.from e.mapped c.move_up.ensures.len c.move_up.ensures.each;
     }
+
+pub returns-clause-most : goal.returns-clause-most
+returns-clause-most c = λ edges w.
+    let g : Engine = c.args.engine.now in
+    let same : length c.deref.result.now ≡ length g.low.items = ap (λ (xs : List ℕ). length xs) c.deref.ensures.value in
+    let read : c.in_ok-looks.looks ≡ looks_at (keys_of Up g.store) (λ x. get_or c.rise_floors.new.work.amounts.items x 0) (length g.low.items) = simp same at c.in_ok-looks.ensures.looks in
+    let most = read_most (keys_of Up g.store) (λ x. get_or c.rise_floors.new.work.amounts.items x 0) (length g.low.items) in
+    let many = w.many_up in
+    omega (arith, read, most, many)

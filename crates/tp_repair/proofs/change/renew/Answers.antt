@@ -7,7 +7,9 @@ use Rattle.tp_net.specs.Slacks.{JoinsPoints}
 use Rattle.tp_repair.specs.declared.engine.Engine.{Engine}
 use Rattle.tp_repair.specs.declared.store.Node.{Node}
 use Rattle.tp_repair.specs.declared.store.Store.{Store}
-use Rattle.tp_repair.specs.Store.{weighed, KeepsOthers}
+use Rattle.tp_repair.specs.declared.store.Direction.{Direction}
+use Rattle.tp_repair.specs.declared.store.Direction.TheVariants.{Up, Down}
+use Rattle.tp_repair.specs.Store.{weighed, KeepsOthers, keys_of, near, one_at}
 use Rattle.tp_repair.proofs.Nodes.{key_met}
 use Rattle.tp_repair.proofs.Wires.{wired_store, wired_removed}
 use Rattle.tp_repair.proofs.Settled.{put_back}
@@ -72,11 +74,16 @@ returns-in-Err-clause-err c =
       wired = λ edges w.
           (let w1 = wired_store p edges g c.set_edge.new.store w e.points e.halves_in e.halves_out e.degrees in
           wired_store p edges h c.set_edge-in-Err.new.store (c.solve.ensures.wired edges w1) f.points f.halves_in f.halves_out f.degrees);
+      degrees = λ d y. f.degrees d y ∙ (ap (λ (s : Store). length (keys_of d s y)) c.solve.ensures.store ∙ e.degrees d y);
       edges = put_back c.args.key c.args.key g.store.nodes.slots c.set_edge-in-Err.new.store.nodes.slots n n (weighed n.name n.arc.weight m) (weighed n.name n.arc.weight m) c.index-node.ensures c.index-node.ensures again again refl refl refl refl
           (λ k ne _. f.others k ne ∙ stay k ne);
       low = c.in-Err.ensures.err_low;
       high = c.in-Err.ensures.err_high;
     }
+
+weighed_near : (d : Direction) (n : Node) → near d (weighed n.name (pos 1_000_000_000_000) n).arc ≡ near d n.arc
+weighed_near Up n = refl
+weighed_near Down n = refl
 
 pub returns-clause-ok : goal.returns-clause-ok
 returns-clause-ok c =
@@ -102,6 +109,11 @@ returns-clause-ok c =
           (let w1 = wired_store p (edges + 1) g c.set_edge.new.store w e.points e.halves_in e.halves_out e.degrees in
           wired_removed p edges h c.remove.new.store m.arc joins (c.solve.ensures.wired (edges + 1) w1) f.points f.halves_in f.halves_out (f.degrees m there));
       gone = f.gone;
+      fewer = λ x x_is d y.
+          (let it : Some x ≡ Some n = sym x_is ∙ c.index-node.ensures in
+          let x_n : x ≡ n = cc in
+          subst (λ (z : Node). length (keys_of d c.remove.new.store y) + one_at (near d z.arc) y ≡ length (keys_of d g.store y)) (sym x_n)
+          (subst (λ q. length (keys_of d c.remove.new.store y) + one_at q y ≡ length (keys_of d h.store y)) (weighed_near d n) (f.degrees m there d y) ∙ (ap (λ (s : Store). length (keys_of d s y)) c.solve.ensures.store ∙ e.degrees d y)));
       keeps = record {
         forth = λ k x ne is. f.others.forth k x ne (stay k ne ∙ is);
         back = λ k x ne is. (let y = f.others.back k x ne is in (y.0, sym (stay k ne) ∙ y.1, y.2, y.3));

@@ -126,6 +126,7 @@ returns-clause-ok c =
         many_down = sum_same (λ y. length (keys_of Down g.store y)) (λ y. length (keys_of Down c.set_edge-2.new.store y)) (length low) (λ y. b.degrees Down y ∙ a.degrees Down y) ∙ wd.many_down;
         few = wd.few;
       };
+      degrees = λ d y. b.degrees d y ∙ a.degrees d y;
       edges = settled_mapped e m c.args.floor c.args.end old mid new nf.0 nh.0 nf.1 nf.2 nh.1 nh.2 v w c.requires.only_floor c.requires.only_end f_now a.others h_now b.others v_is w_is;
       exact = fixed_exact e m c.args.floor c.args.end old new nf.0 nh.0 (PastLow e) (PastHigh e) v w nf.1 nh.1 f_new h_now (λ k ne other. b.others k other ∙ a.others k ne)
           (nf.3, nf.4, nf.5) (nh.3, nh.4, nh.5) v_is w_is
@@ -136,4 +137,20 @@ returns-clause-ok c =
           (falls.greatest c.move_down.new.high.items c.move_down.ensures.len c.move_down.ensures.each)
           t s (ap pos at)
           (c.move_up.ensures.len ∙ (c.requires.exact.len ∙ sym c.move_down.ensures.len));
+    }
+
+pub returns-clause-moves : goal.returns-clause-moves
+returns-clause-moves c =
+    let g : Engine = c.args.engine.now in
+    let arcs = arcs_of g.store.nodes.slots in
+    let e = c.args.e in
+    let m = c.args.moment in
+    let falls : Falls arcs (arc_of (at_most e m)) g.high.items c.fall.new.work.amounts.items = simp (c.deref-2.ensures.value, c.stop_arc-stop.ensures) at c.in_ok-fall.ensures.falls in
+    let len = c.requires.exact.len in
+    record {
+      up = c.move_up.ensures.each;
+      down = λ x within.
+          (let h = c.move_down.ensures.each x (omega (arith, within, len)) in
+          let w = falls.within x (omega (arith, within, len)) in
+          omega (arith, h, w));
     }

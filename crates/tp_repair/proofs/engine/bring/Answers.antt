@@ -1,4 +1,4 @@
-use Rattle.std.proofs.Common.{rules, ◌≡◌, ◌+◌, length, refl, ap, subst, ◌∙◌}
+use Rattle.std.proofs.Common.{rules, arith, ◌≡◌, ◌+◌, length, refl, ap, subst, ◌∙◌}
 use Rattle.std.specs.Prelude.{Some, None}
 use Rattle.tp_bounds.specs.declared.Edge.TheVariants.{Own}
 use Rattle.tp_net.specs.Arcs.{arc_of}
@@ -7,6 +7,7 @@ use Rattle.tp_repair.specs.Store.{arcs_of, keys_of}
 use Rattle.tp_repair.specs.Work.{Rises, Falls, IsTightened, AreCounted}
 use Rattle.tp_repair.specs.Bringing.{IsUnbrought}
 use Rattle.tp_repair.specs.declared.store.Direction.TheVariants.{Up, Down}
+use Rattle.tp_repair.proofs.Degrees.{both_degrees}
 use Rattle.tp_repair.proofs.Wires.{sum_same, sum_more, entered_exact}
 use Rattle.tp_repair.proofs.engine.bring.Goals as goal
 
@@ -32,6 +33,7 @@ returns-in_err-enter-clause-err c =
         few = w.few;
       };
       edges = e.err_edges;
+      degrees = both_degrees g.store c.enter.new.store e.err_up e.err_down;
       low = refl;
       high = refl;
       holds = e.err;
@@ -66,6 +68,14 @@ returns-clause-ok c =
       };
       entered = e.ok.1;
       recorded = e.ok.2;
+      more = e.degrees;
+      moves = record {
+        up = c.move_up.ensures.each;
+        down = λ x within.
+            (let h = c.move_down.ensures.each x (let l = c.requires.exact.len in omega (arith, within, l)) in
+            let w = t.1.within x (let l = c.requires.exact.len in omega (arith, within, l)) in
+            omega (arith, h, w));
+      };
       exact = entered_exact (Own c.args.id) new e.ok.0 g.store.nodes.slots c.enter.new.store.nodes.slots e.ok.1 g.low.items g.high.items c.tighten.new.up.amounts.items c.tighten.new.down.amounts.items c.move_up.new.low.items c.move_down.new.high.items
           t.0 t.1 c.requires.exact.len c.move_up.ensures.len c.move_down.ensures.len c.move_up.ensures.each c.move_down.ensures.each;
     }

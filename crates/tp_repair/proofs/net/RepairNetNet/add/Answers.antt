@@ -17,6 +17,8 @@ use Rattle.tp_repair.specs.Store.{names_of, kept_arcs}
 use Rattle.tp_repair.specs.Engine.{IsRepaired}
 use Rattle.tp_repair.specs.Work.{AreCounted}
 use Rattle.tp_repair.specs.Bringing.{IsBrought, IsBroughtIn, IsUnbrought}
+use Rattle.tp_repair.specs.Costs.{IsCheap}
+use Rattle.tp_repair.proofs.Cheap.{cheap}
 use Rattle.tp_repair.proofs.Repaired.{wired_here, small_low, small_high, weights, among, kept, with_looks, relooked, repaired_brought, repaired_unbrought}
 use Rattle.tp_repair.proofs.net.RepairNetNet.add.Goals as goal
 
@@ -126,6 +128,24 @@ returns-clause-exact c =
     let few : n < 2 ^ 32 = omega (arith, c.if-len.false, c.len.ensures.len) in
     let brought = repaired_brought s n i.keys c.bring.new.keys i.floors.items i.ends.items g0 g' c.args.id c.args.bound i.bounds c.bring.new.bounds r none from to c.requires.weight b refl few in
     subst (λ (t : Told). HasSchedule (with_bound t.situation c.args.id.0 c.args.bound)) c.self.view_is (kept_possible _ _ _ _ _ (kept _ _ _ _ _ _ brought))
+
+pub returns-clause-cheap : goal.returns-clause-cheap
+returns-clause-cheap c =
+    let i = c.self.inside in
+    let s : Situation = settled i.horizon i.clock i.bounds.entries i.fixed.items i.lags.items in
+    let n = length i.bounds.entries in
+    let g0 : Engine = with_looks i.engine 0 in
+    let g' : Engine = c.bring.new.engine in
+    let r : IsRepaired s n i.keys i.floors.items i.ends.items g0 = relooked s n i.keys i.floors.items i.ends.items i.engine 0 c.self.invariant in
+    let b : IsBroughtIn c.args.id c.args.bound g0 g' i.bounds c.bring.new.bounds i.keys c.bring.new.keys = subst (λ o. IsBrought c.args.id c.args.bound g0 g' i.bounds c.bring.new.bounds i.keys c.bring.new.keys o) c.in_default.is c.in_ok-path.ensures.ok in
+    let none : get s.bounds c.args.id.0 ≡ None = ap (λ (t : Told). get t.situation.bounds c.args.id.0) c.self.view_is ∙ c.requires.unused in
+    let from : HasPoint s c.args.bound.from = subst (λ (t : Told). HasPoint t.situation c.args.bound.from) (sym c.self.view_is) c.requires.from in
+    let to : HasPoint s c.args.bound.to = subst (λ (t : Told). HasPoint t.situation c.args.bound.to) (sym c.self.view_is) c.requires.to in
+    let few : n < 2 ^ 32 = omega (arith, c.if-len.false, c.len.ensures.len) in
+    let brought = repaired_brought s n i.keys c.bring.new.keys i.floors.items i.ends.items g0 g' c.args.id c.args.bound i.bounds c.bring.new.bounds r none from to c.requires.weight b refl few in
+    let h = subst (λ o. AreCounted g0.store (length g0.low.items) g'.up.amounts.items g'.down.amounts.items 0 g'.looks o) c.in_default.is c.in_ok-path.ensures.counted in
+    subst (λ (t : Told). IsCheap 2 t.situation (with_bound t.situation c.args.id.0 c.args.bound) g'.looks) c.self.view_is
+    (cheap s (with_bound s c.args.id.0 c.args.bound) n (length c.bring.new.bounds.entries) i.keys c.bring.new.keys i.floors.items i.ends.items i.floors.items i.ends.items g0 g' g'.up.amounts.items g'.down.amounts.items 2 g'.looks r brought refl b.moves.up b.moves.down (omega (arith, h)))
 
 pub returns-clause-some : goal.returns-clause-some
 returns-clause-some c =

@@ -17,6 +17,11 @@ use Rattle.tp_repair.specs.Store.{names_of, kept_arcs}
 use Rattle.tp_repair.specs.Kept.{IsUnder}
 use Rattle.tp_repair.specs.Slots.{past_slots}
 use Rattle.tp_repair.specs.Engine.{IsRepaired}
+use Rattle.tp_repair.specs.Costs.{IsCheap}
+use Rattle.tp_repair.proofs.Cheap.{cheap, edges_are}
+use Rattle.std.proofs.Common.{length-set}
+use Rattle.std.specs.Prelude.{Some}
+use Rattle.tp_repair.specs.Told.{edge_count}
 use Rattle.tp_repair.proofs.Repaired.{kept, holds_least, small_high, wired_here, with_looks, relooked}
 use Rattle.tp_repair.proofs.Renewed.{are_names_past, floor_is, end_is, none_arcs, past_reason, repaired_fixed, repaired_untouched}
 use Rattle.tp_repair.proofs.net.RepairNetNet.fix.Goals as goal
@@ -335,3 +340,49 @@ returns-clause-exact c =
     let soon : c.args.moment ≤ i.horizon = subst (λ (t : Told). c.args.moment ≤ t.situation.horizon) (sym c.self.view_is) c.requires.in_time in
     subst (λ (t : Told). HasSchedule (with_fixed t.situation c.args.e c.args.moment)) c.self.view_is
     (kept_possible _ _ _ _ _ (kept _ _ _ _ _ _ (repaired_fixed s c.args.e c.args.moment n i.keys i.floors.items i.ends.items g0 c.settle.new.engine r0 c.in_ok-settle.ensures.ok lt free floor soon)))
+
+pub returns-clause-cheap : goal.returns-clause-cheap
+returns-clause-cheap c =
+    let i = c.self.inside in
+    let s : Situation = settled i.horizon i.clock i.bounds.entries i.fixed.items i.lags.items in
+    let n = length i.bounds.entries in
+    let g : Engine = i.engine in
+    let g0 : Engine = with_looks g 0 in
+    let slots = g.store.nodes.slots in
+    let r : IsRepaired s n i.keys i.floors.items i.ends.items g = c.self.invariant in
+    let r0 : IsRepaired s n i.keys i.floors.items i.ends.items g0 = relooked s n i.keys i.floors.items i.ends.items g 0 r in
+    let k : IsKept s (names_of slots) (kept_arcs slots) g.low.items g.high.items = kept s n i.keys i.floors.items i.ends.items g r in
+    let lt : c.args.e < length i.fixed.items = subst (λ (t : Told). c.args.e < event_count t.situation) (sym c.self.view_is) c.requires.event in
+    let free : fixed_at s c.args.e ≡ None = subst (λ (t : Told). fixed_at t.situation c.args.e ≡ None) (sym c.self.view_is) c.requires.free in
+    let floor : floor_of s c.args.e ≤ c.args.moment = subst (λ (t : Told). floor_of t.situation c.args.e ≤ c.args.moment) (sym c.self.view_is) c.requires.floor in
+    let soon : c.args.moment ≤ i.horizon = subst (λ (t : Told). c.args.moment ≤ t.situation.horizon) (sym c.self.view_is) c.requires.in_time in
+    let g' : Engine = c.settle.new.engine in
+    let fixed = repaired_fixed s c.args.e c.args.moment n i.keys i.floors.items i.ends.items g0 g' r0 c.in_ok-settle.ensures.ok lt free floor soon in
+    let h = c.in_ok-settle.ensures.looks in
+    let moves = c.in_ok-settle.ensures.moves in
+    subst (λ (t : Told). IsCheap 2 t.situation (with_fixed t.situation c.args.e c.args.moment) g'.looks) c.self.view_is
+    (cheap s (with_fixed s c.args.e c.args.moment) n n i.keys i.keys i.floors.items i.ends.items i.floors.items i.ends.items g0 g' g'.up.amounts.items g'.down.amounts.items 2 g'.looks r0 fixed (length-set s.fixed c.args.e (Some c.args.moment)) moves.up moves.down (omega (arith, h)))
+
+pub returns-then-index-from-clause-most : goal.returns-then-index-from-clause-most
+returns-then-index-from-clause-most c =
+    let i = c.self.inside in
+    let s : Situation = settled i.horizon i.clock i.bounds.entries i.fixed.items i.lags.items in
+    let n = length i.bounds.entries in
+    let g0 : Engine = with_looks i.engine 0 in
+    let r0 : IsRepaired s n i.keys i.floors.items i.ends.items g0 = relooked s n i.keys i.floors.items i.ends.items i.engine 0 c.self.invariant in
+    let most = c.refute.ensures.looks (n + 2 * event_count s) (wired_here s n i.keys i.floors.items i.ends.items g0 r0) in
+    let edges = edges_are s n i.keys i.floors.items i.ends.items g0 r0 in
+    let told : edge_count s ≡ edge_count c.args.self.now.situation = ap (λ (t : Told). edge_count t.situation) c.self.view_is in
+    omega (arith, most, edges, told)
+
+pub returns-then-from-index-clause-most : goal.returns-then-from-index-clause-most
+returns-then-from-index-clause-most c =
+    let i = c.self.inside in
+    let s : Situation = settled i.horizon i.clock i.bounds.entries i.fixed.items i.lags.items in
+    let n = length i.bounds.entries in
+    let g0 : Engine = with_looks i.engine 0 in
+    let r0 : IsRepaired s n i.keys i.floors.items i.ends.items g0 = relooked s n i.keys i.floors.items i.ends.items i.engine 0 c.self.invariant in
+    let most = c.refute-then-from-index.ensures.looks (n + 2 * event_count s) (wired_here s n i.keys i.floors.items i.ends.items g0 r0) in
+    let edges = edges_are s n i.keys i.floors.items i.ends.items g0 r0 in
+    let told : edge_count s ≡ edge_count c.args.self.now.situation = ap (λ (t : Told). edge_count t.situation) c.self.view_is in
+    omega (arith, most, edges, told)

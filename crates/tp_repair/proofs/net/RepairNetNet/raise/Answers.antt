@@ -14,6 +14,10 @@ use Rattle.tp_repair.specs.declared.engine.Engine.{Engine}
 use Rattle.tp_repair.specs.Store.{names_of, kept_arcs}
 use Rattle.tp_repair.specs.Slots.{raised_node}
 use Rattle.tp_repair.specs.Engine.{IsRepaired, IsChanged}
+use Rattle.tp_repair.specs.Costs.{IsCheap}
+use Rattle.tp_repair.proofs.Cheap.{cheap_up, cheap_still, edges_are}
+use Rattle.std.proofs.Common.{refl}
+use Rattle.tp_repair.specs.Told.{edge_count}
 use Rattle.tp_repair.proofs.Repaired.{kept, holds_least, small_high, wired_here, with_looks, relooked}
 use Rattle.tp_repair.proofs.Renewed.{floor_there, floors_only, floors_before, from_event, none_arcs, repaired_raised, repaired_untouched}
 use Rattle.tp_repair.proofs.net.RepairNetNet.raise.Goals as goal
@@ -228,3 +232,62 @@ returns-clause-exact c =
     let changed : IsChanged (raised_node c.args.now i.lags.items) g0 c.raise.new.engine = simp c.deref-6.ensures.value at c.in_ok-raise.ensures.ok in
     subst (λ (t : Told). HasSchedule (at_moment t.situation c.args.now)) c.self.view_is
     (kept_possible _ _ _ _ _ (kept _ _ _ _ _ _ (repaired_raised s c.args.now n i.keys i.floors.items i.ends.items g0 c.raise.new.engine r0 changed soon)))
+
+pub returns-clause-cheap : goal.returns-clause-cheap
+returns-clause-cheap c =
+    let i = c.self.inside in
+    let s : Situation = settled i.horizon i.clock i.bounds.entries i.fixed.items i.lags.items in
+    let n = length i.bounds.entries in
+    let g : Engine = i.engine in
+    let g0 : Engine = with_looks g 0 in
+    let slots = g.store.nodes.slots in
+    let r : IsRepaired s n i.keys i.floors.items i.ends.items g = c.self.invariant in
+    let r0 : IsRepaired s n i.keys i.floors.items i.ends.items g0 = relooked s n i.keys i.floors.items i.ends.items g 0 r in
+    let k : IsKept s (names_of slots) (kept_arcs slots) g.low.items g.high.items = kept s n i.keys i.floors.items i.ends.items g r in
+    let soon : c.args.now ≤ i.horizon = subst (λ (t : Told). c.args.now ≤ t.situation.horizon) (sym c.self.view_is) c.requires.in_time in
+    let changed : IsChanged (raised_node c.args.now i.lags.items) g0 c.raise.new.engine = simp c.deref-6.ensures.value at c.in_ok-raise.ensures.ok in
+    let g' : Engine = c.raise.new.engine in
+    let raised = repaired_raised s c.args.now n i.keys i.floors.items i.ends.items g0 g' r0 changed soon in
+    subst (λ (t : Told). IsCheap 0 t.situation (at_moment t.situation c.args.now) g'.looks) c.self.view_is
+    (cheap_up s (at_moment s c.args.now) n n i.keys i.keys i.floors.items i.ends.items i.floors.items i.ends.items g0 g' g'.up.amounts.items g'.looks r0 raised refl c.in_ok-raise.ensures.moved c.in_ok-raise.ensures.stays c.in_ok-raise.ensures.looks)
+
+pub returns-then-now-self-clause-cheap : goal.returns-then-now-self-clause-cheap
+returns-then-now-self-clause-cheap c =
+    let still : c.args.now ≡ c.args.self.now.situation.clock = c.if-now-self.true ∙ ap (λ (t : Told). t.situation.clock) c.self.view_is in
+    subst (λ (t : Situation). IsCheap 0 c.args.self.now.situation t 0) (sym (at_same c.args.self.now.situation c.args.now still)) (subst (λ (t : Told). IsCheap 0 t.situation t.situation 0) c.self.view_is (cheap_still _ _ _ _ _ _ c.self.invariant))
+
+pub returns-in_err-reason-clause-most : goal.returns-in_err-reason-clause-most
+returns-in_err-reason-clause-most c =
+    let i = c.self.inside in
+    let s : Situation = settled i.horizon i.clock i.bounds.entries i.fixed.items i.lags.items in
+    let n = length i.bounds.entries in
+    let g0 : Engine = with_looks i.engine 0 in
+    let r0 : IsRepaired s n i.keys i.floors.items i.ends.items g0 = relooked s n i.keys i.floors.items i.ends.items i.engine 0 c.self.invariant in
+    let most = c.refute.ensures.looks (n + 2 * event_count s) (wired_here s n i.keys i.floors.items i.ends.items g0 r0) in
+    let edges = edges_are s n i.keys i.floors.items i.ends.items g0 r0 in
+    let told : edge_count s ≡ edge_count c.args.self.now.situation = ap (λ (t : Told). edge_count t.situation) c.self.view_is in
+    omega (arith, most, edges, told)
+
+pub returns-in-Some-clause-most : goal.returns-in-Some-clause-most
+returns-in-Some-clause-most c =
+    let i = c.self.inside in
+    let s : Situation = settled i.horizon i.clock i.bounds.entries i.fixed.items i.lags.items in
+    let n = length i.bounds.entries in
+    let g0 : Engine = with_looks i.engine 0 in
+    let r0 : IsRepaired s n i.keys i.floors.items i.ends.items g0 = relooked s n i.keys i.floors.items i.ends.items i.engine 0 c.self.invariant in
+    let most = c.refute.ensures.looks (n + 2 * event_count s) (wired_here s n i.keys i.floors.items i.ends.items g0 r0) in
+    let edges = edges_are s n i.keys i.floors.items i.ends.items g0 r0 in
+    let told : edge_count s ≡ edge_count c.args.self.now.situation = ap (λ (t : Told). edge_count t.situation) c.self.view_is in
+    omega (arith, most, edges, told)
+
+pub returns-clause-most : goal.returns-clause-most
+returns-clause-most c =
+    let i = c.self.inside in
+    let s : Situation = settled i.horizon i.clock i.bounds.entries i.fixed.items i.lags.items in
+    let n = length i.bounds.entries in
+    let g0 : Engine = with_looks i.engine 0 in
+    let r0 : IsRepaired s n i.keys i.floors.items i.ends.items g0 = relooked s n i.keys i.floors.items i.ends.items i.engine 0 c.self.invariant in
+    let most = c.raise.ensures.most (n + 2 * event_count s) (wired_here s n i.keys i.floors.items i.ends.items g0 r0) in
+    let edges = edges_are s n i.keys i.floors.items i.ends.items g0 r0 in
+    let told : edge_count s ≡ edge_count c.args.self.now.situation = ap (λ (t : Told). edge_count t.situation) c.self.view_is in
+    omega (arith, most, edges, told)

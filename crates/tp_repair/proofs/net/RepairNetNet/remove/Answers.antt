@@ -25,7 +25,7 @@ key_of-key-requires c =
     let g0 : Engine = with_looks g 0 in
     let r : IsRepaired s n i.keys i.floors.items i.ends.items g = c.self.invariant in
     let r0 : IsRepaired s n i.keys i.floors.items i.ends.items g0 = relooked s n i.keys i.floors.items i.ends.items g 0 r in
-    let there : get s.bounds c.args.id.0 ≢ None = λ none. c.requires (sym (ap (λ (t : Told). get t.situation.bounds c.args.id.0) c.self.view_is) ∙ none) in
+    let there : get s.bounds c.args.id.0 ≢ None = λ none. c.requires.in_force (sym (ap (λ (t : Told). get t.situation.bounds c.args.id.0) c.self.view_is) ∙ none) in
     let b = some_of (get s.bounds c.args.id.0) there in
     has_own_key s n i.keys i.floors.items i.ends.items g r c.args.id b.0 b.1
 
@@ -38,7 +38,7 @@ leave-requires-clause-node c =
     let g0 : Engine = with_looks g 0 in
     let r : IsRepaired s n i.keys i.floors.items i.ends.items g = c.self.invariant in
     let r0 : IsRepaired s n i.keys i.floors.items i.ends.items g0 = relooked s n i.keys i.floors.items i.ends.items g 0 r in
-    let there : get s.bounds c.args.id.0 ≢ None = λ none. c.requires (sym (ap (λ (t : Told). get t.situation.bounds c.args.id.0) c.self.view_is) ∙ none) in
+    let there : get s.bounds c.args.id.0 ≢ None = λ none. c.requires.in_force (sym (ap (λ (t : Told). get t.situation.bounds c.args.id.0) c.self.view_is) ∙ none) in
     let b = some_of (get s.bounds c.args.id.0) there in
     own_node s n i.keys i.floors.items i.ends.items g r c.args.id b.0 c.key_of-key.result b.1 c.key_of-key.ensures
 
@@ -51,7 +51,7 @@ leave-requires-clause-start c =
     let g0 : Engine = with_looks g 0 in
     let r : IsRepaired s n i.keys i.floors.items i.ends.items g = c.self.invariant in
     let r0 : IsRepaired s n i.keys i.floors.items i.ends.items g0 = relooked s n i.keys i.floors.items i.ends.items g 0 r in
-    let there : get s.bounds c.args.id.0 ≢ None = λ none. c.requires (sym (ap (λ (t : Told). get t.situation.bounds c.args.id.0) c.self.view_is) ∙ none) in
+    let there : get s.bounds c.args.id.0 ≢ None = λ none. c.requires.in_force (sym (ap (λ (t : Told). get t.situation.bounds c.args.id.0) c.self.view_is) ∙ none) in
     let b = some_of (get s.bounds c.args.id.0) there in
     start_left s n i.keys i.floors.items i.ends.items g c.args.id b.0 c.key_of-key.result (c.from-amount.result + 1) r b.1 c.key_of-key.ensures (omega (arith, c.from-amount.ensures))
 
@@ -80,7 +80,7 @@ leave-requires-clause-start_high c =
     let g0 : Engine = with_looks g 0 in
     let r : IsRepaired s n i.keys i.floors.items i.ends.items g = c.self.invariant in
     let r0 : IsRepaired s n i.keys i.floors.items i.ends.items g0 = relooked s n i.keys i.floors.items i.ends.items g 0 r in
-    let there : get s.bounds c.args.id.0 ≢ None = λ none. c.requires (sym (ap (λ (t : Told). get t.situation.bounds c.args.id.0) c.self.view_is) ∙ none) in
+    let there : get s.bounds c.args.id.0 ≢ None = λ none. c.requires.in_force (sym (ap (λ (t : Told). get t.situation.bounds c.args.id.0) c.self.view_is) ∙ none) in
     let b = some_of (get s.bounds c.args.id.0) there in
     start_left_high s n i.keys i.floors.items i.ends.items g c.args.id b.0 c.key_of-key.result (c.from-amount.result + 1) r b.1 c.key_of-key.ensures (omega (arith, c.from-amount.ensures))
 
@@ -107,7 +107,7 @@ invariant_of-self-2 c =
     let g0 : Engine = with_looks g 0 in
     let r : IsRepaired s n i.keys i.floors.items i.ends.items g = c.self.invariant in
     let r0 : IsRepaired s n i.keys i.floors.items i.ends.items g0 = relooked s n i.keys i.floors.items i.ends.items g 0 r in
-    let there : get s.bounds c.args.id.0 ≢ None = λ none. c.requires (sym (ap (λ (t : Told). get t.situation.bounds c.args.id.0) c.self.view_is) ∙ none) in
+    let there : get s.bounds c.args.id.0 ≢ None = λ none. c.requires.in_force (sym (ap (λ (t : Told). get t.situation.bounds c.args.id.0) c.self.view_is) ∙ none) in
     let b = some_of (get s.bounds c.args.id.0) there in
     let m = length c.remove-bound.new.self.entries in
     let held_b : tree.get nat_cmp i.bounds c.args.id.0 ≡ Some b.0 = sym (get_held i.bounds c.args.id.0) ∙ b.1 in
@@ -139,7 +139,7 @@ returns-clause-possible c =
     let g0 : Engine = with_looks g 0 in
     let r : IsRepaired s n i.keys i.floors.items i.ends.items g = c.self.invariant in
     let r0 : IsRepaired s n i.keys i.floors.items i.ends.items g0 = relooked s n i.keys i.floors.items i.ends.items g 0 r in
-    let there : get s.bounds c.args.id.0 ≢ None = λ none. c.requires (sym (ap (λ (t : Told). get t.situation.bounds c.args.id.0) c.self.view_is) ∙ none) in
+    let there : get s.bounds c.args.id.0 ≢ None = λ none. c.requires.in_force (sym (ap (λ (t : Told). get t.situation.bounds c.args.id.0) c.self.view_is) ∙ none) in
     let b = some_of (get s.bounds c.args.id.0) there in
     let m = length c.remove-bound.new.self.entries in
     let held_b : tree.get nat_cmp i.bounds c.args.id.0 ≡ Some b.0 = sym (get_held i.bounds c.args.id.0) ∙ b.1 in
