@@ -5,3 +5,5 @@ pub mod LagsLemmas
 pub mod Heads
 pub mod Pairs
 pub mod Told
+pub mod NeatTexts
+pub mod AnswerForms

@@ -1,3 +1,4 @@
 pub mod Form
 pub mod Auditing
 pub mod Telling
+pub mod Laws

@@ -83,13 +83,13 @@ fits_reason m c edges ready ids events is =
     let count : event_count (asked m c) < 2 ^ 16 = omega (arith, events_asked m c) in
     fits_all (asked m c) m.next edges is.bounds (free_asked m c ready.unused) ids count is.exist
 
-front_back : (ds : List ℕ) (z : ℕ) → front_of (ds ++ z ∷ []) ≡ ds
+pub front_back : (ds : List ℕ) (z : ℕ) → front_of (ds ++ z ∷ []) ≡ ds
 front_back ds z = grind (arith, common_steps)
 
-last_back : (ds : List ℕ) (z : ℕ) → last_of (ds ++ z ∷ []) ≡ z ∷ []
+pub last_back : (ds : List ℕ) (z : ℕ) → last_of (ds ++ z ∷ []) ≡ z ∷ []
 last_back ds z = grind (arith, common_steps)
 
-edge_back : (e : Edge) → Fits_edge e → edge_of (edge_text e) ≡ Some e
+pub edge_back : (e : Edge) → Fits_edge e → edge_of (edge_text e) ≡ Some e
 edge_back (Own id) fit = ap (option_map (λ n. Own (record { 0 = n }))) (moment_back id.0 (omega arith))
 edge_back New fit = refl
 edge_back (PastHigh e) fit = rw (last_back (decimal e) 43, front_back (decimal e) 43, event_back e (omega arith)) refl
@@ -97,7 +97,7 @@ edge_back (PastLow e) fit = rw (last_back (decimal e) 45, front_back (decimal e)
 edge_back (Now e) fit = ap (option_map (λ n. Now n)) (event_back e (omega arith))
 edge_back (End e) fit = ap (option_map (λ n. End n)) (event_back e (omega arith))
 
-edge_word : (e : Edge) (rest : List ℕ) → Fits_edge e → Gap rest → words_of (edge_text e ++ rest) ≡ edge_text e ∷ words_of rest
+pub edge_word : (e : Edge) (rest : List ℕ) → Fits_edge e → Gap rest → words_of (edge_text e ++ rest) ≡ edge_text e ∷ words_of rest
 edge_word (Own id) rest fit gap = word_then 98 (decimal id.0) rest refl (decimal_solid id.0 (omega arith)) gap
 edge_word New rest fit gap = word_then 110 (codes "ew") rest refl (refl, (refl, tt)) gap
 edge_word (PastHigh e) rest fit gap = word_then 112 (codes "ast" ++ decimal e ++ codes "+") rest refl (refl, (refl, (refl, solid_more (decimal e) (codes "+") (decimal_solid e (omega arith)) (refl, tt)))) gap
@@ -105,7 +105,7 @@ edge_word (PastLow e) rest fit gap = word_then 112 (codes "ast" ++ decimal e ++ 
 edge_word (Now e) rest fit gap = word_then 110 (codes "ow" ++ decimal e) rest refl (refl, (refl, decimal_solid e (omega arith))) gap
 edge_word (End e) rest fit gap = word_then 101 (codes "nd" ++ decimal e) rest refl (refl, (refl, decimal_solid e (omega arith))) gap
 
-gap_next : (es : List Edge) → Gap (flat_map (λ e. 32 ∷ edge_text e) es)
+pub gap_next : (es : List Edge) → Gap (flat_map (λ e. 32 ∷ edge_text e) es)
 gap_next [] = tt
 gap_next (e ∷ es) = refl
 
