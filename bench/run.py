@@ -346,6 +346,7 @@ def changes(program, name, bounds, count):
     session = Session(program)
     session.timed(f"{name}: {len(bounds):,} bounds", bounds)
     session.timed(f"{name}: bounds that change nothing", loose(count))
+    session.timed(f"{name}: bounds that narrow few windows", [f"add {EVENTS - 1} o -{EVENTS + k}" for k in range(count)])
     session.timed(f"{name}: bounds that narrow each window", [f"add o {EVENTS - 1} {HORIZON - 20_000 * (k + 1)}" for k in range(count)])
     session.timed(f"{name}: bounds that are refused", [f"add {EVENTS - 1} 0 -{20_000 + k}" for k in range(count)])
     session.timed(f"{name}: windows", [f"window {k}" for k in range(10 * count)])
