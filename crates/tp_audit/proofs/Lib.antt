@@ -7,3 +7,4 @@ pub mod Pairs
 pub mod Told
 pub mod NeatTexts
 pub mod AnswerForms
+pub mod PairForms

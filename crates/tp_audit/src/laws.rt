@@ -1,7 +1,7 @@
 //! What holds of what a journal writes, whatever run it is of. These calls do nothing: their
 //! contracts are the laws.
 
-ghost use Rattle.tp_audit.specs.Laws.{AnswersHaveTheForm, QuestionsAreRead};
+ghost use Rattle.tp_audit.specs.Laws.{AnswersHaveTheForm, QuestionsAreRead, PairsHaveTheForm};
 
 /// Each answer of the machine, as a journal writes it, has the form of an answer.
 pub fn answers_have_the_form()
@@ -11,4 +11,10 @@ pub fn answers_have_the_form()
 /// Each question, as a journal writes it, is read as its command.
 pub fn questions_are_read()
     ensures { QuestionsAreRead }
+{}
+
+/// The pairs of a run, as a journal writes them, are questions of the format, each with a line
+/// behind it that has the form of an answer.
+pub fn pairs_have_the_form()
+    ensures { PairsHaveTheForm }
 {}

@@ -15,5 +15,5 @@ mod telling;
 
 pub use auditing::audit;
 pub use faults::{AuditFault, Audited, JournalHead};
-pub use laws::{answers_have_the_form, questions_are_read};
+pub use laws::{answers_have_the_form, pairs_have_the_form, questions_are_read};
 pub use telling::journal_head;
