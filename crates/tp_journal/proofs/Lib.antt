@@ -4,3 +4,4 @@ pub mod Verdicts
 pub mod WriteLemmas
 pub mod SoundLemmas
 pub mod MarkLemmas
+pub mod HeadLemmas

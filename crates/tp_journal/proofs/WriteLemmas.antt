@@ -445,7 +445,7 @@ count_step : (o : Option Bound) (bs : List Bound) (k : ℕ) → o ≢ None → l
 count_step None bs k some is = absurd (some refl)
 count_step (Some b) bs k some is = ap suc is
 
-own_count : (held : FinMap nat_cmp Bound) (id k : ℕ) → ((q : ℕ) → q < id + k → get held q ≢ None) → length (bounds_from held id k) ≡ k
+pub own_count : (held : FinMap nat_cmp Bound) (id k : ℕ) → ((q : ℕ) → q < id + k → get held q ≢ None) → length (bounds_from held id k) ≡ k
 own_count held id zero h = refl
 own_count held id (suc k) h = count_step (get held id) (bounds_from held (suc id) k) k (h id (omega arith)) (own_count held (suc id) k (λ q lt. h q (omega arith)))
 

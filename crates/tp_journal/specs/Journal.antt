@@ -1,10 +1,12 @@
 -- What a journal is: the head of an executive, then for each line that has an answer a pair, whose commands with their answers are a
 -- run of the machine. What breaks the format: no journal's lines go on so.
-use Rattle.std.specs.Prelude.{◌≡◌, ℕ, zero, suc, ◌+◌, ◌≤◌, ◌<◌, ◌⊎◌, nat_eq, if◌then◌else◌, List, [], ◌∷◌, ◌++◌, length, map, Option, Some, None, MatchOption, codes, decimal, flat_map}
+use Rattle.std.specs.Prelude.{◌≡◌, ◌≢◌, ℕ, zero, suc, ◌+◌, ◌≤◌, ◌<◌, ◌⊎◌, nat_eq, if◌then◌else◌, List, [], ◌∷◌, ◌++◌, length, map, Option, Some, None, MatchOption, ℤ, pos, negsuc, codes, decimal, flat_map}
 use Rattle.std.specs.List.{All}
 use Rattle.std.specs.Ordering.{nat_cmp}
 use Rattle.std.specs.FinMap.{FinMap, get}
 use Rattle.tp_bounds.specs.declared.Bound.{Bound}
+use Rattle.tp_bounds.specs.declared.Point.{Point}
+use Rattle.tp_bounds.specs.declared.Point.TheVariants.{Origin, Event}
 use Rattle.tp_bounds.specs.Situation.{event_count}
 use Rattle.tp_exec.specs.declared.command.Kind.{Kind}
 use Rattle.tp_exec.specs.declared.command.Kind.TheVariants.{Bare, Kept, Altered}
@@ -50,9 +52,18 @@ abbrev pub AreLags : ℕ → ℕ → List (ℕ × ℕ) → Type 0
 AreLags least events [] = Unit {0}
 AreLags least events (p ∷ ps) = (least ≤ p.0) × (p.0 < events) × (0 < p.1) × (p.1 ≤ 1_000_000_000) × AreLags (p.0 + 1) events ps
 
--- a bound that some line spells
+-- the numbers of a point and of a weight are ones that words spell
+abbrev pub IsWritablePoint : Point → Type 0
+IsWritablePoint Origin = Unit {0}
+IsWritablePoint (Event e) = e ≤ 65_535
+
+abbrev pub IsWritableWeight : ℤ → Type 0
+IsWritableWeight (pos n) = n < 10_000_000_000
+IsWritableWeight (negsuc n) = n + 1 < 10_000_000_000
+
+-- and so are those of a bound
 abbrev pub IsWritable : Bound → Type 0
-IsWritable b = IsSpelled (Add b)
+IsWritable b = IsWritablePoint b.from × IsWritablePoint b.to × IsWritableWeight b.w
 
 -- a version of the format
 abbrev pub IsVersion : ℕ → Type 0
@@ -137,17 +148,18 @@ Runs version old (Some p ∷ entries) new = (mid : Machine) × IsSpelled p.0 × 
 abbrev pub journal_lines : ℕ → Machine → List Entry → List (List ℕ)
 journal_lines version old entries = head_lines (head_of version old) ++ flat_map pair_lines entries
 
+-- each line with its end
+abbrev pub text_of : List (List ℕ) → List ℕ
+text_of lines = flat_map (λ line. line ++ 10 ∷ []) lines
+
 -- these are the lines of a journal of an executive that begins in that state, with so many pairs, and it comes to the other state
 pub record IsJournal (version : ℕ) (old : Machine) (lines : List (List ℕ)) (pairs : ℕ) (new : Machine) : Type 0 where
   pub entries : List Entry
   pub head : IsHead (head_of version old)
   pub runs : Runs version old entries new
   pub count : length entries ≡ pairs
-  pub lines_are : lines ≡ journal_lines version old entries
-
--- each line with its end
-abbrev pub text_of : List (List ℕ) → List ℕ
-text_of lines = flat_map (λ line. line ++ 10 ∷ []) lines
+  pub free : All (λ line. All (λ b. b ≢ 10) line) lines
+  pub bytes_are : text_of lines ≡ text_of (journal_lines version old entries)
 
 -- no line of a journal has more bytes
 abbrev pub longest_line : ℕ

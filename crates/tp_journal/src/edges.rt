@@ -9,7 +9,7 @@ use tp_bounds::{BoundId, Edge, Reason};
 use tp_script::{next_word, read_event, read_moment};
 
 /// Whether a word begins with that part.
-pub(crate) fn begins_with(word: &[u8], part: &[u8]) -> bool
+pub fn begins_with(word: &[u8], part: &[u8]) -> bool
     ensures { result ≡ begins part.now word.now }
 {
     part.len() <= word.len() && &word[..part.len()] == part
@@ -33,7 +33,7 @@ fn read_past(word: &[u8]) -> Option<Edge>
 }
 
 /// The edge that a word spells.
-fn read_edge(word: &[u8]) -> Option<Edge>
+pub fn read_edge(word: &[u8]) -> Option<Edge>
     ensures { result ≡ edge_of word.now }
 {
     if word == b"new".as_slice() {

@@ -17,6 +17,8 @@ mod reasons;
 mod refusals;
 mod writing;
 
-pub use faults::{AuditFault, Audited, JournalFault, JournalHead};
+pub use edges::{begins_with, read_edge};
+pub use faults::JournalFault;
 pub use judging::{Verdict, judge};
+pub use page::{head_text, is_text_of_command};
 pub use writing::journal;

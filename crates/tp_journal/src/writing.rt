@@ -81,7 +81,10 @@ fn write_lags<N: Net, V: Sink>(log: &mut V, executive: &Executive<N>) -> Result<
 }
 
 /// Writes the head of an executive.
-fn write_head<N: Net, V: Sink>(log: &mut V, executive: &Executive<N>) -> Result<(), Failed>
+pub(crate) fn write_head<N: Net, V: Sink>(
+    log: &mut V,
+    executive: &Executive<N>,
+) -> Result<(), Failed>
     requires { AllAreInForce executive.now }
     ensures bytes { Writes (V.held log.old) (V.held log.new) (text_of (head_lines (head_of 2 executive.now))) result }
     ensures cause { V.failures log.new ≡ failures_after (V.failures log.old) result }

@@ -1,7 +1,10 @@
 //! Tests of `tp_journal`, apart from it so that the gate proves it once. `writing`: sessions with their journals, over readers
-//! and writers in memory; `judging`: answers that the machine allows, and others.
+//! and writers in memory; `judging`: answers that the machine allows,
+//! and others; `auditing`: journals that are audited, and their heads.
 #![tactic(auto)]
 
+#[cfg(test)]
+mod auditing;
 #[cfg(test)]
 mod judging;
 #[cfg(test)]
