@@ -1,5 +1,5 @@
 -- What a parse asks for.
-use Rattle.std.proofs.Common.{◌≡◌, ◌∙◌, ◌⊎◌, ap, arith, ℕ, ◌∷◌, inl, inr, refl, sym, subst, List, [], Option, Some, None, true, codes}
+use Rattle.std.proofs.Common.{◌≡◌, ◌∙◌, ◌⊎◌, ap, arith, ℕ, ◌∷◌, inl, inr, refl, sym, subst, List, [], Option, Some, None, Bool, true, false, nat_eq, codes}
 use Rattle.std.specs.Prelude.{Box, Result, Ok, Err, option_map}
 use Rattle.std.specs.Box.{box_value}
 use Rattle.clap.specs.Words.{FailsBy, IsAmong, ReadsOne, Row, Text, fault_of, one_of, one_text, is_simple, is_simple_and_free, kind_of, rows_of, subcommand_name_of, subcommand_of, subcommand_rows, subcommand_rows_of}
@@ -18,7 +18,7 @@ use Rattle.tp_program.specs.Requests.{AskForOneThing, AsksBy, AsksFor, NamesBare
 use Rattle.tp_text.specs.Scales.{scale_ticks}
 use Rattle.tp_plan_files.specs.declared.plan_words.PlanWords.{PlanWords}
 use Rattle.tp_program.specs.declared.requests.Request.{Request}
-use Rattle.tp_program.specs.declared.requests.Request.TheVariants.{Bare, Check, Net, Help}
+use Rattle.tp_program.specs.declared.requests.Request.TheVariants.{Bare, Check, Net, Run, Help}
 
 module _ {Z : Type 0} where
   none_rows : (s : Option (Box SubCommand Z)) → option_map (λ b. (out-SubCommand (box_value b)).name.now) s ≡ None → subcommand_rows s ≡ None
@@ -50,6 +50,7 @@ pub asks_by : (words : List Text) (named : Option (Text × List Row)) (r : Reque
 asks_by words named Bare free is h = (free, subst (λ n. NamesBare n) is h)
 asks_by words named (Check w) free is h = (free, subst (λ n. AsksBy n (Check w)) is h)
 asks_by words named (Net w) free is h = (free, subst (λ n. AsksBy n (Net w)) is h)
+asks_by words named (Run w) free is h = (free, subst (λ n. AsksBy n (Run w)) is h)
 asks_by words named (Help text) free is h = absurd h
 
 -- an error that is a call for help or for the version
@@ -131,6 +132,24 @@ net_words w domain problem plan scale horizon = (
   ),
 )
 
+pub run_words : (w : PlanWords) → w.domain.now ≡ codes "d" → w.problem.now ≡ codes "p" → w.plan.now ≡ codes "l" → scale_ticks w.scale ≡ 1000 → w.horizon ≡ 1000000 → AsksFor (codes "run" ∷ codes "d" ∷ codes "p" ∷ codes "--scale" ∷ codes "1000" ∷ codes "l" ∷ []) (Run w)
+unfolding clap_on_literals
+run_words w domain problem plan scale horizon = (
+  refl,
+  (
+    _,
+    refl,
+    record {
+      domain = ap Some (sym domain);
+      problem = ap Some (sym problem);
+      plan = ap Some (sym plan);
+      scale = (codes "1000", refl, sym scale);
+      horizon = (codes "1000000", refl, sym horizon);
+      within = omega (arith, horizon);
+    },
+  ),
+)
+
 abbrev first_name : Option (Text × List Row) → Text
 first_name None = []
 first_name (Some named) = named.0
@@ -142,6 +161,22 @@ one_name named a b r s h k = sym (ap first_name h) ∙ ap first_name k
 no_text : (faults : List ErrorKind) → faults ≡ [] → IsAmong DisplayHelp faults ⊎ IsAmong DisplayVersion faults → ⊥
 no_text faults none (inl help) = subst (λ ks. IsAmong DisplayHelp ks) none help
 no_text faults none (inr version) = subst (λ ks. IsAmong DisplayVersion ks) none version
+
+abbrev begins_with_n : Text → Bool
+begins_with_n [] = false
+begins_with_n (c ∷ cs) = nat_eq c 110
+
+apart : true ≡ false → ⊥
+apart same = cc
+
+run_or_net : codes "net" ≡ codes "run" → ⊥
+run_or_net same = apart (ap begins_with_n same)
+
+run_or_check : codes "check" ≡ codes "run" → ⊥
+run_or_check same = cc
+
+run_or_bare : codes "run" ≡ codes "bare" → ⊥
+run_or_bare same = cc
 
 -- no words ask for two kinds of things
 pub distinct : (words : List Text) → AskForOneThing words
@@ -158,5 +193,11 @@ distinct words =
           cc;
       net_help = λ w text net help. no_text (fault_of tempo_app words) net.0 help;
       bare_help = λ text bare help. no_text (fault_of tempo_app words) bare.0 help;
+      bare_run = λ w bare run. run_or_bare (subst NamesBare run.1.1 bare.1);
+      check_run = λ v w check run.
+          run_or_check (one_name (subcommand_of tempo_app words) (codes "check") (codes "run") check.1.0 run.1.0 check.1.1 run.1.1);
+      net_run = λ v w net run.
+          run_or_net (one_name (subcommand_of tempo_app words) (codes "net") (codes "run") net.1.0 run.1.0 net.1.1 run.1.1);
+      run_help = λ w text run help. no_text (fault_of tempo_app words) run.0 help;
       check_help = λ w text check help. no_text (fault_of tempo_app words) check.0 help;
     }

@@ -13,27 +13,13 @@ use Rattle.tp_validate.specs.declared.verdicts.Verdict.{Verdict}
 use Rattle.tp_validate.specs.declared.verdicts.Verdict.TheVariants.{Valid, Invalid}
 use Rattle.tp_deorder.specs.Answers.{IsPlanNetOf, OnTooMany, PassesLimits}
 use Rattle.tp_deorder.specs.declared.DeorderFault.{DeorderFault}
-use Rattle.tp_deorder.specs.declared.DeorderFault.TheVariants as deorder_fault
-use Rattle.tp_text.specs.declared.fault.TextFault.{TextFault}
-use Rattle.tp_text.specs.declared.fault.TextFault.TheVariants as text_fault
-use Rattle.tp_ast.specs.declared.fault.SyntaxFault.{SyntaxFault}
-use Rattle.tp_ast.specs.declared.fault.SyntaxFault.TheVariants as syntax_fault
-use Rattle.tp_ground.specs.declared.fault.GroundFault.{GroundFault}
-use Rattle.tp_ground.specs.declared.fault.GroundFault.TheVariants as ground_fault
-use Rattle.tp_happen.specs.declared.reading.PlanFault.{PlanFault}
-use Rattle.tp_happen.specs.declared.reading.PlanFault.TheVariants as plan_fault
 use Rattle.tp_files.specs.FaultLines.{Tells}
-use Rattle.tp_files.specs.FileFaults.{file_status}
-use Rattle.tp_files.specs.declared.files.FileFault.{FileFault}
-use Rattle.tp_files.specs.declared.files.FileFault.TheVariants as file_fault
-use Rattle.tp_plan_files.specs.JudgeLines.{ground_status, judge_status, plan_status, syntax_status, text_status}
-use Rattle.tp_plan_files.specs.declared.judging.JudgeFault.TheVariants as judge_fault
 use Rattle.tp_plan_files.specs.Causes.{Explains}
 use Rattle.tp_plan_files.specs.Named.{IsNamedPlan}
 use Rattle.tp_plan_files.specs.VerdictLines.{invalid_line, verdict_line}
-use Rattle.tp_plan_files.specs.declared.judging.JudgeFault.{JudgeFault}
 use Rattle.tp_plan_files.specs.declared.plan_words.PlanWords.{PlanWords}
 use Rattle.tp_plan_files.proofs.NamedLemmas.{Same, explains_over, plan_over}
+use Rattle.tp_plan_runs.proofs.StatusLemmas.{IsStatus, judge_is, network_is, three}
 use Rattle.tp_program.specs.Checks.{IsVerdictLine, Says, SaysPart, StopsCheck, StopsLine, TellsVerdict}
 use Rattle.tp_program.specs.Networks.{IsShownText, Shows, ShowsPart, ShowsVerdict, StopsNet, StopsShown, TellsNetwork}
 use Rattle.tp_program.specs.Stops.{EndsPlan, StopsOn, stop_failures, stop_status, stop_text}
@@ -167,73 +153,12 @@ no_write n (Judging fault) other = refl
 no_write n (Network fault) other = refl
 no_write n Write other = absurd (other refl)
 
--- ---- the status of a fault
-
-abbrev pub IsStatus : ℕ → Type 0
-IsStatus n = (2 ≤ n) × (n ≤ 3)
-
-two : IsStatus 2
-two = (omega arith, omega arith)
-
-three : IsStatus 3
-three = (omega arith, omega arith)
-
-file_is : (fault : FileFault) → IsStatus (file_status fault)
-file_is file_fault.Memory = three
-file_is file_fault.Read = three
-file_is file_fault.Utf8 = two
-file_is file_fault.TooLong = two
-
-text_is : (fault : TextFault) → IsStatus (text_status fault)
-text_is text_fault.Memory = three
-text_is text_fault.TooLong = two
-text_is (text_fault.BadByte at) = two
-text_is (text_fault.Unclosed at) = two
-text_is (text_fault.Extra at) = two
-text_is (text_fault.Depth at) = two
-text_is text_fault.Empty = two
-
-syntax_is : (fault : SyntaxFault) → IsStatus (syntax_status fault)
-syntax_is syntax_fault.Memory = three
-syntax_is (syntax_fault.Text fault) = text_is fault
-syntax_is (syntax_fault.Shape at) = two
-syntax_is (syntax_fault.Unknown at) = two
-syntax_is (syntax_fault.Twice at) = two
-syntax_is (syntax_fault.Types at) = two
-syntax_is (syntax_fault.LeftOut at what) = two
-
-ground_is : (fault : GroundFault) → IsStatus (ground_status fault)
-ground_is ground_fault.Memory = three
-ground_is (ground_fault.TooMany kind) = two
-ground_is ground_fault.Range = two
-
-plan_is : (fault : PlanFault) → IsStatus (plan_status fault)
-plan_is plan_fault.Memory = three
-plan_is (plan_fault.Line line) = two
-plan_is (plan_fault.NoAction line) = two
-plan_is (plan_fault.NotTicks line) = two
-plan_is plan_fault.TooMany = two
-plan_is (plan_fault.NoDuration line) = two
-plan_is (plan_fault.Horizon line) = two
-
-judge_is : (fault : JudgeFault) → IsStatus (judge_status fault)
-judge_is (judge_fault.DomainFile fault) = file_is fault
-judge_is (judge_fault.Domain fault) = syntax_is fault
-judge_is (judge_fault.ProblemFile fault) = file_is fault
-judge_is (judge_fault.Problem fault) = syntax_is fault
-judge_is (judge_fault.Task fault) = ground_is fault
-judge_is (judge_fault.PlanFile fault) = file_is fault
-judge_is (judge_fault.Plan fault) = plan_is fault
-judge_is judge_fault.Memory = three
-judge_is judge_fault.Range = two
+-- ---- how a command ends
 
 stop_is : (stop : PlanStop) → IsStatus (stop_status stop)
 stop_is (Judging fault) = judge_is fault
-stop_is (Network deorder_fault.Memory) = three
-stop_is (Network deorder_fault.TooMany) = two
+stop_is (Network fault) = network_is fault
 stop_is Write = three
-
--- ---- how a command ends
 
 pub ends : (tells : Task → List Step → List ℕ → Type 0) (passes : Task → List Step → DeorderFault → Type 0) (held : List ℕ → Option (List ℕ)) (w : PlanWords) (status : ℕ) (before now : Option (List ℕ)) (output output-now failures : ℕ) (said : Option (List ℕ)) (failures-now : ℕ) (said-now : Option (List ℕ)) (stop : PlanStop) (text : List ℕ) → StopsOn tells passes held w before now stop → status ≡ stop_status stop → output-now ≡ stop_failures {T = Bool} output (Err stop) → text ≡ stop_text w stop → Tells text failures said failures-now said-now → EndsPlan tells passes held w status before now output output-now failures said failures-now said-now
 ends tells passes held w status before now output output-now failures said failures-now said-now stop text cause is write line told =

@@ -6,15 +6,19 @@ use Rattle.std.specs.String.{string_bytes}
 use Rattle.tp_device.specs.Bytes.{AppendsPart}
 use Rattle.tp_device.proofs.Parts.{appends_none}
 use Rattle.tp_bare.specs.Bare.{AnswersAll, AnswersPart, IsRefused}
-use Rattle.tp_program.specs.Checks.{SaysInvalid, SaysPart, SaysValid}
-use Rattle.tp_program.specs.Done.{AnswersNo, DoesPart, DoesWhatIsAsked, IsDone, IsPartDone}
+use Rattle.tp_ground.specs.declared.task.Task.{Task}
+use Rattle.tp_happen.specs.declared.plans.Step.{Step}
+use Rattle.tp_plan_runs.specs.Invalid.{SaysInvalid, SaysInvalidPart}
+use Rattle.tp_plan_runs.specs.Runs.{EndsInNone, EndsInPart, EndsInPlan, RunsPart, RunsToNone, RunsToPlan, WritesPart}
+use Rattle.tp_program.specs.Checks.{SaysPart, SaysValid}
+use Rattle.tp_program.specs.Done.{AnswersNo, DoesPart, DoesWhatIsAsked, IsAnsweredNo, IsDone, IsPartDone}
 use Rattle.tp_program.specs.Networks.{ShowsNetwork, ShowsPart}
 use Rattle.tp_files.specs.FaultLines.{Tells, TellsFault, TellsRefusal, fault_line}
-use Rattle.tp_program.specs.Requests.{AsksFor, AsksForNoNetwork}
+use Rattle.tp_program.specs.Requests.{AsksFor, AsksForNoCommands}
 use Rattle.tp_program.specs.Streams.{Ends, HandsOn, Runs, TellsSome}
 use Rattle.tp_plan_files.specs.declared.plan_words.PlanWords.{PlanWords}
 use Rattle.tp_program.specs.declared.requests.Request.{Request}
-use Rattle.tp_program.specs.declared.requests.Request.TheVariants.{Bare, Check, Net, Help}
+use Rattle.tp_program.specs.declared.requests.Request.TheVariants.{Bare, Check, Net, Run, Help}
 
 -- what was appended there was appended here
 abbrev pub Shift : Option (List ℕ) → Option (List ℕ) → Option (List ℕ) → Option (List ℕ) → Type 0
@@ -95,24 +99,96 @@ shows_part_over : (files : List ℕ → Option (List ℕ)) (w : PlanWords) (a b 
 shows_part_over files w a b c d over (inl none) = inl (over _ none)
 shows_part_over files w a b c d over (inr h) = inr (h.0, h.1, h.2, h.3, h.4, part_over a b c d _ over h.5)
 
+to_plan_over : (task : Task) (steps : List Step) (horizon : ℕ) (input a b c d : Option (List ℕ)) → Shift a b c d → EndsInPlan task steps horizon input a b → EndsInPlan task steps horizon input c d
+to_plan_over task steps horizon input a b c d over h =
+    record {
+      net = h.net;
+      is_net = h.is_net;
+      answers = h.answers;
+      last = h.last;
+      answered = h.answered;
+      run = h.run;
+      is = h.is;
+      written = over _ h.written;
+    }
+
+to_none_over : (task : Task) (steps : List Step) (horizon : ℕ) (input a b c d : Option (List ℕ)) → Shift a b c d → EndsInNone task steps horizon input a b → EndsInNone task steps horizon input c d
+to_none_over task steps horizon input a b c d over h =
+    record { net = h.net; is_net = h.is_net; answers = h.answers; last = h.last; answered = h.answered; none = h.none; written = over _ h.written }
+
+to_part_over : (task : Task) (steps : List Step) (horizon : ℕ) (input a b c d : Option (List ℕ)) → Shift a b c d → EndsInPart task steps horizon input a b → EndsInPart task steps horizon input c d
+to_part_over task steps horizon input a b c d over h =
+    record {
+      net = h.net;
+      is_net = h.is_net;
+      answers = h.answers;
+      last = h.last;
+      answered = h.answered;
+      run = h.run;
+      is = h.is;
+      count = h.count;
+      within = h.within;
+      written = over _ h.written;
+    }
+
+run_over : (files : List ℕ → Option (List ℕ)) (w : PlanWords) (input a b c d : Option (List ℕ)) → Shift a b c d → RunsToPlan files w input a b → RunsToPlan files w input c d
+run_over files w input a b c d over h = (h.0, h.1, h.2, h.3, to_plan_over h.0 h.1 w.horizon input a b c d over h.4)
+
+runs_none_over : (files : List ℕ → Option (List ℕ)) (w : PlanWords) (input a b c d : Option (List ℕ)) → Shift a b c d → RunsToNone files w input a b → RunsToNone files w input c d
+runs_none_over files w input a b c d over (inl h) = inl (invalid_over files w a b c d over h)
+runs_none_over files w input a b c d over (inr h) = inr (h.0, h.1, h.2, h.3, to_none_over h.0 h.1 w.horizon input a b c d over h.4)
+
+invalid_part_over : (files : List ℕ → Option (List ℕ)) (w : PlanWords) (a b c d : Option (List ℕ)) → Shift a b c d → SaysInvalidPart files w a b → SaysInvalidPart files w c d
+invalid_part_over files w a b c d over h =
+    record {
+      task = h.task;
+      steps = h.steps;
+      tick = h.tick;
+      why = h.why;
+      named = h.named;
+      first = h.first;
+      invalid = h.invalid;
+      part = part_over a b c d _ over h.part;
+    }
+
+writes_part_over : (task : Task) (steps : List Step) (horizon : ℕ) (input a b c d : Option (List ℕ)) → Shift a b c d → WritesPart task steps horizon input a b → WritesPart task steps horizon input c d
+writes_part_over task steps horizon input a b c d over (inl h) = inl (h.0, h.1, (h.2.0, h.2.1, h.2.2, h.2.3, part_over a b c d _ over h.2.4))
+writes_part_over task steps horizon input a b c d over (inr h) = inr (to_part_over task steps horizon input a b c d over h)
+
+runs_part_over : (files : List ℕ → Option (List ℕ)) (w : PlanWords) (input a b c d : Option (List ℕ)) → Shift a b c d → RunsPart files w input a b → RunsPart files w input c d
+runs_part_over files w input a b c d over (inl none) = inl (over _ none)
+runs_part_over files w input a b c d over (inr (inl h)) = inr (inl (invalid_part_over files w a b c d over h))
+runs_part_over files w input a b c d over (inr (inr h)) =
+    inr (inr (h.0, h.1, h.2, h.3, writes_part_over h.0 h.1 w.horizon input a b c d over h.4))
+
 done_over : (request : Request) (files : List ℕ → Option (List ℕ)) (input a b c d : Option (List ℕ)) → Shift a b c d → IsDone request files input a b → IsDone request files input c d
 done_over Bare files input a b c d over h = all_over input a b c d over h
 done_over (Check w) files input a b c d over h = valid_over files w a b c d over h
 done_over (Net w) files input a b c d over h = network_over files w a b c d over h
+done_over (Run w) files input a b c d over h = run_over files w input a b c d over h
 done_over (Help text) files input a b c d over h = over _ h
 
 part_done_over : (request : Request) (files : List ℕ → Option (List ℕ)) (input a b c d : Option (List ℕ)) → Shift a b c d → IsPartDone request files input a b → IsPartDone request files input c d
 part_done_over Bare files input a b c d over h = answers_part_over input a b c d over h
 part_done_over (Check w) files input a b c d over h = says_part_over files w a b c d over h
 part_done_over (Net w) files input a b c d over h = shows_part_over files w a b c d over h
+part_done_over (Run w) files input a b c d over h = runs_part_over files w input a b c d over h
 part_done_over (Help text) files input a b c d over h = part_over a b c d _ over h
 
 pub does_over : (words : List (List ℕ)) (files : List ℕ → Option (List ℕ)) (input a b c d : Option (List ℕ)) → Shift a b c d → DoesWhatIsAsked words files input a b → DoesWhatIsAsked words files input c d
 does_over words files input a b c d over h =
     record { request = h.request; asked = h.asked; done = done_over h.request files input a b c d over h.done }
 
-pub no_over : (words : List (List ℕ)) (files : List ℕ → Option (List ℕ)) (a b c d : Option (List ℕ)) → Shift a b c d → AnswersNo words files a b → AnswersNo words files c d
-no_over words files a b c d over h = record { plan = h.plan; asked = h.asked; said = invalid_over files h.plan a b c d over h.said }
+said_over : (request : Request) (files : List ℕ → Option (List ℕ)) (input a b c d : Option (List ℕ)) → Shift a b c d → IsAnsweredNo request files input a b → IsAnsweredNo request files input c d
+said_over Bare files input a b c d over h = absurd h
+said_over (Check w) files input a b c d over h = invalid_over files w a b c d over h
+said_over (Net w) files input a b c d over h = invalid_over files w a b c d over h
+said_over (Run w) files input a b c d over h = runs_none_over files w input a b c d over h
+said_over (Help text) files input a b c d over h = absurd h
+
+pub no_over : (words : List (List ℕ)) (files : List ℕ → Option (List ℕ)) (input a b c d : Option (List ℕ)) → Shift a b c d → AnswersNo words files input a b → AnswersNo words files input c d
+no_over words files input a b c d over h =
+    record { request = h.request; asked = h.asked; said = said_over h.request files input a b c d over h.said }
 
 pub does_part_over : (words : List (List ℕ)) (files : List ℕ → Option (List ℕ)) (input a b c d : Option (List ℕ)) → Shift a b c d → DoesPart words files input a b → DoesPart words files input c d
 does_part_over words files input a b c d over (inl none) = inl (over _ none)
@@ -131,7 +207,7 @@ refusal_some status failures failures-now a b (inr h) =
 -- ---- a run
 
 -- what `run_words` tells of the output
-pub runs_from : (words : List (List ℕ)) (files : List ℕ → Option (List ℕ)) (input : Option (List ℕ)) (status : ℕ) (held now : Option (List ℕ)) → (status ≡ 0 → DoesWhatIsAsked words files input held now) → (status ≡ 1 → AnswersNo words files held now) → (AsksFor words Bare → status ≡ 0 → AnswersAll input held now) → (AsksFor words Bare → status ≢ 0 → AnswersPart input held now) → (status ≡ 3 → DoesPart words files input held now) → (AsksForNoNetwork words → status ≡ 2 → now ≡ held) → Runs words files input status held now
+pub runs_from : (words : List (List ℕ)) (files : List ℕ → Option (List ℕ)) (input : Option (List ℕ)) (status : ℕ) (held now : Option (List ℕ)) → (status ≡ 0 → DoesWhatIsAsked words files input held now) → (status ≡ 1 → AnswersNo words files input held now) → (AsksFor words Bare → status ≡ 0 → AnswersAll input held now) → (AsksFor words Bare → status ≢ 0 → AnswersPart input held now) → (status ≡ 3 → DoesPart words files input held now) → (AsksForNoCommands words → status ≡ 2 → now ≡ held) → Runs words files input status held now
 runs_from words files input status held now done answered all part broken kept =
     record {
       done = done;
@@ -146,7 +222,7 @@ runs_over : (words : List (List ℕ)) (files : List ℕ → Option (List ℕ)) (
 runs_over words files input status a b c d over h =
     record {
       done = λ is. does_over words files input a b c d over (h.done is);
-      no = λ is. no_over words files a b c d over (h.no is);
+      no = λ is. no_over words files input a b c d over (h.no is);
       all = λ asks is. all_over input a b c d over (h.all asks is);
       part = λ asks is. answers_part_over input a b c d over (h.part asks is);
       broken = λ is. does_part_over words files input a b c d over (h.broken is);

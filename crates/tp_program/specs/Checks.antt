@@ -12,6 +12,7 @@ use Rattle.tp_validate.specs.declared.verdicts.Verdict.TheVariants.{Valid, Inval
 use Rattle.tp_plan_files.specs.Named.{IsNamedPlan}
 use Rattle.tp_plan_files.specs.VerdictLines.{invalid_line, verdict_line}
 use Rattle.tp_plan_files.specs.declared.plan_words.PlanWords.{PlanWords}
+use Rattle.tp_plan_runs.specs.Invalid.{SaysInvalid}
 use Rattle.tp_program.specs.Stops.{EndsPlan, StopsOn}
 use Rattle.tp_program.specs.declared.stops.PlanStop.{PlanStop}
 use Rattle.tp_program.specs.declared.stops.PlanStop.TheVariants.{Write}
@@ -47,17 +48,6 @@ pub record SaysValid (held : List ℕ → Option (List ℕ)) (w : PlanWords) (be
   pub named : IsNamedPlan held w task steps
   pub valid : IsValidPlan task steps
   pub written : Appends before now (codes "valid\n")
-
--- the plan is not valid, and its first fault was written
-pub record SaysInvalid (held : List ℕ → Option (List ℕ)) (w : PlanWords) (before now : Option (List ℕ)) : Type 0 where
-  pub task : Task
-  pub steps : List Step
-  pub tick : ℕ
-  pub why : Fault
-  pub named : IsNamedPlan held w task steps
-  pub first : IsFirst task steps tick why
-  pub invalid : ¬ IsValidPlan task steps
-  pub written : Appends before now (invalid_line tick why)
 
 abbrev pub Says : (List ℕ → Option (List ℕ)) → PlanWords → Option (List ℕ) → Option (List ℕ) → Bool → Type 0
 Says held w before now true = SaysValid held w before now

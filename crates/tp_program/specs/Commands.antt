@@ -40,11 +40,18 @@ check_app = plan_app (new_app (codes "check"))
 abbrev pub net_app : App
 net_app = plan_app (new_app (codes "net"))
 
+abbrev pub run_app : App
+run_app = plan_app (new_app (codes "run"))
+
 -- the program's words begin after its name, and it tells its version
 abbrev pub start_app : App
 start_app =
     let named = new_app (codes "tempo") in
     record named { top = record named.top { no_binary_name = true; has_version = true } }
 
+-- with the commands that judge a plan
+abbrev pub judging_app : App
+judging_app = with_subcommand (with_subcommand start_app (new_app (codes "bare")).top) check_app.top
+
 abbrev pub tempo_app : App
-tempo_app = with_subcommand (with_subcommand (with_subcommand start_app (new_app (codes "bare")).top) check_app.top) net_app.top
+tempo_app = with_subcommand (with_subcommand judging_app net_app.top) run_app.top

@@ -4,18 +4,21 @@ use Rattle.std.specs.Io.KnownBytes.{Appends}
 use Rattle.std.specs.String.{string_bytes}
 use Rattle.tp_device.specs.Bytes.{AppendsPart}
 use Rattle.tp_bare.specs.Bare.{AnswersAll, AnswersPart}
-use Rattle.tp_program.specs.Checks.{SaysInvalid, SaysPart, SaysValid}
+use Rattle.tp_plan_runs.specs.Invalid.{SaysInvalid}
+use Rattle.tp_plan_runs.specs.Runs.{RunsPart, RunsToNone, RunsToPlan}
+use Rattle.tp_program.specs.Checks.{SaysPart, SaysValid}
 use Rattle.tp_program.specs.Networks.{ShowsNetwork, ShowsPart}
 use Rattle.tp_program.specs.Requests.{AsksFor}
-use Rattle.tp_plan_files.specs.declared.plan_words.PlanWords.{PlanWords}
 use Rattle.tp_program.specs.declared.requests.Request.{Request}
-use Rattle.tp_program.specs.declared.requests.Request.TheVariants.{Bare, Check, Net, Help}
+use Rattle.tp_program.specs.declared.requests.Request.TheVariants.{Bare, Check, Net, Run, Help}
 
--- all commands of the input were answered, the plan is valid and that was written, its network was written, or the help was written
+-- all commands of the input were answered; the plan is valid and that was written; its network was written; all commands of the input were
+-- answered on that network, and the plan of the run was written; or the help was written
 abbrev pub IsDone : Request → (List ℕ → Option (List ℕ)) → Option (List ℕ) → Option (List ℕ) → Option (List ℕ) → Type 0
 IsDone Bare files input held now = AnswersAll input held now
 IsDone (Check w) files input held now = SaysValid files w held now
 IsDone (Net w) files input held now = ShowsNetwork files w held now
+IsDone (Run w) files input held now = RunsToPlan files w input held now
 IsDone (Help text) files input held now = Appends held now (string_bytes text)
 
 -- the words ask for something, and it was done
@@ -24,17 +27,26 @@ pub record DoesWhatIsAsked (words : List (List ℕ)) (files : List ℕ → Optio
   pub asked : AsksFor words request
   pub done : IsDone request files input held now
 
--- the words ask for the verdict on a plan, or for its network, and its first fault was written
-pub record AnswersNo (words : List (List ℕ)) (files : List ℕ → Option (List ℕ)) (held now : Option (List ℕ)) : Type 0 where
-  pub plan : PlanWords
-  pub asked : AsksFor words (Check plan) ⊎ AsksFor words (Net plan)
-  pub said : SaysInvalid files plan held now
+-- the plan is not valid, and its first fault was written; or all commands of the input were answered, and the run has no plan
+abbrev pub IsAnsweredNo : Request → (List ℕ → Option (List ℕ)) → Option (List ℕ) → Option (List ℕ) → Option (List ℕ) → Type 0
+IsAnsweredNo Bare files input held now = ⊥
+IsAnsweredNo (Check w) files input held now = SaysInvalid files w held now
+IsAnsweredNo (Net w) files input held now = SaysInvalid files w held now
+IsAnsweredNo (Run w) files input held now = RunsToNone files w input held now
+IsAnsweredNo (Help text) files input held now = ⊥
+
+-- the words ask for the verdict on a plan, for its network or for its run, and the answer is no
+pub record AnswersNo (words : List (List ℕ)) (files : List ℕ → Option (List ℕ)) (input held now : Option (List ℕ)) : Type 0 where
+  pub request : Request
+  pub asked : AsksFor words request
+  pub said : IsAnsweredNo request files input held now
 
 -- some first part of that was done
 abbrev pub IsPartDone : Request → (List ℕ → Option (List ℕ)) → Option (List ℕ) → Option (List ℕ) → Option (List ℕ) → Type 0
 IsPartDone Bare files input held now = AnswersPart input held now
 IsPartDone (Check w) files input held now = SaysPart files w held now
 IsPartDone (Net w) files input held now = ShowsPart files w held now
+IsPartDone (Run w) files input held now = RunsPart files w input held now
 IsPartDone (Help text) files input held now = AppendsPart held now (string_bytes text)
 
 -- nothing was written, or the words ask for something, and some first part of it was written

@@ -4,11 +4,12 @@ use Rattle.std.specs.String.{string_bytes}
 use Rattle.tp_device.specs.Bytes.{AppendsPart}
 use Rattle.tp_files.specs.FaultLines.{Tells, fault_line}
 use Rattle.tp_bare.specs.Bare.{StopsBare}
+use Rattle.tp_plan_runs.specs.Runs.{EndsRun}
 use Rattle.tp_program.specs.Checks.{EndsCheck}
 use Rattle.tp_program.specs.Networks.{EndsNet}
 use Rattle.tp_program.specs.Requests.{AsksFor}
 use Rattle.tp_program.specs.declared.requests.Request.{Request}
-use Rattle.tp_program.specs.declared.requests.Request.TheVariants.{Bare, Check, Net, Help}
+use Rattle.tp_program.specs.declared.requests.Request.TheVariants.{Bare, Check, Net, Run, Help}
 
 -- there was no memory for the words
 pub record LacksMemory (status : ℕ) (held held-now : Option (List ℕ)) (output output-now : ℕ) (failures : ℕ) (before : Option (List ℕ)) (failures-now : ℕ) (now : Option (List ℕ)) : Type 0 where
@@ -39,6 +40,8 @@ EndsRequest (Check w) files input status held held-now output output-now failure
     EndsCheck files w status held held-now output output-now failures before failures-now now
 EndsRequest (Net w) files input status held held-now output output-now failures before failures-now now =
     EndsNet files w status held held-now output output-now failures before failures-now now
+EndsRequest (Run w) files input status held held-now output output-now failures before failures-now now =
+    EndsRun files w status input held held-now output output-now failures before failures-now now
 EndsRequest (Help text) files input status held held-now output output-now failures before failures-now now =
     StopsHelp (string_bytes text) status held held-now failures before failures-now now
 

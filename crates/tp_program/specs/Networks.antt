@@ -18,7 +18,7 @@ use Rattle.tp_net_lines.specs.NetLines.{network_lines}
 use Rattle.tp_plan_files.specs.Named.{IsNamedPlan}
 use Rattle.tp_plan_files.specs.VerdictLines.{invalid_line}
 use Rattle.tp_plan_files.specs.declared.plan_words.PlanWords.{PlanWords}
-use Rattle.tp_program.specs.Checks.{SaysInvalid}
+use Rattle.tp_plan_runs.specs.Invalid.{SaysInvalid}
 use Rattle.tp_program.specs.Stops.{EndsPlan, StopsOn}
 use Rattle.tp_program.specs.declared.stops.PlanStop.{PlanStop}
 use Rattle.tp_program.specs.declared.stops.PlanStop.TheVariants.{Judging, Network, Write}

@@ -8,13 +8,13 @@ use Rattle.tp_text.specs.Scales.{scale_ticks}
 use Rattle.tp_program.specs.Commands.{tempo_app}
 use Rattle.tp_plan_files.specs.declared.plan_words.PlanWords.{PlanWords}
 use Rattle.tp_program.specs.declared.requests.Request.{Request}
-use Rattle.tp_program.specs.declared.requests.Request.TheVariants.{Bare, Check, Net, Help}
+use Rattle.tp_program.specs.declared.requests.Request.TheVariants.{Bare, Check, Net, Run, Help}
 
 -- the text is there, and its digits make the number
 abbrev pub Spells : Option Text → ℕ → Type 0
 Spells text n = (t : Text) × (text ≡ Some t) × (digits_value 10 (without_leading_plus t) ≡ n)
 
--- the values of `check` and `net`, or their defaults
+-- the values of `check`, `net` and `run`, or their defaults
 pub record IsPlanWords (rows : List Row) (w : PlanWords) : Type 0 where
   pub domain : first_of (codes "DOMAIN") rows ≡ Some w.domain.now
   pub problem : first_of (codes "PROBLEM") rows ≡ Some w.problem.now
@@ -33,6 +33,7 @@ abbrev pub AsksBy : Option (Text × List Row) → Request → Type 0
 AsksBy named Bare = NamesBare named
 AsksBy named (Check w) = (rows : List Row) × (named ≡ Some (codes "check", rows)) × IsPlanWords rows w
 AsksBy named (Net w) = (rows : List Row) × (named ≡ Some (codes "net", rows)) × IsPlanWords rows w
+AsksBy named (Run w) = (rows : List Row) × (named ≡ Some (codes "run", rows)) × IsPlanWords rows w
 AsksBy named (Help text) = ⊥
 
 -- a parse that ends so gives a text that was called for
@@ -45,16 +46,22 @@ AsksFor words (Help text) = IsAmong DisplayHelp (fault_of tempo_app words) ⊎ I
 AsksFor words Bare = (fault_of tempo_app words ≡ []) × AsksBy (subcommand_of tempo_app words) Bare
 AsksFor words (Check w) = (fault_of tempo_app words ≡ []) × AsksBy (subcommand_of tempo_app words) (Check w)
 AsksFor words (Net w) = (fault_of tempo_app words ≡ []) × AsksBy (subcommand_of tempo_app words) (Net w)
+AsksFor words (Run w) = (fault_of tempo_app words ≡ []) × AsksBy (subcommand_of tempo_app words) (Run w)
 
--- the words ask for no network of bounds: for something else, or for nothing
-abbrev pub AsksForNoNetwork : List Text → Type 0
-AsksForNoNetwork words = AsksFor words Bare → ⊥
+-- the words ask for no answers to commands: for something else, or for nothing
+pub record AsksForNoCommands (words : List Text) : Type 0 where
+  pub no_bare : AsksFor words Bare → ⊥
+  pub no_run : (w : PlanWords) → AsksFor words (Run w) → ⊥
 
--- words ask for one kind of thing at most: for commands on a network, for a verdict, for the network of a plan, or for help
+-- words ask for one kind of thing at most: for commands on a network, for a verdict, for the network of a plan, for its run, or for help
 pub record AskForOneThing (words : List Text) : Type 0 where
   pub bare_check : (w : PlanWords) → AsksFor words Bare → AsksFor words (Check w) → ⊥
   pub bare_net : (w : PlanWords) → AsksFor words Bare → AsksFor words (Net w) → ⊥
   pub check_net : (v w : PlanWords) → AsksFor words (Check v) → AsksFor words (Net w) → ⊥
   pub net_help : (w : PlanWords) (text : _) → AsksFor words (Net w) → AsksFor words (Help text) → ⊥
   pub bare_help : (text : _) → AsksFor words Bare → AsksFor words (Help text) → ⊥
+  pub bare_run : (w : PlanWords) → AsksFor words Bare → AsksFor words (Run w) → ⊥
+  pub check_run : (v w : PlanWords) → AsksFor words (Check v) → AsksFor words (Run w) → ⊥
+  pub net_run : (v w : PlanWords) → AsksFor words (Net v) → AsksFor words (Run w) → ⊥
+  pub run_help : (w : PlanWords) (text : _) → AsksFor words (Run w) → AsksFor words (Help text) → ⊥
   pub check_help : (w : PlanWords) (text : _) → AsksFor words (Check w) → AsksFor words (Help text) → ⊥

@@ -4,22 +4,14 @@ use Rattle.tp_device.specs.Bytes.{AppendsPart}
 use Rattle.tp_ground.specs.declared.task.Task.{Task}
 use Rattle.tp_happen.specs.declared.plans.Step.{Step}
 use Rattle.tp_deorder.specs.declared.DeorderFault.{DeorderFault}
-use Rattle.tp_deorder.specs.declared.DeorderFault.TheVariants as deorder
 use Rattle.tp_files.specs.FaultLines.{Tells, fault_line}
 use Rattle.tp_plan_files.specs.Causes.{Explains}
 use Rattle.tp_plan_files.specs.JudgeLines.{judge_status, judge_text}
 use Rattle.tp_plan_files.specs.Named.{IsNamedPlan}
 use Rattle.tp_plan_files.specs.declared.plan_words.PlanWords.{PlanWords}
+use Rattle.tp_plan_runs.specs.RunLines.{network_status, network_text}
 use Rattle.tp_program.specs.declared.stops.PlanStop.{PlanStop}
 use Rattle.tp_program.specs.declared.stops.PlanStop.TheVariants.{Judging, Network, Write}
-
-abbrev pub network_status : DeorderFault → ℕ
-network_status deorder.Memory = 3
-network_status deorder.TooMany = 2
-
-abbrev pub network_text : DeorderFault → List ℕ
-network_text deorder.Memory = fault_line (codes "net") (codes "1 memory")
-network_text deorder.TooMany = fault_line (codes "net") (codes "2 too-many")
 
 abbrev pub stop_status : PlanStop → ℕ
 stop_status (Judging fault) = judge_status fault

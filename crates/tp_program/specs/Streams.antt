@@ -5,7 +5,7 @@ use Rattle.tp_device.specs.Bytes.{AppendsPart}
 use Rattle.tp_bare.specs.Bare.{AnswersAll, AnswersPart, IsRefused}
 use Rattle.tp_program.specs.Done.{AnswersNo, DoesPart, DoesWhatIsAsked}
 use Rattle.tp_files.specs.FaultLines.{IsFaultText, TellsFault, fault_line}
-use Rattle.tp_program.specs.Requests.{AsksFor, AsksForNoNetwork}
+use Rattle.tp_program.specs.Requests.{AsksFor, AsksForNoCommands}
 use Rattle.tp_program.specs.declared.requests.Request.TheVariants.{Bare}
 
 -- One fault line was written, and behind the line of words that are refused what is said of them; or where the writer failed a first part of
@@ -19,11 +19,11 @@ TellsSome before now =
 -- else that is refused nothing is written
 pub record Runs (words : List (List ℕ)) (files : List ℕ → Option (List ℕ)) (input : Option (List ℕ)) (status : ℕ) (held now : Option (List ℕ)) : Type 0 where
   pub done : status ≡ 0 → DoesWhatIsAsked words files input held now
-  pub no : status ≡ 1 → AnswersNo words files held now
+  pub no : status ≡ 1 → AnswersNo words files input held now
   pub all : AsksFor words Bare → status ≡ 0 → AnswersAll input held now
   pub part : AsksFor words Bare → status ≢ 0 → AnswersPart input held now
   pub broken : status ≡ 3 → DoesPart words files input held now
-  pub kept : AsksForNoNetwork words → status ≡ 2 → Appends held now []
+  pub kept : AsksForNoCommands words → status ≡ 2 → Appends held now []
 
 -- what was written was handed on to the writer, or it is gone: then the status is 3, and a fault line tells so if none was written yet
 abbrev pub HandsOn : {W : Type 0} → (W → Option (List ℕ)) → ℕ → Option (List ℕ) → ℕ → Option (List ℕ) → ℕ → Option (List ℕ) → ℕ → Option W → Type 0

@@ -97,6 +97,11 @@ fn asked_by<'w>(name: &str, matches: &ArgMatches<'w>) -> Result<Request<'w>, Ref
             return Ok(Request::Net(words));
         }
     }
+    if name == "run" {
+        if let Some(words) = plan_words(matches) {
+            return Ok(Request::Run(words));
+        }
+    }
     Err(Refusal::Words(None))
 }
 
@@ -162,6 +167,13 @@ pub fn net_calls()
     ensures { (w : PlanWords) → w.domain.now ≡ codes "d" → w.problem.now ≡ codes "p" → w.plan.now ≡ codes "l"
         → scale_ticks w.scale ≡ 1000 → w.horizon ≡ 1000000
         → AsksFor (codes "net" ∷ codes "d" ∷ codes "p" ∷ codes "--scale" ∷ codes "1000" ∷ codes "l" ∷ []) (Request.Net w) }
+{}
+
+/// The same of `run`.
+pub fn run_calls()
+    ensures { (w : PlanWords) → w.domain.now ≡ codes "d" → w.problem.now ≡ codes "p" → w.plan.now ≡ codes "l"
+        → scale_ticks w.scale ≡ 1000 → w.horizon ≡ 1000000
+        → AsksFor (codes "run" ∷ codes "d" ∷ codes "p" ∷ codes "--scale" ∷ codes "1000" ∷ codes "l" ∷ []) (Request.Run w) }
 {}
 
 /// Words ask for one kind of thing at most.

@@ -2,7 +2,8 @@
 ghost use Rattle.std.specs.Prelude.{◌≡◌, ◌≢◌, ◌≤◌, [], IfOk, IfErr};
 ghost use Rattle.tp_files.specs.FaultLines.{TellsFault};
 ghost use Rattle.tp_plan_files.specs.Named.{IsNamedTask};
-ghost use Rattle.tp_program.specs.Checks.{EndsCheck, Says, SaysInvalid, SaysPart, SaysValid, StopsCheck, StopsLine, TellsVerdict};
+ghost use Rattle.tp_plan_runs.specs.Invalid.{SaysInvalid};
+ghost use Rattle.tp_program.specs.Checks.{EndsCheck, Says, SaysPart, SaysValid, StopsCheck, StopsLine, TellsVerdict};
 ghost use Rattle.tp_program.specs.Stops.{stop_failures};
 
 use crate::stops::{PlanStop, stop_line};

@@ -2,7 +2,7 @@
 ghost use Rattle.std.specs.Prelude.{◌≡◌, false, IfOk, codes};
 ghost use Rattle.clap.specs.Words.{app_of, new_app, rule_of, with_subcommand};
 ghost use Rattle.clap.specs.declared.builder.command.Command.TheViews.{out-Command as fields_of};
-ghost use Rattle.tp_program.specs.Commands.{check_app, file_rule, horizon_rule, net_app, plan_app, scale_rule, start_app, tempo_app};
+ghost use Rattle.tp_program.specs.Commands.{check_app, file_rule, horizon_rule, net_app, judging_app, plan_app, run_app, scale_rule, start_app, tempo_app};
 
 use clap::{Arg, ArgAction, Command, value_parser};
 use std::alloc::{AllocError, Global};
@@ -21,7 +21,8 @@ For 2 and 3 a line `fault PART NUMBER WORD ..` goes to standard error.
 Examples:
   printf 'network 1 5\\nwindow 0\\n' | tempo bare
   tempo check domain.pddl problem.pddl plan.txt
-  tempo net domain.pddl problem.pddl plan.txt";
+  tempo net domain.pddl problem.pddl plan.txt
+  printf 'dispatch 0\\nadvance 3\\ndispatch 1\\n' | tempo run domain.pddl problem.pddl plan.txt";
 
 const BARE_ABOUT: &str = "Answers commands on a network of events and bounds";
 
@@ -81,6 +82,28 @@ prints
   event 1 end 0 (rest)
   bound 0 1 0 -2
   bound 1 0 1 6";
+
+const RUN_ABOUT: &str =
+    "Answers commands on the network of a valid plan, and prints the plan of the run";
+
+const RUN_HELP: &str =
+    "Reads a domain and a problem of PDDL 2.1 and a plan, as `check` does. For a valid plan it answers commands on the network
+that `net` prints, whose bounds have the identifiers from 0 up. Standard input may begin with lines `lag E L`, and then has
+the commands of `bare`, one a line. In a report the network is `kept`, or `altered` once a bound of the plan was withdrawn.
+
+Behind the answers it prints `plan` and the plan of the run, each step at its moment, if every event happened and the
+network is kept. That plan is valid. For a plan that is not valid it prints the line that `check` prints.
+
+Exit status: 0 a plan of the run was printed, 1 there is none, 2 refused input, 3 memory or a device.
+
+Example:
+  printf 'dispatch 0\\nadvance 3\\ndispatch 1\\n' | tempo run domain.pddl problem.pddl plan.txt
+prints
+  ok
+  ok
+  ok
+  plan
+  0: (rest) [3]";
 
 /// A file that has to be named.
 fn file_argument<'a>(alloc: Global, id: &'a str, help: &'a str) -> Arg<'a>
@@ -169,6 +192,14 @@ fn net_command<'a>(alloc: Global) -> Result<Command<'a>, AllocError>
     plan_command(alloc, plan_start(alloc, "net", NET_ABOUT, NET_HELP))
 }
 
+/// The command `run`.
+fn run_command<'a>(alloc: Global) -> Result<Command<'a>, AllocError>
+    ensures app { IfOk result (λ c. app_of c ≡ run_app) }
+    ensures local { IfOk result (λ c. (fields_of c).has_globals ≡ false) }
+{
+    plan_command(alloc, plan_start(alloc, "run", RUN_ABOUT, RUN_HELP))
+}
+
 /// The program before it has commands. Its words begin after its name.
 fn tempo_start<'a>(alloc: Global) -> Result<Command<'a>, AllocError>
     ensures { IfOk result (λ c. app_of c ≡ start_app) }
@@ -183,7 +214,7 @@ fn tempo_start<'a>(alloc: Global) -> Result<Command<'a>, AllocError>
 
 /// The program with the commands that judge.
 fn judging_command<'a>(alloc: Global) -> Result<Command<'a>, AllocError>
-    ensures { IfOk result (λ c. app_of c ≡ with_subcommand (with_subcommand start_app (new_app (codes "bare")).top) check_app.top) }
+    ensures { IfOk result (λ c. app_of c ≡ judging_app) }
 {
     let check = check_command(alloc)?;
     tempo_start(alloc)?
@@ -191,10 +222,18 @@ fn judging_command<'a>(alloc: Global) -> Result<Command<'a>, AllocError>
         .subcommand(check)
 }
 
+/// The same with the command that prints networks.
+fn network_command<'a>(alloc: Global) -> Result<Command<'a>, AllocError>
+    ensures { IfOk result (λ c. app_of c ≡ with_subcommand judging_app net_app.top) }
+{
+    let net = net_command(alloc)?;
+    judging_command(alloc)?.subcommand(net)
+}
+
 /// The program with all its commands.
 pub fn tempo_command<'a>(alloc: Global) -> Result<Command<'a>, AllocError>
     ensures { IfOk result (λ c. app_of c ≡ tempo_app) }
 {
-    let net = net_command(alloc)?;
-    judging_command(alloc)?.subcommand(net)
+    let run = run_command(alloc)?;
+    network_command(alloc)?.subcommand(run)
 }

@@ -1,5 +1,6 @@
 //! The program `tempo`: a network of events and bounds, and commands on it, come in as lines, and the answers go out as lines; or
-//! the plan in a file is judged, and the verdict goes out, or the network of all its schedules.
+//! the plan in a file is judged, and the verdict goes out, or the network of all its schedules, or
+//! commands on that network are answered, and the plan of the run goes out.
 //!
 //! - `commands`: the commands of the program, their words and their help
 //! - `requests`, `arguments`: what the words of a call ask for
@@ -10,7 +11,7 @@
 //! - `streams`: a run over readers and writers of std
 //!
 //! Commands on a network of bounds alone are those of `tp_bare`, files and fault lines those of `tp_files`, tasks and verdicts of
-//! files those of `tp_plan_files`.
+//! files those of `tp_plan_files`, runs of plans those of `tp_plan_runs`.
 #![tactic(auto)]
 
 mod arguments;
@@ -23,7 +24,7 @@ mod streams;
 mod words;
 
 pub use arguments::{
-    Refusal, bare_calls, check_calls, net_calls, read_words, requests_are_distinct,
+    Refusal, bare_calls, check_calls, net_calls, read_words, requests_are_distinct, run_calls,
 };
 pub use requests::Request;
 pub use stops::{PlanStop, stop_line};

@@ -5,7 +5,7 @@ ghost use Rattle.tp_validate.specs.OfTask.{plan_of};
 ghost use Rattle.tp_deorder.specs.Answers.{OnTooMany, PassesLimits};
 ghost use Rattle.tp_files.specs.FaultLines.{TellsFault};
 ghost use Rattle.tp_plan_files.specs.Named.{IsNamedTask};
-ghost use Rattle.tp_program.specs.Checks.{SaysInvalid};
+ghost use Rattle.tp_plan_runs.specs.Invalid.{SaysInvalid};
 ghost use Rattle.tp_program.specs.Networks.{EndsNet, Shows, ShowsNetwork, ShowsPart, ShowsVerdict, StopsNet, StopsNetwork, StopsShown, TellsNetwork, WritesNetwork};
 ghost use Rattle.tp_program.specs.Stops.{stop_failures};
 
@@ -21,11 +21,7 @@ use tp_plan_files::{PlanWords, task_in, verdict_in, write_invalid};
 use tp_validate::{ValidPlan, Verdict};
 
 /// The lines of the network of a validated plan.
-fn lines_of(
-    alloc: Global,
-    plan: &ValidPlan<'_>,
-    limits: &Limits,
-) -> Result<String, DeorderFault>
+fn lines_of(alloc: Global, plan: &ValidPlan<'_>, limits: &Limits) -> Result<String, DeorderFault>
     ensures lines { IfOk result (λ text. TellsNetwork plan.now.task plan.now.steps limits.now (string_bytes text)) }
     ensures cause { IfErr result (λ e. OnTooMany e (PassesLimits limits.now (plan_of plan.now.task plan.now.steps))) }
 {

@@ -10,6 +10,8 @@ pub enum Request<'w> {
     Check(PlanWords<'w>),
     /// The network of a plan.
     Net(PlanWords<'w>),
+    /// The answers to the commands of the input on the network of a plan, and the plan of that run.
+    Run(PlanWords<'w>),
     /// A text of help, or the version.
     Help(String),
 }

@@ -1,11 +1,12 @@
 // Why a command on a plan in files stopped.
 ghost use Rattle.std.specs.Prelude.{◌≡◌};
 ghost use Rattle.tp_files.specs.FaultLines.{fault_text};
-ghost use Rattle.tp_program.specs.Stops.{network_status, network_text, stop_status, stop_text};
+ghost use Rattle.tp_program.specs.Stops.{stop_status, stop_text};
 
 use tp_deorder::DeorderFault;
 use tp_files::FaultLine;
 use tp_plan_files::{JudgeFault, PlanWords, judge_line};
+use tp_plan_runs::network_line;
 
 /// Why a command on a plan in files stopped.
 #[derive(Clone, Copy, Debug, PartialEq, Eq)]
@@ -16,17 +17,6 @@ pub enum PlanStop {
     Network(DeorderFault),
     /// The output can't be written.
     Write,
-}
-
-/// The line of a plan that has no network.
-fn network_line(fault: DeorderFault) -> FaultLine<'static>
-    ensures status { result.status ≡ network_status fault }
-    ensures text { fault_text result ≡ network_text fault }
-{
-    match fault {
-        DeorderFault::Memory => FaultLine::out_of_order("net", "1 memory"),
-        DeorderFault::TooMany => FaultLine::refused("net", "2 too-many"),
-    }
 }
 
 /// The line of a command on a plan that stopped.

@@ -7,7 +7,7 @@ ghost use Rattle.tp_bare.specs.Bare.{AnswersAll, AnswersPart, IsRefused};
 ghost use Rattle.tp_program.specs.Done.{AnswersNo, DoesPart, DoesWhatIsAsked};
 ghost use Rattle.tp_files.specs.FaultLines.{TellsFault, TellsRefusal};
 ghost use Rattle.tp_program.specs.Endings.{EndsBare, EndsCall, RefusesWords, StopsHelp};
-ghost use Rattle.tp_program.specs.Requests.{AsksFor, AsksForNoNetwork};
+ghost use Rattle.tp_program.specs.Requests.{AsksFor, AsksForNoCommands};
 
 use crate::arguments::{Refusal, read_words};
 use crate::check::run_check;
@@ -17,6 +17,7 @@ use std::alloc::Global;
 use tp_bare::run_bare;
 use tp_device::{Sink, Source, push_all};
 use tp_files::{FaultLine, Files, OUT_OF_ORDER, REFUSED, complain, complain_more};
+use tp_plan_runs::run_run;
 
 /// Does what the words ask for. Answers the exit status, and for another than 0 and 1 writes one fault line.
 pub fn run_words<N: Files, I: Source + Drop, O: Sink, F: Sink>(
@@ -28,7 +29,7 @@ pub fn run_words<N: Files, I: Source + Drop, O: Sink, F: Sink>(
     faults: &mut F,
 ) -> u8
     ensures done { result ≡ 0 → DoesWhatIsAsked (map string_bytes words.now) (N.held files.old) (I.left input) (O.held output.old) (O.held output.new) }
-    ensures no { result ≡ 1 → AnswersNo (map string_bytes words.now) (N.held files.old) (O.held output.old) (O.held output.new) }
+    ensures no { result ≡ 1 → AnswersNo (map string_bytes words.now) (N.held files.old) (I.left input) (O.held output.old) (O.held output.new) }
 
     // Of a network of bounds alone all is answered, or where the status tells otherwise a first part.
     ensures all { AsksFor (map string_bytes words.now) Request.Bare → result ≡ 0
@@ -40,7 +41,7 @@ pub fn run_words<N: Files, I: Source + Drop, O: Sink, F: Sink>(
     ensures refused { AsksFor (map string_bytes words.now) Request.Bare → result ≡ REFUSED → IsRefused (I.left input) }
     ensures bare { AsksFor (map string_bytes words.now) Request.Bare → result ≢ 0
         → EndsBare (I.left input) result (O.held output.old) (O.held output.new) (O.failures output.old) (O.failures output.new)
-            (F.failures faults.old) (F.held faults.old) (F.failures faults.new) (F.held faults.new) }
+        (F.failures faults.old) (F.held faults.old) (F.failures faults.new) (F.held faults.new) }
 
     // What stopped the call is told, and is as it is told.
     ensures stopped { 2 ≤ result → EndsCall (map string_bytes words.now) (N.held files.old) (I.left input) result
@@ -50,8 +51,8 @@ pub fn run_words<N: Files, I: Source + Drop, O: Sink, F: Sink>(
     // Where memory or a device is wanting, a first part of what is asked for is written, or nothing.
     ensures broken { result ≡ OUT_OF_ORDER → DoesPart (map string_bytes words.now) (N.held files.old) (I.left input) (O.held output.old) (O.held output.new) }
 
-    // Where nothing else is asked for than a verdict or help, nothing is written for what is refused.
-    ensures kept { AsksForNoNetwork (map string_bytes words.now) → result ≡ REFUSED → O.held output.new ≡ O.held output.old }
+    // Where no answers to commands are asked for, nothing is written for what is refused.
+    ensures kept { AsksForNoCommands (map string_bytes words.now) → result ≡ REFUSED → O.held output.new ≡ O.held output.old }
 
     // A write that failed is always told. A fault line goes with each fault, and with nothing else; behind it stands only what
     // `clap` says of words that are refused.
@@ -64,6 +65,7 @@ pub fn run_words<N: Files, I: Source + Drop, O: Sink, F: Sink>(
         Ok(Request::Bare) => run_bare(alloc, input, output, faults),
         Ok(Request::Check(plan)) => run_check(alloc, files, plan, output, faults),
         Ok(Request::Net(plan)) => run_net(alloc, files, plan, output, faults),
+        Ok(Request::Run(plan)) => run_run(alloc, files, plan, input, output, faults),
         Ok(Request::Help(text)) => show(text.as_str(), output, faults),
         Err(Refusal::Words(text)) => refuse_words(text, faults),
         Err(Refusal::Memory) => complain(faults, FaultLine::out_of_order("arguments", "2 memory")),

@@ -3,12 +3,9 @@ use super::devices::{Outcome, WIDE, run, whole};
 use std::alloc::Global;
 
 /// Words that are refused, and what is said of them.
-const REFUSED: [(&[&str], &str); 11] = [
+const REFUSED: [(&[&str], &str); 13] = [
     (&["plan"], "error: unrecognized subcommand 'plan'"),
-    (
-        &["run", "d", "p", "l"],
-        "error: unrecognized subcommand 'run'",
-    ),
+    (&["audit", "log"], "error: unrecognized subcommand 'audit'"),
     (&["Bare"], "error: unrecognized subcommand 'Bare'"),
     (&["bare", "bare"], "error: unexpected argument 'bare' found"),
     (
@@ -21,6 +18,11 @@ const REFUSED: [(&[&str], &str); 11] = [
     ),
     (&["check", "d", "p"], "<PLAN>"),
     (&["net", "d", "p"], "<PLAN>"),
+    (&["run", "d", "p"], "<PLAN>"),
+    (
+        &["run", "d", "p", "l", "--journal", "log"],
+        "error: unexpected argument '--journal' found",
+    ),
     (
         &["check", "d", "p", "l", "o"],
         "error: unexpected argument 'o' found",
@@ -52,8 +54,17 @@ const NET: &[&str] = &[
     "Example:",
 ];
 
+const RUN: &[&str] = &[
+    "Usage: tempo run",
+    "lag E L",
+    "`altered`",
+    "--scale",
+    "Exit status: 0 a plan of the run was printed",
+    "Example:",
+];
+
 /// Calls for help or for the version, and what stands in it.
-const HELP: [(&[&str], &[&str]); 11] = [
+const HELP: [(&[&str], &[&str]); 13] = [
     (&["--version"], VERSION),
     (&["-V"], VERSION),
     (&["--help"], PROGRAM),
@@ -65,6 +76,8 @@ const HELP: [(&[&str], &[&str]); 11] = [
     (&["help", "check"], CHECK),
     (&["net", "--help"], NET),
     (&["help", "net"], NET),
+    (&["run", "--help"], RUN),
+    (&["help", "run"], RUN),
 ];
 
 /// Options of `check` that no call may have.

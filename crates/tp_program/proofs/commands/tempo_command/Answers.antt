@@ -4,4 +4,4 @@ use Rattle.tp_program.proofs.commands.tempo_command.Goals as goal
 
 pub returns : goal.returns
 returns c =
-    IfOk-weaker c.subcommand.result _ _ (λ r h. command_app _ _ r _ _ h c.in_ok-net.ensures.local c.in_ok-judging_command.ensures c.in_ok-net.ensures.app) c.subcommand.ensures
+    IfOk-weaker c.subcommand.result _ _ (λ r h. command_app _ _ r _ _ h c.in_ok-run.ensures.local c.in_ok-network_command.ensures c.in_ok-run.ensures.app) c.subcommand.ensures

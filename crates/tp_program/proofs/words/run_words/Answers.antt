@@ -1,7 +1,7 @@
 use Rattle.std.proofs.Common.{◌∙◌, List, ℕ, arith, inl, inr, refl, subst}
 use Rattle.tp_device.proofs.Parts.{appends_none}
 use Rattle.tp_files.specs.FaultLines.{Tells}
-use Rattle.tp_program.specs.declared.requests.Request.TheVariants.{Bare, Check, Net, Help}
+use Rattle.tp_program.specs.declared.requests.Request.TheVariants.{Bare, Check, Net, Run, Help}
 use Rattle.tp_program.specs.Endings.{StopsHelp}
 use Rattle.tp_program.proofs.words.run_words.Goals as goal
 
@@ -42,6 +42,16 @@ pub returns-in-Ok-Net-clause-stopped : goal.returns-in-Ok-Net-clause-stopped
 returns-in-Ok-Net-clause-stopped g c =
     λ two.
     inr (inr (Net c.in-Ok-Net.plan, rw c.in-Ok-Net.field-0-is at c.in-Ok-Net.ensures.asked, c.run_net.ensures.stopped two))
+
+pub returns-in-Ok-Run-clause-stopped : goal.returns-in-Ok-Run-clause-stopped
+returns-in-Ok-Run-clause-stopped g c =
+    λ two.
+    inr (inr (Run c.in-Ok-Run.plan, rw c.in-Ok-Run.field-0-is at c.in-Ok-Run.ensures.asked, c.run_run.ensures.stopped two))
+
+pub returns-in-Ok-Run-clause-kept : goal.returns-in-Ok-Run-clause-kept
+returns-in-Ok-Run-clause-kept g c =
+    λ none two.
+    absurd (none.no_run c.in-Ok-Run.plan (rw c.in-Ok-Run.field-0-is at c.in-Ok-Run.ensures.asked))
 
 pub returns-in-Ok-Help-clause-stopped : goal.returns-in-Ok-Help-clause-stopped
 returns-in-Ok-Help-clause-stopped g c =
