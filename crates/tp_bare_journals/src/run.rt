@@ -1,5 +1,5 @@
 // The commands of the input, with the journal file of a name.
-ghost use Rattle.std.specs.Prelude.{◌≡◌, ◌≢◌, ◌≤◌, ℕ, List, [], OnOk, IfErr};
+ghost use Rattle.std.specs.Prelude.{◌≡◌, ◌≢◌, ◌≤◌, [], OnOk, IfErr, IfSome};
 ghost use Rattle.tp_files.specs.FaultLines.{TellsFault};
 ghost use Rattle.tp_bare.specs.Bare.{IsRefused};
 ghost use Rattle.tp_bare_journals.specs.Logged.{EndsJournaled, LogsAll, LogsPart, StopsLogged, output_failures};
@@ -20,16 +20,16 @@ fn journaled<N: Logs, I: Source + Drop, O: Sink>(
     input: I,
     output: &mut O,
 ) -> Result<Served, JournalStop>
-    ensures all { OnOk result (LogsAll (I.left input) (O.held output.old) (O.held output.new) N.blank (N.kept files.new name.now)) }
-    ensures cause { IfErr result (StopsLogged (I.left input) (O.held output.old) (O.held output.new) N.blank (N.kept files.new name.now)) }
-    ensures others { (other : List ℕ) → other ≢ name.now → N.kept files.new other ≡ N.kept files.old other }
+    ensures all { OnOk result (LogsAll (I.left input) (O.held output.old) (O.held output.new) N.blank (N.kept files.new)) }
+    ensures cause { IfErr result (StopsLogged (I.left input) (O.held output.old) (O.held output.new) N.blank (N.kept files.new)) }
+    ensures named { OnOk result (IfSome (N.named files.new) (λ n. n ≡ name.now)) }
     ensures told { O.failures output.new ≡ output_failures (O.failures output.old) result }
 {
     match files.make(name) {
         Ok(log) => {
             let mut log = log;
             let served = log_bare(alloc, input, output, &mut log);
-            files.keep(name, log);
+            files.keep(log);
             served
         }
         Err(_) => Err(JournalStop::Making),
@@ -47,10 +47,10 @@ pub fn run_bare_journal<N: Logs, I: Source + Drop, O: Sink, F: Sink>(
     output: &mut O,
     faults: &mut F,
 ) -> u8
-    ensures all { result ≡ 0 → LogsAll (I.left input) (O.held output.old) (O.held output.new) N.blank (N.kept files.new name.now) }
-    ensures part { result ≢ 0 → LogsPart (I.left input) (O.held output.old) (O.held output.new) N.blank (N.kept files.new name.now) }
+    ensures all { result ≡ 0 → LogsAll (I.left input) (O.held output.old) (O.held output.new) N.blank (N.kept files.new) }
+    ensures part { result ≢ 0 → LogsPart (I.left input) (O.held output.old) (O.held output.new) N.blank (N.kept files.new) }
     ensures refused { result ≡ REFUSED → IsRefused (I.left input) }
-    ensures others { (other : List ℕ) → other ≢ name.now → N.kept files.new other ≡ N.kept files.old other }
+    ensures named { result ≡ 0 → IfSome (N.named files.new) (λ n. n ≡ name.now) }
 
     // No status says no, a write that failed is always told, and a fault line goes with each fault and with nothing else.
     ensures no { result ≢ 1 }
@@ -58,7 +58,7 @@ pub fn run_bare_journal<N: Logs, I: Source + Drop, O: Sink, F: Sink>(
     ensures told { result ≢ OUT_OF_ORDER → O.failures output.new ≡ O.failures output.old }
     ensures silent { result ≡ 0 → faults.new ≡ faults.old }
     ensures line { result ≢ 0 → TellsFault [] (F.failures faults.old) (F.held faults.old) (F.failures faults.new) (F.held faults.new) }
-    ensures ends { result ≢ 0 → EndsJournaled result (I.left input) (O.held output.old) (O.held output.new) N.blank (N.kept files.new name.now) (O.failures output.old) (O.failures output.new) (F.failures faults.old) (F.held faults.old) (F.failures faults.new) (F.held faults.new) }
+    ensures ends { result ≢ 0 → EndsJournaled result (I.left input) (O.held output.old) (O.held output.new) N.blank (N.kept files.new) (O.failures output.old) (O.failures output.new) (F.failures faults.old) (F.held faults.old) (F.failures faults.new) (F.held faults.new) }
 {
     match journaled(alloc, files, name, input, output) {
         Ok(_) => 0,

@@ -61,7 +61,9 @@ impl<'r, R: HostFileSystem> HostLogs<'r, R> {
 impl<R: HostFileSystem> Logs for HostLogs<'_, R> {
     type Log = HostLog<R::File>;
 
-    ghost kept = { λ _ _. None };
+    ghost named = { λ _. None };
+
+    ghost kept = { λ _. None };
 
     ghost blank = { None };
 
@@ -74,5 +76,5 @@ impl<R: HostFileSystem> Logs for HostLogs<'_, R> {
         }
     }
 
-    fn keep(&mut self, _name: &str, _log: Self::Log) {}
+    fn keep(&mut self, _log: Self::Log) {}
 }
