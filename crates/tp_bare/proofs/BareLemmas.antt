@@ -225,22 +225,24 @@ bad_lag None c d e held line text more bad last head lag setting lags free ends 
 bad_lag (Some xs) None d e held line text more bad last head lag setting lags free ends took short spelled took' split set free' ends' took'' names unfit = absurd took
 bad_lag (Some xs) (Some ys) None e held line text more bad last head lag setting lags free ends took short spelled took' split set free' ends' took'' names unfit = absurd took'
 bad_lag (Some xs) (Some ys) (Some zs) None held line text more bad last head lag setting lags free ends took short spelled took' split set free' ends' took'' names unfit = absurd took''
-bad_lag (Some xs) (Some ys) (Some zs) (Some ws) held line text more bad last head lag setting lags free ends took short spelled took' split set free' ends' took'' names unfit =
-    (inr (record {
-      head = head;
-      setting = setting;
-      line = line;
-      lags = lags;
-      bad = bad;
-      lag = lag;
-      rest = lines_of ws;
-      read = first_whole (Some xs) (Some ys) line text free ends took ∙ ap (λ ls. line ∷ ls) (split ∙ ap (λ ls. lags ++ ls) (first_whole (Some zs) (Some ws) bad last free' ends' took''));
-      short = short;
-      spelled = spelled;
-      set = set;
-      names = names;
-      unfit = unfit;
-    }), appends_none held)
+bad_lag (Some xs) (Some ys) (Some zs) (Some ws) held line text more bad last head lag setting lags free ends took short spelled took' split set free' ends' took'' names unfit = (
+  inr (record {
+    head = head;
+    setting = setting;
+    line = line;
+    lags = lags;
+    bad = bad;
+    lag = lag;
+    rest = lines_of ws;
+    read = first_whole (Some xs) (Some ys) line text free ends took ∙ ap (λ ls. line ∷ ls) (split ∙ ap (λ ls. lags ++ ls) (first_whole (Some zs) (Some ws) bad last free' ends' took''));
+    short = short;
+    spelled = spelled;
+    set = set;
+    names = names;
+    unfit = unfit;
+  }),
+  appends_none held,
+)
 
 lags_stop : (fault : ServeFault) (before reading after : Reading) (held : Option (List ℕ)) (head : ℕ × ℕ) (setting : Situation) → TakesHead before reading (Ok head) → ReadsLags reading after (first_setting head) setting (Err fault) → BareStops before.rest held held (Serving fault)
 lags_stop Read before reading after held head setting takes lags = none_read before.rest held

@@ -1,5 +1,6 @@
 // A network of bounds alone: its head, the lags of its events, and the commands on it.
-ghost use Rattle.std.specs.Prelude.{◌≡◌, ◌≢◌, ℕ, ◌≤◌, [], IfErr, OnOk, OnErr};
+ghost use Rattle.std.specs.Prelude.{◌≡◌, ◌≢◌, ℕ, ◌≤◌, [], IfOk, IfErr, OnOk, OnErr};
+ghost use Rattle.tp_exec.specs.Machine.{IsFresh};
 ghost use Rattle.tp_files.specs.FaultLines.{TellsFault};
 ghost use Rattle.tp_bare.specs.Bare.{AnswersAll, AnswersLines, AnswersPart, BareStops, BeginsLines, IsRefused, StopsBare, bare_failures, bare_result};
 
@@ -45,8 +46,9 @@ fn of_network(served: Result<Served, ServeFault>) -> Result<Served, BareFault>
     }
 }
 
-/// Reads the lags of a new network, and makes an executive over it under the greatest limits.
-fn begin<I: Source>(
+/// Reads the lags of a new network, and makes an executive over it under the greatest limits. The executive is new. It takes memory for
+/// the network alone.
+pub fn begin<I: Source>(
     alloc: Global,
     lines: &mut Lines<I>,
     events: u16,
@@ -56,6 +58,7 @@ fn begin<I: Source>(
     requires events { events ≤ 1024 }
     requires horizon { horizon ≤ 1000000000 }
     ensures begins { BeginsLines (events, horizon) lines.old lines.new result }
+    ensures fresh { IfOk result (λ m. IsFresh m.setting) }
     ensures longest { lines.new.longest ≡ lines.old.longest }
     ensures most { lines.new.most ≡ lines.old.most }
     ensures told { (n : ℕ) → bare_failures n result ≡ n }

@@ -7,5 +7,5 @@
 mod bare;
 mod serve_lines;
 
-pub use bare::{BareFault, run_bare};
+pub use bare::{BareFault, begin, run_bare};
 pub use serve_lines::{bare_line, serve_line};

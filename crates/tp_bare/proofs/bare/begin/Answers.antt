@@ -23,3 +23,8 @@ returns-in-Err-read_lags-clause-begins g c = (
   c.read_lags.new.net.situation,
   subst (λ s. ReadsLags c.args.lines.now c.read_lags.new.lines s c.read_lags.new.net.situation (Err c.in-Err-read_lags.fault)) c.in-Ok.ensures.situation c.in-Err-read_lags.ensures.lags,
 )
+
+pub returns-in-Ok-read_lags-clause-fresh : goal.returns-in-Ok-read_lags-clause-fresh
+returns-in-Ok-read_lags-clause-fresh g c =
+    subst (λ m. IsFresh m.setting) (sym c.bare.ensures)
+    (c.in-Ok-read_lags.ensures.new (subst IsFresh (sym c.in-Ok.ensures.situation) (fresh_new _ _)))

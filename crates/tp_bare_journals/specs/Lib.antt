@@ -1,0 +1,2 @@
+pub mod JournalLines
+pub mod Logged

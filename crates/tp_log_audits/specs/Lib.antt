@@ -1,0 +1,3 @@
+pub mod AuditLines
+pub mod Audits
+pub mod Bare

@@ -1,0 +1,32 @@
+// Journal files under names.
+ghost use Rattle.std.specs.Prelude.{◌≡◌, ℕ, List, [], Option, IfOk, IfSome};
+
+use tp_device::{Failed, Sink};
+
+/// Makes files under names, and keeps what was written to them.
+pub trait Logs {
+    /// A file that is written. It was made empty, and each of its pushes goes to the file at once.
+    type Log: Sink + Drop;
+
+    /// The name of the file that was made last, where that is told.
+    ghost named: { Self → Option (List ℕ) };
+
+    /// What the file that was kept last holds, where that is told.
+    ghost kept: { Self → Option (List ℕ) };
+
+    // What a file holds as it is made, where that is told.
+    ghost blank: { Option (List ℕ) };
+
+    /// Makes the file of a name, empty. What stood under that name before is gone.
+    fn make(&mut self, name: &str) -> Result<Self::Log, Failed>
+        ensures blank { IfOk result (λ log. Self.Log.held log ≡ blank) }
+        ensures named { IfOk result (λ _. IfSome (named self.new) (λ n. n ≡ name.now)) };
+
+    /// Ends the writing of a file, which holds what its log does from then on.
+    fn keep(&mut self, log: Self::Log)
+        ensures kept { kept self.new ≡ Self.Log.held log }
+        ensures named { named self.new ≡ named self.old };
+
+    // A file is made empty.
+    ghost is_blank: { IfSome blank (λ bytes. bytes ≡ []) };
+}
