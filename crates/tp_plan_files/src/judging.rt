@@ -97,7 +97,13 @@ fn task_with<N: Files>(
     ensures same { (other : List ℕ) → N.held files.new other ≡ N.held files.old other }
 {
     let problem = problem_in(alloc, files, words, domain)?;
-    match ground(alloc, domain, &problem, &Limits::greatest(words.horizon), words.scale) {
+    match ground(
+        alloc,
+        domain,
+        &problem,
+        &Limits::greatest(words.horizon),
+        words.scale,
+    ) {
         Ok(task) => Ok(task),
         Err(fault) => Err(JudgeFault::Task(fault)),
     }

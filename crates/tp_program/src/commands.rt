@@ -107,7 +107,8 @@ prints
 
 const PLAN_ABOUT: &str = "Searches for a plan of a problem";
 
-const PLAN_HELP: &str = "Reads a domain and a problem of PDDL 2.1. Prints a valid plan, one step a line:
+const PLAN_HELP: &str =
+    "Reads a domain and a problem of PDDL 2.1. Prints a valid plan, one step a line:
 
   TIME: (NAME ARG ..) [DURATION]
 

@@ -32,7 +32,9 @@ const ROWS: [Row; 7] = [
     Row {
         domain: TOGGLE,
         problem: TOGGLED,
-        words: &["plan", "--scale", "100", "domain", "problem", "--budget", "1"],
+        words: &[
+            "plan", "--scale", "100", "domain", "problem", "--budget", "1",
+        ],
         text: b"0.00: (need)\n",
         status: 0,
     },
@@ -46,7 +48,15 @@ const ROWS: [Row; 7] = [
     Row {
         domain: TOGGLE,
         problem: HELD,
-        words: &["plan", "domain", "problem", "--budget", "0", "--horizon", "0"],
+        words: &[
+            "plan",
+            "domain",
+            "problem",
+            "--budget",
+            "0",
+            "--horizon",
+            "0",
+        ],
         text: b"",
         status: 0,
     },
@@ -67,7 +77,15 @@ const ROWS: [Row; 7] = [
     Row {
         domain: MATCH,
         problem: UNLIT,
-        words: &["plan", "domain", "problem", "--horizon", "1000000000", "--budget", "1000000"],
+        words: &[
+            "plan",
+            "domain",
+            "problem",
+            "--horizon",
+            "1000000000",
+            "--budget",
+            "1000000",
+        ],
         text: b"exhausted\n",
         status: 1,
     },
@@ -110,6 +128,9 @@ fn files_that_stop_a_search(rt: HostRuntime) {
         faults: b"fault problem 4 unknown 29\n",
         status: 2,
     };
-    let files: [(&str, &[u8]); 2] = [("domain", MATCH.as_bytes()), ("problem", TOGGLED.as_bytes())];
+    let files: [(&str, &[u8]); 2] = [
+        ("domain", MATCH.as_bytes()),
+        ("problem", TOGGLED.as_bytes()),
+    ];
     assert!(rt; first && gives(rt.alloc(), &words, &files, whole(""), WIDE, other));
 }
