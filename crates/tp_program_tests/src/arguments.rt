@@ -3,8 +3,9 @@ use super::devices::{Outcome, WIDE, run, whole};
 use std::alloc::Global;
 
 /// Words that are refused, and what is said of them.
-const REFUSED: [(&[&str], &str); 13] = [
-    (&["plan"], "error: unrecognized subcommand 'plan'"),
+const REFUSED: [(&[&str], &str); 14] = [
+    (&["split"], "error: unrecognized subcommand 'split'"),
+    (&["plan", "d"], "<PROBLEM>"),
     (&["audit", "log"], "error: unrecognized subcommand 'audit'"),
     (&["Bare"], "error: unrecognized subcommand 'Bare'"),
     (&["bare", "bare"], "error: unexpected argument 'bare' found"),
@@ -28,7 +29,7 @@ const REFUSED: [(&[&str], &str); 13] = [
         "error: unexpected argument 'o' found",
     ),
     (&[""], "error: "),
-    (&["help", "plan"], "error: "),
+    (&["help", "split"], "error: "),
 ];
 
 const VERSION: &[&str] = &["tempo rattle-kit-", " logic "];
