@@ -263,27 +263,6 @@ fn comes_to(alloc: Global, input: Feed<'_>, room: Room, count: usize, faults: &[
     gives(alloc, RUN, &files_of_a_rest(), input, room, told)
 }
 
-/// So many bytes of the commands before the reader fails, and how many bytes are answered.
-const READS: [(usize, usize); 4] = [(0, 0), (10, 0), (11, 3), (32, 9)];
-
-/// Whether a reader that fails behind so many bytes ends a run so.
-fn breaks(alloc: Global, bytes: usize, answered: usize) -> bool {
-    let input = Feed {
-        broken: true,
-        ..whole(COMMANDS.split_at(bytes.min(COMMANDS.len())).0)
-    };
-    comes_to(alloc, input, WIDE, answered, b"fault script 1 read\n")
-}
-
-#[test]
-fn readers_that_fail(rt: HostRuntime) {
-    assert!(rt;
-        READS
-            .iter()
-            .all(|(bytes, answered)| breaks(rt.alloc(), *bytes, *answered))
-    );
-}
-
 /// Whether a writer that takes a byte a call fails after each number of calls, up to the last byte of the plan.
 fn is_cut(alloc: Global) -> bool {
     (0..ANSWERS.len()).all(|calls| {
