@@ -1,11 +1,12 @@
 #!/usr/bin/env python3
-"""Times `tempo bare` on long lists of commands, and `tempo check` on large plans, tasks and texts. It prints numbers and judges nothing.
+"""Times `tempo bare` on long lists of commands, `tempo check` on large plans, tasks and texts, and `tempo plan` on problems that
+spend its budget. It prints numbers and judges nothing.
 
-    bench/run.py [--full] [--check | --network] [PROGRAM]
+    bench/run.py [--full] [--check | --network | --plan] [PROGRAM]
 
 PROGRAM is a built `tempo`; without it, the program is proved and built by `rt run` first. `--full` also brings 65,535 bounds into
 force, and dispatches 1,024 events one tick after another, which takes minutes; `--check` times plans, tasks and texts alone,
-`--network` lists of commands alone. Each list is read from a file by a process of its own; the times of single
+`--network` lists of commands alone, `--plan` searches alone. Each list is read from a file by a process of its own; the times of single
 commands are from writing the command to reading its answer, the mean of all of them. A verdict's time is that of the whole
 process, the best of three, or where one takes seconds the first; its memory is the greatest that the process held.
 """
@@ -133,16 +134,17 @@ def loose(count):
     return lines
 
 
-def judged(program, name, domain, problem, plan, command="check"):
-    """A verdict on a plan, or what another command makes of it: the first words that it writes."""
+def judged(program, name, domain, problem, plan, command="check", options=()):
+    """A verdict on a plan, or what another command makes of it: the first words that it writes. No plan: there are two files."""
     with tempfile.TemporaryDirectory() as room:
-        files = [pathlib.Path(room, part) for part in ("domain", "problem", "plan")]
-        for file, text in zip(files, (domain, problem, plan)):
-            file.write_text(text)
+        texts = {"domain": domain, "problem": problem, "plan": plan}
+        files = [pathlib.Path(room, part) for part, text in texts.items() if text is not None]
+        for file in files:
+            file.write_text(texts[file.name])
         best = None
         for _ in range(3):
             begin = time.perf_counter()
-            child = subprocess.Popen([str(program), command, *map(str, files)], stdout=subprocess.PIPE, stderr=subprocess.STDOUT, text=True)
+            child = subprocess.Popen([str(program), command, *map(str, files), *options], stdout=subprocess.PIPE, stderr=subprocess.STDOUT, text=True)
             said = child.stdout.read().strip()
             _, _, used = os.wait4(child.pid, 0)
             took = time.perf_counter() - begin
@@ -376,15 +378,30 @@ def network(program):
     changes(program, "chain from its end", chain_from_its_end(), 20)
 
 
+def lamps(count):
+    """Each lamp is lit by an action of its own. No state meets the goal, though the relaxed reach does."""
+    names = " ".join(f"l{k}" for k in range(count))
+    domain = "(define (domain lamps) (:predicates (lit ?l)) (:action light :parameters (?l) :precondition (not (lit ?l)) :effect (lit ?l)))"
+    return domain, f"(define (problem q) (:domain lamps) (:objects {names}) (:init) (:goal (and (lit l0) (not (lit l0)))))"
+
+
+def searches(program):
+    judged(program, "a plan of one visit, 4,000 atoms, 8,000 actions", PLACES, places_problem(), None, "plan")
+    judged(program, "40 lamps, no plan, a budget of 1,000,000", *lamps(40), None, "plan", ("--budget", "1000000"))
+    judged(program, "12 lamps, no plan, until no node is left", *lamps(12), None, "plan", ("--budget", "1000000"))
+
+
 def main():
     words = [word for word in sys.argv[1:] if not word.startswith("--")]
     program = pathlib.Path(words[0]) if words else built()
-    if "--network" not in sys.argv:
+    if not {"--network", "--check"} & {*sys.argv}:
+        searches(program)
+    if not {"--network", "--plan"} & {*sys.argv}:
         checks(program)
         reads(program)
         worst_reads(program)
         quantified(program)
-    if "--check" not in sys.argv:
+    if not {"--check", "--plan"} & {*sys.argv}:
         network(program)
     if "--full" in sys.argv:
         whole_run(program, "chain from its end", chain_from_its_end())
