@@ -41,7 +41,9 @@ pub record Ends (old new : Reading) : Type 0 where
 
 -- bytes are there, but no whole line of a journal's length stands first
 abbrev pub IsTorn : List ℕ → Type 0
-IsTorn left = (left ≢ []) × ((line more : List ℕ) → left ≡ line ++ 10 ∷ more → Free line → longest_line < length line)
+IsTorn left =
+    (left ≢ [])
+    × ((line more : List ℕ) → left ≡ line ++ 10 ∷ more → Free line → longest_line < length line)
 
 -- part of a line was taken, as many bytes as may be, and more are left
 abbrev pub IsCut : Reading → Reading → Type 0
@@ -68,7 +70,8 @@ pub record IsBehind (start now : Reading) (before : List (List ℕ)) : Type 0 wh
 -- whole line stands first, or one of too many bytes; or one that may not stand there
 abbrev pub Breaks : Place → List ℕ → Type 0
 Breaks place left =
-    ((left ≡ []) × (may_end place ≡ false)) ⊎ (IsTorn left ⊎ ((line : List ℕ) × (more : List ℕ) × (left ≡ line ++ 10 ∷ more) × Free line × (next_place place line ≡ None)))
+    ((left ≡ []) × (may_end place ≡ false)) ⊎ (IsTorn left ⊎ ((line : List ℕ) × (more : List ℕ)
+    × (left ≡ line ++ 10 ∷ more) × Free line × (next_place place line ≡ None)))
 
 -- line n of the bytes breaks the format, and it is the first that does
 pub record BreaksAt (bytes : List ℕ) (n : ℕ) : Type 0 where
@@ -118,7 +121,8 @@ pub record DisallowsAt (old : Machine) (bytes : List ℕ) (n : ℕ) : Type 0 whe
   pub free_reply : Free reply
   pub bytes_are : bytes ≡ text_of (before ++ question ∷ reply ∷ []) ++ left
   pub number : n ≡ length before + 2
-  pub refuses : (entry : Entry) (new : Machine) → Runs version mid (entry ∷ []) new → question ≡ question_line entry → reply ≢ answer_line entry
+  pub refuses : (entry : Entry) (new : Machine) → Runs version mid (entry ∷ []) new
+      → question ≡ question_line entry → reply ≢ answer_line entry
 
 -- ---- the head of another executive
 
@@ -135,7 +139,8 @@ head_version (Reply version) = None
 -- a head ends there: nothing is left, or a question
 abbrev pub EndsHead : Place → ℕ → List ℕ → Type 0
 EndsHead place version left =
-    (may_end place ≡ true) × ((left ≡ []) ⊎ ((line : List ℕ) × (more : List ℕ) × (asked : Asked) × (left ≡ line ++ 10 ∷ more) × Free line × (question_of version line ≡ Some asked)))
+    (may_end place ≡ true) × ((left ≡ []) ⊎ ((line : List ℕ) × (more : List ℕ) × (asked : Asked)
+    × (left ≡ line ++ 10 ∷ more) × Free line × (question_of version line ≡ Some asked)))
 
 -- The bytes begin with lines with which some head of the format begins, or that are all of it, and the head of the executive, in a journal of
 -- that version, does not begin with them, or is not they
@@ -148,15 +153,16 @@ pub record HasOtherHead (old : Machine) (bytes : List ℕ) : Type 0 where
   pub names : head_version place ≡ Some version
   pub free : All Free before
   pub bytes_are : bytes ≡ text_of before ++ left
-  pub differs :
-      ((more : List (List ℕ)) → IsHead (head_of version old) → before ++ more ≢ head_lines (head_of version old))
-      ⊎ (EndsHead place version left × (IsHead (head_of version old) → before ≢ head_lines (head_of version old)))
+  pub differs : ((more : List (List ℕ)) → IsHead (head_of version old)
+      → before ++ more ≢ head_lines (head_of version old)) ⊎ (EndsHead place version left
+      × (IsHead (head_of version old) → before ≢ head_lines (head_of version old)))
 
 -- ---- an audit
 
 -- What an audit of an executive that begins in that state tells of the bytes
 abbrev pub Audits : Machine → Reading → Reading → Result Audited AuditFault → Type 0
-Audits old start after (Ok audited) = IfSome start.rest (λ bytes. IsJournalText old bytes audited.pairs) × IsAtEnd after.rest
+Audits old start after (Ok audited) =
+    IfSome start.rest (λ bytes. IsJournalText old bytes audited.pairs) × IsAtEnd after.rest
 Audits old start after (Err Memory) = Unit {0}
 Audits old start after (Err Read) = Unit {0}
 Audits old start after (Err (Line n)) = BreaksLine start after n
@@ -175,12 +181,15 @@ audit_failures n (Err Head) = n
 -- line n was wanted next, and what stands there breaks the format
 abbrev pub NoNext : Place → Reading → Reading → ℕ → ℕ → Type 0
 NoNext place old new number n =
-    (n ≡ number) × ((IfSome old.rest IsTorn ⊎ IsCut old new) ⊎ ((Ends old new × (may_end place ≡ false)) ⊎ ((line : List ℕ) × TakesOne old new line × (next_place place line ≡ None))))
+    (n ≡ number)
+    × ((IfSome old.rest IsTorn ⊎ IsCut old new) ⊎ ((Ends old new × (may_end place ≡ false))
+    ⊎ ((line : List ℕ) × TakesOne old new line × (next_place place line ≡ None))))
 
 -- ---- the head, line by line
 
 abbrev pub TakesVersion : Reading → Reading → Result ℕ AuditFault → Type 0
-TakesVersion old new (Ok version) = (line : List ℕ) × TakesOne old new line × (version_of line ≡ Some version)
+TakesVersion old new (Ok version) =
+    (line : List ℕ) × TakesOne old new line × (version_of line ≡ Some version)
 TakesVersion old new (Err Memory) = ⊥
 TakesVersion old new (Err Read) = Unit {0}
 TakesVersion old new (Err (Line n)) = NoNext Start old new 1 n
@@ -195,17 +204,21 @@ BeginsWithLine bytes line = bytes ≡ line ++ 10 ∷ drop (length line + 1) byte
 -- both; a question behind all of the executive's head; no line of the format; or another line than the executive's head has
 abbrev pub Matches : Place → ℕ → List ℕ → List ℕ → ℕ → Result Turn AuditFault → Type 0
 Matches place version line head number (Ok (Goes next count)) =
-    (next_place place line ≡ Some next) × (head_version next ≡ Some version) × (count ≡ length line + 1) × (count ≤ length head) × (head ≡ line ++ 10 ∷ drop count head)
+    (next_place place line ≡ Some next) × (head_version next ≡ Some version)
+    × (count ≡ length line + 1) × (count ≤ length head) × (head ≡ line ++ 10 ∷ drop count head)
 Matches place version line head number (Ok (Asks asked)) =
-    (next_place place line ≡ Some (Reply version)) × (question_of version line ≡ Some asked) × (may_end place ≡ true) × (head ≡ [])
+    (next_place place line ≡ Some (Reply version)) × (question_of version line ≡ Some asked)
+    × (may_end place ≡ true) × (head ≡ [])
 Matches place version line head number (Ok Stops) = ⊥
 Matches place version line head number (Err Memory) = Unit {0}
 Matches place version line head number (Err Read) = ⊥
-Matches place version line head number (Err (Line n)) = (n ≡ number) × (next_place place line ≡ None)
+Matches place version line head number (Err (Line n)) =
+    (n ≡ number) × (next_place place line ≡ None)
 Matches place version line head number (Err (Wrong n)) = ⊥
 Matches place version line head number (Err Head) =
-    ((next : Place) × (next_place place line ≡ Some next) × (head_version next ≡ Some version) × ((more : List ℕ) → head ≢ line ++ 10 ∷ more))
-    ⊎ ((asked : Asked) × (question_of version line ≡ Some asked) × (may_end place ≡ true) × (head ≢ []))
+    ((next : Place) × (next_place place line ≡ Some next) × (head_version next ≡ Some version)
+    × ((more : List ℕ) → head ≢ line ++ 10 ∷ more)) ⊎ ((asked : Asked)
+    × (question_of version line ≡ Some asked) × (may_end place ≡ true) × (head ≢ []))
 
 -- a head can tell how many own bounds there are
 abbrev pub HasFew : Machine → Type 0
@@ -214,22 +227,27 @@ HasFew m = (m.kind ≡ Bare) ⊎ (m.next ≤ 65_535)
 -- one turn in a head: a line is taken, or the end was reached
 abbrev pub TurnsHead : Place → ℕ → List ℕ → ℕ → Reading → Reading → Result Turn AuditFault → Type 0
 TurnsHead place version head number old new (Ok (Goes next count)) =
-    (line : List ℕ) × TakesOne old new line × Matches place version line head number (Ok (Goes next count))
+    (line : List ℕ) × TakesOne old new line
+    × Matches place version line head number (Ok (Goes next count))
 TurnsHead place version head number old new (Ok (Asks asked)) =
-    (line : List ℕ) × TakesOne old new line × Matches place version line head number (Ok (Asks asked))
-TurnsHead place version head number old new (Ok Stops) = Ends old new × (may_end place ≡ true) × (head ≡ [])
+    (line : List ℕ) × TakesOne old new line
+    × Matches place version line head number (Ok (Asks asked))
+TurnsHead place version head number old new (Ok Stops) =
+    Ends old new × (may_end place ≡ true) × (head ≡ [])
 TurnsHead place version head number old new (Err Memory) = Unit {0}
 TurnsHead place version head number old new (Err Read) = Unit {0}
 TurnsHead place version head number old new (Err (Line n)) = NoNext place old new number n
 TurnsHead place version head number old new (Err (Wrong n)) = ⊥
 TurnsHead place version head number old new (Err Head) =
-    ((line : List ℕ) × TakesOne old new line × Matches place version line head number (Err Head)) ⊎ (Ends old new × (may_end place ≡ true) × (head ≢ []))
+    ((line : List ℕ) × TakesOne old new line × Matches place version line head number (Err Head))
+    ⊎ (Ends old new × (may_end place ≡ true) × (head ≢ []))
 
 -- where the head ended: nothing is left, or a question was put
 abbrev pub HeadEnds : ℕ → Reading → List (List ℕ) → Option Asked → Reading → ℕ → Type 0
 HeadEnds version start seen None now count = IsBehind start now seen × IsAtEnd now.rest
 HeadEnds version start seen (Some asked) now count =
-    (line : List ℕ) × IsBehind start now (seen ++ line ∷ []) × (question_of version line ≡ Some asked) × (count ≡ length seen + 1)
+    (line : List ℕ) × IsBehind start now (seen ++ line ∷ [])
+    × (question_of version line ≡ Some asked) × (count ≡ length seen + 1)
 
 -- the executive's head, whole, and what stands behind it
 pub record HasHead (old : Machine) (start now : Reading) (headed : Headed) : Type 0 where
@@ -259,18 +277,24 @@ IsReplyJudged old new Nothing line Right = (new ≡ old) × (line ≡ codes "< r
 IsReplyJudged old new Nothing line Wrongly = line ≢ codes "< refused line"
 IsReplyJudged old new Nothing line Unknown = Unit {0}
 
-abbrev pub TakesReply : Machine → Machine → Reading → Reading → Asked → ℕ → Result (Unit {0}) AuditFault → Type 0
-TakesReply old new before after asked number (Ok x) = (line : List ℕ) × TakesOne before after line × (is_reply line ≡ true) × IsReplyJudged old new asked line Right
+abbrev pub TakesReply : Machine → Machine → Reading → Reading → Asked → ℕ
+    → Result (Unit {0}) AuditFault → Type 0
+TakesReply old new before after asked number (Ok x) =
+    (line : List ℕ) × TakesOne before after line × (is_reply line ≡ true)
+    × IsReplyJudged old new asked line Right
 TakesReply old new before after asked number (Err Memory) = Unit {0}
 TakesReply old new before after asked number (Err Read) = Unit {0}
-TakesReply old new before after asked number (Err (Line n)) = (version : ℕ) → NoNext (Reply version) before after number n
+TakesReply old new before after asked number (Err (Line n)) =
+    (version : ℕ) → NoNext (Reply version) before after number n
 TakesReply old new before after asked number (Err (Wrong n)) =
-    (n ≡ number) × ((line : List ℕ) × TakesOne before after line × (is_reply line ≡ true) × IsReplyJudged old new asked line Wrongly)
+    (n ≡ number) × ((line : List ℕ) × TakesOne before after line × (is_reply line ≡ true)
+    × IsReplyJudged old new asked line Wrongly)
 TakesReply old new before after asked number (Err Head) = ⊥
 
 abbrev pub TakesQuestion : Reading → Reading → ℕ → ℕ → Result (Option Asked) AuditFault → Type 0
 TakesQuestion old new version number (Ok None) = Ends old new
-TakesQuestion old new version number (Ok (Some asked)) = (line : List ℕ) × TakesOne old new line × (question_of version line ≡ Some asked)
+TakesQuestion old new version number (Ok (Some asked)) =
+    (line : List ℕ) × TakesOne old new line × (question_of version line ≡ Some asked)
 TakesQuestion old new version number (Err Memory) = Unit {0}
 TakesQuestion old new version number (Err Read) = Unit {0}
 TakesQuestion old new version number (Err (Line n)) = NoNext (Question version) old new number n
@@ -278,9 +302,12 @@ TakesQuestion old new version number (Err (Wrong n)) = ⊥
 TakesQuestion old new version number (Err Head) = ⊥
 
 -- a reply, and the question behind it
-abbrev pub TakesPair : Machine → Machine → Reading → Reading → ℕ → Asked → ℕ → Result (Option Asked) AuditFault → Type 0
+abbrev pub TakesPair : Machine → Machine → Reading → Reading → ℕ → Asked → ℕ
+    → Result (Option Asked) AuditFault → Type 0
 TakesPair old new before after version asked count (Ok next) =
-    (mid : Reading) × TakesReply old new before mid asked (count + 1) (Ok tt) × TakesQuestion mid after version (count + 2) (Ok next)
+    (mid : Reading) × TakesReply old new before mid asked (count + 1) (Ok tt)
+    × TakesQuestion mid after version (count + 2) (Ok next)
 TakesPair old new before after version asked count (Err fault) =
     TakesReply old new before after asked (count + 1) (Err fault)
-    ⊎ ((mid : Reading) × TakesReply old new before mid asked (count + 1) (Ok tt) × TakesQuestion mid after version (count + 2) (Err fault))
+    ⊎ ((mid : Reading) × TakesReply old new before mid asked (count + 1) (Ok tt)
+    × TakesQuestion mid after version (count + 2) (Err fault))

@@ -35,8 +35,8 @@ space_after Other = Some Gap
 
 abbrev pub mark_after : Mark → ℕ → Option Mark
 mark_after mark b =
-    if nat_eq b 32 then space_after mark else
-    (if nat_eq b 9 || nat_eq b 13 then None else (if is_digit b then digit_after mark b else Some Other))
+    if nat_eq b 32 then space_after mark else (if nat_eq b 9 || nat_eq b 13 then None else
+    (if is_digit b then digit_after mark b else Some Other))
 
 -- the last byte of a text, if each byte of it may follow the one before
 abbrev pub marks_of : Mark → List ℕ → Option Mark
@@ -172,18 +172,23 @@ is_reply line = begins (codes "< ") line && (is_neat (drop 2 line) && is_answer_
 
 -- what the lines so far call for, once the bounds of a network came
 abbrev pub own_place : ℕ → ℕ → ℕ → ℕ → Place
-own_place version events id count = if nat_lt id count then Own version events id count else Lag version events 0
+own_place version events id count =
+    if nat_lt id count then Own version events id count else Lag version events 0
 
 -- a lag that may come: its event is at or above the least, there is the event, and the lag is in range and not 0
 abbrev pub may_lag : ℕ → ℕ → ℕ × ℕ → Bool
-may_lag events least p = nat_le least p.0 && (nat_lt p.0 events && (nat_lt 0 p.1 && nat_le p.1 1_000_000_000))
+may_lag events least p =
+    nat_le least p.0 && (nat_lt p.0 events && (nat_lt 0 p.1 && nat_le p.1 1_000_000_000))
 
 abbrev pub lag_place : ℕ → ℕ → ℕ → ℕ × ℕ → Option Place
-lag_place version events least p = if nat_eq version 2 && may_lag events least p then Some (Lag version events (p.0 + 1)) else None
+lag_place version events least p =
+    if nat_eq version 2 && may_lag events least p then Some (Lag version events (p.0 + 1)) else None
 
 -- a command of that version in its one spelling
 abbrev pub one_command : ℕ → List ℕ → Option Asked
-one_command version text = option_and_then (λ command. if bytes_eq text (command_text command) && has_command version command then Some (Told command) else None) (command_of text)
+one_command version text =
+    option_and_then (λ command. if bytes_eq text (command_text command) && has_command version
+    command then Some (Told command) else None) (command_of text)
 
 -- the line of a question
 abbrev pub question_of : ℕ → List ℕ → Option Asked
@@ -202,8 +207,11 @@ abbrev pub head_place : Place → List ℕ → Option Place
 head_place Start line = option_map Network (version_of line)
 head_place (Network version) line = option_map (λ p. Kind version p.0) (network_of line)
 head_place (Kind version events) line = kind_place version events line
-head_place (Own version events id count) line = if nat_lt id count && is_own_line id line then Some (own_place version events (id + 1) count) else None
-head_place (Lag version events least) line = option_and_then (lag_place version events least) (lag_of line)
+head_place (Own version events id count) line =
+    if nat_lt id count && is_own_line id line then Some
+    (own_place version events (id + 1) count) else None
+head_place (Lag version events least) line =
+    option_and_then (lag_place version events least) (lag_of line)
 head_place (Question version) line = None
 head_place (Reply version) line = None
 
@@ -213,7 +221,8 @@ pair_place Start line = None
 pair_place (Network version) line = None
 pair_place (Kind version events) line = None
 pair_place (Own version events id count) line = None
-pair_place (Lag version events least) line = option_map (λ asked. Reply version) (question_of version line)
+pair_place (Lag version events least) line =
+    option_map (λ asked. Reply version) (question_of version line)
 pair_place (Question version) line = option_map (λ asked. Reply version) (question_of version line)
 pair_place (Reply version) line = if is_reply line then Some (Question version) else None
 
@@ -228,7 +237,8 @@ next_place place line = if is_of_pair line then pair_place place line else head_
 -- what lines call for, if they are lines of the format that begin at that place
 abbrev pub place_after : Place → List (List ℕ) → Option Place
 place_after place [] = Some place
-place_after place (line ∷ lines) = option_and_then (λ next. place_after next lines) (next_place place line)
+place_after place (line ∷ lines) =
+    option_and_then (λ next. place_after next lines) (next_place place line)
 
 -- a journal may end there
 abbrev pub may_end : Place → Bool

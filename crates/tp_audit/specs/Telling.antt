@@ -30,7 +30,8 @@ network_told (Some p) told = record { events = p.0; horizon = p.1; own = told.ow
 abbrev pub tell : Place → List ℕ → Told → Told
 tell Start line told = told
 tell (Network version) line told = network_told (network_of line) told
-tell (Kind version events) line told = record { events = told.events; horizon = told.horizon; own = own_count_of line }
+tell (Kind version events) line told =
+    record { events = told.events; horizon = told.horizon; own = own_count_of line }
 tell (Own version events id count) line told = told
 tell (Lag version events least) line told = told
 tell (Question version) line told = told
@@ -53,7 +54,9 @@ told_or (Some more) told = more
 -- what lines tell, one after another
 abbrev pub told_after : Place → Told → List (List ℕ) → Told
 told_after place told [] = told
-told_after place told (line ∷ lines) = told_or (option_map (λ next. told_after next (tell place line told) lines) (next_place place line)) told
+told_after place told (line ∷ lines) =
+    told_or
+    (option_map (λ next. told_after next (tell place line told) lines) (next_place place line)) told
 
 abbrev pub lags_or : Option (List (ℕ × ℕ)) → List (ℕ × ℕ)
 lags_or None = []
@@ -62,14 +65,18 @@ lags_or (Some lags) = lags
 -- the lags that lines tell
 abbrev pub lags_after : Place → List (List ℕ) → List (ℕ × ℕ)
 lags_after place [] = []
-lags_after place (line ∷ lines) = option_to_list (new_lag place line) ++ lags_or (option_map (λ next. lags_after next lines) (next_place place line))
+lags_after place (line ∷ lines) =
+    option_to_list (new_lag place line)
+    ++ lags_or (option_map (λ next. lags_after next lines) (next_place place line))
 
 -- ---- line by line
 
 -- what a line is behind the lines of a head: one more of it, a question behind it, or no line of the format
 abbrev pub MatchesAny : Place → ℕ → List ℕ → ℕ → Result Step AuditFault → Type 0
-MatchesAny place version line number (Ok (On next)) = (next_place place line ≡ Some next) × (head_version next ≡ Some version)
-MatchesAny place version line number (Ok Done) = (may_end place ≡ true) × ((asked : Asked) × (question_of version line ≡ Some asked))
+MatchesAny place version line number (Ok (On next)) =
+    (next_place place line ≡ Some next) × (head_version next ≡ Some version)
+MatchesAny place version line number (Ok Done) =
+    (may_end place ≡ true) × ((asked : Asked) × (question_of version line ≡ Some asked))
 MatchesAny place version line number (Err Memory) = Unit {0}
 MatchesAny place version line number (Err Read) = ⊥
 MatchesAny place version line number (Err (Line n)) = (n ≡ number) × (next_place place line ≡ None)
@@ -77,9 +84,12 @@ MatchesAny place version line number (Err (Wrong n)) = ⊥
 MatchesAny place version line number (Err Head) = ⊥
 
 abbrev pub TurnsAny : Place → ℕ → ℕ → Reading → Reading → Result Step AuditFault → Type 0
-TurnsAny place version number old new (Ok (On next)) = TakesOne old new new.line × (next_place place new.line ≡ Some next) × (head_version next ≡ Some version)
+TurnsAny place version number old new (Ok (On next)) =
+    TakesOne old new new.line × (next_place place new.line ≡ Some next)
+    × (head_version next ≡ Some version)
 TurnsAny place version number old new (Ok Done) =
-    (may_end place ≡ true) × (Ends old new ⊎ ((line : List ℕ) × TakesOne old new line × ((asked : Asked) × (question_of version line ≡ Some asked))))
+    (may_end place ≡ true) × (Ends old new ⊎ ((line : List ℕ) × TakesOne old new line
+    × ((asked : Asked) × (question_of version line ≡ Some asked))))
 TurnsAny place version number old new (Err Memory) = Unit {0}
 TurnsAny place version number old new (Err Read) = Unit {0}
 TurnsAny place version number old new (Err (Line n)) = NoNext place old new number n
@@ -100,7 +110,11 @@ pub record IsHeadTold (bytes : List ℕ) (head : JournalHead) : Type 0 where
   pub bytes_are : bytes ≡ text_of (first ∷ more) ++ left
   pub ends : EndsHead place head.version left
   pub version : version_of first ≡ Some head.version
-  pub told : told_after (Network head.version) nothing_told more ≡ record { events = head.events; horizon = head.horizon; own = head.own }
+  pub told : told_after (Network head.version) nothing_told more ≡ record {
+    events = head.events;
+    horizon = head.horizon;
+    own = head.own;
+  }
   pub lags : lags_after (Network head.version) more ≡ head.lags.items
 
 abbrev pub TellsHead : Reading → Reading → Result JournalHead AuditFault → Type 0

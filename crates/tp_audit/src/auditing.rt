@@ -386,7 +386,8 @@ fn take_pair<N: Net, R: Source>(
     requires longest { lines.old.longest ≡ 16_384 }
     requires sound { IsSound executive.old }
     requires few { count + 9 ≤ lines.old.taken }
-    ensures takes { TakesPair executive.old executive.new lines.old lines.new version asked count result }
+    ensures takes { TakesPair executive.old executive.new lines.old lines.new version asked count
+        result }
     ensures sound { IsSound executive.new }
     ensures limits { SameLimits lines.old lines.new }
     ensures read { lines.new.failures ≡ audit_failures lines.old.failures result }

@@ -30,7 +30,9 @@ first_machine head setting = new_machine setting (greatest_limits head.1)
 -- The lines of lags were all taken: the first of the lines behind them, if there is one, is none, unless the bytes are as many as are
 -- taken at most.
 abbrev pub EndLags : List ℕ → List (List ℕ) → Type 0
-EndLags bytes lines = (line : List ℕ) (rest : List (List ℕ)) → lines ≡ line ∷ rest → (lag_spelled line ≡ None) ⊎ (4_294_967_296 ≤ length bytes)
+EndLags bytes lines =
+    (line : List ℕ) (rest : List (List ℕ)) → lines ≡ line ∷ rest → (lag_spelled line ≡ None)
+    ⊎ (4_294_967_296 ≤ length bytes)
 
 -- the first line is the head, lines of lags follow, and the transcript of all other lines was written
 pub record AnswersHead (bytes : List ℕ) (held now : Option (List ℕ)) : Type 0 where
@@ -96,14 +98,17 @@ pub record AnswersLinesTo (bytes left : List ℕ) (held now : Option (List ℕ))
 
 -- nothing was written, or the answers to the lines up to some place, each whole
 abbrev pub AnswersRead : List ℕ → Option (List ℕ) → Option (List ℕ) → Type 0
-AnswersRead bytes held now = Appends held now [] ⊎ ((left : List ℕ) × AnswersLinesTo bytes left held now)
+AnswersRead bytes held now =
+    Appends held now [] ⊎ ((left : List ℕ) × AnswersLinesTo bytes left held now)
 
 -- As many bytes were read as are taken at most, and there are more. The answers to all lines among them that are whole were written: what is
 -- left begins with a part of a line, up to where the reading stopped. Or these bytes are a part of the first line, and nothing was written.
 abbrev pub AnswersMost : List ℕ → Option (List ℕ) → Option (List ℕ) → Type 0
 AnswersMost bytes held now =
-    ((part more : List ℕ) × (bytes ≡ part ++ more) × Free part × (length part ≡ 4_294_967_296) × (0 < length more) × Appends held now [])
-    ⊎ ((left part more : List ℕ) × (left ≡ part ++ more) × Free part × (length bytes ≡ 4_294_967_296 + length more) × (0 < length more) × AnswersLinesTo bytes left held now)
+    ((part more : List ℕ) × (bytes ≡ part ++ more) × Free part × (length part ≡ 4_294_967_296)
+    × (0 < length more) × Appends held now []) ⊎ ((left part more : List ℕ) × (left ≡ part ++ more)
+    × Free part × (length bytes ≡ 4_294_967_296 + length more) × (0 < length more)
+    × AnswersLinesTo bytes left held now)
 
 abbrev pub bare_result : Result Served ServeFault → Result Served BareFault
 bare_result (Ok served) = Ok served
@@ -117,18 +122,26 @@ pub record TakesAllLags (head : ℕ × ℕ) (before after : Reading) (setting : 
 -- what came of the lines of lags behind a head: the machine in which the run begins, or one of them was at fault or not read, or there was
 -- no memory for the network
 abbrev pub BeginsLines : ℕ × ℕ → Reading → Reading → Result Machine BareFault → Type 0
-BeginsLines head before after (Ok m) = (setting : Situation) × TakesAllLags head before after setting × (m ≡ first_machine head setting)
-BeginsLines head before after (Err (Serving fault)) = (setting : Situation) × ReadsLags before after (first_setting head) setting (Err fault)
+BeginsLines head before after (Ok m) =
+    (setting : Situation) × TakesAllLags head before after setting
+    × (m ≡ first_machine head setting)
+BeginsLines head before after (Err (Serving fault)) =
+    (setting : Situation) × ReadsLags before after (first_setting head) setting (Err fault)
 BeginsLines head before after (Err Network) = Unit {0}
 
 -- what came of the commands behind the lags: the lines were answered, or not all of them
-abbrev pub AnswersLines : ℕ × ℕ → Reading → Reading → Option (List ℕ) → Option (List ℕ) → Result Served BareFault → Type 0
+abbrev pub AnswersLines : ℕ × ℕ → Reading → Reading → Option (List ℕ) → Option (List ℕ)
+    → Result Served BareFault → Type 0
 AnswersLines head before after held now (Ok served) =
-    (setting : Situation) × (mid : Reading) × (last : Machine) × TakesAllLags head before mid setting × Serves (first_machine head setting) last mid after held now (Ok served)
+    (setting : Situation) × (mid : Reading) × (last : Machine)
+    × TakesAllLags head before mid setting
+    × Serves (first_machine head setting) last mid after held now (Ok served)
     × ServesAll (first_machine head setting) last mid.rest held now
 AnswersLines head before after held now (Err (Serving fault)) =
-    ((setting : Situation) × ReadsLags before after (first_setting head) setting (Err fault) × (now ≡ held))
-    ⊎ ((setting : Situation) × (mid : Reading) × (last : Machine) × TakesAllLags head before mid setting × Serves (first_machine head setting) last mid after held now (Err fault))
+    ((setting : Situation) × ReadsLags before after (first_setting head) setting (Err fault)
+    × (now ≡ held)) ⊎ ((setting : Situation) × (mid : Reading) × (last : Machine)
+    × TakesAllLags head before mid setting
+    × Serves (first_machine head setting) last mid after held now (Err fault))
 AnswersLines head before after held now (Err Network) = now ≡ held
 
 -- there is no first line, or it is too long for a head, or none
@@ -156,7 +169,8 @@ pub record HasBadLag (all : List (List ℕ)) : Type 0 where
 -- the input is refused: it has no head, or a lag that does not fit, or more than 2^32 bytes
 abbrev pub IsRefused : Option (List ℕ) → Type 0
 IsRefused None = Unit {0}
-IsRefused (Some bytes) = HasNoHead (lines_of bytes) ⊎ (HasBadLag (lines_of bytes) ⊎ (4_294_967_296 < length bytes))
+IsRefused (Some bytes) =
+    HasNoHead (lines_of bytes) ⊎ (HasBadLag (lines_of bytes) ⊎ (4_294_967_296 < length bytes))
 
 -- what a fault tells of the input and of what was written
 abbrev pub BareStopsAt : List ℕ → Option (List ℕ) → Option (List ℕ) → BareFault → Type 0
@@ -165,7 +179,8 @@ BareStopsAt bytes held now (Serving serving.Read) = AnswersRead bytes held now
 BareStopsAt bytes held now (Serving serving.Write) = AnswersPart (Some bytes) held now
 BareStopsAt bytes held now (Serving serving.Memory) = Appends held now []
 BareStopsAt bytes held now (Serving serving.TooLong) = AnswersMost bytes held now
-BareStopsAt bytes held now (Serving serving.Head) = (HasNoHead (lines_of bytes) ⊎ HasBadLag (lines_of bytes)) × Appends held now []
+BareStopsAt bytes held now (Serving serving.Head) =
+    (HasNoHead (lines_of bytes) ⊎ HasBadLag (lines_of bytes)) × Appends held now []
 
 -- the same, where the reader tells its bytes
 abbrev pub BareStops : Option (List ℕ) → Option (List ℕ) → Option (List ℕ) → BareFault → Type 0
@@ -183,7 +198,9 @@ bare_failures n (Err (Serving serving.TooLong)) = n
 bare_failures n (Err (Serving serving.Head)) = n
 
 -- The fault that ended it with that status was told, and it is as it tells. A failed write is one that the count of failures tells of.
-pub record StopsBare (status : ℕ) (input held held-now : Option (List ℕ)) (output output-now : ℕ) (failures : ℕ) (before : Option (List ℕ)) (failures-now : ℕ) (now : Option (List ℕ)) : Type 0 where
+pub record StopsBare (status : ℕ) (input held held-now : Option (List ℕ)) (output output-now : ℕ)
+    (failures : ℕ) (before : Option (List ℕ)) (failures-now : ℕ)
+    (now : Option (List ℕ)) : Type 0 where
   pub fault : BareFault
   pub is : bare_status fault ≡ status
   pub cause : BareStops input held held-now fault

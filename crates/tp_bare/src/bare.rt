@@ -86,7 +86,8 @@ fn answer<I: Source + Drop, O: Sink>(
     requires longest { lines.old.longest ≡ 256 }
     requires events { events ≤ 1024 }
     requires horizon { horizon ≤ 1000000000 }
-    ensures answers { AnswersLines (events, horizon) lines.old lines.new (O.held output.old) (O.held output.new) result }
+    ensures answers { AnswersLines (events, horizon) lines.old lines.new (O.held output.old)
+        (O.held output.new) result }
     ensures most { lines.new.most ≡ lines.old.most }
     ensures told { O.failures output.new ≡ bare_failures (O.failures output.old) result }
 {
@@ -106,8 +107,10 @@ fn bare<I: Source + Drop, O: Sink>(
     output: &mut O,
 ) -> Result<Served, BareFault>
     ensures all { OnOk result (AnswersAll (I.left input) (O.held output.old) (O.held output.new)) }
-    ensures part { OnErr result (AnswersPart (I.left input) (O.held output.old) (O.held output.new)) }
-    ensures cause { IfErr result (BareStops (I.left input) (O.held output.old) (O.held output.new)) }
+    ensures part { OnErr result
+        (AnswersPart (I.left input) (O.held output.old) (O.held output.new)) }
+    ensures cause { IfErr result
+        (BareStops (I.left input) (O.held output.old) (O.held output.new)) }
     ensures told { O.failures output.new ≡ bare_failures (O.failures output.old) result }
 {
     let mut lines = Lines::new(alloc, input, LONGEST)?;
@@ -130,8 +133,11 @@ pub fn run_bare<I: Source + Drop, O: Sink, F: Sink>(
     ensures no { result ≢ 1 }
     ensures told { result ≢ OUT_OF_ORDER → O.failures output.new ≡ O.failures output.old }
     ensures silent { result ≡ 0 → faults.new ≡ faults.old }
-    ensures line { result ≢ 0 → TellsFault [] (F.failures faults.old) (F.held faults.old) (F.failures faults.new) (F.held faults.new) }
-    ensures ends { result ≢ 0 → StopsBare result (I.left input) (O.held output.old) (O.held output.new) (O.failures output.old) (O.failures output.new) (F.failures faults.old) (F.held faults.old) (F.failures faults.new) (F.held faults.new) }
+    ensures line { result ≢ 0 → TellsFault [] (F.failures faults.old) (F.held faults.old)
+        (F.failures faults.new) (F.held faults.new) }
+    ensures ends { result ≢ 0 → StopsBare result (I.left input) (O.held output.old)
+        (O.held output.new) (O.failures output.old) (O.failures output.new) (F.failures faults.old)
+        (F.held faults.old) (F.failures faults.new) (F.held faults.new) }
 {
     match bare(alloc, input, output) {
         Ok(_) => 0,

@@ -23,18 +23,21 @@ use Rattle.tp_bare_journals.specs.declared.journal_lines.JournalStop.TheVariants
 pub record LogsHead (bytes : List ℕ) (held now log logged : Option (List ℕ)) : Type 0 where
   pub answers : AnswersHead bytes held now
   pub entries : List Entry
-  pub entered : EntersAll (first_machine answers.head answers.setting) answers.lines entries answers.text answers.last
+  pub entered : EntersAll
+      (first_machine answers.head answers.setting) answers.lines entries answers.text answers.last
   pub runs : Runs 2 (first_machine answers.head answers.setting) entries answers.last
   pub logs : Appends log logged (journal_bytes (first_machine answers.head answers.setting) entries)
 
 -- the same, where the reader tells its bytes
-abbrev pub LogsAll : Option (List ℕ) → Option (List ℕ) → Option (List ℕ) → Option (List ℕ) → Option (List ℕ) → Type 0
+abbrev pub LogsAll : Option (List ℕ) → Option (List ℕ) → Option (List ℕ) → Option (List ℕ)
+    → Option (List ℕ) → Type 0
 LogsAll None held now log logged = Unit {0}
 LogsAll (Some bytes) held now log logged = LogsHead bytes held now log logged
 
 -- A head and all lines of lags behind it were taken from the beginning of the input, and the lines behind these answered on that network
 -- with their journal, up to what the result tells
-pub record LogsLines (input held now log logged : Option (List ℕ)) (result : Result Served JournalFault) : Type 0 where
+pub record LogsLines (input held now log logged : Option (List ℕ))
+    (result : Result Served JournalFault) : Type 0 where
   pub head : ℕ × ℕ
   pub setting : Situation
   pub start : Reading
@@ -49,27 +52,39 @@ pub record LogsLines (input held now log logged : Option (List ℕ)) (result : R
   pub same : behind_head.most ≡ start.most
   pub lags : TakesAllLags head behind_head behind_lags setting
   pub still : after.most ≡ behind_head.most
-  pub journals : Journals (first_machine head setting) last behind_lags after held now log logged result
+  pub journals : Journals
+      (first_machine head setting) last behind_lags after held now log logged result
 
 -- What stopped it, and how far it came. No journal file was made, or nothing was read behind the head and the lags: then nothing was
 -- written, and nothing is in the log. Or the lines behind them were answered with their journal up to there.
-abbrev pub StopsLogged : Option (List ℕ) → Option (List ℕ) → Option (List ℕ) → Option (List ℕ) → Option (List ℕ) → JournalStop → Type 0
+abbrev pub StopsLogged : Option (List ℕ) → Option (List ℕ) → Option (List ℕ) → Option (List ℕ)
+    → Option (List ℕ) → JournalStop → Type 0
 StopsLogged input held now log logged Making = now ≡ held
-StopsLogged input held now log logged (Beginning fault) = BareStops input held held fault × (now ≡ held) × (logged ≡ log)
-StopsLogged input held now log logged (Journaling fault) = LogsLines input held now log logged (Err fault)
+StopsLogged input held now log logged (Beginning fault) =
+    BareStops input held held fault × (now ≡ held) × (logged ≡ log)
+StopsLogged input held now log logged (Journaling fault) =
+    LogsLines input held now log logged (Err fault)
 
 -- nothing was written, or the answers to the first lines behind the head and the lags, and their journal, as far as a fault let them
-abbrev pub LogsPart : Option (List ℕ) → Option (List ℕ) → Option (List ℕ) → Option (List ℕ) → Option (List ℕ) → Type 0
-LogsPart input held now log logged = (now ≡ held) ⊎ ((fault : JournalFault) × LogsLines input held now log logged (Err fault))
+abbrev pub LogsPart : Option (List ℕ) → Option (List ℕ) → Option (List ℕ) → Option (List ℕ)
+    → Option (List ℕ) → Type 0
+LogsPart input held now log logged =
+    (now ≡ held) ⊎ ((fault : JournalFault) × LogsLines input held now log logged (Err fault))
 
 -- what came of the lines behind a head
-abbrev pub LogsFrom : ℕ × ℕ → Reading → Reading → Option (List ℕ) → Option (List ℕ) → Option (List ℕ) → Option (List ℕ) → Result Served JournalStop → Type 0
+abbrev pub LogsFrom : ℕ × ℕ → Reading → Reading → Option (List ℕ) → Option (List ℕ)
+    → Option (List ℕ) → Option (List ℕ) → Result Served JournalStop → Type 0
 LogsFrom head before after held now log logged (Ok served) =
-    (setting : Situation) × (mid : Reading) × (last : Machine) × TakesAllLags head before mid setting × Journals (first_machine head setting) last mid after held now log logged (Ok served)
+    (setting : Situation) × (mid : Reading) × (last : Machine)
+    × TakesAllLags head before mid setting
+    × Journals (first_machine head setting) last mid after held now log logged (Ok served)
 LogsFrom head before after held now log logged (Err Making) = ⊥
-LogsFrom head before after held now log logged (Err (Beginning fault)) = BeginsLines head before after (Err fault) × (now ≡ held) × (logged ≡ log)
+LogsFrom head before after held now log logged (Err (Beginning fault)) =
+    BeginsLines head before after (Err fault) × (now ≡ held) × (logged ≡ log)
 LogsFrom head before after held now log logged (Err (Journaling fault)) =
-    (setting : Situation) × (mid : Reading) × (last : Machine) × TakesAllLags head before mid setting × Journals (first_machine head setting) last mid after held now log logged (Err fault)
+    (setting : Situation) × (mid : Reading) × (last : Machine)
+    × TakesAllLags head before mid setting
+    × Journals (first_machine head setting) last mid after held now log logged (Err fault)
 
 abbrev pub logged_result : Result Served JournalFault → Result Served JournalStop
 logged_result (Ok served) = Ok served
@@ -101,7 +116,9 @@ log_failures n (Err (Journaling Log)) = n + 1
 log_failures n (Err (Journaling TooLong)) = n
 
 -- The stop that ended it with that status was told, and it is as it tells. A failed write is one that the count of failures tells of.
-pub record EndsJournaled (status : ℕ) (input held held-now log logged : Option (List ℕ)) (output output-now : ℕ) (failures : ℕ) (before : Option (List ℕ)) (failures-now : ℕ) (now : Option (List ℕ)) : Type 0 where
+pub record EndsJournaled (status : ℕ) (input held held-now log logged : Option (List ℕ))
+    (output output-now : ℕ) (failures : ℕ) (before : Option (List ℕ)) (failures-now : ℕ)
+    (now : Option (List ℕ)) : Type 0 where
   pub stop : JournalStop
   pub is : stop_status stop ≡ status
   pub cause : StopsLogged input held held-now log logged stop

@@ -46,7 +46,8 @@ fn answer<I: Source + Drop, O: Sink, L: Sink>(
     requires longest { lines.old.longest ≡ 256 }
     requires events { events ≤ 1024 }
     requires horizon { horizon ≤ 1000000000 }
-    ensures logs { LogsFrom (events, horizon) lines.old lines.new (O.held output.old) (O.held output.new) (L.held log.old) (L.held log.new) result }
+    ensures logs { LogsFrom (events, horizon) lines.old lines.new (O.held output.old)
+        (O.held output.new) (L.held log.old) (L.held log.new) result }
     ensures most { lines.new.most ≡ lines.old.most }
     ensures told { O.failures output.new ≡ output_failures (O.failures output.old) result }
     ensures log { L.failures log.new ≡ log_failures (L.failures log.old) result }
@@ -67,8 +68,10 @@ pub(crate) fn log_bare<I: Source + Drop, O: Sink, L: Sink>(
     output: &mut O,
     log: &mut L,
 ) -> Result<Served, JournalStop>
-    ensures all { OnOk result (LogsAll (I.left input) (O.held output.old) (O.held output.new) (L.held log.old) (L.held log.new)) }
-    ensures cause { IfErr result (StopsLogged (I.left input) (O.held output.old) (O.held output.new) (L.held log.old) (L.held log.new)) }
+    ensures all { OnOk result (LogsAll (I.left input) (O.held output.old) (O.held output.new)
+        (L.held log.old) (L.held log.new)) }
+    ensures cause { IfErr result (StopsLogged (I.left input) (O.held output.old) (O.held output.new)
+        (L.held log.old) (L.held log.new)) }
     ensures told { O.failures output.new ≡ output_failures (O.failures output.old) result }
     ensures log { L.failures log.new ≡ log_failures (L.failures log.old) result }
 {

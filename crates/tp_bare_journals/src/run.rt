@@ -20,8 +20,10 @@ fn journaled<N: Logs, I: Source + Drop, O: Sink>(
     input: I,
     output: &mut O,
 ) -> Result<Served, JournalStop>
-    ensures all { OnOk result (LogsAll (I.left input) (O.held output.old) (O.held output.new) N.blank (N.kept files.new)) }
-    ensures cause { IfErr result (StopsLogged (I.left input) (O.held output.old) (O.held output.new) N.blank (N.kept files.new)) }
+    ensures all { OnOk result (LogsAll (I.left input) (O.held output.old)
+        (O.held output.new) N.blank (N.kept files.new)) }
+    ensures cause { IfErr result (StopsLogged (I.left input) (O.held output.old)
+        (O.held output.new) N.blank (N.kept files.new)) }
     ensures named { OnOk result (IfSome (N.named files.new) (λ n. n ≡ name.now)) }
     ensures told { O.failures output.new ≡ output_failures (O.failures output.old) result }
 {
@@ -47,8 +49,10 @@ pub fn run_bare_journal<N: Logs, I: Source + Drop, O: Sink, F: Sink>(
     output: &mut O,
     faults: &mut F,
 ) -> u8
-    ensures all { result ≡ 0 → LogsAll (I.left input) (O.held output.old) (O.held output.new) N.blank (N.kept files.new) }
-    ensures part { result ≢ 0 → LogsPart (I.left input) (O.held output.old) (O.held output.new) N.blank (N.kept files.new) }
+    ensures all { result ≡ 0 →
+        LogsAll (I.left input) (O.held output.old) (O.held output.new) N.blank (N.kept files.new) }
+    ensures part { result ≢ 0 →
+        LogsPart (I.left input) (O.held output.old) (O.held output.new) N.blank (N.kept files.new) }
     ensures refused { result ≡ REFUSED → IsRefused (I.left input) }
     ensures named { result ≡ 0 → IfSome (N.named files.new) (λ n. n ≡ name.now) }
 
@@ -57,8 +61,11 @@ pub fn run_bare_journal<N: Logs, I: Source + Drop, O: Sink, F: Sink>(
     ensures within { result ≤ 3 }
     ensures told { result ≢ OUT_OF_ORDER → O.failures output.new ≡ O.failures output.old }
     ensures silent { result ≡ 0 → faults.new ≡ faults.old }
-    ensures line { result ≢ 0 → TellsFault [] (F.failures faults.old) (F.held faults.old) (F.failures faults.new) (F.held faults.new) }
-    ensures ends { result ≢ 0 → EndsJournaled result (I.left input) (O.held output.old) (O.held output.new) N.blank (N.kept files.new) (O.failures output.old) (O.failures output.new) (F.failures faults.old) (F.held faults.old) (F.failures faults.new) (F.held faults.new) }
+    ensures line { result ≢ 0 → TellsFault [] (F.failures faults.old) (F.held faults.old)
+        (F.failures faults.new) (F.held faults.new) }
+    ensures ends { result ≢ 0 → EndsJournaled result (I.left input) (O.held output.old) (O.held
+        output.new) N.blank (N.kept files.new) (O.failures output.old) (O.failures output.new)
+        (F.failures faults.old) (F.held faults.old) (F.failures faults.new) (F.held faults.new) }
 {
     match journaled(alloc, files, name, input, output) {
         Ok(_) => 0,

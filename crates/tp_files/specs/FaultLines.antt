@@ -46,7 +46,8 @@ abbrev pub IsFault : FaultLine → Type 0
 IsFault line = (2 ≤ line.status) × (line.status ≤ 3)
 
 -- a text was written whole where the writer did not fail, and else a first part of it
-pub record Tells (text : List ℕ) (failures : ℕ) (before : Option (List ℕ)) (failures-now : ℕ) (now : Option (List ℕ)) : Type 0 where
+pub record Tells (text : List ℕ) (failures : ℕ) (before : Option (List ℕ)) (failures-now : ℕ)
+    (now : Option (List ℕ)) : Type 0 where
   pub part : AppendsPart before now text
   pub whole : failures-now ≡ failures → Appends before now text
 
@@ -55,7 +56,8 @@ abbrev pub IsFaultText : List ℕ → Type 0
 IsFaultText text = (words : List ℕ) × (text ≡ codes "fault " ++ (words ++ codes "\n"))
 
 -- a fault line was told, and behind it this
-pub record TellsFault (more : List ℕ) (failures : ℕ) (before : Option (List ℕ)) (failures-now : ℕ) (now : Option (List ℕ)) : Type 0 where
+pub record TellsFault (more : List ℕ) (failures : ℕ) (before : Option (List ℕ)) (failures-now : ℕ)
+    (now : Option (List ℕ)) : Type 0 where
   pub text : List ℕ
   pub is : IsFaultText text
   pub told : Tells (text ++ more) failures before failures-now now

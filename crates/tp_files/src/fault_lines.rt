@@ -147,7 +147,8 @@ impl<'w> FaultLine<'w> {
 
     /// Writes what stands behind them.
     fn write_detail<F: Sink>(&self, faults: &mut F) -> Result<(), Failed>
-        ensures bytes { Writes (F.held faults.old) (F.held faults.new) (detail_text self.now.detail) result }
+        ensures bytes { Writes (F.held faults.old) (F.held faults.new)
+            (detail_text self.now.detail) result }
         ensures cause { F.failures faults.new ≡ failures_after (F.failures faults.old) result }
     {
         match self.detail {
@@ -170,7 +171,8 @@ impl<'w> FaultLine<'w> {
 
     /// Writes the line.
     fn write<F: Sink>(&self, faults: &mut F) -> Result<(), Failed>
-        ensures bytes { Writes (F.held faults.old) (F.held faults.new) (fault_text self.now) result }
+        ensures bytes { Writes (F.held faults.old) (F.held faults.new)
+            (fault_text self.now) result }
         ensures cause { F.failures faults.new ≡ failures_after (F.failures faults.old) result }
     {
         self.write_head(faults)?;
@@ -179,7 +181,8 @@ impl<'w> FaultLine<'w> {
 
     /// Writes the line and a text behind it.
     fn write_more<F: Sink>(&self, faults: &mut F, more: &str) -> Result<(), Failed>
-        ensures bytes { Writes (F.held faults.old) (F.held faults.new) (fault_text self.now ++ more.now) result }
+        ensures bytes { Writes (F.held faults.old) (F.held faults.new)
+            (fault_text self.now ++ more.now) result }
         ensures cause { F.failures faults.new ≡ failures_after (F.failures faults.old) result }
     {
         self.write(faults)?;
@@ -216,8 +219,10 @@ fn push_construct<F: Sink>(faults: &mut F, at: u32, what: &str) -> Result<(), Fa
 /// Writes the line of a fault, and answers the exit status. If the line can't be written, the status alone tells.
 pub fn complain<F: Sink>(faults: &mut F, line: FaultLine<'_>) -> u8
     ensures status { result ≡ line.entry.status }
-    ensures told { Tells (fault_text line.entry) (F.failures faults.old) (F.held faults.old) (F.failures faults.new) (F.held faults.new) }
-    ensures fault { TellsFault [] (F.failures faults.old) (F.held faults.old) (F.failures faults.new) (F.held faults.new) }
+    ensures told { Tells (fault_text line.entry) (F.failures faults.old) (F.held faults.old)
+        (F.failures faults.new) (F.held faults.new) }
+    ensures fault { TellsFault [] (F.failures faults.old) (F.held faults.old)
+        (F.failures faults.new) (F.held faults.new) }
 {
     let _ = line.write(faults);
     line.status
@@ -226,7 +231,8 @@ pub fn complain<F: Sink>(faults: &mut F, line: FaultLine<'_>) -> u8
 /// Writes the line of a fault and a text behind it, and answers the exit status. If they can't be written, the status alone tells.
 pub fn complain_more<F: Sink>(faults: &mut F, line: FaultLine<'_>, more: &str) -> u8
     ensures status { result ≡ line.entry.status }
-    ensures told { Tells (fault_text line.entry ++ more.now) (F.failures faults.old) (F.held faults.old) (F.failures faults.new) (F.held faults.new) }
+    ensures told { Tells (fault_text line.entry ++ more.now) (F.failures faults.old)
+        (F.held faults.old) (F.failures faults.new) (F.held faults.new) }
 {
     let _ = line.write_more(faults, more);
     line.status

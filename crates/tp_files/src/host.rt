@@ -151,7 +151,8 @@ fn line_of_call(why: CallFault) -> FaultLine<'static>
 /// Writes why the words were not taken. Answers the exit status: 2 where one of them is no text, and 3 where memory was refused.
 pub fn refuse_call<F: Sink>(why: CallFault, faults: &mut F) -> u8
     ensures status { result ≡ call_status why }
-    ensures told { Tells (call_text why) (F.failures faults.old) (F.held faults.old) (F.failures faults.new) (F.held faults.new) }
+    ensures told { Tells (call_text why) (F.failures faults.old) (F.held faults.old)
+        (F.failures faults.new) (F.held faults.new) }
 {
     complain(faults, line_of_call(why))
 }

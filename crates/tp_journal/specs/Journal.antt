@@ -50,7 +50,8 @@ head_lines h =
 -- each event is at or above the number, and they rise
 abbrev pub AreLags : ℕ → ℕ → List (ℕ × ℕ) → Type 0
 AreLags least events [] = Unit {0}
-AreLags least events (p ∷ ps) = (least ≤ p.0) × (p.0 < events) × (0 < p.1) × (p.1 ≤ 1_000_000_000) × AreLags (p.0 + 1) events ps
+AreLags least events (p ∷ ps) =
+    (least ≤ p.0) × (p.0 < events) × (0 < p.1) × (p.1 ≤ 1_000_000_000) × AreLags (p.0 + 1) events ps
 
 -- the numbers of a point and of a weight are ones that words spell
 abbrev pub IsWritablePoint : Point → Type 0
@@ -74,7 +75,8 @@ pub record IsHead (h : Head) : Type 0 where
   pub version : IsVersion h.version
   pub events : h.events ≤ 1_024
   pub horizon : h.horizon ≤ 1_000_000_000
-  pub own : MatchOption h.own (Unit {0}) (λ bounds. (length bounds ≤ 65_535) × All IsWritable bounds)
+  pub own : MatchOption h.own (Unit {0}) (λ bounds. (length bounds ≤ 65_535)
+      × All IsWritable bounds)
   pub lags : AreLags 0 h.events h.lags
   pub first_version : h.version ≡ 1 → h.lags ≡ []
 
@@ -107,7 +109,14 @@ lags_of m = lags_from 0 m.setting.lags
 
 -- the head of an executive as it begins, in a journal of that version
 abbrev pub head_of : ℕ → Machine → Head
-head_of version m = record { version = version; events = event_count m.setting; horizon = m.setting.horizon; own = own_of m; lags = lags_of m }
+head_of version m =
+    record {
+      version = version;
+      events = event_count m.setting;
+      horizon = m.setting.horizon;
+      own = own_of m;
+      lags = lags_of m;
+    }
 
 -- ---- the pairs
 
@@ -140,7 +149,9 @@ Has version Report = Unit {0}
 abbrev pub Runs : ℕ → Machine → List Entry → Machine → Type 0
 Runs version old [] new = new ≡ old
 Runs version old (None ∷ entries) new = Runs version old entries new
-Runs version old (Some p ∷ entries) new = (mid : Machine) × IsSpelled p.0 × Has version p.0 × Step old p.0 p.1 mid × Runs version mid entries new
+Runs version old (Some p ∷ entries) new =
+    (mid : Machine) × IsSpelled p.0 × Has version p.0 × Step old p.0 p.1 mid
+    × Runs version mid entries new
 
 -- ---- a journal
 
@@ -153,7 +164,8 @@ abbrev pub text_of : List (List ℕ) → List ℕ
 text_of lines = flat_map (λ line. line ++ 10 ∷ []) lines
 
 -- these are the lines of a journal of an executive that begins in that state, with so many pairs, and it comes to the other state
-pub record IsJournal (version : ℕ) (old : Machine) (lines : List (List ℕ)) (pairs : ℕ) (new : Machine) : Type 0 where
+pub record IsJournal (version : ℕ) (old : Machine) (lines : List (List ℕ)) (pairs : ℕ)
+    (new : Machine) : Type 0 where
   pub entries : List Entry
   pub head : IsHead (head_of version old)
   pub runs : Runs version old entries new
@@ -168,4 +180,6 @@ longest_line = 16_384
 -- the bytes are a journal of an executive that begins in that state, with so many pairs
 abbrev pub IsJournalText : Machine → List ℕ → ℕ → Type 0
 IsJournalText old bytes pairs =
-    (version : ℕ) × (lines : List (List ℕ)) × (new : Machine) × IsJournal version old lines pairs new × (bytes ≡ text_of lines) × All (λ line. length line ≤ longest_line) lines
+    (version : ℕ) × (lines : List (List ℕ)) × (new : Machine)
+    × IsJournal version old lines pairs new × (bytes ≡ text_of lines)
+    × All (λ line. length line ≤ longest_line) lines

@@ -23,4 +23,6 @@ place_of (Event e) = e + 1
 -- a point without a place is not marked; another is, and it is told whether it was
 abbrev pub Marks : List Bool → List Bool → Point → Option Bool → Type 0
 Marks old new point None = (length old ≤ place_of point) × (new ≡ old)
-Marks old new point (Some was) = (place_of point < length old) × (was ≡ slice_index_or old (place_of point) false) × (new ≡ slice_set old (place_of point) true)
+Marks old new point (Some was) =
+    (place_of point < length old) × (was ≡ slice_index_or old (place_of point) false)
+    × (new ≡ slice_set old (place_of point) true)

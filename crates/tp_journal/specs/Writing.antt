@@ -25,7 +25,8 @@ use Rattle.tp_journal.specs.Journal.{Entry, Runs, pair_lines, journal_lines, tex
 -- the executive is as `bare` leaves it, or as `from_plan` does
 abbrev pub IsNewExecutive : Machine → Type 0
 IsNewExecutive m =
-    ((s : Situation) × IsFresh s × (m ≡ new_machine s m.limits)) ⊎ ((s : Situation) × (bounds : List Bound) × IsFresh s × (m ≡ plan_machine s bounds m.limits))
+    ((s : Situation) × IsFresh s × (m ≡ new_machine s m.limits))
+    ⊎ ((s : Situation) × (bounds : List Bound) × IsFresh s × (m ≡ plan_machine s bounds m.limits))
 
 -- each identifier below the next one is that of a bound in force
 abbrev pub AllAreInForce : Machine → Type 0
@@ -34,17 +35,19 @@ AllAreInForce m = (id : ℕ) → id < m.next → get m.setting.bounds id ≢ Non
 -- what one line becomes: its entry, none for a line without words; what it is answered; and the state after it
 abbrev pub Enters : Machine → List ℕ → List Entry → List ℕ → Machine → Type 0
 Enters old line entries text new =
-    MatchBool (nat_lt 256 (length line)) ((entries ≡ None ∷ []) × (text ≡ refused_line) × (new ≡ old))
-    (MatchBool (list_is_empty (words_of line)) ((entries ≡ []) × (text ≡ []) × (new ≡ old))
-    (MatchOption (command_of line) ((entries ≡ None ∷ []) × (text ≡ refused_line) × (new ≡ old))
-    (λ command. (answer : Answer) × Step old command answer new × (entries ≡ Some (command, answer) ∷ []) × (text ≡ line_of answer))))
+    MatchBool (nat_lt 256 (length line)) ((entries ≡ None ∷ []) × (text ≡ refused_line)
+    × (new ≡ old)) (MatchBool (list_is_empty (words_of line)) ((entries ≡ []) × (text ≡ [])
+    × (new ≡ old)) (MatchOption (command_of line) ((entries ≡ None ∷ []) × (text ≡ refused_line)
+    × (new ≡ old)) (λ command. (answer : Answer) × Step old command answer new
+    × (entries ≡ Some (command, answer) ∷ []) × (text ≡ line_of answer))))
 
 -- what all lines become, one after another
 abbrev pub EntersAll : Machine → List (List ℕ) → List Entry → List ℕ → Machine → Type 0
 EntersAll old [] entries text new = (entries ≡ []) × (text ≡ []) × (new ≡ old)
 EntersAll old (line ∷ lines) entries text new =
     (first : List Entry) × (rest : List Entry) × (said : List ℕ) × (more : List ℕ) × (mid : Machine)
-    × (entries ≡ first ++ rest) × (text ≡ said ++ more) × Enters old line first said mid × EntersAll mid lines rest more new
+    × (entries ≡ first ++ rest) × (text ≡ said ++ more) × Enters old line first said mid
+    × EntersAll mid lines rest more new
 
 -- the bytes of the pairs
 abbrev pub pairs_text : List Entry → List ℕ
@@ -55,39 +58,58 @@ abbrev pub journal_bytes : Machine → List Entry → List ℕ
 journal_bytes old entries = text_of (journal_lines 2 old entries)
 
 -- the pairs go to the log, and then the answers go out
-abbrev pub SaysAll : {T : Type 0} → List Entry → List ℕ → Option (List ℕ) → Option (List ℕ) → Option (List ℕ) → Option (List ℕ) → Result T JournalFault → Type 0
-SaysAll entries text held now log logged (Ok x) = Appends held now text × Appends log logged (pairs_text entries)
-SaysAll entries text held now log logged (Err Write) = AppendsPart held now text × Appends log logged (pairs_text entries)
-SaysAll entries text held now log logged (Err Log) = Appends held now [] × AppendsPart log logged (pairs_text entries)
+abbrev pub SaysAll : {T : Type 0} → List Entry → List ℕ → Option (List ℕ) → Option (List ℕ)
+    → Option (List ℕ) → Option (List ℕ) → Result T JournalFault → Type 0
+SaysAll entries text held now log logged (Ok x) =
+    Appends held now text × Appends log logged (pairs_text entries)
+SaysAll entries text held now log logged (Err Write) =
+    AppendsPart held now text × Appends log logged (pairs_text entries)
+SaysAll entries text held now log logged (Err Log) =
+    Appends held now [] × AppendsPart log logged (pairs_text entries)
 SaysAll entries text held now log logged (Err Read) = ⊥
 SaysAll entries text held now log logged (Err TooLong) = ⊥
 
 -- a command is carried out, and its answer said
-abbrev pub EntersCommand : Machine → Machine → Command → Option (List ℕ) → Option (List ℕ) → Option (List ℕ) → Option (List ℕ) → Result (Unit {0}) JournalFault → Type 0
+abbrev pub EntersCommand : Machine → Machine → Command → Option (List ℕ) → Option (List ℕ)
+    → Option (List ℕ) → Option (List ℕ) → Result (Unit {0}) JournalFault → Type 0
 EntersCommand old new command held now log logged result =
-    (answer : Answer) × Step old command answer new × SaysAll (Some (command, answer) ∷ []) (line_of answer) held now log logged result
+    (answer : Answer) × Step old command answer new
+    × SaysAll (Some (command, answer) ∷ []) (line_of answer) held now log logged result
 
 -- a line is entered, and what it is answered said
-abbrev pub EntersLine : Machine → Machine → List ℕ → Option (List ℕ) → Option (List ℕ) → Option (List ℕ) → Option (List ℕ) → Result ℕ JournalFault → Type 0
+abbrev pub EntersLine : Machine → Machine → List ℕ → Option (List ℕ) → Option (List ℕ)
+    → Option (List ℕ) → Option (List ℕ) → Result ℕ JournalFault → Type 0
 EntersLine old new line held now log logged result =
-    (entries : List Entry) × (text : List ℕ) × Enters old line entries text new × SaysAll entries text held now log logged result
+    (entries : List Entry) × (text : List ℕ) × Enters old line entries text new
+    × SaysAll entries text held now log logged result
 
 -- one turn. The pair goes to the log before the answer goes out
-abbrev pub Turns : Machine → Machine → Reading → Reading → Option (List ℕ) → Option (List ℕ) → Option (List ℕ) → Option (List ℕ) → Result Turn JournalFault → Type 0
+abbrev pub Turns : Machine → Machine → Reading → Reading → Option (List ℕ) → Option (List ℕ)
+    → Option (List ℕ) → Option (List ℕ) → Result Turn JournalFault → Type 0
 Turns old new before after held now log logged (Ok Over) =
-    (new ≡ old) × Consumes before.rest after.rest [] × IsAtEnd after.rest × Appends held now [] × Appends log logged [] × (after.taken ≡ before.taken)
+    (new ≡ old) × Consumes before.rest after.rest [] × IsAtEnd after.rest × Appends held now []
+    × Appends log logged [] × (after.taken ≡ before.taken)
 Turns old new before after held now log logged (Ok (Answered n)) =
-    (line : List ℕ) × (entries : List Entry) × (text : List ℕ) × TakesWhole before after line × Enters old line entries text new × Appends held now text × Appends log logged (pairs_text entries) × (n ≡ commands_of line)
-Turns old new before after held now log logged (Err Read) = (new ≡ old) × TakesPart before after × Appends held now [] × Appends log logged []
+    (line : List ℕ) × (entries : List Entry) × (text : List ℕ) × TakesWhole before after line
+    × Enters old line entries text new × Appends held now text
+    × Appends log logged (pairs_text entries) × (n ≡ commands_of line)
+Turns old new before after held now log logged (Err Read) =
+    (new ≡ old) × TakesPart before after × Appends held now [] × Appends log logged []
 Turns old new before after held now log logged (Err TooLong) =
-    (new ≡ old) × TakesPart before after × Appends held now [] × Appends log logged [] × HasMore after.rest × (after.taken ≡ after.most)
+    (new ≡ old) × TakesPart before after × Appends held now [] × Appends log logged []
+    × HasMore after.rest × (after.taken ≡ after.most)
 Turns old new before after held now log logged (Err Write) =
-    (line : List ℕ) × (entries : List Entry) × (text : List ℕ) × TakesWhole before after line × Enters old line entries text new × AppendsPart held now text × Appends log logged (pairs_text entries)
+    (line : List ℕ) × (entries : List Entry) × (text : List ℕ) × TakesWhole before after line
+    × Enters old line entries text new × AppendsPart held now text
+    × Appends log logged (pairs_text entries)
 Turns old new before after held now log logged (Err Log) =
-    (line : List ℕ) × (entries : List Entry) × (text : List ℕ) × TakesWhole before after line × Enters old line entries text new × Appends held now [] × AppendsPart log logged (pairs_text entries)
+    (line : List ℕ) × (entries : List Entry) × (text : List ℕ) × TakesWhole before after line
+    × Enters old line entries text new × Appends held now []
+    × AppendsPart log logged (pairs_text entries)
 
 -- so far these lines were taken, entered, and answered
-pub record Records (old new : Machine) (before after : Reading) (held now log logged : Option (List ℕ)) (commands : ℕ) : Type 0 where
+pub record Records (old new : Machine) (before after : Reading)
+    (held now log logged : Option (List ℕ)) (commands : ℕ) : Type 0 where
   pub goes : Goes old new before after held now commands
   pub entries : List Entry
   pub ran : EntersAll old goes.lines entries goes.text new
@@ -96,7 +118,8 @@ pub record Records (old new : Machine) (before after : Reading) (held now log lo
 
 -- Where the log failed. Before: the entries whose answers went out; the log holds all of these, unless it holds no whole head. Last: that
 -- of which a part may be in the log, and whose answer did not go out
-pub record EndsUnlogged (old new : Machine) (lines : List (List ℕ)) (entries : List Entry) (held now log logged : Option (List ℕ)) : Type 0 where
+pub record EndsUnlogged (old new : Machine) (lines : List (List ℕ)) (entries : List Entry)
+    (held now log logged : Option (List ℕ)) : Type 0 where
   pub lines_before : List (List ℕ)
   pub lines_last : List (List ℕ)
   pub before : List Entry
@@ -117,18 +140,25 @@ pub record EndsUnlogged (old new : Machine) (lines : List (List ℕ)) (entries :
 
 -- How it ended. Without a fault of writer or log, both hold all of it. Where the writer failed the log holds all, and the answers are some
 -- first part of theirs
-abbrev pub EndsJournal : Machine → Machine → Reading → List (List ℕ) → List Entry → List ℕ → List ℕ → Option (List ℕ) → Option (List ℕ) → Option (List ℕ) → Option (List ℕ) → Result Served JournalFault → Type 0
+abbrev pub EndsJournal : Machine → Machine → Reading → List (List ℕ) → List Entry → List ℕ → List ℕ
+    → Option (List ℕ) → Option (List ℕ) → Option (List ℕ) → Option (List ℕ)
+    → Result Served JournalFault → Type 0
 EndsJournal old new after lines entries text part held now log logged (Ok served) =
-    (part ≡ []) × IsAtEnd after.rest × Appends held now text × Appends log logged (journal_bytes old entries) × (served.commands ≡ commands_in lines)
-EndsJournal old new after lines entries text part held now log logged (Err Read) = Appends held now text × Appends log logged (journal_bytes old entries)
+    (part ≡ []) × IsAtEnd after.rest × Appends held now text
+    × Appends log logged (journal_bytes old entries) × (served.commands ≡ commands_in lines)
+EndsJournal old new after lines entries text part held now log logged (Err Read) =
+    Appends held now text × Appends log logged (journal_bytes old entries)
 EndsJournal old new after lines entries text part held now log logged (Err TooLong) =
-    Appends held now text × Appends log logged (journal_bytes old entries) × HasMore after.rest × (after.taken ≡ after.most)
+    Appends held now text × Appends log logged (journal_bytes old entries) × HasMore after.rest
+    × (after.taken ≡ after.most)
 EndsJournal old new after lines entries text part held now log logged (Err Write) =
     (part ≡ []) × AppendsPart held now text × Appends log logged (journal_bytes old entries)
-EndsJournal old new after lines entries text part held now log logged (Err Log) = (part ≡ []) × EndsUnlogged old new lines entries held now log logged
+EndsJournal old new after lines entries text part held now log logged (Err Log) =
+    (part ≡ []) × EndsUnlogged old new lines entries held now log logged
 
 -- The lines that were read whole, what they became, which is their transcript and a run, and how it ended
-pub record Journals (old new : Machine) (before after : Reading) (held now log logged : Option (List ℕ)) (result : Result Served JournalFault) : Type 0 where
+pub record Journals (old new : Machine) (before after : Reading)
+    (held now log logged : Option (List ℕ)) (result : Result Served JournalFault) : Type 0 where
   pub lines : List (List ℕ)
   pub entries : List Entry
   pub text : List ℕ

@@ -165,7 +165,8 @@ fn chain_end<N: Net>(
 ) -> Option<Point>
     requires conflict { may_conflict command ≡ true }
     requires sound { IsSound executive.now }
-    ensures { MatchOption result ((to : Point) → ¬ IsChain (asked executive.now command) start edges.now to) (λ to. IsChain (asked executive.now command) start edges.now to) }
+    ensures { MatchOption result ((to : Point) → ¬ IsChain (asked executive.now command) start
+        edges.now to) (λ to. IsChain (asked executive.now command) start edges.now to) }
 {
     let mut point = start;
     for edge in edges {
@@ -205,7 +206,8 @@ fn none_begins<N: Net>(
 ) -> bool
     requires conflict { may_conflict command ≡ true }
     requires sound { IsSound executive.now }
-    ensures { IsTrue result ↔ AllByRecursion (λ b. point ≢ b.from) (bounds_of (asked executive.now command) edges.now) }
+    ensures { IsTrue result
+        ↔ AllByRecursion (λ b. point ≢ b.from) (bounds_of (asked executive.now command) edges.now) }
 {
     for edge in edges {
         let Some(bound) = edge_then(executive, command, *edge) else {

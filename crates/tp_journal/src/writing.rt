@@ -21,8 +21,8 @@ use tp_script::{
 
 /// Writes the first two lines of a head.
 fn write_start<V: Sink>(log: &mut V, events: u16, horizon: u32) -> Result<(), Failed>
-    ensures bytes { Writes (V.held log.old) (V.held log.new)
-        (codes "journal 2" ++ 10 ∷ (codes "network " ++ decimal events ++ codes " " ++ decimal horizon ++ codes "\n")) result }
+    ensures bytes { Writes (V.held log.old) (V.held log.new) (codes "journal 2" ++ 10 ∷
+        (codes "network " ++ decimal events ++ codes " " ++ decimal horizon ++ codes "\n")) result }
     ensures cause { V.failures log.new ≡ failures_after (V.failures log.old) result }
 {
     push_all(log, b"journal 2\n")?;
@@ -32,7 +32,8 @@ fn write_start<V: Sink>(log: &mut V, events: u16, horizon: u32) -> Result<(), Fa
 /// Writes the lines of the bounds of a plan.
 fn write_own_bounds<N: Net, V: Sink>(log: &mut V, executive: &Executive<N>) -> Result<(), Failed>
     requires { AllAreInForce executive.now }
-    ensures bytes { Writes (V.held log.old) (V.held log.new) (text_of (own_lines 0 (bounds_from executive.now.setting.bounds 0 executive.now.next))) result }
+    ensures bytes { Writes (V.held log.old) (V.held log.new) (text_of
+        (own_lines 0 (bounds_from executive.now.setting.bounds 0 executive.now.next))) result }
     ensures cause { V.failures log.new ≡ failures_after (V.failures log.old) result }
 {
     for id in 0..executive.next() {
@@ -46,7 +47,8 @@ fn write_own_bounds<N: Net, V: Sink>(log: &mut V, executive: &Executive<N>) -> R
 /// Writes the lines of a network that came from a plan.
 fn write_own<N: Net, V: Sink>(log: &mut V, executive: &Executive<N>) -> Result<(), Failed>
     requires { AllAreInForce executive.now }
-    ensures bytes { Writes (V.held log.old) (V.held log.new) (text_of (kind_lines (Some (bounds_from executive.now.setting.bounds 0 executive.now.next)))) result }
+    ensures bytes { Writes (V.held log.old) (V.held log.new) (text_of (kind_lines
+        (Some (bounds_from executive.now.setting.bounds 0 executive.now.next)))) result }
     ensures cause { V.failures log.new ≡ failures_after (V.failures log.old) result }
 {
     write_numbered(log, b"own ", executive.next())?;
@@ -56,7 +58,8 @@ fn write_own<N: Net, V: Sink>(log: &mut V, executive: &Executive<N>) -> Result<(
 /// Writes the lines that say where the bounds come from.
 fn write_kind<N: Net, V: Sink>(log: &mut V, executive: &Executive<N>) -> Result<(), Failed>
     requires { AllAreInForce executive.now }
-    ensures bytes { Writes (V.held log.old) (V.held log.new) (text_of (kind_lines (own_of executive.now))) result }
+    ensures bytes { Writes (V.held log.old) (V.held log.new)
+        (text_of (kind_lines (own_of executive.now))) result }
     ensures cause { V.failures log.new ≡ failures_after (V.failures log.old) result }
 {
     match executive.kind() {
@@ -67,7 +70,8 @@ fn write_kind<N: Net, V: Sink>(log: &mut V, executive: &Executive<N>) -> Result<
 
 /// Writes the lines of the lags that are not 0.
 fn write_lags<N: Net, V: Sink>(log: &mut V, executive: &Executive<N>) -> Result<(), Failed>
-    ensures bytes { Writes (V.held log.old) (V.held log.new) (text_of (map lag_line (lags_of executive.now))) result }
+    ensures bytes { Writes (V.held log.old) (V.held log.new)
+        (text_of (map lag_line (lags_of executive.now))) result }
     ensures cause { V.failures log.new ≡ failures_after (V.failures log.old) result }
 {
     let net = executive.net();
@@ -86,7 +90,8 @@ pub(crate) fn write_head<N: Net, V: Sink>(
     executive: &Executive<N>,
 ) -> Result<(), Failed>
     requires { AllAreInForce executive.now }
-    ensures bytes { Writes (V.held log.old) (V.held log.new) (text_of (head_lines (head_of 2 executive.now))) result }
+    ensures bytes { Writes (V.held log.old) (V.held log.new)
+        (text_of (head_lines (head_of 2 executive.now))) result }
     ensures cause { V.failures log.new ≡ failures_after (V.failures log.old) result }
 {
     write_start(log, executive.net().events(), executive.net().horizon())?;
@@ -114,7 +119,8 @@ fn write_reply<V: Sink>(log: &mut V, answer: &Answer) -> Result<(), Failed>
 
 /// Writes the pair of a command.
 fn write_pair<V: Sink>(log: &mut V, command: &Command, answer: &Answer) -> Result<(), Failed>
-    ensures bytes { Writes (V.held log.old) (V.held log.new) (pairs_text (Some (command.now, answer.now) ∷ [])) result }
+    ensures bytes { Writes (V.held log.old) (V.held log.new)
+        (pairs_text (Some (command.now, answer.now) ∷ [])) result }
     ensures cause { V.failures log.new ≡ failures_after (V.failures log.old) result }
 {
     write_question(log, command)?;
@@ -128,7 +134,8 @@ fn enter_command<N: Net, W: Sink, V: Sink>(
     answers: &mut W,
     log: &mut V,
 ) -> Result<(), JournalFault>
-    ensures enters { EntersCommand executive.old executive.new command (W.held answers.old) (W.held answers.new) (V.held log.old) (V.held log.new) result }
+    ensures enters { EntersCommand executive.old executive.new command (W.held answers.old)
+        (W.held answers.new) (V.held log.old) (V.held log.new) result }
     ensures write { W.failures answers.new ≡ write_failures (W.failures answers.old) result }
     ensures log { V.failures log.new ≡ log_failures (V.failures log.old) result }
 {
@@ -144,7 +151,8 @@ fn enter_command<N: Net, W: Sink, V: Sink>(
 
 /// Writes the pair of a line that is no command, and then its answer.
 fn refuse_line<W: Sink, V: Sink>(answers: &mut W, log: &mut V) -> Result<(), JournalFault>
-    ensures says { SaysAll (None ∷ []) refused_line (W.held answers.old) (W.held answers.new) (V.held log.old) (V.held log.new) result }
+    ensures says { SaysAll (None ∷ []) refused_line (W.held answers.old) (W.held answers.new)
+        (V.held log.old) (V.held log.new) result }
     ensures write { W.failures answers.new ≡ write_failures (W.failures answers.old) result }
     ensures log { V.failures log.new ≡ log_failures (V.failures log.old) result }
 {
@@ -165,7 +173,8 @@ fn enter_line<N: Net, W: Sink, V: Sink>(
     log: &mut V,
 ) -> Result<u64, JournalFault>
     requires { length line.now ≤ 256 }
-    ensures enters { EntersLine executive.old executive.new line.now (W.held answers.old) (W.held answers.new) (V.held log.old) (V.held log.new) result }
+    ensures enters { EntersLine executive.old executive.new line.now (W.held answers.old)
+        (W.held answers.new) (V.held log.old) (V.held log.new) result }
     ensures command { IfOk result (λ n. n ≡ commands_of line.now) }
     ensures write { W.failures answers.new ≡ write_failures (W.failures answers.old) result }
     ensures log { V.failures log.new ≡ log_failures (V.failures log.old) result }
@@ -201,7 +210,8 @@ fn take_turn<N: Net, R: Source, W: Sink, V: Sink>(
     log: &mut V,
 ) -> Result<Turn, JournalFault>
     requires { lines.old.longest ≡ 256 }
-    ensures turns { Turns executive.old executive.new lines.old lines.new (W.held answers.old) (W.held answers.new) (V.held log.old) (V.held log.new) result }
+    ensures turns { Turns executive.old executive.new lines.old lines.new (W.held answers.old)
+        (W.held answers.new) (V.held log.old) (V.held log.new) result }
     ensures limits { SameLimits lines.old lines.new }
     ensures read { lines.new.failures ≡ read_failures lines.old.failures result }
     ensures write { W.failures answers.new ≡ write_failures (W.failures answers.old) result }
@@ -237,7 +247,8 @@ pub fn journal<N: Net, R: Source, W: Sink, V: Sink>(
 ) -> Result<Served, JournalFault>
     requires longest { lines.old.longest ≡ 256 }
     requires new { IsNewExecutive executive.old }
-    ensures journals { Journals executive.old executive.new lines.old lines.new (W.held answers.old) (W.held answers.new) (V.held log.old) (V.held log.new) result }
+    ensures journals { Journals executive.old executive.new lines.old lines.new (W.held answers.old)
+        (W.held answers.new) (V.held log.old) (V.held log.new) result }
     ensures longest { lines.new.longest ≡ lines.old.longest }
     ensures most { lines.new.most ≡ lines.old.most }
     ensures read { lines.new.failures ≡ read_failures lines.old.failures result }

@@ -13,7 +13,8 @@ use Rattle.tp_log_audits.specs.declared.auditing.Found.TheVariants.{Journal, Wro
 -- Line n of the file breaks the format of journals: read from its first byte, at most 2^32 bytes
 abbrev pub BreaksLog : Option (List ℕ) → ℕ → Type 0
 BreaksLog input n =
-    (start : Reading) × (after : Reading) × (start.rest ≡ input) × (start.taken ≡ 0) × (start.most ≡ 4_294_967_296) × (after.most ≡ 4_294_967_296) × BreaksLine start after n
+    (start : Reading) × (after : Reading) × (start.rest ≡ input) × (start.taken ≡ 0)
+    × (start.most ≡ 4_294_967_296) × (after.most ≡ 4_294_967_296) × BreaksLine start after n
 
 -- What was found, where the file tells its bytes: they are a journal of the machine with so many pairs, or line n is an answer that it does
 -- not allow

@@ -45,7 +45,8 @@ head_numbers head = (head.events, head.horizon)
 
 -- the machine in which the run of a network of bounds alone begins, as a head tells it
 abbrev pub bare_machine : JournalHead → Machine
-bare_machine head = first_machine (head_numbers head) (lagged (first_setting (head_numbers head)) head.lags.items)
+bare_machine head =
+    first_machine (head_numbers head) (lagged (first_setting (head_numbers head)) head.lags.items)
 
 -- ---- what is found
 
@@ -65,7 +66,8 @@ IsBareFound input found = IfSome input (λ bytes. HasFound bytes found)
 -- The head is none of a journal of a network of bounds alone: it tells a network that came from a plan, or one that can't be, or the machine
 -- that it tells has another
 abbrev pub IsOtherHead : JournalHead → Option (List ℕ) → Type 0
-IsOtherHead head input = (¬ IsBareHead head) ⊎ IfSome input (λ bytes. HasOtherHead (bare_machine head) bytes)
+IsOtherHead head input =
+    (¬ IsBareHead head) ⊎ IfSome input (λ bytes. HasOtherHead (bare_machine head) bytes)
 
 abbrev pub HindersTold : JournalHead → Option (List ℕ) → AuditStop → Type 0
 HindersTold head input Open = Unit {0}
@@ -82,18 +84,22 @@ HindersBare input Network = Unit {0}
 HindersBare input Memory = Unit {0}
 HindersBare input Read = Unit {0}
 HindersBare input (Line n) = BreaksLog input n
-HindersBare input Head = IfSome input (λ bytes. (head : JournalHead) × IsHeadTold bytes head × IsOtherHead head input)
+HindersBare input Head =
+    IfSome input (λ bytes. (head : JournalHead) × IsHeadTold bytes head × IsOtherHead head input)
 HindersBare input Write = ⊥
 
 -- ---- what is written
 
 -- the file is a journal, and that was written with the number of its pairs
 abbrev pub SaysJournal : Option (List ℕ) → Option (List ℕ) → Option (List ℕ) → Type 0
-SaysJournal input held now = (pairs : ℕ) × IsBareFound input (found.Journal pairs) × Appends held now (found_line (found.Journal pairs))
+SaysJournal input held now =
+    (pairs : ℕ) × IsBareFound input (found.Journal pairs)
+    × Appends held now (found_line (found.Journal pairs))
 
 -- an answer in it is not allowed, and that was written with the number of its line
 abbrev pub SaysWrong : Option (List ℕ) → Option (List ℕ) → Option (List ℕ) → Type 0
-SaysWrong input held now = (n : ℕ) × IsBareFound input (found.Wrong n) × Appends held now (found_line (found.Wrong n))
+SaysWrong input held now =
+    (n : ℕ) × IsBareFound input (found.Wrong n) × Appends held now (found_line (found.Wrong n))
 
 abbrev pub SaysBare : Option (List ℕ) → Option (List ℕ) → Option (List ℕ) → Bool → Type 0
 SaysBare input held now true = SaysJournal input held now
@@ -101,7 +107,8 @@ SaysBare input held now false = SaysWrong input held now
 
 -- nothing was written, or a first part of the line of what was found
 abbrev pub SaysAuditPart : Option (List ℕ) → Option (List ℕ) → Option (List ℕ) → Type 0
-SaysAuditPart input held now = Appends held now [] ⊎ ((f : Found) × IsBareFound input f × AppendsPart held now (found_line f))
+SaysAuditPart input held now =
+    Appends held now [] ⊎ ((f : Found) × IsBareFound input f × AppendsPart held now (found_line f))
 
 -- why nothing, or not all, was written
 abbrev pub StopsBareAudit : Option (List ℕ) → Option (List ℕ) → Option (List ℕ) → AuditStop → Type 0
@@ -110,11 +117,16 @@ StopsBareAudit input held now Network = now ≡ held
 StopsBareAudit input held now Memory = now ≡ held
 StopsBareAudit input held now Read = now ≡ held
 StopsBareAudit input held now (Line n) = BreaksLog input n × (now ≡ held)
-StopsBareAudit input held now Head = IfSome input (λ bytes. (head : JournalHead) × IsHeadTold bytes head × IsOtherHead head input) × (now ≡ held)
-StopsBareAudit input held now Write = (f : Found) × IsBareFound input f × AppendsPart held now (found_line f)
+StopsBareAudit input held now Head =
+    IfSome input (λ bytes. (head : JournalHead) × IsHeadTold bytes head × IsOtherHead head input)
+    × (now ≡ held)
+StopsBareAudit input held now Write =
+    (f : Found) × IsBareFound input f × AppendsPart held now (found_line f)
 
 -- What hindered it with that status was told, and it is as it tells. A failed write is one that the count of failures tells of.
-pub record EndsBareAudit (input : Option (List ℕ)) (log : List ℕ) (status : ℕ) (held held-now : Option (List ℕ)) (output output-now : ℕ) (failures : ℕ) (before : Option (List ℕ)) (failures-now : ℕ) (now : Option (List ℕ)) : Type 0 where
+pub record EndsBareAudit (input : Option (List ℕ)) (log : List ℕ) (status : ℕ)
+    (held held-now : Option (List ℕ)) (output output-now : ℕ) (failures : ℕ)
+    (before : Option (List ℕ)) (failures-now : ℕ) (now : Option (List ℕ)) : Type 0 where
   pub stop : AuditStop
   pub is : stop_status stop ≡ status
   pub cause : StopsBareAudit input held held-now stop

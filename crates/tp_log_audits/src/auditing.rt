@@ -50,7 +50,8 @@ fn head_of<S: Source + Drop>(alloc: Global, source: S) -> Result<JournalHead, Au
 /// # Errors
 /// `Open` where the file can't be opened, `Read` where a read fails, `Memory`; `Line(n)` where line n breaks the format.
 pub fn head_in<N: Files>(alloc: Global, files: &mut N, log: &str) -> Result<JournalHead, AuditStop>
-    ensures head { IfOk result (λ head. IfSome (N.held files.old log.now) (λ bytes. IsHeadTold bytes head)) }
+    ensures head { IfOk result (λ head.
+        IfSome (N.held files.old log.now) (λ bytes. IsHeadTold bytes head)) }
     ensures cause { IfErr result (HindersHead (N.held files.old log.now)) }
     ensures same { (other : List ℕ) → N.held files.new other ≡ N.held files.old other }
 {

@@ -114,8 +114,10 @@ fn say_bare<N: Files, O: Sink>(
     log: &str,
     output: &mut O,
 ) -> Result<bool, AuditStop>
-    ensures said { IfOk result (SaysBare (N.held files.old log.now) (O.held output.old) (O.held output.new)) }
-    ensures cause { IfErr result (StopsBareAudit (N.held files.old log.now) (O.held output.old) (O.held output.new)) }
+    ensures said { IfOk result
+        (SaysBare (N.held files.old log.now) (O.held output.old) (O.held output.new)) }
+    ensures cause { IfErr result
+        (StopsBareAudit (N.held files.old log.now) (O.held output.old) (O.held output.new)) }
     ensures failures { O.failures output.new ≡ say_failures (O.failures output.old) result }
 {
     match audit_bare(alloc, files, log) {
@@ -135,20 +137,25 @@ pub fn run_bare_audit<N: Files, O: Sink, F: Sink>(
     output: &mut O,
     faults: &mut F,
 ) -> u8
-    ensures yes { result ≡ 0 → SaysJournal (N.held files.old log.now) (O.held output.old) (O.held output.new) }
-    ensures wrong { result ≡ 1 → SaysWrong (N.held files.old log.now) (O.held output.old) (O.held output.new) }
+    ensures yes { result ≡ 0
+        → SaysJournal (N.held files.old log.now) (O.held output.old) (O.held output.new) }
+    ensures wrong { result ≡ 1
+        → SaysWrong (N.held files.old log.now) (O.held output.old) (O.held output.new) }
 
     // What hindered it is told, and is as it is told.
-    ensures stopped { 2 ≤ result → EndsBareAudit (N.held files.old log.now) log.now result (O.held output.old) (O.held output.new)
-        (O.failures output.old) (O.failures output.new) (F.failures faults.old) (F.held faults.old) (F.failures faults.new) (F.held faults.new) }
+    ensures stopped { 2 ≤ result → EndsBareAudit (N.held files.old log.now) log.now result
+        (O.held output.old) (O.held output.new) (O.failures output.old) (O.failures output.new)
+        (F.failures faults.old) (F.held faults.old) (F.failures faults.new) (F.held faults.new) }
     ensures kept { result ≡ REFUSED → O.held output.new ≡ O.held output.old }
-    ensures part { result ≡ OUT_OF_ORDER → SaysAuditPart (N.held files.old log.now) (O.held output.old) (O.held output.new) }
+    ensures part { result ≡ OUT_OF_ORDER
+        → SaysAuditPart (N.held files.old log.now) (O.held output.old) (O.held output.new) }
     ensures told { result ≢ OUT_OF_ORDER → O.failures output.new ≡ O.failures output.old }
 
     // A fault line goes with each fault, and with nothing else.
     ensures within { result ≤ 3 }
     ensures silent { result ≤ 1 → faults.new ≡ faults.old }
-    ensures fault { 2 ≤ result → TellsFault [] (F.failures faults.old) (F.held faults.old) (F.failures faults.new) (F.held faults.new) }
+    ensures fault { 2 ≤ result → TellsFault [] (F.failures faults.old) (F.held faults.old)
+        (F.failures faults.new) (F.held faults.new) }
 {
     match say_bare(alloc, files, log, output) {
         Ok(true) => 0,

@@ -51,7 +51,8 @@ fn write_found<O: Sink>(output: &mut O, found: Found) -> Result<(), Failed>
 /// `Write` where the writer fails.
 pub fn say<O: Sink>(output: &mut O, found: Found) -> Result<bool, AuditStop>
     ensures said { IfOk result (Says found (O.held output.old) (O.held output.new)) }
-    ensures part { IfErr result (λ stop. (stop ≡ AuditStop.Write) × AppendsPart (O.held output.old) (O.held output.new) (found_line found)) }
+    ensures part { IfErr result (λ stop. (stop ≡ AuditStop.Write)
+        × AppendsPart (O.held output.old) (O.held output.new) (found_line found)) }
     ensures failures { O.failures output.new ≡ say_failures (O.failures output.old) result }
 {
     match write_found(output, found) {

@@ -20,14 +20,21 @@ use Rattle.tp_plan_files.specs.declared.plan_words.PlanWords.{PlanWords}
 -- the fault is one of what the files hold
 abbrev pub Explains : (List ℕ → Option (List ℕ)) → PlanWords → JudgeFault → Type 0
 Explains held w (faults.DomainFile fault) = HasFault (held w.domain.now) fault
-Explains held w (faults.Domain fault) = IsIn (held w.domain.now) (λ text. IsRefusedDomain text fault)
+Explains held w (faults.Domain fault) =
+    IsIn (held w.domain.now) (λ text. IsRefusedDomain text fault)
 Explains held w (faults.ProblemFile fault) = HasFault (held w.problem.now) fault
 Explains held w (faults.Problem fault) =
-    (domain : Domain) × IsIn (held w.domain.now) (λ text. SpellsDomain text domain) × IsIn (held w.problem.now) (λ text. IsRefusedProblem domain text fault)
+    (domain : Domain) × IsIn (held w.domain.now) (λ text. SpellsDomain text domain)
+    × IsIn (held w.problem.now) (λ text. IsRefusedProblem domain text fault)
 Explains held w (faults.Task fault) =
-    (domain : Domain) × (problem : Problem) × IsIn (held w.domain.now) (λ text. SpellsDomain text domain)
-    × IsIn (held w.problem.now) (λ text. SpellsProblem domain text problem) × HasNoTask (greatest_limits w.horizon) domain problem fault
+    (domain : Domain) × (problem : Problem)
+    × IsIn (held w.domain.now) (λ text. SpellsDomain text domain)
+    × IsIn (held w.problem.now) (λ text. SpellsProblem domain text problem)
+    × HasNoTask (greatest_limits w.horizon) domain problem fault
 Explains held w (faults.PlanFile fault) = HasFault (held w.plan.now) fault
-Explains held w (faults.Plan fault) = (t : task.Task) × IsNamedTask held w t × IsIn (held w.plan.now) (λ text. IsRefused (labelled t) text fault)
+Explains held w (faults.Plan fault) =
+    (t : task.Task) × IsNamedTask held w t
+    × IsIn (held w.plan.now) (λ text. IsRefused (labelled t) text fault)
 Explains held w faults.Memory = Unit {0}
-Explains held w faults.Range = (t : task.Task) × (steps : List Step) × IsNamedPlan held w t steps × PassesIn t steps
+Explains held w faults.Range =
+    (t : task.Task) × (steps : List Step) × IsNamedPlan held w t steps × PassesIn t steps

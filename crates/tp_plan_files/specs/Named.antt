@@ -16,13 +16,15 @@ abbrev pub IsIn : Option (List ℕ) → (List ℕ → Type 0) → Type 0
 IsIn held spells = (text : List ℕ) × HoldsText held text × spells text
 
 -- the task is that of a domain and the problem that the words name
-pub record IsTaskWith (held : List ℕ → Option (List ℕ)) (w : PlanWords) (domain : Domain) (task : Task) : Type 0 where
+pub record IsTaskWith (held : List ℕ → Option (List ℕ)) (w : PlanWords) (domain : Domain)
+    (task : Task) : Type 0 where
   pub problem : Problem
   pub problem_in : IsIn (held w.problem.now) (λ text. SpellsProblem domain text problem)
   pub task_of : IsTask (greatest_limits w.horizon) w.scale domain problem task
 
 -- the task is that of the domain and the problem that the words name
-pub record IsNamedTask (held : List ℕ → Option (List ℕ)) (w : PlanWords) (task : Task) : Type 0 where
+pub record IsNamedTask (held : List ℕ → Option (List ℕ)) (w : PlanWords)
+    (task : Task) : Type 0 where
   pub domain : Domain
   pub problem : Problem
   pub domain_in : IsIn (held w.domain.now) (λ text. SpellsDomain text domain)
@@ -30,6 +32,7 @@ pub record IsNamedTask (held : List ℕ → Option (List ℕ)) (w : PlanWords) (
   pub task_of : IsTask (greatest_limits w.horizon) w.scale domain problem task
 
 -- the steps are those of the plan that the words name, of its task
-pub record IsNamedPlan (held : List ℕ → Option (List ℕ)) (w : PlanWords) (task : Task) (steps : List Step) : Type 0 where
+pub record IsNamedPlan (held : List ℕ → Option (List ℕ)) (w : PlanWords) (task : Task)
+    (steps : List Step) : Type 0 where
   pub of_task : IsNamedTask held w task
   pub plan_in : IsIn (held w.plan.now) (λ text. SpellsPlan (labelled task) text steps)

@@ -49,7 +49,8 @@ fn domain_in<N: Files>(
     files: &mut N,
     words: PlanWords<'_>,
 ) -> Result<Domain, JudgeFault>
-    ensures spelled { IfOk result (λ d. IsIn (N.held files.old words.entry.domain.now) (λ text. SpellsDomain text (domain_view d))) }
+    ensures spelled { IfOk result (λ d. IsIn (N.held files.old words.entry.domain.now) (λ text.
+        SpellsDomain text (domain_view d))) }
     ensures cause { IfErr result (Explains (N.held files.old) words.entry) }
     ensures same { (other : List ℕ) → N.held files.new other ≡ N.held files.old other }
 {
@@ -69,9 +70,10 @@ fn problem_in<N: Files>(
     words: PlanWords<'_>,
     domain: &Domain,
 ) -> Result<Problem, JudgeFault>
-    ensures spelled { IfOk result (λ p. IsIn (N.held files.old words.entry.problem.now) (λ text. SpellsProblem (domain_view domain.now) text (problem_view p))) }
-    ensures cause { IsIn (N.held files.old words.entry.domain.now) (λ text. SpellsDomain text (domain_view domain.now))
-        → IfErr result (Explains (N.held files.old) words.entry) }
+    ensures spelled { IfOk result (λ p. IsIn (N.held files.old words.entry.problem.now) (λ text.
+        SpellsProblem (domain_view domain.now) text (problem_view p))) }
+    ensures cause { IsIn (N.held files.old words.entry.domain.now) (λ text. SpellsDomain text
+        (domain_view domain.now)) → IfErr result (Explains (N.held files.old) words.entry) }
     ensures same { (other : List ℕ) → N.held files.new other ≡ N.held files.old other }
 {
     match open_text(alloc, files, words.problem) {
@@ -91,9 +93,10 @@ fn task_with<N: Files>(
     domain: &Domain,
 ) -> Result<Task, JudgeFault>
     requires { words.horizon ≤ 1000000000 }
-    ensures named { IfOk result (IsTaskWith (N.held files.old) words.entry (domain_view domain.now)) }
-    ensures cause { IsIn (N.held files.old words.entry.domain.now) (λ text. SpellsDomain text (domain_view domain.now))
-        → IfErr result (Explains (N.held files.old) words.entry) }
+    ensures named { IfOk result
+        (IsTaskWith (N.held files.old) words.entry (domain_view domain.now)) }
+    ensures cause { IsIn (N.held files.old words.entry.domain.now) (λ text. SpellsDomain text
+        (domain_view domain.now)) → IfErr result (Explains (N.held files.old) words.entry) }
     ensures same { (other : List ℕ) → N.held files.new other ≡ N.held files.old other }
 {
     let problem = problem_in(alloc, files, words, domain)?;
@@ -135,7 +138,8 @@ fn plan_in<N: Files>(
     words: PlanWords<'_>,
     task: &Task,
 ) -> Result<Plan, JudgeFault>
-    ensures spelled { IfOk result (λ p. IsIn (N.held files.old words.entry.plan.now) (λ text. SpellsPlan (labelled task.now) text p)) }
+    ensures spelled { IfOk result (λ p. IsIn (N.held files.old words.entry.plan.now) (λ text.
+        SpellsPlan (labelled task.now) text p)) }
     ensures of_task { IfOk result (IsOfTask task.now) }
     ensures cause { IsNamedTask (N.held files.old) words.entry task.now
         → IfErr result (Explains (N.held files.old) words.entry) }
@@ -160,7 +164,8 @@ pub fn verdict_in<'t, N: Files>(
     task: &'t Task,
 ) -> Result<Verdict<'t>, JudgeFault>
     ensures verdict { IsNamedTask (N.held files.old) words.entry task.now
-        → IfOk result (λ v. (steps : List Step) × IsNamedPlan (N.held files.old) words.entry task.now steps × IsVerdict task.now steps v) }
+        → IfOk result (λ v. (steps : List Step)
+        × IsNamedPlan (N.held files.old) words.entry task.now steps × IsVerdict task.now steps v) }
     ensures cause { IsNamedTask (N.held files.old) words.entry task.now
         → IfErr result (Explains (N.held files.old) words.entry) }
 {

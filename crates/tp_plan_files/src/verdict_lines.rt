@@ -54,7 +54,8 @@ pub fn write_invalid<W: Sink>(writer: &mut W, tick: u32, why: Fault) -> Result<(
 
 /// Writes the line of a verdict.
 pub fn write_verdict<W: Sink>(writer: &mut W, verdict: &Verdict<'_>) -> Result<(), Failed>
-    ensures bytes { Writes (W.held writer.old) (W.held writer.new) (verdict_line verdict.now) result }
+    ensures bytes { Writes (W.held writer.old) (W.held writer.new)
+        (verdict_line verdict.now) result }
     ensures cause { W.failures writer.new ≡ failures_after (W.failures writer.old) result }
 {
     match verdict {

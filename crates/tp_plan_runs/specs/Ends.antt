@@ -19,34 +19,49 @@ use Rattle.tp_plan_runs.specs.declared.run_lines.RunStop.TheVariants.{Judging, N
 
 -- the lines of the plan of a run were written, or there is none and nothing was
 abbrev pub TellsRun : Task → List Step → Machine → Option (List ℕ) → Option (List ℕ) → Bool → Type 0
-TellsRun task steps last before now true = (run : List Step) × IsPlanOfRun task steps last run × Appends before now (run_lines task run)
+TellsRun task steps last before now true =
+    (run : List Step) × IsPlanOfRun task steps last run × Appends before now (run_lines task run)
 TellsRun task steps last before now false = TellsPlan task steps last None × (now ≡ before)
 
 -- there was no memory for the plan of a run, or a first part of it was written
-abbrev pub StopsTelling : Task → List Step → Machine → Option (List ℕ) → Option (List ℕ) → RunStop → Type 0
+abbrev pub StopsTelling : Task → List Step → Machine → Option (List ℕ) → Option (List ℕ) → RunStop
+    → Type 0
 StopsTelling task steps last before now (Judging fault) = ⊥
 StopsTelling task steps last before now (Network fault) = ⊥
 StopsTelling task steps last before now (Answering bare.Network) = now ≡ before
 StopsTelling task steps last before now (Answering (bare.Serving fault)) = ⊥
-StopsTelling task steps last before now Write = (run : List Step) × IsPlanOfRun task steps last run × AppendsPart before now (run_lines task run)
+StopsTelling task steps last before now Write =
+    (run : List Step) × IsPlanOfRun task steps last run
+    × AppendsPart before now (run_lines task run)
 
 -- whether the run of a plan of these steps has a plan
-abbrev pub RunsSteps : Task → List Step → ℕ → Option (List ℕ) → Option (List ℕ) → Option (List ℕ) → Bool → Type 0
+abbrev pub RunsSteps : Task → List Step → ℕ → Option (List ℕ) → Option (List ℕ) → Option (List ℕ)
+    → Bool → Type 0
 RunsSteps task steps horizon input before now true = EndsInPlan task steps horizon input before now
 RunsSteps task steps horizon input before now false = EndsInNone task steps horizon input before now
 
 -- why the run of a plan of these steps stopped
-abbrev pub StopsSteps : Task → List Step → ℕ → Option (List ℕ) → Option (List ℕ) → Option (List ℕ) → RunStop → Type 0
+abbrev pub StopsSteps : Task → List Step → ℕ → Option (List ℕ) → Option (List ℕ) → Option (List ℕ)
+    → RunStop → Type 0
 StopsSteps task steps horizon input before now (Judging fault) = ⊥
-StopsSteps task steps horizon input before now (Network fault) = OnTooMany fault (PassesLimits (greatest_limits horizon) (plan_of task steps)) × (now ≡ before)
-StopsSteps task steps horizon input before now (Answering fault) = EndsEarly task steps horizon input before now fault
-StopsSteps task steps horizon input before now Write = EndsInPart task steps horizon input before now
+StopsSteps task steps horizon input before now (Network fault) =
+    OnTooMany fault (PassesLimits (greatest_limits horizon) (plan_of task steps)) × (now ≡ before)
+StopsSteps task steps horizon input before now (Answering fault) =
+    EndsEarly task steps horizon input before now fault
+StopsSteps task steps horizon input before now Write =
+    EndsInPart task steps horizon input before now
 
 -- the same of a plan that is valid; of another, its first fault was written
-abbrev pub RunsVerdict : Verdict → ℕ → Option (List ℕ) → Option (List ℕ) → Option (List ℕ) → Bool → Type 0
-RunsVerdict (Valid plan) horizon input before now done = RunsSteps plan.task plan.steps horizon input before now done
-RunsVerdict (Invalid plan tick why) horizon input before now done = (done ≡ false) × Appends before now (invalid_line tick why)
+abbrev pub RunsVerdict : Verdict → ℕ → Option (List ℕ) → Option (List ℕ) → Option (List ℕ) → Bool
+    → Type 0
+RunsVerdict (Valid plan) horizon input before now done =
+    RunsSteps plan.task plan.steps horizon input before now done
+RunsVerdict (Invalid plan tick why) horizon input before now done =
+    (done ≡ false) × Appends before now (invalid_line tick why)
 
-abbrev pub StopsVerdict : Verdict → ℕ → Option (List ℕ) → Option (List ℕ) → Option (List ℕ) → RunStop → Type 0
-StopsVerdict (Valid plan) horizon input before now stop = StopsSteps plan.task plan.steps horizon input before now stop
-StopsVerdict (Invalid plan tick why) horizon input before now stop = (stop ≡ Write) × AppendsPart before now (invalid_line tick why)
+abbrev pub StopsVerdict : Verdict → ℕ → Option (List ℕ) → Option (List ℕ) → Option (List ℕ)
+    → RunStop → Type 0
+StopsVerdict (Valid plan) horizon input before now stop =
+    StopsSteps plan.task plan.steps horizon input before now stop
+StopsVerdict (Invalid plan tick why) horizon input before now stop =
+    (stop ≡ Write) × AppendsPart before now (invalid_line tick why)

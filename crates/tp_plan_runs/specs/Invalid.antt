@@ -12,7 +12,8 @@ use Rattle.tp_plan_files.specs.VerdictLines.{invalid_line}
 use Rattle.tp_plan_files.specs.declared.plan_words.PlanWords.{PlanWords}
 
 -- the plan is not valid, and its first fault was written
-pub record SaysInvalid (held : List ℕ → Option (List ℕ)) (w : PlanWords) (before now : Option (List ℕ)) : Type 0 where
+pub record SaysInvalid (held : List ℕ → Option (List ℕ)) (w : PlanWords)
+    (before now : Option (List ℕ)) : Type 0 where
   pub task : Task
   pub steps : List Step
   pub tick : ℕ
@@ -23,7 +24,8 @@ pub record SaysInvalid (held : List ℕ → Option (List ℕ)) (w : PlanWords) (
   pub written : Appends before now (invalid_line tick why)
 
 -- the plan is not valid, and a first part of its first fault was written
-pub record SaysInvalidPart (held : List ℕ → Option (List ℕ)) (w : PlanWords) (before now : Option (List ℕ)) : Type 0 where
+pub record SaysInvalidPart (held : List ℕ → Option (List ℕ)) (w : PlanWords)
+    (before now : Option (List ℕ)) : Type 0 where
   pub task : Task
   pub steps : List Step
   pub tick : ℕ

@@ -23,15 +23,24 @@ run_machine net setting = plan_machine setting net.bounds.items (greatest_limits
 -- what came of the lines of lags at the beginning: the machine in which the run begins, or one of them was at fault or not read, or
 -- memory was wanting
 abbrev pub BeginsRun : PlanNet → Reading → Reading → Result Machine BareFault → Type 0
-BeginsRun net before after (Ok m) = (setting : Situation) × TakesAllLags (net_head net) before after setting × (m ≡ run_machine net setting)
-BeginsRun net before after (Err (Serving fault)) = (setting : Situation) × ReadsLags before after (first_setting (net_head net)) setting (Err fault)
+BeginsRun net before after (Ok m) =
+    (setting : Situation) × TakesAllLags (net_head net) before after setting
+    × (m ≡ run_machine net setting)
+BeginsRun net before after (Err (Serving fault)) =
+    (setting : Situation)
+    × ReadsLags before after (first_setting (net_head net)) setting (Err fault)
 BeginsRun net before after (Err Network) = Unit {0}
 
 -- what came of the commands behind the lags: the lines were answered, and this is the machine then; or not all of them
-abbrev pub AnswersRun : PlanNet → Reading → Reading → Option (List ℕ) → Option (List ℕ) → Result Machine BareFault → Type 0
+abbrev pub AnswersRun : PlanNet → Reading → Reading → Option (List ℕ) → Option (List ℕ)
+    → Result Machine BareFault → Type 0
 AnswersRun net before after held now (Ok last) =
-    (setting : Situation) × (mid : Reading) × (served : Served) × TakesAllLags (net_head net) before mid setting × Serves (run_machine net setting) last mid after held now (Ok served)
+    (setting : Situation) × (mid : Reading) × (served : Served)
+    × TakesAllLags (net_head net) before mid setting
+    × Serves (run_machine net setting) last mid after held now (Ok served)
 AnswersRun net before after held now (Err (Serving fault)) =
-    ((setting : Situation) × ReadsLags before after (first_setting (net_head net)) setting (Err fault) × (now ≡ held))
-    ⊎ ((setting : Situation) × (mid : Reading) × (last : Machine) × TakesAllLags (net_head net) before mid setting × Serves (run_machine net setting) last mid after held now (Err fault))
+    ((setting : Situation)
+    × ReadsLags before after (first_setting (net_head net)) setting (Err fault) × (now ≡ held))
+    ⊎ ((setting : Situation) × (mid : Reading) × (last : Machine) × TakesAllLags (net_head net)
+    before mid setting × Serves (run_machine net setting) last mid after held now (Err fault))
 AnswersRun net before after held now (Err Network) = now ≡ held

@@ -30,9 +30,10 @@ fn answer_lines<I: Source, O: Sink>(
 ) -> Result<Executive<RepairNet>, BareFault>
     requires longest { lines.old.longest ≡ 256 }
     requires bounds { length network.now.bounds.items ≤ 65535 }
-    ensures answers { AnswersRun network.now lines.old lines.new (O.held output.old) (O.held output.new) result }
-    ensures came { IfOk result (λ e. (t : Task) (steps : List Step)
-        → IsPlanNetOf t steps (greatest_limits network.now.horizon) network.now → CameFrom t steps e) }
+    ensures answers { AnswersRun network.now lines.old lines.new (O.held output.old)
+        (O.held output.new) result }
+    ensures came { IfOk result (λ e. (t : Task) (steps : List Step) → IsPlanNetOf t steps
+        (greatest_limits network.now.horizon) network.now → CameFrom t steps e) }
     ensures most { lines.new.most ≡ lines.old.most }
     ensures told { O.failures output.new ≡ bare_failures (O.failures output.old) result }
 {
@@ -57,10 +58,12 @@ pub(crate) fn answer<I: Source + Drop, O: Sink>(
     output: &mut O,
 ) -> Result<Executive<RepairNet>, BareFault>
     requires { length network.now.bounds.items ≤ 65535 }
-    ensures whole { IfOk result (AnswersWhole network.now (I.left input) (O.held output.old) (O.held output.new)) }
-    ensures cause { IfErr result (StopsAnswers network.now (I.left input) (O.held output.old) (O.held output.new)) }
-    ensures came { IfOk result (λ e. (t : Task) (steps : List Step)
-        → IsPlanNetOf t steps (greatest_limits network.now.horizon) network.now → CameFrom t steps e) }
+    ensures whole { IfOk result
+        (AnswersWhole network.now (I.left input) (O.held output.old) (O.held output.new)) }
+    ensures cause { IfErr result
+        (StopsAnswers network.now (I.left input) (O.held output.old) (O.held output.new)) }
+    ensures came { IfOk result (λ e. (t : Task) (steps : List Step) → IsPlanNetOf t steps
+        (greatest_limits network.now.horizon) network.now → CameFrom t steps e) }
     ensures told { O.failures output.new ≡ bare_failures (O.failures output.old) result }
 {
     let mut lines = Lines::new(alloc, input, LONGEST)?;

@@ -19,7 +19,8 @@ use tp_validate::ValidPlan;
 
 /// Writes the lines of the plan of a run.
 fn write_lines<O: Sink>(run: &Plan, task: &Task, output: &mut O) -> Result<(), Failed>
-    ensures bytes { Writes (O.held output.old) (O.held output.new) (run_lines task.now run.now) result }
+    ensures bytes { Writes (O.held output.old) (O.held output.new)
+        (run_lines task.now run.now) result }
     ensures cause { O.failures output.new ≡ failures_after (O.failures output.old) result }
 {
     push_all(output, b"plan\n")?;
@@ -33,8 +34,10 @@ pub(crate) fn tell_run<O: Sink>(
     output: &mut O,
 ) -> Result<bool, RunStop>
     requires { CameFrom plan.now.task plan.now.steps executive.now }
-    ensures said { IfOk result (TellsRun plan.now.task plan.now.steps executive.now (O.held output.old) (O.held output.new)) }
-    ensures cause { IfErr result (StopsTelling plan.now.task plan.now.steps executive.now (O.held output.old) (O.held output.new)) }
+    ensures said { IfOk result (TellsRun plan.now.task plan.now.steps executive.now
+        (O.held output.old) (O.held output.new)) }
+    ensures cause { IfErr result (StopsTelling plan.now.task plan.now.steps executive.now
+        (O.held output.old) (O.held output.new)) }
     ensures failures { O.failures output.new ≡ run_failures (O.failures output.old) result }
 {
     match executive.run_plan(plan) {

@@ -29,9 +29,12 @@ fn run_on<I: Source + Drop, O: Sink>(
     input: I,
     output: &mut O,
 ) -> Result<bool, RunStop>
-    requires { IsPlanNetOf plan.now.task plan.now.steps (greatest_limits network.now.horizon) network.now }
-    ensures said { IfOk result (RunsSteps plan.now.task plan.now.steps network.now.horizon (I.left input) (O.held output.old) (O.held output.new)) }
-    ensures cause { IfErr result (StopsSteps plan.now.task plan.now.steps network.now.horizon (I.left input) (O.held output.old) (O.held output.new)) }
+    requires { IsPlanNetOf plan.now.task plan.now.steps
+        (greatest_limits network.now.horizon) network.now }
+    ensures said { IfOk result (RunsSteps plan.now.task plan.now.steps network.now.horizon
+        (I.left input) (O.held output.old) (O.held output.new)) }
+    ensures cause { IfErr result (StopsSteps plan.now.task plan.now.steps network.now.horizon
+        (I.left input) (O.held output.old) (O.held output.new)) }
     ensures failures { O.failures output.new ≡ run_failures (O.failures output.old) result }
 {
     match answer(alloc, input, network, output) {
@@ -49,8 +52,10 @@ fn run_valid<I: Source + Drop, O: Sink>(
     output: &mut O,
 ) -> Result<bool, RunStop>
     requires { horizon ≤ 1000000000 }
-    ensures said { IfOk result (RunsSteps plan.now.task plan.now.steps horizon (I.left input) (O.held output.old) (O.held output.new)) }
-    ensures cause { IfErr result (StopsSteps plan.now.task plan.now.steps horizon (I.left input) (O.held output.old) (O.held output.new)) }
+    ensures said { IfOk result (RunsSteps plan.now.task plan.now.steps horizon (I.left input)
+        (O.held output.old) (O.held output.new)) }
+    ensures cause { IfErr result (StopsSteps plan.now.task plan.now.steps horizon (I.left input)
+        (O.held output.old) (O.held output.new)) }
     ensures failures { O.failures output.new ≡ run_failures (O.failures output.old) result }
 {
     match deorder(alloc, plan, &Limits::greatest(horizon)) {
@@ -68,8 +73,10 @@ fn run_verdict<I: Source + Drop, O: Sink>(
     output: &mut O,
 ) -> Result<bool, RunStop>
     requires { horizon ≤ 1000000000 }
-    ensures said { IfOk result (RunsVerdict verdict.now horizon (I.left input) (O.held output.old) (O.held output.new)) }
-    ensures cause { IfErr result (StopsVerdict verdict.now horizon (I.left input) (O.held output.old) (O.held output.new)) }
+    ensures said { IfOk result
+        (RunsVerdict verdict.now horizon (I.left input) (O.held output.old) (O.held output.new)) }
+    ensures cause { IfErr result
+        (StopsVerdict verdict.now horizon (I.left input) (O.held output.old) (O.held output.new)) }
     ensures failures { O.failures output.new ≡ run_failures (O.failures output.old) result }
 {
     match verdict {
@@ -91,10 +98,10 @@ fn run_of<N: Files, I: Source + Drop, O: Sink>(
     output: &mut O,
 ) -> Result<bool, RunStop>
     requires { words.horizon ≤ 1000000000 }
-    ensures said { IsNamedTask (N.held files.old) words.entry task.now
-        → IfOk result (Runs (N.held files.old) words.entry (I.left input) (O.held output.old) (O.held output.new)) }
-    ensures cause { IsNamedTask (N.held files.old) words.entry task.now
-        → IfErr result (StopsRun (N.held files.old) words.entry (I.left input) (O.held output.old) (O.held output.new)) }
+    ensures said { IsNamedTask (N.held files.old) words.entry task.now → IfOk result (Runs
+        (N.held files.old) words.entry (I.left input) (O.held output.old) (O.held output.new)) }
+    ensures cause { IsNamedTask (N.held files.old) words.entry task.now → IfErr result (StopsRun
+        (N.held files.old) words.entry (I.left input) (O.held output.old) (O.held output.new)) }
     ensures failures { O.failures output.new ≡ run_failures (O.failures output.old) result }
 {
     match verdict_in(alloc, files, words, task) {
@@ -112,8 +119,10 @@ fn run<N: Files, I: Source + Drop, O: Sink>(
     output: &mut O,
 ) -> Result<bool, RunStop>
     requires { words.horizon ≤ 1000000000 }
-    ensures said { IfOk result (Runs (N.held files.old) words.entry (I.left input) (O.held output.old) (O.held output.new)) }
-    ensures cause { IfErr result (StopsRun (N.held files.old) words.entry (I.left input) (O.held output.old) (O.held output.new)) }
+    ensures said { IfOk result (Runs (N.held files.old) words.entry (I.left input)
+        (O.held output.old) (O.held output.new)) }
+    ensures cause { IfErr result (StopsRun (N.held files.old) words.entry (I.left input)
+        (O.held output.old) (O.held output.new)) }
     ensures failures { O.failures output.new ≡ run_failures (O.failures output.old) result }
 {
     match task_in(alloc, files, words) {
@@ -135,23 +144,29 @@ pub fn run_run<N: Files, I: Source + Drop, O: Sink, F: Sink>(
     faults: &mut F,
 ) -> u8
     requires { words.horizon ≤ 1000000000 }
-    ensures ran { result ≡ 0 → RunsToPlan (N.held files.old) words.entry (I.left input) (O.held output.old) (O.held output.new) }
-    ensures none { result ≡ 1 → RunsToNone (N.held files.old) words.entry (I.left input) (O.held output.old) (O.held output.new) }
+    ensures ran { result ≡ 0 → RunsToPlan (N.held files.old) words.entry (I.left input)
+        (O.held output.old) (O.held output.new) }
+    ensures none { result ≡ 1 → RunsToNone (N.held files.old) words.entry (I.left input)
+        (O.held output.old) (O.held output.new) }
 
     // What stopped it is told, and is as it is told.
-    ensures stopped { 2 ≤ result → EndsRun (N.held files.old) words.entry result (I.left input) (O.held output.old) (O.held output.new)
-        (O.failures output.old) (O.failures output.new) (F.failures faults.old) (F.held faults.old) (F.failures faults.new) (F.held faults.new) }
+    ensures stopped { 2 ≤ result → EndsRun (N.held files.old) words.entry result (I.left input)
+        (O.held output.old) (O.held output.new) (O.failures output.old) (O.failures output.new)
+        (F.failures faults.old) (F.held faults.old) (F.failures faults.new) (F.held faults.new) }
 
     // For input that is refused nothing is written, unless it is refused for its length alone; where memory or a device is wanting, a
     // first part of what is to be written is; a write that failed is always told.
-    ensures kept { result ≡ REFUSED → (O.held output.new ≡ O.held output.old) ⊎ IsLong (I.left input) }
-    ensures part { result ≡ OUT_OF_ORDER → RunsPart (N.held files.old) words.entry (I.left input) (O.held output.old) (O.held output.new) }
+    ensures kept { result ≡ REFUSED → (O.held output.new ≡ O.held output.old)
+        ⊎ IsLong (I.left input) }
+    ensures part { result ≡ OUT_OF_ORDER → RunsPart (N.held files.old) words.entry (I.left input)
+        (O.held output.old) (O.held output.new) }
     ensures told { result ≢ OUT_OF_ORDER → O.failures output.new ≡ O.failures output.old }
 
     // A fault line goes with each fault, and with nothing else.
     ensures within { result ≤ 3 }
     ensures silent { result ≤ 1 → faults.new ≡ faults.old }
-    ensures fault { 2 ≤ result → TellsFault [] (F.failures faults.old) (F.held faults.old) (F.failures faults.new) (F.held faults.new) }
+    ensures fault { 2 ≤ result → TellsFault [] (F.failures faults.old) (F.held faults.old)
+        (F.failures faults.new) (F.held faults.new) }
 {
     match run(alloc, files, words, input, output) {
         Ok(true) => 0,

@@ -28,10 +28,10 @@ fn over(
     requires events { event_count net.situation ≡ length network.now.events.items }
     requires until { net.situation.horizon ≡ network.now.horizon }
     requires bounds { length network.now.bounds.items ≤ 65535 }
-    ensures machine { IfOk result (λ e. e
-        ≡ plan_machine net.situation network.now.bounds.items (greatest_limits network.now.horizon)) }
-    ensures came { IfOk result (λ e. (t : Task) (steps : List Step)
-        → IsPlanNetOf t steps (greatest_limits network.now.horizon) network.now → CameFrom t steps e) }
+    ensures machine { IfOk result (λ e. e ≡ plan_machine net.situation network.now.bounds.items
+        (greatest_limits network.now.horizon)) }
+    ensures came { IfOk result (λ e. (t : Task) (steps : List Step) → IsPlanNetOf t steps
+        (greatest_limits network.now.horizon) network.now → CameFrom t steps e) }
 {
     Executive::from_plan(alloc, network, Limits::greatest(network.horizon), net)
 }
@@ -51,8 +51,8 @@ pub fn start<I: Source>(
     ensures begins { BeginsRun network.now lines.old lines.new result }
 
     // It came from each plan that has this network.
-    ensures came { IfOk result (λ e. (t : Task) (steps : List Step)
-        → IsPlanNetOf t steps (greatest_limits network.now.horizon) network.now → CameFrom t steps e) }
+    ensures came { IfOk result (λ e. (t : Task) (steps : List Step) → IsPlanNetOf t steps
+        (greatest_limits network.now.horizon) network.now → CameFrom t steps e) }
     ensures longest { lines.new.longest ≡ lines.old.longest }
     ensures most { lines.new.most ≡ lines.old.most }
     ensures told { (n : ℕ) → bare_failures n result ≡ n }

@@ -53,13 +53,18 @@ stop_failures n (Err Write) = n + 1
 
 -- Why a search stopped: the files gave no task, or the search of their task no answer, and nothing was written; or a first part of the answer
 -- was.
-abbrev pub StopsSearch : (List ℕ → Option (List ℕ)) → SearchWords → Option (List ℕ) → Option (List ℕ) → SearchStop → Type 0
-StopsSearch held w before now (Files fault) = IsTaskFault fault × Explains held (task_words w) fault × (now ≡ before)
-StopsSearch held w before now (Searching fault) = ((task : Task) × IsNamedTask held (task_words w) task) × (now ≡ before)
+abbrev pub StopsSearch : (List ℕ → Option (List ℕ)) → SearchWords → Option (List ℕ)
+    → Option (List ℕ) → SearchStop → Type 0
+StopsSearch held w before now (Files fault) =
+    IsTaskFault fault × Explains held (task_words w) fault × (now ≡ before)
+StopsSearch held w before now (Searching fault) =
+    ((task : Task) × IsNamedTask held (task_words w) task) × (now ≡ before)
 StopsSearch held w before now Write = SearchesSome held w before now
 
 -- It stopped so with that status, and that was told. A failed write is one that the count of failures tells of.
-pub record EndsSearch (held : List ℕ → Option (List ℕ)) (w : SearchWords) (status : ℕ) (before now : Option (List ℕ)) (output output-now : ℕ) (failures : ℕ) (said : Option (List ℕ)) (failures-now : ℕ) (said-now : Option (List ℕ)) : Type 0 where
+pub record EndsSearch (held : List ℕ → Option (List ℕ)) (w : SearchWords) (status : ℕ)
+    (before now : Option (List ℕ)) (output output-now : ℕ) (failures : ℕ) (said : Option (List ℕ))
+    (failures-now : ℕ) (said-now : Option (List ℕ)) : Type 0 where
   pub stop : SearchStop
   pub is : stop_status stop ≡ status
   pub cause : StopsSearch held w before now stop

@@ -10,10 +10,18 @@ use Rattle.tp_plan_search.specs.declared.search_words.SearchWords.{SearchWords}
 
 -- the same words as those of a plan in a file, though no file of a plan is opened
 abbrev pub task_words : SearchWords → PlanWords
-task_words w = record { domain = w.domain; problem = w.problem; plan = w.problem; scale = w.scale; horizon = w.horizon }
+task_words w =
+    record {
+      domain = w.domain;
+      problem = w.problem;
+      plan = w.problem;
+      scale = w.scale;
+      horizon = w.horizon;
+    }
 
 -- a valid plan of the task of the domain and the problem that the words name was written, which ends by their horizon
-pub record WritesPlan (held : List ℕ → Option (List ℕ)) (w : SearchWords) (before now : Option (List ℕ)) : Type 0 where
+pub record WritesPlan (held : List ℕ → Option (List ℕ)) (w : SearchWords)
+    (before now : Option (List ℕ)) : Type 0 where
   pub task : Task
   pub text : List ℕ
   pub named : IsNamedTask held (task_words w) task
@@ -21,7 +29,8 @@ pub record WritesPlan (held : List ℕ → Option (List ℕ)) (w : SearchWords) 
   pub written : Appends before now text
 
 -- no plan was found within the budget, and it was written why
-pub record SaysNoPlan (held : List ℕ → Option (List ℕ)) (w : SearchWords) (before now : Option (List ℕ)) : Type 0 where
+pub record SaysNoPlan (held : List ℕ → Option (List ℕ)) (w : SearchWords)
+    (before now : Option (List ℕ)) : Type 0 where
   pub task : Task
   pub line : List ℕ
   pub named : IsNamedTask held (task_words w) task
@@ -29,7 +38,8 @@ pub record SaysNoPlan (held : List ℕ → Option (List ℕ)) (w : SearchWords) 
   pub written : Appends before now line
 
 -- the answer is whether a plan was written
-abbrev pub Searches : (List ℕ → Option (List ℕ)) → SearchWords → Option (List ℕ) → Option (List ℕ) → Bool → Type 0
+abbrev pub Searches : (List ℕ → Option (List ℕ)) → SearchWords → Option (List ℕ) → Option (List ℕ)
+    → Bool → Type 0
 Searches held w before now true = WritesPlan held w before now
 Searches held w before now false = SaysNoPlan held w before now
 
@@ -38,7 +48,8 @@ abbrev pub IsSearchText : Task → ℕ → ℕ → List ℕ → Type 0
 IsSearchText task budget horizon text = IsPlanText task horizon text ⊎ IsNoPlanLine task budget text
 
 -- a first part of that was written
-pub record SearchesSome (held : List ℕ → Option (List ℕ)) (w : SearchWords) (before now : Option (List ℕ)) : Type 0 where
+pub record SearchesSome (held : List ℕ → Option (List ℕ)) (w : SearchWords)
+    (before now : Option (List ℕ)) : Type 0 where
   pub task : Task
   pub text : List ℕ
   pub named : IsNamedTask held (task_words w) task
@@ -46,5 +57,6 @@ pub record SearchesSome (held : List ℕ → Option (List ℕ)) (w : SearchWords
   pub part : AppendsPart before now text
 
 -- nothing was written, or a first part of the plan or of why there is none
-abbrev pub SearchesPart : (List ℕ → Option (List ℕ)) → SearchWords → Option (List ℕ) → Option (List ℕ) → Type 0
+abbrev pub SearchesPart : (List ℕ → Option (List ℕ)) → SearchWords → Option (List ℕ)
+    → Option (List ℕ) → Type 0
 SearchesPart held w before now = Appends before now [] ⊎ SearchesSome held w before now

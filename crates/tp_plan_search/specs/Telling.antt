@@ -9,7 +9,8 @@ use Rattle.tp_plan_search.specs.declared.stops.SearchStop.TheVariants.{Write}
 
 -- its text was written, and the answer is whether that is a plan
 abbrev pub TellsFound : Found → Option (List ℕ) → Option (List ℕ) → Bool → Type 0
-TellsFound found before now planned = (planned ≡ is_plan found) × Appends before now (found_text found)
+TellsFound found before now planned =
+    (planned ≡ is_plan found) × Appends before now (found_text found)
 
 -- it was not written whole
 abbrev pub StopsTelling : Found → Option (List ℕ) → Option (List ℕ) → SearchStop → Type 0

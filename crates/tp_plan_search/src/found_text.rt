@@ -33,7 +33,8 @@ fn write_spent<W: Sink>(writer: &mut W, expanded: u32) -> Result<(), Failed>
 
 /// Writes the steps of a validated plan, a line for each.
 fn write_plan<W: Sink>(writer: &mut W, plan: &ValidPlan<'_>) -> Result<(), Failed>
-    ensures bytes { Writes (W.held writer.old) (W.held writer.new) (plan_text (labelled plan.now.task) plan.now.steps) result }
+    ensures bytes { Writes (W.held writer.old) (W.held writer.new)
+        (plan_text (labelled plan.now.task) plan.now.steps) result }
     ensures cause { W.failures writer.new ≡ failures_after (W.failures writer.old) result }
     ensures plan { IsPlan plan.now.steps }
     ensures of_task { IsOfTask plan.now.task plan.now.steps }

@@ -41,9 +41,10 @@ fn search_of<O: Sink>(
     output: &mut O,
 ) -> Result<bool, SearchStop>
     requires { words.horizon ≤ 1000000000 }
-    ensures said { (held : List ℕ → Option (List ℕ)) → IsNamedTask held (task_words words.entry) task.now
-        → IfOk result (Searches held words.entry (O.held output.old) (O.held output.new)) }
-    ensures cause { (held : List ℕ → Option (List ℕ)) → IsNamedTask held (task_words words.entry) task.now
+    ensures said { (held : List ℕ → Option (List ℕ)) → IsNamedTask held (task_words words.entry)
+        task.now → IfOk result (Searches held words.entry (O.held output.old) (O.held output.new)) }
+    ensures cause { (held : List ℕ → Option (List ℕ))
+        → IsNamedTask held (task_words words.entry) task.now
         → IfErr result (StopsSearch held words.entry (O.held output.old) (O.held output.new)) }
     ensures failures { O.failures output.new ≡ stop_failures (O.failures output.old) result }
 {
@@ -58,7 +59,8 @@ fn search_of<O: Sink>(
 /// The fault of files in which no plan stands. None is told of a plan; there memory may have been wanting.
 fn task_fault(fault: JudgeFault) -> JudgeFault
     ensures kind { IsTaskFault result }
-    ensures cause { (held : List ℕ → Option (List ℕ)) → (w : PlanWords) → Explains held w fault → Explains held w result }
+    ensures cause { (held : List ℕ → Option (List ℕ)) → (w : PlanWords) → Explains held w fault
+        → Explains held w result }
 {
     match fault {
         JudgeFault::PlanFile(_) | JudgeFault::Plan(_) => JudgeFault::DomainFile(FileFault::Memory),
@@ -92,8 +94,10 @@ fn plan<N: Files, O: Sink>(
     output: &mut O,
 ) -> Result<bool, SearchStop>
     requires { words.horizon ≤ 1000000000 }
-    ensures said { IfOk result (Searches (N.held files.old) words.entry (O.held output.old) (O.held output.new)) }
-    ensures cause { IfErr result (StopsSearch (N.held files.old) words.entry (O.held output.old) (O.held output.new)) }
+    ensures said { IfOk result
+        (Searches (N.held files.old) words.entry (O.held output.old) (O.held output.new)) }
+    ensures cause { IfErr result
+        (StopsSearch (N.held files.old) words.entry (O.held output.old) (O.held output.new)) }
     ensures failures { O.failures output.new ≡ stop_failures (O.failures output.old) result }
 {
     match task_of(alloc, files, words) {
@@ -115,23 +119,28 @@ pub fn run_plan<N: Files, O: Sink, F: Sink>(
     faults: &mut F,
 ) -> u8
     requires { words.horizon ≤ 1000000000 }
-    ensures planned { result ≡ 0 → WritesPlan (N.held files.old) words.entry (O.held output.old) (O.held output.new) }
-    ensures none { result ≡ 1 → SaysNoPlan (N.held files.old) words.entry (O.held output.old) (O.held output.new) }
+    ensures planned { result ≡ 0
+        → WritesPlan (N.held files.old) words.entry (O.held output.old) (O.held output.new) }
+    ensures none { result ≡ 1
+        → SaysNoPlan (N.held files.old) words.entry (O.held output.old) (O.held output.new) }
 
     // What stopped it is told, and is as it is told.
-    ensures stopped { 2 ≤ result → EndsSearch (N.held files.old) words.entry result (O.held output.old) (O.held output.new)
-        (O.failures output.old) (O.failures output.new) (F.failures faults.old) (F.held faults.old) (F.failures faults.new) (F.held faults.new) }
+    ensures stopped { 2 ≤ result → EndsSearch (N.held files.old) words.entry result
+        (O.held output.old) (O.held output.new) (O.failures output.old) (O.failures output.new)
+        (F.failures faults.old) (F.held faults.old) (F.failures faults.new) (F.held faults.new) }
 
     // Nothing is written for input that is refused, and of a true answer at most a first part where memory or a device is
     // wanting; a write that failed is always told.
     ensures kept { result ≡ REFUSED → O.held output.new ≡ O.held output.old }
-    ensures part { result ≡ OUT_OF_ORDER → SearchesPart (N.held files.old) words.entry (O.held output.old) (O.held output.new) }
+    ensures part { result ≡ OUT_OF_ORDER
+        → SearchesPart (N.held files.old) words.entry (O.held output.old) (O.held output.new) }
     ensures told { result ≢ OUT_OF_ORDER → O.failures output.new ≡ O.failures output.old }
 
     // A fault line goes with each fault, and with nothing else.
     ensures within { result ≤ 3 }
     ensures silent { result ≤ 1 → faults.new ≡ faults.old }
-    ensures fault { 2 ≤ result → TellsFault [] (F.failures faults.old) (F.held faults.old) (F.failures faults.new) (F.held faults.new) }
+    ensures fault { 2 ≤ result → TellsFault [] (F.failures faults.old) (F.held faults.old)
+        (F.failures faults.new) (F.held faults.new) }
 {
     match plan(alloc, files, words, output) {
         Ok(true) => 0,

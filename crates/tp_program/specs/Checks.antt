@@ -23,7 +23,8 @@ is_valid (Invalid plan tick why) = false
 
 -- the line of a verdict was written, and the answer is whether the plan is valid
 abbrev pub TellsVerdict : Verdict → Option (List ℕ) → Option (List ℕ) → Bool → Type 0
-TellsVerdict verdict before now valid = (valid ≡ is_valid verdict) × Appends before now (verdict_line verdict)
+TellsVerdict verdict before now valid =
+    (valid ≡ is_valid verdict) × Appends before now (verdict_line verdict)
 
 -- the line of a verdict was not written whole
 abbrev pub StopsLine : Verdict → Option (List ℕ) → Option (List ℕ) → PlanStop → Type 0
@@ -36,27 +37,33 @@ IsVerdictLine task steps line =
     ⊎ ((tick : ℕ) × (why : Fault) × IsFirst task steps tick why × (¬ IsValidPlan task steps) × (line ≡ invalid_line tick why))
 
 -- nothing was written, or a first part of the line of the verdict on the plan that the words name
-abbrev pub SaysPart : (List ℕ → Option (List ℕ)) → PlanWords → Option (List ℕ) → Option (List ℕ) → Type 0
+abbrev pub SaysPart : (List ℕ → Option (List ℕ)) → PlanWords → Option (List ℕ) → Option (List ℕ)
+    → Type 0
 SaysPart held w before now =
-    Appends before now []
-    ⊎ ((task : Task) × (steps : List Step) × (line : List ℕ) × IsNamedPlan held w task steps × IsVerdictLine task steps line × AppendsPart before now line)
+    Appends before now [] ⊎ ((task : Task) × (steps : List Step) × (line : List ℕ)
+    × IsNamedPlan held w task steps × IsVerdictLine task steps line × AppendsPart before now line)
 
 -- the plan is valid, and that was written
-pub record SaysValid (held : List ℕ → Option (List ℕ)) (w : PlanWords) (before now : Option (List ℕ)) : Type 0 where
+pub record SaysValid (held : List ℕ → Option (List ℕ)) (w : PlanWords)
+    (before now : Option (List ℕ)) : Type 0 where
   pub task : Task
   pub steps : List Step
   pub named : IsNamedPlan held w task steps
   pub valid : IsValidPlan task steps
   pub written : Appends before now (codes "valid\n")
 
-abbrev pub Says : (List ℕ → Option (List ℕ)) → PlanWords → Option (List ℕ) → Option (List ℕ) → Bool → Type 0
+abbrev pub Says : (List ℕ → Option (List ℕ)) → PlanWords → Option (List ℕ) → Option (List ℕ) → Bool
+    → Type 0
 Says held w before now true = SaysValid held w before now
 Says held w before now false = SaysInvalid held w before now
 
 -- why no verdict was written
-abbrev pub StopsCheck : (List ℕ → Option (List ℕ)) → PlanWords → Option (List ℕ) → Option (List ℕ) → PlanStop → Type 0
+abbrev pub StopsCheck : (List ℕ → Option (List ℕ)) → PlanWords → Option (List ℕ) → Option (List ℕ)
+    → PlanStop → Type 0
 StopsCheck held w before now stop = StopsOn IsVerdictLine (λ _ _ _. ⊥) held w before now stop
 
-abbrev pub EndsCheck : (List ℕ → Option (List ℕ)) → PlanWords → ℕ → Option (List ℕ) → Option (List ℕ) → ℕ → ℕ → ℕ → Option (List ℕ) → ℕ → Option (List ℕ) → Type 0
+abbrev pub EndsCheck : (List ℕ → Option (List ℕ)) → PlanWords → ℕ → Option (List ℕ)
+    → Option (List ℕ) → ℕ → ℕ → ℕ → Option (List ℕ) → ℕ → Option (List ℕ) → Type 0
 EndsCheck held w status before now output output-now failures said failures-now said-now =
-    EndsPlan IsVerdictLine (λ _ _ _. ⊥) held w status before now output output-now failures said failures-now said-now
+    EndsPlan IsVerdictLine (λ _ _ _.
+    ⊥) held w status before now output output-now failures said failures-now said-now

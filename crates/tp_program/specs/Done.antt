@@ -15,7 +15,8 @@ use Rattle.tp_program.specs.declared.requests.Request.TheVariants.{Bare, Check, 
 
 -- all commands of the input were answered; the plan is valid and that was written; its network was written; all commands of the input were
 -- answered on that network, and the plan of the run was written; or the help was written
-abbrev pub IsDone : Request → (List ℕ → Option (List ℕ)) → Option (List ℕ) → Option (List ℕ) → Option (List ℕ) → Type 0
+abbrev pub IsDone : Request → (List ℕ → Option (List ℕ)) → Option (List ℕ) → Option (List ℕ)
+    → Option (List ℕ) → Type 0
 IsDone Bare files input held now = AnswersAll input held now
 IsDone (Check w) files input held now = SaysValid files w held now
 IsDone (Net w) files input held now = ShowsNetwork files w held now
@@ -24,13 +25,15 @@ IsDone (Plan w) files input held now = WritesPlan files w held now
 IsDone (Help text) files input held now = Appends held now (string_bytes text)
 
 -- the words ask for something, and it was done
-pub record DoesWhatIsAsked (words : List (List ℕ)) (files : List ℕ → Option (List ℕ)) (input held now : Option (List ℕ)) : Type 0 where
+pub record DoesWhatIsAsked (words : List (List ℕ)) (files : List ℕ → Option (List ℕ))
+    (input held now : Option (List ℕ)) : Type 0 where
   pub request : Request
   pub asked : AsksFor words request
   pub done : IsDone request files input held now
 
 -- the plan is not valid, and its first fault was written; or all commands of the input were answered, and the run has no plan
-abbrev pub IsAnsweredNo : Request → (List ℕ → Option (List ℕ)) → Option (List ℕ) → Option (List ℕ) → Option (List ℕ) → Type 0
+abbrev pub IsAnsweredNo : Request → (List ℕ → Option (List ℕ)) → Option (List ℕ) → Option (List ℕ)
+    → Option (List ℕ) → Type 0
 IsAnsweredNo Bare files input held now = ⊥
 IsAnsweredNo (Check w) files input held now = SaysInvalid files w held now
 IsAnsweredNo (Net w) files input held now = SaysInvalid files w held now
@@ -39,13 +42,15 @@ IsAnsweredNo (Plan w) files input held now = SaysNoPlan files w held now
 IsAnsweredNo (Help text) files input held now = ⊥
 
 -- the words ask for the verdict on a plan, for its network or for its run, and the answer is no
-pub record AnswersNo (words : List (List ℕ)) (files : List ℕ → Option (List ℕ)) (input held now : Option (List ℕ)) : Type 0 where
+pub record AnswersNo (words : List (List ℕ)) (files : List ℕ → Option (List ℕ))
+    (input held now : Option (List ℕ)) : Type 0 where
   pub request : Request
   pub asked : AsksFor words request
   pub said : IsAnsweredNo request files input held now
 
 -- some first part of that was done
-abbrev pub IsPartDone : Request → (List ℕ → Option (List ℕ)) → Option (List ℕ) → Option (List ℕ) → Option (List ℕ) → Type 0
+abbrev pub IsPartDone : Request → (List ℕ → Option (List ℕ)) → Option (List ℕ) → Option (List ℕ)
+    → Option (List ℕ) → Type 0
 IsPartDone Bare files input held now = AnswersPart input held now
 IsPartDone (Check w) files input held now = SaysPart files w held now
 IsPartDone (Net w) files input held now = ShowsPart files w held now
@@ -54,5 +59,8 @@ IsPartDone (Plan w) files input held now = SearchesPart files w held now
 IsPartDone (Help text) files input held now = AppendsPart held now (string_bytes text)
 
 -- nothing was written, or the words ask for something, and some first part of it was written
-abbrev pub DoesPart : List (List ℕ) → (List ℕ → Option (List ℕ)) → Option (List ℕ) → Option (List ℕ) → Option (List ℕ) → Type 0
-DoesPart words files input held now = Appends held now [] ⊎ ((request : Request) × AsksFor words request × IsPartDone request files input held now)
+abbrev pub DoesPart : List (List ℕ) → (List ℕ → Option (List ℕ)) → Option (List ℕ) → Option (List ℕ)
+    → Option (List ℕ) → Type 0
+DoesPart words files input held now =
+    Appends held now []
+    ⊎ ((request : Request) × AsksFor words request × IsPartDone request files input held now)

@@ -13,14 +13,18 @@ use Rattle.tp_program.specs.declared.requests.Request.{Request}
 use Rattle.tp_program.specs.declared.requests.Request.TheVariants.{Bare, Check, Net, Run, Plan, Help}
 
 -- there was no memory for the words
-pub record LacksMemory (status : ℕ) (held held-now : Option (List ℕ)) (output output-now : ℕ) (failures : ℕ) (before : Option (List ℕ)) (failures-now : ℕ) (now : Option (List ℕ)) : Type 0 where
+pub record LacksMemory (status : ℕ) (held held-now : Option (List ℕ)) (output output-now : ℕ)
+    (failures : ℕ) (before : Option (List ℕ)) (failures-now : ℕ)
+    (now : Option (List ℕ)) : Type 0 where
   pub three : status ≡ 3
   pub kept : held-now ≡ held
   pub same : output-now ≡ output
   pub told : Tells (fault_line (codes "arguments") (codes "2 memory")) failures before failures-now now
 
 -- the words are refused
-pub record RefusesWords (status : ℕ) (held held-now : Option (List ℕ)) (output output-now : ℕ) (failures : ℕ) (before : Option (List ℕ)) (failures-now : ℕ) (now : Option (List ℕ)) : Type 0 where
+pub record RefusesWords (status : ℕ) (held held-now : Option (List ℕ)) (output output-now : ℕ)
+    (failures : ℕ) (before : Option (List ℕ)) (failures-now : ℕ)
+    (now : Option (List ℕ)) : Type 0 where
   pub two : status ≡ 2
   pub kept : held-now ≡ held
   pub same : output-now ≡ output
@@ -28,34 +32,42 @@ pub record RefusesWords (status : ℕ) (held held-now : Option (List ℕ)) (outp
   pub told : Tells (fault_line (codes "arguments") (codes "1 words") ++ more) failures before failures-now now
 
 -- help was not written whole
-pub record StopsHelp (text : List ℕ) (status : ℕ) (held held-now : Option (List ℕ)) (failures : ℕ) (before : Option (List ℕ)) (failures-now : ℕ) (now : Option (List ℕ)) : Type 0 where
+pub record StopsHelp (text : List ℕ) (status : ℕ) (held held-now : Option (List ℕ)) (failures : ℕ)
+    (before : Option (List ℕ)) (failures-now : ℕ) (now : Option (List ℕ)) : Type 0 where
   pub three : status ≡ 3
   pub part : AppendsPart held held-now text
   pub told : Tells (fault_line (codes "script") (codes "2 write")) failures before failures-now now
 
 -- how what is asked for ends
-abbrev pub EndsRequest : Request → (List ℕ → Option (List ℕ)) → Option (List ℕ) → ℕ → Option (List ℕ) → Option (List ℕ) → ℕ → ℕ → ℕ → Option (List ℕ) → ℕ → Option (List ℕ) → Type 0
-EndsRequest Bare files input status held held-now output output-now failures before failures-now now =
-    StopsBare status input held held-now output output-now failures before failures-now now
-EndsRequest (Check w) files input status held held-now output output-now failures before failures-now now =
-    EndsCheck files w status held held-now output output-now failures before failures-now now
-EndsRequest (Net w) files input status held held-now output output-now failures before failures-now now =
-    EndsNet files w status held held-now output output-now failures before failures-now now
-EndsRequest (Run w) files input status held held-now output output-now failures before failures-now now =
-    EndsRun files w status input held held-now output output-now failures before failures-now now
-EndsRequest (Plan w) files input status held held-now output output-now failures before failures-now now =
-    EndsSearch files w status held held-now output output-now failures before failures-now now
-EndsRequest (Help text) files input status held held-now output output-now failures before failures-now now =
-    StopsHelp (string_bytes text) status held held-now failures before failures-now now
+abbrev pub EndsRequest : Request → (List ℕ → Option (List ℕ)) → Option (List ℕ) → ℕ
+    → Option (List ℕ) → Option (List ℕ) → ℕ → ℕ → ℕ → Option (List ℕ) → ℕ → Option (List ℕ) → Type 0
+EndsRequest Bare files input status held held-now output output-now failures before failures-now now
+    = StopsBare status input held held-now output output-now failures before failures-now now
+EndsRequest
+    (Check w) files input status held held-now output output-now failures before failures-now now
+    = EndsCheck files w status held held-now output output-now failures before failures-now now
+EndsRequest (Net w) files input status held held-now output output-now failures before failures-now
+    now = EndsNet files w status held held-now output output-now failures before failures-now now
+EndsRequest
+    (Run w) files input status held held-now output output-now failures before failures-now now
+    = EndsRun files w status input held held-now output output-now failures before failures-now now
+EndsRequest (Plan w) files input status held held-now output output-now failures before failures-now
+    now = EndsSearch files w status held held-now output output-now failures before failures-now now
+EndsRequest
+    (Help text) files input status held held-now output output-now failures before failures-now now
+    = StopsHelp (string_bytes text) status held held-now failures before failures-now now
 
-abbrev pub EndsCall : List (List ℕ) → (List ℕ → Option (List ℕ)) → Option (List ℕ) → ℕ → Option (List ℕ) → Option (List ℕ) → ℕ → ℕ → ℕ → Option (List ℕ) → ℕ → Option (List ℕ) → Type 0
+abbrev pub EndsCall : List (List ℕ) → (List ℕ → Option (List ℕ)) → Option (List ℕ) → ℕ
+    → Option (List ℕ) → Option (List ℕ) → ℕ → ℕ → ℕ → Option (List ℕ) → ℕ → Option (List ℕ) → Type 0
 EndsCall words files input status held held-now output output-now failures before failures-now now =
     RefusesWords status held held-now output output-now failures before failures-now now
     ⊎ (LacksMemory status held held-now output output-now failures before failures-now now
-    ⊎ ((request : Request) × AsksFor words request × EndsRequest request files input status held held-now output output-now failures before failures-now now))
+    ⊎ ((request : Request) × AsksFor words request × EndsRequest request files input status held
+    held-now output output-now failures before failures-now now))
 
 -- the same of commands on a network of bounds alone, whose words are never refused
-abbrev pub EndsBare : Option (List ℕ) → ℕ → Option (List ℕ) → Option (List ℕ) → ℕ → ℕ → ℕ → Option (List ℕ) → ℕ → Option (List ℕ) → Type 0
+abbrev pub EndsBare : Option (List ℕ) → ℕ → Option (List ℕ) → Option (List ℕ) → ℕ → ℕ → ℕ
+    → Option (List ℕ) → ℕ → Option (List ℕ) → Type 0
 EndsBare input status held held-now output output-now failures before failures-now now =
     StopsBare status input held held-now output output-now failures before failures-now now
     ⊎ LacksMemory status held held-now output output-now failures before failures-now now

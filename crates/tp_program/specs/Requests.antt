@@ -54,12 +54,18 @@ TellsText kind = (kind ≡ DisplayHelp) ⊎ (kind ≡ DisplayVersion)
 
 -- the words of a call ask for it: they are words of a command, or call for help or for the version
 abbrev pub AsksFor : List Text → Request → Type 0
-AsksFor words (Help text) = IsAmong DisplayHelp (fault_of tempo_app words) ⊎ IsAmong DisplayVersion (fault_of tempo_app words)
+AsksFor words (Help text) =
+    IsAmong DisplayHelp (fault_of tempo_app words)
+    ⊎ IsAmong DisplayVersion (fault_of tempo_app words)
 AsksFor words Bare = (fault_of tempo_app words ≡ []) × AsksBy (subcommand_of tempo_app words) Bare
-AsksFor words (Check w) = (fault_of tempo_app words ≡ []) × AsksBy (subcommand_of tempo_app words) (Check w)
-AsksFor words (Net w) = (fault_of tempo_app words ≡ []) × AsksBy (subcommand_of tempo_app words) (Net w)
-AsksFor words (Run w) = (fault_of tempo_app words ≡ []) × AsksBy (subcommand_of tempo_app words) (Run w)
-AsksFor words (Plan w) = (fault_of tempo_app words ≡ []) × AsksBy (subcommand_of tempo_app words) (Plan w)
+AsksFor words (Check w) =
+    (fault_of tempo_app words ≡ []) × AsksBy (subcommand_of tempo_app words) (Check w)
+AsksFor words (Net w) =
+    (fault_of tempo_app words ≡ []) × AsksBy (subcommand_of tempo_app words) (Net w)
+AsksFor words (Run w) =
+    (fault_of tempo_app words ≡ []) × AsksBy (subcommand_of tempo_app words) (Run w)
+AsksFor words (Plan w) =
+    (fault_of tempo_app words ≡ []) × AsksBy (subcommand_of tempo_app words) (Plan w)
 
 -- the words ask for no answers to commands: for something else, or for nothing
 pub record AsksForNoCommands (words : List Text) : Type 0 where
@@ -78,8 +84,13 @@ pub record AskForOneThing (words : List Text) : Type 0 where
   pub net_run : (v w : PlanWords) → AsksFor words (Net v) → AsksFor words (Run w) → ⊥
   pub run_help : (w : PlanWords) (text : _) → AsksFor words (Run w) → AsksFor words (Help text) → ⊥
   pub bare_plan : (w : SearchWords) → AsksFor words Bare → AsksFor words (Plan w) → ⊥
-  pub check_plan : (v : PlanWords) (w : SearchWords) → AsksFor words (Check v) → AsksFor words (Plan w) → ⊥
-  pub net_plan : (v : PlanWords) (w : SearchWords) → AsksFor words (Net v) → AsksFor words (Plan w) → ⊥
-  pub run_plan : (v : PlanWords) (w : SearchWords) → AsksFor words (Run v) → AsksFor words (Plan w) → ⊥
-  pub plan_help : (w : SearchWords) (text : _) → AsksFor words (Plan w) → AsksFor words (Help text) → ⊥
-  pub check_help : (w : PlanWords) (text : _) → AsksFor words (Check w) → AsksFor words (Help text) → ⊥
+  pub check_plan : (v : PlanWords) (w : SearchWords) → AsksFor words (Check v)
+      → AsksFor words (Plan w) → ⊥
+  pub net_plan : (v : PlanWords) (w : SearchWords) → AsksFor words (Net v) → AsksFor words (Plan w)
+      → ⊥
+  pub run_plan : (v : PlanWords) (w : SearchWords) → AsksFor words (Run v) → AsksFor words (Plan w)
+      → ⊥
+  pub plan_help : (w : SearchWords) (text : _) → AsksFor words (Plan w) → AsksFor words (Help text)
+      → ⊥
+  pub check_help : (w : PlanWords) (text : _) → AsksFor words (Check w) → AsksFor words (Help text)
+      → ⊥

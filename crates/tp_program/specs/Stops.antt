@@ -32,13 +32,22 @@ stop_failures n (Err Write) = n + 1
 
 -- Why a command stopped that writes such a text of a plan, and may find such faults of its network: the files gave no verdict, or the plan no
 -- network, and nothing was written; or a first part of the text was.
-abbrev pub StopsOn : (Task → List Step → List ℕ → Type 0) → (Task → List Step → DeorderFault → Type 0) → (List ℕ → Option (List ℕ)) → PlanWords → Option (List ℕ) → Option (List ℕ) → PlanStop → Type 0
+abbrev pub StopsOn : (Task → List Step → List ℕ → Type 0)
+    → (Task → List Step → DeorderFault → Type 0) → (List ℕ → Option (List ℕ)) → PlanWords
+    → Option (List ℕ) → Option (List ℕ) → PlanStop → Type 0
 StopsOn tells passes held w before now (Judging fault) = Explains held w fault × (now ≡ before)
-StopsOn tells passes held w before now (Network fault) = (task : Task) × (steps : List Step) × IsNamedPlan held w task steps × passes task steps fault × (now ≡ before)
-StopsOn tells passes held w before now Write = (task : Task) × (steps : List Step) × (text : List ℕ) × IsNamedPlan held w task steps × tells task steps text × AppendsPart before now text
+StopsOn tells passes held w before now (Network fault) =
+    (task : Task) × (steps : List Step) × IsNamedPlan held w task steps × passes task steps fault
+    × (now ≡ before)
+StopsOn tells passes held w before now Write =
+    (task : Task) × (steps : List Step) × (text : List ℕ) × IsNamedPlan held w task steps
+    × tells task steps text × AppendsPart before now text
 
 -- It stopped so with that status, and that was told. A failed write is one that the count of failures tells of.
-pub record EndsPlan (tells : Task → List Step → List ℕ → Type 0) (passes : Task → List Step → DeorderFault → Type 0) (held : List ℕ → Option (List ℕ)) (w : PlanWords) (status : ℕ) (before now : Option (List ℕ)) (output output-now : ℕ) (failures : ℕ) (said : Option (List ℕ)) (failures-now : ℕ) (said-now : Option (List ℕ)) : Type 0 where
+pub record EndsPlan (tells : Task → List Step → List ℕ → Type 0) (passes : Task → List Step
+    → DeorderFault → Type 0) (held : List ℕ → Option (List ℕ)) (w : PlanWords) (status : ℕ)
+    (before now : Option (List ℕ)) (output output-now : ℕ) (failures : ℕ) (said : Option (List ℕ))
+    (failures-now : ℕ) (said-now : Option (List ℕ)) : Type 0 where
   pub stop : PlanStop
   pub is : stop_status stop ≡ status
   pub cause : StopsOn tells passes held w before now stop

@@ -17,7 +17,8 @@ TellsSome before now =
 -- What is written to the output, by the exit status. It was done what the words ask for; the answer is no; of a network of bounds all is
 -- answered, or a first part; where memory or a device is wanting, a first part of what the words ask for was done, or nothing; for all
 -- else that is refused nothing is written
-pub record Runs (words : List (List ℕ)) (files : List ℕ → Option (List ℕ)) (input : Option (List ℕ)) (status : ℕ) (held now : Option (List ℕ)) : Type 0 where
+pub record Runs (words : List (List ℕ)) (files : List ℕ → Option (List ℕ)) (input : Option (List ℕ))
+    (status : ℕ) (held now : Option (List ℕ)) : Type 0 where
   pub done : status ≡ 0 → DoesWhatIsAsked words files input held now
   pub no : status ≡ 1 → AnswersNo words files input held now
   pub all : AsksFor words Bare → status ≡ 0 → AnswersAll input held now
@@ -26,14 +27,21 @@ pub record Runs (words : List (List ℕ)) (files : List ℕ → Option (List ℕ
   pub kept : AsksForNoCommands words → status ≡ 2 → Appends held now []
 
 -- what was written was handed on to the writer, or it is gone: then the status is 3, and a fault line tells so if none was written yet
-abbrev pub HandsOn : {W : Type 0} → (W → Option (List ℕ)) → ℕ → Option (List ℕ) → ℕ → Option (List ℕ) → ℕ → Option (List ℕ) → ℕ → Option W → Type 0
-HandsOn contents status held failures before failures-now now ended (Some w) = (ended ≡ status) × Keeps held (contents w) × (now ≡ before)
-HandsOn contents status held failures before failures-now now ended None = (ended ≡ 3) × (status ≤ 1 → TellsFault [] failures before failures-now now) × (2 ≤ status → now ≡ before)
+abbrev pub HandsOn : {W : Type 0} → (W → Option (List ℕ)) → ℕ → Option (List ℕ) → ℕ
+    → Option (List ℕ) → ℕ → Option (List ℕ) → ℕ → Option W → Type 0
+HandsOn contents status held failures before failures-now now ended (Some w) =
+    (ended ≡ status) × Keeps held (contents w) × (now ≡ before)
+HandsOn contents status held failures before failures-now now ended None =
+    (ended ≡ 3) × (status ≤ 1 → TellsFault [] failures before failures-now now)
+    × (2 ≤ status → now ≡ before)
 
 -- How a run ends. The output holds what the status tells, or it is gone and the status is 3. A network is refused only where it has no head
 -- or comes with too many bytes. A fault line goes with each fault, and with nothing else
-pub record Ends (words : List (List ℕ)) (files : List ℕ → Option (List ℕ)) (input held faults : Option (List ℕ)) {W : Type 0} (contents : W → Option (List ℕ)) (status : ℕ) (output : Option W) (faults-now : Option (List ℕ)) : Type 0 where
-  pub output_holds : MatchOption output (status ≡ 3) (λ w. Runs words files input status held (contents w))
+pub record Ends (words : List (List ℕ)) (files : List ℕ → Option (List ℕ))
+    (input held faults : Option (List ℕ)) {W : Type 0} (contents : W → Option (List ℕ)) (status : ℕ)
+    (output : Option W) (faults-now : Option (List ℕ)) : Type 0 where
+  pub output_holds : MatchOption output (status ≡ 3) (λ w.
+      Runs words files input status held (contents w))
   pub refused : AsksFor words Bare → status ≡ 2 → IsRefused input
   pub within : status ≤ 3
   pub silent : status ≤ 1 → Appends faults faults-now []

@@ -156,7 +156,8 @@ fn text_of<'w>(alloc: Global, error: &Error) -> Result<Request<'w>, Refusal>
 
 /// What is left where a parse gave no matches: help or the version that was called for, or a refusal.
 fn without_matches<'w>(alloc: Global, error: &Error) -> Result<Request<'w>, Refusal>
-    ensures help { IfOk result (λ r. ((text : _) × (r ≡ Request.Help text)) × TellsText (kind_of error.now)) }
+    ensures help { IfOk result (λ r.
+        ((text : _) × (r ≡ Request.Help text)) × TellsText (kind_of error.now)) }
     ensures memory { kind_of error.now ≡ kinds.OutOfMemory → result ≡ Err Refusal.Memory }
 {
     match error.kind() {

@@ -34,10 +34,10 @@ fn tell_of<N: Files, O: Sink>(
     task: &Task,
     output: &mut O,
 ) -> Result<bool, PlanStop>
-    ensures said { IsNamedTask (N.held files.old) words.entry task.now
-        → IfOk result (Says (N.held files.old) words.entry (O.held output.old) (O.held output.new)) }
-    ensures cause { IsNamedTask (N.held files.old) words.entry task.now
-        → IfErr result (StopsCheck (N.held files.old) words.entry (O.held output.old) (O.held output.new)) }
+    ensures said { IsNamedTask (N.held files.old) words.entry task.now →
+        IfOk result (Says (N.held files.old) words.entry (O.held output.old) (O.held output.new)) }
+    ensures cause { IsNamedTask (N.held files.old) words.entry task.now → IfErr result
+        (StopsCheck (N.held files.old) words.entry (O.held output.old) (O.held output.new)) }
     ensures failures { O.failures output.new ≡ stop_failures (O.failures output.old) result }
 {
     match verdict_in(alloc, files, words, task) {
@@ -55,8 +55,10 @@ fn check<N: Files, O: Sink>(
     output: &mut O,
 ) -> Result<bool, PlanStop>
     requires { words.horizon ≤ 1000000000 }
-    ensures said { IfOk result (Says (N.held files.old) words.entry (O.held output.old) (O.held output.new)) }
-    ensures cause { IfErr result (StopsCheck (N.held files.old) words.entry (O.held output.old) (O.held output.new)) }
+    ensures said { IfOk result
+        (Says (N.held files.old) words.entry (O.held output.old) (O.held output.new)) }
+    ensures cause { IfErr result
+        (StopsCheck (N.held files.old) words.entry (O.held output.old) (O.held output.new)) }
     ensures failures { O.failures output.new ≡ stop_failures (O.failures output.old) result }
 {
     match task_in(alloc, files, words) {
@@ -75,23 +77,28 @@ pub fn run_check<N: Files, O: Sink, F: Sink>(
     faults: &mut F,
 ) -> u8
     requires { words.horizon ≤ 1000000000 }
-    ensures valid { result ≡ 0 → SaysValid (N.held files.old) words.entry (O.held output.old) (O.held output.new) }
-    ensures invalid { result ≡ 1 → SaysInvalid (N.held files.old) words.entry (O.held output.old) (O.held output.new) }
+    ensures valid { result ≡ 0
+        → SaysValid (N.held files.old) words.entry (O.held output.old) (O.held output.new) }
+    ensures invalid { result ≡ 1
+        → SaysInvalid (N.held files.old) words.entry (O.held output.old) (O.held output.new) }
 
     // What stopped it is told, and is as it is told.
-    ensures stopped { 2 ≤ result → EndsCheck (N.held files.old) words.entry result (O.held output.old) (O.held output.new)
-        (O.failures output.old) (O.failures output.new) (F.failures faults.old) (F.held faults.old) (F.failures faults.new) (F.held faults.new) }
+    ensures stopped { 2 ≤ result → EndsCheck (N.held files.old) words.entry result
+        (O.held output.old) (O.held output.new) (O.failures output.old) (O.failures output.new)
+        (F.failures faults.old) (F.held faults.old) (F.failures faults.new) (F.held faults.new) }
 
     // Nothing is written for input that is refused, and of the true verdict at most a first part where memory or a device is
     // wanting; a write that failed is always told.
     ensures kept { result ≡ REFUSED → O.held output.new ≡ O.held output.old }
-    ensures part { result ≡ OUT_OF_ORDER → SaysPart (N.held files.old) words.entry (O.held output.old) (O.held output.new) }
+    ensures part { result ≡ OUT_OF_ORDER
+        → SaysPart (N.held files.old) words.entry (O.held output.old) (O.held output.new) }
     ensures told { result ≢ OUT_OF_ORDER → O.failures output.new ≡ O.failures output.old }
 
     // A fault line goes with each fault, and with nothing else.
     ensures within { result ≤ 3 }
     ensures silent { result ≤ 1 → faults.new ≡ faults.old }
-    ensures fault { 2 ≤ result → TellsFault [] (F.failures faults.old) (F.held faults.old) (F.failures faults.new) (F.held faults.new) }
+    ensures fault { 2 ≤ result → TellsFault [] (F.failures faults.old) (F.held faults.old)
+        (F.failures faults.new) (F.held faults.new) }
 {
     match check(alloc, files, words, output) {
         Ok(true) => 0,

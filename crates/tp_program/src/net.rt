@@ -22,8 +22,10 @@ use tp_validate::{ValidPlan, Verdict};
 
 /// The lines of the network of a validated plan.
 fn lines_of(alloc: Global, plan: &ValidPlan<'_>, limits: &Limits) -> Result<String, DeorderFault>
-    ensures lines { IfOk result (λ text. TellsNetwork plan.now.task plan.now.steps limits.now (string_bytes text)) }
-    ensures cause { IfErr result (λ e. OnTooMany e (PassesLimits limits.now (plan_of plan.now.task plan.now.steps))) }
+    ensures lines { IfOk result (λ text.
+        TellsNetwork plan.now.task plan.now.steps limits.now (string_bytes text)) }
+    ensures cause { IfErr result (λ e.
+        OnTooMany e (PassesLimits limits.now (plan_of plan.now.task plan.now.steps))) }
 {
     match deorder(alloc, plan, limits) {
         Ok(net) => match network_text(alloc, &net) {
@@ -41,8 +43,10 @@ fn write_network<O: Sink>(
     limits: &Limits,
     output: &mut O,
 ) -> Result<(), PlanStop>
-    ensures written { OnOk result (WritesNetwork plan.now.task plan.now.steps limits.now (O.held output.old) (O.held output.new)) }
-    ensures cause { IfErr result (StopsNetwork plan.now.task plan.now.steps limits.now (O.held output.old) (O.held output.new)) }
+    ensures written { OnOk result (WritesNetwork plan.now.task plan.now.steps limits.now
+        (O.held output.old) (O.held output.new)) }
+    ensures cause { IfErr result (StopsNetwork plan.now.task plan.now.steps limits.now
+        (O.held output.old) (O.held output.new)) }
     ensures failures { O.failures output.new ≡ stop_failures (O.failures output.old) result }
 {
     match lines_of(alloc, plan, limits) {
@@ -61,8 +65,10 @@ fn show<O: Sink>(
     limits: &Limits,
     output: &mut O,
 ) -> Result<bool, PlanStop>
-    ensures said { IfOk result (ShowsVerdict verdict.now limits.now (O.held output.old) (O.held output.new)) }
-    ensures cause { IfErr result (StopsShown verdict.now limits.now (O.held output.old) (O.held output.new)) }
+    ensures said { IfOk result
+        (ShowsVerdict verdict.now limits.now (O.held output.old) (O.held output.new)) }
+    ensures cause { IfErr result
+        (StopsShown verdict.now limits.now (O.held output.old) (O.held output.new)) }
     ensures failures { O.failures output.new ≡ stop_failures (O.failures output.old) result }
 {
     match verdict {
@@ -85,10 +91,10 @@ fn show_of<N: Files, O: Sink>(
     task: &Task,
     output: &mut O,
 ) -> Result<bool, PlanStop>
-    ensures said { IsNamedTask (N.held files.old) words.entry task.now
-        → IfOk result (Shows (N.held files.old) words.entry (O.held output.old) (O.held output.new)) }
-    ensures cause { IsNamedTask (N.held files.old) words.entry task.now
-        → IfErr result (StopsNet (N.held files.old) words.entry (O.held output.old) (O.held output.new)) }
+    ensures said { IsNamedTask (N.held files.old) words.entry task.now →
+        IfOk result (Shows (N.held files.old) words.entry (O.held output.old) (O.held output.new)) }
+    ensures cause { IsNamedTask (N.held files.old) words.entry task.now → IfErr result
+        (StopsNet (N.held files.old) words.entry (O.held output.old) (O.held output.new)) }
     ensures failures { O.failures output.new ≡ stop_failures (O.failures output.old) result }
 {
     match verdict_in(alloc, files, words, task) {
@@ -106,8 +112,10 @@ fn net<N: Files, O: Sink>(
     output: &mut O,
 ) -> Result<bool, PlanStop>
     requires { words.horizon ≤ 1000000000 }
-    ensures said { IfOk result (Shows (N.held files.old) words.entry (O.held output.old) (O.held output.new)) }
-    ensures cause { IfErr result (StopsNet (N.held files.old) words.entry (O.held output.old) (O.held output.new)) }
+    ensures said { IfOk result
+        (Shows (N.held files.old) words.entry (O.held output.old) (O.held output.new)) }
+    ensures cause { IfErr result
+        (StopsNet (N.held files.old) words.entry (O.held output.old) (O.held output.new)) }
     ensures failures { O.failures output.new ≡ stop_failures (O.failures output.old) result }
 {
     match task_in(alloc, files, words) {
@@ -126,23 +134,28 @@ pub fn run_net<N: Files, O: Sink, F: Sink>(
     faults: &mut F,
 ) -> u8
     requires { words.horizon ≤ 1000000000 }
-    ensures shown { result ≡ 0 → ShowsNetwork (N.held files.old) words.entry (O.held output.old) (O.held output.new) }
-    ensures invalid { result ≡ 1 → SaysInvalid (N.held files.old) words.entry (O.held output.old) (O.held output.new) }
+    ensures shown { result ≡ 0
+        → ShowsNetwork (N.held files.old) words.entry (O.held output.old) (O.held output.new) }
+    ensures invalid { result ≡ 1
+        → SaysInvalid (N.held files.old) words.entry (O.held output.old) (O.held output.new) }
 
     // What stopped it is told, and is as it is told.
-    ensures stopped { 2 ≤ result → EndsNet (N.held files.old) words.entry result (O.held output.old) (O.held output.new)
-        (O.failures output.old) (O.failures output.new) (F.failures faults.old) (F.held faults.old) (F.failures faults.new) (F.held faults.new) }
+    ensures stopped { 2 ≤ result → EndsNet (N.held files.old) words.entry result (O.held output.old)
+        (O.held output.new) (O.failures output.old) (O.failures output.new) (F.failures faults.old)
+        (F.held faults.old) (F.failures faults.new) (F.held faults.new) }
 
     // Nothing is written for input that is refused, and of the true text at most a first part where memory or a device is
     // wanting; a write that failed is always told.
     ensures kept { result ≡ REFUSED → O.held output.new ≡ O.held output.old }
-    ensures part { result ≡ OUT_OF_ORDER → ShowsPart (N.held files.old) words.entry (O.held output.old) (O.held output.new) }
+    ensures part { result ≡ OUT_OF_ORDER
+        → ShowsPart (N.held files.old) words.entry (O.held output.old) (O.held output.new) }
     ensures told { result ≢ OUT_OF_ORDER → O.failures output.new ≡ O.failures output.old }
 
     // A fault line goes with each fault, and with nothing else.
     ensures within { result ≤ 3 }
     ensures silent { result ≤ 1 → faults.new ≡ faults.old }
-    ensures fault { 2 ≤ result → TellsFault [] (F.failures faults.old) (F.held faults.old) (F.failures faults.new) (F.held faults.new) }
+    ensures fault { 2 ≤ result → TellsFault [] (F.failures faults.old) (F.held faults.old)
+        (F.failures faults.new) (F.held faults.new) }
 {
     match net(alloc, files, words, output) {
         Ok(true) => 0,

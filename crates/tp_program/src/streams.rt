@@ -64,8 +64,8 @@ fn writer_of<W: Write + Drop>(output: LineWriter<W>) -> Option<W>
 
 /// Tells that the output could not be handed on, if no other fault was told.
 fn tell_lost<F: Sink>(status: u8, faults: &mut F)
-    ensures told { status ≤ 1
-        → TellsFault [] (F.failures faults.old) (F.held faults.old) (F.failures faults.new) (F.held faults.new) }
+    ensures told { status ≤ 1 → TellsFault [] (F.failures faults.old) (F.held faults.old)
+        (F.failures faults.new) (F.held faults.new) }
     ensures same { 2 ≤ status → F.held faults.new ≡ F.held faults.old }
 {
     if status <= 1 {
@@ -80,7 +80,8 @@ fn hand_on<W: Write + Drop, F: Sink>(
     faults: &mut F,
 ) -> HandedOn<W>
     ensures { HandsOn W.contents status (line_writer_contents W.contents output)
-        (F.failures faults.old) (F.held faults.old) (F.failures faults.new) (F.held faults.new) result.status result.output }
+        (F.failures faults.old) (F.held faults.old) (F.failures faults.new)
+        (F.held faults.new) result.status result.output }
 {
     match writer_of(output) {
         Some(output) => HandedOn {
@@ -123,7 +124,9 @@ fn run_counted<
     requires f { faults.blank.name ≡ F.name }
     requires f_parts { faults.blank.parts ≡ F.parts }
     requires f_some { 0 < faults.blank.parts }
-    ensures { Ends (map string_bytes words.now) (N.held files.old) (R.remaining input.stream) (line_writer_contents W.contents output.stream) (V.contents faults.stream) W.contents result.status result.output (V.contents result.faults) }
+    ensures { Ends (map string_bytes words.now) (N.held files.old) (R.remaining input.stream)
+        (line_writer_contents W.contents output.stream) (V.contents faults.stream) W.contents
+        result.status result.output (V.contents result.faults) }
 {
     let input = FromRead::<R, I>::new(input.stream, input.blank);
     let mut output = Outlet::<LineWriter<W>, O>::new(output.stream, output.blank);
@@ -140,7 +143,8 @@ fn run_counted<
 /// Tells that there is no memory for the buffer of the output. Answers the exit status.
 fn refuse_memory<F: Sink>(faults: &mut F) -> u8
     ensures status { result ≡ OUT_OF_ORDER }
-    ensures fault { TellsFault [] (F.failures faults.old) (F.held faults.old) (F.failures faults.new) (F.held faults.new) }
+    ensures fault { TellsFault [] (F.failures faults.old) (F.held faults.old)
+        (F.failures faults.new) (F.held faults.new) }
 {
     complain(faults, FaultLine::out_of_order("script", "3 memory"))
 }
@@ -175,7 +179,9 @@ pub fn run_streams<N: Files, R: Read + Drop, W: Write + Drop, V: Write + Drop>(
     output: W,
     faults: V,
 ) -> Ended<W, V>
-    ensures { Ends (map string_bytes words.now) (N.held files.old) (R.remaining input) (W.contents output) (V.contents faults) W.contents result.status result.output (V.contents result.faults) }
+    ensures { Ends (map string_bytes words.now) (N.held files.old) (R.remaining input)
+        (W.contents output) (V.contents faults) W.contents result.status result.output
+        (V.contents result.faults) }
 {
     let input = Counted::new(input);
     let faults = Counted::new(faults);
@@ -203,7 +209,8 @@ fn refuse_counted<F: Ledger, V: Write + Drop>(why: CallFault, faults: Counted<V>
     requires f_parts { faults.blank.parts ≡ F.parts }
     requires f_some { 0 < faults.blank.parts }
     ensures status { result.status ≡ call_status why }
-    ensures told { AppendsPart (V.contents faults.stream) (V.contents result.faults) (call_text why) }
+    ensures told { AppendsPart (V.contents faults.stream) (V.contents result.faults)
+        (call_text why) }
 {
     let mut faults = Outlet::<V, F>::new(faults.stream, faults.blank);
     let status = refuse_call(why, &mut faults);

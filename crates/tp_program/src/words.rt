@@ -29,8 +29,10 @@ pub fn run_words<N: Files, I: Source + Drop, O: Sink, F: Sink>(
     output: &mut O,
     faults: &mut F,
 ) -> u8
-    ensures done { result ≡ 0 → DoesWhatIsAsked (map string_bytes words.now) (N.held files.old) (I.left input) (O.held output.old) (O.held output.new) }
-    ensures no { result ≡ 1 → AnswersNo (map string_bytes words.now) (N.held files.old) (I.left input) (O.held output.old) (O.held output.new) }
+    ensures done { result ≡ 0 → DoesWhatIsAsked (map string_bytes words.now) (N.held files.old)
+        (I.left input) (O.held output.old) (O.held output.new) }
+    ensures no { result ≡ 1 → AnswersNo (map string_bytes words.now) (N.held files.old)
+        (I.left input) (O.held output.old) (O.held output.new) }
 
     // Of a network of bounds alone all is answered, or where the status tells otherwise a first part.
     ensures all { AsksFor (map string_bytes words.now) Request.Bare → result ≡ 0
@@ -39,28 +41,34 @@ pub fn run_words<N: Files, I: Source + Drop, O: Sink, F: Sink>(
         → AnswersPart (I.left input) (O.held output.old) (O.held output.new) }
 
     // Such a network is refused only where it has no head, or too many bytes come in.
-    ensures refused { AsksFor (map string_bytes words.now) Request.Bare → result ≡ REFUSED → IsRefused (I.left input) }
+    ensures refused { AsksFor (map string_bytes words.now) Request.Bare → result ≡ REFUSED
+        → IsRefused (I.left input) }
     ensures bare { AsksFor (map string_bytes words.now) Request.Bare → result ≢ 0
-        → EndsBare (I.left input) result (O.held output.old) (O.held output.new) (O.failures output.old) (O.failures output.new)
-        (F.failures faults.old) (F.held faults.old) (F.failures faults.new) (F.held faults.new) }
+        → EndsBare (I.left input) result (O.held output.old) (O.held output.new)
+        (O.failures output.old) (O.failures output.new) (F.failures faults.old) (F.held faults.old)
+        (F.failures faults.new) (F.held faults.new) }
 
     // What stopped the call is told, and is as it is told.
-    ensures stopped { 2 ≤ result → EndsCall (map string_bytes words.now) (N.held files.old) (I.left input) result
+    ensures stopped { 2 ≤ result
+        → EndsCall (map string_bytes words.now) (N.held files.old) (I.left input) result
         (O.held output.old) (O.held output.new) (O.failures output.old) (O.failures output.new)
         (F.failures faults.old) (F.held faults.old) (F.failures faults.new) (F.held faults.new) }
 
     // Where memory or a device is wanting, a first part of what is asked for is written, or nothing.
-    ensures broken { result ≡ OUT_OF_ORDER → DoesPart (map string_bytes words.now) (N.held files.old) (I.left input) (O.held output.old) (O.held output.new) }
+    ensures broken { result ≡ OUT_OF_ORDER → DoesPart (map string_bytes words.now)
+        (N.held files.old) (I.left input) (O.held output.old) (O.held output.new) }
 
     // Where no answers to commands are asked for, nothing is written for what is refused.
-    ensures kept { AsksForNoCommands (map string_bytes words.now) → result ≡ REFUSED → O.held output.new ≡ O.held output.old }
+    ensures kept { AsksForNoCommands (map string_bytes words.now) → result ≡ REFUSED
+        → O.held output.new ≡ O.held output.old }
 
     // A write that failed is always told. A fault line goes with each fault, and with nothing else; behind it stands only what
     // `clap` says of words that are refused.
     ensures told { result ≢ OUT_OF_ORDER → O.failures output.new ≡ O.failures output.old }
     ensures within { result ≤ 3 }
     ensures silent { result ≤ 1 → faults.new ≡ faults.old }
-    ensures fault { 2 ≤ result → TellsRefusal result (F.failures faults.old) (F.held faults.old) (F.failures faults.new) (F.held faults.new) }
+    ensures fault { 2 ≤ result → TellsRefusal result (F.failures faults.old) (F.held faults.old)
+        (F.failures faults.new) (F.held faults.new) }
 {
     match read_words(alloc, words) {
         Ok(Request::Bare) => run_bare(alloc, input, output, faults),
@@ -83,7 +91,8 @@ fn show<O: Sink, F: Sink>(text: &str, output: &mut O, faults: &mut F) -> u8
     ensures stopped { result ≢ 0 → StopsHelp text.now result (O.held output.old) (O.held output.new)
         (F.failures faults.old) (F.held faults.old) (F.failures faults.new) (F.held faults.new) }
     ensures silent { result ≡ 0 → faults.new ≡ faults.old }
-    ensures fault { result ≢ 0 → TellsFault [] (F.failures faults.old) (F.held faults.old) (F.failures faults.new) (F.held faults.new) }
+    ensures fault { result ≢ 0 → TellsFault [] (F.failures faults.old) (F.held faults.old)
+        (F.failures faults.new) (F.held faults.new) }
 {
     match push_all(output, text.as_bytes()) {
         Ok(()) => 0,
@@ -96,7 +105,8 @@ fn refuse_words<F: Sink>(text: Option<String>, faults: &mut F) -> u8
     ensures status { result ≡ REFUSED }
     ensures refused { (held : Option (List ℕ)) → (n : ℕ) → RefusesWords result held held n n
         (F.failures faults.old) (F.held faults.old) (F.failures faults.new) (F.held faults.new) }
-    ensures fault { TellsRefusal result (F.failures faults.old) (F.held faults.old) (F.failures faults.new) (F.held faults.new) }
+    ensures fault { TellsRefusal result (F.failures faults.old) (F.held faults.old)
+        (F.failures faults.new) (F.held faults.new) }
 {
     let line = FaultLine::refused("arguments", "1 words");
     match text {

@@ -10,7 +10,9 @@ use Rattle.tp_repair.specs.Work.{IsReady}
 
 -- the point is an event below upto that is not fixed, and the moment its floor
 abbrev pub AsksUpto : ℕ → List (Option ℕ) → List ℕ → ℕ → ℕ → ℕ → Type 0
-AsksUpto upto fixed lags now x m = (e : ℕ) × (x ≡ suc e) × (e < upto) × (slice_index_or fixed e None ≡ None) × (m ≡ floor_at now lags e)
+AsksUpto upto fixed lags now x m =
+    (e : ℕ) × (x ≡ suc e) × (e < upto) × (slice_index_or fixed e None ≡ None)
+    × (m ≡ floor_at now lags e)
 
 abbrev pub AsksFloor : List (Option ℕ) → List ℕ → ℕ → ℕ → ℕ → Type 0
 AsksFloor fixed lags now x m = AsksUpto (length fixed) fixed lags now x m
@@ -19,15 +21,18 @@ AsksFloor fixed lags now x m = AsksUpto (length fixed) fixed lags now x m
 pub record AreOffered (asks : ℕ → ℕ → Type 0) (low : List ℕ) (w : Work) : Type 0 where
   pub ready : IsReady (length low) w
   pub enough : (x m : ℕ) → asks x m → m ≤ slice_index low x + slice_index w.amounts.items x
-  pub some : (x : ℕ) → 0 < slice_index w.amounts.items x → asks x (slice_index low x + slice_index w.amounts.items x)
+  pub some : (x : ℕ) → 0 < slice_index w.amounts.items x
+      → asks x (slice_index low x + slice_index w.amounts.items x)
 
 -- moments that are greater by these amounts meet the arcs and what is asked, and are at most those of each solution that
 -- does
-pub record IsRaisedTo (arcs : List Arc) (asks : ℕ → ℕ → Type 0) (low amounts : List ℕ) : Type 0 where
+pub record IsRaisedTo (arcs : List Arc) (asks : ℕ → ℕ → Type 0)
+    (low amounts : List ℕ) : Type 0 where
   pub len : length amounts ≡ length low
   pub meets : All (MeetsArc (λ x. pos (slice_index low x + slice_index amounts x))) arcs
   pub enough : (x m : ℕ) → asks x m → m ≤ slice_index low x + slice_index amounts x
-  pub least : (t : ℕ → ℤ) → IsSolution arcs t → ((x m : ℕ) → asks x m → pos m ≤ℤ t x) → (x : ℕ) → x < length low → pos (slice_index low x + slice_index amounts x) ≤ℤ t x
+  pub least : (t : ℕ → ℤ) → IsSolution arcs t → ((x m : ℕ) → asks x m → pos m ≤ℤ t x) → (x : ℕ)
+      → x < length low → pos (slice_index low x + slice_index amounts x) ≤ℤ t x
 
 -- a floor is an arc from its event to the origin
 abbrev pub IsFromEvent : Edge → Arc → Type 0

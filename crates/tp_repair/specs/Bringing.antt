@@ -24,26 +24,31 @@ use Rattle.std.specs.Prelude.{slice_index}
 
 -- one more edge stands in each list in which an arc does
 abbrev pub IsMore : Arc → Store → Store → Type 0
-IsMore arc old new = (d : Direction) (y : ℕ) → length (keys_of d new y) ≡ length (keys_of d old y) + one_at (near d arc) y
+IsMore arc old new =
+    (d : Direction) (y : ℕ)
+    → length (keys_of d new y) ≡ length (keys_of d old y) + one_at (near d arc) y
 
 -- a bound and a key stand under an identifier
-pub record IsRecorded (id : ℕ) (bound : Bound) (key : ℕ) (bounds bounds' : BTreeMap ℕ Bound) (keys keys' : BTreeMap ℕ ℕ) : Type 0 where
+pub record IsRecorded (id : ℕ) (bound : Bound) (key : ℕ) (bounds bounds' : BTreeMap ℕ Bound)
+    (keys keys' : BTreeMap ℕ ℕ) : Type 0 where
   pub holds : held bounds'.entries ≡ insert (held bounds.entries) id bound
   pub len : length bounds'.entries ≡ length bounds.entries + 1
-  pub finds : (q : ℕ) → get nat_cmp keys' q ≡ cond (is_at (nat_cmp id) q) (Some key) (get nat_cmp keys q)
+  pub finds : (q : ℕ)
+      → get nat_cmp keys' q ≡ cond (is_at (nat_cmp id) q) (Some key) (get nat_cmp keys q)
 
 -- the least moments are greater, and the greatest less, by what was worked out
 pub record AreMovedBy (g g' : Engine) : Type 0 where
   pub up :
       (x : ℕ) → x < length g.low.items
       → slice_index g'.low.items x ≡ slice_index g.low.items x + slice_index g'.up.amounts.items x
-  pub down :
-      (x : ℕ) → x < length g.low.items
-      → slice_index g'.high.items x + slice_index g'.down.amounts.items x ≡ slice_index g.high.items x
+  pub down : (x : ℕ) → x < length g.low.items → slice_index g'.high.items x
+      + slice_index g'.down.amounts.items x ≡ slice_index g.high.items x
 
 -- nothing has changed
-pub record IsUnbrought (g g' : Engine) (bounds bounds' : BTreeMap ℕ Bound) (keys keys' : BTreeMap ℕ ℕ) : Type 0 where
-  pub wired : (edges : ℕ) → IsWired (length g.low.items) edges g → IsWired (length g.low.items) edges g'
+pub record IsUnbrought (g g' : Engine) (bounds bounds' : BTreeMap ℕ Bound)
+    (keys keys' : BTreeMap ℕ ℕ) : Type 0 where
+  pub wired : (edges : ℕ) → IsWired (length g.low.items) edges g
+      → IsWired (length g.low.items) edges g'
   pub edges : AreSame g.store.nodes.slots g'.store.nodes.slots
   pub degrees : SameDegrees g.store g'.store
   pub low : g'.low.items ≡ g.low.items
@@ -52,19 +57,23 @@ pub record IsUnbrought (g g' : Engine) (bounds bounds' : BTreeMap ℕ Bound) (ke
   pub finds : (q : ℕ) → get nat_cmp keys' q ≡ get nat_cmp keys q
 
 -- the bound is there, with the moments that it leaves
-pub record IsBroughtIn (id : BoundId) (bound : Bound) (g g' : Engine) (bounds bounds' : BTreeMap ℕ Bound) (keys keys' : BTreeMap ℕ ℕ) : Type 0 where
+pub record IsBroughtIn (id : BoundId) (bound : Bound) (g g' : Engine)
+    (bounds bounds' : BTreeMap ℕ Bound) (keys keys' : BTreeMap ℕ ℕ) : Type 0 where
   pub key : ℕ
-  pub wired : (edges : ℕ) → IsWired (length g.low.items) edges g → edges + 1 < 2 ^ 61 → IsWired (length g.low.items) (edges + 1) g'
+  pub wired : (edges : ℕ) → IsWired (length g.low.items) edges g → edges + 1 < 2 ^ 61
+      → IsWired (length g.low.items) (edges + 1) g'
   pub entered : IsEntered (Own id) (arc_of bound) key g.store.nodes.slots g'.store.nodes.slots
   pub recorded : IsRecorded id.0 bound key bounds bounds' keys keys'
   pub more : IsMore (arc_of bound) g.store g'.store
   pub exact : AreExact (arcs_of g'.store.nodes.slots) g'.low.items g'.high.items
   pub moves : AreMovedBy g g'
 
-abbrev pub IsBrought : BoundId → Bound → Engine → Engine → BTreeMap ℕ Bound → BTreeMap ℕ Bound → BTreeMap ℕ ℕ → BTreeMap ℕ ℕ → Option (Vec ℕ Global) → Type 0
-IsBrought id bound g g' bounds bounds' keys keys' None = IsBroughtIn id bound g g' bounds bounds' keys keys'
+abbrev pub IsBrought : BoundId → Bound → Engine → Engine → BTreeMap ℕ Bound → BTreeMap ℕ Bound
+    → BTreeMap ℕ ℕ → BTreeMap ℕ ℕ → Option (Vec ℕ Global) → Type 0
+IsBrought id bound g g' bounds bounds' keys keys' None =
+    IsBroughtIn id bound g g' bounds bounds' keys keys'
 IsBrought id bound g g' bounds bounds' keys keys' (Some path) =
-    IsUnbrought g g' bounds bounds' keys keys'
-    × (g'.store ≡ g.store)
-    × CycleBeginsWith (arcs_of g.store.nodes.slots ++ arc_of bound ∷ []) (length (arcs_of g.store.nodes.slots)) (length (arcs_of g.store.nodes.slots) ∷ path.items)
+    IsUnbrought g g' bounds bounds' keys keys' × (g'.store ≡ g.store)
+    × CycleBeginsWith (arcs_of g.store.nodes.slots ++ arc_of bound ∷ [])
+    (length (arcs_of g.store.nodes.slots)) (length (arcs_of g.store.nodes.slots) ∷ path.items)
     × AreThere g.store.nodes.slots (Some path)

@@ -37,17 +37,21 @@ pub record IsWired (points edges : ℕ) (g : Engine) : Type 0 where
 
 -- under each key there is an edge of the name and the arc that it had, or none as before
 pub record AreSame (old new : List (Option Node)) : Type 0 where
-  pub forth : (k : ℕ) (n : Node) → slice_index_or old k None ≡ Some n → (m : Node) × (slice_index_or new k None ≡ Some m) × (m.name ≡ n.name) × (m.arc ≡ n.arc)
-  pub back : (k : ℕ) (m : Node) → slice_index_or new k None ≡ Some m → (n : Node) × (slice_index_or old k None ≡ Some n) × (m.name ≡ n.name) × (m.arc ≡ n.arc)
+  pub forth : (k : ℕ) (n : Node) → slice_index_or old k None ≡ Some n → (m : Node)
+      × (slice_index_or new k None ≡ Some m) × (m.name ≡ n.name) × (m.arc ≡ n.arc)
+  pub back : (k : ℕ) (m : Node) → slice_index_or new k None ≡ Some m → (n : Node)
+      × (slice_index_or old k None ≡ Some n) × (m.name ≡ n.name) × (m.arc ≡ n.arc)
 
 -- an edge came under a key that was free, and the others stay
-pub record IsEntered (name : Edge) (arc : Arc) (key : ℕ) (old new : List (Option Node)) : Type 0 where
+pub record IsEntered (name : Edge) (arc : Arc) (key : ℕ)
+    (old new : List (Option Node)) : Type 0 where
   pub free : slice_index_or old key None ≡ None
   pub node : IsNode name arc (slice_index_or new key None)
   pub others : (k : ℕ) → k ≢ key → slice_index_or new k None ≡ slice_index_or old k None
 
 -- what holds of a network that is repaired
-pub record IsRepaired (s : Situation) (count : ℕ) (keys : BTreeMap ℕ ℕ) (floors ends : List ℕ) (g : Engine) : Type 0 where
+pub record IsRepaired (s : Situation) (count : ℕ) (keys : BTreeMap ℕ ℕ) (floors ends : List ℕ)
+    (g : Engine) : Type 0 where
   pub fit : IsFit s
   pub nodes : AreNodes s keys floors ends g.store.nodes.slots
   pub exact : AreExact (arcs_of g.store.nodes.slots) g.low.items g.high.items
@@ -60,7 +64,8 @@ pub record IsRepaired (s : Situation) (count : ℕ) (keys : BTreeMap ℕ ℕ) (f
 
 -- the edges, the moments and the lists are as before
 pub record IsUntouched (g g' : Engine) : Type 0 where
-  pub wired : (edges : ℕ) → IsWired (length g.low.items) edges g → IsWired (length g.low.items) edges g'
+  pub wired : (edges : ℕ) → IsWired (length g.low.items) edges g
+      → IsWired (length g.low.items) edges g'
   pub edges : AreSame g.store.nodes.slots g'.store.nodes.slots
   pub degrees : SameDegrees g.store g'.store
   pub low : g'.low.items ≡ g.low.items
@@ -68,19 +73,23 @@ pub record IsUntouched (g g' : Engine) : Type 0 where
 
 -- each edge came to be what it is to be
 pub record AreMapped (f : Node → Node) (old new : List (Option Node)) : Type 0 where
-  pub forth : (k : ℕ) (n : Node) → slice_index_or old k None ≡ Some n → (m : Node) × (slice_index_or new k None ≡ Some m) × (m.name ≡ (f n).name) × (m.arc ≡ (f n).arc)
-  pub back : (k : ℕ) (m : Node) → slice_index_or new k None ≡ Some m → (n : Node) × (slice_index_or old k None ≡ Some n) × (m.name ≡ (f n).name) × (m.arc ≡ (f n).arc)
+  pub forth : (k : ℕ) (n : Node) → slice_index_or old k None ≡ Some n → (m : Node)
+      × (slice_index_or new k None ≡ Some m) × (m.name ≡ (f n).name) × (m.arc ≡ (f n).arc)
+  pub back : (k : ℕ) (m : Node) → slice_index_or new k None ≡ Some m → (n : Node)
+      × (slice_index_or old k None ≡ Some n) × (m.name ≡ (f n).name) × (m.arc ≡ (f n).arc)
 
 -- the edges changed in this way, with the moments that they leave
 pub record IsChanged (f : Node → Node) (g g' : Engine) : Type 0 where
-  pub wired : (edges : ℕ) → IsWired (length g.low.items) edges g → IsWired (length g.low.items) edges g'
+  pub wired : (edges : ℕ) → IsWired (length g.low.items) edges g
+      → IsWired (length g.low.items) edges g'
   pub edges : AreMapped f g.store.nodes.slots g'.store.nodes.slots
   pub degrees : SameDegrees g.store g'.store
   pub exact : AreExact (arcs_of g'.store.nodes.slots) g'.low.items g'.high.items
 
 -- the edge under a key is gone
 pub record IsLeft (key : ℕ) (g g' : Engine) : Type 0 where
-  pub wired : (edges : ℕ) → IsWired (length g.low.items) (edges + 1) g → IsWired (length g.low.items) edges g'
+  pub wired : (edges : ℕ) → IsWired (length g.low.items) (edges + 1) g
+      → IsWired (length g.low.items) edges g'
   pub gone : slice_index_or g'.store.nodes.slots key None ≡ None
   pub keeps : KeepsOthers key g.store.nodes.slots g'.store.nodes.slots
   pub fewer :

@@ -8,14 +8,26 @@ use Rattle.tp_repair.specs.declared.store.Node.{Node}
 
 -- an edge when now is raised: that of a floor moves along
 abbrev pub raised_node : ℕ → List ℕ → Node → Node
-raised_node now lags n = record { name = n.name; arc = raised_by now lags n.name n.arc; place_in = n.place_in; place_out = n.place_out }
+raised_node now lags n =
+    record {
+      name = n.name;
+      arc = raised_by now lags n.name n.arc;
+      place_in = n.place_in;
+      place_out = n.place_out;
+    }
 
 abbrev pub raised_slots : ℕ → List ℕ → List (Option Node) → List (Option Node)
 raised_slots now lags slots = map (option_map (raised_node now lags)) slots
 
 -- an edge when an event is fixed: its floor and its end give way to its moment
 abbrev pub past_node : ℕ → ℕ → Node → Node
-past_node e moment n = record { name = past_name e n.name; arc = past_arc e moment n.name n.arc; place_in = n.place_in; place_out = n.place_out }
+past_node e moment n =
+    record {
+      name = past_name e n.name;
+      arc = past_arc e moment n.name n.arc;
+      place_in = n.place_in;
+      place_out = n.place_out;
+    }
 
 abbrev pub past_slots : ℕ → ℕ → List (Option Node) → List (Option Node)
 past_slots e moment slots = map (option_map (past_node e moment)) slots
@@ -30,5 +42,6 @@ IsOpenFloor floors fixed (Own id) k = Unit {0}
 IsOpenFloor floors fixed New k = Unit {0}
 IsOpenFloor floors fixed (PastHigh e) k = Unit {0}
 IsOpenFloor floors fixed (PastLow e) k = Unit {0}
-IsOpenFloor floors fixed (Now e) k = (e < length fixed) × (slice_index_or fixed e None ≡ None) × (slice_index floors e ≡ k)
+IsOpenFloor floors fixed (Now e) k =
+    (e < length fixed) × (slice_index_or fixed e None ≡ None) × (slice_index floors e ≡ k)
 IsOpenFloor floors fixed (End e) k = Unit {0}

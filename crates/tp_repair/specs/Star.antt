@@ -29,9 +29,12 @@ pub record IsStar (horizon points upto : ℕ) (floors ends : List ℕ) (store : 
   pub halves_out : AreHalves Down store.nodes.slots store.out.items
   pub floors_len : length floors ≡ upto
   pub ends_len : length ends ≡ upto
-  pub exist : (k : ℕ) (n : Node) → slice_index_or store.nodes.slots k None ≡ Some n → (j : ℕ) × (j < upto) × (IsFloor floors j k n ⊎ IsEnd horizon ends j k n)
-  pub floor : (j : ℕ) → j < upto → (n : Node) × (slice_index_or store.nodes.slots (slice_index floors j) None ≡ Some n) × (n.name ≡ Now j)
-  pub end : (j : ℕ) → j < upto → (n : Node) × (slice_index_or store.nodes.slots (slice_index ends j) None ≡ Some n) × (n.name ≡ End j)
+  pub exist : (k : ℕ) (n : Node) → slice_index_or store.nodes.slots k None ≡ Some n → (j : ℕ)
+      × (j < upto) × (IsFloor floors j k n ⊎ IsEnd horizon ends j k n)
+  pub floor : (j : ℕ) → j < upto → (n : Node)
+      × (slice_index_or store.nodes.slots (slice_index floors j) None ≡ Some n) × (n.name ≡ Now j)
+  pub end : (j : ℕ) → j < upto → (n : Node)
+      × (slice_index_or store.nodes.slots (slice_index ends j) None ≡ Some n) × (n.name ≡ End j)
   pub many : (d : Direction) → sum_to (λ y. length (keys_of d store y)) points ≡ 2 * upto
   pub one : (d : Direction) (j : ℕ) → j < upto → length (keys_of d store (suc j)) ≡ 1
   pub none : (d : Direction) (j : ℕ) → upto ≤ j → length (keys_of d store (suc j)) ≡ 0

@@ -13,11 +13,21 @@ pub record Told : Type 0 where
   pub looks : ℕ
 
 abbrev pub coded_told : Coded Told
-coded_told = code_by (Situation × ℕ) (coded× coded_situation coded_ℕ) (λ t. (t.situation, t.looks)) (λ p. record { situation = p.0; looks = p.1 }) (λ _. refl)
+coded_told =
+    code_by (Situation × ℕ) (coded× coded_situation coded_ℕ) (λ t. (t.situation, t.looks)) (λ p.
+    record { situation = p.0; looks = p.1 }) (λ _. refl)
 
 -- the situation that the fields give
 abbrev pub settled : ℕ → ℕ → List (ℕ × Bound) → List (Option ℕ) → List ℕ → Situation
-settled horizon clock bounds fixed lags = record { horizon = horizon; clock = clock; bounds = held bounds; fixed = fixed; lags = lags; proposed = None }
+settled horizon clock bounds fixed lags =
+    record {
+      horizon = horizon;
+      clock = clock;
+      bounds = held bounds;
+      fixed = fixed;
+      lags = lags;
+      proposed = None;
+    }
 
 -- how many edges a situation has: its bounds, and two of each event with the origin
 abbrev pub edge_count : Situation → ℕ

@@ -77,13 +77,17 @@ fn enter(
     ensures points { SamePoints store.old store.new }
     ensures halves_in { AreHalves Up store.new.nodes.slots store.new.into.items }
     ensures halves_out { AreHalves Down store.new.nodes.slots store.new.out.items }
-    ensures ok { OnOk result ((key : ℕ) × IsEntered (Own id) (arc_of bound) key store.old.nodes.slots store.new.nodes.slots × IsRecorded id.0 bound key bounds.old bounds.new keys.old keys.new) }
+    ensures ok { OnOk result ((key : ℕ)
+        × IsEntered (Own id) (arc_of bound) key store.old.nodes.slots store.new.nodes.slots
+        × IsRecorded id.0 bound key bounds.old bounds.new keys.old keys.new) }
     ensures degrees { OnOk result (IsMore (arc_of bound) store.old store.new) }
     ensures err { OnErr result (bounds.new.entries ≡ bounds.old.entries) }
     ensures err_keys { OnErr result ((q : ℕ) → get nat_cmp keys.new q ≡ get nat_cmp keys.old q) }
     ensures err_edges { OnErr result (AreSame store.old.nodes.slots store.new.nodes.slots) }
-    ensures err_up { OnErr result ((y : ℕ) → length (keys_of Up store.new y) ≡ length (keys_of Up store.old y)) }
-    ensures err_down { OnErr result ((y : ℕ) → length (keys_of Down store.new y) ≡ length (keys_of Down store.old y)) }
+    ensures err_up { OnErr result ((y : ℕ)
+        → length (keys_of Up store.new y) ≡ length (keys_of Up store.old y)) }
+    ensures err_down { OnErr result ((y : ℕ)
+        → length (keys_of Down store.new y) ≡ length (keys_of Down store.old y)) }
 {
     let key = insert(store, Edge::Own(id), arc(&bound))?;
     if let Err(error) = record(bounds, keys, id, bound, key) {
@@ -104,21 +108,28 @@ pub fn bring(
     id: BoundId,
     bound: Bound,
 ) -> Result<Option<Vec<usize>>, AllocError>
-    requires wired { (edges : ℕ) × IsWired (length engine.old.low.items) edges engine.old × (edges < 2 ^ 60) }
-    requires exact { AreExact (arcs_of engine.old.store.nodes.slots) engine.old.low.items engine.old.high.items }
+    requires wired { (edges : ℕ) × IsWired (length engine.old.low.items) edges engine.old
+        × (edges < 2 ^ 60) }
+    requires exact { AreExact
+        (arcs_of engine.old.store.nodes.slots) engine.old.low.items engine.old.high.items }
     requires small_low { All IsSmall engine.old.low.items }
     requires small_high { All IsSmall engine.old.high.items }
     requires weights { All (λ e. IsSmallWeight e.weight) (arcs_of engine.old.store.nodes.slots) }
-    requires among { All (JoinsPoints (length engine.old.low.items)) (arcs_of engine.old.store.nodes.slots) }
+    requires among { All (JoinsPoints (length engine.old.low.items))
+        (arcs_of engine.old.store.nodes.slots) }
     requires weight { IsSmallWeight bound.w }
     requires new_among { JoinsPoints (length engine.old.low.items) (arc_of bound) }
     requires looks { engine.old.looks ≡ 0 }
     requires bound { get nat_cmp bounds.old id.0 ≡ None }
     requires key { get nat_cmp keys.old id.0 ≡ None }
-    ensures ok { IfOk result (λ r. IsBrought id bound engine.old engine.new bounds.old bounds.new keys.old keys.new r) }
-    ensures err { OnErr result (IsUnbrought engine.old engine.new bounds.old bounds.new keys.old keys.new) }
-    ensures counted { IfOk result (λ r. AreCounted engine.old.store (length engine.old.low.items) engine.new.up.amounts.items engine.new.down.amounts.items 0 engine.new.looks r) }
-    ensures looks { (edges : ℕ) → IsWired (length engine.old.low.items) edges engine.old → engine.new.looks ≤ 2 * (edges + 1) }
+    ensures ok { IfOk result (λ r.
+        IsBrought id bound engine.old engine.new bounds.old bounds.new keys.old keys.new r) }
+    ensures err { OnErr result
+        (IsUnbrought engine.old engine.new bounds.old bounds.new keys.old keys.new) }
+    ensures counted { IfOk result (λ r. AreCounted engine.old.store (length engine.old.low.items)
+        engine.new.up.amounts.items engine.new.down.amounts.items 0 engine.new.looks r) }
+    ensures looks { (edges : ℕ) → IsWired (length engine.old.low.items) edges engine.old
+        → engine.new.looks ≤ 2 * (edges + 1) }
 {
     let new = arc(&bound);
     if let Some(path) = tighten(
@@ -146,15 +157,18 @@ pub fn refute(
     first: Edge,
     new: Arc,
 ) -> Result<Reason, AllocError>
-    requires wired { (edges : ℕ) × IsWired (length engine.old.low.items) edges engine.old × (edges < 2 ^ 60) }
+    requires wired { (edges : ℕ) × IsWired (length engine.old.low.items) edges engine.old
+        × (edges < 2 ^ 60) }
     requires holds { HoldsLeast (arcs_of engine.old.store.nodes.slots) engine.old.low.items }
     requires weight { IsSmallWeight new.weight }
     requires among { JoinsPoints (length engine.old.low.items) new }
     requires none { HasNoSolution (arcs_of engine.old.store.nodes.slots ++ new ∷ []) }
     requires looks { engine.old.looks ≡ 0 }
-    ensures reason { IfOk result (λ r. NamesCycle (names_of engine.old.store.nodes.slots) (kept_arcs engine.old.store.nodes.slots) first new r.edges.items) }
+    ensures reason { IfOk result (λ r. NamesCycle (names_of engine.old.store.nodes.slots)
+        (kept_arcs engine.old.store.nodes.slots) first new r.edges.items) }
     ensures still { IsUntouched engine.old engine.new }
-    ensures looks { (edges : ℕ) → IsWired (length engine.old.low.items) edges engine.old → engine.new.looks ≤ edges + 1 }
+    ensures looks { (edges : ℕ) → IsWired (length engine.old.low.items) edges engine.old
+        → engine.new.looks ≤ edges + 1 }
 {
     match rise(
         alloc,

@@ -43,7 +43,8 @@ fn offered(
     requires met { MeetsArc (moment moments.now) (arc_along direction point half.now) }
     requires marks { length marks.now ≡ length moments.now }
     requires looks { looks.old < 2 ^ 63 }
-    ensures free { slice_index marks.now half.now.far ≡ 0 → result ≡ amount - (link_of direction (λ x. slice_index moments.now x) (arc_along direction point half.now)).slack }
+    ensures free { slice_index marks.now half.now.far ≡ 0 → result ≡ amount - (link_of direction
+        (λ x. slice_index moments.now x) (arc_along direction point half.now)).slack }
     ensures marked { 0 < result → slice_index marks.now half.now.far ≡ 0 }
     ensures counted { looks.new ≡ looks.old + 1 }
 {
@@ -71,7 +72,8 @@ fn best_of(
     requires looks { length list.now < 2 ^ 63 }
     requires point { point < length moments.now }
     requires marks { length marks.now ≡ length moments.now }
-    ensures best { IsBest direction (λ x. slice_index moments.now x) (λ x. slice_index marks.now x) amount point list.now result.0 }
+    ensures best { IsBest direction (λ x. slice_index moments.now x) (λ x.
+        slice_index marks.now x) amount point list.now result.0 }
     ensures looks { result.1 ≡ length list.now }
 {
     let mut best = 0;
@@ -93,8 +95,10 @@ fn settle_point(work: &mut Work, points: usize, point: usize, amount: u64) -> Re
     requires open { slice_index work.old.ranks.items point ≡ 0 }
     ensures places { HasPlaces points work.new }
     ensures order { OnOk result (IsOrder work.new.ranks.items work.new.order.items) }
-    ensures amounts { OnOk result (work.new.amounts.items ≡ slice_set work.old.amounts.items point amount) }
-    ensures ranks { OnOk result (work.new.ranks.items ≡ slice_set work.old.ranks.items point (length work.old.order.items + 1)) }
+    ensures amounts { OnOk result (work.new.amounts.items
+        ≡ slice_set work.old.amounts.items point amount) }
+    ensures ranks { OnOk result (work.new.ranks.items
+        ≡ slice_set work.old.ranks.items point (length work.old.order.items + 1)) }
     ensures queue { OnOk result (work.new.queue ≡ work.old.queue) }
 {
     work.order.push(point)?;
@@ -106,12 +110,15 @@ fn settle_point(work: &mut Work, points: usize, point: usize, amount: u64) -> Re
 /// Lets a point that is marked wait with an amount.
 fn wait_point(work: &mut Work, points: usize, point: usize, amount: u64) -> Result<(), AllocError>
     requires places { HasPlaces points work.old }
-    requires queue { IsQueue points (λ x. slice_index work.old.amounts.items x) (λ x. slice_index work.old.ranks.items x) (heap_items work.old.queue) }
+    requires queue { IsQueue points (λ x. slice_index work.old.amounts.items x) (λ x.
+        slice_index work.old.ranks.items x) (heap_items work.old.queue) }
     requires point { point < points }
     requires nothing { slice_index work.old.amounts.items point ≡ 0 }
     ensures places { HasPlaces points work.new }
-    ensures queue { OnOk result (IsQueue points (λ x. slice_index work.new.amounts.items x) (λ x. slice_index work.new.ranks.items x) (heap_items work.new.queue)) }
-    ensures amounts { OnOk result (work.new.amounts.items ≡ slice_set work.old.amounts.items point amount) }
+    ensures queue { OnOk result (IsQueue points (λ x. slice_index work.new.amounts.items x) (λ x.
+        slice_index work.new.ranks.items x) (heap_items work.new.queue)) }
+    ensures amounts { OnOk result (work.new.amounts.items
+        ≡ slice_set work.old.amounts.items point amount) }
     ensures ranks { OnOk result (work.new.ranks.items ≡ work.old.ranks.items) }
     ensures order { OnOk result (work.new.order.items ≡ work.old.order.items) }
 {
@@ -132,16 +139,22 @@ fn begin_at(
     amount: u64,
 ) -> Result<u64, AllocError>
     requires small { All IsSmall moments.now }
-    requires arcs { All (λ e. JoinsPoints (length moments.now) e × IsSmallWeight e.weight × MeetsArc (moment moments.now) e) (arcs_of store.now.nodes.slots) }
+    requires arcs { All (λ e. JoinsPoints (length moments.now) e × IsSmallWeight e.weight
+        × MeetsArc (moment moments.now) e) (arcs_of store.now.nodes.slots) }
     requires lists { length (lists_of (turned direction) store.now) ≡ length moments.now }
-    requires halves { AreHalves (turned direction) store.now.nodes.slots (lists_of (turned direction) store.now) }
-    requires looks { sum_to (λ y. length (keys_of (turned direction) store.now y)) (length moments.now) < 2 ^ 63 }
+    requires halves { AreHalves (turned direction) store.now.nodes.slots
+        (lists_of (turned direction) store.now) }
+    requires looks { sum_to (λ y.
+        length (keys_of (turned direction) store.now y)) (length moments.now) < 2 ^ 63 }
     requires marks { length marks.now ≡ length moments.now }
     requires point { point < length moments.now }
-    requires beginning { IsBeginning (turned direction) store.now moments.now marks.now amount point work.old }
+    requires beginning { IsBeginning
+        (turned direction) store.now moments.now marks.now amount point work.old }
     ensures places { HasPlaces (length moments.now) work.new }
-    ensures beginning { OnOk result (IsBeginning (turned direction) store.now moments.now marks.now amount (point + 1) work.new) }
-    ensures looks { IfOk result (λ looks. looks ≤ length (keys_of (turned direction) store.now point)) }
+    ensures beginning { OnOk result (IsBeginning
+        (turned direction) store.now moments.now marks.now amount (point + 1) work.new) }
+    ensures looks { IfOk result (λ looks.
+        looks ≤ length (keys_of (turned direction) store.now point)) }
 {
     if marks[point] == 0 {
         settle_point(work, moments.len(), point, amount)?;
@@ -170,15 +183,20 @@ fn begin(
     amount: u64,
 ) -> Result<u64, AllocError>
     requires small { All IsSmall moments.now }
-    requires arcs { All (λ e. JoinsPoints (length moments.now) e × IsSmallWeight e.weight × MeetsArc (moment moments.now) e) (arcs_of store.now.nodes.slots) }
+    requires arcs { All (λ e. JoinsPoints (length moments.now) e × IsSmallWeight e.weight
+        × MeetsArc (moment moments.now) e) (arcs_of store.now.nodes.slots) }
     requires lists { length (lists_of (turned direction) store.now) ≡ length moments.now }
-    requires halves { AreHalves (turned direction) store.now.nodes.slots (lists_of (turned direction) store.now) }
-    requires looks { sum_to (λ y. length (keys_of (turned direction) store.now y)) (length moments.now) < 2 ^ 63 }
+    requires halves { AreHalves (turned direction) store.now.nodes.slots
+        (lists_of (turned direction) store.now) }
+    requires looks { sum_to (λ y.
+        length (keys_of (turned direction) store.now y)) (length moments.now) < 2 ^ 63 }
     requires marks { length marks.now ≡ length moments.now }
     requires clear { IsClear (length moments.now) work.old }
     ensures places { HasPlaces (length moments.now) work.new }
-    ensures beginning { OnOk result (IsBeginning (turned direction) store.now moments.now marks.now amount (length moments.now) work.new) }
-    ensures looks { IfOk result (λ looks. looks ≤ sum_to (λ y. length (keys_of (turned direction) store.now y)) (length moments.now)) }
+    ensures beginning { OnOk result (IsBeginning
+        (turned direction) store.now moments.now marks.now amount (length moments.now) work.new) }
+    ensures looks { IfOk result (λ looks. looks
+        ≤ sum_to (λ y. length (keys_of (turned direction) store.now y)) (length moments.now)) }
 {
     let mut looks = 0;
     for point in 0..moments.len() {
@@ -197,23 +215,31 @@ fn try_free(
     amount: u64,
 ) -> Result<u64, AllocError>
     requires small { All IsSmall moments.now }
-    requires arcs { All (λ e. JoinsPoints (length moments.now) e × IsSmallWeight e.weight × MeetsArc (moment moments.now) e) (arcs_of store.now.nodes.slots) }
+    requires arcs { All (λ e. JoinsPoints (length moments.now) e × IsSmallWeight e.weight
+        × MeetsArc (moment moments.now) e) (arcs_of store.now.nodes.slots) }
     requires lists_up { length (lists_of Up store.now) ≡ length moments.now }
     requires lists_down { length (lists_of Down store.now) ≡ length moments.now }
     requires halves_up { AreHalves Up store.now.nodes.slots (lists_of Up store.now) }
     requires halves_down { AreHalves Down store.now.nodes.slots (lists_of Down store.now) }
-    requires looks_up { sum_to (λ y. length (keys_of Up store.now y)) (length moments.now) < 2 ^ 62 }
-    requires looks_down { sum_to (λ y. length (keys_of Down store.now y)) (length moments.now) < 2 ^ 62 }
+    requires looks_up { sum_to (λ y. length (keys_of Up store.now y)) (length moments.now)
+        < 2 ^ 62 }
+    requires looks_down { sum_to (λ y. length (keys_of Down store.now y)) (length moments.now)
+        < 2 ^ 62 }
     requires marks { length marks.now ≡ length moments.now }
     requires origin { slice_index marks.now 0 ≡ 0 }
     requires some { 0 < length moments.now }
     requires positive { 0 < amount }
     requires clear { IsClear (length moments.now) work.old }
     ensures places { HasPlaces (length moments.now) work.new }
-    ensures freed { OnOk result (IsFreed direction (arcs_of store.now.nodes.slots) (length moments.now) (λ x. slice_index moments.now x) (λ x. slice_index marks.now x) amount (λ x. slice_index work.new.amounts.items x)) }
+    ensures freed { OnOk result (IsFreed direction (arcs_of store.now.nodes.slots)
+        (length moments.now) (λ x. slice_index moments.now x) (λ x.
+        slice_index marks.now x) amount (λ x. slice_index work.new.amounts.items x)) }
     ensures order { OnOk result (IsOrder work.new.ranks.items work.new.order.items) }
-    ensures ended { OnOk result ((x : ℕ) → slice_index work.new.ranks.items x ≡ 0 → slice_index work.new.amounts.items x ≡ 0) }
-    ensures looks { IfOk result (λ looks. looks ≤ sum_to (λ y. length (keys_of Up store.now y)) (length moments.now) + sum_to (λ y. length (keys_of Down store.now y)) (length moments.now)) }
+    ensures ended { OnOk result ((x : ℕ) → slice_index work.new.ranks.items x ≡ 0
+        → slice_index work.new.amounts.items x ≡ 0) }
+    ensures looks { IfOk result (λ looks.
+        looks ≤ sum_to (λ y. length (keys_of Up store.now y)) (length moments.now)
+        + sum_to (λ y. length (keys_of Down store.now y)) (length moments.now)) }
 {
     let begun = begin(store, moments, direction, marks, work, amount)?;
     let more = flow(store, moments, direction, work)?;
@@ -231,21 +257,28 @@ pub fn free(
     amount: u64,
 ) -> Result<u64, AllocError>
     requires small { All IsSmall moments.now }
-    requires arcs { All (λ e. JoinsPoints (length moments.now) e × IsSmallWeight e.weight × MeetsArc (moment moments.now) e) (arcs_of store.now.nodes.slots) }
+    requires arcs { All (λ e. JoinsPoints (length moments.now) e × IsSmallWeight e.weight
+        × MeetsArc (moment moments.now) e) (arcs_of store.now.nodes.slots) }
     requires lists_up { length (lists_of Up store.now) ≡ length moments.now }
     requires lists_down { length (lists_of Down store.now) ≡ length moments.now }
     requires halves_up { AreHalves Up store.now.nodes.slots (lists_of Up store.now) }
     requires halves_down { AreHalves Down store.now.nodes.slots (lists_of Down store.now) }
-    requires looks_up { sum_to (λ y. length (keys_of Up store.now y)) (length moments.now) < 2 ^ 62 }
-    requires looks_down { sum_to (λ y. length (keys_of Down store.now y)) (length moments.now) < 2 ^ 62 }
+    requires looks_up { sum_to (λ y. length (keys_of Up store.now y)) (length moments.now)
+        < 2 ^ 62 }
+    requires looks_down { sum_to (λ y. length (keys_of Down store.now y)) (length moments.now)
+        < 2 ^ 62 }
     requires marks { length marks.now ≡ length moments.now }
     requires origin { slice_index marks.now 0 ≡ 0 }
     requires some { 0 < length moments.now }
     requires positive { 0 < amount }
     requires idle { IsIdle (length moments.now) work.old }
     ensures idle { IsIdle (length moments.now) work.new }
-    ensures freed { OnOk result (IsFreed direction (arcs_of store.now.nodes.slots) (length moments.now) (λ x. slice_index moments.now x) (λ x. slice_index marks.now x) amount (λ x. slice_index work.new.amounts.items x)) }
-    ensures looks { IfOk result (λ looks. looks ≤ sum_to (λ y. length (keys_of Up store.now y)) (length moments.now) + sum_to (λ y. length (keys_of Down store.now y)) (length moments.now)) }
+    ensures freed { OnOk result (IsFreed direction (arcs_of store.now.nodes.slots)
+        (length moments.now) (λ x. slice_index moments.now x) (λ x.
+        slice_index marks.now x) amount (λ x. slice_index work.new.amounts.items x)) }
+    ensures looks { IfOk result (λ looks.
+        looks ≤ sum_to (λ y. length (keys_of Up store.now y)) (length moments.now)
+        + sum_to (λ y. length (keys_of Down store.now y)) (length moments.now)) }
 {
     let points = moments.len();
     clear(work, points);

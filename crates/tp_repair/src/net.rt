@@ -51,9 +51,14 @@ impl Model for RepairNet {
 
     ghost coded = { coded_told };
 
-    ghost view = { λ a. record { situation = settled a.horizon a.clock a.bounds.entries a.fixed.items a.lags.items; looks = a.engine.looks } };
+    ghost view = { λ a. record {
+      situation = settled a.horizon a.clock a.bounds.entries
+          a.fixed.items a.lags.items;
+      looks = a.engine.looks;
+    } };
 
-    ghost invariant = { λ a. IsRepaired (settled a.horizon a.clock a.bounds.entries a.fixed.items a.lags.items) (length a.bounds.entries) a.keys a.floors.items a.ends.items a.engine };
+    ghost invariant = { λ a. IsRepaired (settled a.horizon a.clock a.bounds.entries a.fixed.items
+        a.lags.items) (length a.bounds.entries) a.keys a.floors.items a.ends.items a.engine };
 }
 
 /// The greatest moments of the origin and of events that nothing keeps from the horizon.
@@ -100,7 +105,8 @@ fn unsettled(alloc: Global, events: u16) -> Result<(Vec<Option<u32>>, Vec<u32>),
 fn late(fixed: &[Option<u32>], high: &[u64], lags: &[u32], now: u32) -> Option<u16>
     requires events { length fixed.now ≤ 1024 }
     requires points { length high.now ≡ suc (length fixed.now) }
-    ensures { MatchOption result (AllWait fixed.now high.now lags.now now) (CannotWait fixed.now high.now lags.now now) }
+    ensures { MatchOption result (AllWait fixed.now high.now lags.now now)
+        (CannotWait fixed.now high.now lags.now now) }
 {
     for e in 0..fixed.len() {
         if fixed[e].is_none() && high[e + 1] < u64::from(floor(lags, e as u16, now)) {
@@ -236,11 +242,13 @@ impl Net for RepairNet {
         requires unused { finite.get self.old.situation.bounds id.0 ≡ None }
         ensures ok { OnOk result (self.new.situation ≡ with_bound self.old.situation id.0 bound) }
         ensures err { OnErr result (self.new.situation ≡ self.old.situation) }
-        ensures exact { RefusesBy IsNew (proposing self.old.situation bound) (with_bound self.old.situation id.0 bound) result }
+        ensures exact { RefusesBy IsNew (proposing self.old.situation bound)
+            (with_bound self.old.situation id.0 bound) result }
         ensures between { SaysBetween result ↔ ((true ≡ false) × IsBetween bound) }
         ensures most { self.new.looks ≤ 2 * (edge_count self.old.situation + 1) }
         ensures some { OnOk result (2 ≤ self.new.looks) }
-        ensures cheap { OnOk result (IsCheap 2 self.old.situation (with_bound self.old.situation id.0 bound) self.new.looks) }
+        ensures cheap { OnOk result (IsCheap 2 self.old.situation
+            (with_bound self.old.situation id.0 bound) self.new.looks) }
     {
         self.engine.looks = 0;
         // there are no more identifiers
@@ -286,11 +294,13 @@ impl Net for RepairNet {
         requires in_time { now ≤ self.old.situation.horizon }
         ensures ok { OnOk result (self.new.situation ≡ at_moment self.old.situation now) }
         ensures err { OnErr result (self.new.situation ≡ self.old.situation) }
-        ensures exact { RefusesBy IsNow (at_moment self.old.situation now) (at_moment self.old.situation now) result }
+        ensures exact { RefusesBy IsNow (at_moment self.old.situation now)
+            (at_moment self.old.situation now) result }
         ensures between { ¬ SaysBetween result }
         ensures still { now ≡ self.old.situation.clock → self.new.looks ≡ 0 }
         ensures most { self.new.looks ≤ edge_count self.old.situation + 1 }
-        ensures cheap { OnOk result (IsCheap 0 self.old.situation (at_moment self.old.situation now) self.new.looks) }
+        ensures cheap { OnOk result
+            (IsCheap 0 self.old.situation (at_moment self.old.situation now) self.new.looks) }
     {
         self.engine.looks = 0;
         if now == self.clock {
@@ -315,11 +325,13 @@ impl Net for RepairNet {
         requires in_time { moment ≤ self.old.situation.horizon }
         ensures ok { OnOk result (self.new.situation ≡ with_fixed self.old.situation e moment) }
         ensures err { OnErr result (self.new.situation ≡ self.old.situation) }
-        ensures exact { RefusesBy (IsPastOf e) (with_fixed self.old.situation e moment) (with_fixed self.old.situation e moment) result }
+        ensures exact { RefusesBy (IsPastOf e) (with_fixed self.old.situation e moment)
+            (with_fixed self.old.situation e moment) result }
         ensures between { ¬ SaysBetween result }
         ensures most { self.new.looks ≤ 2 * (edge_count self.old.situation + 1) }
         ensures some { OnOk result (2 ≤ self.new.looks) }
-        ensures cheap { OnOk result (IsCheap 2 self.old.situation (with_fixed self.old.situation e moment) self.new.looks) }
+        ensures cheap { OnOk result
+            (IsCheap 2 self.old.situation (with_fixed self.old.situation e moment) self.new.looks) }
     {
         self.engine.looks = 0;
         let alloc = *self.fixed.allocator();

@@ -21,8 +21,10 @@ fn offer(work: &mut Work, low: &[u64], point: usize, moment: u64) -> Result<(), 
     requires nothing { slice_index work.old.amounts.items point ≡ 0 }
     ensures places { HasPlaces (length low.now) work.new }
     ensures ready { OnOk result (IsReady (length low.now) work.new) }
-    ensures here { OnOk result (slice_index work.new.amounts.items point ≡ moment - slice_index low.now point) }
-    ensures others { OnOk result ((x : ℕ) → x ≢ point → slice_index work.new.amounts.items x ≡ slice_index work.old.amounts.items x) }
+    ensures here { OnOk result (slice_index work.new.amounts.items point
+        ≡ moment - slice_index low.now point) }
+    ensures others { OnOk result ((x : ℕ) → x ≢ point
+        → slice_index work.new.amounts.items x ≡ slice_index work.old.amounts.items x) }
 {
     let amount = moment.saturating_sub(low[point]);
     work.queue.push((amount, point))?;
@@ -70,10 +72,13 @@ fn try_rise_floors(
     requires events { length fixed.now ≤ 1024 }
     requires points { length low.now ≡ suc (length fixed.now) }
     ensures places { HasPlaces (length low.now) work.new }
-    ensures raised { OnOk result (IsRaisedTo (arcs_of store.now.nodes.slots) (AsksFloor fixed.now lags.now now) low.now work.new.amounts.items) }
+    ensures raised { OnOk result (IsRaisedTo (arcs_of store.now.nodes.slots)
+        (AsksFloor fixed.now lags.now now) low.now work.new.amounts.items) }
     ensures order { OnOk result (IsOrder work.new.ranks.items work.new.order.items) }
-    ensures ended { OnOk result ((x : ℕ) → slice_index work.new.ranks.items x ≡ 0 → slice_index work.new.amounts.items x ≡ 0) }
-    ensures looks { IfOk result (λ looks. looks ≡ looks_at (keys_of Up store.now) (λ x. slice_index work.new.amounts.items x) (length low.now)) }
+    ensures ended { OnOk result ((x : ℕ) → slice_index work.new.ranks.items x ≡ 0
+        → slice_index work.new.amounts.items x ≡ 0) }
+    ensures looks { IfOk result (λ looks. looks ≡ looks_at (keys_of Up store.now) (λ x.
+        slice_index work.new.amounts.items x) (length low.now)) }
 {
     set_out_floors(work, low, fixed, lags, now)?;
     Ok(flow(store, low, Direction::Up, work)?)
@@ -97,8 +102,10 @@ pub fn rise_floors(
     requires events { length fixed.now ≤ 1024 }
     requires points { length low.now ≡ suc (length fixed.now) }
     ensures idle { IsIdle (length low.now) work.new }
-    ensures raised { OnOk result (IsRaisedTo (arcs_of store.now.nodes.slots) (AsksFloor fixed.now lags.now now) low.now work.new.amounts.items) }
-    ensures looks { IfOk result (λ looks. looks ≡ looks_at (keys_of Up store.now) (λ x. slice_index work.new.amounts.items x) (length low.now)) }
+    ensures raised { OnOk result (IsRaisedTo (arcs_of store.now.nodes.slots)
+        (AsksFloor fixed.now lags.now now) low.now work.new.amounts.items) }
+    ensures looks { IfOk result (λ looks. looks ≡ looks_at (keys_of Up store.now) (λ x.
+        slice_index work.new.amounts.items x) (length low.now)) }
 {
     let points = low.len();
     clear(work, points);

@@ -19,8 +19,11 @@ fn grow(
     e: u16,
     horizon: u32,
 ) -> Result<(), AllocError>
-    requires { (points : ℕ) × IsStar horizon points e floors.old.items ends.old.items store.old × (e + 1 < points) }
-    ensures { IfOk result (λ _. (points : ℕ) → e + 1 < points → IsStar horizon points e floors.old.items ends.old.items store.old → IsStar horizon points (e + 1) floors.new.items ends.new.items store.new) }
+    requires { (points : ℕ) × IsStar horizon points e floors.old.items ends.old.items store.old
+        × (e + 1 < points) }
+    ensures { IfOk result (λ _. (points : ℕ) → e + 1 < points
+        → IsStar horizon points e floors.old.items ends.old.items store.old
+        → IsStar horizon points (e + 1) floors.new.items ends.new.items store.new) }
 {
     floors.push(insert(store, Edge::Now(e), start_arc(e, 0))?)?;
     ends.push(insert(store, Edge::End(e), stop_arc(e, horizon))?)?;
