@@ -14,7 +14,7 @@ use Rattle.tp_bounds.specs.declared.Edge.{Edge}
 use Rattle.tp_bounds.specs.declared.Edge.TheVariants.{Own, New, PastHigh, PastLow, Now, End}
 use Rattle.tp_bounds.specs.declared.Reason.{Reason}
 use Rattle.tp_bounds.specs.Reasons.{BeginsWith}
-use Rattle.tp_bounds.specs.Situation.{Situation, event_count, fixed_at, floor_of}
+use Rattle.tp_bounds.specs.Setting.{Setting, event_count, fixed_at, floor_of}
 use Rattle.tp_bounds.specs.Schedule.{IsSchedule, IsWindow}
 use Rattle.tp_bounds.specs.Lawful.{IsLawful}
 use Rattle.tp_exec.specs.declared.command.Command.{Command}
@@ -174,7 +174,7 @@ moments_form (p ∷ ps) h =
     ap (list_all is_moment_word) (solid_then (moment_word p) (flat_map moment_text ps) (some_letters (decimal p.0) (cond p.1 (codes "!") []) (decimal_nonempty p.0 small)) (solid_more (decimal p.0) (cond p.1 (codes "!") []) (decimal_solid p.0 small) (mark_solid p.1)) (gap_moments ps))
     ∙ (ap (λ t. t && list_all is_moment_word (words_of (flat_map moment_text ps))) (moment_form p.0 p.1 h.0) ∙ moments_form ps h.1)
 
-soon : (s : Situation) (t : ℕ → ℕ) (e : ℕ) → IsLawful s → IsSchedule s t → e < event_count s → t e ≤ 1_000_000_000
+soon : (s : Setting) (t : ℕ → ℕ) (e : ℕ) → IsLawful s → IsSchedule s t → e < event_count s → t e ≤ 1_000_000_000
 soon s t e lawful is there = by_past (fixed_at s e) refl
   where
     by_past : (o : Option ℕ) → fixed_at s e ≡ o → t e ≤ 1_000_000_000
@@ -190,7 +190,7 @@ soon_each : (ps : List (ℕ × Bool)) → ((k : ℕ) (p : ℕ × Bool) → slice
 soon_each [] h = tt
 soon_each (p ∷ ps) h = (h 0 p refl, soon_each ps (λ k q is. h (suc k) q is))
 
-are_soon : (s : Situation) (ps : List (ℕ × Bool)) → IsLawful s → AreMoments s ps → AreSoon ps
+are_soon : (s : Setting) (ps : List (ℕ × Bool)) → IsLawful s → AreMoments s ps → AreSoon ps
 are_soon s ps lawful h =
     soon_each ps (λ k p is. (
     let there : k < event_count s = omega (arith, in_list ps k p is, h.count) in

@@ -8,7 +8,7 @@ use Rattle.std.proofs.lemmas.Int.{ints}
 use Rattle.tp_bounds.specs.declared.Bound.{Bound}
 use Rattle.tp_bounds.specs.declared.Point.{Point}
 use Rattle.tp_bounds.specs.declared.Point.TheVariants.{Origin, Event}
-use Rattle.tp_bounds.specs.Situation.{Situation, event_count, fixed_at, floor_of, HasPoint, IsInRange}
+use Rattle.tp_bounds.specs.Setting.{Setting, event_count, fixed_at, floor_of, HasPoint, IsInRange}
 use Rattle.tp_bounds.specs.Lawful.{IsLawful, Suits}
 use Rattle.tp_bounds.proofs.LawfulChanges.{lawful_put, lawful_taken, lawful_raised, lawful_fixed}
 use Rattle.tp_exec.specs.declared.command.Command.{Command}
@@ -41,7 +41,7 @@ so : (b : Bool) (r : Refusal) (o : Option Refusal) → cond b o (Some r) ≡ Non
 so true r o h = (refl, h)
 so false r o h = absurd (let f : ⊥ = cc in f)
 
-point_there : (s : Situation) (p : Point) → is_point_of (event_count s) p ≡ true → HasPoint s p
+point_there : (s : Setting) (p : Point) → is_point_of (event_count s) p ≡ true → HasPoint s p
 point_there s Origin h = tt
 point_there s (Event e) h = let lt : e < event_count s = grind (arith, nat_tests, h) in lt
 
@@ -65,7 +65,7 @@ in_range w h =
 
 -- ---- each state of a run is within its limits
 
-record Within (s : Situation) (given most : ℕ) : Type 0 where
+record Within (s : Setting) (given most : ℕ) : Type 0 where
   pub lawful : IsLawful s
   pub next : given ≤ most
 

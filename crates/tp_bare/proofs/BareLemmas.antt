@@ -4,7 +4,7 @@ use Rattle.std.specs.Prelude.{Result, Ok, Err, IfErr, IfSome, IsErrAnd, OnOk, On
 use Rattle.std.specs.Io.KnownBytes.{Appends, Consumes, IsAtEnd}
 use Rattle.tp_device.specs.Bytes.{AppendsPart}
 use Rattle.tp_device.proofs.Parts.{appends_none}
-use Rattle.tp_bounds.specs.Situation.{Situation}
+use Rattle.tp_bounds.specs.Setting.{Setting}
 use Rattle.tp_exec.specs.Machine.{Machine}
 use Rattle.tp_script.specs.Pending.{Reading}
 use Rattle.tp_script.specs.Reading.{Free, EndsLine, TakesWhole}
@@ -50,12 +50,12 @@ end_lags xs ys zs text lags may first more stop most = λ line rest is.
     ])
 
 -- how many bytes may be taken behind the head and the lags
-may_take : (before reading mid : Reading) (s t : Situation) (line : List ℕ) (lags : List (List ℕ)) (w : TakesWhole before reading line) (l : TakesLags reading mid s t lags) → before.taken ≡ 0 → mid.most ≡ 4_294_967_296 → 4_294_967_296 ≤ (mid.most - mid.taken) + (length w.text + length l.read.text)
+may_take : (before reading mid : Reading) (s t : Setting) (line : List ℕ) (lags : List (List ℕ)) (w : TakesWhole before reading line) (l : TakesLags reading mid s t lags) → before.taken ≡ 0 → mid.most ≡ 4_294_967_296 → 4_294_967_296 ≤ (mid.most - mid.taken) + (length w.text + length l.read.text)
 may_take before reading mid s t line lags w l none most = omega (arith, none, most, w.counted, l.counted)
 
 -- ---- all lines are answered
 
-all_answered : (a c d held now : Option (List ℕ)) (line text more : List ℕ) (head : ℕ × ℕ) (setting : Situation) (lags : List (List ℕ)) (last : Machine) (may : ℕ) → Free line → EndsLine line text c → Consumes a c text → length line ≤ 256 → head_of line ≡ Some head → Consumes c d more → IfSome c (λ ys. IfSome d (λ zs. lines_of ys ≡ lags ++ lines_of zs)) → SetsLags (first_setting head) lags setting → NoLagNext d may → 4_294_967_296 ≤ may + (length text + length more) → ServesAll (first_machine head setting) last d held now → AnswersAll a held now
+all_answered : (a c d held now : Option (List ℕ)) (line text more : List ℕ) (head : ℕ × ℕ) (setting : Setting) (lags : List (List ℕ)) (last : Machine) (may : ℕ) → Free line → EndsLine line text c → Consumes a c text → length line ≤ 256 → head_of line ≡ Some head → Consumes c d more → IfSome c (λ ys. IfSome d (λ zs. lines_of ys ≡ lags ++ lines_of zs)) → SetsLags (first_setting head) lags setting → NoLagNext d may → 4_294_967_296 ≤ may + (length text + length more) → ServesAll (first_machine head setting) last d held now → AnswersAll a held now
 all_answered None c d held now line text more head setting lags last may free ends took short spelled took' split set stop most serves = tt
 all_answered (Some xs) None d held now line text more head setting lags last may free ends took short spelled took' split set stop most serves = absurd took
 all_answered (Some xs) (Some ys) None held now line text more head setting lags last may free ends took short spelled took' split set stop most serves = absurd took'
@@ -86,7 +86,7 @@ part_of_serving Memory after held now lines text part ended = absurd ended
 part_of_serving TooLong after held now lines text part ended = whole_part held now text ended.0
 part_of_serving Head after held now lines text part ended = absurd ended
 
-part_answered : (a c d left held now : Option (List ℕ)) (line text more : List ℕ) (head : ℕ × ℕ) (setting : Situation) (lags : List (List ℕ)) (last : Machine) (lines : List (List ℕ)) (answers : List ℕ) (may : ℕ) → Free line → EndsLine line text c → Consumes a c text → length line ≤ 256 → head_of line ≡ Some head → Consumes c d more → IfSome c (λ ys. IfSome d (λ zs. lines_of ys ≡ lags ++ lines_of zs)) → SetsLags (first_setting head) lags setting → NoLagNext d may → 4_294_967_296 ≤ may + (length text + length more) → TakesLines d left lines → Transcript (first_machine head setting) lines answers last → AppendsPart held now answers → AnswersPart a held now
+part_answered : (a c d left held now : Option (List ℕ)) (line text more : List ℕ) (head : ℕ × ℕ) (setting : Setting) (lags : List (List ℕ)) (last : Machine) (lines : List (List ℕ)) (answers : List ℕ) (may : ℕ) → Free line → EndsLine line text c → Consumes a c text → length line ≤ 256 → head_of line ≡ Some head → Consumes c d more → IfSome c (λ ys. IfSome d (λ zs. lines_of ys ≡ lags ++ lines_of zs)) → SetsLags (first_setting head) lags setting → NoLagNext d may → 4_294_967_296 ≤ may + (length text + length more) → TakesLines d left lines → Transcript (first_machine head setting) lines answers last → AppendsPart held now answers → AnswersPart a held now
 part_answered None c d left held now line text more head setting lags last lines answers may free ends took short spelled took' split set stop most takes ran part = tt
 part_answered (Some xs) None d left held now line text more head setting lags last lines answers may free ends took short spelled took' split set stop most takes ran part = absurd took
 part_answered (Some xs) (Some ys) None left held now line text more head setting lags last lines answers may free ends took short spelled took' split set stop most takes ran part = absurd took'
@@ -220,7 +220,7 @@ pub stops_by : (r : Result Served BareFault) (fault : ServeFault) (source held n
 stops_by (Ok x) fault source held now is h = absurd is
 stops_by (Err f) fault source held now is h = subst (BareStops source held now) (sym is) h
 
-bad_lag : (a c d e held : Option (List ℕ)) (line text more bad last : List ℕ) (head lag : ℕ × ℕ) (setting : Situation) (lags : List (List ℕ)) → Free line → EndsLine line text c → Consumes a c text → length line ≤ 256 → head_of line ≡ Some head → Consumes c d more → IfSome c (λ ys. IfSome d (λ zs. lines_of ys ≡ lags ++ lines_of zs)) → SetsLags (first_setting head) lags setting → Free bad → EndsLine bad last e → Consumes d e last → lag_spelled bad ≡ Some lag → ¬ MaySet setting lag → BareStops a held held (Serving Head)
+bad_lag : (a c d e held : Option (List ℕ)) (line text more bad last : List ℕ) (head lag : ℕ × ℕ) (setting : Setting) (lags : List (List ℕ)) → Free line → EndsLine line text c → Consumes a c text → length line ≤ 256 → head_of line ≡ Some head → Consumes c d more → IfSome c (λ ys. IfSome d (λ zs. lines_of ys ≡ lags ++ lines_of zs)) → SetsLags (first_setting head) lags setting → Free bad → EndsLine bad last e → Consumes d e last → lag_spelled bad ≡ Some lag → ¬ MaySet setting lag → BareStops a held held (Serving Head)
 bad_lag None c d e held line text more bad last head lag setting lags free ends took short spelled took' split set free' ends' took'' names unfit = tt
 bad_lag (Some xs) None d e held line text more bad last head lag setting lags free ends took short spelled took' split set free' ends' took'' names unfit = absurd took
 bad_lag (Some xs) (Some ys) None e held line text more bad last head lag setting lags free ends took short spelled took' split set free' ends' took'' names unfit = absurd took'
@@ -244,7 +244,7 @@ bad_lag (Some xs) (Some ys) (Some zs) (Some ws) held line text more bad last hea
   appends_none held,
 )
 
-lags_stop : (fault : ServeFault) (before reading after : Reading) (held : Option (List ℕ)) (head : ℕ × ℕ) (setting : Situation) → TakesHead before reading (Ok head) → ReadsLags reading after (first_setting head) setting (Err fault) → BareStops before.rest held held (Serving fault)
+lags_stop : (fault : ServeFault) (before reading after : Reading) (held : Option (List ℕ)) (head : ℕ × ℕ) (setting : Setting) → TakesHead before reading (Ok head) → ReadsLags reading after (first_setting head) setting (Err fault) → BareStops before.rest held held (Serving fault)
 lags_stop Read before reading after held head setting takes lags = none_read before.rest held
 lags_stop Write before reading after held head setting takes lags = absurd lags
 lags_stop Memory before reading after held head setting takes lags = absurd lags
@@ -253,7 +253,7 @@ lags_stop Head before reading after held head setting takes lags =
     bad_lag before.rest reading.rest lags.1.rest after.rest held takes.0 takes.1.text lags.4.read.text lags.2 lags.5.text head lags.3 setting lags.0 takes.1.free takes.1.ends takes.1.took takes.2 takes.3 lags.4.read.took lags.4.read.split lags.4.set lags.5.free lags.5.ends lags.5.took lags.6 lags.7
 
 -- the answers to some lines were written whole
-lines_to : (xs ys zs ws : List ℕ) (held now : Option (List ℕ)) (line text more : List ℕ) (head : ℕ × ℕ) (setting : Situation) (lags : List (List ℕ)) (last : Machine) (lines : List (List ℕ)) (answers : List ℕ) (may : ℕ) → Free line → EndsLine line text (Some ys) → xs ≡ text ++ ys → length line ≤ 256 → head_of line ≡ Some head → ys ≡ more ++ zs → lines_of ys ≡ lags ++ lines_of zs → SetsLags (first_setting head) lags setting → NoLagNext (Some zs) may → 4_294_967_296 ≤ may + (length text + length more) → lines_of zs ≡ lines ++ lines_of ws → Transcript (first_machine head setting) lines answers last → Appends held now answers → AnswersLinesTo xs ws held now
+lines_to : (xs ys zs ws : List ℕ) (held now : Option (List ℕ)) (line text more : List ℕ) (head : ℕ × ℕ) (setting : Setting) (lags : List (List ℕ)) (last : Machine) (lines : List (List ℕ)) (answers : List ℕ) (may : ℕ) → Free line → EndsLine line text (Some ys) → xs ≡ text ++ ys → length line ≤ 256 → head_of line ≡ Some head → ys ≡ more ++ zs → lines_of ys ≡ lags ++ lines_of zs → SetsLags (first_setting head) lags setting → NoLagNext (Some zs) may → 4_294_967_296 ≤ may + (length text + length more) → lines_of zs ≡ lines ++ lines_of ws → Transcript (first_machine head setting) lines answers last → Appends held now answers → AnswersLinesTo xs ws held now
 lines_to xs ys zs ws held now line text more head setting lags last lines answers may free ends took short spelled took' split set stop most rest ran wrote =
     record {
       head = head;
@@ -272,7 +272,7 @@ lines_to xs ys zs ws held now line text more head setting lags last lines answer
       written = wrote;
     }
 
-read_stops : (a c d left held now : Option (List ℕ)) (line text more : List ℕ) (head : ℕ × ℕ) (setting : Situation) (lags : List (List ℕ)) (last : Machine) (lines : List (List ℕ)) (answers : List ℕ) (may : ℕ) → Free line → EndsLine line text c → Consumes a c text → length line ≤ 256 → head_of line ≡ Some head → Consumes c d more → IfSome c (λ ys. IfSome d (λ zs. lines_of ys ≡ lags ++ lines_of zs)) → SetsLags (first_setting head) lags setting → NoLagNext d may → 4_294_967_296 ≤ may + (length text + length more) → TakesLines d left lines → Transcript (first_machine head setting) lines answers last → Appends held now answers → BareStops a held now (Serving Read)
+read_stops : (a c d left held now : Option (List ℕ)) (line text more : List ℕ) (head : ℕ × ℕ) (setting : Setting) (lags : List (List ℕ)) (last : Machine) (lines : List (List ℕ)) (answers : List ℕ) (may : ℕ) → Free line → EndsLine line text c → Consumes a c text → length line ≤ 256 → head_of line ≡ Some head → Consumes c d more → IfSome c (λ ys. IfSome d (λ zs. lines_of ys ≡ lags ++ lines_of zs)) → SetsLags (first_setting head) lags setting → NoLagNext d may → 4_294_967_296 ≤ may + (length text + length more) → TakesLines d left lines → Transcript (first_machine head setting) lines answers last → Appends held now answers → BareStops a held now (Serving Read)
 read_stops None c d left held now line text more head setting lags last lines answers may free ends took short spelled took' split set stop most takes ran wrote = tt
 read_stops (Some xs) None d left held now line text more head setting lags last lines answers may free ends took short spelled took' split set stop most takes ran wrote = absurd took
 read_stops (Some xs) (Some ys) None left held now line text more head setting lags last lines answers may free ends took short spelled took' split set stop most takes ran wrote = absurd took'
@@ -280,7 +280,7 @@ read_stops (Some xs) (Some ys) (Some zs) None held now line text more head setti
 read_stops (Some xs) (Some ys) (Some zs) (Some ws) held now line text more head setting lags last lines answers may free ends took short spelled took' split set stop most takes ran wrote =
     inr (ws, lines_to xs ys zs ws held now line text more head setting lags last lines answers may free ends took short spelled took' split set stop most takes.split ran wrote)
 
-most_stops : (a c d left after held now : Option (List ℕ)) (line text more part : List ℕ) (head : ℕ × ℕ) (setting : Situation) (lags : List (List ℕ)) (last : Machine) (lines : List (List ℕ)) (answers : List ℕ) (may : ℕ) → Free line → EndsLine line text c → Consumes a c text → length line ≤ 256 → head_of line ≡ Some head → Consumes c d more → IfSome c (λ ys. IfSome d (λ zs. lines_of ys ≡ lags ++ lines_of zs)) → SetsLags (first_setting head) lags setting → NoLagNext d may → 4_294_967_296 ≤ may + (length text + length more) → (takes : TakesLines d left lines) → Transcript (first_machine head setting) lines answers last → Appends held now answers → Consumes left after part → Free part → HasMore after → length text + (length more + (length takes.text + length part)) ≡ 4_294_967_296 → BareStops a held now (Serving TooLong)
+most_stops : (a c d left after held now : Option (List ℕ)) (line text more part : List ℕ) (head : ℕ × ℕ) (setting : Setting) (lags : List (List ℕ)) (last : Machine) (lines : List (List ℕ)) (answers : List ℕ) (may : ℕ) → Free line → EndsLine line text c → Consumes a c text → length line ≤ 256 → head_of line ≡ Some head → Consumes c d more → IfSome c (λ ys. IfSome d (λ zs. lines_of ys ≡ lags ++ lines_of zs)) → SetsLags (first_setting head) lags setting → NoLagNext d may → 4_294_967_296 ≤ may + (length text + length more) → (takes : TakesLines d left lines) → Transcript (first_machine head setting) lines answers last → Appends held now answers → Consumes left after part → Free part → HasMore after → length text + (length more + (length takes.text + length part)) ≡ 4_294_967_296 → BareStops a held now (Serving TooLong)
 most_stops None c d left after held now line text more part head setting lags last lines answers may free ends took short spelled took' split set stop most takes ran wrote behind one beyond is = tt
 most_stops (Some xs) None d left after held now line text more part head setting lags last lines answers may free ends took short spelled took' split set stop most takes ran wrote behind one beyond is = absurd took
 most_stops (Some xs) (Some ys) None left after held now line text more part head setting lags last lines answers may free ends took short spelled took' split set stop most takes ran wrote behind one beyond is = absurd took'
@@ -299,7 +299,7 @@ most_stops (Some xs) (Some ys) (Some zs) (Some ws) (Some (v ∷ vs)) held now li
       lines_to xs ys zs ws held now line text more head setting lags last lines answers may free ends took short spelled took' split set stop most takes.split ran wrote,
     )
 
-serving_stops : (fault : ServeFault) (before reading mid after : Reading) (head : ℕ × ℕ) (setting : Situation) (last : Machine) (held now : Option (List ℕ)) → before.taken ≡ 0 → before.most ≡ 4_294_967_296 → TakesHead before reading (Ok head) → reading.most ≡ before.most → TakesAllLags head reading mid setting → after.most ≡ reading.most → Serves (first_machine head setting) last mid after held now (Err fault) → BareStops before.rest held now (Serving fault)
+serving_stops : (fault : ServeFault) (before reading mid after : Reading) (head : ℕ × ℕ) (setting : Setting) (last : Machine) (held now : Option (List ℕ)) → before.taken ≡ 0 → before.most ≡ 4_294_967_296 → TakesHead before reading (Ok head) → reading.most ≡ before.most → TakesAllLags head reading mid setting → after.most ≡ reading.most → Serves (first_machine head setting) last mid after held now (Err fault) → BareStops before.rest held now (Serving fault)
 serving_stops Read before reading mid after head setting last held now none most takes same lags still serves =
     let l = lags.lags in
     read_stops before.rest reading.rest mid.rest serves.left held now takes.0 takes.1.text l.1.read.text head setting l.0 last serves.lines serves.text (mid.most - mid.taken) takes.1.free takes.1.ends takes.1.took takes.2 takes.3 l.1.read.took l.1.read.split l.1.set l.2

@@ -3,8 +3,8 @@ use Rattle.std.specs.Prelude.{◌≡◌, ℕ, ◌+◌, ◌≤◌, ◌<◌, List,
 use Rattle.std.specs.Io.KnownBytes.{Appends}
 use Rattle.tp_device.specs.Bytes.{AppendsPart}
 use Rattle.tp_bounds.specs.RunLimits.{greatest_limits}
-use Rattle.tp_bounds.specs.Situation.{Situation}
-use Rattle.tp_net.specs.NewNet.{new_situation}
+use Rattle.tp_bounds.specs.Setting.{Setting}
+use Rattle.tp_net.specs.NewNet.{new_setting}
 use Rattle.tp_exec.specs.Machine.{Machine, new_machine}
 use Rattle.tp_script.specs.Transcript.{lines_of, Transcript}
 use Rattle.tp_script.specs.Pending.{Reading}
@@ -20,11 +20,11 @@ use Rattle.tp_bare.specs.declared.bare.BareFault.{BareFault}
 use Rattle.tp_bare.specs.declared.bare.BareFault.TheVariants.{Network, Serving}
 
 -- the network of a head: so many events up to a horizon, and nothing else
-abbrev pub first_setting : ℕ × ℕ → Situation
-first_setting head = new_situation head.0 head.1
+abbrev pub first_setting : ℕ × ℕ → Setting
+first_setting head = new_setting head.0 head.1
 
 -- the machine in which a run begins: a new network but for lags, under the greatest limits
-abbrev pub first_machine : ℕ × ℕ → Situation → Machine
+abbrev pub first_machine : ℕ × ℕ → Setting → Machine
 first_machine head setting = new_machine setting (greatest_limits head.1)
 
 -- The lines of lags were all taken: the first of the lines behind them, if there is one, is none, unless the bytes are as many as are
@@ -37,7 +37,7 @@ EndLags bytes lines =
 -- the first line is the head, lines of lags follow, and the transcript of all other lines was written
 pub record AnswersHead (bytes : List ℕ) (held now : Option (List ℕ)) : Type 0 where
   pub head : ℕ × ℕ
-  pub setting : Situation
+  pub setting : Setting
   pub line : List ℕ
   pub lags : List (List ℕ)
   pub lines : List (List ℕ)
@@ -59,7 +59,7 @@ AnswersAll (Some bytes) held now = AnswersHead bytes held now
 -- the first line is the head, lines of lags follow, and some first part of the transcript of some first lines behind them was written
 pub record AnswersSome (bytes : List ℕ) (held now : Option (List ℕ)) : Type 0 where
   pub head : ℕ × ℕ
-  pub setting : Situation
+  pub setting : Setting
   pub line : List ℕ
   pub lags : List (List ℕ)
   pub lines : List (List ℕ)
@@ -82,7 +82,7 @@ AnswersPart (Some bytes) held now = Appends held now [] ⊎ AnswersSome bytes he
 -- the first line is the head, lines of lags follow, and the transcript of the lines behind them was written whole, up to what is left
 pub record AnswersLinesTo (bytes left : List ℕ) (held now : Option (List ℕ)) : Type 0 where
   pub head : ℕ × ℕ
-  pub setting : Situation
+  pub setting : Setting
   pub line : List ℕ
   pub lags : List (List ℕ)
   pub lines : List (List ℕ)
@@ -115,7 +115,7 @@ bare_result (Ok served) = Ok served
 bare_result (Err fault) = Err (Serving fault)
 
 -- the lines of lags behind the head were taken, and this is the network then
-pub record TakesAllLags (head : ℕ × ℕ) (before after : Reading) (setting : Situation) : Type 0 where
+pub record TakesAllLags (head : ℕ × ℕ) (before after : Reading) (setting : Setting) : Type 0 where
   pub lags : ReadsLags before after (first_setting head) setting (Ok tt)
   pub most : after.most ≡ before.most
 
@@ -123,23 +123,23 @@ pub record TakesAllLags (head : ℕ × ℕ) (before after : Reading) (setting : 
 -- no memory for the network
 abbrev pub BeginsLines : ℕ × ℕ → Reading → Reading → Result Machine BareFault → Type 0
 BeginsLines head before after (Ok m) =
-    (setting : Situation) × TakesAllLags head before after setting
+    (setting : Setting) × TakesAllLags head before after setting
     × (m ≡ first_machine head setting)
 BeginsLines head before after (Err (Serving fault)) =
-    (setting : Situation) × ReadsLags before after (first_setting head) setting (Err fault)
+    (setting : Setting) × ReadsLags before after (first_setting head) setting (Err fault)
 BeginsLines head before after (Err Network) = Unit {0}
 
 -- what came of the commands behind the lags: the lines were answered, or not all of them
 abbrev pub AnswersLines : ℕ × ℕ → Reading → Reading → Option (List ℕ) → Option (List ℕ)
     → Result Served BareFault → Type 0
 AnswersLines head before after held now (Ok served) =
-    (setting : Situation) × (mid : Reading) × (last : Machine)
+    (setting : Setting) × (mid : Reading) × (last : Machine)
     × TakesAllLags head before mid setting
     × Serves (first_machine head setting) last mid after held now (Ok served)
     × ServesAll (first_machine head setting) last mid.rest held now
 AnswersLines head before after held now (Err (Serving fault)) =
-    ((setting : Situation) × ReadsLags before after (first_setting head) setting (Err fault)
-    × (now ≡ held)) ⊎ ((setting : Situation) × (mid : Reading) × (last : Machine)
+    ((setting : Setting) × ReadsLags before after (first_setting head) setting (Err fault)
+    × (now ≡ held)) ⊎ ((setting : Setting) × (mid : Reading) × (last : Machine)
     × TakesAllLags head before mid setting
     × Serves (first_machine head setting) last mid after held now (Err fault))
 AnswersLines head before after held now (Err Network) = now ≡ held
@@ -153,7 +153,7 @@ HasNoHead (line ∷ lines) = (256 < length line) ⊎ (head_of line ≡ None)
 -- lag out of range
 pub record HasBadLag (all : List (List ℕ)) : Type 0 where
   pub head : ℕ × ℕ
-  pub setting : Situation
+  pub setting : Setting
   pub line : List ℕ
   pub lags : List (List ℕ)
   pub bad : List ℕ

@@ -2,7 +2,7 @@
 use Rattle.std.proofs.Common.{◌≡◌, ◌+◌, ◌-◌, ◌≤◌, ◌<◌, ℕ, List, [], ◌∷◌, ◌++◌, ◌⊎◌, append-nil, length, Option, Some, None, refl, subst, sym, ap, ◌∙◌, inl, inr, arith}
 use Rattle.std.specs.Prelude.{Result, Ok, Err, IfErr, IfSome, IsErrAnd, OnOk}
 use Rattle.std.specs.Io.KnownBytes.{Appends, Consumes, IsAtEnd}
-use Rattle.tp_bounds.specs.Situation.{Situation}
+use Rattle.tp_bounds.specs.Setting.{Setting}
 use Rattle.tp_bounds.specs.RunLimits.{RunLimits}
 use Rattle.tp_exec.specs.Machine.{Machine, IsFresh, new_machine}
 use Rattle.tp_script.specs.Pending.{Reading}
@@ -49,10 +49,10 @@ logs_from (Err fault) q head first last before mid after held now log logged is 
 -- ---- all lines are answered, and their journal is whole
 
 -- how many bytes may be taken behind the head and the lags
-may_take : (before reading mid : Reading) (s t : Situation) (line : List ℕ) (lags : List (List ℕ)) (w : TakesWhole before reading line) (l : TakesLags reading mid s t lags) → before.taken ≡ 0 → mid.most ≡ 4_294_967_296 → 4_294_967_296 ≤ (mid.most - mid.taken) + (length w.text + length l.read.text)
+may_take : (before reading mid : Reading) (s t : Setting) (line : List ℕ) (lags : List (List ℕ)) (w : TakesWhole before reading line) (l : TakesLags reading mid s t lags) → before.taken ≡ 0 → mid.most ≡ 4_294_967_296 → 4_294_967_296 ≤ (mid.most - mid.taken) + (length w.text + length l.read.text)
 may_take before reading mid s t line lags w l none most = omega (arith, none, most, w.counted, l.counted)
 
-logs_head : (a c d left e held now log logged : Option (List ℕ)) (line text more : List ℕ) (head : ℕ × ℕ) (setting : Situation) (lags : List (List ℕ)) (last : Machine) (may : ℕ) (lines : List (List ℕ)) (said part : List ℕ) (entries : List Entry) → Free line → EndsLine line text c → Consumes a c text → length line ≤ 256 → head_of line ≡ Some head → Consumes c d more → IfSome c (λ ys. IfSome d (λ zs. lines_of ys ≡ lags ++ lines_of zs)) → SetsLags (first_setting head) lags setting → NoLagNext d may → 4_294_967_296 ≤ may + (length text + length more) → TakesLines d left lines → Consumes left e part → part ≡ [] → IsAtEnd e → EntersAll (first_machine head setting) lines entries said last → Transcript (first_machine head setting) lines said last → Runs 2 (first_machine head setting) entries last → Appends held now said → Appends log logged (journal_bytes (first_machine head setting) entries) → LogsAll a held now log logged
+logs_head : (a c d left e held now log logged : Option (List ℕ)) (line text more : List ℕ) (head : ℕ × ℕ) (setting : Setting) (lags : List (List ℕ)) (last : Machine) (may : ℕ) (lines : List (List ℕ)) (said part : List ℕ) (entries : List Entry) → Free line → EndsLine line text c → Consumes a c text → length line ≤ 256 → head_of line ≡ Some head → Consumes c d more → IfSome c (λ ys. IfSome d (λ zs. lines_of ys ≡ lags ++ lines_of zs)) → SetsLags (first_setting head) lags setting → NoLagNext d may → 4_294_967_296 ≤ may + (length text + length more) → TakesLines d left lines → Consumes left e part → part ≡ [] → IsAtEnd e → EntersAll (first_machine head setting) lines entries said last → Transcript (first_machine head setting) lines said last → Runs 2 (first_machine head setting) entries last → Appends held now said → Appends log logged (journal_bytes (first_machine head setting) entries) → LogsAll a held now log logged
 logs_head None c d left e held now log logged line text more head setting lags last may lines said part entries free ends took short spelled took' split set stop most takes behind empty end entered ran runs wrote logs = tt
 logs_head (Some xs) None d left e held now log logged line text more head setting lags last may lines said part entries free ends took short spelled took' split set stop most takes behind empty end entered ran runs wrote logs = absurd took
 logs_head (Some xs) (Some ys) None left e held now log logged line text more head setting lags last may lines said part entries free ends took short spelled took' split set stop most takes behind empty end entered ran runs wrote logs = absurd took'

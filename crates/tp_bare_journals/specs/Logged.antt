@@ -1,7 +1,7 @@
 -- What is written for a network and its commands, and what their journal is.
 use Rattle.std.specs.Prelude.{◌≡◌, ℕ, ◌+◌, List, [], Option, Some, None, Result, Ok, Err, ◌⊎◌}
 use Rattle.std.specs.Io.KnownBytes.{Appends}
-use Rattle.tp_bounds.specs.Situation.{Situation}
+use Rattle.tp_bounds.specs.Setting.{Setting}
 use Rattle.tp_exec.specs.Machine.{Machine}
 use Rattle.tp_script.specs.Pending.{Reading}
 use Rattle.tp_script.specs.Serving.{TakesHead}
@@ -39,7 +39,7 @@ LogsAll (Some bytes) held now log logged = LogsHead bytes held now log logged
 pub record LogsLines (input held now log logged : Option (List ℕ))
     (result : Result Served JournalFault) : Type 0 where
   pub head : ℕ × ℕ
-  pub setting : Situation
+  pub setting : Setting
   pub start : Reading
   pub behind_head : Reading
   pub behind_lags : Reading
@@ -75,14 +75,14 @@ LogsPart input held now log logged =
 abbrev pub LogsFrom : ℕ × ℕ → Reading → Reading → Option (List ℕ) → Option (List ℕ)
     → Option (List ℕ) → Option (List ℕ) → Result Served JournalStop → Type 0
 LogsFrom head before after held now log logged (Ok served) =
-    (setting : Situation) × (mid : Reading) × (last : Machine)
+    (setting : Setting) × (mid : Reading) × (last : Machine)
     × TakesAllLags head before mid setting
     × Journals (first_machine head setting) last mid after held now log logged (Ok served)
 LogsFrom head before after held now log logged (Err Making) = ⊥
 LogsFrom head before after held now log logged (Err (Beginning fault)) =
     BeginsLines head before after (Err fault) × (now ≡ held) × (logged ≡ log)
 LogsFrom head before after held now log logged (Err (Journaling fault)) =
-    (setting : Situation) × (mid : Reading) × (last : Machine)
+    (setting : Setting) × (mid : Reading) × (last : Machine)
     × TakesAllLags head before mid setting
     × Journals (first_machine head setting) last mid after held now log logged (Err fault)
 

@@ -1,4 +1,4 @@
--- The numbers of a situation stay in range under its changes.
+-- The numbers of a setting stay in range under its changes.
 use Rattle.std.proofs.Common.{◌≡◌, ℕ, zero, suc, ◌<◌, ◌≤◌, inl, inr, List, length, get_or, set, replicate, Option, Some, None, IfSome, refl, sym, ap, subst, ◌∙◌, arith, get_or-set_other, get_or-set_same}
 use Rattle.std.proofs.Math.ListN.{length-set, length-replicate}
 use Rattle.std.proofs.lemmas.Bool.{cases_eq}
@@ -7,18 +7,18 @@ use Rattle.std.specs.FinMap.{get, empty, get-empty}
 use Rattle.tp_bounds.specs.declared.Point.{Point}
 use Rattle.tp_bounds.specs.declared.Point.TheVariants.{Origin, Event}
 use Rattle.tp_bounds.specs.declared.Bound.{Bound}
-use Rattle.tp_bounds.specs.Situation.{Situation, event_count, HasPoint}
+use Rattle.tp_bounds.specs.Setting.{Setting, event_count, HasPoint}
 use Rattle.tp_bounds.specs.Changes.{fresh, with_bound, without_bound, asking, at_moment, with_fixed, with_lag}
 use Rattle.tp_bounds.specs.Lawful.{Suits, IsLawful}
 use Rattle.tp_bounds.proofs.HeldMaps.{inserted, removed}
 
--- ---- a bound that suits one situation suits another of as many events
+-- ---- a bound that suits one setting suits another of as many events
 
-same_point : (s r : Situation) → event_count s ≡ event_count r → (p : Point) → HasPoint s p → HasPoint r p
+same_point : (s r : Setting) → event_count s ≡ event_count r → (p : Point) → HasPoint s p → HasPoint r p
 same_point s r same Origin h = tt
 same_point s r same (Event e) h = subst (λ n. e < n) same h
 
-suits : (s r : Situation) → event_count s ≡ event_count r → (b : Bound) → Suits s b → Suits r b
+suits : (s r : Setting) → event_count s ≡ event_count r → (b : Bound) → Suits s b → Suits r b
 suits s r same b h =
     record {
       from = same_point s r same b.from h.from;
@@ -54,7 +54,7 @@ lawful_fresh events horizon few soon =
       proposed = λ b is. let g : ⊥ = cc in absurd g;
     }
 
-pub lawful_put : (s : Situation) (id : ℕ) (b : Bound) → IsLawful s → Suits s b → IsLawful (with_bound s id b)
+pub lawful_put : (s : Setting) (id : ℕ) (b : Bound) → IsLawful s → Suits s b → IsLawful (with_bound s id b)
 lawful_put s id b h new =
     record {
       events = h.events;
@@ -67,7 +67,7 @@ lawful_put s id b h new =
       proposed = λ c is. suits s (with_bound s id b) refl c (h.proposed c is);
     }
 
-pub lawful_taken : (s : Situation) (id : ℕ) → IsLawful s → IsLawful (without_bound s id)
+pub lawful_taken : (s : Setting) (id : ℕ) → IsLawful s → IsLawful (without_bound s id)
 lawful_taken s id h =
     record {
       events = h.events;
@@ -80,11 +80,11 @@ lawful_taken s id h =
       proposed = λ c is. suits s (without_bound s id) refl c (h.proposed c is);
     }
 
-from_if : (s : Situation) (o : Option Bound) (b : Bound) → IfSome o (Suits s) → o ≡ Some b → Suits s b
+from_if : (s : Setting) (o : Option Bound) (b : Bound) → IfSome o (Suits s) → o ≡ Some b → Suits s b
 from_if s None b h is = absurd (let f : ⊥ = cc in f)
 from_if s (Some c) b h is = subst (Suits s) (let f : c ≡ b = cc in f) h
 
-pub lawful_asking : (s : Situation) (o : Option Bound) → IsLawful s → IfSome o (Suits s) → IsLawful (asking s o)
+pub lawful_asking : (s : Setting) (o : Option Bound) → IsLawful s → IfSome o (Suits s) → IsLawful (asking s o)
 lawful_asking s o h new =
     record {
       events = h.events;
@@ -97,7 +97,7 @@ lawful_asking s o h new =
       proposed = λ c is. suits s (asking s o) refl c (from_if s o c new is);
     }
 
-pub lawful_raised : (s : Situation) (now : ℕ) → IsLawful s → now ≤ s.horizon → IsLawful (at_moment s now)
+pub lawful_raised : (s : Setting) (now : ℕ) → IsLawful s → now ≤ s.horizon → IsLawful (at_moment s now)
 lawful_raised s now h soon =
     record {
       events = h.events;
@@ -121,7 +121,7 @@ past_set fixed e moment last lt soon old k m is =
       | inr ne ↦ old k m (sym (get_or-set_other fixed e k (Some moment) None ne) ∙ is)
     ]
 
-pub lawful_fixed : (s : Situation) (e moment : ℕ) → IsLawful s → e < event_count s → moment ≤ s.horizon → IsLawful (with_fixed s e moment)
+pub lawful_fixed : (s : Setting) (e moment : ℕ) → IsLawful s → e < event_count s → moment ≤ s.horizon → IsLawful (with_fixed s e moment)
 lawful_fixed s e moment h lt soon =
     let same : event_count s ≡ event_count (with_fixed s e moment) = sym (length-set s.fixed e (Some moment)) in
     record {
@@ -147,7 +147,7 @@ lag_set lags e lag last lt few old k =
           omega arith
     ]
 
-pub lawful_lagged : (s : Situation) (e lag : ℕ) → IsLawful s → e < event_count s → lag ≤ 1_000_000_000 → IsLawful (with_lag s e lag)
+pub lawful_lagged : (s : Setting) (e lag : ℕ) → IsLawful s → e < event_count s → lag ≤ 1_000_000_000 → IsLawful (with_lag s e lag)
 lawful_lagged s e lag h lt few =
     record {
       events = h.events;

@@ -6,7 +6,7 @@ use Rattle.std.specs.declared.cmp.Ordering.TheVariants.{Less, Equal, Greater}
 use Rattle.std.specs.Cmp.{nat_cmp_total}
 use Rattle.std.specs.FinMap.{FinMap, get, insert, get-insert, nat_cmp-IsAntisymmetric}
 use Rattle.tp_bounds.specs.declared.Bound.{Bound}
-use Rattle.tp_bounds.specs.Situation.{Situation}
+use Rattle.tp_bounds.specs.Setting.{Setting}
 use Rattle.tp_bounds.specs.Schedule.{Meets}
 use Rattle.tp_bounds.specs.Changes.{with_bound}
 use Rattle.tp_bounds.specs.OwnBounds.{with_bounds, MeetsEach}
@@ -54,31 +54,31 @@ abbrev pub AllMet : (ℕ → ℕ) → FinMap nat_cmp Bound → Type 0
 AllMet t m = (id : ℕ) (b : Bound) → get m id ≡ Some b → Meets t b
 
 -- the identifiers in force are below one
-abbrev pub AreBelow : Situation → ℕ → Type 0
+abbrev pub AreBelow : Setting → ℕ → Type 0
 AreBelow s next = (id : ℕ) (b : Bound) → get s.bounds id ≡ Some b → id < next
 
 module _ (t : ℕ → ℕ) where
-  below_more : (s : Situation) (next : ℕ) (b : Bound) → AreBelow s next → AreBelow (with_bound s next b) (suc next)
+  below_more : (s : Setting) (next : ℕ) (b : Bound) → AreBelow s next → AreBelow (with_bound s next b) (suc next)
   below_more s next b h id c g = elim (inserted s.bounds next id b c g) [ inl p ↦ omega (arith, p.0) | inr p ↦ omega (arith, h id c p) ]
 
-  pub all_in_force : (s : Situation) (next : ℕ) (bs : List Bound) → AllMet t s.bounds → MeetsEach t bs → AllMet t (with_bounds s next bs).bounds
+  pub all_in_force : (s : Setting) (next : ℕ) (bs : List Bound) → AllMet t s.bounds → MeetsEach t bs → AllMet t (with_bounds s next bs).bounds
   all_in_force s next [] h m = h
   all_in_force s next (b ∷ bs) h m =
       all_in_force (with_bound s next b) (suc next) bs (λ id c g. elim (inserted s.bounds next id b c g) [ inl p ↦ subst (Meets t) p.1 m.0 | inr p ↦ h id c p ]) m.1
 
-  pub in_force_before : (s : Situation) (next : ℕ) (bs : List Bound) → AreBelow s next → AllMet t (with_bounds s next bs).bounds → AllMet t s.bounds
+  pub in_force_before : (s : Setting) (next : ℕ) (bs : List Bound) → AreBelow s next → AllMet t (with_bounds s next bs).bounds → AllMet t s.bounds
   in_force_before s next [] w h = λ id c g. h id c g
   in_force_before s next (b ∷ bs) w h = λ id c g.
       let lt : id < next = w id c g in
       let ne : id ≢ next = omega arith in
       in_force_before (with_bound s next b) (suc next) bs (below_more s next b w) h id c (get_insert_other s.bounds next id b ne ∙ g)
 
-  pub in_force_each : (s : Situation) (next : ℕ) (bs : List Bound) → AreBelow s next → AllMet t (with_bounds s next bs).bounds → MeetsEach t bs
+  pub in_force_each : (s : Setting) (next : ℕ) (bs : List Bound) → AreBelow s next → AllMet t (with_bounds s next bs).bounds → MeetsEach t bs
   in_force_each s next [] w h = tt
   in_force_each s next (b ∷ bs) w h =
       (in_force_before (with_bound s next b) (suc next) bs (below_more s next b w) h next b (get_inserted s.bounds next b), in_force_each (with_bound s next b) (suc next) bs (below_more s next b w) h)
 
 -- the other fields stay
-pub others_stay : (s : Situation) (next : ℕ) (bs : List Bound) → (with_bounds s next bs) ≡ record s { bounds = (with_bounds s next bs).bounds }
+pub others_stay : (s : Setting) (next : ℕ) (bs : List Bound) → (with_bounds s next bs) ≡ record s { bounds = (with_bounds s next bs).bounds }
 others_stay s next [] = refl
 others_stay s next (b ∷ bs) = others_stay (with_bound s next b) (suc next) bs

@@ -3,7 +3,7 @@ use Rattle.std.specs.Prelude.{◌≡◌, ℕ, List, Some}
 use Rattle.std.specs.Ordering.{nat_cmp}
 use Rattle.std.specs.FinMap.{FinMap, from_entries, get}
 use Rattle.tp_bounds.specs.declared.Bound.{Bound}
-use Rattle.tp_bounds.specs.Situation.{IsInRange}
+use Rattle.tp_bounds.specs.Setting.{IsInRange}
 
 -- the bounds that the entries of a map give
 abbrev pub held : List (ℕ × Bound) → FinMap nat_cmp Bound

@@ -4,9 +4,9 @@ use Rattle.std.specs.List.{All}
 use Rattle.tp_bounds.specs.declared.Point.{Point}
 use Rattle.tp_bounds.specs.declared.Point.TheVariants.{Event}
 use Rattle.tp_bounds.specs.declared.Bound.{Bound}
-use Rattle.tp_bounds.specs.Situation.{IsInRange}
+use Rattle.tp_bounds.specs.Setting.{IsInRange}
 use Rattle.tp_bounds.specs.Schedule.{HasSchedule}
-use Rattle.tp_bounds.specs.OwnBounds.{situation_of}
+use Rattle.tp_bounds.specs.OwnBounds.{setting_of}
 
 -- a point that is an event is one of so many
 abbrev pub IsPointOf : ℕ → Point → Type 0
@@ -23,4 +23,4 @@ pub record IsNet (events horizon : ℕ) (bounds : List Bound) : Type 0 where
   pub few : events ≤ 1_024
   pub in_time : horizon ≤ 1_000_000_000
   pub suit : All (SuitsNet events) bounds
-  pub possible : ∥ HasSchedule (situation_of events horizon bounds) ∥₁
+  pub possible : ∥ HasSchedule (setting_of events horizon bounds) ∥₁

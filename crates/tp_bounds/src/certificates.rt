@@ -5,7 +5,7 @@ ghost use Rattle.std.specs.List.{AllByRecursion};
 ghost use Rattle.std.specs.FinMap as map;
 ghost use Rattle.tp_bounds.specs.declared.Point.{Point};
 ghost use Rattle.tp_bounds.specs.declared.Bound.{Bound};
-ghost use Rattle.tp_bounds.specs.Situation.{event_count, IsInRange};
+ghost use Rattle.tp_bounds.specs.Setting.{event_count, IsInRange};
 ghost use Rattle.tp_bounds.specs.Schedule.{HasSchedule, Meets, moment_of};
 ghost use Rattle.tp_bounds.specs.Reasons.{bound_of, BeginApart, weight_of, IsReason, AreBounds, IsClosed};
 ghost use Rattle.tp_bounds.specs.Held.{held, AreInRange};

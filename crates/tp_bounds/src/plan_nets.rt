@@ -2,7 +2,7 @@
 
 ghost use Rattle.std.specs.Prelude.{◌≡◌, ◌<◌, ℕ, List, length, Some, slice_get, option_map, string_bytes, ◌↔◌};
 ghost use Rattle.tp_bounds.specs.Nets.{IsNet};
-ghost use Rattle.tp_bounds.specs.OwnBounds.{situation_of, IsWithin, MeetsEach};
+ghost use Rattle.tp_bounds.specs.OwnBounds.{setting_of, IsWithin, MeetsEach};
 ghost use Rattle.tp_bounds.specs.Schedule.{IsSchedule};
 ghost use Rattle.tp_bounds.specs.declared.Bound.{Bound};
 
@@ -35,5 +35,5 @@ impl PlanNet {
 /// horizon that meet each of them.
 pub fn schedules_meet_bounds()
     ensures { (events horizon : ℕ) (bounds : List Bound) (t : ℕ → ℕ) → (IsSchedule
-        (situation_of events horizon bounds) t ↔ (IsWithin events horizon t × MeetsEach t bounds)) }
+        (setting_of events horizon bounds) t ↔ (IsWithin events horizon t × MeetsEach t bounds)) }
 {}

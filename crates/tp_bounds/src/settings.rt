@@ -2,7 +2,7 @@
 
 ghost use Rattle.std.specs.Prelude.{◌≡◌, ◌≢◌, ◌≤◌, ◌<◌, Some, None, IfOk, IfSome, OnOk, OnErr, pos, ◌-ℤ◌};
 ghost use Rattle.std.specs.FinMap as map;
-ghost use Rattle.tp_bounds.specs.Situation.{event_count, fixed_at, lag_of, floor_of, HasPoint, IsInRange};
+ghost use Rattle.tp_bounds.specs.Setting.{event_count, fixed_at, lag_of, floor_of, HasPoint, IsInRange};
 ghost use Rattle.tp_bounds.specs.Reasons.{at_most, at_least, is_open, bound_of};
 ghost use Rattle.tp_bounds.specs.Changes.{fresh, with_bound, without_bound, asking, at_moment, with_fixed, with_lag};
 ghost use Rattle.tp_bounds.specs.Held.{held, AreInRange};
@@ -26,14 +26,14 @@ pub struct Setting {
 }
 
 impl Model for Setting {
-    ghost use Rattle.tp_bounds.specs.Situation.{Situation};
-    ghost use Rattle.tp_bounds.specs.Codes.{coded_situation};
+    ghost use Rattle.tp_bounds.specs.Setting.{Setting};
+    ghost use Rattle.tp_bounds.specs.Codes.{coded_setting};
     ghost use Rattle.tp_bounds.specs.Held.{held};
     ghost use Rattle.tp_bounds.specs.Lawful.{IsLawful};
 
-    ghost Value = { Situation };
+    ghost Value = { Setting };
 
-    ghost coded = { coded_situation };
+    ghost coded = { coded_setting };
 
     ghost view = { λ a.
         record {

@@ -1,7 +1,7 @@
 //! Worked examples of settings, of what they leave, and of reasons why nothing is left.
 
 ghost use Rattle.std.specs.Prelude.{◌≡◌, IfOk, None, negsuc};
-ghost use Rattle.tp_bounds.specs.Situation.{event_count, fixed_at};
+ghost use Rattle.tp_bounds.specs.Setting.{event_count, fixed_at};
 ghost use Rattle.tp_bounds.specs.Changes.{fresh, with_bound};
 
 use std::alloc::{AllocError, Global};

@@ -4,7 +4,7 @@ use Rattle.std.specs.List.{flat_map, AllByRecursion}
 use Rattle.std.proofs.lemmas.Int.{ints}
 use Rattle.tp_bounds.specs.declared.Bound.{Bound}
 use Rattle.tp_bounds.specs.declared.Point.TheVariants.{Event}
-use Rattle.tp_bounds.specs.Situation.{IsInRange}
+use Rattle.tp_bounds.specs.Setting.{IsInRange}
 use Rattle.tp_ground.specs.declared.Body.{Body}
 use Rattle.tp_ground.specs.declared.Body.TheVariants.{Instant, Durative}
 use Rattle.tp_ground.specs.declared.Cond.{Cond}

@@ -10,7 +10,7 @@ use Rattle.tp_deorder.specs.RunPlans.{run_steps}
 use Rattle.std.specs.List.{All}
 use Rattle.tp_bounds.specs.declared.plan_nets.PlanNet.{PlanNet}
 use Rattle.tp_bounds.specs.Nets.{SuitsNet}
-use Rattle.tp_bounds.specs.OwnBounds.{situation_of, IsWithin}
+use Rattle.tp_bounds.specs.OwnBounds.{setting_of, IsWithin}
 use Rattle.tp_bounds.specs.RunLimits.{RunLimits}
 use Rattle.tp_ground.specs.Valid.{Planned, events}
 use Rattle.tp_ground.specs.Verdict.{last_moment}
@@ -38,14 +38,14 @@ own_ticks plan e = slice_index_or (map (λ x. x.moment) (events plan)) e 0
 -- own ticks are one; and the plan of a run at each is valid.
 pub record IsNetOf (t : Task) (steps : List Step) (horizon : ℕ) (bounds : List Bound) : Type 0 where
   pub exact :
-      (m : ℕ → ℕ) → IsSchedule (situation_of (event_count_of (plan_of t steps)) horizon bounds) m
+      (m : ℕ → ℕ) → IsSchedule (setting_of (event_count_of (plan_of t steps)) horizon bounds) m
       ↔ (IsWithin (event_count_of (plan_of t steps)) horizon m
       × MeetsBounds (scale_of t) (state_at t steps) (plan_of t steps) m)
   pub own :
       IsSchedule
-      (situation_of (event_count_of (plan_of t steps)) horizon bounds) (own_ticks (plan_of t steps))
+      (setting_of (event_count_of (plan_of t steps)) horizon bounds) (own_ticks (plan_of t steps))
   pub valid :
-      (m : ℕ → ℕ) → IsSchedule (situation_of (event_count_of (plan_of t steps)) horizon bounds) m
+      (m : ℕ → ℕ) → IsSchedule (setting_of (event_count_of (plan_of t steps)) horizon bounds) m
       → IsValidPlan t (run_steps t m steps)
   -- it is one that a network takes: `horizon` is at most that of the limits
   pub suit : horizon ≤ 1_000_000_000 → All (SuitsNet (event_count_of (plan_of t steps))) bounds

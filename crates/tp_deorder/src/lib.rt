@@ -18,7 +18,7 @@ ghost use Rattle.tp_happen.specs.declared.plans.Step.{Step};
 ghost use Rattle.tp_validate.specs.OfTask.{plan_of};
 ghost use Rattle.tp_deorder.specs.RunPlans.{run_steps};
 ghost use Rattle.tp_bounds.specs.Schedule.{IsSchedule};
-ghost use Rattle.tp_bounds.specs.OwnBounds.{situation_of, IsWithin};
+ghost use Rattle.tp_bounds.specs.OwnBounds.{setting_of, IsWithin};
 ghost use Rattle.tp_deorder.specs.Inequalities.{plan_bounds, event_count_of};
 
 mod deordering;
@@ -58,7 +58,7 @@ impl From<AllocError> for DeorderFault {
 pub fn bounds_are_listed()
     ensures { (horizon scale : ℕ) (trace : ℕ → State) (plan : List Planned) (t : ℕ → ℕ)
         → (IsSchedule
-        (situation_of (event_count_of plan) horizon (plan_bounds horizon scale trace plan)) t
+        (setting_of (event_count_of plan) horizon (plan_bounds horizon scale trace plan)) t
         ↔ (IsWithin (event_count_of plan) horizon t × MeetsBounds scale trace plan t)) }
 {}
 

@@ -9,7 +9,7 @@ use Rattle.std.proofs.lemmas.Bool.Decides.{nat_tests}
 use Rattle.tp_bounds.specs.declared.Bound.{Bound}
 use Rattle.tp_bounds.specs.declared.plan_nets.PlanNet.{PlanNet}
 use Rattle.tp_bounds.specs.RunLimits.{RunLimits}
-use Rattle.tp_bounds.specs.Situation.{Situation, event_count, fixed_at}
+use Rattle.tp_bounds.specs.Setting.{Setting, event_count, fixed_at}
 use Rattle.tp_bounds.specs.Schedule.{IsSchedule, HasSchedule}
 use Rattle.tp_bounds.specs.OwnBounds.{with_bounds, IsWithin, MeetsEach}
 use Rattle.tp_bounds.proofs.Numbering.{in_force_each, others_stay}
@@ -187,7 +187,7 @@ run_is_valid t steps m sound came u done kept =
 
 -- ---- what an executive over a plan's network begins with
 
-module _ (t : Task) (steps : List Step) (l limits : RunLimits) (n : PlanNet) (s : Situation) (net : IsPlanNetOf t steps l n) (fresh : IsFresh s) (events : event_count s ≡ length n.events.items) (horizon : s.horizon ≡ n.horizon) where
+module _ (t : Task) (steps : List Step) (l limits : RunLimits) (n : PlanNet) (s : Setting) (net : IsPlanNetOf t steps l n) (fresh : IsFresh s) (events : event_count s ≡ length n.events.items) (horizon : s.horizon ≡ n.horizon) where
   abbrev bounds : List Bound
   bounds = n.bounds.items
 
@@ -219,7 +219,7 @@ module _ (t : Task) (steps : List Step) (l limits : RunLimits) (n : PlanNet) (s 
         count = same_events s 0 bounds ∙ count_is;
         first = omega arith;
         schedules = λ kept u within own.
-            let w : IsWithin (event_count_of (plan_of t steps)) l.horizon u = λ e lt. subst (λ h. u e ≤ h) (ap (λ (r : Situation). r.horizon) (others_stay s 0 bounds) ∙ until) (within e lt) in
+            let w : IsWithin (event_count_of (plan_of t steps)) l.horizon u = λ e lt. subst (λ h. u e ≤ h) (ap (λ (r : Setting). r.horizon) (others_stay s 0 bounds) ∙ until) (within e lt) in
             ((net.net.exact u).0 (is_schedule (event_count_of (plan_of t steps)) l.horizon u bounds w (meets_each u own))).1;
       }
 
@@ -248,7 +248,7 @@ get_or_none (x ∷ xs) zero d le = absurd (let f : ⊥ = omega arith in f)
 get_or_none (x ∷ xs) (suc i) d le = get_or_none xs i d (omega arith)
 
 -- the moments of events that were dispatched, at every number
-pub at_each : (s : Situation) (xs : List ℕ) → AreDispatched s xs → (e : ℕ) → get_or xs e 0 ≡ dispatched_at s e
+pub at_each : (s : Setting) (xs : List ℕ) → AreDispatched s xs → (e : ℕ) → get_or xs e 0 ≡ dispatched_at s e
 at_each s xs d e =
     elim (cases_lt e (length xs)) [
       | inl lt ↦ sym (ap moment_or_zero (d.each e lt))
@@ -256,7 +256,7 @@ at_each s xs d e =
     ]
 
 -- none lies past the horizon
-pub soon_each : (s : Situation) → IsLawful s → (e : ℕ) → dispatched_at s e ≤ 1000000000
+pub soon_each : (s : Setting) → IsLawful s → (e : ℕ) → dispatched_at s e ≤ 1000000000
 soon_each s l e = soon_of (fixed_at s e) refl
   where
     soon_of : (o : Option ℕ) → fixed_at s e ≡ o → moment_or_zero o ≤ 1000000000
@@ -265,7 +265,7 @@ soon_each s l e = soon_of (fixed_at s e) refl
 
 -- ---- the plan of a run
 
-pub steps_are : (t u : Task) (steps given : List Step) (xs held : List ℕ) (s : Situation) (moved : List Step) → u ≡ t → given ≡ steps → held ≡ xs → AreDispatched s xs → moved ≡ run_steps u (λ e. get_or held e 0) given → moved ≡ run_steps t (dispatched_at s) steps
+pub steps_are : (t u : Task) (steps given : List Step) (xs held : List ℕ) (s : Setting) (moved : List Step) → u ≡ t → given ≡ steps → held ≡ xs → AreDispatched s xs → moved ≡ run_steps u (λ e. get_or held e 0) given → moved ≡ run_steps t (dispatched_at s) steps
 steps_are t u steps given xs held s moved is same there d h =
     h
     ∙ (ap (λ (q : Task). run_steps q (λ e. get_or held e 0) given) is
@@ -273,7 +273,7 @@ steps_are t u steps given xs held s moved is same there d h =
     ∙ (ap (λ (q : List ℕ). run_steps t (λ e. get_or q e 0) steps) there
     ∙ moved_same t.actions.items (λ e. get_or xs e 0) (dispatched_at s) 0 steps (λ e lt. at_each s xs d e))))
 
-pub run_is_plan : (t : Task) (steps : List Step) (s : Situation) (moved : List Step) → IsLawful s → length steps ≤ 512 → moved ≡ run_steps t (dispatched_at s) steps → IsPlan moved
+pub run_is_plan : (t : Task) (steps : List Step) (s : Setting) (moved : List Step) → IsLawful s → length steps ≤ 512 → moved ≡ run_steps t (dispatched_at s) steps → IsPlan moved
 run_is_plan t steps s moved l few h = subst IsPlan (sym h) (moved_is_plan t (dispatched_at s) (soon_each s l) steps few)
 
 tells_of : (t : Task) (steps : List Step) (m : Machine) → CameFrom t steps m → IsSound t steps → IsLawful m.setting → HasSchedule m.setting → m.kind ≡ Kept → (o : Option (List Step)) → TellsSteps t steps m.setting o → TellsPlan t steps m o
@@ -288,6 +288,6 @@ tells_of t steps m came sound l possible kept (Some p) h =
       valid = subst (IsValidPlan t) (sym h.1) (run_is_valid t steps m sound came u h.0 kept);
     }
 
-pub plan_told : (t : Task) (steps : List Step) (m : Machine) (s : Situation) → s ≡ m.setting → CameFrom t steps m → IsSound t steps → IsLawful s → HasSchedule s → m.kind ≡ Kept → (o : Option (List Step)) → TellsSteps t steps s o → TellsPlan t steps m o
+pub plan_told : (t : Task) (steps : List Step) (m : Machine) (s : Setting) → s ≡ m.setting → CameFrom t steps m → IsSound t steps → IsLawful s → HasSchedule s → m.kind ≡ Kept → (o : Option (List Step)) → TellsSteps t steps s o → TellsPlan t steps m o
 plan_told t steps m s is came sound l possible kept o h =
     tells_of t steps m came sound (subst IsLawful is l) (subst HasSchedule is possible) kept o (subst (λ r. TellsSteps t steps r o) is h)

@@ -4,7 +4,7 @@ use Rattle.std.proofs.Math.ListN.{length-set}
 use Rattle.std.proofs.lemmas.List.{length_push}
 use Rattle.std.proofs.lemmas.Bool.{cases_eq}
 use Rattle.std.proofs.lemmas.Bool.Decides.{nat_tests}
-use Rattle.tp_bounds.specs.Situation.{Situation, event_count, fixed_at, floor_of}
+use Rattle.tp_bounds.specs.Setting.{Setting, event_count, fixed_at, floor_of}
 use Rattle.tp_bounds.specs.Schedule.{IsSchedule, HasSchedule}
 use Rattle.tp_bounds.specs.OwnBounds.{IsWithin}
 use Rattle.tp_net.proofs.Laws.{get_insert_other}
@@ -99,7 +99,7 @@ module _ (n : ℕ) (wanted : (ℕ → ℕ) → Type 0) where
 
 -- ---- that a schedule remains, and nothing lies behind the horizon
 
-pub record IsUnderWay (s : Situation) : Type 0 where
+pub record IsUnderWay (s : Setting) : Type 0 where
   pub in_time : s.clock ≤ s.horizon
   pub past : (e moment : ℕ) → fixed_at s e ≡ Some moment → moment ≤ s.horizon
   pub possible : HasSchedule s
@@ -191,17 +191,17 @@ front_is (x ∷ xs) m zero lt = refl
 front_is (x ∷ xs) m (suc e) lt = front_is xs m e (omega arith)
 
 -- one more event is dispatched at its moment
-pub dispatched_more : (s : Situation) (xs : List ℕ) (m : ℕ) → ((e : ℕ) → e < length xs → fixed_at s e ≡ Some (get_or xs e 0)) → fixed_at s (length xs) ≡ Some m → (e : ℕ) → e < length (xs ++ m ∷ []) → fixed_at s e ≡ Some (get_or (xs ++ m ∷ []) e 0)
+pub dispatched_more : (s : Setting) (xs : List ℕ) (m : ℕ) → ((e : ℕ) → e < length xs → fixed_at s e ≡ Some (get_or xs e 0)) → fixed_at s (length xs) ≡ Some m → (e : ℕ) → e < length (xs ++ m ∷ []) → fixed_at s e ≡ Some (get_or (xs ++ m ∷ []) e 0)
 dispatched_more s xs m h is e lt =
     elim (cases_eq e (length xs)) [
       | inl same ↦ ap (fixed_at s) same ∙ (is ∙ ap Some (sym (last_is xs m) ∙ ap (λ k. get_or (xs ++ m ∷ []) k 0) (sym same)))
       | inr ne ↦ let less : e < length xs = omega (arith, lt, length_push xs m) in h e less ∙ ap Some (sym (front_is xs m e less))
     ]
 
-pub not_done : (s : Situation) (e : ℕ) → e < event_count s → fixed_at s e ≡ None → IsDone s → ⊥
+pub not_done : (s : Setting) (e : ℕ) → e < event_count s → fixed_at s e ≡ None → IsDone s → ⊥
 not_done s e lt none done = done e lt none
 
-pub are_done : (s : Situation) (xs : List ℕ) → AreDispatched s xs → IsDone s
+pub are_done : (s : Setting) (xs : List ℕ) → AreDispatched s xs → IsDone s
 are_done s xs d e lt none =
     let f : None ≡ Some (get_or xs e 0) = sym none ∙ d.each e (subst (λ n. e < n) (sym d.count) lt) in
     let g : ⊥ = cc in

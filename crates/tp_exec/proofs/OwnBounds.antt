@@ -9,10 +9,10 @@ use Rattle.std.specs.List.{All}
 use Rattle.tp_bounds.specs.declared.Bound.{Bound}
 use Rattle.tp_bounds.specs.declared.Point.{Point}
 use Rattle.tp_bounds.specs.declared.Point.TheVariants.{Origin, Event}
-use Rattle.tp_bounds.specs.Situation.{Situation, event_count, HasPoint}
+use Rattle.tp_bounds.specs.Setting.{Setting, event_count, HasPoint}
 use Rattle.tp_bounds.specs.Schedule.{IsSchedule, HasSchedule}
 use Rattle.tp_bounds.specs.Changes.{with_bound}
-use Rattle.tp_bounds.specs.OwnBounds.{with_bounds, situation_of, IsWithin, MeetsEach}
+use Rattle.tp_bounds.specs.OwnBounds.{with_bounds, setting_of, IsWithin, MeetsEach}
 use Rattle.tp_bounds.specs.Nets.{IsPointOf, SuitsNet}
 use Rattle.tp_bounds.proofs.Numbering.{AllMet, all_in_force, others_stay}
 use Rattle.tp_bounds.proofs.Schedules.{schedule_is}
@@ -21,23 +21,23 @@ use Rattle.tp_exec.specs.Machine.{IsFresh}
 
 -- ---- under which identifiers
 
-pub with_more : (s : Situation) (id : ℕ) (xs ys : List Bound) → with_bounds s id (xs ++ ys) ≡ with_bounds (with_bounds s id xs) (id + length xs) ys
+pub with_more : (s : Setting) (id : ℕ) (xs ys : List Bound) → with_bounds s id (xs ++ ys) ≡ with_bounds (with_bounds s id xs) (id + length xs) ys
 with_more s id [] ys = ap (λ n. with_bounds s n ys) (sym (add-zero id))
 with_more s id (x ∷ xs) ys =
     with_more (with_bound s id x) (suc id) xs ys
     ∙ ap (λ n. with_bounds (with_bounds (with_bound s id x) (suc id) xs) n ys) (let e : suc id + length xs ≡ id + suc (length xs) = omega arith in e)
 
-pub unused_from : (s : Situation) (id : ℕ) (xs : List Bound) → ((q : ℕ) → id ≤ q → get s.bounds q ≡ None) → (q : ℕ) → id + length xs ≤ q → get (with_bounds s id xs).bounds q ≡ None
+pub unused_from : (s : Setting) (id : ℕ) (xs : List Bound) → ((q : ℕ) → id ≤ q → get s.bounds q ≡ None) → (q : ℕ) → id + length xs ≤ q → get (with_bounds s id xs).bounds q ≡ None
 unused_from s id [] h q le = h q (omega arith)
 unused_from s id (x ∷ xs) h q le =
     unused_from (with_bound s id x) (suc id) xs (λ p l. get_insert_other s.bounds id p x (λ same. absurd (let f : ⊥ = omega arith in f)) ∙ h p (omega arith)) q (omega arith)
 
-pub stays_before : (s : Situation) (id : ℕ) (xs : List Bound) (q : ℕ) → q < id → get (with_bounds s id xs).bounds q ≡ get s.bounds q
+pub stays_before : (s : Setting) (id : ℕ) (xs : List Bound) (q : ℕ) → q < id → get (with_bounds s id xs).bounds q ≡ get s.bounds q
 stays_before s id [] q lt = refl
 stays_before s id (x ∷ xs) q lt =
     stays_before (with_bound s id x) (suc id) xs q (omega arith) ∙ get_insert_other s.bounds id q x (λ same. absurd (let f : ⊥ = omega arith in f))
 
-pub all_there : (s : Situation) (id : ℕ) (xs : List Bound) (q : ℕ) → id ≤ q → q < id + length xs → get (with_bounds s id xs).bounds q ≢ None
+pub all_there : (s : Setting) (id : ℕ) (xs : List Bound) (q : ℕ) → id ≤ q → q < id + length xs → get (with_bounds s id xs).bounds q ≢ None
 all_there s id [] q le lt none = omega arith
 all_there s id (x ∷ xs) q le lt none =
     elim (cases_eq q id) [
@@ -48,7 +48,7 @@ all_there s id (x ∷ xs) q le lt none =
       | inr ne ↦ all_there (with_bound s id x) (suc id) xs q (omega arith) (omega arith) none
     ]
 
-module _ (s : Situation) (fresh : IsFresh s) where
+module _ (s : Setting) (fresh : IsFresh s) where
   none_yet : (q : ℕ) → get s.bounds q ≡ None
   none_yet q = ap (λ m. get m q) fresh.no_bounds ∙ get-empty nat_cmp q
 
@@ -80,7 +80,7 @@ module _ (s : Situation) (fresh : IsFresh s) where
       subst (λ r. IsSchedule r t) (sym (others_stay s 0 xs))
       (schedule_by t _ w (all_in_force t s 0 xs (λ id b g. absurd (let x : None ≡ Some b = sym (none_yet id) ∙ g in (let f : ⊥ = cc in f))) h))
 
-  pub first_possible : (n horizon : ℕ) (bounds : List Bound) (k : ℕ) → event_count s ≡ n → s.horizon ≡ horizon → HasSchedule (situation_of n horizon bounds) → HasSchedule (with_bounds s 0 (take k bounds))
+  pub first_possible : (n horizon : ℕ) (bounds : List Bound) (k : ℕ) → event_count s ≡ n → s.horizon ≡ horizon → HasSchedule (setting_of n horizon bounds) → HasSchedule (with_bounds s 0 (take k bounds))
   first_possible n horizon bounds k same until p =
       let w = schedule_is n horizon p.0 bounds p.1 in
       let within : IsWithin (event_count s) s.horizon p.0 = λ e lt. subst (λ h. p.0 e ≤ h) (sym until) (w.0 e (subst (λ c. e < c) same lt)) in
@@ -88,17 +88,17 @@ module _ (s : Situation) (fresh : IsFresh s) where
 
 -- ---- the points of a bound
 
-pub point_known : (s : Situation) (n : ℕ) (p : Point) → event_count s ≡ n → IsPointOf n p → HasPoint s p
+pub point_known : (s : Setting) (n : ℕ) (p : Point) → event_count s ≡ n → IsPointOf n p → HasPoint s p
 point_known s n Origin same h = tt
 point_known s n (Event e) same h = subst (λ c. e < c) (sym same) (h e refl)
 
 -- the events stay
-pub same_events : (s : Situation) (id : ℕ) (xs : List Bound) → event_count (with_bounds s id xs) ≡ event_count s
+pub same_events : (s : Setting) (id : ℕ) (xs : List Bound) → event_count (with_bounds s id xs) ≡ event_count s
 same_events s id xs = ap event_count (others_stay s id xs)
 
 -- ---- one bound after another
 
-with_next : (s : Situation) (xs : List Bound) (i : ℕ) (d : Bound) → i < length xs → with_bound (with_bounds s 0 (take i xs)) i (get_or xs i d) ≡ with_bounds s 0 (take (i + 1) xs)
+with_next : (s : Setting) (xs : List Bound) (i : ℕ) (d : Bound) → i < length xs → with_bound (with_bounds s 0 (take i xs)) i (get_or xs i d) ≡ with_bounds s 0 (take (i + 1) xs)
 with_next s xs i d lt =
     let count : 0 + length (take i xs) ≡ i = omega (arith, length-take i xs) in
     ap (λ k. with_bound (with_bounds s 0 (take i xs)) k (get_or xs i d)) (sym count)
@@ -108,15 +108,15 @@ with_next s xs i d lt =
 suits_here : (n : ℕ) (xs : List Bound) (i : ℕ) (d : Bound) → All (SuitsNet n) xs → i < length xs → SuitsNet n (get_or xs i d)
 suits_here n xs i d h lt = search (rules, h)
 
-module _ (s r : Situation) (xs : List Bound) (next i : ℕ) (d : Bound) (is : r ≡ with_bounds s 0 (take i xs)) (here : next ≡ i) (lt : i < length xs) where
+module _ (s r : Setting) (xs : List Bound) (next i : ℕ) (d : Bound) (is : r ≡ with_bounds s 0 (take i xs)) (here : next ≡ i) (lt : i < length xs) where
   pub next_is : with_bound r next (get_or xs i d) ≡ with_bounds s 0 (take (i + 1) xs)
-  next_is = ap (λ (q : Situation). with_bound q next (get_or xs i d)) is ∙ (ap (λ k. with_bound (with_bounds s 0 (take i xs)) k (get_or xs i d)) here ∙ with_next s xs i d lt)
+  next_is = ap (λ (q : Setting). with_bound q next (get_or xs i d)) is ∙ (ap (λ k. with_bound (with_bounds s 0 (take i xs)) k (get_or xs i d)) here ∙ with_next s xs i d lt)
 
   pub next_unused : IsFresh s → get r.bounds next ≡ None
   next_unused fresh =
-      ap (λ (q : Situation). get q.bounds next) is ∙ unused_behind s fresh (take i xs) next (omega (arith, length-take i xs))
+      ap (λ (q : Setting). get q.bounds next) is ∙ unused_behind s fresh (take i xs) next (omega (arith, length-take i xs))
 
-  pub next_possible : (n horizon : ℕ) → IsFresh s → event_count s ≡ n → s.horizon ≡ horizon → ∥ HasSchedule (situation_of n horizon xs) ∥₁ → (HasSchedule (with_bound r next (get_or xs i d)) → ⊥) → ⊥
+  pub next_possible : (n horizon : ℕ) → IsFresh s → event_count s ≡ n → s.horizon ≡ horizon → ∥ HasSchedule (setting_of n horizon xs) ∥₁ → (HasSchedule (with_bound r next (get_or xs i d)) → ⊥) → ⊥
   next_possible n horizon fresh same until p none =
       not_there p (λ h. none (subst HasSchedule (sym next_is) (first_possible s fresh n horizon xs (i + 1) same until h)))
 

@@ -1,6 +1,6 @@
 -- A network that came from a validated plan, and the plan of its run.
 use Rattle.std.specs.Prelude.{◌≡◌, List, Option, Some, None}
-use Rattle.tp_bounds.specs.Situation.{Situation}
+use Rattle.tp_bounds.specs.Setting.{Setting}
 use Rattle.tp_ground.specs.declared.task.Task.{Task}
 use Rattle.tp_ground.specs.Bounds.{MeetsBounds}
 use Rattle.tp_happen.specs.declared.plans.Step.{Step}
@@ -19,7 +19,7 @@ CameFrom t steps m =
     (MeetsBounds (scale_of t) (state_at t steps) (plan_of t steps)) m
 
 -- the steps of a plan's run, where every event is dispatched
-abbrev pub TellsSteps : Task → List Step → Situation → Option (List Step) → Type 0
+abbrev pub TellsSteps : Task → List Step → Setting → Option (List Step) → Type 0
 TellsSteps t steps s None = IsDone s → ⊥
 TellsSteps t steps s (Some p) = IsDone s × (p ≡ run_steps t (dispatched_at s) steps)
 

@@ -2,7 +2,7 @@
 use Rattle.std.specs.Prelude.{◌≡◌, ◌≢◌, ℕ, ◌<◌, ◌≤◌, List, length, slice_index_or, Option, Some, None}
 use Rattle.std.specs.FinMap.{get}
 use Rattle.tp_bounds.specs.declared.Bound.{Bound}
-use Rattle.tp_bounds.specs.Situation.{Situation, event_count, fixed_at}
+use Rattle.tp_bounds.specs.Setting.{Setting, event_count, fixed_at}
 use Rattle.tp_bounds.specs.Schedule.{Meets}
 use Rattle.tp_bounds.specs.OwnBounds.{IsWithin}
 use Rattle.tp_exec.specs.declared.command.Kind.TheVariants.{Kept}
@@ -21,7 +21,7 @@ pub record KeepsTo (events : ℕ) (wanted : (ℕ → ℕ) → Type 0) (m : Machi
       m.kind ≡ Kept → (t : ℕ → ℕ) → IsWithin events m.setting.horizon t → MeetsOwn m t → wanted t
 
 -- every event is dispatched
-abbrev pub IsDone : Situation → Type 0
+abbrev pub IsDone : Setting → Type 0
 IsDone s = (e : ℕ) → e < event_count s → fixed_at s e ≢ None
 
 -- the moment at which an event was dispatched, 0 if it was not
@@ -29,15 +29,15 @@ abbrev pub moment_or_zero : Option ℕ → ℕ
 moment_or_zero None = 0
 moment_or_zero (Some m) = m
 
-abbrev pub dispatched_at : Situation → ℕ → ℕ
+abbrev pub dispatched_at : Setting → ℕ → ℕ
 dispatched_at s e = moment_or_zero (fixed_at s e)
 
 -- each event was dispatched at its moment in the list
-pub record AreDispatched (s : Situation) (moments : List ℕ) : Type 0 where
+pub record AreDispatched (s : Setting) (moments : List ℕ) : Type 0 where
   pub count : length moments ≡ event_count s
   pub each : (e : ℕ) → e < length moments → fixed_at s e ≡ Some (slice_index_or moments e 0)
 
 -- the moments of all events, if all are dispatched
-abbrev pub TellsMoments : Situation → Option (List ℕ) → Type 0
+abbrev pub TellsMoments : Setting → Option (List ℕ) → Type 0
 TellsMoments s None = IsDone s → ⊥
 TellsMoments s (Some moments) = AreDispatched s moments

@@ -2,7 +2,7 @@
 
 ghost use Rattle.std.specs.Prelude.{◌≡◌, ℕ, ◌≤◌, length, None, OnOk};
 ghost use Rattle.std.specs.FinMap as map;
-ghost use Rattle.tp_bounds.specs.Situation.{event_count, fixed_at};
+ghost use Rattle.tp_bounds.specs.Setting.{event_count, fixed_at};
 ghost use Rattle.tp_bounds.specs.Lawful.{IsLawful};
 
 use std::alloc::AllocError;

@@ -1,7 +1,7 @@
 //! A network that takes commands.
 
 ghost use Rattle.std.specs.Prelude.{◌≡◌, ◌↔◌, ℕ, ◌<◌, ◌≤◌, true, length, None, IfOk};
-ghost use Rattle.tp_bounds.specs.Situation.{event_count, fixed_at, lag_of};
+ghost use Rattle.tp_bounds.specs.Setting.{event_count, fixed_at, lag_of};
 ghost use Rattle.tp_bounds.specs.Schedule.{IsMoment};
 ghost use Rattle.tp_exec.specs.Machine.{IsFresh, new_machine, plan_machine, kind_after};
 ghost use Rattle.tp_exec.specs.declared.command.Answer.TheVariants.{Accepted, Named, Told, Reported};

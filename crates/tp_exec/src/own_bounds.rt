@@ -2,7 +2,7 @@
 
 ghost use Rattle.std.specs.Prelude.{◌≡◌, ◌≤◌, true, length, None, IfOk, OnOk};
 ghost use Rattle.std.specs.FinMap as map;
-ghost use Rattle.tp_bounds.specs.Situation.{event_count, HasPoint, IsInRange};
+ghost use Rattle.tp_bounds.specs.Setting.{event_count, HasPoint, IsInRange};
 ghost use Rattle.tp_bounds.specs.Schedule.{HasSchedule};
 ghost use Rattle.tp_bounds.specs.Changes.{with_bound};
 ghost use Rattle.tp_bounds.specs.OwnBounds.{with_bounds};

@@ -3,7 +3,7 @@
 ghost use Rattle.std.specs.Prelude.{◌≡◌, ℕ, ◌+◌, ◌++◌, ◌≤◌, List, length, slice_get, slice_index_or, option_map, IfOk, OnOk};
 ghost use Rattle.std.specs.Option.{option_to_list};
 ghost use Rattle.tp_bounds.specs.RunLimits.{RunLimits};
-ghost use Rattle.tp_bounds.specs.Situation.{Situation, event_count};
+ghost use Rattle.tp_bounds.specs.Setting.{Setting, event_count};
 ghost use Rattle.tp_bounds.specs.Schedule.{HasSchedule};
 ghost use Rattle.tp_bounds.specs.Lawful.{IsLawful};
 ghost use Rattle.tp_bounds.specs.declared.plan_nets.PlanNet.{PlanNet};
@@ -144,7 +144,7 @@ pub(crate) fn plan_at<N: Net>(
 
 /// What an executive over the network of a plan begins with came from that plan.
 pub fn networks_come_from_their_plans()
-    ensures { (t : Task) (steps : List Step) (l limits : RunLimits) (n : PlanNet) (s : Situation)
+    ensures { (t : Task) (steps : List Step) (l limits : RunLimits) (n : PlanNet) (s : Setting)
         → IsPlanNetOf t steps l n → IsFresh s → event_count s ≡ length n.events.items
         → s.horizon ≡ n.horizon → CameFrom t steps (plan_machine s n.bounds.items limits) }
 {}
@@ -167,7 +167,7 @@ pub fn runs_keep_the_plan()
 /// which reaches the goal: after any list of commands, where all events are dispatched and the kind is `Kept`.
 pub fn completed_runs_are_valid_plans()
     ensures { (t : Task) (steps : List Step) (l limits : RunLimits) (n : PlanNet)
-        (s : Situation) (commands : List Command) (answers : List Answer) (new : Machine)
+        (s : Setting) (commands : List Command) (answers : List Answer) (new : Machine)
         → IsSound t steps → IsPlanNetOf t steps l n
         → IsFresh s → event_count s ≡ length n.events.items → s.horizon ≡ n.horizon
         → Run (plan_machine s n.bounds.items limits) commands answers new → IsDone new.setting

@@ -10,7 +10,7 @@ use Rattle.tp_exec.proofs.Ready.{unused_removed}
 use Rattle.tp_exec.specs.declared.command.Command.TheVariants.{Advance, Add, Withdraw, Window, Dispatch, Happened, Report}
 use Rattle.tp_bounds.specs.declared.Edge.{Edge}
 use Rattle.tp_bounds.specs.declared.Edge.TheVariants.{Own, New, PastHigh, PastLow, Now, End}
-use Rattle.tp_bounds.specs.Situation.{Situation, event_count, fixed_at, floor_of}
+use Rattle.tp_bounds.specs.Setting.{Setting, event_count, fixed_at, floor_of}
 use Rattle.tp_bounds.specs.Reasons.{IsReason, AreBounds, bound_of, at_most, at_least, is_open}
 use Rattle.tp_exec.specs.declared.command.Command.{Command}
 use Rattle.tp_exec.specs.Machine.{Machine}
@@ -33,7 +33,7 @@ cases_lt a zero = inr (omega arith)
 cases_lt zero (suc b) = inl (omega arith)
 cases_lt (suc a) (suc b) = elim (cases_lt a b) [ inl h ↦ inl (omega arith) | inr h ↦ inr (omega arith) ]
 
-fits_in : (s : Situation) (next : ℕ) (e : Edge) (b : Bound) → ((id : ℕ) → next ≤ id → get s.bounds id ≡ None) → next < 2 ^ 32 → event_count s < 2 ^ 16 → bound_of s e ≡ Some b → Fits_edge e
+fits_in : (s : Setting) (next : ℕ) (e : Edge) (b : Bound) → ((id : ℕ) → next ≤ id → get s.bounds id ≡ None) → next < 2 ^ 32 → event_count s < 2 ^ 16 → bound_of s e ≡ Some b → Fits_edge e
 fits_in s next (Own id) b free ids events is =
     elim (cases_lt id.0 next) [
       | inl lt ↦ omega arith
@@ -55,7 +55,7 @@ fits_in s next (End e) b free ids events is =
     let o = opened s e p.0 in
     let lt : e < event_count s = o.0 in omega arith
 
-fits_all : (s : Situation) (next : ℕ) (es : List Edge) (bs : List Bound) → ((id : ℕ) → next ≤ id → get s.bounds id ≡ None) → next < 2 ^ 32 → event_count s < 2 ^ 16 → AreBounds s es bs → Fit_edges es
+fits_all : (s : Setting) (next : ℕ) (es : List Edge) (bs : List Bound) → ((id : ℕ) → next ≤ id → get s.bounds id ≡ None) → next < 2 ^ 32 → event_count s < 2 ^ 16 → AreBounds s es bs → Fit_edges es
 fits_all s next [] bs free ids events are = tt
 fits_all s next (e ∷ es) [] free ids events are = absurd are
 fits_all s next (e ∷ es) (b ∷ bs) free ids events are = (fits_in s next e b free ids events are.0, fits_all s next es bs free ids events are.1)

@@ -10,7 +10,7 @@ use Rattle.std.proofs.lemmas.Int.{ints}
 use Rattle.tp_bounds.specs.declared.Bound.{Bound}
 use Rattle.tp_bounds.specs.declared.Point.{Point}
 use Rattle.tp_bounds.specs.declared.Point.TheVariants.{Origin, Event}
-use Rattle.tp_bounds.specs.Situation.{Situation, event_count, lag_of, HasPoint, IsInRange}
+use Rattle.tp_bounds.specs.Setting.{Setting, event_count, lag_of, HasPoint, IsInRange}
 use Rattle.tp_bounds.specs.Lawful.{IsLawful, Suits}
 use Rattle.tp_exec.specs.declared.command.Kind.{Kind}
 use Rattle.tp_exec.specs.declared.command.Kind.TheVariants.{Bare, Kept, Altered}
@@ -28,7 +28,7 @@ lags_are least e n [] low high each = tt
 lags_are least e n (l ∷ ls) low high each =
     lag_put (nat_eq l 0) least e n l (lags_from (e + 1) ls) refl low (omega arith) (each 0) (lags_are least (e + 1) n ls (omega arith) (omega arith) (λ k. each (suc k))) (lags_are (e + 1) (e + 1) n ls (omega arith) (omega arith) (λ k. each (suc k)))
 
-point_writable : (s : Situation) (p : Point) → event_count s ≤ 1_024 → HasPoint s p → IsWritablePoint p
+point_writable : (s : Setting) (p : Point) → event_count s ≤ 1_024 → HasPoint s p → IsWritablePoint p
 point_writable s Origin few has = tt
 point_writable s (Event e) few has = let lt : e < event_count s = has in omega arith
 
@@ -36,7 +36,7 @@ weight_writable : (w : ℤ) → IsInRange w → IsWritableWeight w
 weight_writable (pos n) h = omega (arith, ints, h.not_high)
 weight_writable (negsuc n) h = omega (arith, ints, h.not_low)
 
-suited : (s : Situation) (b : Bound) → event_count s ≤ 1_024 → Suits s b → IsWritable b
+suited : (s : Setting) (b : Bound) → event_count s ≤ 1_024 → Suits s b → IsWritable b
 suited s b few h = (point_writable s b.from few h.from, point_writable s b.to few h.to, weight_writable b.w h.weight)
 
 bound_put : (o : Option Bound) (rest : List Bound) → ((b : Bound) → o ≡ Some b → IsWritable b) → All IsWritable rest → All IsWritable (before_bounds o rest)

@@ -2,7 +2,7 @@
 use Rattle.std.proofs.Common.{◌≡◌, ℕ, suc, inl, inr, List, [], ◌∷◌, Option, Some, None, refl, ap, sym, subst, ◌∙◌}
 use Rattle.std.specs.Prelude.{MatchOption}
 use Rattle.tp_bounds.specs.declared.Bound.{Bound}
-use Rattle.tp_bounds.specs.Situation.{Situation}
+use Rattle.tp_bounds.specs.Setting.{Setting}
 use Rattle.tp_bounds.specs.Changes.{with_bound}
 use Rattle.tp_bounds.specs.OwnBounds.{with_bounds}
 use Rattle.tp_bounds.specs.RunLimits.{RunLimits}
@@ -41,7 +41,7 @@ by_refusal (Some r) m new c a h step = subst IsSound (sym step.1) h
 pub step_sound : (m new : Machine) (c : Command) (a : Answer) → IsSound m → Step m c a new → IsSound new
 step_sound m new c a h step = by_refusal (first_refusal m c) m new c a h step
 
-asks_the_same : (s : Situation) (id : ℕ) (bs : List Bound) → (with_bounds s id bs).proposed ≡ s.proposed
+asks_the_same : (s : Setting) (id : ℕ) (bs : List Bound) → (with_bounds s id bs).proposed ≡ s.proposed
 asks_the_same s id [] = refl
 asks_the_same s id (b ∷ bs) = asks_the_same (with_bound s id b) (suc id) bs
 
@@ -52,9 +52,9 @@ new_sound m (inr p) =
     subst IsSound (sym p.3) (record { unused = unused_behind p.0 p.2 p.1; asks_nothing = asks_the_same p.0 0 p.1 ∙ p.2.asks_nothing })
 
 -- an executive that `bare` made is new
-pub bare_is_new : (m : Machine) (s : Situation) (limits : RunLimits) → IsFresh s → m ≡ new_machine s limits → IsNewExecutive m
+pub bare_is_new : (m : Machine) (s : Setting) (limits : RunLimits) → IsFresh s → m ≡ new_machine s limits → IsNewExecutive m
 bare_is_new m s limits fresh is = inl (s, fresh, is ∙ ap (new_machine s) (sym (ap (λ x. x.limits) is)))
 
 -- and so is one that `from_plan` made
-pub plan_is_new : (m : Machine) (s : Situation) (bounds : List Bound) (limits : RunLimits) → IsFresh s → m ≡ plan_machine s bounds limits → IsNewExecutive m
+pub plan_is_new : (m : Machine) (s : Setting) (bounds : List Bound) (limits : RunLimits) → IsFresh s → m ≡ plan_machine s bounds limits → IsNewExecutive m
 plan_is_new m s bounds limits fresh is = inr (s, bounds, fresh, is ∙ ap (plan_machine s bounds) (sym (ap (λ x. x.limits) is)))

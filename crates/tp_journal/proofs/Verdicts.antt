@@ -4,7 +4,7 @@ use Rattle.std.specs.declared.alloc.AllocError.{AllocError}
 use Rattle.tp_bounds.specs.declared.BoundId.{BoundId}
 use Rattle.tp_bounds.specs.declared.Bound.{Bound}
 use Rattle.tp_bounds.specs.Schedule.{IsWindow, HasSchedule}
-use Rattle.tp_bounds.specs.Situation.{event_count, fixed_at}
+use Rattle.tp_bounds.specs.Setting.{event_count, fixed_at}
 use Rattle.tp_exec.specs.declared.command.Command.{Command}
 use Rattle.tp_exec.specs.declared.command.Kind.{Kind}
 use Rattle.tp_exec.specs.declared.command.Command.TheVariants.{Advance, Add, Withdraw, Window, Dispatch, Happened, Report as Tell}

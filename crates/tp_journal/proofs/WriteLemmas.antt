@@ -22,7 +22,7 @@ use Rattle.tp_script.specs.Written.{bound_line, command_line}
 use Rattle.std.specs.Ordering.{nat_cmp}
 use Rattle.std.specs.FinMap.{FinMap, get}
 use Rattle.tp_bounds.specs.declared.Bound.{Bound}
-use Rattle.tp_bounds.specs.Situation.{event_count}
+use Rattle.tp_bounds.specs.Setting.{event_count}
 use Rattle.tp_exec.proofs.OwnBounds.{own_there}
 use Rattle.tp_script.specs.Serving.{commands_of}
 use Rattle.tp_script.proofs.LineLemmas.{consumes_more, consumes_same}

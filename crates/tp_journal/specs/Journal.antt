@@ -7,7 +7,7 @@ use Rattle.std.specs.FinMap.{FinMap, get}
 use Rattle.tp_bounds.specs.declared.Bound.{Bound}
 use Rattle.tp_bounds.specs.declared.Point.{Point}
 use Rattle.tp_bounds.specs.declared.Point.TheVariants.{Origin, Event}
-use Rattle.tp_bounds.specs.Situation.{event_count}
+use Rattle.tp_bounds.specs.Setting.{event_count}
 use Rattle.tp_exec.specs.declared.command.Kind.{Kind}
 use Rattle.tp_exec.specs.declared.command.Kind.TheVariants.{Bare, Kept, Altered}
 use Rattle.tp_exec.specs.declared.command.Command.{Command}

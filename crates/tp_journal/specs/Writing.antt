@@ -4,7 +4,7 @@ use Rattle.std.specs.FinMap.{get}
 use Rattle.std.specs.Io.KnownBytes.{Appends, Consumes, IsAtEnd}
 use Rattle.tp_device.specs.Bytes.{AppendsPart}
 use Rattle.tp_bounds.specs.declared.Bound.{Bound}
-use Rattle.tp_bounds.specs.Situation.{Situation}
+use Rattle.tp_bounds.specs.Setting.{Setting}
 use Rattle.tp_exec.specs.Machine.{Machine, IsFresh, new_machine, plan_machine}
 use Rattle.tp_exec.specs.declared.command.Answer.{Answer}
 use Rattle.tp_exec.specs.declared.command.Command.{Command}
@@ -25,8 +25,8 @@ use Rattle.tp_journal.specs.Journal.{Entry, Runs, pair_lines, journal_lines, tex
 -- the executive is as `bare` leaves it, or as `from_plan` does
 abbrev pub IsNewExecutive : Machine → Type 0
 IsNewExecutive m =
-    ((s : Situation) × IsFresh s × (m ≡ new_machine s m.limits))
-    ⊎ ((s : Situation) × (bounds : List Bound) × IsFresh s × (m ≡ plan_machine s bounds m.limits))
+    ((s : Setting) × IsFresh s × (m ≡ new_machine s m.limits))
+    ⊎ ((s : Setting) × (bounds : List Bound) × IsFresh s × (m ≡ plan_machine s bounds m.limits))
 
 -- each identifier below the next one is that of a bound in force
 abbrev pub AllAreInForce : Machine → Type 0

@@ -4,7 +4,7 @@ ghost use Rattle.std.specs.Prelude.{◌≡◌, ◌≢◌, ◌↔◌, ◌<◌, �
 ghost use Rattle.std.specs.List.{AllByRecursion};
 ghost use Rattle.std.specs.FinMap as map;
 ghost use Rattle.tp_bounds.specs.declared.Point.{Point};
-ghost use Rattle.tp_bounds.specs.Situation.{fixed_at, event_count, floor_of};
+ghost use Rattle.tp_bounds.specs.Setting.{fixed_at, event_count, floor_of};
 ghost use Rattle.tp_bounds.specs.Reasons.{at_most, at_least, is_open, bound_of, BeginApart, weight_of, IsReason, BeginsWith};
 ghost use Rattle.tp_bounds.specs.Certificates.{bounds_of, IsChain, IsClosedChain};
 ghost use Rattle.tp_exec.specs.Step.{asked, brings};

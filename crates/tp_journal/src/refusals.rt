@@ -1,7 +1,7 @@
 //! The first refusal that applies to a command whatever schedules remain.
 
 ghost use Rattle.std.specs.Prelude.{◌≡◌, Bool};
-ghost use Rattle.tp_bounds.specs.Situation.{event_count};
+ghost use Rattle.tp_bounds.specs.Setting.{event_count};
 ghost use Rattle.tp_exec.specs.Step.{first_refusal, is_point_of, is_in_range, may_want_memory};
 
 use tp_bounds::{Bound, BoundId, Point};

@@ -5,8 +5,8 @@ use Rattle.std.specs.Io.KnownBytes.{Appends}
 use Rattle.tp_device.specs.Bytes.{AppendsPart}
 use Rattle.tp_device.proofs.Parts.{appends_none}
 use Rattle.std.proofs.lemmas.List.{length-replicate}
-use Rattle.tp_bounds.specs.Situation.{Situation, event_count}
-use Rattle.tp_net.specs.NewNet.{new_situation}
+use Rattle.tp_bounds.specs.Setting.{Setting, event_count}
+use Rattle.tp_net.specs.NewNet.{new_setting}
 use Rattle.tp_bounds.specs.RunLimits.{RunLimits}
 use Rattle.tp_exec.specs.Machine.{Machine}
 use Rattle.tp_files.specs.FaultLines.{Tells}
@@ -22,7 +22,7 @@ use Rattle.tp_log_audits.specs.declared.auditing.Found.TheVariants.{Journal, Wro
 
 -- ---- against the machine that a head tells
 
-pub events_new : (n h : ℕ) → event_count (new_situation n h) ≡ n
+pub events_new : (n h : ℕ) → event_count (new_setting n h) ≡ n
 events_new n h = length-replicate n None
 
 pub told_found : (found : Found) (head : JournalHead) (m : Machine) (input : Option (List ℕ)) → m ≡ bare_machine head → head.own ≡ None → IsFound m input found → IsToldFound head input found

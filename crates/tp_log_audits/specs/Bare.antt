@@ -3,7 +3,7 @@ use Rattle.std.specs.Prelude.{◌≡◌, ℕ, ◌+◌, ◌<◌, ◌≤◌, ◌�
 use Rattle.std.specs.List.{All}
 use Rattle.std.specs.Io.KnownBytes.{Appends}
 use Rattle.tp_device.specs.Bytes.{AppendsPart}
-use Rattle.tp_bounds.specs.Situation.{Situation}
+use Rattle.tp_bounds.specs.Setting.{Setting}
 use Rattle.tp_bounds.specs.Changes.{with_lag}
 use Rattle.tp_exec.specs.Machine.{Machine}
 use Rattle.tp_files.specs.FaultLines.{Tells}
@@ -36,7 +36,7 @@ pub record IsBareHead (head : JournalHead) : Type 0 where
   pub fits : HeadFits head
 
 -- with these lags, one after another
-abbrev pub lagged : Situation → List (ℕ × ℕ) → Situation
+abbrev pub lagged : Setting → List (ℕ × ℕ) → Setting
 lagged s [] = s
 lagged s (lag ∷ lags) = lagged (with_lag s lag.0 lag.1) lags
 

@@ -4,7 +4,7 @@ ghost use Rattle.std.specs.List.{All};
 ghost use Rattle.tp_exec.specs.Machine.{IsFresh};
 ghost use Rattle.tp_files.specs.FaultLines.{TellsFault};
 ghost use Rattle.tp_journal.specs.Writing.{IsNewExecutive};
-ghost use Rattle.tp_bounds.specs.Situation.{event_count};
+ghost use Rattle.tp_bounds.specs.Setting.{event_count};
 ghost use Rattle.tp_log_audits.specs.Audits.{say_failures};
 ghost use Rattle.tp_log_audits.specs.Bare.{EndsBareAudit, HeadFits, HindersBare, HindersTold, IsBareFound, IsBareHead, IsToldFound, LagFits, SaysAuditPart, SaysBare, SaysJournal, SaysWrong, StopsBareAudit, bare_machine, lagged};
 

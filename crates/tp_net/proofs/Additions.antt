@@ -42,7 +42,7 @@ sum_fits links seed amount low amounts ranks parents new s small weight among ga
       | inr none ↦ omega (arith, a, b)
     ]
 
-pub raise_stands : (arcs : List Arc) (links : List Link) (new : Arc) (amount : ℕ) (low amounts ranks parents low' : List ℕ)
+pub raise_consistent : (arcs : List Arc) (links : List Link) (new : Arc) (amount : ℕ) (low amounts ranks parents low' : List ℕ)
     → 0 < length low
     → All (JoinsPoints (length low)) arcs
     → JoinsPoints (length low) new
@@ -54,7 +54,7 @@ pub raise_stands : (arcs : List Arc) (links : List Link) (new : Arc) (amount : �
     → length low' ≡ length low
     → ((x : ℕ) → x < length low → get_or low' x 0 ≡ get_or low x 0 + get_or amounts x 0)
     → IsLeast (arcs ++ new ∷ []) low'
-raise_stands arcs links new amount low amounts ranks parents low' some among new_among up gap s old quiet len each =
+raise_consistent arcs links new amount low amounts ranks parents low' some among new_among up gap s old quiet len each =
     let n = length low in
     let f : ℕ → ℕ = λ x. get_or low x 0 in
     let g : ℕ → ℕ = λ x. get_or amounts x 0 in
@@ -125,8 +125,8 @@ module _ (arcs : List Arc) (links : List Link) (new : Arc) (amount left : ℕ) (
     new_is : arc_at (arcs ++ new ∷ []) (length arcs) ≡ new
     new_is = get_or-append_seam arcs new [] no_arc
 
-    pub raise_circle : CycleBeginsWith (arcs ++ new ∷ []) (length arcs) (length arcs ∷ path)
-    raise_circle =
+    pub raise_negative_cycle : CycleBeginsWith (arcs ++ new ∷ []) (length arcs) (length arcs ∷ path)
+    raise_negative_cycle =
         let begins : (arc_at (arcs ++ new ∷ []) (length arcs)).from ≡ new.from = ap (λ (x : Arc). x.from) new_is in
         let ends : (arc_at (arcs ++ new ∷ []) (length arcs)).to ≡ new.to = ap (λ (x : Arc). x.to) new_is in
         let weight : (arc_at (arcs ++ new ∷ []) (length arcs)).weight ≡ new.weight = ap (λ (x : Arc). x.weight) new_is in

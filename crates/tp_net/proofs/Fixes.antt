@@ -9,7 +9,7 @@ use Rattle.std.proofs.lemmas.Bool.Decides.{nat_tests}
 use Rattle.tp_bounds.specs.declared.Bound.{Bound}
 use Rattle.tp_bounds.specs.declared.Edge.{Edge}
 use Rattle.tp_bounds.specs.declared.Edge.TheVariants.{Own, New, PastHigh, PastLow, Now, End}
-use Rattle.tp_bounds.specs.Situation.{Situation, event_count, fixed_at, floor_of}
+use Rattle.tp_bounds.specs.Setting.{Setting, event_count, fixed_at, floor_of}
 use Rattle.tp_bounds.specs.Changes.{with_fixed}
 use Rattle.tp_bounds.specs.Reasons.{bound_of, at_least, at_most, is_open}
 use Rattle.tp_bounds.proofs.Chains.{from_cond, from_map, opened}
@@ -29,8 +29,8 @@ use Rattle.tp_net.proofs.KeptMoments.{kept_among}
 use Rattle.tp_net.proofs.Starts.{start}
 use Rattle.tp_net.proofs.BoxSound.{has_point_fixed}
 
--- an edge of the situation that is asked for, as tight as b and between the same points
-abbrev pub IsAsTight : Situation → Edge → Bound → Type 0
+-- an edge of the setting that is asked for, as tight as b and between the same points
+abbrev pub IsAsTight : Setting → Edge → Bound → Type 0
 IsAsTight asked f b = (c : Bound) × (bound_of asked f ≡ Some c) × (c.from ≡ b.from) × (c.to ≡ b.to) × (c.w ≤ℤ b.w)
 
 -- between two solutions lies another
@@ -47,7 +47,7 @@ between_solution arcs low high known back some among l h each = (
       omega (arith, ints, a, b, p, q)),
 )
 
-module _ (s : Situation) (e m : ℕ) (lt : e < event_count s) (free : fixed_at s e ≡ None) (floor : floor_of s e ≤ m) (soon : m ≤ s.horizon)
+module _ (s : Setting) (e m : ℕ) (lt : e < event_count s) (free : fixed_at s e ≡ None) (floor : floor_of s e ≤ m) (soon : m ≤ s.horizon)
   where
     now_is : fixed_at (with_fixed s e m) e ≡ Some m
     now_is = get_or-set_same s.fixed e (Some m) None lt
@@ -96,7 +96,7 @@ module _ (s : Situation) (e m : ℕ) (lt : e < event_count s) (free : fixed_at s
           subst (λ (z : Arc). y.0.w ≤ℤ z.weight) (sym x.2) y.4,
         )
 
-    -- ---- the edges of the situation in which it is fixed
+    -- ---- the edges of the setting in which it is fixed
 
     abbrev pub past_bound : Edge → Bound → Bound
     past_bound (Own id) b = b

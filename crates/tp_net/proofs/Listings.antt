@@ -1,4 +1,4 @@
--- The schedules of the arcs are those of the situation.
+-- The schedules of the arcs are those of the setting.
 use Rattle.std.proofs.Common.{◌≡◌, ℕ, zero, suc, ◌<◌, ◌⊎◌, inl, inr, List, [], ◌∷◌, ◌++◌, length, get_or, length-append, Some, None, true, refl, sym, ap, subst, ◌∙◌, arith, nat_lt}
 use Rattle.std.specs.Prelude.{ℤ, pos}
 use Rattle.std.specs.Option.{option_map}
@@ -12,7 +12,7 @@ use Rattle.tp_bounds.specs.declared.Point.TheVariants.{Origin, Event}
 use Rattle.tp_bounds.specs.declared.Bound.{Bound}
 use Rattle.tp_bounds.specs.declared.Edge.{Edge}
 use Rattle.tp_bounds.specs.declared.Edge.TheVariants.{Own, New, PastHigh, PastLow, Now, End}
-use Rattle.tp_bounds.specs.Situation.{Situation, event_count, fixed_at, floor_of}
+use Rattle.tp_bounds.specs.Setting.{Setting, event_count, fixed_at, floor_of}
 use Rattle.tp_bounds.specs.Schedule as bounds
 use Rattle.tp_bounds.specs.Schedule.{moment_of}
 use Rattle.tp_bounds.specs.Reasons.{bound_of, at_least, at_most, is_open}
@@ -42,25 +42,25 @@ met_back u t a b h =
     let g = agree_point u t a b.to in
     omega (arith, ints, f, g, h)
 
-open_of : (s : Situation) (e : ℕ) → e < event_count s → fixed_at s e ≡ None → is_open s e ≡ true
+open_of : (s : Setting) (e : ℕ) → e < event_count s → fixed_at s e ≡ None → is_open s e ≡ true
 open_of s e lt is =
     let a : nat_lt e (event_count s) ≡ true = grind (arith, nat_tests, lt) in
     rw (a, is) refl
 
-pub now_edge : (s : Situation) (e : ℕ) → e < event_count s → fixed_at s e ≡ None → bound_of s (Now e) ≡ Some (at_least e (floor_of s e))
+pub now_edge : (s : Setting) (e : ℕ) → e < event_count s → fixed_at s e ≡ None → bound_of s (Now e) ≡ Some (at_least e (floor_of s e))
 now_edge s e lt is = rw (open_of s e lt is) refl
 
-pub end_edge : (s : Situation) (e : ℕ) → e < event_count s → fixed_at s e ≡ None → bound_of s (End e) ≡ Some (at_most e s.horizon)
+pub end_edge : (s : Setting) (e : ℕ) → e < event_count s → fixed_at s e ≡ None → bound_of s (End e) ≡ Some (at_most e s.horizon)
 end_edge s e lt is = rw (open_of s e lt is) refl
 
-pub high_edge : (s : Situation) (e m : ℕ) → fixed_at s e ≡ Some m → bound_of s (PastHigh e) ≡ Some (at_most e m)
+pub high_edge : (s : Setting) (e m : ℕ) → fixed_at s e ≡ Some m → bound_of s (PastHigh e) ≡ Some (at_most e m)
 high_edge s e m is = ap (option_map (at_most e)) is
 
-pub low_edge : (s : Situation) (e m : ℕ) → fixed_at s e ≡ Some m → bound_of s (PastLow e) ≡ Some (at_least e m)
+pub low_edge : (s : Setting) (e m : ℕ) → fixed_at s e ≡ Some m → bound_of s (PastLow e) ≡ Some (at_least e m)
 low_edge s e m is = ap (option_map (at_least e)) is
 
 -- what meets each edge is a schedule
-pub meets_all : (s : Situation) (t : ℕ → ℕ) → ((e : Edge) (b : Bound) → bound_of s e ≡ Some b → bounds.Meets t b) → bounds.IsSchedule s t
+pub meets_all : (s : Setting) (t : ℕ → ℕ) → ((e : Edge) (b : Bound) → bound_of s e ≡ Some b → bounds.Meets t b) → bounds.IsSchedule s t
 meets_all s t h =
     record {
       past = λ e m is. (
@@ -78,7 +78,7 @@ meets_all s t h =
     }
 
 -- the arc of a name
-pub arc_named : (P : Edge → Type 0) (s : Situation) (names : List Edge) (arcs : List Arc) → ListsArcs P s names arcs → (e : Edge) (b : Bound) → bound_of s e ≡ Some b
+pub arc_named : (P : Edge → Type 0) (s : Setting) (names : List Edge) (arcs : List Arc) → ListsArcs P s names arcs → (e : Edge) (b : Bound) → bound_of s e ≡ Some b
     → (k : ℕ) → k < length arcs → name_at names k ≡ e → arc_at arcs k ≡ arc_of b
 arc_named P s names arcs a e b is k within named =
     let x = a.exist k within in
@@ -86,7 +86,7 @@ arc_named P s names arcs a e b is k within named =
     let one_is : x.0 ≡ b = cc in
     x.2 ∙ ap arc_of one_is
 
-pub schedule_there : (s : Situation) (names : List Edge) (arcs : List Arc) → AreArcs s names arcs → (u : ℕ → ℤ) (t : ℕ → ℕ) → Agrees u t → bounds.IsSchedule s t → IsSolution arcs u
+pub schedule_there : (s : Setting) (names : List Edge) (arcs : List Arc) → AreArcs s names arcs → (u : ℕ → ℤ) (t : ℕ → ℕ) → Agrees u t → bounds.IsSchedule s t → IsSolution arcs u
 schedule_there s names arcs a u t same sch = (
   same.origin,
   λ k d within.
@@ -94,7 +94,7 @@ schedule_there s names arcs a u t same sch = (
       subst (MeetsArc u) (sym x.2 ∙ get_or_default arcs k no_arc d within) (met_there u t same x.0 (bound_met s t sch (name_at names k) x.0 x.1))),
 )
 
-pub schedule_back : (s : Situation) (names : List Edge) (arcs : List Arc) → AreArcs s names arcs → (u : ℕ → ℤ) (t : ℕ → ℕ) → Agrees u t → IsSolution arcs u → bounds.IsSchedule s t
+pub schedule_back : (s : Setting) (names : List Edge) (arcs : List Arc) → AreArcs s names arcs → (u : ℕ → ℤ) (t : ℕ → ℕ) → Agrees u t → IsSolution arcs u → bounds.IsSchedule s t
 schedule_back s names arcs a u t same sch = meets_all s t (λ e b is.
     (let x = a.all e b is tt in
     met_back u t same b (subst (MeetsArc u) (arc_named (λ _. Unit {0}) s names arcs a e b is x.0 x.1 x.2) (sch.1 x.0 no_arc x.1))))
@@ -115,7 +115,7 @@ pub agree_lift : (t : ℕ → ℕ) → Agrees (lift t) t
 agree_lift t = record { origin = refl; events = λ e. refl }
 
 -- one more edge
-pub listed_more : (P : Edge → Type 0) (s : Situation) (names : List Edge) (arcs : List Arc) (e : Edge) (b : Bound)
+pub listed_more : (P : Edge → Type 0) (s : Setting) (names : List Edge) (arcs : List Arc) (e : Edge) (b : Bound)
     → ListsArcs P s names arcs → bound_of s e ≡ Some b → ListsArcs (λ f. (f ≡ e) ⊎ P f) s (names ++ e ∷ []) (arcs ++ arc_of b ∷ [])
 listed_more P s names arcs e b a is =
     let n = length-append arcs (arc_of b ∷ []) in
@@ -138,6 +138,6 @@ listed_more P s names arcs e b a is =
       ]);
     }
 
-pub listed_among : (P Q : Edge → Type 0) (s : Situation) (names : List Edge) (arcs : List Arc)
+pub listed_among : (P Q : Edge → Type 0) (s : Setting) (names : List Edge) (arcs : List Arc)
     → ListsArcs P s names arcs → ((e : Edge) (b : Bound) → bound_of s e ≡ Some b → Q e → P e) → ListsArcs Q s names arcs
 listed_among P Q s names arcs a there = record { len = a.len; exist = a.exist; all = λ e b is q. a.all e b is (there e b is q) }

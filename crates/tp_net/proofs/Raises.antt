@@ -5,7 +5,7 @@ use Rattle.std.proofs.lemmas.Int.{ints}
 use Rattle.tp_bounds.specs.declared.Bound.{Bound}
 use Rattle.tp_bounds.specs.declared.Edge.{Edge}
 use Rattle.tp_bounds.specs.declared.Edge.TheVariants.{Own, New, PastHigh, PastLow, Now, End}
-use Rattle.tp_bounds.specs.Situation.{Situation, floor_of}
+use Rattle.tp_bounds.specs.Setting.{Setting, floor_of}
 use Rattle.tp_bounds.specs.Changes.{at_moment}
 use Rattle.tp_bounds.specs.Reasons.{bound_of, at_least, is_open}
 use Rattle.tp_bounds.proofs.Chains.{from_cond, opened}
@@ -36,7 +36,7 @@ raised_arc now lags (PastLow e) b = refl
 raised_arc now lags (Now e) b = refl
 raised_arc now lags (End e) b = refl
 
-pub moved : (s : Situation) (now : ℕ) (e : Edge) (b : Bound) → bound_of s e ≡ Some b → bound_of (at_moment s now) e ≡ Some (raised_bound now s.lags e b)
+pub moved : (s : Setting) (now : ℕ) (e : Edge) (b : Bound) → bound_of s e ≡ Some b → bound_of (at_moment s now) e ≡ Some (raised_bound now s.lags e b)
 moved s now (Own id) b h = h
 moved s now New b h = h
 moved s now (PastHigh e) b h = h
@@ -47,7 +47,7 @@ moved s now (Now e) b h =
     now_edge (at_moment s now) e o.0 o.1 ∙ ap (λ (c : Bound). Some (record { from = c.from; to = c.to; w = pos 0 -ℤ pos (floor_at now s.lags e) })) m.1
 moved s now (End e) b h = h
 
-pub there_was : (s : Situation) (now : ℕ) (e : Edge) (c : Bound) → bound_of (at_moment s now) e ≡ Some c → (b : Bound) × (bound_of s e ≡ Some b)
+pub there_was : (s : Setting) (now : ℕ) (e : Edge) (c : Bound) → bound_of (at_moment s now) e ≡ Some c → (b : Bound) × (bound_of s e ≡ Some b)
 there_was s now (Own id) b h = (b, h)
 there_was s now New b h = (b, h)
 there_was s now (PastHigh e) b h = (b, h)
@@ -59,10 +59,10 @@ there_was s now (Now e) b h =
 there_was s now (End e) b h = (b, h)
 
 -- to the moment that is now
-pub at_same : (s : Situation) (now : ℕ) → now ≡ s.clock → at_moment s now ≡ s
+pub at_same : (s : Setting) (now : ℕ) → now ≡ s.clock → at_moment s now ≡ s
 at_same s now is = ap (at_moment s) is
 
-pub listed_raised : (s : Situation) (now : ℕ) (names : List Edge) (arcs raised : List Arc) → AreArcs s names arcs → AreRaised now s.lags names arcs raised → AreArcs (at_moment s now) names raised
+pub listed_raised : (s : Setting) (now : ℕ) (names : List Edge) (arcs raised : List Arc) → AreArcs s names arcs → AreRaised now s.lags names arcs raised → AreArcs (at_moment s now) names raised
 listed_raised s now names arcs raised a r = record {
   len = a.len ∙ sym r.len;
   exist = λ k within.
@@ -76,7 +76,7 @@ listed_raised s now names arcs raised a r = record {
 }
 
 -- each edge is at least as tight as before
-tighter : (s : Situation) (now : ℕ) → s.clock ≤ now → (e : Edge) (b : Bound) → bound_of s e ≡ Some b → (c : Bound) × (bound_of (at_moment s now) e ≡ Some c) × (c.from ≡ b.from) × (c.to ≡ b.to) × (c.w ≤ℤ b.w)
+tighter : (s : Setting) (now : ℕ) → s.clock ≤ now → (e : Edge) (b : Bound) → bound_of s e ≡ Some b → (c : Bound) × (bound_of (at_moment s now) e ≡ Some c) × (c.from ≡ b.from) × (c.to ≡ b.to) × (c.w ≤ℤ b.w)
 tighter s now le (Own id) b h = (b, h, refl, refl, omega (arith, ints))
 tighter s now le New b h = (b, h, refl, refl, omega (arith, ints))
 tighter s now le (PastHigh e) b h = (b, h, refl, refl, omega (arith, ints))
@@ -87,11 +87,11 @@ tighter s now le (Now e) b h =
     (record { from = b.from; to = b.to; w = pos 0 -ℤ pos (floor_at now s.lags e) }, moved s now (Now e) b h, refl, refl, omega (arith, ints, w, le))
 tighter s now le (End e) b h = (b, h, refl, refl, omega (arith, ints))
 
-pub contrary_raise : (s : Situation) (names : List Edge) (arcs : List Arc) (low high : List ℕ) (now e : ℕ) → IsKept s names arcs low high → now ≤ s.horizon → CannotWait s.fixed high s.lags now e
+pub contrary_raise : (s : Setting) (names : List Edge) (arcs : List Arc) (low high : List ℕ) (now e : ℕ) → IsKept s names arcs low high → now ≤ s.horizon → CannotWait s.fixed high s.lags now e
     → IsContrary names arcs low (arc_of (at_least e (floor_at now s.lags e)))
 contrary_raise s names arcs low high now e k soon h = contrary_after s names arcs low high names e (floor_at now s.lags e) k refl h.event (omega (arith, soon)) h.early
 
-pub refused_raise : (s : Situation) (names : List Edge) (arcs : List Arc) (low high : List ℕ) (now e : ℕ) (edges : List Edge)
+pub refused_raise : (s : Setting) (names : List Edge) (arcs : List Arc) (low high : List ℕ) (now e : ℕ) (edges : List Edge)
     → IsKept s names arcs low high → s.clock ≤ now → CannotWait s.fixed high s.lags now e → NamesCycle names arcs (Now e) (arc_of (at_least e (floor_at now s.lags e))) edges
     → Refutes IsNow (at_moment s now) (at_moment s now) edges
 refused_raise s names arcs low high now e edges k le late h =
@@ -101,11 +101,11 @@ refused_raise s names arcs low high now e edges k le late h =
     (reason_of (at_moment s now) (names ++ Now e ∷ []) (arcs ++ arc_of (at_least e (floor_at now s.lags e)) ∷ []) stand h.0 h.1.negative)
     (first_named IsNow names (Now e) arcs (arc_of (at_least e (floor_at now s.lags e))) h.0 k.listed.len (e, refl) h.1))
 
-pub fit_raised : (s : Situation) (now : ℕ) → IsFit s → now ≤ s.horizon → IsFit (at_moment s now)
+pub fit_raised : (s : Setting) (now : ℕ) → IsFit s → now ≤ s.horizon → IsFit (at_moment s now)
 fit_raised s now h soon =
     record { from = h.from; to = h.to; weight = h.weight; past = h.past; lags = h.lags; lag = h.lag; events = h.events; horizon = h.horizon; in_time = soon; asks_nothing = h.asks_nothing }
 
-module _ (s : Situation) (names : List Edge) (arcs : List Arc) (low high : List ℕ) (now : ℕ) (raised : List Arc)
+module _ (s : Setting) (names : List Edge) (arcs : List Arc) (low high : List ℕ) (now : ℕ) (raised : List Arc)
     (k : IsKept s names arcs low high) (r : AreRaised now s.lags names arcs raised) (soon : now ≤ s.horizon)
   where
     a : AreArcs (at_moment s now) names raised

@@ -11,7 +11,7 @@ use Rattle.tp_bounds.specs.declared.Point.TheVariants.{Origin, Event}
 use Rattle.tp_bounds.specs.declared.Bound.{Bound}
 use Rattle.tp_bounds.specs.declared.Edge.{Edge}
 use Rattle.tp_bounds.specs.declared.Edge.TheVariants.{New}
-use Rattle.tp_bounds.specs.Situation.{Situation}
+use Rattle.tp_bounds.specs.Setting.{Setting}
 use Rattle.tp_bounds.specs.Reasons as reasons
 use Rattle.tp_bounds.specs.Reasons.{bound_of, AreBounds, Leads, IsClosed, BeginApart}
 use Rattle.tp_net.specs.declared.slacks.Arc.{Arc}
@@ -33,7 +33,7 @@ the_bound_is : (o : Option Bound) (b : Bound) → o ≡ Some b → the_bound o �
 the_bound_is None b h = absurd (let f : ⊥ = cc in f)
 the_bound_is (Some c) b h = cc
 
-module _ (asked : Situation) (names : List Edge) (arcs : List Arc) (stand : Stand asked names arcs) where
+module _ (asked : Setting) (names : List Edge) (arcs : List Arc) (stand : Stand asked names arcs) where
   abbrev bound_at : ℕ → Bound
   bound_at k = the_bound (bound_of asked (name_at names k))
 
@@ -94,7 +94,7 @@ module _ (asked : Situation) (names : List Edge) (arcs : List Arc) (stand : Stan
   }
 
 -- names that stand, and one more that does
-pub stand_more : (asked : Situation) (names : List Edge) (arcs : List Arc) (e : Edge) (b : Bound) → Stand asked names arcs → length names ≡ length arcs → bound_of asked e ≡ Some b → Stand asked (names ++ e ∷ []) (arcs ++ arc_of b ∷ [])
+pub stand_more : (asked : Setting) (names : List Edge) (arcs : List Arc) (e : Edge) (b : Bound) → Stand asked names arcs → length names ≡ length arcs → bound_of asked e ≡ Some b → Stand asked (names ++ e ∷ []) (arcs ++ arc_of b ∷ [])
 stand_more asked names arcs e b stand len is k within =
     elim (same_or k (length arcs)) [
       | inl same ↦
@@ -117,8 +117,8 @@ stand_more asked names arcs e b stand len is k within =
           ))
     ]
 
--- the names of a situation's own edges stand in another one with the same edges or tighter ones
-pub stand_of : (s asked : Situation) (names : List Edge) (arcs : List Arc) → AreArcs s names arcs
+-- the names of a setting's own edges stand in another one with the same edges or tighter ones
+pub stand_of : (s asked : Setting) (names : List Edge) (arcs : List Arc) → AreArcs s names arcs
     → ((e : Edge) (b : Bound) → bound_of s e ≡ Some b → (c : Bound) × (bound_of asked e ≡ Some c) × (c.from ≡ b.from) × (c.to ≡ b.to) × (c.w ≤ℤ b.w))
     → Stand asked names arcs
 stand_of s asked names arcs a tighter k within =

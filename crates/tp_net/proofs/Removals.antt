@@ -8,7 +8,7 @@ use Rattle.tp_bounds.specs.declared.Bound.{Bound}
 use Rattle.tp_bounds.specs.declared.BoundId.{BoundId}
 use Rattle.tp_bounds.specs.declared.Edge.{Edge}
 use Rattle.tp_bounds.specs.declared.Edge.TheVariants.{Own, New, PastHigh, PastLow, Now, End}
-use Rattle.tp_bounds.specs.Situation.{Situation}
+use Rattle.tp_bounds.specs.Setting.{Setting}
 use Rattle.tp_bounds.specs.Changes.{without_bound}
 use Rattle.tp_bounds.specs.Reasons.{bound_of}
 use Rattle.tp_net.proofs.Laws.{withdrawn, other_key, key_itself}
@@ -41,7 +41,7 @@ none_left m id b h = cond_none (eq_by_cmp nat_cmp id id) (get m id) b (key_itsel
 abbrev pub IsAmong : List Edge → ℕ → Edge → Type 0
 IsAmong names k f = (j : ℕ) × (j < k) × (name_at names j ≡ f)
 
-pub still_there : (s : Situation) (id : BoundId) (c : Bound) (e : Edge) → e ≢ Own id → bound_of s e ≡ Some c → bound_of (without_bound s id.0) e ≡ Some c
+pub still_there : (s : Setting) (id : BoundId) (c : Bound) (e : Edge) → e ≢ Own id → bound_of s e ≡ Some c → bound_of (without_bound s id.0) e ≡ Some c
 still_there s id c (Own j) ne h =
     let apart : j.0 ≢ id.0 = λ same. ne (ap (λ n. Own (record { 0 = n })) same) in
     get_remove_other s.bounds id.0 j.0 apart ∙ h
@@ -51,7 +51,7 @@ still_there s id c (PastLow e) ne h = h
 still_there s id c (Now e) ne h = h
 still_there s id c (End e) ne h = h
 
-pub was_there : (s : Situation) (id : BoundId) (c : Bound) (e : Edge) → bound_of (without_bound s id.0) e ≡ Some c → bound_of s e ≡ Some c
+pub was_there : (s : Setting) (id : BoundId) (c : Bound) (e : Edge) → bound_of (without_bound s id.0) e ≡ Some c → bound_of s e ≡ Some c
 was_there s id c (Own j) h = removed s.bounds id.0 j.0 c h
 was_there s id c New h = h
 was_there s id c (PastHigh e) h = h
@@ -66,27 +66,27 @@ among_next names k f h =
       | inr ne ↦ inr (h.0, omega (arith, h.1, ne), h.2)
     ]
 
-pub without_none : (s : Situation) (names : List Edge) → ListsArcs (IsAmong names 0) s [] []
+pub without_none : (s : Setting) (names : List Edge) → ListsArcs (IsAmong names 0) s [] []
 without_none s names = record {
   len = refl;
   exist = λ k within. absurd (omega (arith, within));
   all = λ e b is below. absurd (omega (arith, below.1));
 }
 
-pub without_kept : (s : Situation) (names : List Edge) (arcs : List Arc) (id : BoundId) (k : ℕ) (ns : List Edge) (xs : List Arc)
+pub without_kept : (s : Setting) (names : List Edge) (arcs : List Arc) (id : BoundId) (k : ℕ) (ns : List Edge) (xs : List Arc)
     → AreArcs s names arcs → k < length arcs → name_at names k ≢ Own id → ListsArcs (IsAmong names k) (without_bound s id.0) ns xs
     → ListsArcs (IsAmong names (k + 1)) (without_bound s id.0) (ns ++ name_at names k ∷ []) (xs ++ arc_at arcs k ∷ [])
 without_kept s names arcs id k ns xs a within ne l =
     let x = a.exist k within in
-    let s' : Situation = without_bound s id.0 in
+    let s' : Setting = without_bound s id.0 in
     let more = listed_more (IsAmong names k) s' ns xs (name_at names k) x.0 l (still_there s id x.0 (name_at names k) ne x.1) in
     subst (λ y. ListsArcs (IsAmong names (k + 1)) s' (ns ++ name_at names k ∷ []) (xs ++ y ∷ [])) (sym x.2)
     (listed_among (λ f. (f ≡ name_at names k) ⊎ IsAmong names k f) (IsAmong names (k + 1)) s' (ns ++ name_at names k ∷ []) (xs ++ arc_of x.0 ∷ []) more (λ e b is q. among_next names k e q))
 
-pub without_gone : (s : Situation) (names : List Edge) (id : BoundId) (k : ℕ) (ns : List Edge) (xs : List Arc)
+pub without_gone : (s : Setting) (names : List Edge) (id : BoundId) (k : ℕ) (ns : List Edge) (xs : List Arc)
     → name_at names k ≡ Own id → ListsArcs (IsAmong names k) (without_bound s id.0) ns xs → ListsArcs (IsAmong names (k + 1)) (without_bound s id.0) ns xs
 without_gone s names id k ns xs gone l =
-    let s' : Situation = without_bound s id.0 in
+    let s' : Setting = without_bound s id.0 in
     listed_among (IsAmong names k) (IsAmong names (k + 1)) s' ns xs l (λ e b is q.
     (elim (among_next names k e q) [
       | inl same ↦
@@ -95,7 +95,7 @@ without_gone s names id k ns xs gone l =
       | inr old ↦ old
     ]))
 
-pub without_done : (s : Situation) (names : List Edge) (arcs : List Arc) (id : BoundId) (k : ℕ) (ns : List Edge) (xs : List Arc)
+pub without_done : (s : Setting) (names : List Edge) (arcs : List Arc) (id : BoundId) (k : ℕ) (ns : List Edge) (xs : List Arc)
     → AreArcs s names arcs → k ≡ length arcs → ListsArcs (IsAmong names k) (without_bound s id.0) ns xs → AreArcs (without_bound s id.0) ns xs
 without_done s names arcs id k ns xs a is l =
     listed_among (IsAmong names k) (λ _. Unit {0}) (without_bound s id.0) ns xs l (λ e b has q.
@@ -104,7 +104,7 @@ without_done s names arcs id k ns xs a is l =
 
 -- ---- a bound leaves
 
-pub fit_removed : (s : Situation) (id : ℕ) → IsFit s → IsFit (without_bound s id)
+pub fit_removed : (s : Setting) (id : ℕ) → IsFit s → IsFit (without_bound s id)
 fit_removed s id h =
     record {
       from = λ q c is. h.from q c (removed s.bounds id q c is);
@@ -119,12 +119,12 @@ fit_removed s id h =
       asks_nothing = h.asks_nothing;
     }
 
-pub start_removed : (s : Situation) (names : List Edge) (arcs : List Arc) (low high : List ℕ) (id : ℕ) (names' : List Edge) (arcs' : List Arc) (amount : ℕ)
+pub start_removed : (s : Setting) (names : List Edge) (arcs : List Arc) (low high : List ℕ) (id : ℕ) (names' : List Edge) (arcs' : List Arc) (amount : ℕ)
     → IsKept s names arcs low high → AreArcs (without_bound s id) names' arcs' → amount ≡ suc s.horizon → IsStart arcs' low amount
 start_removed s names arcs low high id names' arcs' amount k a is =
     start (without_bound s id) names' arcs' low amount (fit_removed s id k.fit) a (let o = k.exact.least.solution.0 in omega (arith, ints, o))
     (withdrawn s id (events_of low) (low_schedule s names arcs low high k)) k.points is
 
-pub kept_removed : (s : Situation) (names : List Edge) (arcs : List Arc) (low high : List ℕ) (id : ℕ) (names' : List Edge) (arcs' : List Arc) (low' high' : List ℕ)
+pub kept_removed : (s : Setting) (names : List Edge) (arcs : List Arc) (low high : List ℕ) (id : ℕ) (names' : List Edge) (arcs' : List Arc) (low' high' : List ℕ)
     → IsKept s names arcs low high → AreArcs (without_bound s id) names' arcs' → length low' ≡ length low → AreExact arcs' low' high' → IsKept (without_bound s id) names' arcs' low' high'
 kept_removed s names arcs low high id names' arcs' low' high' k a len exact = record { fit = fit_removed s id k.fit; listed = a; exact = exact; points = len ∙ k.points }

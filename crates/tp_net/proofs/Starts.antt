@@ -4,7 +4,7 @@ use Rattle.std.specs.Prelude.{pos, ◌-ℤ◌}
 use Rattle.std.proofs.lemmas.Int.{ints}
 use Rattle.tp_bounds.specs.declared.Edge.{Edge}
 use Rattle.tp_bounds.specs.declared.Edge.TheVariants.{PastHigh, PastLow, Now, End}
-use Rattle.tp_bounds.specs.Situation.{Situation, event_count, fixed_at, floor_of}
+use Rattle.tp_bounds.specs.Setting.{Setting, event_count, fixed_at, floor_of}
 use Rattle.tp_bounds.specs.Schedule as bounds
 use Rattle.tp_bounds.specs.Reasons.{at_least, at_most}
 use Rattle.tp_net.specs.declared.slacks.Arc.{Arc}
@@ -15,7 +15,7 @@ use Rattle.tp_net.specs.Kept.{IsFit}
 use Rattle.tp_net.proofs.Listings.{schedule_there, events_of, arc_named, now_edge, end_edge, high_edge, low_edge}
 use Rattle.tp_net.proofs.KeptMoments.{in_horizon, fixed_or, all_small, all_small_weight, all_join}
 
-reach_of : (s : Situation) (names : List Edge) (arcs : List Arc) (moments : List ℕ) (amount : ℕ) → IsFit s → AreArcs s names arcs → bounds.IsSchedule s (events_of moments)
+reach_of : (s : Setting) (names : List Edge) (arcs : List Arc) (moments : List ℕ) (amount : ℕ) → IsFit s → AreArcs s names arcs → bounds.IsSchedule s (events_of moments)
     → length moments ≡ suc (event_count s) → amount ≡ suc s.horizon → ReachOrigin arcs moments amount
 reach_of s names arcs moments amount f a sch len is zero some within = absurd (omega (arith, some))
 reach_of s names arcs moments amount f a sch len is (suc e) some within =
@@ -35,7 +35,7 @@ reach_of s names arcs moments amount f a sch len is (suc e) some within =
           (x.0, x.1, ap (λ (y : Arc). y.from) at, ap (λ (y : Arc). y.to) at, omega (arith, ints, w, soon, is), omega (arith, ints, w)))
     ]
 
-from_of : (s : Situation) (names : List Edge) (arcs : List Arc) (moments : List ℕ) (amount : ℕ) → IsFit s → AreArcs s names arcs → bounds.IsSchedule s (events_of moments)
+from_of : (s : Setting) (names : List Edge) (arcs : List Arc) (moments : List ℕ) (amount : ℕ) → IsFit s → AreArcs s names arcs → bounds.IsSchedule s (events_of moments)
     → length moments ≡ suc (event_count s) → amount ≡ suc s.horizon → FromOrigin arcs moments amount
 from_of s names arcs moments amount f a sch len is zero some within = absurd (omega (arith, some))
 from_of s names arcs moments amount f a sch len is (suc e) some within =
@@ -54,7 +54,7 @@ from_of s names arcs moments amount f a sch len is (suc e) some within =
           (x.0, x.1, ap (λ (y : Arc). y.from) at, ap (λ (y : Arc). y.to) at, omega (arith, ints, w, is)))
     ]
 
-pub start : (s : Situation) (names : List Edge) (arcs : List Arc) (moments : List ℕ) (amount : ℕ) → IsFit s → AreArcs s names arcs → get_or moments 0 0 ≡ 0 → bounds.IsSchedule s (events_of moments)
+pub start : (s : Setting) (names : List Edge) (arcs : List Arc) (moments : List ℕ) (amount : ℕ) → IsFit s → AreArcs s names arcs → get_or moments 0 0 ≡ 0 → bounds.IsSchedule s (events_of moments)
     → length moments ≡ suc (event_count s) → amount ≡ suc s.horizon → IsStart arcs moments amount
 start s names arcs moments amount f a origin sch len is =
     let solution : IsSolution arcs (moment moments) = schedule_there s names arcs a (moment moments) (events_of moments) (record { origin = ap pos origin; events = λ e. refl }) sch in

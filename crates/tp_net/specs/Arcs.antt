@@ -1,11 +1,11 @@
--- The edges of a situation as arcs between numbered points: the origin is 0, an event comes one after its number.
+-- The edges of a setting as arcs between numbered points: the origin is 0, an event comes one after its number.
 use Rattle.std.specs.Prelude.{◌≡◌, ℕ, suc, ◌-◌, ◌<◌, ◌≤◌, cond, nat_eq, List, [], ◌∷◌, ◌++◌, length, map, slice_index, slice_index_or, Option, Some, None, pos, ◌-ℤ◌, ◌≤ℤ◌}
 use Rattle.tp_bounds.specs.declared.Point.{Point}
 use Rattle.tp_bounds.specs.declared.Point.TheVariants.{Origin, Event}
 use Rattle.tp_bounds.specs.declared.Bound.{Bound}
 use Rattle.tp_bounds.specs.declared.Edge.{Edge}
 use Rattle.tp_bounds.specs.declared.Edge.TheVariants.{Own, New, PastHigh, PastLow, Now, End}
-use Rattle.tp_bounds.specs.Situation.{Situation}
+use Rattle.tp_bounds.specs.Setting.{Setting}
 use Rattle.tp_bounds.specs.Reasons.{bound_of}
 use Rattle.tp_net.specs.declared.slacks.Arc.{Arc}
 use Rattle.tp_net.specs.Graph.{HasNoSolution, arc_at}
@@ -25,9 +25,9 @@ arc_of b = record { from = number_of b.from; to = number_of b.to; weight = b.w }
 abbrev pub name_at : List Edge → ℕ → Edge
 name_at names k = slice_index_or names k New
 
--- Each name is of an edge of the situation, whose bound stands at its place; and each edge that is among those
+-- Each name is of an edge of the setting, whose bound stands at its place; and each edge that is among those
 -- that are looked at has a place.
-pub record ListsArcs (among : Edge → Type 0) (s : Situation) (names : List Edge)
+pub record ListsArcs (among : Edge → Type 0) (s : Setting) (names : List Edge)
     (arcs : List Arc) : Type 0 where
   pub len : length names ≡ length arcs
   pub exist :
@@ -39,12 +39,12 @@ pub record ListsArcs (among : Edge → Type 0) (s : Situation) (names : List Edg
       × (k < length arcs)
       × (name_at names k ≡ e)
 
--- these are all edges of the situation
-abbrev pub AreArcs : Situation → List Edge → List Arc → Type 0
+-- these are all edges of the setting
+abbrev pub AreArcs : Setting → List Edge → List Arc → Type 0
 AreArcs s names arcs = ListsArcs (λ _. Unit {0}) s names arcs
 
--- The names are of edges of the situation that is asked for, between the same points and at least as tight.
-abbrev pub Stand : Situation → List Edge → List Arc → Type 0
+-- The names are of edges of the setting that is asked for, between the same points and at least as tight.
+abbrev pub Stand : Setting → List Edge → List Arc → Type 0
 Stand asked names arcs =
     (k : ℕ) → k < length arcs
     → (b : Bound)

@@ -3,13 +3,13 @@ use Rattle.std.specs.Prelude.{◌≡◌, ℕ, suc, ◌≤◌, List, length, Some
 use Rattle.std.specs.FinMap.{get}
 use Rattle.tp_bounds.specs.declared.Bound.{Bound}
 use Rattle.tp_bounds.specs.declared.Edge.{Edge}
-use Rattle.tp_bounds.specs.Situation.{Situation, event_count, fixed_at, lag_of, HasPoint, IsInRange}
+use Rattle.tp_bounds.specs.Setting.{Setting, event_count, fixed_at, lag_of, HasPoint, IsInRange}
 use Rattle.tp_net.specs.declared.slacks.Arc.{Arc}
 use Rattle.tp_net.specs.Moments.{AreExact}
 use Rattle.tp_net.specs.Arcs.{AreArcs}
 
--- the numbers of a situation are in range
-pub record IsFit (s : Situation) : Type 0 where
+-- the numbers of a setting are in range
+pub record IsFit (s : Setting) : Type 0 where
   pub from : (id : ℕ) (b : Bound) → get s.bounds id ≡ Some b → HasPoint s b.from
   pub to : (id : ℕ) (b : Bound) → get s.bounds id ≡ Some b → HasPoint s b.to
   pub weight : (id : ℕ) (b : Bound) → get s.bounds id ≡ Some b → IsInRange b.w
@@ -21,8 +21,8 @@ pub record IsFit (s : Situation) : Type 0 where
   pub in_time : s.clock ≤ s.horizon
   pub asks_nothing : s.proposed ≡ None
 
--- the arcs are those of the situation, and the kept moments are the least and the greatest that they leave
-pub record IsKept (s : Situation) (names : List Edge) (arcs : List Arc)
+-- the arcs are those of the setting, and the kept moments are the least and the greatest that they leave
+pub record IsKept (s : Setting) (names : List Edge) (arcs : List Arc)
     (low high : List ℕ) : Type 0 where
   pub fit : IsFit s
   pub listed : AreArcs s names arcs

@@ -3,7 +3,7 @@
 use Rattle.std.specs.Prelude.{◌≡◌, ℕ, ◌<◌, List, [], ◌∷◌, ◌++◌, length, All, slice_index, pos, ◌+ℤ◌, ◌-ℤ◌, ◌≤ℤ◌, ◌<ℤ◌}
 use Rattle.tp_net.specs.declared.slacks.Arc.{Arc}
 use Rattle.tp_net.specs.declared.moments.Raised.{Raised}
-use Rattle.tp_net.specs.declared.moments.Raised.TheVariants.{Stands, Circle}
+use Rattle.tp_net.specs.declared.moments.Raised.TheVariants.{Consistent, NegativeCycle}
 use Rattle.tp_net.specs.declared.moments.Added.{Added}
 use Rattle.tp_net.specs.declared.moments.Added.TheVariants.{Both, Refused}
 use Rattle.tp_net.specs.Graph.{IsLeast, IsGreatest, IsNegativeCycle, IsSolution, arc_at, moment}
@@ -18,9 +18,9 @@ pub record CycleBeginsWith (arcs : List Arc) (first : ℕ) (cycle : List ℕ) : 
 
 -- the least moments with a new arc, or a negative cycle that begins with it
 abbrev pub IsRaised : List Arc → Arc → ℕ → Raised → Type 0
-IsRaised arcs new points (Stands low) =
+IsRaised arcs new points (Consistent low) =
     (length low.items ≡ points) × IsLeast (arcs ++ new ∷ []) low.items
-IsRaised arcs new points (Circle cycle) =
+IsRaised arcs new points (NegativeCycle cycle) =
     CycleBeginsWith (arcs ++ new ∷ []) (length arcs) cycle.items
 
 -- the least and the greatest moments, for each point

@@ -1,10 +1,10 @@
-//! The edges of a situation, as two lists in one order: their names, and their arcs in the distance graph.
+//! The edges of a setting, as two lists in one order: their names, and their arcs in the distance graph.
 ghost use Rattle.std.specs.Prelude.{◌≡◌, ℕ, ◌<◌, ◌≤◌, ◌++◌, ◌∷◌, [], All, length, map, IfOk};
-ghost use Rattle.tp_bounds.specs.Situation.{Situation};
+ghost use Rattle.tp_bounds.specs.Setting.{Setting};
 ghost use Rattle.tp_bounds.specs.Changes.{without_bound};
 ghost use Rattle.tp_bounds.specs.Reasons.{at_least, at_most};
 ghost use Rattle.tp_net.specs.Arcs.{number_of, arc_of, name_at, AreArcs, floor_at, raised_by, AreRaised, past_name, past_arc, AreNamesPast, AreArcsPast, IsContrary, NamesCycle};
-ghost use Rattle.tp_net.specs.NewNet.{new_situation};
+ghost use Rattle.tp_net.specs.NewNet.{new_setting};
 
 use crate::moments::contrary_cycle;
 use crate::slacks::Arc;
@@ -56,7 +56,7 @@ pub fn stop_arc(e: u16, moment: u32) -> Arc
 
 /// The edges of a network with no bound, at 0, of which nothing is dispatched.
 pub fn star(alloc: Global, events: u16, horizon: u32) -> Result<(Vec<Edge>, Vec<Arc>), AllocError>
-    ensures { IfOk result (λ r. AreArcs (new_situation events horizon) r.0.items r.1.items) }
+    ensures { IfOk result (λ r. AreArcs (new_setting events horizon) r.0.items r.1.items) }
 {
     let mut names = Vec::new(alloc);
     let mut arcs = Vec::new(alloc);
@@ -77,7 +77,7 @@ pub fn without(
     id: BoundId,
 ) -> Result<(Vec<Edge>, Vec<Arc>), AllocError>
     requires { length names.now ≡ length arcs.now }
-    ensures { IfOk result (λ r. (s : Situation)
+    ensures { IfOk result (λ r. (s : Setting)
         → AreArcs s names.now arcs.now → AreArcs (without_bound s id.0) r.0.items r.1.items) }
 {
     let mut left_names = Vec::new(alloc);

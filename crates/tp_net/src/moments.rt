@@ -14,8 +14,8 @@ use std::alloc::{AllocError, Global};
 /// The least moments with one more arc, or the numbers of the arcs of a negative cycle.
 #[derive(Debug, Drop)]
 pub enum Raised {
-    Stands(Vec<u64>),
-    Circle(Vec<usize>),
+    Consistent(Vec<u64>),
+    NegativeCycle(Vec<usize>),
 }
 
 /// Moments with what each point gains.
@@ -67,9 +67,9 @@ pub fn raise(alloc: Global, arcs: &[Arc], low: &[u64], new: Arc) -> Result<Raise
         let mut cycle = Vec::new(alloc);
         cycle.push(arcs.len())?;
         cycle.extend_from_slice(&path)?;
-        Ok(Raised::Circle(cycle))
+        Ok(Raised::NegativeCycle(cycle))
     } else {
-        Ok(Raised::Stands(sums(alloc, low, &raised.amounts)?))
+        Ok(Raised::Consistent(sums(alloc, low, &raised.amounts)?))
     }
 }
 
@@ -123,8 +123,8 @@ pub fn add(
         return Ok(Added::Both(same_low, same_high));
     }
     match raise(alloc, arcs, low, new)? {
-        Raised::Circle(cycle) => Ok(Added::Refused(cycle)),
-        Raised::Stands(new_low) => {
+        Raised::NegativeCycle(cycle) => Ok(Added::Refused(cycle)),
+        Raised::Consistent(new_low) => {
             let new_high = lower(alloc, arcs, high, new)?;
             Ok(Added::Both(new_low, new_high))
         }
@@ -214,7 +214,7 @@ pub fn contrary_cycle(
         (λ cycle. CycleBeginsWith (arcs.now ++ new ∷ []) (length arcs.now) cycle.items) }
 {
     match raise(alloc, arcs, low, new)? {
-        Raised::Circle(cycle) => Ok(cycle),
-        Raised::Stands(_low) => unreachable!(),
+        Raised::NegativeCycle(cycle) => Ok(cycle),
+        Raised::Consistent(_low) => unreachable!(),
     }
 }

@@ -5,7 +5,7 @@ ghost use Rattle.std.specs.FinMap.{insert};
 ghost use Rattle.tp_bounds.specs.declared.Edge.TheVariants.{Own};
 ghost use Rattle.tp_net.specs.Arcs.{AllWait, CannotWait};
 ghost use Rattle.tp_bounds.specs.Held.{held};
-ghost use Rattle.tp_net.specs.NewNet.{new_situation};
+ghost use Rattle.tp_net.specs.NewNet.{new_setting};
 
 use crate::edges::{
     arc, arcs_past, floor, named, names_past, number, raised, refutation, star, start_arc,
@@ -37,13 +37,13 @@ pub struct ScratchNet {
 impl Model for ScratchNet {
     ghost use Rattle.std.specs.Prelude.{None};
     ghost use Rattle.tp_bounds.specs.Held.{held};
-    ghost use Rattle.tp_bounds.specs.Situation.{Situation};
-    ghost use Rattle.tp_bounds.specs.Codes.{coded_situation};
+    ghost use Rattle.tp_bounds.specs.Setting.{Setting};
+    ghost use Rattle.tp_bounds.specs.Codes.{coded_setting};
     ghost use Rattle.tp_net.specs.Kept.{IsKept};
 
-    ghost Value = { Situation };
+    ghost Value = { Setting };
 
-    ghost coded = { coded_situation };
+    ghost coded = { coded_setting };
 
     ghost view = { λ a. record {
       horizon = a.horizon;
@@ -141,7 +141,7 @@ impl ScratchNet {
     pub fn new(alloc: Global, events: u16, horizon: u32) -> Result<ScratchNet, AllocError>
         requires events { events ≤ 1024 }
         requires horizon { horizon ≤ 1_000_000_000 }
-        ensures { IfOk result (λ net. net ≡ new_situation events horizon) }
+        ensures { IfOk result (λ net. net ≡ new_setting events horizon) }
     {
         let (names, arcs) = star(alloc, events, horizon)?;
         Ok(ScratchNet {

@@ -118,7 +118,7 @@ fn refuses_a_circle(net: &mut ScratchNet) -> bool {
         && has_window(net, 1, 0, 999_999_999)
 }
 
-/// A circle of weight -1 is refused at once, however far the horizon is.
+/// A negative cycle of weight -1 is refused at once, however far the horizon is.
 #[test]
 fn two_events_that_wait_for_each_other(rt: HostRuntime) -> Result<(), Fail> {
     let mut net = scratch(rt.alloc(), 1_000_000_000)?;

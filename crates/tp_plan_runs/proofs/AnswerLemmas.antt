@@ -3,7 +3,7 @@ use Rattle.std.proofs.Common.{◌≡◌, ◌+◌, ◌-◌, ◌≤◌, ℕ, List,
 use Rattle.std.specs.Prelude.{Result, Ok, Err, IfErr, IfOk, IfSome, MatchBool, MatchOption}
 use Rattle.std.specs.Io.KnownBytes.{Consumes, IsAtEnd}
 use Rattle.tp_device.proofs.Parts.{appends_none}
-use Rattle.tp_bounds.specs.Situation.{Situation}
+use Rattle.tp_bounds.specs.Setting.{Setting}
 use Rattle.tp_bounds.specs.declared.plan_nets.PlanNet.{PlanNet}
 use Rattle.tp_exec.specs.Machine.{Machine}
 use Rattle.tp_exec.specs.OwnBounds.{KeepsTo}
@@ -66,7 +66,7 @@ abbrev rest_lines : Option (List ℕ) → List (List ℕ)
 rest_lines None = []
 rest_lines (Some bytes) = lines_of bytes
 
-answered_by : (net : PlanNet) (a d left : Option (List ℕ)) (more : List ℕ) (setting : Situation) (lags : List (List ℕ)) (last : Machine) (lines : List (List ℕ)) (answers : List ℕ) (may : ℕ) → Consumes a d more → IfSome a (λ xs. IfSome d (λ ys. lines_of xs ≡ lags ++ lines_of ys)) → SetsLags (first_setting (net_head net)) lags setting → NoLagNext d may → 4_294_967_296 ≤ may + (0 + length more) → TakesLines d left lines → Transcript (run_machine net setting) lines answers last → Answered net a (rest_lines left) answers last
+answered_by : (net : PlanNet) (a d left : Option (List ℕ)) (more : List ℕ) (setting : Setting) (lags : List (List ℕ)) (last : Machine) (lines : List (List ℕ)) (answers : List ℕ) (may : ℕ) → Consumes a d more → IfSome a (λ xs. IfSome d (λ ys. lines_of xs ≡ lags ++ lines_of ys)) → SetsLags (first_setting (net_head net)) lags setting → NoLagNext d may → 4_294_967_296 ≤ may + (0 + length more) → TakesLines d left lines → Transcript (run_machine net setting) lines answers last → Answered net a (rest_lines left) answers last
 answered_by net None d left more setting lags last lines answers may took split set stop most takes ran =
     record { setting = setting; lags = lags; lines = lines; read = tt; set = set; end = tt; ran = ran }
 answered_by net (Some xs) None left more setting lags last lines answers may took split set stop most takes ran = absurd took
@@ -83,10 +83,10 @@ answered_by net (Some xs) (Some ys) (Some zs) more setting lags last lines answe
     }
 
 -- how many bytes may be taken behind the lags
-may_take : (before mid : Reading) (s t : Situation) (lags : List (List ℕ)) (l : TakesLags before mid s t lags) → before.taken ≡ 0 → mid.most ≡ 4_294_967_296 → 4_294_967_296 ≤ (mid.most - mid.taken) + (0 + length l.read.text)
+may_take : (before mid : Reading) (s t : Setting) (lags : List (List ℕ)) (l : TakesLags before mid s t lags) → before.taken ≡ 0 → mid.most ≡ 4_294_967_296 → 4_294_967_296 ≤ (mid.most - mid.taken) + (0 + length l.read.text)
 may_take before mid s t lags l none most = omega (arith, none, most, l.counted)
 
-answered : (net : PlanNet) (before mid after : Reading) (setting : Situation) (last : Machine) (held now : Option (List ℕ)) (r : Result Served ServeFault) → before.taken ≡ 0 → before.most ≡ 4_294_967_296 → TakesAllLags (net_head net) before mid setting → (serves : Serves (run_machine net setting) last mid after held now r) → Answered net before.rest (rest_lines serves.left) serves.text last
+answered : (net : PlanNet) (before mid after : Reading) (setting : Setting) (last : Machine) (held now : Option (List ℕ)) (r : Result Served ServeFault) → before.taken ≡ 0 → before.most ≡ 4_294_967_296 → TakesAllLags (net_head net) before mid setting → (serves : Serves (run_machine net setting) last mid after held now r) → Answered net before.rest (rest_lines serves.left) serves.text last
 answered net before mid after setting last held now r none most lags serves =
     let l = lags.lags in
     answered_by net before.rest mid.rest serves.left l.1.read.text setting l.0 last serves.lines serves.text (mid.most - mid.taken) l.1.read.took l.1.read.split l.1.set l.2
@@ -116,7 +116,7 @@ lines_whole (Ok last) net source held now before after from none most answers =
 -- ---- not all lines are answered
 
 -- the line of a lag does not fit
-unfit_lag : (net : PlanNet) (a d e : Option (List ℕ)) (more bad last : List ℕ) (lag : ℕ × ℕ) (setting : Situation) (lags : List (List ℕ)) → Consumes a d more → IfSome a (λ xs. IfSome d (λ ys. lines_of xs ≡ lags ++ lines_of ys)) → SetsLags (first_setting (net_head net)) lags setting → Free bad → EndsLine bad last e → Consumes d e last → lag_spelled bad ≡ Some lag → ¬ MaySet setting lag → HasUnfitLag net a
+unfit_lag : (net : PlanNet) (a d e : Option (List ℕ)) (more bad last : List ℕ) (lag : ℕ × ℕ) (setting : Setting) (lags : List (List ℕ)) → Consumes a d more → IfSome a (λ xs. IfSome d (λ ys. lines_of xs ≡ lags ++ lines_of ys)) → SetsLags (first_setting (net_head net)) lags setting → Free bad → EndsLine bad last e → Consumes d e last → lag_spelled bad ≡ Some lag → ¬ MaySet setting lag → HasUnfitLag net a
 unfit_lag net None d e more bad last lag setting lags took split set free ends took' names unfit =
     record { setting = setting; lags = lags; bad = bad; lag = lag; rest = []; read = tt; set = set; names = names; unfit = unfit }
 unfit_lag net (Some xs) None e more bad last lag setting lags took split set free ends took' names unfit = absurd took
@@ -134,7 +134,7 @@ unfit_lag net (Some xs) (Some ys) (Some zs) more bad last lag setting lags took 
       unfit = unfit;
     }
 
-lags_stop : (fault : ServeFault) (net : PlanNet) (before after : Reading) (held : Option (List ℕ)) (setting : Situation) → ReadsLags before after (first_setting (net_head net)) setting (Err fault) → StopsAnswers net before.rest held held (Serving fault)
+lags_stop : (fault : ServeFault) (net : PlanNet) (before after : Reading) (held : Option (List ℕ)) (setting : Setting) → ReadsLags before after (first_setting (net_head net)) setting (Err fault) → StopsAnswers net before.rest held held (Serving fault)
 lags_stop Read net before after held setting lags = inl (appends_none held)
 lags_stop Write net before after held setting lags = absurd lags
 lags_stop Memory net before after held setting lags = absurd lags
@@ -160,7 +160,7 @@ too_long (Some xs) (Some ys) (Some zs) (Some (v ∷ vs)) more part lines took ta
   omega arith,
 )
 
-serving_stops : (fault : ServeFault) (net : PlanNet) (before mid after : Reading) (setting : Situation) (last : Machine) (held now : Option (List ℕ)) → before.taken ≡ 0 → before.most ≡ 4_294_967_296 → TakesAllLags (net_head net) before mid setting → after.most ≡ before.most → Serves (run_machine net setting) last mid after held now (Err fault) → StopsAnswers net before.rest held now (Serving fault)
+serving_stops : (fault : ServeFault) (net : PlanNet) (before mid after : Reading) (setting : Setting) (last : Machine) (held now : Option (List ℕ)) → before.taken ≡ 0 → before.most ≡ 4_294_967_296 → TakesAllLags (net_head net) before mid setting → after.most ≡ before.most → Serves (run_machine net setting) last mid after held now (Err fault) → StopsAnswers net before.rest held now (Serving fault)
 serving_stops Read net before mid after setting last held now none most lags still serves =
     inr (rest_lines serves.left, serves.text, last, answered net before mid after setting last held now (Err Read) none most lags serves, serves.ended)
 serving_stops Write net before mid after setting last held now none most lags still serves =

@@ -2,7 +2,7 @@
 use Rattle.std.specs.Prelude.{◌≡◌, ℕ, ◌+◌, ◌<◌, List, [], ◌∷◌, ◌++◌, length, Option, Some, None, ◌⊎◌}
 use Rattle.std.specs.Io.KnownBytes.{Appends}
 use Rattle.tp_device.specs.Bytes.{AppendsPart}
-use Rattle.tp_bounds.specs.Situation.{Situation}
+use Rattle.tp_bounds.specs.Setting.{Setting}
 use Rattle.tp_bounds.specs.declared.plan_nets.PlanNet.{PlanNet}
 use Rattle.tp_exec.specs.Machine.{Machine}
 use Rattle.tp_script.specs.Transcript.{lines_of, Transcript}
@@ -28,7 +28,7 @@ AreBehindLags (Some bytes) lines = EndLags bytes lines
 -- come to this.
 pub record Answered (net : PlanNet) (input : Option (List ℕ)) (rest : List (List ℕ)) (text : List ℕ)
     (last : Machine) : Type 0 where
-  pub setting : Situation
+  pub setting : Setting
   pub lags : List (List ℕ)
   pub lines : List (List ℕ)
   pub read : AreLines input (lags ++ (lines ++ rest))
@@ -75,7 +75,7 @@ AnswersMost net input held now =
 
 -- Behind perhaps some lags stands the line of a lag that does not fit: it names no event, one that has a lag already, or a lag out of range.
 pub record HasUnfitLag (net : PlanNet) (input : Option (List ℕ)) : Type 0 where
-  pub setting : Situation
+  pub setting : Setting
   pub lags : List (List ℕ)
   pub bad : List ℕ
   pub lag : ℕ × ℕ

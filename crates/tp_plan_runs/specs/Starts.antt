@@ -1,7 +1,7 @@
 -- The machine in which the run of a plan's network begins, and what is read on the way there.
 use Rattle.std.specs.Prelude.{◌≡◌, ℕ, List, length, Option, Result, Ok, Err, ◌⊎◌}
 use Rattle.tp_bounds.specs.RunLimits.{greatest_limits}
-use Rattle.tp_bounds.specs.Situation.{Situation}
+use Rattle.tp_bounds.specs.Setting.{Setting}
 use Rattle.tp_bounds.specs.declared.plan_nets.PlanNet.{PlanNet}
 use Rattle.tp_exec.specs.Machine.{Machine, plan_machine}
 use Rattle.tp_script.specs.Pending.{Reading}
@@ -17,17 +17,17 @@ abbrev pub net_head : PlanNet → ℕ × ℕ
 net_head net = (length net.events.items, net.horizon)
 
 -- the machine in which a run begins: the network of a plan, with lags, under the greatest limits
-abbrev pub run_machine : PlanNet → Situation → Machine
+abbrev pub run_machine : PlanNet → Setting → Machine
 run_machine net setting = plan_machine setting net.bounds.items (greatest_limits net.horizon)
 
 -- what came of the lines of lags at the beginning: the machine in which the run begins, or one of them was at fault or not read, or
 -- memory was wanting
 abbrev pub BeginsRun : PlanNet → Reading → Reading → Result Machine BareFault → Type 0
 BeginsRun net before after (Ok m) =
-    (setting : Situation) × TakesAllLags (net_head net) before after setting
+    (setting : Setting) × TakesAllLags (net_head net) before after setting
     × (m ≡ run_machine net setting)
 BeginsRun net before after (Err (Serving fault)) =
-    (setting : Situation)
+    (setting : Setting)
     × ReadsLags before after (first_setting (net_head net)) setting (Err fault)
 BeginsRun net before after (Err Network) = Unit {0}
 
@@ -35,12 +35,12 @@ BeginsRun net before after (Err Network) = Unit {0}
 abbrev pub AnswersRun : PlanNet → Reading → Reading → Option (List ℕ) → Option (List ℕ)
     → Result Machine BareFault → Type 0
 AnswersRun net before after held now (Ok last) =
-    (setting : Situation) × (mid : Reading) × (served : Served)
+    (setting : Setting) × (mid : Reading) × (served : Served)
     × TakesAllLags (net_head net) before mid setting
     × Serves (run_machine net setting) last mid after held now (Ok served)
 AnswersRun net before after held now (Err (Serving fault)) =
-    ((setting : Situation)
+    ((setting : Setting)
     × ReadsLags before after (first_setting (net_head net)) setting (Err fault) × (now ≡ held))
-    ⊎ ((setting : Situation) × (mid : Reading) × (last : Machine) × TakesAllLags (net_head net)
+    ⊎ ((setting : Setting) × (mid : Reading) × (last : Machine) × TakesAllLags (net_head net)
     before mid setting × Serves (run_machine net setting) last mid after held now (Err fault))
 AnswersRun net before after held now (Err Network) = now ≡ held

@@ -1,7 +1,7 @@
 // The executive in which the run of a plan begins.
 ghost use Rattle.std.specs.Prelude.{◌≡◌, ℕ, ◌≤◌, List, length, IfOk};
 ghost use Rattle.tp_bounds.specs.RunLimits.{greatest_limits};
-ghost use Rattle.tp_bounds.specs.Situation.{event_count};
+ghost use Rattle.tp_bounds.specs.Setting.{event_count};
 ghost use Rattle.tp_ground.specs.declared.task.Task.{Task};
 ghost use Rattle.tp_happen.specs.declared.plans.Step.{Step};
 ghost use Rattle.tp_deorder.specs.Answers.{IsPlanNetOf};
@@ -24,11 +24,11 @@ fn over(
     network: &PlanNet,
     net: RepairNet,
 ) -> Result<Executive<RepairNet>, AllocError>
-    requires fresh { IsFresh net.situation }
-    requires events { event_count net.situation ≡ length network.now.events.items }
-    requires until { net.situation.horizon ≡ network.now.horizon }
+    requires fresh { IsFresh net.setting }
+    requires events { event_count net.setting ≡ length network.now.events.items }
+    requires until { net.setting.horizon ≡ network.now.horizon }
     requires bounds { length network.now.bounds.items ≤ 65535 }
-    ensures machine { IfOk result (λ e. e ≡ plan_machine net.situation network.now.bounds.items
+    ensures machine { IfOk result (λ e. e ≡ plan_machine net.setting network.now.bounds.items
         (greatest_limits network.now.horizon)) }
     ensures came { IfOk result (λ e. (t : Task) (steps : List Step) → IsPlanNetOf t steps
         (greatest_limits network.now.horizon) network.now → CameFrom t steps e) }

@@ -3,7 +3,7 @@ use Rattle.std.proofs.Common.{◌≡◌, ◌≢◌, ℕ, zero, suc, ◌+◌, ◌
 use Rattle.std.specs.BTreeMap.{BTreeMap}
 use Rattle.std.proofs.lemmas.Int.{ints}
 use Rattle.std.proofs.lemmas.Bool.Decides.{nat_tests}
-use Rattle.tp_bounds.specs.Situation.{Situation, event_count}
+use Rattle.tp_bounds.specs.Setting.{Setting, event_count}
 use Rattle.tp_bounds.specs.Schedule.{IsLeastMoment, IsGreatestMoment}
 use Rattle.tp_net.proofs.Spreads.{same_or}
 use Rattle.tp_net.proofs.KeptMoments.{kept_least, kept_greatest}
@@ -100,13 +100,13 @@ module _ (a a' b b' u d p q : ℕ) (up : a' ≡ a + u) (down : b' + d ≡ b) (so
 
 -- ---- all events
 
-one_least : (s : Situation) (e m n : ℕ) → IsLeastMoment s e m → IsLeastMoment s e n → m ≡ n
+one_least : (s : Setting) (e m n : ℕ) → IsLeastMoment s e m → IsLeastMoment s e n → m ≡ n
 one_least s e m n a b = let i = a.least n b.occurs in let j = b.least m a.occurs in omega (arith, i, j)
 
-one_greatest : (s : Situation) (e m n : ℕ) → IsGreatestMoment s e m → IsGreatestMoment s e n → m ≡ n
+one_greatest : (s : Setting) (e m n : ℕ) → IsGreatestMoment s e m → IsGreatestMoment s e n → m ≡ n
 one_greatest s e m n a b = let i = a.greatest n b.occurs in let j = b.greatest m a.occurs in omega (arith, i, j)
 
-module _ (s s' : Situation) (count count' : ℕ) (keys keys' : BTreeMap ℕ ℕ) (floors ends floors' ends' : List ℕ) (g g' : Engine) (up down : List ℕ) (news looks : ℕ)
+module _ (s s' : Setting) (count count' : ℕ) (keys keys' : BTreeMap ℕ ℕ) (floors ends floors' ends' : List ℕ) (g g' : Engine) (up down : List ℕ) (news looks : ℕ)
     (r : IsRepaired s count keys floors ends g)
     (r' : IsRepaired s' count' keys' floors' ends' g')
     (events : event_count s' ≡ event_count s)
@@ -199,7 +199,7 @@ read_most keys g p = sum_le (λ y. cond (nat_lt 0 (g y)) (length (keys y)) 0) (�
     part false k = omega arith
 
 -- the greatest moments stay
-module _ (s s' : Situation) (count count' : ℕ) (keys keys' : BTreeMap ℕ ℕ) (floors ends floors' ends' : List ℕ) (g g' : Engine) (up : List ℕ) (looks : ℕ)
+module _ (s s' : Setting) (count count' : ℕ) (keys keys' : BTreeMap ℕ ℕ) (floors ends floors' ends' : List ℕ) (g g' : Engine) (up : List ℕ) (looks : ℕ)
     (r : IsRepaired s count keys floors ends g)
     (r' : IsRepaired s' count' keys' floors' ends' g')
     (events : event_count s' ≡ event_count s)
@@ -215,9 +215,9 @@ module _ (s s' : Situation) (count count' : ℕ) (keys keys' : BTreeMap ℕ ℕ)
         (omega (arith, none, looks_is))
 
 -- nothing moves
-pub cheap_still : (s : Situation) (count : ℕ) (keys : BTreeMap ℕ ℕ) (floors ends : List ℕ) (g : Engine) → IsRepaired s count keys floors ends g → IsCheap 0 s s 0
+pub cheap_still : (s : Setting) (count : ℕ) (keys : BTreeMap ℕ ℕ) (floors ends : List ℕ) (g : Engine) → IsRepaired s count keys floors ends g → IsCheap 0 s s 0
 cheap_still s count keys floors ends g r =
     cheap_up s s count count keys keys floors ends floors ends g g [] 0 r r refl (λ x _. (let e : ◌≡◌ {A = ℕ} (get_or [] x 0) 0 = refl in omega (arith, e))) refl (sym (none_read (keys_of Up g.store) (length g.low.items)))
 
-pub edges_are : (s : Situation) (count : ℕ) (keys : BTreeMap ℕ ℕ) (floors ends : List ℕ) (g : Engine) → IsRepaired s count keys floors ends g → edge_count s ≡ count + 2 * event_count s
+pub edges_are : (s : Setting) (count : ℕ) (keys : BTreeMap ℕ ℕ) (floors ends : List ℕ) (g : Engine) → IsRepaired s count keys floors ends g → edge_count s ≡ count + 2 * event_count s
 edges_are s count keys floors ends g r = ap (λ n. n + 2 * event_count s) r.counted.many

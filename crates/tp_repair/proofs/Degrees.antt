@@ -11,10 +11,10 @@ use Rattle.std.specs.FinMap.{FinMap, get, insert, remove, len, entries, empty, f
 use Rattle.std.proofs.lemmas.List.Sums.{sum_by-cons}
 use Rattle.std.proofs.lemmas.Option.{none-some}
 use Rattle.tp_bounds.specs.declared.Bound.{Bound}
-use Rattle.tp_bounds.specs.Situation.{Situation, event_count}
+use Rattle.tp_bounds.specs.Setting.{Setting, event_count}
 use Rattle.tp_bounds.specs.Changes.{with_bound, without_bound}
 use Rattle.tp_net.specs.Arcs.{arc_of}
-use Rattle.tp_net.specs.NewNet.{new_situation}
+use Rattle.tp_net.specs.NewNet.{new_setting}
 use Rattle.tp_net.proofs.Spreads.{same_or}
 use Rattle.tp_net.proofs.Laws.{get_inserted, get_insert_other}
 use Rattle.tp_net.proofs.Removals.{get_remove_other, none_left}
@@ -74,27 +74,27 @@ sum_removed f m k b is = ap (λ n. sum_by f (map (λ (e : ℕ × Bound). e.1) (e
 pub len_removed : (m : FinMap nat_cmp Bound) (k : ℕ) (b : Bound) → get m k ≡ Some b → len m ≡ len (remove m k) + 1
 len_removed m k b is = ap len (sym (put_back m k b is)) ∙ len_inserted (remove m k) k b (removed_none m k)
 
--- ---- the edges of a situation
+-- ---- the edges of a setting
 
 no_entries : (es : List (ℕ × Bound)) → length es ≡ 0 → es ≡ []
 no_entries [] h = refl
 no_entries (e ∷ es) h = absurd (omega (arith, h))
 
-pub counted_new : (events horizon : ℕ) (g : Store) → ((d : Direction) (e : ℕ) → e < event_count (new_situation events horizon) → length (keys_of d g (suc e)) ≡ 1) → AreCountedEdges (new_situation events horizon) 0 g
+pub counted_new : (events horizon : ℕ) (g : Store) → ((d : Direction) (e : ℕ) → e < event_count (new_setting events horizon) → length (keys_of d g (suc e)) ≡ 1) → AreCountedEdges (new_setting events horizon) 0 g
 counted_new events horizon g one =
-    let none : entries (new_situation events horizon).bounds ≡ [] = no_entries _ (sym (len-entries (new_situation events horizon).bounds) ∙ len-empty nat_cmp Bound) in
+    let none : entries (new_setting events horizon).bounds ≡ [] = no_entries _ (sym (len-entries (new_setting events horizon).bounds) ∙ len-empty nat_cmp Bound) in
     record {
       many = len-empty nat_cmp Bound;
       each = λ d e lt. one d e lt ∙ sym (ap (λ es. suc (bounds_at d (suc e) es)) none);
     }
 
-pub counted_same : (s s' : Situation) (count : ℕ) (g g' : Store) → s'.bounds ≡ s.bounds → event_count s' ≡ event_count s → SameDegrees g g' → AreCountedEdges s count g → AreCountedEdges s' count g'
+pub counted_same : (s s' : Setting) (count : ℕ) (g g' : Store) → s'.bounds ≡ s.bounds → event_count s' ≡ event_count s → SameDegrees g g' → AreCountedEdges s count g → AreCountedEdges s' count g'
 counted_same s s' count g g' bounds events same c = record {
   many = ap len bounds ∙ c.many;
   each = λ d e lt. same d (suc e) ∙ (c.each d e (omega (arith, lt, events)) ∙ sym (ap (λ (m : FinMap nat_cmp Bound). suc (bounds_at d (suc e) (entries m))) bounds));
 }
 
-pub counted_brought : (s : Situation) (count count' id : ℕ) (b : Bound) (g g' : Store) → get s.bounds id ≡ None → count' ≡ count + 1 → IsMore (arc_of b) g g' → AreCountedEdges s count g → AreCountedEdges (with_bound s id b) count' g'
+pub counted_brought : (s : Setting) (count count' id : ℕ) (b : Bound) (g g' : Store) → get s.bounds id ≡ None → count' ≡ count + 1 → IsMore (arc_of b) g g' → AreCountedEdges s count g → AreCountedEdges (with_bound s id b) count' g'
 counted_brought s count count' id b g g' none more_is more c = record {
   many = (let l = len_inserted s.bounds id b none in let m = c.many in omega (arith, l, m, more_is));
   each = λ d e lt.
@@ -104,7 +104,7 @@ counted_brought s count count' id b g g' none more_is more c = record {
       omega (arith, l, m, o));
 }
 
-pub counted_left : (s : Situation) (count id : ℕ) (b : Bound) (g g' : Store) → get s.bounds id ≡ Some b → ((d : Direction) (y : ℕ) → length (keys_of d g' y) + one_at (near d (arc_of b)) y ≡ length (keys_of d g y)) → AreCountedEdges s (count + 1) g → AreCountedEdges (without_bound s id) count g'
+pub counted_left : (s : Setting) (count id : ℕ) (b : Bound) (g g' : Store) → get s.bounds id ≡ Some b → ((d : Direction) (y : ℕ) → length (keys_of d g' y) + one_at (near d (arc_of b)) y ≡ length (keys_of d g y)) → AreCountedEdges s (count + 1) g → AreCountedEdges (without_bound s id) count g'
 counted_left s count id b g g' is fewer c = record {
   many = (let l = len_removed s.bounds id b is in let m = c.many in omega (arith, l, m));
   each = λ d e lt.

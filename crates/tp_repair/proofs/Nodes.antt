@@ -5,7 +5,7 @@ use Rattle.std.specs.BTreeMap.{BTreeMap}
 use Rattle.std.proofs.lemmas.Int.{ints}
 use Rattle.std.proofs.lemmas.Option.{none-some}
 use Rattle.std.proofs.lemmas.List.Elements.{All-tail, All-cons, All-nil}
-use Rattle.tp_bounds.specs.Situation.{Situation}
+use Rattle.tp_bounds.specs.Setting.{Setting}
 use Rattle.tp_bounds.specs.Reasons.{bound_of}
 use Rattle.tp_net.specs.declared.slacks.Arc.{Arc}
 use Rattle.tp_net.specs.Graph.{MeetsArc, IsSolution, IsLeast, IsGreatest, arc_at, no_arc, moment}
@@ -84,8 +84,8 @@ names_len [] = refl
 names_len (None ∷ slots) = names_len slots
 names_len (Some m ∷ slots) = ap suc (names_len slots)
 
--- the nodes, as lists, are the edges of the situation
-pub nodes_listed : (s : Situation) (keys : BTreeMap ℕ ℕ) (floors ends : List ℕ) (slots : List (Option Node)) → AreNodes s keys floors ends slots → AreArcs s (names_of slots) (kept_arcs slots)
+-- the nodes, as lists, are the edges of the setting
+pub nodes_listed : (s : Setting) (keys : BTreeMap ℕ ℕ) (floors ends : List ℕ) (slots : List (Option Node)) → AreNodes s keys floors ends slots → AreArcs s (names_of slots) (kept_arcs slots)
 nodes_listed s keys floors ends slots a = record {
   len = names_len slots;
   exist = λ j within.

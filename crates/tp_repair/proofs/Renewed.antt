@@ -10,7 +10,7 @@ use Rattle.tp_bounds.specs.declared.Bound.{Bound}
 use Rattle.tp_bounds.specs.declared.BoundId.{BoundId}
 use Rattle.tp_bounds.specs.declared.Edge.{Edge}
 use Rattle.tp_bounds.specs.declared.Edge.TheVariants.{Own, New, PastHigh, PastLow, Now, End}
-use Rattle.tp_bounds.specs.Situation.{Situation, event_count, fixed_at, floor_of}
+use Rattle.tp_bounds.specs.Setting.{Setting, event_count, fixed_at, floor_of}
 use Rattle.tp_bounds.specs.Changes.{without_bound, at_moment, with_fixed}
 use Rattle.tp_bounds.specs.Reasons.{bound_of, at_least, at_most, is_open}
 use Rattle.tp_bounds.proofs.Chains.{from_cond, opened}
@@ -52,12 +52,12 @@ use Rattle.tp_repair.proofs.Repaired.{kept, among, weights, wired_here, under_ke
 
 -- ---- nothing changed
 
-pub repaired_untouched : (s : Situation) (count : ℕ) (keys : BTreeMap ℕ ℕ) (floors ends : List ℕ) (g g' : Engine) (bounds : BTreeMap ℕ Bound) → IsRepaired s count keys floors ends g → IsUntouched g g' → IsRepaired s count keys floors ends g'
+pub repaired_untouched : (s : Setting) (count : ℕ) (keys : BTreeMap ℕ ℕ) (floors ends : List ℕ) (g g' : Engine) (bounds : BTreeMap ℕ Bound) → IsRepaired s count keys floors ends g → IsUntouched g g' → IsRepaired s count keys floors ends g'
 repaired_untouched s count keys floors ends g g' bounds r u =
     let v : IsUnbrought g g' bounds bounds keys keys = record { wired = u.wired; edges = u.edges; degrees = u.degrees; low = u.low; high = u.high; holds = refl; finds = λ q. refl } in
     repaired_unbrought s count keys keys floors ends g g' bounds bounds r v
 
-changed_wired : (f : Node → Node) (s : Situation) (count : ℕ) (keys : BTreeMap ℕ ℕ) (floors ends : List ℕ) (g g' : Engine) → IsRepaired s count keys floors ends g → IsChanged f g g' → IsWired (suc (event_count s)) (count + 2 * event_count s) g'
+changed_wired : (f : Node → Node) (s : Setting) (count : ℕ) (keys : BTreeMap ℕ ℕ) (floors ends : List ℕ) (g g' : Engine) → IsRepaired s count keys floors ends g → IsChanged f g g' → IsWired (suc (event_count s)) (count + 2 * event_count s) g'
 changed_wired f s count keys floors ends g g' r c = subst (λ p. IsWired p (count + 2 * event_count s) g') r.wired.low_len (c.wired (count + 2 * event_count s) (wired_here s count keys floors ends g r))
 
 -- ---- now is raised
@@ -76,7 +76,7 @@ are_raised now lags slots = record { len = len slots; each = each slots }
     each (Some n ∷ slots) zero within = refl
     each (Some n ∷ slots) (suc k) within = each slots k (omega (arith, within))
 
-pub nodes_raised : (s : Situation) (now : ℕ) (keys : BTreeMap ℕ ℕ) (floors ends : List ℕ) (old new : List (Option Node)) → AreNodes s keys floors ends old → AreMapped (raised_node now s.lags) old new → AreNodes (at_moment s now) keys floors ends new
+pub nodes_raised : (s : Setting) (now : ℕ) (keys : BTreeMap ℕ ℕ) (floors ends : List ℕ) (old new : List (Option Node)) → AreNodes s keys floors ends old → AreMapped (raised_node now s.lags) old new → AreNodes (at_moment s now) keys floors ends new
 nodes_raised s now keys floors ends old new a m = record {
   exist = λ k x is.
       (let h = m.back k x is in
@@ -90,7 +90,7 @@ nodes_raised s now keys floors ends old new a m = record {
   under = λ k x is. (let h = m.back k x is in subst (λ e. IsUnder keys floors ends e k) (sym h.2) (a.under k h.0 h.1));
 }
 
-pub repaired_raised : (s : Situation) (now count : ℕ) (keys : BTreeMap ℕ ℕ) (floors ends : List ℕ) (g g' : Engine) → IsRepaired s count keys floors ends g → IsChanged (raised_node now s.lags) g g' → now ≤ s.horizon
+pub repaired_raised : (s : Setting) (now count : ℕ) (keys : BTreeMap ℕ ℕ) (floors ends : List ℕ) (g g' : Engine) → IsRepaired s count keys floors ends g → IsChanged (raised_node now s.lags) g g' → now ≤ s.horizon
     → IsRepaired (at_moment s now) count keys floors ends g'
 repaired_raised s now count keys floors ends g g' r c soon = record {
   fit = fit_raised s now r.fit soon;
@@ -105,7 +105,7 @@ repaired_raised s now count keys floors ends g g' r c soon = record {
 }
 
 -- where the floors of events that are not fixed stand
-module _ (s : Situation) (count : ℕ) (keys : BTreeMap ℕ ℕ) (floors ends : List ℕ) (g : Engine) (r : IsRepaired s count keys floors ends g) where
+module _ (s : Setting) (count : ℕ) (keys : BTreeMap ℕ ℕ) (floors ends : List ℕ) (g : Engine) (r : IsRepaired s count keys floors ends g) where
   pub floor_there : (e : ℕ) → e < event_count s → fixed_at s e ≡ None → (n : Node) × (slice_index_or g.store.nodes.slots (get_or floors e 0) None ≡ Some n) × (n.name ≡ Now e)
   floor_there e lt free =
       let x = r.nodes.all (Now e) (at_least e (floor_of s e)) (now_edge s e lt free) in
@@ -187,7 +187,7 @@ under_past keys floors ends e k (PastLow j) h = h
 under_past keys floors ends e k (Now j) h = either (λ f. IsUnder keys floors ends f k) (nat_eq j e) (PastLow j) (Now j) h h
 under_past keys floors ends e k (End j) h = either (λ f. IsUnder keys floors ends f k) (nat_eq j e) (PastHigh j) (End j) h h
 
-pub repaired_fixed : (s : Situation) (e m count : ℕ) (keys : BTreeMap ℕ ℕ) (floors ends : List ℕ) (g g' : Engine) → IsRepaired s count keys floors ends g → IsChanged (past_node e m) g g'
+pub repaired_fixed : (s : Setting) (e m count : ℕ) (keys : BTreeMap ℕ ℕ) (floors ends : List ℕ) (g g' : Engine) → IsRepaired s count keys floors ends g → IsChanged (past_node e m) g g'
     → e < event_count s → fixed_at s e ≡ None → floor_of s e ≤ m → m ≤ s.horizon → IsRepaired (with_fixed s e m) count keys floors ends g'
 repaired_fixed s e m count keys floors ends g g' r c lt free floor soon =
     let a = r.nodes in
@@ -218,7 +218,7 @@ repaired_fixed s e m count keys floors ends g g' r c lt free floor soon =
 -- ---- a bound leaves
 
 -- the edge of a bound in force is under its key
-pub own_there : (s : Situation) (count : ℕ) (keys : BTreeMap ℕ ℕ) (floors ends : List ℕ) (g : Engine) (id : BoundId) (b : Bound) (key : ℕ) → IsRepaired s count keys floors ends g → get s.bounds id.0 ≡ Some b → tree.get nat_cmp keys id.0 ≡ Some key
+pub own_there : (s : Setting) (count : ℕ) (keys : BTreeMap ℕ ℕ) (floors ends : List ℕ) (g : Engine) (id : BoundId) (b : Bound) (key : ℕ) → IsRepaired s count keys floors ends g → get s.bounds id.0 ≡ Some b → tree.get nat_cmp keys id.0 ≡ Some key
     → (n : Node) × (slice_index_or g.store.nodes.slots key None ≡ Some n) × (n.name ≡ Own id)
 own_there s count keys floors ends g id b key r is key_is =
     let x = r.nodes.all (Own id) b is in
@@ -227,7 +227,7 @@ own_there s count keys floors ends g id b key r is key_is =
     let it : x.0 ≡ key = cc in
     (x.1, ap (λ k. slice_index_or g.store.nodes.slots k None) (sym it) ∙ x.2, x.3)
 
-own_arc : (s : Situation) (count : ℕ) (keys : BTreeMap ℕ ℕ) (floors ends : List ℕ) (g : Engine) (id : BoundId) (b : Bound) (key : ℕ) → IsRepaired s count keys floors ends g → get s.bounds id.0 ≡ Some b
+own_arc : (s : Setting) (count : ℕ) (keys : BTreeMap ℕ ℕ) (floors ends : List ℕ) (g : Engine) (id : BoundId) (b : Bound) (key : ℕ) → IsRepaired s count keys floors ends g → get s.bounds id.0 ≡ Some b
     → (own : (n : Node) × (slice_index_or g.store.nodes.slots key None ≡ Some n) × (n.name ≡ Own id)) → own.0.arc ≡ arc_of b
 own_arc s count keys floors ends g id b key r is own =
     let x = r.nodes.exist key own.0 own.1 in
@@ -235,7 +235,7 @@ own_arc s count keys floors ends g id b key r is own =
     let it : b ≡ x.0 = cc in
     x.2 ∙ ap arc_of (sym it)
 
-module _ (s : Situation) (keys keys' : BTreeMap ℕ ℕ) (floors ends : List ℕ) (old : List (Option Node)) (id : BoundId) (key : ℕ)
+module _ (s : Setting) (keys keys' : BTreeMap ℕ ℕ) (floors ends : List ℕ) (old : List (Option Node)) (id : BoundId) (key : ℕ)
     (a : AreNodes s keys floors ends old)
     (key_is : tree.get nat_cmp keys id.0 ≡ Some key)
     (own : (n : Node) × (slice_index_or old key None ≡ Some n) × (n.name ≡ Own id))
@@ -289,7 +289,7 @@ left_keeps slots key = record {
 }
 
 -- from the least moments the others can be worked out
-pub start_left : (s : Situation) (count : ℕ) (keys : BTreeMap ℕ ℕ) (floors ends : List ℕ) (g : Engine) (id : BoundId) (b : Bound) (key amount : ℕ) → IsRepaired s count keys floors ends g → get s.bounds id.0 ≡ Some b → tree.get nat_cmp keys id.0 ≡ Some key → amount ≡ suc s.horizon
+pub start_left : (s : Setting) (count : ℕ) (keys : BTreeMap ℕ ℕ) (floors ends : List ℕ) (g : Engine) (id : BoundId) (b : Bound) (key amount : ℕ) → IsRepaired s count keys floors ends g → get s.bounds id.0 ≡ Some b → tree.get nat_cmp keys id.0 ≡ Some key → amount ≡ suc s.horizon
     → IsStart (kept_arcs (left_slots key g.store.nodes.slots)) g.low.items amount
 start_left s count keys floors ends g id b key amount r is key_is far =
     let old = g.store.nodes.slots in
@@ -298,7 +298,7 @@ start_left s count keys floors ends g id b key amount r is key_is far =
     start_removed s (names_of old) (kept_arcs old) g.low.items g.high.items id.0 (names_of new) (kept_arcs new) amount (kept s count keys floors ends g r) (nodes_listed (without_bound s id.0) keys floors ends new nodes) far
 
 -- and from the greatest ones
-pub start_left_high : (s : Situation) (count : ℕ) (keys : BTreeMap ℕ ℕ) (floors ends : List ℕ) (g : Engine) (id : BoundId) (b : Bound) (key amount : ℕ) → IsRepaired s count keys floors ends g → get s.bounds id.0 ≡ Some b → tree.get nat_cmp keys id.0 ≡ Some key → amount ≡ suc s.horizon
+pub start_left_high : (s : Setting) (count : ℕ) (keys : BTreeMap ℕ ℕ) (floors ends : List ℕ) (g : Engine) (id : BoundId) (b : Bound) (key amount : ℕ) → IsRepaired s count keys floors ends g → get s.bounds id.0 ≡ Some b → tree.get nat_cmp keys id.0 ≡ Some key → amount ≡ suc s.horizon
     → IsStart (kept_arcs (left_slots key g.store.nodes.slots)) g.high.items amount
 start_left_high s count keys floors ends g id b key amount r is key_is far =
     let old = g.store.nodes.slots in
@@ -308,7 +308,7 @@ start_left_high s count keys floors ends g id b key amount r is key_is far =
     start (without_bound s id.0) (names_of new) (kept_arcs new) g.high.items amount (fit_removed s id.0 r.fit) (nodes_listed (without_bound s id.0) keys floors ends new nodes) (let o = r.exact.greatest.solution.0 in omega (arith, ints, o))
     (withdrawn s id.0 (events_of g.high.items) (high_schedule s (names_of old) (kept_arcs old) g.low.items g.high.items k)) r.wired.high_len far
 
-pub repaired_left : (s : Situation) (count : ℕ) (keys keys' : BTreeMap ℕ ℕ) (floors ends : List ℕ) (g g' : Engine) (id : BoundId) (b : Bound) (key : ℕ) → IsRepaired s (count + 1) keys floors ends g → get s.bounds id.0 ≡ Some b → tree.get nat_cmp keys id.0 ≡ Some key
+pub repaired_left : (s : Setting) (count : ℕ) (keys keys' : BTreeMap ℕ ℕ) (floors ends : List ℕ) (g g' : Engine) (id : BoundId) (b : Bound) (key : ℕ) → IsRepaired s (count + 1) keys floors ends g → get s.bounds id.0 ≡ Some b → tree.get nat_cmp keys id.0 ≡ Some key
     → ((q : ℕ) → tree.get nat_cmp keys' q ≡ cond (is_at (nat_cmp id.0) q) None (tree.get nat_cmp keys q)) → IsLeft key g g' → IsRepaired (without_bound s id.0) count keys' floors ends g'
 repaired_left s count keys keys' floors ends g g' id b key r is key_is finds l =
     let other : (q : ℕ) → id.0 ≢ q → tree.get nat_cmp keys' q ≡ tree.get nat_cmp keys q = λ q ne. (finds q ∙ ap (λ t. cond t None (tree.get nat_cmp keys q)) (other_key id.0 q ne)) in
@@ -370,7 +370,7 @@ pub some_of : {X : Type 0} (o : Option X) → o ≢ None → (x : X) × (o ≡ S
 some_of None h = absurd (h refl)
 some_of (Some x) h = (x, refl)
 
-module _ (s : Situation) (count : ℕ) (keys : BTreeMap ℕ ℕ) (floors ends : List ℕ) (g : Engine) (r : IsRepaired s count keys floors ends g) where
+module _ (s : Setting) (count : ℕ) (keys : BTreeMap ℕ ℕ) (floors ends : List ℕ) (g : Engine) (r : IsRepaired s count keys floors ends g) where
   k : IsKept s (names_of g.store.nodes.slots) (kept_arcs g.store.nodes.slots) g.low.items g.high.items
   k = kept s count keys floors ends g r
 
@@ -396,7 +396,7 @@ module _ (s : Situation) (count : ℕ) (keys : BTreeMap ℕ ℕ) (floors ends : 
 
 -- ---- what the edges of events with the origin are
 
-module _ (s : Situation) (count : ℕ) (keys : BTreeMap ℕ ℕ) (floors ends : List ℕ) (g : Engine) (r : IsRepaired s count keys floors ends g) where
+module _ (s : Setting) (count : ℕ) (keys : BTreeMap ℕ ℕ) (floors ends : List ℕ) (g : Engine) (r : IsRepaired s count keys floors ends g) where
   pub floor_is : (e : ℕ) → e < event_count s → fixed_at s e ≡ None → (m : ℕ) → floor_of s e ≤ m
       → (n : Node) × (slice_index_or g.store.nodes.slots (get_or floors e 0) None ≡ Some n) × (n.name ≡ Now e) × (n.arc.from ≡ suc e) × (n.arc.to ≡ 0) × ((pos 0 -ℤ pos m) ≤ℤ n.arc.weight)
   floor_is e lt free m less =

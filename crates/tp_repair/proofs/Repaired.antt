@@ -11,7 +11,7 @@ use Rattle.tp_bounds.specs.declared.Bound.{Bound}
 use Rattle.tp_bounds.specs.declared.BoundId.{BoundId}
 use Rattle.tp_bounds.specs.declared.Edge.{Edge}
 use Rattle.tp_bounds.specs.declared.Edge.TheVariants.{Own, New, PastHigh, PastLow, Now, End}
-use Rattle.tp_bounds.specs.Situation.{Situation, event_count, HasPoint, IsInRange}
+use Rattle.tp_bounds.specs.Setting.{Setting, event_count, HasPoint, IsInRange}
 use Rattle.tp_bounds.specs.Changes.{with_bound, with_lag}
 use Rattle.tp_net.proofs.Lags.{same_edge, fit_lagged}
 use Rattle.tp_bounds.specs.Reasons.{bound_of}
@@ -34,7 +34,7 @@ use Rattle.tp_repair.proofs.Nodes.{nodes_listed, exact_kept, all_arcs, exact_ali
 use Rattle.tp_repair.proofs.Wires.{entered_node, same_there, same_back}
 use Rattle.tp_repair.proofs.Degrees.{counted_brought, counted_same}
 
-module _ (s : Situation) (count : ℕ) (keys : BTreeMap ℕ ℕ) (floors ends : List ℕ) (g : Engine) (r : IsRepaired s count keys floors ends g) where
+module _ (s : Setting) (count : ℕ) (keys : BTreeMap ℕ ℕ) (floors ends : List ℕ) (g : Engine) (r : IsRepaired s count keys floors ends g) where
   pub kept : IsKept s (names_of g.store.nodes.slots) (kept_arcs g.store.nodes.slots) g.low.items g.high.items
   kept = record {
     fit = r.fit;
@@ -80,7 +80,7 @@ under_kept keys keys' floors ends k (PastLow e) same h = h
 under_kept keys keys' floors ends k (Now e) same h = h
 under_kept keys keys' floors ends k (End e) same h = h
 
-pub nodes_same : (s : Situation) (keys keys' : BTreeMap ℕ ℕ) (floors ends : List ℕ) (old new : List (Option Node)) → AreNodes s keys floors ends old → AreSame old new → ((q : ℕ) → tree.get nat_cmp keys' q ≡ tree.get nat_cmp keys q)
+pub nodes_same : (s : Setting) (keys keys' : BTreeMap ℕ ℕ) (floors ends : List ℕ) (old new : List (Option Node)) → AreNodes s keys floors ends old → AreSame old new → ((q : ℕ) → tree.get nat_cmp keys' q ≡ tree.get nat_cmp keys q)
     → AreNodes s keys' floors ends new
 nodes_same s keys keys' floors ends old new a same finds = record {
   exist = λ k m is. (let h = same.back k m is in let x = a.exist k h.0 h.1 in (x.0, ap (bound_of s) h.2 ∙ x.1, h.3 ∙ x.2));
@@ -94,7 +94,7 @@ is_here k o id = ap (λ t. cond t (Some k) o) (key_itself id)
 is_other : (x o : Option ℕ) (id q : ℕ) → id ≢ q → cond (is_at (nat_cmp id) q) x o ≡ o
 is_other x o id q ne = ap (λ t. cond t x o) (other_key id q ne)
 
-module _ (s : Situation) (keys keys' : BTreeMap ℕ ℕ) (floors ends : List ℕ) (old new : List (Option Node)) (id : BoundId) (b : Bound) (key : ℕ)
+module _ (s : Setting) (keys keys' : BTreeMap ℕ ℕ) (floors ends : List ℕ) (old new : List (Option Node)) (id : BoundId) (b : Bound) (key : ℕ)
     (a : AreNodes s keys floors ends old)
     (none : get s.bounds id.0 ≡ None)
     (e : IsEntered (Own id) (arc_of b) key old new)
@@ -146,7 +146,7 @@ module _ (s : Situation) (keys keys' : BTreeMap ℕ ℕ) (floors ends : List ℕ
 
 -- ---- a bound comes
 
-pub repaired_brought : (s : Situation) (count : ℕ) (keys keys' : BTreeMap ℕ ℕ) (floors ends : List ℕ) (g g' : Engine) (id : BoundId) (b : Bound) (bounds bounds' : BTreeMap ℕ Bound)
+pub repaired_brought : (s : Setting) (count : ℕ) (keys keys' : BTreeMap ℕ ℕ) (floors ends : List ℕ) (g g' : Engine) (id : BoundId) (b : Bound) (bounds bounds' : BTreeMap ℕ Bound)
     → IsRepaired s count keys floors ends g → get s.bounds id.0 ≡ None → HasPoint s b.from → HasPoint s b.to → IsInRange b.w
     → IsBroughtIn id b g g' bounds bounds' keys keys' → count ≡ length bounds.entries → count < 2 ^ 32
     → IsRepaired (with_bound s id.0 b) (length bounds'.entries) keys' floors ends g'
@@ -171,7 +171,7 @@ repaired_brought s count keys keys' floors ends g g' id b bounds bounds' r none 
 
 -- ---- nothing changed
 
-pub repaired_unbrought : (s : Situation) (count : ℕ) (keys keys' : BTreeMap ℕ ℕ) (floors ends : List ℕ) (g g' : Engine) (bounds bounds' : BTreeMap ℕ Bound)
+pub repaired_unbrought : (s : Setting) (count : ℕ) (keys keys' : BTreeMap ℕ ℕ) (floors ends : List ℕ) (g g' : Engine) (bounds bounds' : BTreeMap ℕ Bound)
     → IsRepaired s count keys floors ends g → IsUnbrought g g' bounds bounds' keys keys' → IsRepaired s count keys' floors ends g'
 repaired_unbrought s count keys keys' floors ends g g' bounds bounds' r u =
     let exact = exact_alike (arcs_of g.store.nodes.slots) (arcs_of g'.store.nodes.slots) g.low.items g.high.items (same_there g.store.nodes.slots g'.store.nodes.slots u.edges) (same_back g.store.nodes.slots g'.store.nodes.slots u.edges) r.exact in
@@ -189,7 +189,7 @@ repaired_unbrought s count keys keys' floors ends g g' bounds bounds' r u =
 
 -- ---- a report may come late
 
-pub repaired_lagged : (s : Situation) (e lag count : ℕ) (keys : BTreeMap ℕ ℕ) (floors ends : List ℕ) (g : Engine) → IsRepaired s count keys floors ends g → s.clock ≡ 0 → e < event_count s → lag ≤ 1_000_000_000
+pub repaired_lagged : (s : Setting) (e lag count : ℕ) (keys : BTreeMap ℕ ℕ) (floors ends : List ℕ) (g : Engine) → IsRepaired s count keys floors ends g → s.clock ≡ 0 → e < event_count s → lag ≤ 1_000_000_000
     → IsRepaired (with_lag s e lag) count keys floors ends g
 repaired_lagged s e lag count keys floors ends g r start lt few = record {
   fit = fit_lagged s e lag r.fit lt few;
@@ -212,7 +212,7 @@ repaired_lagged s e lag count keys floors ends g r start lt few = record {
 abbrev pub with_looks : Engine → ℕ → Engine
 with_looks g n = record { store = g.store; low = g.low; high = g.high; up = g.up; down = g.down; looks = n }
 
-pub relooked : (s : Situation) (count : ℕ) (keys : BTreeMap ℕ ℕ) (floors ends : List ℕ) (g : Engine) (n : ℕ) → IsRepaired s count keys floors ends g → IsRepaired s count keys floors ends (with_looks g n)
+pub relooked : (s : Setting) (count : ℕ) (keys : BTreeMap ℕ ℕ) (floors ends : List ℕ) (g : Engine) (n : ℕ) → IsRepaired s count keys floors ends g → IsRepaired s count keys floors ends (with_looks g n)
 relooked s count keys floors ends g n r =
     let w = r.wired in
     record {

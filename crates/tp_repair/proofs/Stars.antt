@@ -11,7 +11,7 @@ use Rattle.tp_bounds.specs.declared.Edge.{Edge}
 use Rattle.tp_bounds.specs.declared.Edge.TheVariants.{Own, New, PastHigh, PastLow, Now, End}
 use Rattle.tp_bounds.specs.Reasons.{bound_of, at_least, at_most}
 use Rattle.tp_net.specs.Arcs.{arc_of}
-use Rattle.tp_net.specs.NewNet.{new_situation}
+use Rattle.tp_net.specs.NewNet.{new_setting}
 use Rattle.tp_net.proofs.Spreads.{same_or}
 use Rattle.tp_net.proofs.Listings.{end_edge}
 use Rattle.tp_net.proofs.NewNet.{zero_edge, within_star, replicate_none, IsBelow}
@@ -196,10 +196,10 @@ star_begun horizon points store into_len out_len halves_in halves_out none degre
 
 -- they are the edges of a network with no bound
 module _ (events horizon points : ℕ) (floors ends : List ℕ) (keys : BTreeMap ℕ ℕ) (store : Store) (s : IsStar horizon points events floors ends store) where
-  edge_of : (k : ℕ) (n : Node) (j : ℕ) → j < events → IsFloor floors j k n ⊎ IsEnd horizon ends j k n → (b : Bound) × (bound_of (new_situation events horizon) n.name ≡ Some b) × (n.arc ≡ arc_of b)
-  edge_of k n j lt (inl f) = (at_least j 0, ap (bound_of (new_situation events horizon)) f.name ∙ zero_edge events horizon j lt, f.arc)
+  edge_of : (k : ℕ) (n : Node) (j : ℕ) → j < events → IsFloor floors j k n ⊎ IsEnd horizon ends j k n → (b : Bound) × (bound_of (new_setting events horizon) n.name ≡ Some b) × (n.arc ≡ arc_of b)
+  edge_of k n j lt (inl f) = (at_least j 0, ap (bound_of (new_setting events horizon)) f.name ∙ zero_edge events horizon j lt, f.arc)
   edge_of k n j lt (inr f) =
-      (at_most j horizon, ap (bound_of (new_situation events horizon)) f.name ∙ end_edge (new_situation events horizon) j (omega (arith, lt, length-replicate {A = Option ℕ} events None)) (replicate_none events j), f.arc)
+      (at_most j horizon, ap (bound_of (new_setting events horizon)) f.name ∙ end_edge (new_setting events horizon) j (omega (arith, lt, length-replicate {A = Option ℕ} events None)) (replicate_none events j), f.arc)
 
   node_there : (e : Edge) → IsBelow events e → (k : ℕ) × (n : Node) × (slice_index_or store.nodes.slots k None ≡ Some n) × (n.name ≡ e)
   node_there (Own id) h = absurd h
@@ -213,7 +213,7 @@ module _ (events horizon points : ℕ) (floors ends : List ℕ) (keys : BTreeMap
   under_it k n j (inl f) = subst (λ e. IsUnder keys floors ends e k) (sym f.name) f.key
   under_it k n j (inr f) = subst (λ e. IsUnder keys floors ends e k) (sym f.name) f.key
 
-  pub star_nodes : AreNodes (new_situation events horizon) keys floors ends store.nodes.slots
+  pub star_nodes : AreNodes (new_setting events horizon) keys floors ends store.nodes.slots
   star_nodes = record {
     exist = λ k n is. (let x = s.exist k n is in edge_of k n x.0 x.1 x.2);
     all = λ e b is. node_there e (within_star events horizon e b is);
@@ -223,14 +223,14 @@ module _ (events horizon points : ℕ) (floors ends : List ℕ) (keys : BTreeMap
 -- they are what a network begins with
 pub begun : (events horizon : ℕ) (floors ends : List ℕ) (keys : BTreeMap ℕ ℕ) (g : Engine) → events ≤ 1024 → horizon ≤ 1_000_000_000 → IsStar horizon (events + 1) events floors ends g.store
     → ((q : ℕ) → tree.get nat_cmp keys q ≡ None) → g.low.items ≡ replicate (suc events) 0 → g.high.items ≡ 0 ∷ replicate events horizon → IsIdle (events + 1) g.up → IsIdle (events + 1) g.down
-    → IsRepaired (new_situation events horizon) 0 keys floors ends g
+    → IsRepaired (new_setting events horizon) 0 keys floors ends g
 begun events horizon floors ends keys g few soon s none low high up down =
     let nodes = star_nodes events horizon (events + 1) floors ends keys g.store s in
-    let count : length (new_situation events horizon).fixed ≡ events = length-replicate {A = Option ℕ} events None in
+    let count : length (new_setting events horizon).fixed ≡ events = length-replicate {A = Option ℕ} events None in
     let k = kept_new events horizon (names_of g.store.nodes.slots) (kept_arcs g.store.nodes.slots) g.low.items g.high.items few soon
-    (nodes_listed (new_situation events horizon) keys floors ends g.store.nodes.slots nodes) low high in
-    let points : events + 1 ≡ suc (length (new_situation events horizon).fixed) = omega (arith, count) in
-    let edges : 2 * events ≡ 0 + 2 * length (new_situation events horizon).fixed = omega (arith, count) in
+    (nodes_listed (new_setting events horizon) keys floors ends g.store.nodes.slots nodes) low high in
+    let points : events + 1 ≡ suc (length (new_setting events horizon).fixed) = omega (arith, count) in
+    let edges : 2 * events ≡ 0 + 2 * length (new_setting events horizon).fixed = omega (arith, count) in
     let wired : IsWired (events + 1) (2 * events) g = record {
       some = omega arith;
       low_len = k.points ∙ sym points;
@@ -249,7 +249,7 @@ begun events horizon floors ends keys g few soon s none low high up down =
       fit = k.fit;
       nodes = nodes;
       exact = exact_arcs g.store.nodes.slots g.low.items g.high.items k.exact;
-      wired = subst (λ p. IsWired p (0 + 2 * length (new_situation events horizon).fixed) g) points (subst (λ m. IsWired (events + 1) m g) edges wired);
+      wired = subst (λ p. IsWired p (0 + 2 * length (new_setting events horizon).fixed) g) points (subst (λ m. IsWired (events + 1) m g) edges wired);
       few = omega arith;
       spare = λ q _. none q;
       floors_len = s.floors_len ∙ sym count;

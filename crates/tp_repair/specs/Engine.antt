@@ -5,7 +5,7 @@ use Rattle.std.specs.BTreeMap.{BTreeMap}
 use Rattle.std.specs.BTreeMap as tree
 use Rattle.std.specs.FinMap as map
 use Rattle.tp_bounds.specs.declared.Edge.{Edge}
-use Rattle.tp_bounds.specs.Situation.{Situation, event_count}
+use Rattle.tp_bounds.specs.Setting.{Setting, event_count}
 use Rattle.tp_net.specs.declared.slacks.Arc.{Arc}
 use Rattle.tp_net.specs.Graph.{moment}
 use Rattle.tp_net.specs.Moments.{AreExact}
@@ -50,7 +50,7 @@ pub record IsEntered (name : Edge) (arc : Arc) (key : ℕ)
   pub others : (k : ℕ) → k ≢ key → slice_index_or new k None ≡ slice_index_or old k None
 
 -- what holds of a network that is repaired
-pub record IsRepaired (s : Situation) (count : ℕ) (keys : BTreeMap ℕ ℕ) (floors ends : List ℕ)
+pub record IsRepaired (s : Setting) (count : ℕ) (keys : BTreeMap ℕ ℕ) (floors ends : List ℕ)
     (g : Engine) : Type 0 where
   pub fit : IsFit s
   pub nodes : AreNodes s keys floors ends g.store.nodes.slots

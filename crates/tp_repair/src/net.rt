@@ -1,7 +1,7 @@
 //! A network for bounds between any two points that is repaired from change to change.
 ghost use Rattle.std.specs.Prelude.{◌≡◌, ◌≢◌, ◌↔◌, ℕ, ◌+◌, ◌*◌, ◌<◌, ◌≤◌, ◌∷◌, length, IfOk, OnOk, OnErr, MatchOption, map, replicate, suc, true, false, Some, None};
 ghost use Rattle.std.specs.FinMap as finite;
-ghost use Rattle.tp_bounds.specs.Situation.{event_count, fixed_at, floor_of, HasPoint, IsInRange};
+ghost use Rattle.tp_bounds.specs.Setting.{event_count, fixed_at, floor_of, HasPoint, IsInRange};
 ghost use Rattle.tp_bounds.specs.Schedule.{HasSchedule};
 ghost use Rattle.tp_bounds.specs.Changes.{with_bound, without_bound, proposing, at_moment, with_fixed};
 ghost use Rattle.tp_net.specs.Faults.{RefusesBy, IsNew, IsNow, IsPastOf, SaysBetween, IsBetween};
@@ -9,7 +9,7 @@ ghost use Rattle.tp_repair.specs.Told.{edge_count};
 ghost use Rattle.tp_repair.specs.Costs.{IsCheap};
 ghost use Rattle.std.specs.Ordering.{nat_cmp};
 ghost use Rattle.std.specs.BTreeMap.{BTreeMap, get};
-ghost use Rattle.tp_net.specs.NewNet.{new_situation};
+ghost use Rattle.tp_net.specs.NewNet.{new_setting};
 ghost use Rattle.tp_net.specs.Arcs.{AllWait, CannotWait, past_name};
 ghost use Rattle.tp_repair.specs.Work.{IsIdle};
 
@@ -52,7 +52,7 @@ impl Model for RepairNet {
     ghost coded = { coded_told };
 
     ghost view = { λ a. record {
-      situation = settled a.horizon a.clock a.bounds.entries
+      setting = settled a.horizon a.clock a.bounds.entries
           a.fixed.items a.lags.items;
       looks = a.engine.looks;
     } };
@@ -146,7 +146,7 @@ impl RepairNet {
     pub fn new(alloc: Global, events: u16, horizon: u32) -> Result<RepairNet, AllocError>
         requires events { events ≤ 1024 }
         requires horizon { horizon ≤ 1_000_000_000 }
-        ensures situation { IfOk result (λ net. net.situation ≡ new_situation events horizon) }
+        ensures setting { IfOk result (λ net. net.setting ≡ new_setting events horizon) }
         ensures looks { IfOk result (λ net. net.looks ≡ 0) }
     {
         let (store, floors, ends) = star(alloc, events, horizon)?;
@@ -185,7 +185,7 @@ impl RepairNet {
 impl Net for RepairNet {
     ghost use Rattle.std.specs.Prelude.{true};
 
-    ghost seen = { λ s. s.situation };
+    ghost seen = { λ s. s.setting };
 
     ghost takes_between = { true };
 
@@ -236,19 +236,19 @@ impl Net for RepairNet {
     /// It looks at each edge and at the new one at most once a direction, and where the bound is taken at the new one
     /// twice.
     fn add(&mut self, id: BoundId, bound: Bound) -> Result<(), NetFault>
-        requires from { HasPoint self.old.situation bound.from }
-        requires to { HasPoint self.old.situation bound.to }
+        requires from { HasPoint self.old.setting bound.from }
+        requires to { HasPoint self.old.setting bound.to }
         requires weight { IsInRange bound.w }
-        requires unused { finite.get self.old.situation.bounds id.0 ≡ None }
-        ensures ok { OnOk result (self.new.situation ≡ with_bound self.old.situation id.0 bound) }
-        ensures err { OnErr result (self.new.situation ≡ self.old.situation) }
-        ensures exact { RefusesBy IsNew (proposing self.old.situation bound)
-            (with_bound self.old.situation id.0 bound) result }
+        requires unused { finite.get self.old.setting.bounds id.0 ≡ None }
+        ensures ok { OnOk result (self.new.setting ≡ with_bound self.old.setting id.0 bound) }
+        ensures err { OnErr result (self.new.setting ≡ self.old.setting) }
+        ensures exact { RefusesBy IsNew (proposing self.old.setting bound)
+            (with_bound self.old.setting id.0 bound) result }
         ensures between { SaysBetween result ↔ ((true ≡ false) × IsBetween bound) }
-        ensures most { self.new.looks ≤ 2 * (edge_count self.old.situation + 1) }
+        ensures most { self.new.looks ≤ 2 * (edge_count self.old.setting + 1) }
         ensures some { OnOk result (2 ≤ self.new.looks) }
-        ensures cheap { OnOk result (IsCheap 2 self.old.situation
-            (with_bound self.old.situation id.0 bound) self.new.looks) }
+        ensures cheap { OnOk result (IsCheap 2 self.old.setting
+            (with_bound self.old.setting id.0 bound) self.new.looks) }
     {
         self.engine.looks = 0;
         // there are no more identifiers
@@ -272,11 +272,11 @@ impl Net for RepairNet {
 
     /// It looks at each edge at most four times a direction, and at that of the bound once.
     fn remove(&mut self, id: BoundId) -> Result<(), AllocError>
-        requires in_force { finite.get self.old.situation.bounds id.0 ≢ None }
-        ensures ok { OnOk result (self.new.situation ≡ without_bound self.old.situation id.0) }
-        ensures err { OnErr result (self.new.situation ≡ self.old.situation) }
-        ensures possible { OnOk result (HasSchedule (without_bound self.old.situation id.0)) }
-        ensures most { self.new.looks ≤ 8 * edge_count self.old.situation + 1 }
+        requires in_force { finite.get self.old.setting.bounds id.0 ≢ None }
+        ensures ok { OnOk result (self.new.setting ≡ without_bound self.old.setting id.0) }
+        ensures err { OnErr result (self.new.setting ≡ self.old.setting) }
+        ensures possible { OnOk result (HasSchedule (without_bound self.old.setting id.0)) }
+        ensures most { self.new.looks ≤ 8 * edge_count self.old.setting + 1 }
     {
         self.engine.looks = 0;
         let alloc = *self.fixed.allocator();
@@ -290,17 +290,17 @@ impl Net for RepairNet {
 
     /// Where now stays it looks at no edge.
     fn raise(&mut self, now: u32) -> Result<(), NetFault>
-        requires forward { self.old.situation.clock ≤ now }
-        requires in_time { now ≤ self.old.situation.horizon }
-        ensures ok { OnOk result (self.new.situation ≡ at_moment self.old.situation now) }
-        ensures err { OnErr result (self.new.situation ≡ self.old.situation) }
-        ensures exact { RefusesBy IsNow (at_moment self.old.situation now)
-            (at_moment self.old.situation now) result }
+        requires forward { self.old.setting.clock ≤ now }
+        requires in_time { now ≤ self.old.setting.horizon }
+        ensures ok { OnOk result (self.new.setting ≡ at_moment self.old.setting now) }
+        ensures err { OnErr result (self.new.setting ≡ self.old.setting) }
+        ensures exact { RefusesBy IsNow (at_moment self.old.setting now)
+            (at_moment self.old.setting now) result }
         ensures between { ¬ SaysBetween result }
-        ensures still { now ≡ self.old.situation.clock → self.new.looks ≡ 0 }
-        ensures most { self.new.looks ≤ edge_count self.old.situation + 1 }
+        ensures still { now ≡ self.old.setting.clock → self.new.looks ≡ 0 }
+        ensures most { self.new.looks ≤ edge_count self.old.setting + 1 }
         ensures cheap { OnOk result
-            (IsCheap 0 self.old.situation (at_moment self.old.situation now) self.new.looks) }
+            (IsCheap 0 self.old.setting (at_moment self.old.setting now) self.new.looks) }
     {
         self.engine.looks = 0;
         if now == self.clock {
@@ -319,19 +319,19 @@ impl Net for RepairNet {
 
     /// It looks at the two new edges, and at those of points that move.
     fn fix(&mut self, e: u16, moment: u32) -> Result<(), NetFault>
-        requires event { e < event_count self.old.situation }
-        requires free { fixed_at self.old.situation e ≡ None }
-        requires floor { floor_of self.old.situation e ≤ moment }
-        requires in_time { moment ≤ self.old.situation.horizon }
-        ensures ok { OnOk result (self.new.situation ≡ with_fixed self.old.situation e moment) }
-        ensures err { OnErr result (self.new.situation ≡ self.old.situation) }
-        ensures exact { RefusesBy (IsPastOf e) (with_fixed self.old.situation e moment)
-            (with_fixed self.old.situation e moment) result }
+        requires event { e < event_count self.old.setting }
+        requires free { fixed_at self.old.setting e ≡ None }
+        requires floor { floor_of self.old.setting e ≤ moment }
+        requires in_time { moment ≤ self.old.setting.horizon }
+        ensures ok { OnOk result (self.new.setting ≡ with_fixed self.old.setting e moment) }
+        ensures err { OnErr result (self.new.setting ≡ self.old.setting) }
+        ensures exact { RefusesBy (IsPastOf e) (with_fixed self.old.setting e moment)
+            (with_fixed self.old.setting e moment) result }
         ensures between { ¬ SaysBetween result }
-        ensures most { self.new.looks ≤ 2 * (edge_count self.old.situation + 1) }
+        ensures most { self.new.looks ≤ 2 * (edge_count self.old.setting + 1) }
         ensures some { OnOk result (2 ≤ self.new.looks) }
         ensures cheap { OnOk result
-            (IsCheap 2 self.old.situation (with_fixed self.old.situation e moment) self.new.looks) }
+            (IsCheap 2 self.old.setting (with_fixed self.old.setting e moment) self.new.looks) }
     {
         self.engine.looks = 0;
         let alloc = *self.fixed.allocator();

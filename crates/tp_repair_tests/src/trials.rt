@@ -1,6 +1,6 @@
 //! Changes that the tests ask of a network, each only where the network's conditions allow it.
 ghost use Rattle.std.specs.Prelude.{IsTrue};
-ghost use Rattle.tp_bounds.specs.Situation.{HasPoint, IsInRange};
+ghost use Rattle.tp_bounds.specs.Setting.{HasPoint, IsInRange};
 
 use tp_bounds::{Bound, BoundId, Edge, Point};
 use tp_net::{Net, NetFault};

@@ -6,7 +6,7 @@ use Rattle.std.proofs.lemmas.List.{take_all, take_more, drop_more, get_or_defaul
 use Rattle.std.proofs.lemmas.Bool.{cases_lt, ne_eqb, lt-ltb}
 use Rattle.std.specs.Io.KnownBytes.{Consumes, Keeps, IsAtEnd, ReadConsumes, prepend_known}
 use Rattle.tp_device.specs.declared.Failed.{Failed}
-use Rattle.tp_bounds.specs.Situation.{Situation}
+use Rattle.tp_bounds.specs.Setting.{Setting}
 use Rattle.tp_bounds.specs.Changes.{with_lag}
 use Rattle.tp_script.specs.Words.{words_of}
 use Rattle.tp_script.specs.Pending.{Pending, Reading, rest_of}
@@ -231,7 +231,7 @@ split_keep (Some a) None c lines text took k h = absurd took
 split_keep (Some a) (Some b) None lines text took k h = absurd k
 split_keep (Some a) (Some b) (Some c) lines text took k h = h ∙ ap (λ t. lines ++ lines_of t) (sym k)
 
-pub lags_keep : (old mid new : Reading) (s t : Situation) (lines : List (List ℕ)) → TakesLags old mid s t lines → Keeps mid.rest new.rest → new.taken ≡ mid.taken → TakesLags old new s t lines
+pub lags_keep : (old mid new : Reading) (s t : Setting) (lines : List (List ℕ)) → TakesLags old mid s t lines → Keeps mid.rest new.rest → new.taken ≡ mid.taken → TakesLags old new s t lines
 lags_keep old mid new s t lines h keeps taken =
     record {
       read = record {
@@ -243,15 +243,15 @@ lags_keep old mid new s t lines h keeps taken =
       set = h.set;
     }
 
-sets_more : (lines : List (List ℕ)) (s m : Situation) (line : List ℕ) (lag : ℕ × ℕ) → SetsLags s lines m → lag_spelled line ≡ Some lag → MaySet m lag → SetsLags s (lines ++ line ∷ []) (with_lag m lag.0 lag.1)
+sets_more : (lines : List (List ℕ)) (s m : Setting) (line : List ℕ) (lag : ℕ × ℕ) → SetsLags s lines m → lag_spelled line ≡ Some lag → MaySet m lag → SetsLags s (lines ++ line ∷ []) (with_lag m lag.0 lag.1)
 sets_more [] s m line lag h spelled may = (lag, spelled, subst (λ r. MaySet r lag) h may, ap (λ r. with_lag r lag.0 lag.1) h)
 sets_more (l ∷ ls) s m line lag h spelled may = (h.0, h.1, h.2, sets_more ls (with_lag s h.0.0 h.0.1) m line lag h.3 spelled may)
 
-pub lags_none : (r : Reading) (s : Situation) → TakesLags r r s s []
+pub lags_none : (r : Reading) (s : Setting) → TakesLags r r s s []
 lags_none r s =
     record { read = record { text = []; took = consumes_same r.rest; split = same r.rest }; counted = omega arith; set = refl }
 
-pub lags_more : (old mid new : Reading) (s m t : Situation) (lines : List (List ℕ)) (line : List ℕ) (lag : ℕ × ℕ) → TakesLags old mid s m lines → TakesWhole mid new line → lag_spelled line ≡ Some lag → MaySet m lag → t ≡ with_lag m lag.0 lag.1 → TakesLags old new s t (lines ++ line ∷ [])
+pub lags_more : (old mid new : Reading) (s m t : Setting) (lines : List (List ℕ)) (line : List ℕ) (lag : ℕ × ℕ) → TakesLags old mid s m lines → TakesWhole mid new line → lag_spelled line ≡ Some lag → MaySet m lag → t ≡ with_lag m lag.0 lag.1 → TakesLags old new s t (lines ++ line ∷ [])
 lags_more old mid new s m t lines line lag h took spelled may is =
     record {
       read = record {

@@ -1,9 +1,9 @@
--- Lines of lags, which stand behind the head, and what they do to a situation.
+-- Lines of lags, which stand behind the head, and what they do to a setting.
 use Rattle.std.specs.Prelude.{◌≡◌, ℕ, ◌+◌, ◌-◌, ◌≤◌, ◌<◌, ◌⊎◌, List, [], ◌∷◌, ◌++◌, length, take, Option, Some, None, Result, Ok, Err, nat_lt, if◌then◌else◌, codes, slice_index}
 use Rattle.std.specs.Str.{bytes_eq}
 use Rattle.std.specs.Io.KnownBytes.{Keeps, Consumes, IsAtEnd}
 use Rattle.tp_device.specs.declared.Failed.{Failed}
-use Rattle.tp_bounds.specs.Situation.{Situation, event_count, lag_of}
+use Rattle.tp_bounds.specs.Setting.{Setting, event_count, lag_of}
 use Rattle.tp_bounds.specs.Changes.{with_lag}
 use Rattle.tp_script.specs.Words.{words_of}
 use Rattle.tp_script.specs.Commands.{pair_spelled}
@@ -23,13 +23,13 @@ abbrev pub lag_spelled : List ℕ → Option (ℕ × ℕ)
 lag_spelled line = if nat_lt 256 (length line) then None else lag_from (words_of line)
 
 -- there is the event, its lag is 0 so far, and the new one is in range
-pub record MaySet (s : Situation) (lag : ℕ × ℕ) : Type 0 where
+pub record MaySet (s : Setting) (lag : ℕ × ℕ) : Type 0 where
   pub event : lag.0 < event_count s
   pub unset : lag_of s lag.0 ≡ 0
   pub range : lag.1 ≤ 1_000_000_000
 
 -- the lags of these lines are set, one after another
-abbrev pub SetsLags : Situation → List (List ℕ) → Situation → Type 0
+abbrev pub SetsLags : Setting → List (List ℕ) → Setting → Type 0
 SetsLags old [] new = new ≡ old
 SetsLags old (line ∷ lines) new =
     (lag : ℕ × ℕ)
@@ -54,7 +54,7 @@ TakesLag old new (Ok None) =
 TakesLag old new (Err e) = Keeps old.rest new.rest × (new.taken ≡ old.taken)
 
 -- these lines of lags were taken, and the lags set
-pub record TakesLags (old new : Reading) (s t : Situation) (lines : List (List ℕ)) : Type 0 where
+pub record TakesLags (old new : Reading) (s t : Setting) (lines : List (List ℕ)) : Type 0 where
   pub read : TakesLines old.rest new.rest lines
   pub counted : new.taken ≡ old.taken + length read.text
   pub set : SetsLags s lines t
@@ -62,7 +62,7 @@ pub record TakesLags (old new : Reading) (s t : Situation) (lines : List (List �
 -- All lines of lags were taken and the lags set. Or the reader failed behind some of them; or behind some of them stood one that
 -- names no event, an event that has a lag already, or a lag out of range, and was taken too
 abbrev pub ReadsLags :
-    Reading → Reading → Situation → Situation → Result (Unit {0}) ServeFault → Type 0
+    Reading → Reading → Setting → Setting → Result (Unit {0}) ServeFault → Type 0
 ReadsLags old new s t (Ok x) =
     (lines : List (List ℕ))
     × TakesLags old new s t lines

@@ -1,7 +1,7 @@
 //! Lines of lags, which stand behind the head of a network.
 
 ghost use Rattle.std.specs.Prelude.{◌≡◌, ◌↔◌, IsTrue};
-ghost use Rattle.tp_bounds.specs.Situation.{event_count};
+ghost use Rattle.tp_bounds.specs.Setting.{event_count};
 ghost use Rattle.tp_exec.specs.Machine.{IsFresh};
 ghost use Rattle.tp_script.specs.Lags.{lag_spelled, MaySet, ReadsLags};
 ghost use Rattle.tp_script.specs.Serving.{read_failures};

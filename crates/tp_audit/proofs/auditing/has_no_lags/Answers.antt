@@ -1,5 +1,5 @@
 use Rattle.std.proofs.Common.{◌≡◌, ◌≢◌, ◌<◌, length, arith, rules, subst, ap, ◌∙◌, IsTrue, true}
-use Rattle.tp_bounds.specs.Situation.{event_count, lag_of}
+use Rattle.tp_bounds.specs.Setting.{event_count, lag_of}
 use Rattle.tp_audit.proofs.LagsLemmas.{no_lags, some_lags}
 use Rattle.tp_audit.proofs.auditing.has_no_lags.Goals as goal
 

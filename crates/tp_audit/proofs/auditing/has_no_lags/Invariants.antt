@@ -1,5 +1,5 @@
 use Rattle.std.proofs.Common.{◌≡◌, ℕ, ◌<◌}
-use Rattle.tp_bounds.specs.Situation.{lag_of}
+use Rattle.tp_bounds.specs.Setting.{lag_of}
 use Rattle.tp_audit.proofs.auditing.has_no_lags.Given as goal
 
 abbrev pub invariant-loop-e : goal.invariant-loop-e

@@ -4,7 +4,7 @@ use Rattle.std.specs.List.{filter_map}
 use Rattle.std.proofs.lemmas.Int.{ints}
 use Rattle.tp_bounds.specs.declared.Bound.{Bound}
 use Rattle.tp_bounds.specs.declared.Edge.{Edge}
-use Rattle.tp_bounds.specs.Situation.{Situation}
+use Rattle.tp_bounds.specs.Setting.{Setting}
 use Rattle.tp_bounds.specs.Reasons.{bound_of, AreBounds, IsClosed, BeginApart, IsReason}
 use Rattle.tp_bounds.proofs.Chains.{none_remains}
 use Rattle.tp_bounds.proofs.ReasonChecks.{reason_from, reason_apart, reason_below}
@@ -12,7 +12,7 @@ use Rattle.tp_bounds.proofs.certificates.check_reason.Goals as goal
 use Rattle.tp_bounds.proofs.certificates.check_reason.Goals.{then-is_closed, else-is_closed}
 
 -- the edges are a closed chain, and begin apart
-Passed : Situation → List Edge → Type 0
+Passed : Setting → List Edge → Type 0
 Passed s es = ((bs : List Bound) × AreBounds s es bs × IsClosed bs) × BeginApart (filter_map (bound_of s) es)
 
 passed : (c : goal.After-weight) → Passed c.args.setting.now c.as_slice-edges.result.now

@@ -1,6 +1,6 @@
 use Rattle.std.proofs.Common.{◌≡◌, Some, sym, ◌∙◌, arith}
 use Rattle.std.specs.FinMap as map
-use Rattle.tp_bounds.specs.Situation.{event_count}
+use Rattle.tp_bounds.specs.Setting.{event_count}
 use Rattle.tp_exec.proofs.CopyLemmas.{point_there, bounds_fit, bounds_none, bounds_more, bounds_all}
 use Rattle.tp_exec.proofs.copying.copy_bounds.Goals as goal
 

@@ -1,6 +1,6 @@
 use Rattle.std.proofs.Common.{◌≡◌, ◌+◌, length, is_some, slice_get, ap, ◌∙◌}
 use Rattle.std.proofs.lemmas.List.{length_push}
-use Rattle.tp_bounds.specs.Situation.{fixed_at}
+use Rattle.tp_bounds.specs.Setting.{fixed_at}
 use Rattle.tp_exec.proofs.Least.{least_more, pushed_moment}
 use Rattle.tp_exec.proofs.executive.moments_of.Goals as goal
 

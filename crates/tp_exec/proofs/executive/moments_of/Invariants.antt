@@ -1,5 +1,5 @@
 use Rattle.std.proofs.Common.{◌≡◌, ℕ, ◌<◌, Some, slice_get, length, is_some}
-use Rattle.tp_bounds.specs.Situation.{fixed_at}
+use Rattle.tp_bounds.specs.Setting.{fixed_at}
 use Rattle.tp_exec.proofs.Least.{IsLeastBelow}
 use Rattle.tp_exec.proofs.executive.moments_of.Given as goal
 

@@ -1,6 +1,6 @@
 use Rattle.std.proofs.Common.{◌≡◌, length, Some, sym, ap, ◌∙◌, arith}
 use Rattle.std.proofs.lemmas.List.{length_push}
-use Rattle.tp_bounds.specs.Situation.{fixed_at}
+use Rattle.tp_bounds.specs.Setting.{fixed_at}
 use Rattle.tp_exec.proofs.Keeping.{dispatched_more}
 use Rattle.tp_exec.proofs.run_plans.dispatched.Goals as goal
 

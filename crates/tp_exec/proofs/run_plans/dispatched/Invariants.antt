@@ -1,5 +1,5 @@
 use Rattle.std.proofs.Common.{◌≡◌, ℕ, ◌<◌, Some, get_or, length}
-use Rattle.tp_bounds.specs.Situation.{fixed_at}
+use Rattle.tp_bounds.specs.Setting.{fixed_at}
 use Rattle.tp_exec.proofs.run_plans.dispatched.Given as goal
 
 abbrev pub invariant-loop-e : goal.invariant-loop-e

@@ -1,5 +1,5 @@
 use Rattle.std.proofs.Common.{sym, subst, ap, ◌∙◌}
-use Rattle.tp_bounds.specs.Situation.{Situation}
+use Rattle.tp_bounds.specs.Setting.{Setting}
 use Rattle.tp_bounds.specs.Changes.{with_lag}
 use Rattle.tp_exec.specs.Machine.{IsFresh}
 use Rattle.tp_exec.proofs.Ready.{fresh_new, fresh_lagged}

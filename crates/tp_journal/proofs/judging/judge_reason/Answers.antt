@@ -1,5 +1,5 @@
 use Rattle.std.proofs.Common.{◌≡◌, ◌<◌, ◌^◌, IsTrue, rules, true, subst, sym}
-use Rattle.tp_bounds.specs.Situation.{event_count}
+use Rattle.tp_bounds.specs.Setting.{event_count}
 use Rattle.tp_bounds.specs.Reasons.{IsReason, BeginsWith}
 use Rattle.tp_exec.specs.Step.{asked, brings}
 use Rattle.tp_journal.specs.Allowed.{IsJudged}

@@ -1,6 +1,6 @@
 use Rattle.std.proofs.Common.{◌≡◌, ◌++◌, ap, sym, ◌∙◌, map, append_assoc}
 use Rattle.std.proofs.lemmas.Result.{err_from_is_err_and}
-use Rattle.tp_bounds.specs.Situation.{event_count}
+use Rattle.tp_bounds.specs.Setting.{event_count}
 use Rattle.tp_device.proofs.Parts.{part_first, part_after, appends_more, writes_after}
 use Rattle.tp_journal.specs.Journal.{head_of, head_lines, kind_lines, own_of, lag_line, lags_of, text_of}
 use Rattle.tp_journal.proofs.WriteLemmas.{start_text, head_bytes}

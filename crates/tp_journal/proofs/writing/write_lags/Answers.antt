@@ -1,6 +1,6 @@
 use Rattle.std.proofs.Common.{◌≡◌, ◌≢◌, ◌<◌, length, arith, rules, subst, sym, ap, ◌∙◌}
 use Rattle.std.proofs.lemmas.Result.{err_from_is_err_and}
-use Rattle.tp_bounds.specs.Situation.{event_count, lag_of}
+use Rattle.tp_bounds.specs.Setting.{event_count, lag_of}
 use Rattle.tp_journal.proofs.WriteLemmas.{lags_skip, lags_write, lags_part}
 use Rattle.tp_journal.proofs.writing.write_lags.Goals as goal
 use Rattle.tp_journal.proofs.writing.write_lags.Goals.{then-lag-ne0+in_ok-write_two_numbers, else-lag-ne0}

@@ -22,4 +22,4 @@ returns-then-is_met-2 c =
     ))
 
 pub lower-requires-clause-solution : goal.lower-requires-clause-solution
-lower-requires-clause-solution c = ((λ x. get_or c.in-Stands.new_low.items x 0), (subst (λ r. IsRaised c.args.arcs.now c.args.new (length c.args.low.now) r) c.in-Stands.is c.in_ok-cycle.ensures).1.solution)
+lower-requires-clause-solution c = ((λ x. get_or c.in-Consistent.new_low.items x 0), (subst (λ r. IsRaised c.args.arcs.now c.args.new (length c.args.low.now) r) c.in-Consistent.is c.in_ok-cycle.ensures).1.solution)

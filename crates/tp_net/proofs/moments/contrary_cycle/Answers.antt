@@ -5,5 +5,5 @@ use Rattle.tp_net.proofs.moments.contrary_cycle.Goals as goal
 
 pub unreachable-requires : goal.unreachable-requires
 unreachable-requires c =
-    c.requires.none (moment c.in-Stands._low.items)
-    (subst (λ r. IsRaised c.args.arcs.now c.args.new (length c.args.low.now) r) c.in-Stands.is c.in_ok-cycle.ensures).1.solution
+    c.requires.none (moment c.in-Consistent._low.items)
+    (subst (λ r. IsRaised c.args.arcs.now c.args.new (length c.args.low.now) r) c.in-Consistent.is c.in_ok-cycle.ensures).1.solution

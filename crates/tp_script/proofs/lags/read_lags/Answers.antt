@@ -1,5 +1,5 @@
 use Rattle.std.proofs.Common.{[], ◌∷◌, ◌++◌, refl, sym, subst, ap, ◌∙◌, rules, IsTrue}
-use Rattle.tp_bounds.specs.Situation.{Situation, event_count}
+use Rattle.tp_bounds.specs.Setting.{Setting, event_count}
 use Rattle.tp_exec.specs.Machine.{IsFresh}
 use Rattle.tp_exec.proofs.Ready.{fresh_lagged}
 use Rattle.tp_script.specs.Lags.{MaySet}
@@ -38,10 +38,10 @@ loop-e-preserved g c =
     let may : MaySet (g.N.Net.seen c.loop-e.net) (c.in-Ok-Some.e, c.in-Ok-Some.lag) = c.may_set.ensures.0 yes in
     record {
       lags = (lags.0 ++ turn.0 ∷ [], lags_more _ c.loop-e.lines _ _ (g.N.Net.seen c.loop-e.net) _ lags.0 turn.0 (c.in-Ok-Some.e, c.in-Ok-Some.lag) lags.1 turn.1 turn.2 may c.set_lag.ensures);
-      start = ap (λ (s : Situation). s.clock) c.set_lag.ensures ∙ c.loop-e.invariant.start;
+      start = ap (λ (s : Setting). s.clock) c.set_lag.ensures ∙ c.loop-e.invariant.start;
       new = λ h. subst IsFresh (sym c.set_lag.ensures) (fresh_lagged (g.N.Net.seen c.loop-e.net) c.in-Ok-Some.e c.in-Ok-Some.lag (c.loop-e.invariant.new h));
       events = ap event_count c.set_lag.ensures ∙ c.loop-e.invariant.events;
-      horizon = ap (λ (s : Situation). s.horizon) c.set_lag.ensures ∙ c.loop-e.invariant.horizon;
+      horizon = ap (λ (s : Setting). s.horizon) c.set_lag.ensures ∙ c.loop-e.invariant.horizon;
       longest = c.in-Ok-Some.ensures.limits.longest ∙ c.loop-e.invariant.longest;
       most = c.in-Ok-Some.ensures.limits.most ∙ c.loop-e.invariant.most;
       failures = c.in-Ok-Some.ensures.cause ∙ c.loop-e.invariant.failures;

@@ -1,5 +1,5 @@
 use Rattle.std.proofs.Common.{◌≡◌, ◌-◌, ℕ, List}
-use Rattle.tp_bounds.specs.Situation.{event_count}
+use Rattle.tp_bounds.specs.Setting.{event_count}
 use Rattle.tp_exec.specs.Machine.{IsFresh}
 use Rattle.tp_script.specs.Lags.{TakesLags}
 use Rattle.tp_script.proofs.lags.read_lags.Given as goal

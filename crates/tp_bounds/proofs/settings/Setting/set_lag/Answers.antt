@@ -1,5 +1,5 @@
 use Rattle.std.proofs.Common.{◌<◌, sym, subst}
-use Rattle.tp_bounds.specs.Situation.{event_count}
+use Rattle.tp_bounds.specs.Setting.{event_count}
 use Rattle.tp_bounds.proofs.LawfulChanges.{lawful_lagged}
 use Rattle.tp_bounds.proofs.settings.Setting.set_lag.Goals as goal
 

@@ -1,6 +1,6 @@
 use Rattle.std.proofs.Common.{◌≡◌, length, sym, ap, ◌∙◌, arith}
 use Rattle.std.specs.FinMap.{get}
-use Rattle.tp_bounds.specs.Situation.{Situation}
+use Rattle.tp_bounds.specs.Setting.{Setting}
 use Rattle.tp_bounds.proofs.Numbering.{others_stay}
 use Rattle.tp_exec.proofs.OwnBounds.{unused_behind, own_there}
 use Rattle.tp_exec.proofs.executive.Executive.from_plan.Goals as goal
@@ -12,9 +12,9 @@ invariant_of-result g c =
     let count : c.in_ok-own.own ≡ length xs = c.in_ok-own.ensures.count in
     record {
       between = c.requires.between;
-      unused = λ id le. ap (λ (r : Situation). get r.bounds id) c.in_ok-own.ensures.bounds ∙ unused_behind s c.requires.fresh xs id (omega arith);
+      unused = λ id le. ap (λ (r : Setting). get r.bounds id) c.in_ok-own.ensures.bounds ∙ unused_behind s c.requires.fresh xs id (omega arith);
       ids = omega (arith, c.requires.ids);
-      asks_nothing = ap (λ (r : Situation). r.proposed) (c.in_ok-own.ensures.bounds ∙ others_stay s 0 xs) ∙ c.requires.fresh.asks_nothing;
+      asks_nothing = ap (λ (r : Setting). r.proposed) (c.in_ok-own.ensures.bounds ∙ others_stay s 0 xs) ∙ c.requires.fresh.asks_nothing;
       first = omega arith;
-      kept = λ is id lt none. own_there s c.requires.fresh xs id (omega arith) (sym (ap (λ (r : Situation). get r.bounds id) c.in_ok-own.ensures.bounds) ∙ none);
+      kept = λ is id lt none. own_there s c.requires.fresh xs id (omega arith) (sym (ap (λ (r : Setting). get r.bounds id) c.in_ok-own.ensures.bounds) ∙ none);
     }

@@ -1,5 +1,5 @@
 use Rattle.std.proofs.Common.{◌<◌, arith, ap}
-use Rattle.tp_bounds.specs.Situation.{event_count}
+use Rattle.tp_bounds.specs.Setting.{event_count}
 use Rattle.tp_bounds.proofs.Windows.{window_from_ends}
 use Rattle.tp_exec.specs.Machine.{Machine}
 use Rattle.tp_exec.proofs.Steps.{window_step, window_exact}

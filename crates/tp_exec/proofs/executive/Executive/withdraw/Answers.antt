@@ -1,6 +1,6 @@
 use Rattle.std.proofs.Common.{◌≢◌, None, sym, ap, ◌∙◌, rules}
 use Rattle.std.specs.FinMap.{get}
-use Rattle.tp_bounds.specs.Situation.{Situation}
+use Rattle.tp_bounds.specs.Setting.{Setting}
 use Rattle.tp_exec.specs.declared.command.Command.TheVariants.{Withdraw}
 use Rattle.tp_exec.specs.Machine.{Machine}
 use Rattle.tp_exec.specs.Step.{accepted}
@@ -12,12 +12,12 @@ pub invariant_of-self-2 : goal.invariant_of-self-2
 invariant_of-self-2 g c =
     record {
       between = c.self.invariant.between;
-      unused = λ id le. ap (λ (s : Situation). get s.bounds id) c.in_ok-remove.ensures.ok ∙ unused_removed (g.N.Net.seen c.self.inside.net).bounds c.self.inside.next c.args.id.0 c.self.invariant.unused id le;
+      unused = λ id le. ap (λ (s : Setting). get s.bounds id) c.in_ok-remove.ensures.ok ∙ unused_removed (g.N.Net.seen c.self.inside.net).bounds c.self.inside.next c.args.id.0 c.self.invariant.unused id le;
       ids = c.self.invariant.ids;
-      asks_nothing = ap (λ (s : Situation). s.proposed) c.in_ok-remove.ensures.ok ∙ c.self.invariant.asks_nothing;
+      asks_nothing = ap (λ (s : Setting). s.proposed) c.in_ok-remove.ensures.ok ∙ c.self.invariant.asks_nothing;
       first = c.self.invariant.first;
       kept = λ is id lt none. kept_removed c.self.inside.kind (g.N.Net.seen c.self.inside.net).bounds c.self.inside.own c.args.id.0 c.self.invariant.kept (sym c.kind_without-kind.ensures ∙ is) id lt
-          (sym (ap (λ (s : Situation). get s.bounds id) c.in_ok-remove.ensures.ok) ∙ none);
+          (sym (ap (λ (s : Setting). get s.bounds id) c.in_ok-remove.ensures.ok) ∙ none);
     }
 
 pub returns : goal.returns

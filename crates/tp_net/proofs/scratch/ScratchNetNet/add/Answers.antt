@@ -1,6 +1,6 @@
 use Rattle.std.proofs.Common.{◌≡◌, ℕ, ◌++◌, ◌∷◌, [], None, List, sym, subst, ap, ◌∙◌, length, map}
 use Rattle.std.specs.FinMap.{get}
-use Rattle.tp_bounds.specs.Situation.{Situation, HasPoint}
+use Rattle.tp_bounds.specs.Setting.{Setting, HasPoint}
 use Rattle.tp_bounds.specs.declared.Edge.TheVariants.{New}
 use Rattle.tp_bounds.specs.Changes.{with_bound}
 use Rattle.tp_bounds.specs.Schedule.{HasSchedule}
@@ -32,24 +32,24 @@ named-requires c =
 
 pub returns-in_ok-reason-in-Refused-clause-exact : goal.returns-in_ok-reason-in-Refused-clause-exact
 returns-in_ok-reason-in-Refused-clause-exact c =
-    let s : Situation = record { horizon = c.self.inside.horizon; clock = c.self.inside.clock; bounds = held c.self.inside.bounds.entries; fixed = c.self.inside.fixed.items; lags = c.self.inside.lags.items; proposed = None } in
+    let s : Setting = record { horizon = c.self.inside.horizon; clock = c.self.inside.clock; bounds = held c.self.inside.bounds.entries; fixed = c.self.inside.fixed.items; lags = c.self.inside.lags.items; proposed = None } in
     let k : IsKept s c.self.inside.names.items c.self.inside.arcs.items c.self.inside.low.items c.self.inside.high.items = c.self.invariant in
     let h0 = subst (λ r. IsAdded c.deref.result.now c.arc-new.result (length c.deref-2.result.now) r) c.in-Refused.is c.in_ok-cycle.ensures in
     let h : CycleBeginsWith (c.self.inside.arcs.items ++ arc_of c.args.bound ∷ []) (length c.self.inside.arcs.items) c.in-Refused.cycle.items = simp (c.deref.ensures.value, c.arc-new.ensures) at h0 in
     let is : c.in_ok-reason-in-Refused.reason.edges.items ≡ map (name_at (c.self.inside.names.items ++ New ∷ [])) c.in-Refused.cycle.items =
     simp (c.deref-in-Refused.ensures.value, c.deref-in-Refused-2.ensures.value) at c.in_ok-reason-in-Refused.ensures in
-    let none : get s.bounds c.args.id.0 ≡ None = subst (λ (t : Situation). get t.bounds c.args.id.0 ≡ None) (sym c.self.view_is) c.requires.unused in
+    let none : get s.bounds c.args.id.0 ≡ None = subst (λ (t : Setting). get t.bounds c.args.id.0 ≡ None) (sym c.self.view_is) c.requires.unused in
     rw (← c.self.view_is)
     (refused_add s c.self.inside.names.items c.self.inside.arcs.items c.self.inside.low.items c.self.inside.high.items c.args.id.0 c.args.bound c.in_ok-reason-in-Refused.reason.edges.items k none (c.in-Refused.cycle.items, h, is))
 
 pub invariant_of-self-in-Both : goal.invariant_of-self-in-Both
 invariant_of-self-in-Both c =
-    let s : Situation = record { horizon = c.self.inside.horizon; clock = c.self.inside.clock; bounds = held c.self.inside.bounds.entries; fixed = c.self.inside.fixed.items; lags = c.self.inside.lags.items; proposed = None } in
+    let s : Setting = record { horizon = c.self.inside.horizon; clock = c.self.inside.clock; bounds = held c.self.inside.bounds.entries; fixed = c.self.inside.fixed.items; lags = c.self.inside.lags.items; proposed = None } in
     let k : IsKept s c.self.inside.names.items c.self.inside.arcs.items c.self.inside.low.items c.self.inside.high.items = c.self.invariant in
     let h0 = subst (λ r. IsAdded c.deref.result.now c.arc-new.result (length c.deref-2.result.now) r) c.in-Both.is c.in_ok-cycle.ensures in
     let exact : AreExact (c.self.inside.arcs.items ++ arc_of c.args.bound ∷ []) c.in-Both.low.items c.in-Both.high.items = simp (c.deref.ensures.value, c.arc-new.ensures) at h0.1 in
     let len : length c.in-Both.low.items ≡ length c.self.inside.low.items = h0.0 ∙ ap (λ (xs : List ℕ). length xs) c.deref-2.ensures.value in
-    let none : get s.bounds c.args.id.0 ≡ None = subst (λ (t : Situation). get t.bounds c.args.id.0 ≡ None) (sym c.self.view_is) c.requires.unused in
+    let none : get s.bounds c.args.id.0 ≡ None = subst (λ (t : Setting). get t.bounds c.args.id.0 ≡ None) (sym c.self.view_is) c.requires.unused in
     let from : HasPoint s c.args.bound.from = subst (λ t. HasPoint t c.args.bound.from) (sym c.self.view_is) c.requires.from in
     let to : HasPoint s c.args.bound.to = subst (λ t. HasPoint t c.args.bound.to) (sym c.self.view_is) c.requires.to in
     rw (c.in_ok-enter-in-Both.ensures.bounds, c.in_ok-enter-in-Both.ensures.names, c.in_ok-enter-in-Both.ensures.arcs, c.arc-new.ensures)
@@ -57,12 +57,12 @@ invariant_of-self-in-Both c =
 
 pub returns-in_ok-enter-in-Both-clause-exact : goal.returns-in_ok-enter-in-Both-clause-exact
 returns-in_ok-enter-in-Both-clause-exact c =
-    let s : Situation = record { horizon = c.self.inside.horizon; clock = c.self.inside.clock; bounds = held c.self.inside.bounds.entries; fixed = c.self.inside.fixed.items; lags = c.self.inside.lags.items; proposed = None } in
+    let s : Setting = record { horizon = c.self.inside.horizon; clock = c.self.inside.clock; bounds = held c.self.inside.bounds.entries; fixed = c.self.inside.fixed.items; lags = c.self.inside.lags.items; proposed = None } in
     let k : IsKept s c.self.inside.names.items c.self.inside.arcs.items c.self.inside.low.items c.self.inside.high.items = c.self.invariant in
     let h0 = subst (λ r. IsAdded c.deref.result.now c.arc-new.result (length c.deref-2.result.now) r) c.in-Both.is c.in_ok-cycle.ensures in
     let exact : AreExact (c.self.inside.arcs.items ++ arc_of c.args.bound ∷ []) c.in-Both.low.items c.in-Both.high.items = simp (c.deref.ensures.value, c.arc-new.ensures) at h0.1 in
     let len : length c.in-Both.low.items ≡ length c.self.inside.low.items = h0.0 ∙ ap (λ (xs : List ℕ). length xs) c.deref-2.ensures.value in
-    let none : get s.bounds c.args.id.0 ≡ None = subst (λ (t : Situation). get t.bounds c.args.id.0 ≡ None) (sym c.self.view_is) c.requires.unused in
+    let none : get s.bounds c.args.id.0 ≡ None = subst (λ (t : Setting). get t.bounds c.args.id.0 ≡ None) (sym c.self.view_is) c.requires.unused in
     let from : HasPoint s c.args.bound.from = subst (λ t. HasPoint t c.args.bound.from) (sym c.self.view_is) c.requires.from in
     let to : HasPoint s c.args.bound.to = subst (λ t. HasPoint t c.args.bound.to) (sym c.self.view_is) c.requires.to in
     subst (λ t. HasSchedule (with_bound t c.args.id.0 c.args.bound)) c.self.view_is (kept_possible _ _ _ _ _ (kept_added s c.self.inside.names.items c.self.inside.arcs.items c.self.inside.low.items c.self.inside.high.items c.args.id c.args.bound c.in-Both.low.items c.in-Both.high.items k none from to c.requires.weight len exact))

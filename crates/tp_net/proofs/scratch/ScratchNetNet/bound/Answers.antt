@@ -1,6 +1,6 @@
 use Rattle.std.proofs.Common.{sym, ap, ◌∙◌}
 use Rattle.std.specs.FinMap.{get}
-use Rattle.tp_bounds.specs.Situation.{Situation}
+use Rattle.tp_bounds.specs.Setting.{Setting}
 use Rattle.tp_bounds.proofs.HeldMaps.{get_held}
 use Rattle.tp_net.proofs.scratch.ScratchNetNet.bound.Goals as goal
 
@@ -8,4 +8,4 @@ pub returns : goal.returns
 returns c =
     c.copied.ensures
     ∙ (c.get.ensures.value
-    ∙ (sym (get_held c.self.inside.bounds c.args.id.0) ∙ ap (λ (s : Situation). get s.bounds c.args.id.0) c.self.view_is))
+    ∙ (sym (get_held c.self.inside.bounds c.args.id.0) ∙ ap (λ (s : Setting). get s.bounds c.args.id.0) c.self.view_is))

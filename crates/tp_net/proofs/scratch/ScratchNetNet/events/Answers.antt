@@ -1,5 +1,5 @@
 use Rattle.std.proofs.Common.{◌≡◌, None, Some, sym, subst, ◌∙◌}
-use Rattle.tp_bounds.specs.Situation.{Situation}
+use Rattle.tp_bounds.specs.Setting.{Setting}
 use Rattle.tp_bounds.specs.Schedule.{HasSchedule}
 use Rattle.tp_bounds.specs.Lawful.{IsLawful}
 use Rattle.tp_net.specs.Kept.{IsFit}
@@ -9,7 +9,7 @@ use Rattle.tp_net.proofs.scratch.ScratchNetNet.events.Goals as goal
 pub returns-clause-possible : goal.returns-clause-possible
 returns-clause-possible c = subst HasSchedule c.self.view_is (kept_possible _ _ _ _ _ c.self.invariant)
 
-fit_lawful : (s : Situation) → IsFit s → IsLawful s
+fit_lawful : (s : Setting) → IsFit s → IsLawful s
 fit_lawful s h =
     record {
       events = h.events;

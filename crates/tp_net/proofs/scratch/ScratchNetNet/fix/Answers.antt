@@ -1,6 +1,6 @@
 use Rattle.std.proofs.Common.{◌≡◌, ℕ, suc, ◌+◌, ◌-◌, ◌<◌, ◌≤◌, inl, inr, None, List, refl, sym, subst, ap, ◌∙◌, arith, length, get_or}
 use Prim.Native.Nat.{max}
-use Rattle.tp_bounds.specs.Situation.{Situation, event_count, fixed_at, floor_of}
+use Rattle.tp_bounds.specs.Setting.{Setting, event_count, fixed_at, floor_of}
 use Rattle.tp_bounds.specs.declared.Edge.{Edge}
 use Rattle.tp_bounds.specs.declared.Edge.TheVariants.{PastHigh, PastLow}
 use Rattle.tp_bounds.specs.Changes.{with_fixed}
@@ -18,12 +18,12 @@ use Rattle.tp_net.proofs.scratch.ScratchNetNet.fix.Goals as goal
 
 pub refutation-requires : goal.refutation-requires
 refutation-requires c =
-    let s : Situation = record { horizon = c.self.inside.horizon; clock = c.self.inside.clock; bounds = held c.self.inside.bounds.entries; fixed = c.self.inside.fixed.items; lags = c.self.inside.lags.items; proposed = None } in
+    let s : Setting = record { horizon = c.self.inside.horizon; clock = c.self.inside.clock; bounds = held c.self.inside.bounds.entries; fixed = c.self.inside.fixed.items; lags = c.self.inside.lags.items; proposed = None } in
     let k : IsKept s c.self.inside.names.items c.self.inside.arcs.items c.self.inside.low.items c.self.inside.high.items = c.self.invariant in
-    let lt : c.args.e < length c.self.inside.fixed.items = subst (λ (t : Situation). c.args.e < event_count t) (sym c.self.view_is) c.requires.event in
-    let free : fixed_at s c.args.e ≡ None = subst (λ (t : Situation). fixed_at t c.args.e ≡ None) (sym c.self.view_is) c.requires.free in
+    let lt : c.args.e < length c.self.inside.fixed.items = subst (λ (t : Setting). c.args.e < event_count t) (sym c.self.view_is) c.requires.event in
+    let free : fixed_at s c.args.e ≡ None = subst (λ (t : Setting). fixed_at t c.args.e ≡ None) (sym c.self.view_is) c.requires.free in
     let floor : floor_of s c.args.e ≤ c.args.moment = subst (λ t. floor_of t c.args.e ≤ c.args.moment) (sym c.self.view_is) c.requires.floor in
-    let soon : c.args.moment ≤ c.self.inside.horizon = subst (λ (t : Situation). c.args.moment ≤ t.horizon) (sym c.self.view_is) c.requires.in_time in
+    let soon : c.args.moment ≤ c.self.inside.horizon = subst (λ (t : Setting). c.args.moment ≤ t.horizon) (sym c.self.view_is) c.requires.in_time in
     let ns : AreNamesPast c.args.e c.self.inside.names.items c.in_ok-names.names.items = subst (λ (ns : List Edge). AreNamesPast c.args.e ns c.in_ok-names.names.items) c.deref.ensures.value c.in_ok-names.ensures in
     let high : get_or c.self.inside.high.items (suc c.args.e) 0 ≡ c.index.result.now = read_here c.self.inside.high.items c.number-point.result c.args.e c.index.result.now c.number-point.ensures (omega (arith, lt, k.points, k.exact.len)) c.index.ensures in
     simp (c.deref-then-index-at.ensures.value, c.deref-then-index-at-2.ensures.value, c.deref-then-index-at-3.ensures.value, c.start_arc-new.ensures)
@@ -31,12 +31,12 @@ refutation-requires c =
 
 pub returns-then-index-at-clause-exact : goal.returns-then-index-at-clause-exact
 returns-then-index-at-clause-exact c =
-    let s : Situation = record { horizon = c.self.inside.horizon; clock = c.self.inside.clock; bounds = held c.self.inside.bounds.entries; fixed = c.self.inside.fixed.items; lags = c.self.inside.lags.items; proposed = None } in
+    let s : Setting = record { horizon = c.self.inside.horizon; clock = c.self.inside.clock; bounds = held c.self.inside.bounds.entries; fixed = c.self.inside.fixed.items; lags = c.self.inside.lags.items; proposed = None } in
     let k : IsKept s c.self.inside.names.items c.self.inside.arcs.items c.self.inside.low.items c.self.inside.high.items = c.self.invariant in
-    let lt : c.args.e < length c.self.inside.fixed.items = subst (λ (t : Situation). c.args.e < event_count t) (sym c.self.view_is) c.requires.event in
-    let free : fixed_at s c.args.e ≡ None = subst (λ (t : Situation). fixed_at t c.args.e ≡ None) (sym c.self.view_is) c.requires.free in
+    let lt : c.args.e < length c.self.inside.fixed.items = subst (λ (t : Setting). c.args.e < event_count t) (sym c.self.view_is) c.requires.event in
+    let free : fixed_at s c.args.e ≡ None = subst (λ (t : Setting). fixed_at t c.args.e ≡ None) (sym c.self.view_is) c.requires.free in
     let floor : floor_of s c.args.e ≤ c.args.moment = subst (λ t. floor_of t c.args.e ≤ c.args.moment) (sym c.self.view_is) c.requires.floor in
-    let soon : c.args.moment ≤ c.self.inside.horizon = subst (λ (t : Situation). c.args.moment ≤ t.horizon) (sym c.self.view_is) c.requires.in_time in
+    let soon : c.args.moment ≤ c.self.inside.horizon = subst (λ (t : Setting). c.args.moment ≤ t.horizon) (sym c.self.view_is) c.requires.in_time in
     let ns : AreNamesPast c.args.e c.self.inside.names.items c.in_ok-names.names.items = subst (λ (ns : List Edge). AreNamesPast c.args.e ns c.in_ok-names.names.items) c.deref.ensures.value c.in_ok-names.ensures in
     let h : NamesCycle c.in_ok-names.names.items c.self.inside.arcs.items (PastLow c.args.e) (arc_of (at_least c.args.e c.args.moment)) c.in_ok-reason.reason.edges.items =
     simp (c.deref-then-index-at.ensures.value, c.deref-then-index-at-2.ensures.value, c.start_arc-new.ensures) at c.in_ok-reason.ensures in
@@ -45,12 +45,12 @@ returns-then-index-at-clause-exact c =
 
 pub refutation-requires-then-at-index : goal.refutation-requires-then-at-index
 refutation-requires-then-at-index c =
-    let s : Situation = record { horizon = c.self.inside.horizon; clock = c.self.inside.clock; bounds = held c.self.inside.bounds.entries; fixed = c.self.inside.fixed.items; lags = c.self.inside.lags.items; proposed = None } in
+    let s : Setting = record { horizon = c.self.inside.horizon; clock = c.self.inside.clock; bounds = held c.self.inside.bounds.entries; fixed = c.self.inside.fixed.items; lags = c.self.inside.lags.items; proposed = None } in
     let k : IsKept s c.self.inside.names.items c.self.inside.arcs.items c.self.inside.low.items c.self.inside.high.items = c.self.invariant in
-    let lt : c.args.e < length c.self.inside.fixed.items = subst (λ (t : Situation). c.args.e < event_count t) (sym c.self.view_is) c.requires.event in
-    let free : fixed_at s c.args.e ≡ None = subst (λ (t : Situation). fixed_at t c.args.e ≡ None) (sym c.self.view_is) c.requires.free in
+    let lt : c.args.e < length c.self.inside.fixed.items = subst (λ (t : Setting). c.args.e < event_count t) (sym c.self.view_is) c.requires.event in
+    let free : fixed_at s c.args.e ≡ None = subst (λ (t : Setting). fixed_at t c.args.e ≡ None) (sym c.self.view_is) c.requires.free in
     let floor : floor_of s c.args.e ≤ c.args.moment = subst (λ t. floor_of t c.args.e ≤ c.args.moment) (sym c.self.view_is) c.requires.floor in
-    let soon : c.args.moment ≤ c.self.inside.horizon = subst (λ (t : Situation). c.args.moment ≤ t.horizon) (sym c.self.view_is) c.requires.in_time in
+    let soon : c.args.moment ≤ c.self.inside.horizon = subst (λ (t : Setting). c.args.moment ≤ t.horizon) (sym c.self.view_is) c.requires.in_time in
     let ns : AreNamesPast c.args.e c.self.inside.names.items c.in_ok-names.names.items = subst (λ (ns : List Edge). AreNamesPast c.args.e ns c.in_ok-names.names.items) c.deref.ensures.value c.in_ok-names.ensures in
     let low : get_or c.self.inside.low.items (suc c.args.e) 0 ≡ c.index-2.result.now = read_here c.self.inside.low.items c.number-point.result c.args.e c.index-2.result.now c.number-point.ensures (omega (arith, lt, k.points)) c.index-2.ensures in
     simp (c.deref-then-at-index.ensures.value, c.deref-then-at-index-2.ensures.value, c.deref-then-at-index-3.ensures.value, c.stop_arc-new.ensures)
@@ -58,12 +58,12 @@ refutation-requires-then-at-index c =
 
 pub returns-then-at-index-clause-exact : goal.returns-then-at-index-clause-exact
 returns-then-at-index-clause-exact c =
-    let s : Situation = record { horizon = c.self.inside.horizon; clock = c.self.inside.clock; bounds = held c.self.inside.bounds.entries; fixed = c.self.inside.fixed.items; lags = c.self.inside.lags.items; proposed = None } in
+    let s : Setting = record { horizon = c.self.inside.horizon; clock = c.self.inside.clock; bounds = held c.self.inside.bounds.entries; fixed = c.self.inside.fixed.items; lags = c.self.inside.lags.items; proposed = None } in
     let k : IsKept s c.self.inside.names.items c.self.inside.arcs.items c.self.inside.low.items c.self.inside.high.items = c.self.invariant in
-    let lt : c.args.e < length c.self.inside.fixed.items = subst (λ (t : Situation). c.args.e < event_count t) (sym c.self.view_is) c.requires.event in
-    let free : fixed_at s c.args.e ≡ None = subst (λ (t : Situation). fixed_at t c.args.e ≡ None) (sym c.self.view_is) c.requires.free in
+    let lt : c.args.e < length c.self.inside.fixed.items = subst (λ (t : Setting). c.args.e < event_count t) (sym c.self.view_is) c.requires.event in
+    let free : fixed_at s c.args.e ≡ None = subst (λ (t : Setting). fixed_at t c.args.e ≡ None) (sym c.self.view_is) c.requires.free in
     let floor : floor_of s c.args.e ≤ c.args.moment = subst (λ t. floor_of t c.args.e ≤ c.args.moment) (sym c.self.view_is) c.requires.floor in
-    let soon : c.args.moment ≤ c.self.inside.horizon = subst (λ (t : Situation). c.args.moment ≤ t.horizon) (sym c.self.view_is) c.requires.in_time in
+    let soon : c.args.moment ≤ c.self.inside.horizon = subst (λ (t : Setting). c.args.moment ≤ t.horizon) (sym c.self.view_is) c.requires.in_time in
     let ns : AreNamesPast c.args.e c.self.inside.names.items c.in_ok-names.names.items = subst (λ (ns : List Edge). AreNamesPast c.args.e ns c.in_ok-names.names.items) c.deref.ensures.value c.in_ok-names.ensures in
     let h : NamesCycle c.in_ok-names.names.items c.self.inside.arcs.items (PastHigh c.args.e) (arc_of (at_most c.args.e c.args.moment)) c.in_ok-reason-2.reason.edges.items =
     simp (c.deref-then-at-index.ensures.value, c.deref-then-at-index-2.ensures.value, c.stop_arc-new.ensures) at c.in_ok-reason-2.ensures in
@@ -72,12 +72,12 @@ returns-then-at-index-clause-exact c =
 
 pub solve-requires-clause-start : goal.solve-requires-clause-start
 solve-requires-clause-start c =
-    let s : Situation = record { horizon = c.self.inside.horizon; clock = c.self.inside.clock; bounds = held c.self.inside.bounds.entries; fixed = c.self.inside.fixed.items; lags = c.self.inside.lags.items; proposed = None } in
+    let s : Setting = record { horizon = c.self.inside.horizon; clock = c.self.inside.clock; bounds = held c.self.inside.bounds.entries; fixed = c.self.inside.fixed.items; lags = c.self.inside.lags.items; proposed = None } in
     let k : IsKept s c.self.inside.names.items c.self.inside.arcs.items c.self.inside.low.items c.self.inside.high.items = c.self.invariant in
-    let lt : c.args.e < length c.self.inside.fixed.items = subst (λ (t : Situation). c.args.e < event_count t) (sym c.self.view_is) c.requires.event in
-    let free : fixed_at s c.args.e ≡ None = subst (λ (t : Situation). fixed_at t c.args.e ≡ None) (sym c.self.view_is) c.requires.free in
+    let lt : c.args.e < length c.self.inside.fixed.items = subst (λ (t : Setting). c.args.e < event_count t) (sym c.self.view_is) c.requires.event in
+    let free : fixed_at s c.args.e ≡ None = subst (λ (t : Setting). fixed_at t c.args.e ≡ None) (sym c.self.view_is) c.requires.free in
     let floor : floor_of s c.args.e ≤ c.args.moment = subst (λ t. floor_of t c.args.e ≤ c.args.moment) (sym c.self.view_is) c.requires.floor in
-    let soon : c.args.moment ≤ c.self.inside.horizon = subst (λ (t : Situation). c.args.moment ≤ t.horizon) (sym c.self.view_is) c.requires.in_time in
+    let soon : c.args.moment ≤ c.self.inside.horizon = subst (λ (t : Setting). c.args.moment ≤ t.horizon) (sym c.self.view_is) c.requires.in_time in
     let ns : AreNamesPast c.args.e c.self.inside.names.items c.in_ok-names.names.items = subst (λ (ns : List Edge). AreNamesPast c.args.e ns c.in_ok-names.names.items) c.deref.ensures.value c.in_ok-names.ensures in
     let high : get_or c.self.inside.high.items (suc c.args.e) 0 ≡ c.index.result.now = read_here c.self.inside.high.items c.number-point.result c.args.e c.index.result.now c.number-point.ensures (omega (arith, lt, k.points, k.exact.len)) c.index.ensures in
     let low : get_or c.self.inside.low.items (suc c.args.e) 0 ≡ c.index-2.result.now = read_here c.self.inside.low.items c.number-point.result c.args.e c.index-2.result.now c.number-point.ensures (omega (arith, lt, k.points)) c.index-2.ensures in
@@ -93,12 +93,12 @@ solve-requires-clause-start c =
 
 pub invariant_of-self : goal.invariant_of-self
 invariant_of-self c =
-    let s : Situation = record { horizon = c.self.inside.horizon; clock = c.self.inside.clock; bounds = held c.self.inside.bounds.entries; fixed = c.self.inside.fixed.items; lags = c.self.inside.lags.items; proposed = None } in
+    let s : Setting = record { horizon = c.self.inside.horizon; clock = c.self.inside.clock; bounds = held c.self.inside.bounds.entries; fixed = c.self.inside.fixed.items; lags = c.self.inside.lags.items; proposed = None } in
     let k : IsKept s c.self.inside.names.items c.self.inside.arcs.items c.self.inside.low.items c.self.inside.high.items = c.self.invariant in
-    let lt : c.args.e < length c.self.inside.fixed.items = subst (λ (t : Situation). c.args.e < event_count t) (sym c.self.view_is) c.requires.event in
-    let free : fixed_at s c.args.e ≡ None = subst (λ (t : Situation). fixed_at t c.args.e ≡ None) (sym c.self.view_is) c.requires.free in
+    let lt : c.args.e < length c.self.inside.fixed.items = subst (λ (t : Setting). c.args.e < event_count t) (sym c.self.view_is) c.requires.event in
+    let free : fixed_at s c.args.e ≡ None = subst (λ (t : Setting). fixed_at t c.args.e ≡ None) (sym c.self.view_is) c.requires.free in
     let floor : floor_of s c.args.e ≤ c.args.moment = subst (λ t. floor_of t c.args.e ≤ c.args.moment) (sym c.self.view_is) c.requires.floor in
-    let soon : c.args.moment ≤ c.self.inside.horizon = subst (λ (t : Situation). c.args.moment ≤ t.horizon) (sym c.self.view_is) c.requires.in_time in
+    let soon : c.args.moment ≤ c.self.inside.horizon = subst (λ (t : Setting). c.args.moment ≤ t.horizon) (sym c.self.view_is) c.requires.in_time in
     let ns : AreNamesPast c.args.e c.self.inside.names.items c.in_ok-names.names.items = subst (λ (ns : List Edge). AreNamesPast c.args.e ns c.in_ok-names.names.items) c.deref.ensures.value c.in_ok-names.ensures in
     let xs : AreArcsPast c.args.e c.args.moment c.self.inside.names.items c.self.inside.arcs.items c.in_ok-arcs.arcs.items =
     subst (λ (ns : List Edge). AreArcsPast c.args.e c.args.moment ns c.self.inside.arcs.items c.in_ok-arcs.arcs.items) c.deref-4.ensures.value (subst (λ (es : List Arc). AreArcsPast c.args.e c.args.moment c.deref-4.result.now es c.in_ok-arcs.arcs.items) c.deref-5.ensures.value c.in_ok-arcs.ensures) in
@@ -109,12 +109,12 @@ invariant_of-self c =
 
 pub returns-clause-exact : goal.returns-clause-exact
 returns-clause-exact c =
-    let s : Situation = record { horizon = c.self.inside.horizon; clock = c.self.inside.clock; bounds = held c.self.inside.bounds.entries; fixed = c.self.inside.fixed.items; lags = c.self.inside.lags.items; proposed = None } in
+    let s : Setting = record { horizon = c.self.inside.horizon; clock = c.self.inside.clock; bounds = held c.self.inside.bounds.entries; fixed = c.self.inside.fixed.items; lags = c.self.inside.lags.items; proposed = None } in
     let k : IsKept s c.self.inside.names.items c.self.inside.arcs.items c.self.inside.low.items c.self.inside.high.items = c.self.invariant in
-    let lt : c.args.e < length c.self.inside.fixed.items = subst (λ (t : Situation). c.args.e < event_count t) (sym c.self.view_is) c.requires.event in
-    let free : fixed_at s c.args.e ≡ None = subst (λ (t : Situation). fixed_at t c.args.e ≡ None) (sym c.self.view_is) c.requires.free in
+    let lt : c.args.e < length c.self.inside.fixed.items = subst (λ (t : Setting). c.args.e < event_count t) (sym c.self.view_is) c.requires.event in
+    let free : fixed_at s c.args.e ≡ None = subst (λ (t : Setting). fixed_at t c.args.e ≡ None) (sym c.self.view_is) c.requires.free in
     let floor : floor_of s c.args.e ≤ c.args.moment = subst (λ t. floor_of t c.args.e ≤ c.args.moment) (sym c.self.view_is) c.requires.floor in
-    let soon : c.args.moment ≤ c.self.inside.horizon = subst (λ (t : Situation). c.args.moment ≤ t.horizon) (sym c.self.view_is) c.requires.in_time in
+    let soon : c.args.moment ≤ c.self.inside.horizon = subst (λ (t : Setting). c.args.moment ≤ t.horizon) (sym c.self.view_is) c.requires.in_time in
     let ns : AreNamesPast c.args.e c.self.inside.names.items c.in_ok-names.names.items = subst (λ (ns : List Edge). AreNamesPast c.args.e ns c.in_ok-names.names.items) c.deref.ensures.value c.in_ok-names.ensures in
     let xs : AreArcsPast c.args.e c.args.moment c.self.inside.names.items c.self.inside.arcs.items c.in_ok-arcs.arcs.items =
     subst (λ (ns : List Edge). AreArcsPast c.args.e c.args.moment ns c.self.inside.arcs.items c.in_ok-arcs.arcs.items) c.deref-4.ensures.value (subst (λ (es : List Arc). AreArcsPast c.args.e c.args.moment c.deref-4.result.now es c.in_ok-arcs.arcs.items) c.deref-5.ensures.value c.in_ok-arcs.ensures) in

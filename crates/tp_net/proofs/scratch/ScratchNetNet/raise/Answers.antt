@@ -1,5 +1,5 @@
 use Rattle.std.proofs.Common.{◌≡◌, ℕ, ◌+◌, ◌≤◌, None, List, sym, subst, ap, ◌∙◌, arith, length}
-use Rattle.tp_bounds.specs.Situation.{Situation}
+use Rattle.tp_bounds.specs.Setting.{Setting}
 use Rattle.tp_bounds.specs.declared.Edge.TheVariants.{Now}
 use Rattle.tp_bounds.specs.Changes.{at_moment}
 use Rattle.tp_bounds.specs.Reasons.{at_least}
@@ -14,33 +14,33 @@ use Rattle.tp_net.proofs.scratch.ScratchNetNet.raise.Goals as goal
 
 pub returns-then-now-self-clause-exact : goal.returns-then-now-self-clause-exact
 returns-then-now-self-clause-exact c =
-    let still : c.args.now ≡ c.args.self.now.clock = c.if-now-self.true ∙ ap (λ (s : Situation). s.clock) c.self.view_is in
+    let still : c.args.now ≡ c.args.self.now.clock = c.if-now-self.true ∙ ap (λ (s : Setting). s.clock) c.self.view_is in
     subst HasSchedule (sym (at_same c.args.self.now c.args.now still)) (subst HasSchedule c.self.view_is (kept_possible _ _ _ _ _ c.self.invariant))
 
 pub refutation-requires : goal.refutation-requires
 refutation-requires c =
-    let s : Situation = record { horizon = c.self.inside.horizon; clock = c.self.inside.clock; bounds = held c.self.inside.bounds.entries; fixed = c.self.inside.fixed.items; lags = c.self.inside.lags.items; proposed = None } in
+    let s : Setting = record { horizon = c.self.inside.horizon; clock = c.self.inside.clock; bounds = held c.self.inside.bounds.entries; fixed = c.self.inside.fixed.items; lags = c.self.inside.lags.items; proposed = None } in
     let k : IsKept s c.self.inside.names.items c.self.inside.arcs.items c.self.inside.low.items c.self.inside.high.items = c.self.invariant in
-    let soon : c.args.now ≤ c.self.inside.horizon = subst (λ (t : Situation). c.args.now ≤ t.horizon) (sym c.self.view_is) c.requires.in_time in
+    let soon : c.args.now ≤ c.self.inside.horizon = subst (λ (t : Setting). c.args.now ≤ t.horizon) (sym c.self.view_is) c.requires.in_time in
     let late : CannotWait c.self.inside.fixed.items c.self.inside.high.items c.self.inside.lags.items c.args.now c.in-Some.e = simp (c.deref.ensures.value, c.deref-2.ensures.value, c.deref-3.ensures.value) at c.in-Some.ensures in
     simp (c.deref-in-Some-2.ensures.value, c.deref-in-Some-3.ensures.value, c.deref-in-Some-4.ensures.value, c.start_arc-new.ensures, c.floor.ensures, c.deref-in-Some.ensures.value)
     (contrary_raise s c.self.inside.names.items c.self.inside.arcs.items c.self.inside.low.items c.self.inside.high.items c.args.now c.in-Some.e k soon late)
 
 pub returns-in-Some-clause-exact : goal.returns-in-Some-clause-exact
 returns-in-Some-clause-exact c =
-    let s : Situation = record { horizon = c.self.inside.horizon; clock = c.self.inside.clock; bounds = held c.self.inside.bounds.entries; fixed = c.self.inside.fixed.items; lags = c.self.inside.lags.items; proposed = None } in
+    let s : Setting = record { horizon = c.self.inside.horizon; clock = c.self.inside.clock; bounds = held c.self.inside.bounds.entries; fixed = c.self.inside.fixed.items; lags = c.self.inside.lags.items; proposed = None } in
     let k : IsKept s c.self.inside.names.items c.self.inside.arcs.items c.self.inside.low.items c.self.inside.high.items = c.self.invariant in
     let late : CannotWait c.self.inside.fixed.items c.self.inside.high.items c.self.inside.lags.items c.args.now c.in-Some.e = simp (c.deref.ensures.value, c.deref-2.ensures.value, c.deref-3.ensures.value) at c.in-Some.ensures in
-    let forward : c.self.inside.clock ≤ c.args.now = subst (λ (t : Situation). t.clock ≤ c.args.now) (sym c.self.view_is) c.requires.forward in
+    let forward : c.self.inside.clock ≤ c.args.now = subst (λ (t : Setting). t.clock ≤ c.args.now) (sym c.self.view_is) c.requires.forward in
     let h : NamesCycle c.self.inside.names.items c.self.inside.arcs.items (Now c.in-Some.e) (arc_of (at_least c.in-Some.e (floor_at c.args.now c.self.inside.lags.items c.in-Some.e))) c.in_ok-reason.reason.edges.items =
     simp (c.deref-in-Some-2.ensures.value, c.deref-in-Some-3.ensures.value, c.start_arc-new.ensures, c.floor.ensures, c.deref-in-Some.ensures.value) at c.in_ok-reason.ensures in
     rw (← c.self.view_is) (refused_raise s c.self.inside.names.items c.self.inside.arcs.items c.self.inside.low.items c.self.inside.high.items c.args.now c.in-Some.e c.in_ok-reason.reason.edges.items k forward late h)
 
 pub solve-requires-clause-start : goal.solve-requires-clause-start
 solve-requires-clause-start c =
-    let s : Situation = record { horizon = c.self.inside.horizon; clock = c.self.inside.clock; bounds = held c.self.inside.bounds.entries; fixed = c.self.inside.fixed.items; lags = c.self.inside.lags.items; proposed = None } in
+    let s : Setting = record { horizon = c.self.inside.horizon; clock = c.self.inside.clock; bounds = held c.self.inside.bounds.entries; fixed = c.self.inside.fixed.items; lags = c.self.inside.lags.items; proposed = None } in
     let k : IsKept s c.self.inside.names.items c.self.inside.arcs.items c.self.inside.low.items c.self.inside.high.items = c.self.invariant in
-    let soon : c.args.now ≤ c.self.inside.horizon = subst (λ (t : Situation). c.args.now ≤ t.horizon) (sym c.self.view_is) c.requires.in_time in
+    let soon : c.args.now ≤ c.self.inside.horizon = subst (λ (t : Setting). c.args.now ≤ t.horizon) (sym c.self.view_is) c.requires.in_time in
     let r : AreRaised c.args.now c.self.inside.lags.items c.self.inside.names.items c.self.inside.arcs.items c.in_ok-arcs.arcs.items =
     simp (c.deref-4.ensures.value, c.deref-5.ensures.value, c.deref-6.ensures.value) at c.in_ok-arcs.ensures in
     let wait : AllWait c.self.inside.fixed.items c.self.inside.high.items c.self.inside.lags.items c.args.now = simp (c.deref.ensures.value, c.deref-2.ensures.value, c.deref-3.ensures.value) at c.in_default.ensures in
@@ -49,9 +49,9 @@ solve-requires-clause-start c =
 
 pub invariant_of-self : goal.invariant_of-self
 invariant_of-self c =
-    let s : Situation = record { horizon = c.self.inside.horizon; clock = c.self.inside.clock; bounds = held c.self.inside.bounds.entries; fixed = c.self.inside.fixed.items; lags = c.self.inside.lags.items; proposed = None } in
+    let s : Setting = record { horizon = c.self.inside.horizon; clock = c.self.inside.clock; bounds = held c.self.inside.bounds.entries; fixed = c.self.inside.fixed.items; lags = c.self.inside.lags.items; proposed = None } in
     let k : IsKept s c.self.inside.names.items c.self.inside.arcs.items c.self.inside.low.items c.self.inside.high.items = c.self.invariant in
-    let soon : c.args.now ≤ c.self.inside.horizon = subst (λ (t : Situation). c.args.now ≤ t.horizon) (sym c.self.view_is) c.requires.in_time in
+    let soon : c.args.now ≤ c.self.inside.horizon = subst (λ (t : Setting). c.args.now ≤ t.horizon) (sym c.self.view_is) c.requires.in_time in
     let r : AreRaised c.args.now c.self.inside.lags.items c.self.inside.names.items c.self.inside.arcs.items c.in_ok-arcs.arcs.items =
     simp (c.deref-4.ensures.value, c.deref-5.ensures.value, c.deref-6.ensures.value) at c.in_ok-arcs.ensures in
     let exact : AreExact c.in_ok-arcs.arcs.items c.in_ok-low.low.items c.in_ok-low.high.items = simp c.deref-7.ensures.value at c.in_ok-low.ensures.exact in
@@ -60,9 +60,9 @@ invariant_of-self c =
 
 pub returns-clause-exact : goal.returns-clause-exact
 returns-clause-exact c =
-    let s : Situation = record { horizon = c.self.inside.horizon; clock = c.self.inside.clock; bounds = held c.self.inside.bounds.entries; fixed = c.self.inside.fixed.items; lags = c.self.inside.lags.items; proposed = None } in
+    let s : Setting = record { horizon = c.self.inside.horizon; clock = c.self.inside.clock; bounds = held c.self.inside.bounds.entries; fixed = c.self.inside.fixed.items; lags = c.self.inside.lags.items; proposed = None } in
     let k : IsKept s c.self.inside.names.items c.self.inside.arcs.items c.self.inside.low.items c.self.inside.high.items = c.self.invariant in
-    let soon : c.args.now ≤ c.self.inside.horizon = subst (λ (t : Situation). c.args.now ≤ t.horizon) (sym c.self.view_is) c.requires.in_time in
+    let soon : c.args.now ≤ c.self.inside.horizon = subst (λ (t : Setting). c.args.now ≤ t.horizon) (sym c.self.view_is) c.requires.in_time in
     let r : AreRaised c.args.now c.self.inside.lags.items c.self.inside.names.items c.self.inside.arcs.items c.in_ok-arcs.arcs.items =
     simp (c.deref-4.ensures.value, c.deref-5.ensures.value, c.deref-6.ensures.value) at c.in_ok-arcs.ensures in
     let exact : AreExact c.in_ok-arcs.arcs.items c.in_ok-low.low.items c.in_ok-low.high.items = simp c.deref-7.ensures.value at c.in_ok-low.ensures.exact in

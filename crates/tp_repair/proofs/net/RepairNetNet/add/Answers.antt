@@ -3,7 +3,7 @@ use Rattle.std.specs.FinMap.{FinMap, get}
 use Rattle.std.specs.Ordering.{nat_cmp}
 use Rattle.tp_bounds.specs.declared.Bound.{Bound}
 use Rattle.tp_bounds.specs.declared.Edge.TheVariants.{New}
-use Rattle.tp_bounds.specs.Situation.{Situation, HasPoint, event_count}
+use Rattle.tp_bounds.specs.Setting.{Setting, HasPoint, event_count}
 use Rattle.tp_bounds.specs.Changes.{with_bound, proposing}
 use Rattle.tp_bounds.specs.Schedule.{HasSchedule}
 use Rattle.tp_net.specs.Arcs.{arc_of, NamesCycle}
@@ -35,15 +35,15 @@ pub bring-requires-clause-among : goal.bring-requires-clause-among
 bring-requires-clause-among c = among _ _ _ _ _ _ c.self.invariant
 
 pub bring-requires-clause-bound : goal.bring-requires-clause-bound
-bring-requires-clause-bound c = sym (get_held c.self.inside.bounds c.args.id.0) ∙ (ap (λ (t : Told). get t.situation.bounds c.args.id.0) c.self.view_is ∙ c.requires.unused)
+bring-requires-clause-bound c = sym (get_held c.self.inside.bounds c.args.id.0) ∙ (ap (λ (t : Told). get t.setting.bounds c.args.id.0) c.self.view_is ∙ c.requires.unused)
 
 pub bring-requires-clause-key : goal.bring-requires-clause-key
-bring-requires-clause-key c = c.self.invariant.spare c.args.id.0 (ap (λ (t : Told). get t.situation.bounds c.args.id.0) c.self.view_is ∙ c.requires.unused)
+bring-requires-clause-key c = c.self.invariant.spare c.args.id.0 (ap (λ (t : Told). get t.setting.bounds c.args.id.0) c.self.view_is ∙ c.requires.unused)
 
 pub invariant_of-self-in_err-path : goal.invariant_of-self-in_err-path
 invariant_of-self-in_err-path c =
     let i = c.self.inside in
-    let s : Situation = settled i.horizon i.clock i.bounds.entries i.fixed.items i.lags.items in
+    let s : Setting = settled i.horizon i.clock i.bounds.entries i.fixed.items i.lags.items in
     let n = length i.bounds.entries in
     let g0 : Engine = with_looks i.engine 0 in
     let g' : Engine = c.bring.new.engine in
@@ -54,7 +54,7 @@ invariant_of-self-in_err-path c =
 pub named-requires : goal.named-requires
 named-requires c =
     let i = c.self.inside in
-    let s : Situation = settled i.horizon i.clock i.bounds.entries i.fixed.items i.lags.items in
+    let s : Setting = settled i.horizon i.clock i.bounds.entries i.fixed.items i.lags.items in
     let n = length i.bounds.entries in
     let g0 : Engine = with_looks i.engine 0 in
     let g' : Engine = c.bring.new.engine in
@@ -64,7 +64,7 @@ named-requires c =
 pub invariant_of-self-in_err-reason : goal.invariant_of-self-in_err-reason
 invariant_of-self-in_err-reason c =
     let i = c.self.inside in
-    let s : Situation = settled i.horizon i.clock i.bounds.entries i.fixed.items i.lags.items in
+    let s : Setting = settled i.horizon i.clock i.bounds.entries i.fixed.items i.lags.items in
     let n = length i.bounds.entries in
     let g0 : Engine = with_looks i.engine 0 in
     let g' : Engine = c.bring.new.engine in
@@ -75,7 +75,7 @@ invariant_of-self-in_err-reason c =
 pub invariant_of-self-in-Some : goal.invariant_of-self-in-Some
 invariant_of-self-in-Some c =
     let i = c.self.inside in
-    let s : Situation = settled i.horizon i.clock i.bounds.entries i.fixed.items i.lags.items in
+    let s : Setting = settled i.horizon i.clock i.bounds.entries i.fixed.items i.lags.items in
     let n = length i.bounds.entries in
     let g0 : Engine = with_looks i.engine 0 in
     let g' : Engine = c.bring.new.engine in
@@ -86,29 +86,29 @@ invariant_of-self-in-Some c =
 pub returns-in-Some-clause-exact : goal.returns-in-Some-clause-exact
 returns-in-Some-clause-exact c =
     let i = c.self.inside in
-    let s : Situation = settled i.horizon i.clock i.bounds.entries i.fixed.items i.lags.items in
+    let s : Setting = settled i.horizon i.clock i.bounds.entries i.fixed.items i.lags.items in
     let n = length i.bounds.entries in
     let g0 : Engine = with_looks i.engine 0 in
     let g' : Engine = c.bring.new.engine in
     let b = subst (λ o. IsBrought c.args.id c.args.bound g0 g' i.bounds c.bring.new.bounds i.keys c.bring.new.keys o) c.in-Some.is c.in_ok-path.ensures.ok in
     let slots = i.engine.store.nodes.slots in
-    let none : get s.bounds c.args.id.0 ≡ None = ap (λ (t : Told). get t.situation.bounds c.args.id.0) c.self.view_is ∙ c.requires.unused in
+    let none : get s.bounds c.args.id.0 ≡ None = ap (λ (t : Told). get t.setting.bounds c.args.id.0) c.self.view_is ∙ c.requires.unused in
     let h : NamesCycle (names_of slots) (kept_arcs slots) New (arc_of c.args.bound) c.in_ok-reason.reason.edges.items = (simp (c.deref.ensures.value, b.1) at c.in_ok-reason.ensures) (arc_of c.args.bound) b.2 in
-    subst (λ (t : Told). Refutes IsNew (proposing t.situation c.args.bound) (with_bound t.situation c.args.id.0 c.args.bound) c.in_ok-reason.reason.edges.items) c.self.view_is
+    subst (λ (t : Told). Refutes IsNew (proposing t.setting c.args.bound) (with_bound t.setting c.args.id.0 c.args.bound) c.in_ok-reason.reason.edges.items) c.self.view_is
     (refused_add s (names_of slots) (kept_arcs slots) i.engine.low.items i.engine.high.items c.args.id.0 c.args.bound c.in_ok-reason.reason.edges.items (kept s n i.keys i.floors.items i.ends.items i.engine c.self.invariant) none h)
 
 pub invariant_of-self-2 : goal.invariant_of-self-2
 invariant_of-self-2 c =
     let i = c.self.inside in
-    let s : Situation = settled i.horizon i.clock i.bounds.entries i.fixed.items i.lags.items in
+    let s : Setting = settled i.horizon i.clock i.bounds.entries i.fixed.items i.lags.items in
     let n = length i.bounds.entries in
     let g0 : Engine = with_looks i.engine 0 in
     let g' : Engine = c.bring.new.engine in
     let r : IsRepaired s n i.keys i.floors.items i.ends.items g0 = relooked s n i.keys i.floors.items i.ends.items i.engine 0 c.self.invariant in
     let b : IsBroughtIn c.args.id c.args.bound g0 g' i.bounds c.bring.new.bounds i.keys c.bring.new.keys = subst (λ o. IsBrought c.args.id c.args.bound g0 g' i.bounds c.bring.new.bounds i.keys c.bring.new.keys o) c.in_default.is c.in_ok-path.ensures.ok in
-    let none : get s.bounds c.args.id.0 ≡ None = ap (λ (t : Told). get t.situation.bounds c.args.id.0) c.self.view_is ∙ c.requires.unused in
-    let from : HasPoint s c.args.bound.from = subst (λ (t : Told). HasPoint t.situation c.args.bound.from) (sym c.self.view_is) c.requires.from in
-    let to : HasPoint s c.args.bound.to = subst (λ (t : Told). HasPoint t.situation c.args.bound.to) (sym c.self.view_is) c.requires.to in
+    let none : get s.bounds c.args.id.0 ≡ None = ap (λ (t : Told). get t.setting.bounds c.args.id.0) c.self.view_is ∙ c.requires.unused in
+    let from : HasPoint s c.args.bound.from = subst (λ (t : Told). HasPoint t.setting c.args.bound.from) (sym c.self.view_is) c.requires.from in
+    let to : HasPoint s c.args.bound.to = subst (λ (t : Told). HasPoint t.setting c.args.bound.to) (sym c.self.view_is) c.requires.to in
     let few : n < 2 ^ 32 = omega (arith, c.if-len.false, c.len.ensures.len) in
     let brought = repaired_brought s n i.keys c.bring.new.keys i.floors.items i.ends.items g0 g' c.args.id c.args.bound i.bounds c.bring.new.bounds r none from to c.requires.weight b refl few in
     subst (λ (m : FinMap nat_cmp Bound). IsRepaired (record { horizon = i.horizon; clock = i.clock; bounds = m; fixed = i.fixed.items; lags = i.lags.items; proposed = None }) (length c.bring.new.bounds.entries) c.bring.new.keys i.floors.items i.ends.items g') (sym b.recorded.holds) brought
@@ -116,35 +116,35 @@ invariant_of-self-2 c =
 pub returns-clause-exact : goal.returns-clause-exact
 returns-clause-exact c =
     let i = c.self.inside in
-    let s : Situation = settled i.horizon i.clock i.bounds.entries i.fixed.items i.lags.items in
+    let s : Setting = settled i.horizon i.clock i.bounds.entries i.fixed.items i.lags.items in
     let n = length i.bounds.entries in
     let g0 : Engine = with_looks i.engine 0 in
     let g' : Engine = c.bring.new.engine in
     let r : IsRepaired s n i.keys i.floors.items i.ends.items g0 = relooked s n i.keys i.floors.items i.ends.items i.engine 0 c.self.invariant in
     let b : IsBroughtIn c.args.id c.args.bound g0 g' i.bounds c.bring.new.bounds i.keys c.bring.new.keys = subst (λ o. IsBrought c.args.id c.args.bound g0 g' i.bounds c.bring.new.bounds i.keys c.bring.new.keys o) c.in_default.is c.in_ok-path.ensures.ok in
-    let none : get s.bounds c.args.id.0 ≡ None = ap (λ (t : Told). get t.situation.bounds c.args.id.0) c.self.view_is ∙ c.requires.unused in
-    let from : HasPoint s c.args.bound.from = subst (λ (t : Told). HasPoint t.situation c.args.bound.from) (sym c.self.view_is) c.requires.from in
-    let to : HasPoint s c.args.bound.to = subst (λ (t : Told). HasPoint t.situation c.args.bound.to) (sym c.self.view_is) c.requires.to in
+    let none : get s.bounds c.args.id.0 ≡ None = ap (λ (t : Told). get t.setting.bounds c.args.id.0) c.self.view_is ∙ c.requires.unused in
+    let from : HasPoint s c.args.bound.from = subst (λ (t : Told). HasPoint t.setting c.args.bound.from) (sym c.self.view_is) c.requires.from in
+    let to : HasPoint s c.args.bound.to = subst (λ (t : Told). HasPoint t.setting c.args.bound.to) (sym c.self.view_is) c.requires.to in
     let few : n < 2 ^ 32 = omega (arith, c.if-len.false, c.len.ensures.len) in
     let brought = repaired_brought s n i.keys c.bring.new.keys i.floors.items i.ends.items g0 g' c.args.id c.args.bound i.bounds c.bring.new.bounds r none from to c.requires.weight b refl few in
-    subst (λ (t : Told). HasSchedule (with_bound t.situation c.args.id.0 c.args.bound)) c.self.view_is (kept_possible _ _ _ _ _ (kept _ _ _ _ _ _ brought))
+    subst (λ (t : Told). HasSchedule (with_bound t.setting c.args.id.0 c.args.bound)) c.self.view_is (kept_possible _ _ _ _ _ (kept _ _ _ _ _ _ brought))
 
 pub returns-clause-cheap : goal.returns-clause-cheap
 returns-clause-cheap c =
     let i = c.self.inside in
-    let s : Situation = settled i.horizon i.clock i.bounds.entries i.fixed.items i.lags.items in
+    let s : Setting = settled i.horizon i.clock i.bounds.entries i.fixed.items i.lags.items in
     let n = length i.bounds.entries in
     let g0 : Engine = with_looks i.engine 0 in
     let g' : Engine = c.bring.new.engine in
     let r : IsRepaired s n i.keys i.floors.items i.ends.items g0 = relooked s n i.keys i.floors.items i.ends.items i.engine 0 c.self.invariant in
     let b : IsBroughtIn c.args.id c.args.bound g0 g' i.bounds c.bring.new.bounds i.keys c.bring.new.keys = subst (λ o. IsBrought c.args.id c.args.bound g0 g' i.bounds c.bring.new.bounds i.keys c.bring.new.keys o) c.in_default.is c.in_ok-path.ensures.ok in
-    let none : get s.bounds c.args.id.0 ≡ None = ap (λ (t : Told). get t.situation.bounds c.args.id.0) c.self.view_is ∙ c.requires.unused in
-    let from : HasPoint s c.args.bound.from = subst (λ (t : Told). HasPoint t.situation c.args.bound.from) (sym c.self.view_is) c.requires.from in
-    let to : HasPoint s c.args.bound.to = subst (λ (t : Told). HasPoint t.situation c.args.bound.to) (sym c.self.view_is) c.requires.to in
+    let none : get s.bounds c.args.id.0 ≡ None = ap (λ (t : Told). get t.setting.bounds c.args.id.0) c.self.view_is ∙ c.requires.unused in
+    let from : HasPoint s c.args.bound.from = subst (λ (t : Told). HasPoint t.setting c.args.bound.from) (sym c.self.view_is) c.requires.from in
+    let to : HasPoint s c.args.bound.to = subst (λ (t : Told). HasPoint t.setting c.args.bound.to) (sym c.self.view_is) c.requires.to in
     let few : n < 2 ^ 32 = omega (arith, c.if-len.false, c.len.ensures.len) in
     let brought = repaired_brought s n i.keys c.bring.new.keys i.floors.items i.ends.items g0 g' c.args.id c.args.bound i.bounds c.bring.new.bounds r none from to c.requires.weight b refl few in
     let h = subst (λ o. AreCounted g0.store (length g0.low.items) g'.up.amounts.items g'.down.amounts.items 0 g'.looks o) c.in_default.is c.in_ok-path.ensures.counted in
-    subst (λ (t : Told). IsCheap 2 t.situation (with_bound t.situation c.args.id.0 c.args.bound) g'.looks) c.self.view_is
+    subst (λ (t : Told). IsCheap 2 t.setting (with_bound t.setting c.args.id.0 c.args.bound) g'.looks) c.self.view_is
     (cheap s (with_bound s c.args.id.0 c.args.bound) n (length c.bring.new.bounds.entries) i.keys c.bring.new.keys i.floors.items i.ends.items i.floors.items i.ends.items g0 g' g'.up.amounts.items g'.down.amounts.items 2 g'.looks r brought refl b.moves.up b.moves.down (omega (arith, h)))
 
 pub returns-clause-some : goal.returns-clause-some
@@ -156,47 +156,47 @@ returns-clause-some c =
 pub returns-in_err-path-clause-most : goal.returns-in_err-path-clause-most
 returns-in_err-path-clause-most c =
     let i = c.self.inside in
-    let s : Situation = settled i.horizon i.clock i.bounds.entries i.fixed.items i.lags.items in
+    let s : Setting = settled i.horizon i.clock i.bounds.entries i.fixed.items i.lags.items in
     let n = length i.bounds.entries in
     let g0 : Engine = with_looks i.engine 0 in
     let r : IsRepaired s n i.keys i.floors.items i.ends.items g0 = relooked s n i.keys i.floors.items i.ends.items i.engine 0 c.self.invariant in
     let most = c.bring.ensures.looks (n + 2 * event_count s) (wired_here s n i.keys i.floors.items i.ends.items g0 r) in
     let held = held_len i.bounds c.len.ensures.ordered in
-    let told : edge_count s ≡ edge_count c.args.self.now.situation = ap (λ (t : Told). edge_count t.situation) c.self.view_is in
+    let told : edge_count s ≡ edge_count c.args.self.now.setting = ap (λ (t : Told). edge_count t.setting) c.self.view_is in
     omega (arith, most, held, told)
 
 pub returns-in_err-reason-clause-most : goal.returns-in_err-reason-clause-most
 returns-in_err-reason-clause-most c =
     let i = c.self.inside in
-    let s : Situation = settled i.horizon i.clock i.bounds.entries i.fixed.items i.lags.items in
+    let s : Setting = settled i.horizon i.clock i.bounds.entries i.fixed.items i.lags.items in
     let n = length i.bounds.entries in
     let g0 : Engine = with_looks i.engine 0 in
     let r : IsRepaired s n i.keys i.floors.items i.ends.items g0 = relooked s n i.keys i.floors.items i.ends.items i.engine 0 c.self.invariant in
     let most = c.bring.ensures.looks (n + 2 * event_count s) (wired_here s n i.keys i.floors.items i.ends.items g0 r) in
     let held = held_len i.bounds c.len.ensures.ordered in
-    let told : edge_count s ≡ edge_count c.args.self.now.situation = ap (λ (t : Told). edge_count t.situation) c.self.view_is in
+    let told : edge_count s ≡ edge_count c.args.self.now.setting = ap (λ (t : Told). edge_count t.setting) c.self.view_is in
     omega (arith, most, held, told)
 
 pub returns-in-Some-clause-most : goal.returns-in-Some-clause-most
 returns-in-Some-clause-most c =
     let i = c.self.inside in
-    let s : Situation = settled i.horizon i.clock i.bounds.entries i.fixed.items i.lags.items in
+    let s : Setting = settled i.horizon i.clock i.bounds.entries i.fixed.items i.lags.items in
     let n = length i.bounds.entries in
     let g0 : Engine = with_looks i.engine 0 in
     let r : IsRepaired s n i.keys i.floors.items i.ends.items g0 = relooked s n i.keys i.floors.items i.ends.items i.engine 0 c.self.invariant in
     let most = c.bring.ensures.looks (n + 2 * event_count s) (wired_here s n i.keys i.floors.items i.ends.items g0 r) in
     let held = held_len i.bounds c.len.ensures.ordered in
-    let told : edge_count s ≡ edge_count c.args.self.now.situation = ap (λ (t : Told). edge_count t.situation) c.self.view_is in
+    let told : edge_count s ≡ edge_count c.args.self.now.setting = ap (λ (t : Told). edge_count t.setting) c.self.view_is in
     omega (arith, most, held, told)
 
 pub returns-clause-most : goal.returns-clause-most
 returns-clause-most c =
     let i = c.self.inside in
-    let s : Situation = settled i.horizon i.clock i.bounds.entries i.fixed.items i.lags.items in
+    let s : Setting = settled i.horizon i.clock i.bounds.entries i.fixed.items i.lags.items in
     let n = length i.bounds.entries in
     let g0 : Engine = with_looks i.engine 0 in
     let r : IsRepaired s n i.keys i.floors.items i.ends.items g0 = relooked s n i.keys i.floors.items i.ends.items i.engine 0 c.self.invariant in
     let most = c.bring.ensures.looks (n + 2 * event_count s) (wired_here s n i.keys i.floors.items i.ends.items g0 r) in
     let held = held_len i.bounds c.len.ensures.ordered in
-    let told : edge_count s ≡ edge_count c.args.self.now.situation = ap (λ (t : Told). edge_count t.situation) c.self.view_is in
+    let told : edge_count s ≡ edge_count c.args.self.now.setting = ap (λ (t : Told). edge_count t.setting) c.self.view_is in
     omega (arith, most, held, told)

@@ -8,4 +8,4 @@ pub returns : goal.returns
 returns c =
     c.copied.ensures
     ∙ (c.get.ensures.value
-    ∙ (sym (get_held c.self.inside.bounds c.args.id.0) ∙ ap (λ (t : Told). get t.situation.bounds c.args.id.0) c.self.view_is))
+    ∙ (sym (get_held c.self.inside.bounds c.args.id.0) ∙ ap (λ (t : Told). get t.setting.bounds c.args.id.0) c.self.view_is))

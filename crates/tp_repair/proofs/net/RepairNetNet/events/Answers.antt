@@ -1,5 +1,5 @@
 use Rattle.std.proofs.Common.{◌≡◌, None, Some, sym, subst, ◌∙◌}
-use Rattle.tp_bounds.specs.Situation.{Situation}
+use Rattle.tp_bounds.specs.Setting.{Setting}
 use Rattle.tp_bounds.specs.Schedule.{HasSchedule}
 use Rattle.tp_bounds.specs.Lawful.{IsLawful}
 use Rattle.tp_net.specs.Kept.{IsFit}
@@ -9,9 +9,9 @@ use Rattle.tp_repair.proofs.Repaired.{kept}
 use Rattle.tp_repair.proofs.net.RepairNetNet.events.Goals as goal
 
 pub returns-clause-possible : goal.returns-clause-possible
-returns-clause-possible c = subst (λ (t : Told). HasSchedule t.situation) c.self.view_is (kept_possible _ _ _ _ _ (kept _ _ _ _ _ _ c.self.invariant))
+returns-clause-possible c = subst (λ (t : Told). HasSchedule t.setting) c.self.view_is (kept_possible _ _ _ _ _ (kept _ _ _ _ _ _ c.self.invariant))
 
-fit_lawful : (s : Situation) → IsFit s → IsLawful s
+fit_lawful : (s : Setting) → IsFit s → IsLawful s
 fit_lawful s h =
     record {
       events = h.events;
@@ -25,4 +25,4 @@ fit_lawful s h =
     }
 
 pub returns-clause-lawful : goal.returns-clause-lawful
-returns-clause-lawful c = subst (λ (t : Told). IsLawful t.situation) c.self.view_is (fit_lawful _ c.self.invariant.fit)
+returns-clause-lawful c = subst (λ (t : Told). IsLawful t.setting) c.self.view_is (fit_lawful _ c.self.invariant.fit)

@@ -1,7 +1,7 @@
 use Rattle.std.proofs.Common.{◌≡◌, suc, ◌+◌, ◌*◌, ◌<◌, ◌≤◌, inl, inr, None, length, get_or, refl, sym, subst, ap, ◌∙◌, arith}
 use Rattle.std.specs.Prelude.{slice_index_or}
 use Rattle.tp_bounds.specs.declared.Edge.TheVariants.{PastLow, PastHigh}
-use Rattle.tp_bounds.specs.Situation.{Situation, event_count, fixed_at, floor_of}
+use Rattle.tp_bounds.specs.Setting.{Setting, event_count, fixed_at, floor_of}
 use Rattle.tp_bounds.specs.Changes.{with_fixed}
 use Rattle.tp_bounds.specs.Reasons.{at_least, at_most}
 use Rattle.tp_bounds.specs.Schedule.{HasSchedule}
@@ -32,7 +32,7 @@ refute-requires-clause-holds c = holds_least _ _ _ _ _ _ c.self.invariant
 pub refute-requires-clause-none : goal.refute-requires-clause-none
 refute-requires-clause-none c =
     let i = c.self.inside in
-    let s : Situation = settled i.horizon i.clock i.bounds.entries i.fixed.items i.lags.items in
+    let s : Setting = settled i.horizon i.clock i.bounds.entries i.fixed.items i.lags.items in
     let n = length i.bounds.entries in
     let g : Engine = i.engine in
     let g0 : Engine = with_looks g 0 in
@@ -40,10 +40,10 @@ refute-requires-clause-none c =
     let r : IsRepaired s n i.keys i.floors.items i.ends.items g = c.self.invariant in
     let r0 : IsRepaired s n i.keys i.floors.items i.ends.items g0 = relooked s n i.keys i.floors.items i.ends.items g 0 r in
     let k : IsKept s (names_of slots) (kept_arcs slots) g.low.items g.high.items = kept s n i.keys i.floors.items i.ends.items g r in
-    let lt : c.args.e < length i.fixed.items = subst (λ (t : Told). c.args.e < event_count t.situation) (sym c.self.view_is) c.requires.event in
-    let free : fixed_at s c.args.e ≡ None = subst (λ (t : Told). fixed_at t.situation c.args.e ≡ None) (sym c.self.view_is) c.requires.free in
-    let floor : floor_of s c.args.e ≤ c.args.moment = subst (λ (t : Told). floor_of t.situation c.args.e ≤ c.args.moment) (sym c.self.view_is) c.requires.floor in
-    let soon : c.args.moment ≤ i.horizon = subst (λ (t : Told). c.args.moment ≤ t.situation.horizon) (sym c.self.view_is) c.requires.in_time in
+    let lt : c.args.e < length i.fixed.items = subst (λ (t : Told). c.args.e < event_count t.setting) (sym c.self.view_is) c.requires.event in
+    let free : fixed_at s c.args.e ≡ None = subst (λ (t : Told). fixed_at t.setting c.args.e ≡ None) (sym c.self.view_is) c.requires.free in
+    let floor : floor_of s c.args.e ≤ c.args.moment = subst (λ (t : Told). floor_of t.setting c.args.e ≤ c.args.moment) (sym c.self.view_is) c.requires.floor in
+    let soon : c.args.moment ≤ i.horizon = subst (λ (t : Told). c.args.moment ≤ t.setting.horizon) (sym c.self.view_is) c.requires.in_time in
     let at1 : c.from-point.result + 1 ≡ suc c.args.e = omega (arith, c.from-point.ensures) in
     let high_len = r.wired.high_len in
     let low_len = r.wired.low_len in
@@ -54,7 +54,7 @@ refute-requires-clause-none c =
 pub invariant_of-self : goal.invariant_of-self
 invariant_of-self c =
     let i = c.self.inside in
-    let s : Situation = settled i.horizon i.clock i.bounds.entries i.fixed.items i.lags.items in
+    let s : Setting = settled i.horizon i.clock i.bounds.entries i.fixed.items i.lags.items in
     let n = length i.bounds.entries in
     let g : Engine = i.engine in
     let g0 : Engine = with_looks g 0 in
@@ -67,7 +67,7 @@ invariant_of-self c =
 pub invariant_of-self-then-index-from : goal.invariant_of-self-then-index-from
 invariant_of-self-then-index-from c =
     let i = c.self.inside in
-    let s : Situation = settled i.horizon i.clock i.bounds.entries i.fixed.items i.lags.items in
+    let s : Setting = settled i.horizon i.clock i.bounds.entries i.fixed.items i.lags.items in
     let n = length i.bounds.entries in
     let g : Engine = i.engine in
     let g0 : Engine = with_looks g 0 in
@@ -80,7 +80,7 @@ invariant_of-self-then-index-from c =
 pub returns-then-index-from-clause-exact : goal.returns-then-index-from-clause-exact
 returns-then-index-from-clause-exact c =
     let i = c.self.inside in
-    let s : Situation = settled i.horizon i.clock i.bounds.entries i.fixed.items i.lags.items in
+    let s : Setting = settled i.horizon i.clock i.bounds.entries i.fixed.items i.lags.items in
     let n = length i.bounds.entries in
     let g : Engine = i.engine in
     let g0 : Engine = with_looks g 0 in
@@ -88,12 +88,12 @@ returns-then-index-from-clause-exact c =
     let r : IsRepaired s n i.keys i.floors.items i.ends.items g = c.self.invariant in
     let r0 : IsRepaired s n i.keys i.floors.items i.ends.items g0 = relooked s n i.keys i.floors.items i.ends.items g 0 r in
     let k : IsKept s (names_of slots) (kept_arcs slots) g.low.items g.high.items = kept s n i.keys i.floors.items i.ends.items g r in
-    let lt : c.args.e < length i.fixed.items = subst (λ (t : Told). c.args.e < event_count t.situation) (sym c.self.view_is) c.requires.event in
-    let free : fixed_at s c.args.e ≡ None = subst (λ (t : Told). fixed_at t.situation c.args.e ≡ None) (sym c.self.view_is) c.requires.free in
-    let floor : floor_of s c.args.e ≤ c.args.moment = subst (λ (t : Told). floor_of t.situation c.args.e ≤ c.args.moment) (sym c.self.view_is) c.requires.floor in
-    let soon : c.args.moment ≤ i.horizon = subst (λ (t : Told). c.args.moment ≤ t.situation.horizon) (sym c.self.view_is) c.requires.in_time in
+    let lt : c.args.e < length i.fixed.items = subst (λ (t : Told). c.args.e < event_count t.setting) (sym c.self.view_is) c.requires.event in
+    let free : fixed_at s c.args.e ≡ None = subst (λ (t : Told). fixed_at t.setting c.args.e ≡ None) (sym c.self.view_is) c.requires.free in
+    let floor : floor_of s c.args.e ≤ c.args.moment = subst (λ (t : Told). floor_of t.setting c.args.e ≤ c.args.moment) (sym c.self.view_is) c.requires.floor in
+    let soon : c.args.moment ≤ i.horizon = subst (λ (t : Told). c.args.moment ≤ t.setting.horizon) (sym c.self.view_is) c.requires.in_time in
     let h = past_reason c.args.e c.args.moment slots (PastLow c.args.e) (arc_of (at_least c.args.e c.args.moment)) c.in_ok-reason.reason.edges.items c.past.result.edges.items refl (simp c.start_arc-new.ensures at c.in_ok-reason.ensures.reason) c.past.ensures in
-    subst (λ (t : Told). Refutes (IsPastOf c.args.e) (with_fixed t.situation c.args.e c.args.moment) (with_fixed t.situation c.args.e c.args.moment) c.past.result.edges.items) c.self.view_is
+    subst (λ (t : Told). Refutes (IsPastOf c.args.e) (with_fixed t.setting c.args.e c.args.moment) (with_fixed t.setting c.args.e c.args.moment) c.past.result.edges.items) c.self.view_is
     (refused_fix s c.args.e c.args.moment lt free floor soon (names_of slots) (kept_arcs slots) g.low.items g.high.items (names_of (past_slots c.args.e c.args.moment slots)) (PastLow c.args.e) (at_least c.args.e c.args.moment) c.past.result.edges.items k (are_names_past c.args.e c.args.moment slots) (inr refl) (past_low s c.args.e c.args.moment lt free floor soon) h)
 
 pub refute-requires-then-from-index-clause-holds : goal.refute-requires-then-from-index-clause-holds
@@ -102,7 +102,7 @@ refute-requires-then-from-index-clause-holds c = holds_least _ _ _ _ _ _ c.self.
 pub refute-requires-then-from-index-clause-none : goal.refute-requires-then-from-index-clause-none
 refute-requires-then-from-index-clause-none c =
     let i = c.self.inside in
-    let s : Situation = settled i.horizon i.clock i.bounds.entries i.fixed.items i.lags.items in
+    let s : Setting = settled i.horizon i.clock i.bounds.entries i.fixed.items i.lags.items in
     let n = length i.bounds.entries in
     let g : Engine = i.engine in
     let g0 : Engine = with_looks g 0 in
@@ -110,10 +110,10 @@ refute-requires-then-from-index-clause-none c =
     let r : IsRepaired s n i.keys i.floors.items i.ends.items g = c.self.invariant in
     let r0 : IsRepaired s n i.keys i.floors.items i.ends.items g0 = relooked s n i.keys i.floors.items i.ends.items g 0 r in
     let k : IsKept s (names_of slots) (kept_arcs slots) g.low.items g.high.items = kept s n i.keys i.floors.items i.ends.items g r in
-    let lt : c.args.e < length i.fixed.items = subst (λ (t : Told). c.args.e < event_count t.situation) (sym c.self.view_is) c.requires.event in
-    let free : fixed_at s c.args.e ≡ None = subst (λ (t : Told). fixed_at t.situation c.args.e ≡ None) (sym c.self.view_is) c.requires.free in
-    let floor : floor_of s c.args.e ≤ c.args.moment = subst (λ (t : Told). floor_of t.situation c.args.e ≤ c.args.moment) (sym c.self.view_is) c.requires.floor in
-    let soon : c.args.moment ≤ i.horizon = subst (λ (t : Told). c.args.moment ≤ t.situation.horizon) (sym c.self.view_is) c.requires.in_time in
+    let lt : c.args.e < length i.fixed.items = subst (λ (t : Told). c.args.e < event_count t.setting) (sym c.self.view_is) c.requires.event in
+    let free : fixed_at s c.args.e ≡ None = subst (λ (t : Told). fixed_at t.setting c.args.e ≡ None) (sym c.self.view_is) c.requires.free in
+    let floor : floor_of s c.args.e ≤ c.args.moment = subst (λ (t : Told). floor_of t.setting c.args.e ≤ c.args.moment) (sym c.self.view_is) c.requires.floor in
+    let soon : c.args.moment ≤ i.horizon = subst (λ (t : Told). c.args.moment ≤ t.setting.horizon) (sym c.self.view_is) c.requires.in_time in
     let at1 : c.from-point.result + 1 ≡ suc c.args.e = omega (arith, c.from-point.ensures) in
     let high_len = r.wired.high_len in
     let low_len = r.wired.low_len in
@@ -125,7 +125,7 @@ refute-requires-then-from-index-clause-none c =
 pub invariant_of-self-in_err-reason-2 : goal.invariant_of-self-in_err-reason-2
 invariant_of-self-in_err-reason-2 c =
     let i = c.self.inside in
-    let s : Situation = settled i.horizon i.clock i.bounds.entries i.fixed.items i.lags.items in
+    let s : Setting = settled i.horizon i.clock i.bounds.entries i.fixed.items i.lags.items in
     let n = length i.bounds.entries in
     let g : Engine = i.engine in
     let g0 : Engine = with_looks g 0 in
@@ -138,7 +138,7 @@ invariant_of-self-in_err-reason-2 c =
 pub invariant_of-self-then-from-index : goal.invariant_of-self-then-from-index
 invariant_of-self-then-from-index c =
     let i = c.self.inside in
-    let s : Situation = settled i.horizon i.clock i.bounds.entries i.fixed.items i.lags.items in
+    let s : Setting = settled i.horizon i.clock i.bounds.entries i.fixed.items i.lags.items in
     let n = length i.bounds.entries in
     let g : Engine = i.engine in
     let g0 : Engine = with_looks g 0 in
@@ -151,7 +151,7 @@ invariant_of-self-then-from-index c =
 pub returns-then-from-index-clause-exact : goal.returns-then-from-index-clause-exact
 returns-then-from-index-clause-exact c =
     let i = c.self.inside in
-    let s : Situation = settled i.horizon i.clock i.bounds.entries i.fixed.items i.lags.items in
+    let s : Setting = settled i.horizon i.clock i.bounds.entries i.fixed.items i.lags.items in
     let n = length i.bounds.entries in
     let g : Engine = i.engine in
     let g0 : Engine = with_looks g 0 in
@@ -159,18 +159,18 @@ returns-then-from-index-clause-exact c =
     let r : IsRepaired s n i.keys i.floors.items i.ends.items g = c.self.invariant in
     let r0 : IsRepaired s n i.keys i.floors.items i.ends.items g0 = relooked s n i.keys i.floors.items i.ends.items g 0 r in
     let k : IsKept s (names_of slots) (kept_arcs slots) g.low.items g.high.items = kept s n i.keys i.floors.items i.ends.items g r in
-    let lt : c.args.e < length i.fixed.items = subst (λ (t : Told). c.args.e < event_count t.situation) (sym c.self.view_is) c.requires.event in
-    let free : fixed_at s c.args.e ≡ None = subst (λ (t : Told). fixed_at t.situation c.args.e ≡ None) (sym c.self.view_is) c.requires.free in
-    let floor : floor_of s c.args.e ≤ c.args.moment = subst (λ (t : Told). floor_of t.situation c.args.e ≤ c.args.moment) (sym c.self.view_is) c.requires.floor in
-    let soon : c.args.moment ≤ i.horizon = subst (λ (t : Told). c.args.moment ≤ t.situation.horizon) (sym c.self.view_is) c.requires.in_time in
+    let lt : c.args.e < length i.fixed.items = subst (λ (t : Told). c.args.e < event_count t.setting) (sym c.self.view_is) c.requires.event in
+    let free : fixed_at s c.args.e ≡ None = subst (λ (t : Told). fixed_at t.setting c.args.e ≡ None) (sym c.self.view_is) c.requires.free in
+    let floor : floor_of s c.args.e ≤ c.args.moment = subst (λ (t : Told). floor_of t.setting c.args.e ≤ c.args.moment) (sym c.self.view_is) c.requires.floor in
+    let soon : c.args.moment ≤ i.horizon = subst (λ (t : Told). c.args.moment ≤ t.setting.horizon) (sym c.self.view_is) c.requires.in_time in
     let h = past_reason c.args.e c.args.moment slots (PastHigh c.args.e) (arc_of (at_most c.args.e c.args.moment)) c.in_ok-reason-2.reason.edges.items c.past-then-from-index.result.edges.items refl (simp c.stop_arc-new.ensures at c.in_ok-reason-2.ensures.reason) c.past-then-from-index.ensures in
-    subst (λ (t : Told). Refutes (IsPastOf c.args.e) (with_fixed t.situation c.args.e c.args.moment) (with_fixed t.situation c.args.e c.args.moment) c.past-then-from-index.result.edges.items) c.self.view_is
+    subst (λ (t : Told). Refutes (IsPastOf c.args.e) (with_fixed t.setting c.args.e c.args.moment) (with_fixed t.setting c.args.e c.args.moment) c.past-then-from-index.result.edges.items) c.self.view_is
     (refused_fix s c.args.e c.args.moment lt free floor soon (names_of slots) (kept_arcs slots) g.low.items g.high.items (names_of (past_slots c.args.e c.args.moment slots)) (PastHigh c.args.e) (at_most c.args.e c.args.moment) c.past-then-from-index.result.edges.items k (are_names_past c.args.e c.args.moment slots) (inl refl) (past_high s c.args.e c.args.moment lt free floor soon) h)
 
 pub settle-requires-clause-floor : goal.settle-requires-clause-floor
 settle-requires-clause-floor c =
     let i = c.self.inside in
-    let s : Situation = settled i.horizon i.clock i.bounds.entries i.fixed.items i.lags.items in
+    let s : Setting = settled i.horizon i.clock i.bounds.entries i.fixed.items i.lags.items in
     let n = length i.bounds.entries in
     let g : Engine = i.engine in
     let g0 : Engine = with_looks g 0 in
@@ -178,10 +178,10 @@ settle-requires-clause-floor c =
     let r : IsRepaired s n i.keys i.floors.items i.ends.items g = c.self.invariant in
     let r0 : IsRepaired s n i.keys i.floors.items i.ends.items g0 = relooked s n i.keys i.floors.items i.ends.items g 0 r in
     let k : IsKept s (names_of slots) (kept_arcs slots) g.low.items g.high.items = kept s n i.keys i.floors.items i.ends.items g r in
-    let lt : c.args.e < length i.fixed.items = subst (λ (t : Told). c.args.e < event_count t.situation) (sym c.self.view_is) c.requires.event in
-    let free : fixed_at s c.args.e ≡ None = subst (λ (t : Told). fixed_at t.situation c.args.e ≡ None) (sym c.self.view_is) c.requires.free in
-    let floor : floor_of s c.args.e ≤ c.args.moment = subst (λ (t : Told). floor_of t.situation c.args.e ≤ c.args.moment) (sym c.self.view_is) c.requires.floor in
-    let soon : c.args.moment ≤ i.horizon = subst (λ (t : Told). c.args.moment ≤ t.situation.horizon) (sym c.self.view_is) c.requires.in_time in
+    let lt : c.args.e < length i.fixed.items = subst (λ (t : Told). c.args.e < event_count t.setting) (sym c.self.view_is) c.requires.event in
+    let free : fixed_at s c.args.e ≡ None = subst (λ (t : Told). fixed_at t.setting c.args.e ≡ None) (sym c.self.view_is) c.requires.free in
+    let floor : floor_of s c.args.e ≤ c.args.moment = subst (λ (t : Told). floor_of t.setting c.args.e ≤ c.args.moment) (sym c.self.view_is) c.requires.floor in
+    let soon : c.args.moment ≤ i.horizon = subst (λ (t : Told). c.args.moment ≤ t.setting.horizon) (sym c.self.view_is) c.requires.in_time in
     let read : get_or i.floors.items c.args.e 0 ≡ c.index-floor.result.now = read_at i.floors.items c.args.e c.index-floor.result.now (let l = r.floors_len in omega (arith, lt, l)) c.index-floor.ensures in
     let x = floor_is s n i.keys i.floors.items i.ends.items g r c.args.e lt free c.args.moment floor in
     (x.0, ap (λ j. slice_index_or slots j None) (sym read) ∙ x.1, x.2, x.3, x.4, x.5)
@@ -189,7 +189,7 @@ settle-requires-clause-floor c =
 pub settle-requires-clause-end : goal.settle-requires-clause-end
 settle-requires-clause-end c =
     let i = c.self.inside in
-    let s : Situation = settled i.horizon i.clock i.bounds.entries i.fixed.items i.lags.items in
+    let s : Setting = settled i.horizon i.clock i.bounds.entries i.fixed.items i.lags.items in
     let n = length i.bounds.entries in
     let g : Engine = i.engine in
     let g0 : Engine = with_looks g 0 in
@@ -197,10 +197,10 @@ settle-requires-clause-end c =
     let r : IsRepaired s n i.keys i.floors.items i.ends.items g = c.self.invariant in
     let r0 : IsRepaired s n i.keys i.floors.items i.ends.items g0 = relooked s n i.keys i.floors.items i.ends.items g 0 r in
     let k : IsKept s (names_of slots) (kept_arcs slots) g.low.items g.high.items = kept s n i.keys i.floors.items i.ends.items g r in
-    let lt : c.args.e < length i.fixed.items = subst (λ (t : Told). c.args.e < event_count t.situation) (sym c.self.view_is) c.requires.event in
-    let free : fixed_at s c.args.e ≡ None = subst (λ (t : Told). fixed_at t.situation c.args.e ≡ None) (sym c.self.view_is) c.requires.free in
-    let floor : floor_of s c.args.e ≤ c.args.moment = subst (λ (t : Told). floor_of t.situation c.args.e ≤ c.args.moment) (sym c.self.view_is) c.requires.floor in
-    let soon : c.args.moment ≤ i.horizon = subst (λ (t : Told). c.args.moment ≤ t.situation.horizon) (sym c.self.view_is) c.requires.in_time in
+    let lt : c.args.e < length i.fixed.items = subst (λ (t : Told). c.args.e < event_count t.setting) (sym c.self.view_is) c.requires.event in
+    let free : fixed_at s c.args.e ≡ None = subst (λ (t : Told). fixed_at t.setting c.args.e ≡ None) (sym c.self.view_is) c.requires.free in
+    let floor : floor_of s c.args.e ≤ c.args.moment = subst (λ (t : Told). floor_of t.setting c.args.e ≤ c.args.moment) (sym c.self.view_is) c.requires.floor in
+    let soon : c.args.moment ≤ i.horizon = subst (λ (t : Told). c.args.moment ≤ t.setting.horizon) (sym c.self.view_is) c.requires.in_time in
     let read : get_or i.ends.items c.args.e 0 ≡ c.index-end.result.now = read_at i.ends.items c.args.e c.index-end.result.now (let l = r.ends_len in omega (arith, lt, l)) c.index-end.ensures in
     let x = end_is s n i.keys i.floors.items i.ends.items g r c.args.e lt free c.args.moment soon in
     (x.0, ap (λ j. slice_index_or slots j None) (sym read) ∙ x.1, x.2, x.3, x.4, x.5)
@@ -208,7 +208,7 @@ settle-requires-clause-end c =
 pub settle-requires-clause-wired : goal.settle-requires-clause-wired
 settle-requires-clause-wired c =
     let i = c.self.inside in
-    let s : Situation = settled i.horizon i.clock i.bounds.entries i.fixed.items i.lags.items in
+    let s : Setting = settled i.horizon i.clock i.bounds.entries i.fixed.items i.lags.items in
     let n = length i.bounds.entries in
     let g : Engine = i.engine in
     let g0 : Engine = with_looks g 0 in
@@ -219,7 +219,7 @@ settle-requires-clause-wired c =
 pub settle-requires-clause-exact : goal.settle-requires-clause-exact
 settle-requires-clause-exact c =
     let i = c.self.inside in
-    let s : Situation = settled i.horizon i.clock i.bounds.entries i.fixed.items i.lags.items in
+    let s : Setting = settled i.horizon i.clock i.bounds.entries i.fixed.items i.lags.items in
     let r : IsRepaired s (length i.bounds.entries) i.keys i.floors.items i.ends.items i.engine = c.self.invariant in
     r.exact
 
@@ -232,11 +232,11 @@ settle-requires-clause-small c = small_high _ _ _ _ _ _ c.self.invariant
 pub settle-requires-clause-above : goal.settle-requires-clause-above
 settle-requires-clause-above c =
     let i = c.self.inside in
-    let s : Situation = settled i.horizon i.clock i.bounds.entries i.fixed.items i.lags.items in
+    let s : Setting = settled i.horizon i.clock i.bounds.entries i.fixed.items i.lags.items in
     let n = length i.bounds.entries in
     let g : Engine = i.engine in
     let r : IsRepaired s n i.keys i.floors.items i.ends.items g = c.self.invariant in
-    let lt : c.args.e < length i.fixed.items = subst (λ (t : Told). c.args.e < event_count t.situation) (sym c.self.view_is) c.requires.event in
+    let lt : c.args.e < length i.fixed.items = subst (λ (t : Told). c.args.e < event_count t.setting) (sym c.self.view_is) c.requires.event in
     let at1 : c.from-point.result + 1 ≡ suc c.args.e = omega (arith, c.from-point.ensures) in
     let high_len = r.wired.high_len in
     let low_len = r.wired.low_len in
@@ -246,11 +246,11 @@ settle-requires-clause-above c =
 pub settle-requires-clause-below : goal.settle-requires-clause-below
 settle-requires-clause-below c =
     let i = c.self.inside in
-    let s : Situation = settled i.horizon i.clock i.bounds.entries i.fixed.items i.lags.items in
+    let s : Setting = settled i.horizon i.clock i.bounds.entries i.fixed.items i.lags.items in
     let n = length i.bounds.entries in
     let g : Engine = i.engine in
     let r : IsRepaired s n i.keys i.floors.items i.ends.items g = c.self.invariant in
-    let lt : c.args.e < length i.fixed.items = subst (λ (t : Told). c.args.e < event_count t.situation) (sym c.self.view_is) c.requires.event in
+    let lt : c.args.e < length i.fixed.items = subst (λ (t : Told). c.args.e < event_count t.setting) (sym c.self.view_is) c.requires.event in
     let at1 : c.from-point.result + 1 ≡ suc c.args.e = omega (arith, c.from-point.ensures) in
     let high_len = r.wired.high_len in
     let low_len = r.wired.low_len in
@@ -260,7 +260,7 @@ settle-requires-clause-below c =
 pub settle-requires-clause-only_floor : goal.settle-requires-clause-only_floor
 settle-requires-clause-only_floor c =
     let i = c.self.inside in
-    let s : Situation = settled i.horizon i.clock i.bounds.entries i.fixed.items i.lags.items in
+    let s : Setting = settled i.horizon i.clock i.bounds.entries i.fixed.items i.lags.items in
     let n = length i.bounds.entries in
     let g : Engine = i.engine in
     let g0 : Engine = with_looks g 0 in
@@ -268,17 +268,17 @@ settle-requires-clause-only_floor c =
     let r : IsRepaired s n i.keys i.floors.items i.ends.items g = c.self.invariant in
     let r0 : IsRepaired s n i.keys i.floors.items i.ends.items g0 = relooked s n i.keys i.floors.items i.ends.items g 0 r in
     let k : IsKept s (names_of slots) (kept_arcs slots) g.low.items g.high.items = kept s n i.keys i.floors.items i.ends.items g r in
-    let lt : c.args.e < length i.fixed.items = subst (λ (t : Told). c.args.e < event_count t.situation) (sym c.self.view_is) c.requires.event in
-    let free : fixed_at s c.args.e ≡ None = subst (λ (t : Told). fixed_at t.situation c.args.e ≡ None) (sym c.self.view_is) c.requires.free in
-    let floor : floor_of s c.args.e ≤ c.args.moment = subst (λ (t : Told). floor_of t.situation c.args.e ≤ c.args.moment) (sym c.self.view_is) c.requires.floor in
-    let soon : c.args.moment ≤ i.horizon = subst (λ (t : Told). c.args.moment ≤ t.situation.horizon) (sym c.self.view_is) c.requires.in_time in
+    let lt : c.args.e < length i.fixed.items = subst (λ (t : Told). c.args.e < event_count t.setting) (sym c.self.view_is) c.requires.event in
+    let free : fixed_at s c.args.e ≡ None = subst (λ (t : Told). fixed_at t.setting c.args.e ≡ None) (sym c.self.view_is) c.requires.free in
+    let floor : floor_of s c.args.e ≤ c.args.moment = subst (λ (t : Told). floor_of t.setting c.args.e ≤ c.args.moment) (sym c.self.view_is) c.requires.floor in
+    let soon : c.args.moment ≤ i.horizon = subst (λ (t : Told). c.args.moment ≤ t.setting.horizon) (sym c.self.view_is) c.requires.in_time in
     let read : get_or i.floors.items c.args.e 0 ≡ c.index-floor.result.now = read_at i.floors.items c.args.e c.index-floor.result.now (let l = r.floors_len in omega (arith, lt, l)) c.index-floor.ensures in
     λ j x is named. (sym (subst (λ f. IsUnder i.keys i.floors.items i.ends.items f j) named (r.nodes.under j x is)) ∙ read)
 
 pub settle-requires-clause-only_end : goal.settle-requires-clause-only_end
 settle-requires-clause-only_end c =
     let i = c.self.inside in
-    let s : Situation = settled i.horizon i.clock i.bounds.entries i.fixed.items i.lags.items in
+    let s : Setting = settled i.horizon i.clock i.bounds.entries i.fixed.items i.lags.items in
     let n = length i.bounds.entries in
     let g : Engine = i.engine in
     let g0 : Engine = with_looks g 0 in
@@ -286,17 +286,17 @@ settle-requires-clause-only_end c =
     let r : IsRepaired s n i.keys i.floors.items i.ends.items g = c.self.invariant in
     let r0 : IsRepaired s n i.keys i.floors.items i.ends.items g0 = relooked s n i.keys i.floors.items i.ends.items g 0 r in
     let k : IsKept s (names_of slots) (kept_arcs slots) g.low.items g.high.items = kept s n i.keys i.floors.items i.ends.items g r in
-    let lt : c.args.e < length i.fixed.items = subst (λ (t : Told). c.args.e < event_count t.situation) (sym c.self.view_is) c.requires.event in
-    let free : fixed_at s c.args.e ≡ None = subst (λ (t : Told). fixed_at t.situation c.args.e ≡ None) (sym c.self.view_is) c.requires.free in
-    let floor : floor_of s c.args.e ≤ c.args.moment = subst (λ (t : Told). floor_of t.situation c.args.e ≤ c.args.moment) (sym c.self.view_is) c.requires.floor in
-    let soon : c.args.moment ≤ i.horizon = subst (λ (t : Told). c.args.moment ≤ t.situation.horizon) (sym c.self.view_is) c.requires.in_time in
+    let lt : c.args.e < length i.fixed.items = subst (λ (t : Told). c.args.e < event_count t.setting) (sym c.self.view_is) c.requires.event in
+    let free : fixed_at s c.args.e ≡ None = subst (λ (t : Told). fixed_at t.setting c.args.e ≡ None) (sym c.self.view_is) c.requires.free in
+    let floor : floor_of s c.args.e ≤ c.args.moment = subst (λ (t : Told). floor_of t.setting c.args.e ≤ c.args.moment) (sym c.self.view_is) c.requires.floor in
+    let soon : c.args.moment ≤ i.horizon = subst (λ (t : Told). c.args.moment ≤ t.setting.horizon) (sym c.self.view_is) c.requires.in_time in
     let read : get_or i.ends.items c.args.e 0 ≡ c.index-end.result.now = read_at i.ends.items c.args.e c.index-end.result.now (let l = r.ends_len in omega (arith, lt, l)) c.index-end.ensures in
     λ j x is named. (sym (subst (λ f. IsUnder i.keys i.floors.items i.ends.items f j) named (r.nodes.under j x is)) ∙ read)
 
 pub invariant_of-self-in_err-settle : goal.invariant_of-self-in_err-settle
 invariant_of-self-in_err-settle c =
     let i = c.self.inside in
-    let s : Situation = settled i.horizon i.clock i.bounds.entries i.fixed.items i.lags.items in
+    let s : Setting = settled i.horizon i.clock i.bounds.entries i.fixed.items i.lags.items in
     let n = length i.bounds.entries in
     let g : Engine = i.engine in
     let g0 : Engine = with_looks g 0 in
@@ -309,7 +309,7 @@ invariant_of-self-in_err-settle c =
 pub invariant_of-self-2 : goal.invariant_of-self-2
 invariant_of-self-2 c =
     let i = c.self.inside in
-    let s : Situation = settled i.horizon i.clock i.bounds.entries i.fixed.items i.lags.items in
+    let s : Setting = settled i.horizon i.clock i.bounds.entries i.fixed.items i.lags.items in
     let n = length i.bounds.entries in
     let g : Engine = i.engine in
     let g0 : Engine = with_looks g 0 in
@@ -317,16 +317,16 @@ invariant_of-self-2 c =
     let r : IsRepaired s n i.keys i.floors.items i.ends.items g = c.self.invariant in
     let r0 : IsRepaired s n i.keys i.floors.items i.ends.items g0 = relooked s n i.keys i.floors.items i.ends.items g 0 r in
     let k : IsKept s (names_of slots) (kept_arcs slots) g.low.items g.high.items = kept s n i.keys i.floors.items i.ends.items g r in
-    let lt : c.args.e < length i.fixed.items = subst (λ (t : Told). c.args.e < event_count t.situation) (sym c.self.view_is) c.requires.event in
-    let free : fixed_at s c.args.e ≡ None = subst (λ (t : Told). fixed_at t.situation c.args.e ≡ None) (sym c.self.view_is) c.requires.free in
-    let floor : floor_of s c.args.e ≤ c.args.moment = subst (λ (t : Told). floor_of t.situation c.args.e ≤ c.args.moment) (sym c.self.view_is) c.requires.floor in
-    let soon : c.args.moment ≤ i.horizon = subst (λ (t : Told). c.args.moment ≤ t.situation.horizon) (sym c.self.view_is) c.requires.in_time in
+    let lt : c.args.e < length i.fixed.items = subst (λ (t : Told). c.args.e < event_count t.setting) (sym c.self.view_is) c.requires.event in
+    let free : fixed_at s c.args.e ≡ None = subst (λ (t : Told). fixed_at t.setting c.args.e ≡ None) (sym c.self.view_is) c.requires.free in
+    let floor : floor_of s c.args.e ≤ c.args.moment = subst (λ (t : Told). floor_of t.setting c.args.e ≤ c.args.moment) (sym c.self.view_is) c.requires.floor in
+    let soon : c.args.moment ≤ i.horizon = subst (λ (t : Told). c.args.moment ≤ t.setting.horizon) (sym c.self.view_is) c.requires.in_time in
     repaired_fixed s c.args.e c.args.moment n i.keys i.floors.items i.ends.items g0 c.settle.new.engine r0 c.in_ok-settle.ensures.ok lt free floor soon
 
 pub returns-clause-exact : goal.returns-clause-exact
 returns-clause-exact c =
     let i = c.self.inside in
-    let s : Situation = settled i.horizon i.clock i.bounds.entries i.fixed.items i.lags.items in
+    let s : Setting = settled i.horizon i.clock i.bounds.entries i.fixed.items i.lags.items in
     let n = length i.bounds.entries in
     let g : Engine = i.engine in
     let g0 : Engine = with_looks g 0 in
@@ -334,17 +334,17 @@ returns-clause-exact c =
     let r : IsRepaired s n i.keys i.floors.items i.ends.items g = c.self.invariant in
     let r0 : IsRepaired s n i.keys i.floors.items i.ends.items g0 = relooked s n i.keys i.floors.items i.ends.items g 0 r in
     let k : IsKept s (names_of slots) (kept_arcs slots) g.low.items g.high.items = kept s n i.keys i.floors.items i.ends.items g r in
-    let lt : c.args.e < length i.fixed.items = subst (λ (t : Told). c.args.e < event_count t.situation) (sym c.self.view_is) c.requires.event in
-    let free : fixed_at s c.args.e ≡ None = subst (λ (t : Told). fixed_at t.situation c.args.e ≡ None) (sym c.self.view_is) c.requires.free in
-    let floor : floor_of s c.args.e ≤ c.args.moment = subst (λ (t : Told). floor_of t.situation c.args.e ≤ c.args.moment) (sym c.self.view_is) c.requires.floor in
-    let soon : c.args.moment ≤ i.horizon = subst (λ (t : Told). c.args.moment ≤ t.situation.horizon) (sym c.self.view_is) c.requires.in_time in
-    subst (λ (t : Told). HasSchedule (with_fixed t.situation c.args.e c.args.moment)) c.self.view_is
+    let lt : c.args.e < length i.fixed.items = subst (λ (t : Told). c.args.e < event_count t.setting) (sym c.self.view_is) c.requires.event in
+    let free : fixed_at s c.args.e ≡ None = subst (λ (t : Told). fixed_at t.setting c.args.e ≡ None) (sym c.self.view_is) c.requires.free in
+    let floor : floor_of s c.args.e ≤ c.args.moment = subst (λ (t : Told). floor_of t.setting c.args.e ≤ c.args.moment) (sym c.self.view_is) c.requires.floor in
+    let soon : c.args.moment ≤ i.horizon = subst (λ (t : Told). c.args.moment ≤ t.setting.horizon) (sym c.self.view_is) c.requires.in_time in
+    subst (λ (t : Told). HasSchedule (with_fixed t.setting c.args.e c.args.moment)) c.self.view_is
     (kept_possible _ _ _ _ _ (kept _ _ _ _ _ _ (repaired_fixed s c.args.e c.args.moment n i.keys i.floors.items i.ends.items g0 c.settle.new.engine r0 c.in_ok-settle.ensures.ok lt free floor soon)))
 
 pub returns-clause-cheap : goal.returns-clause-cheap
 returns-clause-cheap c =
     let i = c.self.inside in
-    let s : Situation = settled i.horizon i.clock i.bounds.entries i.fixed.items i.lags.items in
+    let s : Setting = settled i.horizon i.clock i.bounds.entries i.fixed.items i.lags.items in
     let n = length i.bounds.entries in
     let g : Engine = i.engine in
     let g0 : Engine = with_looks g 0 in
@@ -352,37 +352,37 @@ returns-clause-cheap c =
     let r : IsRepaired s n i.keys i.floors.items i.ends.items g = c.self.invariant in
     let r0 : IsRepaired s n i.keys i.floors.items i.ends.items g0 = relooked s n i.keys i.floors.items i.ends.items g 0 r in
     let k : IsKept s (names_of slots) (kept_arcs slots) g.low.items g.high.items = kept s n i.keys i.floors.items i.ends.items g r in
-    let lt : c.args.e < length i.fixed.items = subst (λ (t : Told). c.args.e < event_count t.situation) (sym c.self.view_is) c.requires.event in
-    let free : fixed_at s c.args.e ≡ None = subst (λ (t : Told). fixed_at t.situation c.args.e ≡ None) (sym c.self.view_is) c.requires.free in
-    let floor : floor_of s c.args.e ≤ c.args.moment = subst (λ (t : Told). floor_of t.situation c.args.e ≤ c.args.moment) (sym c.self.view_is) c.requires.floor in
-    let soon : c.args.moment ≤ i.horizon = subst (λ (t : Told). c.args.moment ≤ t.situation.horizon) (sym c.self.view_is) c.requires.in_time in
+    let lt : c.args.e < length i.fixed.items = subst (λ (t : Told). c.args.e < event_count t.setting) (sym c.self.view_is) c.requires.event in
+    let free : fixed_at s c.args.e ≡ None = subst (λ (t : Told). fixed_at t.setting c.args.e ≡ None) (sym c.self.view_is) c.requires.free in
+    let floor : floor_of s c.args.e ≤ c.args.moment = subst (λ (t : Told). floor_of t.setting c.args.e ≤ c.args.moment) (sym c.self.view_is) c.requires.floor in
+    let soon : c.args.moment ≤ i.horizon = subst (λ (t : Told). c.args.moment ≤ t.setting.horizon) (sym c.self.view_is) c.requires.in_time in
     let g' : Engine = c.settle.new.engine in
     let fixed = repaired_fixed s c.args.e c.args.moment n i.keys i.floors.items i.ends.items g0 g' r0 c.in_ok-settle.ensures.ok lt free floor soon in
     let h = c.in_ok-settle.ensures.looks in
     let moves = c.in_ok-settle.ensures.moves in
-    subst (λ (t : Told). IsCheap 2 t.situation (with_fixed t.situation c.args.e c.args.moment) g'.looks) c.self.view_is
+    subst (λ (t : Told). IsCheap 2 t.setting (with_fixed t.setting c.args.e c.args.moment) g'.looks) c.self.view_is
     (cheap s (with_fixed s c.args.e c.args.moment) n n i.keys i.keys i.floors.items i.ends.items i.floors.items i.ends.items g0 g' g'.up.amounts.items g'.down.amounts.items 2 g'.looks r0 fixed (length-set s.fixed c.args.e (Some c.args.moment)) moves.up moves.down (omega (arith, h)))
 
 pub returns-then-index-from-clause-most : goal.returns-then-index-from-clause-most
 returns-then-index-from-clause-most c =
     let i = c.self.inside in
-    let s : Situation = settled i.horizon i.clock i.bounds.entries i.fixed.items i.lags.items in
+    let s : Setting = settled i.horizon i.clock i.bounds.entries i.fixed.items i.lags.items in
     let n = length i.bounds.entries in
     let g0 : Engine = with_looks i.engine 0 in
     let r0 : IsRepaired s n i.keys i.floors.items i.ends.items g0 = relooked s n i.keys i.floors.items i.ends.items i.engine 0 c.self.invariant in
     let most = c.refute.ensures.looks (n + 2 * event_count s) (wired_here s n i.keys i.floors.items i.ends.items g0 r0) in
     let edges = edges_are s n i.keys i.floors.items i.ends.items g0 r0 in
-    let told : edge_count s ≡ edge_count c.args.self.now.situation = ap (λ (t : Told). edge_count t.situation) c.self.view_is in
+    let told : edge_count s ≡ edge_count c.args.self.now.setting = ap (λ (t : Told). edge_count t.setting) c.self.view_is in
     omega (arith, most, edges, told)
 
 pub returns-then-from-index-clause-most : goal.returns-then-from-index-clause-most
 returns-then-from-index-clause-most c =
     let i = c.self.inside in
-    let s : Situation = settled i.horizon i.clock i.bounds.entries i.fixed.items i.lags.items in
+    let s : Setting = settled i.horizon i.clock i.bounds.entries i.fixed.items i.lags.items in
     let n = length i.bounds.entries in
     let g0 : Engine = with_looks i.engine 0 in
     let r0 : IsRepaired s n i.keys i.floors.items i.ends.items g0 = relooked s n i.keys i.floors.items i.ends.items i.engine 0 c.self.invariant in
     let most = c.refute-then-from-index.ensures.looks (n + 2 * event_count s) (wired_here s n i.keys i.floors.items i.ends.items g0 r0) in
     let edges = edges_are s n i.keys i.floors.items i.ends.items g0 r0 in
-    let told : edge_count s ≡ edge_count c.args.self.now.situation = ap (λ (t : Told). edge_count t.situation) c.self.view_is in
+    let told : edge_count s ≡ edge_count c.args.self.now.setting = ap (λ (t : Told). edge_count t.setting) c.self.view_is in
     omega (arith, most, edges, told)

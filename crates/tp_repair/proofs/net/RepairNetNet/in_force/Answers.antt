@@ -7,4 +7,4 @@ use Rattle.tp_repair.proofs.net.RepairNetNet.in_force.Goals as goal
 pub returns : goal.returns
 returns c =
     c.len.ensures.len
-    ∙ (sym (held_len c.self.inside.bounds c.len.ensures.ordered) ∙ ap (λ (t : Told). len t.situation.bounds) c.self.view_is)
+    ∙ (sym (held_len c.self.inside.bounds c.len.ensures.ordered) ∙ ap (λ (t : Told). len t.setting.bounds) c.self.view_is)

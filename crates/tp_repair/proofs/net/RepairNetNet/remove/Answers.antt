@@ -4,7 +4,7 @@ use Rattle.std.specs.FinMap.{FinMap, get}
 use Rattle.std.specs.Ordering.{nat_cmp}
 use Rattle.std.specs.BTreeMap as tree
 use Rattle.tp_bounds.specs.declared.Bound.{Bound}
-use Rattle.tp_bounds.specs.Situation.{Situation}
+use Rattle.tp_bounds.specs.Setting.{Setting}
 use Rattle.tp_bounds.specs.Changes.{without_bound}
 use Rattle.tp_bounds.specs.Schedule.{HasSchedule}
 use Rattle.tp_bounds.proofs.HeldMaps.{get_held, held_removed}
@@ -19,46 +19,46 @@ use Rattle.tp_repair.proofs.net.RepairNetNet.remove.Goals as goal
 pub key_of-key-requires : goal.key_of-key-requires
 key_of-key-requires c =
     let i = c.self.inside in
-    let s : Situation = settled i.horizon i.clock i.bounds.entries i.fixed.items i.lags.items in
+    let s : Setting = settled i.horizon i.clock i.bounds.entries i.fixed.items i.lags.items in
     let n = length i.bounds.entries in
     let g : Engine = i.engine in
     let g0 : Engine = with_looks g 0 in
     let r : IsRepaired s n i.keys i.floors.items i.ends.items g = c.self.invariant in
     let r0 : IsRepaired s n i.keys i.floors.items i.ends.items g0 = relooked s n i.keys i.floors.items i.ends.items g 0 r in
-    let there : get s.bounds c.args.id.0 ≢ None = λ none. c.requires.in_force (sym (ap (λ (t : Told). get t.situation.bounds c.args.id.0) c.self.view_is) ∙ none) in
+    let there : get s.bounds c.args.id.0 ≢ None = λ none. c.requires.in_force (sym (ap (λ (t : Told). get t.setting.bounds c.args.id.0) c.self.view_is) ∙ none) in
     let b = some_of (get s.bounds c.args.id.0) there in
     has_own_key s n i.keys i.floors.items i.ends.items g r c.args.id b.0 b.1
 
 pub leave-requires-clause-node : goal.leave-requires-clause-node
 leave-requires-clause-node c =
     let i = c.self.inside in
-    let s : Situation = settled i.horizon i.clock i.bounds.entries i.fixed.items i.lags.items in
+    let s : Setting = settled i.horizon i.clock i.bounds.entries i.fixed.items i.lags.items in
     let n = length i.bounds.entries in
     let g : Engine = i.engine in
     let g0 : Engine = with_looks g 0 in
     let r : IsRepaired s n i.keys i.floors.items i.ends.items g = c.self.invariant in
     let r0 : IsRepaired s n i.keys i.floors.items i.ends.items g0 = relooked s n i.keys i.floors.items i.ends.items g 0 r in
-    let there : get s.bounds c.args.id.0 ≢ None = λ none. c.requires.in_force (sym (ap (λ (t : Told). get t.situation.bounds c.args.id.0) c.self.view_is) ∙ none) in
+    let there : get s.bounds c.args.id.0 ≢ None = λ none. c.requires.in_force (sym (ap (λ (t : Told). get t.setting.bounds c.args.id.0) c.self.view_is) ∙ none) in
     let b = some_of (get s.bounds c.args.id.0) there in
     own_node s n i.keys i.floors.items i.ends.items g r c.args.id b.0 c.key_of-key.result b.1 c.key_of-key.ensures
 
 pub leave-requires-clause-start : goal.leave-requires-clause-start
 leave-requires-clause-start c =
     let i = c.self.inside in
-    let s : Situation = settled i.horizon i.clock i.bounds.entries i.fixed.items i.lags.items in
+    let s : Setting = settled i.horizon i.clock i.bounds.entries i.fixed.items i.lags.items in
     let n = length i.bounds.entries in
     let g : Engine = i.engine in
     let g0 : Engine = with_looks g 0 in
     let r : IsRepaired s n i.keys i.floors.items i.ends.items g = c.self.invariant in
     let r0 : IsRepaired s n i.keys i.floors.items i.ends.items g0 = relooked s n i.keys i.floors.items i.ends.items g 0 r in
-    let there : get s.bounds c.args.id.0 ≢ None = λ none. c.requires.in_force (sym (ap (λ (t : Told). get t.situation.bounds c.args.id.0) c.self.view_is) ∙ none) in
+    let there : get s.bounds c.args.id.0 ≢ None = λ none. c.requires.in_force (sym (ap (λ (t : Told). get t.setting.bounds c.args.id.0) c.self.view_is) ∙ none) in
     let b = some_of (get s.bounds c.args.id.0) there in
     start_left s n i.keys i.floors.items i.ends.items g c.args.id b.0 c.key_of-key.result (c.from-amount.result + 1) r b.1 c.key_of-key.ensures (omega (arith, c.from-amount.ensures))
 
 pub leave-requires-clause-exact : goal.leave-requires-clause-exact
 leave-requires-clause-exact c =
     let i = c.self.inside in
-    let s : Situation = settled i.horizon i.clock i.bounds.entries i.fixed.items i.lags.items in
+    let s : Setting = settled i.horizon i.clock i.bounds.entries i.fixed.items i.lags.items in
     let r : IsRepaired s (length i.bounds.entries) i.keys i.floors.items i.ends.items i.engine = c.self.invariant in
     r.exact
 
@@ -74,13 +74,13 @@ leave-requires-clause-low c = low_fits _ _ _ _ _ _ c.self.invariant
 pub leave-requires-clause-start_high : goal.leave-requires-clause-start_high
 leave-requires-clause-start_high c =
     let i = c.self.inside in
-    let s : Situation = settled i.horizon i.clock i.bounds.entries i.fixed.items i.lags.items in
+    let s : Setting = settled i.horizon i.clock i.bounds.entries i.fixed.items i.lags.items in
     let n = length i.bounds.entries in
     let g : Engine = i.engine in
     let g0 : Engine = with_looks g 0 in
     let r : IsRepaired s n i.keys i.floors.items i.ends.items g = c.self.invariant in
     let r0 : IsRepaired s n i.keys i.floors.items i.ends.items g0 = relooked s n i.keys i.floors.items i.ends.items g 0 r in
-    let there : get s.bounds c.args.id.0 ≢ None = λ none. c.requires.in_force (sym (ap (λ (t : Told). get t.situation.bounds c.args.id.0) c.self.view_is) ∙ none) in
+    let there : get s.bounds c.args.id.0 ≢ None = λ none. c.requires.in_force (sym (ap (λ (t : Told). get t.setting.bounds c.args.id.0) c.self.view_is) ∙ none) in
     let b = some_of (get s.bounds c.args.id.0) there in
     start_left_high s n i.keys i.floors.items i.ends.items g c.args.id b.0 c.key_of-key.result (c.from-amount.result + 1) r b.1 c.key_of-key.ensures (omega (arith, c.from-amount.ensures))
 
@@ -90,7 +90,7 @@ leave-requires-clause-high c = high_fits _ _ _ _ _ _ c.self.invariant
 pub invariant_of-self : goal.invariant_of-self
 invariant_of-self c =
     let i = c.self.inside in
-    let s : Situation = settled i.horizon i.clock i.bounds.entries i.fixed.items i.lags.items in
+    let s : Setting = settled i.horizon i.clock i.bounds.entries i.fixed.items i.lags.items in
     let n = length i.bounds.entries in
     let g : Engine = i.engine in
     let g0 : Engine = with_looks g 0 in
@@ -101,13 +101,13 @@ invariant_of-self c =
 pub invariant_of-self-2 : goal.invariant_of-self-2
 invariant_of-self-2 c =
     let i = c.self.inside in
-    let s : Situation = settled i.horizon i.clock i.bounds.entries i.fixed.items i.lags.items in
+    let s : Setting = settled i.horizon i.clock i.bounds.entries i.fixed.items i.lags.items in
     let n = length i.bounds.entries in
     let g : Engine = i.engine in
     let g0 : Engine = with_looks g 0 in
     let r : IsRepaired s n i.keys i.floors.items i.ends.items g = c.self.invariant in
     let r0 : IsRepaired s n i.keys i.floors.items i.ends.items g0 = relooked s n i.keys i.floors.items i.ends.items g 0 r in
-    let there : get s.bounds c.args.id.0 ≢ None = λ none. c.requires.in_force (sym (ap (λ (t : Told). get t.situation.bounds c.args.id.0) c.self.view_is) ∙ none) in
+    let there : get s.bounds c.args.id.0 ≢ None = λ none. c.requires.in_force (sym (ap (λ (t : Told). get t.setting.bounds c.args.id.0) c.self.view_is) ∙ none) in
     let b = some_of (get s.bounds c.args.id.0) there in
     let m = length c.remove-bound.new.self.entries in
     let held_b : tree.get nat_cmp i.bounds c.args.id.0 ≡ Some b.0 = sym (get_held i.bounds c.args.id.0) ∙ b.1 in
@@ -121,25 +121,25 @@ invariant_of-self-2 c =
 pub returns-clause-ok : goal.returns-clause-ok
 returns-clause-ok c =
     let i = c.self.inside in
-    let s : Situation = settled i.horizon i.clock i.bounds.entries i.fixed.items i.lags.items in
+    let s : Setting = settled i.horizon i.clock i.bounds.entries i.fixed.items i.lags.items in
     let n = length i.bounds.entries in
     let g : Engine = i.engine in
     let g0 : Engine = with_looks g 0 in
     let r : IsRepaired s n i.keys i.floors.items i.ends.items g = c.self.invariant in
     let r0 : IsRepaired s n i.keys i.floors.items i.ends.items g0 = relooked s n i.keys i.floors.items i.ends.items g 0 r in
     ap (λ (h : FinMap nat_cmp Bound). record { horizon = i.horizon; clock = i.clock; bounds = h; fixed = i.fixed.items; lags = i.lags.items; proposed = None }) (held_removed i.bounds c.remove-bound.new.self c.args.id.0 c.remove-bound.ensures.updates.0)
-    ∙ ap (λ (t : Told). without_bound t.situation c.args.id.0) c.self.view_is
+    ∙ ap (λ (t : Told). without_bound t.setting c.args.id.0) c.self.view_is
 
 pub returns-clause-possible : goal.returns-clause-possible
 returns-clause-possible c =
     let i = c.self.inside in
-    let s : Situation = settled i.horizon i.clock i.bounds.entries i.fixed.items i.lags.items in
+    let s : Setting = settled i.horizon i.clock i.bounds.entries i.fixed.items i.lags.items in
     let n = length i.bounds.entries in
     let g : Engine = i.engine in
     let g0 : Engine = with_looks g 0 in
     let r : IsRepaired s n i.keys i.floors.items i.ends.items g = c.self.invariant in
     let r0 : IsRepaired s n i.keys i.floors.items i.ends.items g0 = relooked s n i.keys i.floors.items i.ends.items g 0 r in
-    let there : get s.bounds c.args.id.0 ≢ None = λ none. c.requires.in_force (sym (ap (λ (t : Told). get t.situation.bounds c.args.id.0) c.self.view_is) ∙ none) in
+    let there : get s.bounds c.args.id.0 ≢ None = λ none. c.requires.in_force (sym (ap (λ (t : Told). get t.setting.bounds c.args.id.0) c.self.view_is) ∙ none) in
     let b = some_of (get s.bounds c.args.id.0) there in
     let m = length c.remove-bound.new.self.entries in
     let held_b : tree.get nat_cmp i.bounds c.args.id.0 ≡ Some b.0 = sym (get_held i.bounds c.args.id.0) ∙ b.1 in
@@ -147,4 +147,4 @@ returns-clause-possible c =
     let count : m + 1 ≡ n = ap (λ o. m + cond (is_some o) 1 0) (sym one) ∙ c.remove-bound.ensures.len in
     let r1 : IsRepaired s (m + 1) i.keys i.floors.items i.ends.items g0 = subst (λ q. IsRepaired s q i.keys i.floors.items i.ends.items g0) (sym count) r0 in
     let left = repaired_left s m i.keys c.remove-key.new.self i.floors.items i.ends.items g0 c.leave.new.engine c.args.id b.0 c.key_of-key.result r1 b.1 c.key_of-key.ensures c.remove-key.ensures.updates.0 c.in_ok-leave.ensures.ok in
-    subst (λ (t : Told). HasSchedule (without_bound t.situation c.args.id.0)) c.self.view_is (kept_possible _ _ _ _ _ (kept _ _ _ _ _ _ left))
+    subst (λ (t : Told). HasSchedule (without_bound t.setting c.args.id.0)) c.self.view_is (kept_possible _ _ _ _ _ (kept _ _ _ _ _ _ left))
