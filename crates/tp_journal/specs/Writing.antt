@@ -7,6 +7,7 @@ use Rattle.tp_bounds.specs.declared.Bound.{Bound}
 use Rattle.tp_bounds.specs.Setting.{Setting}
 use Rattle.tp_exec.specs.Machine.{Machine, IsFresh, new_machine, plan_machine}
 use Rattle.tp_exec.specs.declared.command.Answer.{Answer}
+use Rattle.tp_exec.specs.declared.command.Kind.TheVariants.{Bare}
 use Rattle.tp_exec.specs.declared.command.Command.{Command}
 use Rattle.tp_exec.specs.Step.{Step}
 use Rattle.tp_script.specs.Words.{words_of}
@@ -20,7 +21,7 @@ use Rattle.tp_journal.specs.declared.faults.JournalFault.{JournalFault}
 use Rattle.tp_journal.specs.declared.faults.JournalFault.TheVariants.{Read, Write, Log, TooLong}
 use Rattle.tp_journal.specs.declared.writing.Turn.{Turn}
 use Rattle.tp_journal.specs.declared.writing.Turn.TheVariants.{Answered, Over}
-use Rattle.tp_journal.specs.Journal.{Entry, Runs, pair_lines, journal_lines, text_of}
+use Rattle.tp_journal.specs.Journal.{Entry, IsHead, Runs, head_of, pair_lines, journal_lines, text_of}
 
 -- the executive is as `bare` leaves it, or as `from_plan` does
 abbrev pub IsNewExecutive : Machine → Type 0
@@ -194,3 +195,7 @@ log_failures n (Err Read) = n
 log_failures n (Err Write) = n
 log_failures n (Err Log) = n + 1
 log_failures n (Err TooLong) = n
+
+-- where a head can tell how many own bounds there are, the head is one of the format
+abbrev pub HeadIsOne : Machine → Type 0
+HeadIsOne m = (m.kind ≡ Bare) ⊎ (m.next ≤ 65_535) → IsHead (head_of 2 m)

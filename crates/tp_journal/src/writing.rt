@@ -7,7 +7,7 @@ ghost use Rattle.tp_script.specs.Serving.{commands_of};
 ghost use Rattle.tp_script.specs.Transcript.{line_of, refused_line};
 ghost use Rattle.tp_script.specs.Written.{command_line};
 ghost use Rattle.tp_journal.specs.Journal.{head_of, head_lines, kind_lines, own_lines, bounds_from, lag_line, lags_of, own_of, text_of};
-ghost use Rattle.tp_journal.specs.Writing.{IsNewExecutive, AllAreInForce, pairs_text, SaysAll, EntersCommand, EntersLine, Turns, Journals, read_failures, write_failures, log_failures};
+ghost use Rattle.tp_journal.specs.Writing.{HeadIsOne, IsNewExecutive, AllAreInForce, pairs_text, SaysAll, EntersCommand, EntersLine, Turns, Journals, read_failures, write_failures, log_failures};
 
 use crate::faults::JournalFault;
 use tp_bounds::BoundId;
@@ -249,12 +249,14 @@ pub fn journal<N: Net, R: Source, W: Sink, V: Sink>(
     requires new { IsNewExecutive executive.old }
     ensures journals { Journals executive.old executive.new lines.old lines.new (W.held answers.old)
         (W.held answers.new) (V.held log.old) (V.held log.new) result }
+    ensures head { HeadIsOne executive.old }
     ensures longest { lines.new.longest ≡ lines.old.longest }
     ensures most { lines.new.most ≡ lines.old.most }
     ensures read { lines.new.failures ≡ read_failures lines.old.failures result }
     ensures write { W.failures answers.new ≡ write_failures (W.failures answers.old) result }
     ensures log { V.failures log.new ≡ log_failures (V.failures log.old) result }
 {
+    let _count = executive.net().events();
     if write_head(log, executive).is_err() {
         return Err(JournalFault::Log);
     }

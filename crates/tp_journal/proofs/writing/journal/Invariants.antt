@@ -1,11 +1,12 @@
 use Rattle.std.proofs.Common.{◌≡◌, ◌≤◌, ◌-◌}
-use Rattle.tp_journal.specs.Writing.{Records}
+use Rattle.tp_journal.specs.Writing.{HeadIsOne, Records}
 use Rattle.tp_journal.proofs.writing.journal.Given as goal
 
 abbrev pub invariant-loop-n : goal.invariant-loop-n
 invariant-loop-n g l =
     record {
       goes : Records l.fn.executive l.executive l.fn.lines l.lines (g.W.Sink.held l.fn.answers) (g.W.Sink.held l.answers) (g.V.Sink.held l.fn.log) (g.V.Sink.held l.log) l.commands;
+      head : HeadIsOne l.fn.executive;
       longest : l.lines.longest ≡ 256;
       most : l.lines.most ≡ l.fn.lines.most;
       few : l.commands ≤ l.lines.taken;
