@@ -1,13 +1,15 @@
 -- A journal that was written whole is accepted.
 use Rattle.std.proofs.Common.{◌≡◌, inl, inr, ℕ, ◌+◌, ◌<◌, ◌≤◌, List, [], ◌∷◌, ◌++◌, length, Option, Some, None, refl, ap, sym, subst, ◌∙◌, arith, length-append, flat_map, decimal, codes}
 use Rattle.std.specs.Prelude.{Result, Ok, Err, IfSome}
+use Rattle.std.specs.List.{All}
 use Rattle.std.specs.Io.KnownBytes.{Consumes, Appends}
 use Rattle.std.proofs.lemmas.List.{append_cancel_left}
 use Rattle.tp_exec.specs.Machine.{Machine}
 use Rattle.tp_script.specs.Pending.{Reading}
 use Rattle.tp_script.specs.Reading.{HasMore}
 use Rattle.tp_script.specs.declared.serving.Served.{Served}
-use Rattle.tp_journal.specs.Journal.{Entry, IsHead, IsJournalText, Runs, head_of, head_lines, pair_lines, journal_lines, text_of}
+use Rattle.tp_journal.specs.Journal.{Entry, IsHead, IsJournalText, Runs, head_of, head_lines, pair_lines, journal_lines, text_of, longest_line}
+use Rattle.tp_journal.specs.declared.faults.JournalFault.{JournalFault}
 use Rattle.tp_journal.specs.Writing.{Journals, journal_bytes}
 use Rattle.tp_journal.proofs.SoundLemmas.{new_sound}
 use Rattle.tp_journal.proofs.HeadLemmas.{head_is}
@@ -17,6 +19,7 @@ use Rattle.tp_audit.specs.declared.faults.Audited.{Audited}
 use Rattle.tp_audit.specs.Auditing.{BreaksAt, CutsAt, BreaksLine, DisallowsAt, HasOtherHead, Audits}
 use Rattle.tp_audit.specs.Laws.{IsWithin, IsStart, IsYes}
 use Rattle.tp_audit.proofs.CleanTexts.{journal_free}
+use Rattle.tp_audit.proofs.LineSizes.{journal_short}
 use Rattle.tp_audit.proofs.WholeLines.{same_lines, never_breaks}
 use Rattle.tp_audit.proofs.OneRuns.{one_version, first_of, never_wrong}
 use Rattle.tp_audit.proofs.OtherHeads.{never_other}
@@ -107,3 +110,7 @@ written_accepted old new lines behind held answered bytes served start after res
     let all : bytes ≡ journal_bytes old journal.entries = appended bytes (journal_bytes old journal.entries) journal.ended.3 in
     run_accepted old new journal.entries start after result begins journal.runs (is ∙ ap Some all)
     (subst (λ xs. start.taken + length xs ≤ start.most) all fits) same tells
+
+pub written_short : (old new : Machine) (lines behind : Reading) (held answered log logged : Option (List ℕ)) (result : Result Served JournalFault) → IsStart old → (journal : Journals old new lines behind held answered log logged result) → All (λ line. length line ≤ longest_line) (journal_lines 2 old journal.entries)
+written_short old new lines behind held answered log logged result begins journal =
+    journal_short 2 old new journal.entries (within_start old begins) (head_start old begins) journal.runs

@@ -14,6 +14,7 @@ use Rattle.tp_journal.specs.Sound.{IsSound}
 use Rattle.tp_journal.specs.Writing.{IsNewExecutive, Journals, journal_bytes}
 use Rattle.tp_script.specs.declared.serving.Served.{Served}
 use Rattle.tp_script.specs.Pending.{Reading}
+use Rattle.tp_journal.specs.declared.faults.JournalFault.{JournalFault}
 use Rattle.tp_audit.specs.declared.faults.AuditFault.{AuditFault}
 use Rattle.tp_audit.specs.declared.faults.AuditFault.TheVariants.{Memory, Read, Line, Wrong, Head as OtherHead}
 use Rattle.tp_audit.specs.declared.faults.Audited.{Audited}
@@ -139,3 +140,11 @@ WrittenJournalsAreAccepted =
     → (journal : Journals old new lines behind held answered (Some []) (Some bytes) (Ok served))
     → start.rest ≡ Some bytes → start.taken + length bytes ≤ start.most → after.most ≡ start.most
     → Audits old start after result → IsYes (length journal.entries) result
+
+-- No line of the journal that `journal` writes has more bytes than a line of a journal may have, however it ends
+abbrev pub WrittenJournalsHaveShortLines : Type 0
+WrittenJournalsHaveShortLines =
+    (old new : Machine) (lines behind : Reading)
+    (held answered log logged : Option (List ℕ)) (result : Result Served JournalFault)
+    → IsStart old → (journal : Journals old new lines behind held answered log logged result)
+    → All (λ line. length line ≤ longest_line) (journal_lines 2 old journal.entries)

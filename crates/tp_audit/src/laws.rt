@@ -1,7 +1,7 @@
 //! What holds of what a journal writes, whatever run it is of. These calls do nothing: their
 //! contracts are the laws.
 
-ghost use Rattle.tp_audit.specs.Laws.{AnswersHaveTheForm, QuestionsAreRead, PairsHaveTheForm, HeadsAreRead, JournalsHaveTheForm, JournalsBreakNowhere, TextsLeadToOneState, JournalsAreNeverWrong, JournalsHaveTheirHead, JournalsHaveShortLines, JournalsAreAccepted, WrittenJournalsAreAccepted};
+ghost use Rattle.tp_audit.specs.Laws.{AnswersHaveTheForm, QuestionsAreRead, PairsHaveTheForm, HeadsAreRead, JournalsHaveTheForm, JournalsBreakNowhere, TextsLeadToOneState, JournalsAreNeverWrong, JournalsHaveTheirHead, JournalsHaveShortLines, JournalsAreAccepted, WrittenJournalsAreAccepted, WrittenJournalsHaveShortLines};
 
 /// Each answer of the machine, as a journal writes it, has the form of an answer.
 pub fn answers_have_the_form()
@@ -66,4 +66,9 @@ pub fn journals_are_accepted()
 /// fails.
 pub fn written_journals_are_accepted()
     ensures { WrittenJournalsAreAccepted }
+{}
+
+/// No line of the journal that `journal` writes has more than 16,384 bytes, however it ends.
+pub fn written_journals_have_short_lines()
+    ensures { WrittenJournalsHaveShortLines }
 {}
