@@ -19,7 +19,7 @@ use Rattle.tp_text.specs.Scales.{scale_ticks}
 use Rattle.tp_plan_files.specs.declared.plan_words.PlanWords.{PlanWords}
 use Rattle.tp_plan_search.specs.declared.search_words.SearchWords.{SearchWords}
 use Rattle.tp_program.specs.declared.requests.Request.{Request}
-use Rattle.tp_program.specs.declared.requests.Request.TheVariants.{Bare, Check, Net, Run, Plan, Help}
+use Rattle.tp_program.specs.declared.requests.Request.TheVariants.{Bare, Check, Net, Run, Plan, Audit, Help}
 
 module _ {Z : Type 0} where
   none_rows : (s : Option (Box SubCommand Z)) → option_map (λ b. (out-SubCommand (box_value b)).name.now) s ≡ None → subcommand_rows s ≡ None
@@ -53,6 +53,7 @@ asks_by words named (Check w) free is h = (free, subst (λ n. AsksBy n (Check w)
 asks_by words named (Net w) free is h = (free, subst (λ n. AsksBy n (Net w)) is h)
 asks_by words named (Run w) free is h = (free, subst (λ n. AsksBy n (Run w)) is h)
 asks_by words named (Plan w) free is h = (free, subst (λ n. AsksBy n (Plan w)) is h)
+asks_by words named (Audit log) free is h = (free, subst (λ n. AsksBy n (Audit log)) is h)
 asks_by words named (Help text) free is h = absurd h
 
 -- an error that is a call for help or for the version
@@ -188,6 +189,11 @@ plan_words w domain problem scale horizon budget = (
   ),
 )
 
+-- the file of a journal
+pub audit_words : (w : PlanWords) → w.plan.now ≡ codes "l" → AsksFor (codes "audit" ∷ codes "l" ∷ []) (Audit w.plan)
+unfolding clap_on_literals
+audit_words w log = (refl, (_, refl, ap Some (sym log)))
+
 abbrev first_name : Option (Text × List Row) → Text
 first_name None = []
 first_name (Some named) = named.0
@@ -202,6 +208,21 @@ no_text faults none (inr version) = subst (λ ks. IsAmong DisplayVersion ks) non
 
 run_or_net : codes "net" ≡ codes "run" → ⊥
 run_or_net same = let first : 110 ≡ 114 = ap first_letter same in omega (arith, first)
+
+audit_is_not_bare : codes "audit" ≡ codes "bare" → ⊥
+audit_is_not_bare same = let first : 97 ≡ 98 = ap first_letter same in omega (arith, first)
+
+check_is_not_audit : codes "check" ≡ codes "audit" → ⊥
+check_is_not_audit same = let first : 99 ≡ 97 = ap first_letter same in omega (arith, first)
+
+net_is_not_audit : codes "net" ≡ codes "audit" → ⊥
+net_is_not_audit same = let first : 110 ≡ 97 = ap first_letter same in omega (arith, first)
+
+run_is_not_audit : codes "run" ≡ codes "audit" → ⊥
+run_is_not_audit same = let first : 114 ≡ 97 = ap first_letter same in omega (arith, first)
+
+plan_is_not_audit : codes "plan" ≡ codes "audit" → ⊥
+plan_is_not_audit same = let first : 112 ≡ 97 = ap first_letter same in omega (arith, first)
 
 run_or_check : codes "check" ≡ codes "run" → ⊥
 run_or_check same = cc
@@ -238,5 +259,15 @@ distinct words =
       run_plan = λ v w run plan.
           run_is_not_plan (one_name (subcommand_of tempo_app words) (codes "run") (codes "plan") run.1.0 plan.1.0 run.1.1 plan.1.1);
       plan_help = λ w text plan help. no_text (fault_of tempo_app words) plan.0 help;
+      bare_audit = λ log bare audit. audit_is_not_bare (subst NamesBare audit.1.1 bare.1);
+      check_audit = λ w log check audit.
+          check_is_not_audit (one_name (subcommand_of tempo_app words) (codes "check") (codes "audit") check.1.0 audit.1.0 check.1.1 audit.1.1);
+      net_audit = λ w log net audit.
+          net_is_not_audit (one_name (subcommand_of tempo_app words) (codes "net") (codes "audit") net.1.0 audit.1.0 net.1.1 audit.1.1);
+      run_audit = λ w log run audit.
+          run_is_not_audit (one_name (subcommand_of tempo_app words) (codes "run") (codes "audit") run.1.0 audit.1.0 run.1.1 audit.1.1);
+      plan_audit = λ w log plan audit.
+          plan_is_not_audit (one_name (subcommand_of tempo_app words) (codes "plan") (codes "audit") plan.1.0 audit.1.0 plan.1.1 audit.1.1);
+      audit_help = λ log text audit help. no_text (fault_of tempo_app words) audit.0 help;
       check_help = λ w text check help. no_text (fault_of tempo_app words) check.0 help;
     }

@@ -8,6 +8,7 @@ use Rattle.tp_device.proofs.Parts.{appends_none}
 use Rattle.tp_bare.specs.Bare.{AnswersAll, AnswersPart, IsRefused}
 use Rattle.tp_ground.specs.declared.task.Task.{Task}
 use Rattle.tp_happen.specs.declared.plans.Step.{Step}
+use Rattle.tp_log_audits.specs.Bare.{SaysAuditPart, SaysJournal, SaysWrong}
 use Rattle.tp_plan_runs.specs.Invalid.{SaysInvalid, SaysInvalidPart}
 use Rattle.tp_plan_runs.specs.Runs.{EndsInNone, EndsInPart, EndsInPlan, RunsPart, RunsToNone, RunsToPlan, WritesPart}
 use Rattle.tp_plan_search.specs.Searches.{SaysNoPlan, SearchesPart, WritesPlan}
@@ -20,7 +21,7 @@ use Rattle.tp_program.specs.Requests.{AsksFor, AsksForNoCommands}
 use Rattle.tp_program.specs.Streams.{Ends, HandsOn, Runs, TellsSome}
 use Rattle.tp_plan_files.specs.declared.plan_words.PlanWords.{PlanWords}
 use Rattle.tp_program.specs.declared.requests.Request.{Request}
-use Rattle.tp_program.specs.declared.requests.Request.TheVariants.{Bare, Check, Net, Run, Plan, Help}
+use Rattle.tp_program.specs.declared.requests.Request.TheVariants.{Bare, Check, Net, Run, Plan, Audit, Help}
 
 -- what was appended there was appended here
 abbrev pub Shift : Option (List ℕ) → Option (List ℕ) → Option (List ℕ) → Option (List ℕ) → Type 0
@@ -174,12 +175,23 @@ searches_part_over files w a b c d over (inl none) = inl (over _ none)
 searches_part_over files w a b c d over (inr h) =
     inr (record { task = h.task; text = h.text; named = h.named; is = h.is; part = part_over a b c d _ over h.part })
 
+journal_over : (input a b c d : Option (List ℕ)) → Shift a b c d → SaysJournal input a b → SaysJournal input c d
+journal_over input a b c d over h = (h.0, h.1, over _ h.2)
+
+wrong_over : (input a b c d : Option (List ℕ)) → Shift a b c d → SaysWrong input a b → SaysWrong input c d
+wrong_over input a b c d over h = (h.0, h.1, over _ h.2)
+
+audit_part_over : (input a b c d : Option (List ℕ)) → Shift a b c d → SaysAuditPart input a b → SaysAuditPart input c d
+audit_part_over input a b c d over (inl none) = inl (over _ none)
+audit_part_over input a b c d over (inr h) = inr (h.0, h.1, part_over a b c d _ over h.2)
+
 done_over : (request : Request) (files : List ℕ → Option (List ℕ)) (input a b c d : Option (List ℕ)) → Shift a b c d → IsDone request files input a b → IsDone request files input c d
 done_over Bare files input a b c d over h = all_over input a b c d over h
 done_over (Check w) files input a b c d over h = valid_over files w a b c d over h
 done_over (Net w) files input a b c d over h = network_over files w a b c d over h
 done_over (Run w) files input a b c d over h = run_over files w input a b c d over h
 done_over (Plan w) files input a b c d over h = plan_over files w a b c d over h
+done_over (Audit log) files input a b c d over h = journal_over (files log.now) a b c d over h
 done_over (Help text) files input a b c d over h = over _ h
 
 part_done_over : (request : Request) (files : List ℕ → Option (List ℕ)) (input a b c d : Option (List ℕ)) → Shift a b c d → IsPartDone request files input a b → IsPartDone request files input c d
@@ -188,6 +200,7 @@ part_done_over (Check w) files input a b c d over h = says_part_over files w a b
 part_done_over (Net w) files input a b c d over h = shows_part_over files w a b c d over h
 part_done_over (Run w) files input a b c d over h = runs_part_over files w input a b c d over h
 part_done_over (Plan w) files input a b c d over h = searches_part_over files w a b c d over h
+part_done_over (Audit log) files input a b c d over h = audit_part_over (files log.now) a b c d over h
 part_done_over (Help text) files input a b c d over h = part_over a b c d _ over h
 
 pub does_over : (words : List (List ℕ)) (files : List ℕ → Option (List ℕ)) (input a b c d : Option (List ℕ)) → Shift a b c d → DoesWhatIsAsked words files input a b → DoesWhatIsAsked words files input c d
@@ -200,6 +213,7 @@ said_over (Check w) files input a b c d over h = invalid_over files w a b c d ov
 said_over (Net w) files input a b c d over h = invalid_over files w a b c d over h
 said_over (Run w) files input a b c d over h = runs_none_over files w input a b c d over h
 said_over (Plan w) files input a b c d over h = no_plan_over files w a b c d over h
+said_over (Audit log) files input a b c d over h = wrong_over (files log.now) a b c d over h
 said_over (Help text) files input a b c d over h = absurd h
 
 pub no_over : (words : List (List ℕ)) (files : List ℕ → Option (List ℕ)) (input a b c d : Option (List ℕ)) → Shift a b c d → AnswersNo words files input a b → AnswersNo words files input c d

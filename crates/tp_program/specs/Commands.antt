@@ -59,6 +59,10 @@ search_app =
     let files = with_rule (with_rule (new_app (codes "plan")) (file_rule (codes "DOMAIN"))) (file_rule (codes "PROBLEM")) in
     with_rule (with_rule (with_rule files scale_rule) horizon_rule) budget_rule
 
+-- the file of a journal
+abbrev pub audit_app : App
+audit_app = with_rule (new_app (codes "audit")) (file_rule (codes "LOG"))
+
 -- the program's words begin after its name, and it tells its version
 abbrev pub start_app : App
 start_app =
@@ -73,5 +77,9 @@ judging_app = with_subcommand (with_subcommand start_app (new_app (codes "bare")
 abbrev pub network_app : App
 network_app = with_subcommand judging_app net_app.top
 
+-- and with those that run plans and search for them
+abbrev pub planning_app : App
+planning_app = with_subcommand (with_subcommand network_app run_app.top) search_app.top
+
 abbrev pub tempo_app : App
-tempo_app = with_subcommand (with_subcommand network_app run_app.top) search_app.top
+tempo_app = with_subcommand planning_app audit_app.top

@@ -4,6 +4,7 @@ use Rattle.std.specs.Io.KnownBytes.{Appends}
 use Rattle.std.specs.String.{string_bytes}
 use Rattle.tp_device.specs.Bytes.{AppendsPart}
 use Rattle.tp_bare.specs.Bare.{AnswersAll, AnswersPart}
+use Rattle.tp_log_audits.specs.Bare.{SaysAuditPart, SaysJournal, SaysWrong}
 use Rattle.tp_plan_runs.specs.Invalid.{SaysInvalid}
 use Rattle.tp_plan_runs.specs.Runs.{RunsPart, RunsToNone, RunsToPlan}
 use Rattle.tp_plan_search.specs.Searches.{SaysNoPlan, SearchesPart, WritesPlan}
@@ -11,10 +12,11 @@ use Rattle.tp_program.specs.Checks.{SaysPart, SaysValid}
 use Rattle.tp_program.specs.Networks.{ShowsNetwork, ShowsPart}
 use Rattle.tp_program.specs.Requests.{AsksFor}
 use Rattle.tp_program.specs.declared.requests.Request.{Request}
-use Rattle.tp_program.specs.declared.requests.Request.TheVariants.{Bare, Check, Net, Run, Plan, Help}
+use Rattle.tp_program.specs.declared.requests.Request.TheVariants.{Bare, Check, Net, Run, Plan, Audit, Help}
 
 -- all commands of the input were answered; the plan is valid and that was written; its network was written; all commands of the input were
--- answered on that network, and the plan of the run was written; or the help was written
+-- answered on that network, and the plan of the run was written; a valid plan of the problem was written; the file of a journal is one, and
+-- that was written; or the help was written
 abbrev pub IsDone : Request → (List ℕ → Option (List ℕ)) → Option (List ℕ) → Option (List ℕ)
     → Option (List ℕ) → Type 0
 IsDone Bare files input held now = AnswersAll input held now
@@ -22,6 +24,7 @@ IsDone (Check w) files input held now = SaysValid files w held now
 IsDone (Net w) files input held now = ShowsNetwork files w held now
 IsDone (Run w) files input held now = RunsToPlan files w input held now
 IsDone (Plan w) files input held now = WritesPlan files w held now
+IsDone (Audit log) files input held now = SaysJournal (files log.now) held now
 IsDone (Help text) files input held now = Appends held now (string_bytes text)
 
 -- the words ask for something, and it was done
@@ -31,7 +34,8 @@ pub record DoesWhatIsAsked (words : List (List ℕ)) (files : List ℕ → Optio
   pub asked : AsksFor words request
   pub done : IsDone request files input held now
 
--- the plan is not valid, and its first fault was written; or all commands of the input were answered, and the run has no plan
+-- the plan is not valid, and its first fault was written; all commands of the input were answered, and the run has no plan; no plan was
+-- found, and it was written why; or an answer of a journal is not allowed, and that was written
 abbrev pub IsAnsweredNo : Request → (List ℕ → Option (List ℕ)) → Option (List ℕ) → Option (List ℕ)
     → Option (List ℕ) → Type 0
 IsAnsweredNo Bare files input held now = ⊥
@@ -39,9 +43,10 @@ IsAnsweredNo (Check w) files input held now = SaysInvalid files w held now
 IsAnsweredNo (Net w) files input held now = SaysInvalid files w held now
 IsAnsweredNo (Run w) files input held now = RunsToNone files w input held now
 IsAnsweredNo (Plan w) files input held now = SaysNoPlan files w held now
+IsAnsweredNo (Audit log) files input held now = SaysWrong (files log.now) held now
 IsAnsweredNo (Help text) files input held now = ⊥
 
--- the words ask for the verdict on a plan, for its network or for its run, and the answer is no
+-- the words ask for the verdict on a plan, for its network, for its run, for a plan or for an audit, and the answer is no
 pub record AnswersNo (words : List (List ℕ)) (files : List ℕ → Option (List ℕ))
     (input held now : Option (List ℕ)) : Type 0 where
   pub request : Request
@@ -56,6 +61,7 @@ IsPartDone (Check w) files input held now = SaysPart files w held now
 IsPartDone (Net w) files input held now = ShowsPart files w held now
 IsPartDone (Run w) files input held now = RunsPart files w input held now
 IsPartDone (Plan w) files input held now = SearchesPart files w held now
+IsPartDone (Audit log) files input held now = SaysAuditPart (files log.now) held now
 IsPartDone (Help text) files input held now = AppendsPart held now (string_bytes text)
 
 -- nothing was written, or the words ask for something, and some first part of it was written

@@ -4,13 +4,14 @@ use Rattle.std.specs.String.{string_bytes}
 use Rattle.tp_device.specs.Bytes.{AppendsPart}
 use Rattle.tp_files.specs.FaultLines.{Tells, fault_line}
 use Rattle.tp_bare.specs.Bare.{StopsBare}
+use Rattle.tp_log_audits.specs.Bare.{EndsBareAudit}
 use Rattle.tp_plan_runs.specs.Runs.{EndsRun}
 use Rattle.tp_plan_search.specs.SearchStops.{EndsSearch}
 use Rattle.tp_program.specs.Checks.{EndsCheck}
 use Rattle.tp_program.specs.Networks.{EndsNet}
 use Rattle.tp_program.specs.Requests.{AsksFor}
 use Rattle.tp_program.specs.declared.requests.Request.{Request}
-use Rattle.tp_program.specs.declared.requests.Request.TheVariants.{Bare, Check, Net, Run, Plan, Help}
+use Rattle.tp_program.specs.declared.requests.Request.TheVariants.{Bare, Check, Net, Run, Plan, Audit, Help}
 
 -- there was no memory for the words
 pub record LacksMemory (status : ℕ) (held held-now : Option (List ℕ)) (output output-now : ℕ)
@@ -53,6 +54,10 @@ EndsRequest
     = EndsRun files w status input held held-now output output-now failures before failures-now now
 EndsRequest (Plan w) files input status held held-now output output-now failures before failures-now
     now = EndsSearch files w status held held-now output output-now failures before failures-now now
+EndsRequest (Audit log) files input status held held-now output output-now failures before
+    failures-now now
+    = EndsBareAudit (files log.now) log.now status held held-now output output-now failures before
+    failures-now now
 EndsRequest
     (Help text) files input status held held-now output output-now failures before failures-now now
     = StopsHelp (string_bytes text) status held held-now failures before failures-now now

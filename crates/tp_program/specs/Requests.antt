@@ -9,7 +9,7 @@ use Rattle.tp_program.specs.Commands.{tempo_app}
 use Rattle.tp_plan_files.specs.declared.plan_words.PlanWords.{PlanWords}
 use Rattle.tp_plan_search.specs.declared.search_words.SearchWords.{SearchWords}
 use Rattle.tp_program.specs.declared.requests.Request.{Request}
-use Rattle.tp_program.specs.declared.requests.Request.TheVariants.{Bare, Check, Net, Run, Plan, Help}
+use Rattle.tp_program.specs.declared.requests.Request.TheVariants.{Bare, Check, Net, Run, Plan, Audit, Help}
 
 -- the text is there, and its digits make the number
 abbrev pub Spells : Option Text → ℕ → Type 0
@@ -46,6 +46,9 @@ AsksBy named (Check w) = (rows : List Row) × (named ≡ Some (codes "check", ro
 AsksBy named (Net w) = (rows : List Row) × (named ≡ Some (codes "net", rows)) × IsPlanWords rows w
 AsksBy named (Run w) = (rows : List Row) × (named ≡ Some (codes "run", rows)) × IsPlanWords rows w
 AsksBy named (Plan w) = (rows : List Row) × (named ≡ Some (codes "plan", rows)) × IsSearchWords rows w
+AsksBy named (Audit log) =
+    (rows : List Row) × (named ≡ Some (codes "audit", rows))
+    × (first_of (codes "LOG") rows ≡ Some log.now)
 AsksBy named (Help text) = ⊥
 
 -- a parse that ends so gives a text that was called for
@@ -66,13 +69,15 @@ AsksFor words (Run w) =
     (fault_of tempo_app words ≡ []) × AsksBy (subcommand_of tempo_app words) (Run w)
 AsksFor words (Plan w) =
     (fault_of tempo_app words ≡ []) × AsksBy (subcommand_of tempo_app words) (Plan w)
+AsksFor words (Audit log) =
+    (fault_of tempo_app words ≡ []) × AsksBy (subcommand_of tempo_app words) (Audit log)
 
 -- the words ask for no answers to commands: for something else, or for nothing
 pub record AsksForNoCommands (words : List Text) : Type 0 where
   pub no_bare : AsksFor words Bare → ⊥
   pub no_run : (w : PlanWords) → AsksFor words (Run w) → ⊥
 
--- words ask for one kind of thing at most: for commands on a network, for a verdict, for the network of a plan, for its run, for a plan, or for help
+-- words ask for one kind of thing at most: for commands on a network, for a verdict, for the network of a plan, for its run, for a plan, for an audit, or for help
 pub record AskForOneThing (words : List Text) : Type 0 where
   pub bare_check : (w : PlanWords) → AsksFor words Bare → AsksFor words (Check w) → ⊥
   pub bare_net : (w : PlanWords) → AsksFor words Bare → AsksFor words (Net w) → ⊥
@@ -92,5 +97,13 @@ pub record AskForOneThing (words : List Text) : Type 0 where
       → ⊥
   pub plan_help : (w : SearchWords) (text : _) → AsksFor words (Plan w) → AsksFor words (Help text)
       → ⊥
+  pub bare_audit : (log : _) → AsksFor words Bare → AsksFor words (Audit log) → ⊥
+  pub check_audit : (w : PlanWords) (log : _) → AsksFor words (Check w) → AsksFor words (Audit log)
+      → ⊥
+  pub net_audit : (w : PlanWords) (log : _) → AsksFor words (Net w) → AsksFor words (Audit log) → ⊥
+  pub run_audit : (w : PlanWords) (log : _) → AsksFor words (Run w) → AsksFor words (Audit log) → ⊥
+  pub plan_audit : (w : SearchWords) (log : _) → AsksFor words (Plan w) → AsksFor words (Audit log)
+      → ⊥
+  pub audit_help : (log : _) (text : _) → AsksFor words (Audit log) → AsksFor words (Help text) → ⊥
   pub check_help : (w : PlanWords) (text : _) → AsksFor words (Check w) → AsksFor words (Help text)
       → ⊥

@@ -133,6 +133,11 @@ fn asked_by<'w>(name: &str, matches: &ArgMatches<'w>) -> Result<Request<'w>, Ref
             return Ok(Request::Plan(words));
         }
     }
+    if name == "audit" {
+        if let Some(log) = word(matches, "LOG") {
+            return Ok(Request::Audit(log));
+        }
+    }
     Err(Refusal::Words(None))
 }
 
@@ -213,6 +218,12 @@ pub fn plan_calls()
     ensures { (w : SearchWords) → w.domain.now ≡ codes "d" → w.problem.now ≡ codes "p"
         → scale_ticks w.scale ≡ 1 → w.horizon ≡ 1000000 → w.budget ≡ 7
         → AsksFor (codes "plan" ∷ codes "d" ∷ codes "p" ∷ codes "--budget" ∷ codes "7" ∷ []) (Request.Plan w) }
+{}
+
+/// The file of a journal behind `audit`.
+pub fn audit_calls()
+    ensures { (w : PlanWords) → w.plan.now ≡ codes "l"
+        → AsksFor (codes "audit" ∷ codes "l" ∷ []) (Request.Audit w.plan) }
 {}
 
 /// Words ask for one kind of thing at most.

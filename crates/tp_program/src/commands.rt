@@ -2,7 +2,7 @@
 ghost use Rattle.std.specs.Prelude.{◌≡◌, false, IfOk, codes};
 ghost use Rattle.clap.specs.Words.{app_of, new_app, rule_of, with_subcommand};
 ghost use Rattle.clap.specs.declared.builder.command.Command.TheViews.{out-Command as fields_of};
-ghost use Rattle.tp_program.specs.Commands.{budget_rule, check_app, file_rule, horizon_rule, judging_app, net_app, network_app, plan_app, run_app, scale_rule, search_app, start_app, tempo_app};
+ghost use Rattle.tp_program.specs.Commands.{audit_app, budget_rule, check_app, file_rule, horizon_rule, judging_app, net_app, network_app, plan_app, planning_app, run_app, scale_rule, search_app, start_app, tempo_app};
 
 use clap::{Arg, ArgAction, Command, value_parser};
 use std::alloc::{AllocError, Global};
@@ -22,7 +22,8 @@ Examples:
   printf 'network 1 5\\nwindow 0\\n' | tempo bare
   tempo check domain.pddl problem.pddl plan.txt
   tempo net domain.pddl problem.pddl plan.txt
-  printf 'dispatch 0\\nadvance 3\\ndispatch 1\\n' | tempo run domain.pddl problem.pddl plan.txt";
+  printf 'dispatch 0\\nadvance 3\\ndispatch 1\\n' | tempo run domain.pddl problem.pddl plan.txt
+  tempo audit night.log";
 
 const BARE_ABOUT: &str = "Answers commands on a network of events and bounds";
 
@@ -122,6 +123,23 @@ Example:
   tempo plan domain.pddl problem.pddl --budget 1000
 prints
   0: (need)";
+
+const AUDIT_ABOUT: &str = "Says whether a file is a journal, and if not, which answer is wrong";
+
+const AUDIT_HELP: &str =
+    "Reads a journal of commands on a network of events and bounds: its head, and for each line that had an answer the pair of
+the command, behind `> `, and the answer, behind `< `. Each command is carried out anew, and each answer judged. It prints
+
+  audit ok N     the file is a journal of N pairs
+  wrong N        the answer on line N is not allowed
+
+Exit status: 0 for the first, 1 for the second, 2 refused input, 3 memory or a device. Input is refused by its first line
+that breaks the format (`fault journal 3 line N`), or where the network came from a plan (`fault journal 5 head`).
+
+Example:
+  tempo audit night.log
+prints
+  audit ok 7";
 
 /// A file that has to be named.
 fn file_argument<'a>(alloc: Global, id: &'a str, help: &'a str) -> Arg<'a>
@@ -245,6 +263,24 @@ fn search_command<'a>(alloc: Global) -> Result<Command<'a>, AllocError>
         .arg(budget_option(alloc))
 }
 
+/// The command `audit` before it has its argument.
+fn audit_start<'a>(alloc: Global) -> Command<'a>
+    ensures app { app_of result ≡ new_app (codes "audit") }
+    ensures local { (fields_of result).has_globals ≡ false }
+{
+    Command::new(alloc, "audit")
+        .about(AUDIT_ABOUT)
+        .after_help(AUDIT_HELP)
+}
+
+/// The command `audit`.
+fn audit_command<'a>(alloc: Global) -> Result<Command<'a>, AllocError>
+    ensures app { IfOk result (λ c. app_of c ≡ audit_app) }
+    ensures local { IfOk result (λ c. (fields_of c).has_globals ≡ false) }
+{
+    audit_start(alloc).arg(file_argument(alloc, "LOG", "The file of the journal"))
+}
+
 /// The program before it has commands. Its words begin after its name.
 fn tempo_start<'a>(alloc: Global) -> Result<Command<'a>, AllocError>
     ensures { IfOk result (λ c. app_of c ≡ start_app) }
@@ -283,10 +319,18 @@ fn running_command<'a>(alloc: Global) -> Result<Command<'a>, AllocError>
     network_command(alloc)?.subcommand(run)
 }
 
+/// The same with the command that searches.
+fn planning_command<'a>(alloc: Global) -> Result<Command<'a>, AllocError>
+    ensures { IfOk result (λ c. app_of c ≡ planning_app) }
+{
+    let search = search_command(alloc)?;
+    running_command(alloc)?.subcommand(search)
+}
+
 /// The program with all its commands.
 pub fn tempo_command<'a>(alloc: Global) -> Result<Command<'a>, AllocError>
     ensures { IfOk result (λ c. app_of c ≡ tempo_app) }
 {
-    let search = search_command(alloc)?;
-    running_command(alloc)?.subcommand(search)
+    let audit = audit_command(alloc)?;
+    planning_command(alloc)?.subcommand(audit)
 }

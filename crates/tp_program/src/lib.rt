@@ -1,6 +1,7 @@
 //! The program `tempo`: a network of events and bounds, and commands on it, come in as lines, and the answers go out as lines; or
 //! the plan in a file is judged, and the verdict goes out, or the network of all its schedules, or
-//! commands on that network are answered, and the plan of the run goes out.
+//! commands on that network are answered, and the plan of the run goes out; or a plan is searched for;
+//! or the journal in a file is audited.
 //!
 //! - `commands`: the commands of the program, their words and their help
 //! - `requests`, `arguments`: what the words of a call ask for
@@ -11,7 +12,8 @@
 //! - `streams`: a run over readers and writers of std
 //!
 //! Commands on a network of bounds alone are those of `tp_bare`, files and fault lines those of `tp_files`, tasks and verdicts of
-//! files those of `tp_plan_files`, runs of plans those of `tp_plan_runs`.
+//! files those of `tp_plan_files`, runs of plans those of `tp_plan_runs`, searches those of `tp_plan_search`, audits those of
+//! `tp_log_audits`.
 #![tactic(auto)]
 
 mod arguments;
@@ -24,7 +26,7 @@ mod streams;
 mod words;
 
 pub use arguments::{
-    Refusal, bare_calls, check_calls, net_calls, plan_calls, read_words, requests_are_distinct,
+    Refusal, audit_calls, bare_calls, check_calls, net_calls, plan_calls, read_words, requests_are_distinct,
     run_calls,
 };
 pub use requests::Request;

@@ -15,6 +15,8 @@ pub enum Request<'w> {
     Run(PlanWords<'w>),
     /// A plan of a problem.
     Plan(SearchWords<'w>),
+    /// The audit of the journal in a file.
+    Audit(&'w str),
     /// A text of help, or the version.
     Help(String),
 }

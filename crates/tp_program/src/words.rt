@@ -17,6 +17,7 @@ use std::alloc::Global;
 use tp_bare::run_bare;
 use tp_device::{Sink, Source, push_all};
 use tp_files::{FaultLine, Files, OUT_OF_ORDER, REFUSED, complain, complain_more};
+use tp_log_audits::run_bare_audit;
 use tp_plan_runs::run_run;
 use tp_plan_search::run_plan;
 
@@ -76,6 +77,7 @@ pub fn run_words<N: Files, I: Source + Drop, O: Sink, F: Sink>(
         Ok(Request::Net(plan)) => run_net(alloc, files, plan, output, faults),
         Ok(Request::Run(plan)) => run_run(alloc, files, plan, input, output, faults),
         Ok(Request::Plan(search)) => run_plan(alloc, files, search, output, faults),
+        Ok(Request::Audit(log)) => run_bare_audit(alloc, files, log, output, faults),
         Ok(Request::Help(text)) => show(text.as_str(), output, faults),
         Err(Refusal::Words(text)) => refuse_words(text, faults),
         Err(Refusal::Memory) => complain(faults, FaultLine::out_of_order("arguments", "2 memory")),

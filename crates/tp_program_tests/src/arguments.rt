@@ -3,10 +3,10 @@ use super::devices::{Outcome, WIDE, run, whole};
 use std::alloc::Global;
 
 /// Words that are refused, and what is said of them.
-const REFUSED: [(&[&str], &str); 14] = [
+const REFUSED: [(&[&str], &str); 15] = [
     (&["split"], "error: unrecognized subcommand 'split'"),
     (&["plan", "d"], "<PROBLEM>"),
-    (&["audit", "log"], "error: unrecognized subcommand 'audit'"),
+    (&["audit"], "<LOG>"),
     (&["Bare"], "error: unrecognized subcommand 'Bare'"),
     (&["bare", "bare"], "error: unexpected argument 'bare' found"),
     (
@@ -20,6 +20,10 @@ const REFUSED: [(&[&str], &str); 14] = [
     (&["check", "d", "p"], "<PLAN>"),
     (&["net", "d", "p"], "<PLAN>"),
     (&["run", "d", "p"], "<PLAN>"),
+    (
+        &["audit", "log", "d"],
+        "error: unexpected argument 'd' found",
+    ),
     (
         &["run", "d", "p", "l", "--journal", "log"],
         "error: unexpected argument '--journal' found",
@@ -64,8 +68,15 @@ const RUN: &[&str] = &[
     "Example:",
 ];
 
+const AUDIT: &[&str] = &[
+    "Usage: tempo audit",
+    "audit ok N",
+    "wrong N",
+    "Example:",
+];
+
 /// Calls for help or for the version, and what stands in it.
-const HELP: [(&[&str], &[&str]); 13] = [
+const HELP: [(&[&str], &[&str]); 15] = [
     (&["--version"], VERSION),
     (&["-V"], VERSION),
     (&["--help"], PROGRAM),
@@ -79,6 +90,8 @@ const HELP: [(&[&str], &[&str]); 13] = [
     (&["help", "net"], NET),
     (&["run", "--help"], RUN),
     (&["help", "run"], RUN),
+    (&["audit", "--help"], AUDIT),
+    (&["help", "audit"], AUDIT),
 ];
 
 /// Options of `check` that no call may have.

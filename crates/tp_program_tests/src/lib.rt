@@ -7,12 +7,15 @@
 //! - `net`: networks of plans in files, worked by hand
 //! - `run`: runs of plans in files, worked by hand
 //! - `plan`: plans that are found, and why there is none, worked by hand
+//! - `audit`: audits of journals in files
 //! - `files`: texts that are read of files
 //! - `fault_lines`: the line of each fault, and its exit status
 #![tactic(auto)]
 
 #[cfg(test)]
 mod arguments;
+#[cfg(test)]
+mod audit;
 #[cfg(test)]
 mod check;
 #[cfg(test)]

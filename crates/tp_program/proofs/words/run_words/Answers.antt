@@ -1,7 +1,7 @@
 use Rattle.std.proofs.Common.{◌∙◌, List, ℕ, arith, inl, inr, refl, subst}
 use Rattle.tp_device.proofs.Parts.{appends_none}
 use Rattle.tp_files.specs.FaultLines.{Tells}
-use Rattle.tp_program.specs.declared.requests.Request.TheVariants.{Bare, Check, Net, Run, Plan, Help}
+use Rattle.tp_program.specs.declared.requests.Request.TheVariants.{Bare, Check, Net, Run, Plan, Audit, Help}
 use Rattle.tp_program.specs.Endings.{StopsHelp}
 use Rattle.tp_program.proofs.words.run_words.Goals as goal
 
@@ -57,6 +57,11 @@ pub returns-in-Ok-Plan-clause-stopped : goal.returns-in-Ok-Plan-clause-stopped
 returns-in-Ok-Plan-clause-stopped g c =
     λ two.
     inr (inr (Plan c.in-Ok-Plan.search, rw c.in-Ok-Plan.field-0-is at c.in-Ok-Plan.ensures.asked, c.run_plan.ensures.stopped two))
+
+pub returns-in-Ok-Audit-clause-stopped : goal.returns-in-Ok-Audit-clause-stopped
+returns-in-Ok-Audit-clause-stopped g c =
+    λ two.
+    inr (inr (Audit c.in-Ok-Audit.log, rw c.in-Ok-Audit.field-0-is at c.in-Ok-Audit.ensures.asked, c.run_bare_audit.ensures.stopped two))
 
 pub returns-in-Ok-Help-clause-stopped : goal.returns-in-Ok-Help-clause-stopped
 returns-in-Ok-Help-clause-stopped g c =
