@@ -26,8 +26,8 @@ mod streams;
 mod words;
 
 pub use arguments::{
-    Refusal, audit_calls, bare_calls, check_calls, net_calls, plan_calls, read_words, requests_are_distinct,
-    run_calls,
+    Refusal, audit_calls, bare_calls, check_calls, net_calls, plan_calls, read_words,
+    requests_are_distinct, run_calls,
 };
 pub use requests::Request;
 pub use stops::{PlanStop, stop_line};

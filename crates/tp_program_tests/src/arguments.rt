@@ -68,12 +68,7 @@ const RUN: &[&str] = &[
     "Example:",
 ];
 
-const AUDIT: &[&str] = &[
-    "Usage: tempo audit",
-    "audit ok N",
-    "wrong N",
-    "Example:",
-];
+const AUDIT: &[&str] = &["Usage: tempo audit", "audit ok N", "wrong N", "Example:"];
 
 /// Calls for help or for the version, and what stands in it.
 const HELP: [(&[&str], &[&str]); 15] = [

@@ -4,17 +4,20 @@ use super::devices::{Told, WIDE, gives, whole};
 const AUDIT: &[&str] = &["audit", "night.log"];
 
 /// Seven pairs of a network of bounds alone.
-const NIGHT: &str = "journal 1\nnetwork 2 100\nbare\n> add o 0 10\n< bound 0\n> add 0 o -3\n< bound 1\n\
+const NIGHT: &str =
+    "journal 1\nnetwork 2 100\nbare\n> add o 0 10\n< bound 0\n> add 0 o -3\n< bound 1\n\
                      > window 0\n< window 3 10\n> window 1\n< window 0 100\n> add 0 o -11\n\
                      < refused conflict new b0\n> window 0\n< window 3 10\n> add o 1 7\n< bound 2\n";
 
 /// The same with another reason.
-const ALTERED: &str = "journal 1\nnetwork 2 100\nbare\n> add o 0 10\n< bound 0\n> add 0 o -3\n< bound 1\n\
+const ALTERED: &str =
+    "journal 1\nnetwork 2 100\nbare\n> add o 0 10\n< bound 0\n> add 0 o -3\n< bound 1\n\
                        > window 0\n< window 3 10\n> window 1\n< window 0 100\n> add 0 o -11\n\
                        < refused conflict new b1\n> window 0\n< window 3 10\n> add o 1 7\n< bound 2\n";
 
 /// The same without its last line.
-const CUT: &str = "journal 1\nnetwork 2 100\nbare\n> add o 0 10\n< bound 0\n> add 0 o -3\n< bound 1\n\
+const CUT: &str =
+    "journal 1\nnetwork 2 100\nbare\n> add o 0 10\n< bound 0\n> add 0 o -3\n< bound 1\n\
                    > window 0\n< window 3 10\n> window 1\n< window 0 100\n> add 0 o -11\n\
                    < refused conflict new b0\n> window 0\n< window 3 10\n> add o 1 7\n";
 
