@@ -38,6 +38,18 @@ budget_rule = record (new_rule (codes "budget")) {
   parser = Some (vp.Signed (pos 0) (pos 1000000));
 }
 
+-- `--journal`, a file, by default none
+abbrev pub journal_rule : Rule
+journal_rule = record (new_rule (codes "journal")) {
+  long = Some (codes "journal");
+  action = Some Set;
+  value_names = 1;
+}
+
+-- commands on a network of bounds alone
+abbrev pub bare_app : App
+bare_app = with_rule (new_app (codes "bare")) journal_rule
+
 -- the files of a plan, and how its time is measured
 abbrev pub plan_app : App → App
 plan_app named =
@@ -71,7 +83,7 @@ start_app =
 
 -- with the commands that judge a plan
 abbrev pub judging_app : App
-judging_app = with_subcommand (with_subcommand start_app (new_app (codes "bare")).top) check_app.top
+judging_app = with_subcommand (with_subcommand start_app bare_app.top) check_app.top
 
 -- and the network of one
 abbrev pub network_app : App

@@ -10,8 +10,9 @@
 //! - `net`: the network of the plan in a file
 //! - `stops`: why a command on a plan stopped, and its line
 //! - `streams`: a run over readers and writers of std
+//! - `host`: the files of the host, those that are read and those of journals
 //!
-//! Commands on a network of bounds alone are those of `tp_bare`, files and fault lines those of `tp_files`, tasks and verdicts of
+//! Commands on a network of bounds alone are those of `tp_bare`, those with a journal of `tp_bare_journals`, files and fault lines those of `tp_files`, tasks and verdicts of
 //! files those of `tp_plan_files`, runs of plans those of `tp_plan_runs`, searches those of `tp_plan_search`, audits those of
 //! `tp_log_audits`.
 #![tactic(auto)]
@@ -19,6 +20,7 @@
 mod arguments;
 mod check;
 mod commands;
+mod host;
 mod net;
 mod requests;
 mod stops;
@@ -26,9 +28,10 @@ mod streams;
 mod words;
 
 pub use arguments::{
-    Refusal, audit_calls, bare_calls, check_calls, net_calls, plan_calls, read_words,
-    requests_are_distinct, run_calls,
+    Refusal, audit_calls, bare_calls, bare_log_calls, check_calls, net_calls, plan_calls, read_words, requests_are_distinct,
+    run_calls,
 };
+pub use host::HostDesk;
 pub use requests::Request;
 pub use stops::{PlanStop, stop_line};
 pub use streams::{Ended, Refused, refuse_streams, run_streams};

@@ -7,6 +7,8 @@ use tp_plan_search::SearchWords;
 pub enum Request<'w> {
     /// The answers to the commands of the input.
     Bare,
+    /// The same, and their journal in the file of a name.
+    BareLog(&'w str),
     /// The verdict on a plan.
     Check(PlanWords<'w>),
     /// The network of a plan.

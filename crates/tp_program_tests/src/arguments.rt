@@ -3,7 +3,7 @@ use super::devices::{Outcome, WIDE, run, whole};
 use std::alloc::Global;
 
 /// Words that are refused, and what is said of them.
-const REFUSED: [(&[&str], &str); 15] = [
+const REFUSED: [(&[&str], &str); 16] = [
     (&["split"], "error: unrecognized subcommand 'split'"),
     (&["plan", "d"], "<PROBLEM>"),
     (&["audit"], "<LOG>"),
@@ -13,9 +13,10 @@ const REFUSED: [(&[&str], &str); 15] = [
         &["--journal", "log"],
         "error: unexpected argument '--journal' found",
     ),
+    (&["bare", "--journal"], "--journal <FILE>"),
     (
-        &["bare", "--journal", "log"],
-        "error: unexpected argument '--journal' found",
+        &["bare", "--journal", "a", "--journal", "b"],
+        "cannot be used multiple times",
     ),
     (&["check", "d", "p"], "<PLAN>"),
     (&["net", "d", "p"], "<PLAN>"),
@@ -40,7 +41,13 @@ const VERSION: &[&str] = &["tempo rattle-kit-", " logic "];
 
 const PROGRAM: &[&str] = &["Usage: tempo", "bare", "Examples:", "Exit status: 0 yes"];
 
-const BARE: &[&str] = &["Usage: tempo bare", "network N H", "window E", "Example:"];
+const BARE: &[&str] = &[
+    "Usage: tempo bare",
+    "network N H",
+    "window E",
+    "--journal <FILE>",
+    "Example:",
+];
 
 const CHECK: &[&str] = &[
     "Usage: tempo check",
