@@ -53,17 +53,18 @@ EndsRequest (BareLog log) files input status held held-now output output-now fai
 EndsRequest
     (Check w) files input status held held-now output output-now failures before failures-now now
     = EndsCheck files.held w status held held-now output output-now failures before failures-now now
-EndsRequest (Net w) files input status held held-now output output-now failures before failures-now
-    now = EndsNet files.held w status held held-now output output-now failures before failures-now now
 EndsRequest
-    (Run w) files input status held held-now output output-now failures before failures-now now
-    = EndsRun files.held w status input held held-now output output-now failures before failures-now now
-EndsRequest (Plan w) files input status held held-now output output-now failures before failures-now
-    now = EndsSearch files.held w status held held-now output output-now failures before failures-now now
+    (Net w) files input status held held-now output output-now failures before failures-now now
+    = EndsNet files.held w status held held-now output output-now failures before failures-now now
+EndsRequest (Run w) files input status held held-now output output-now failures before failures-now
+    now = EndsRun files.held w status input held held-now output output-now failures before
+    failures-now now
+EndsRequest
+    (Plan w) files input status held held-now output output-now failures before failures-now now =
+    EndsSearch files.held w status held held-now output output-now failures before failures-now now
 EndsRequest (Audit log) files input status held held-now output output-now failures before
-    failures-now now
-    = EndsBareAudit (files.held log.now) log.now status held held-now output output-now failures before
-    failures-now now
+    failures-now now = EndsBareAudit (files.held log.now) log.now status held held-now output
+    output-now failures before failures-now now
 EndsRequest
     (Help text) files input status held held-now output output-now failures before failures-now now
     = StopsHelp (string_bytes text) status held held-now failures before failures-now now

@@ -6,7 +6,8 @@ use Rattle.tp_bare_journals.specs.Logged.{LogsAll, LogsLines}
 use Rattle.tp_program.specs.CallFiles.{CallFiles}
 
 -- all commands were answered, and the file of that name, which was made anew, holds the journal of that run
-abbrev pub LogsTo : CallFiles → List ℕ → Option (List ℕ) → Option (List ℕ) → Option (List ℕ) → Type 0
+abbrev pub LogsTo : CallFiles → List ℕ → Option (List ℕ) → Option (List ℕ) → Option (List ℕ)
+    → Type 0
 LogsTo files name input held now =
     LogsAll input held now files.blank files.kept × IfSome files.named (λ n. n ≡ name)
 

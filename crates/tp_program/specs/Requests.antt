@@ -107,5 +107,7 @@ journal_name (Help text) = None
 
 -- words ask for one kind of thing at most: for one command, with one file for a journal or none, or for help
 pub record AskForOneThing (words : List Text) : Type 0 where
-  pub command : (r s : Request) → AsksFor words r → AsksFor words s → command_name r ≡ command_name s
-  pub journal : (r s : Request) → AsksFor words r → AsksFor words s → journal_name r ≡ journal_name s
+  pub command : (r s : Request) → AsksFor words r → AsksFor words s
+      → command_name r ≡ command_name s
+  pub journal : (r s : Request) → AsksFor words r → AsksFor words s
+      → journal_name r ≡ journal_name s

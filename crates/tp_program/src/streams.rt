@@ -15,8 +15,8 @@ use std::io::{LineWriter, Read, Write};
 use std::marker::Brand;
 use std::sync::ledger::{Blank, Ledger};
 use tp_device::{FromRead, Sink};
-use tp_logs::Logs;
 use tp_files::{CallFault, FaultLine, Files, OUT_OF_ORDER, Outlet, complain, refuse_call};
+use tp_logs::Logs;
 
 /// What a run came to: its exit status, and the writers. The output is gone where the last of it could not be handed on.
 #[derive(Drop)]
@@ -126,7 +126,8 @@ fn run_counted<
     requires f { faults.blank.name ≡ F.name }
     requires f_parts { faults.blank.parts ≡ F.parts }
     requires f_some { 0 < faults.blank.parts }
-    ensures { Ends (map string_bytes words.now) (call_files (N.held files.old) N.blank (N.named files.new) (N.kept files.new)) (R.remaining input.stream)
+    ensures { Ends (map string_bytes words.now) (call_files (N.held files.old) N.blank
+        (N.named files.new) (N.kept files.new)) (R.remaining input.stream)
         (line_writer_contents W.contents output.stream) (V.contents faults.stream) W.contents
         result.status result.output (V.contents result.faults) }
 {
@@ -181,9 +182,9 @@ pub fn run_streams<N: Files + Logs, R: Read + Drop, W: Write + Drop, V: Write + 
     output: W,
     faults: V,
 ) -> Ended<W, V>
-    ensures { Ends (map string_bytes words.now) (call_files (N.held files.old) N.blank (N.named files.new) (N.kept files.new)) (R.remaining input)
-        (W.contents output) (V.contents faults) W.contents result.status result.output
-        (V.contents result.faults) }
+    ensures { Ends (map string_bytes words.now) (call_files (N.held files.old) N.blank
+        (N.named files.new) (N.kept files.new)) (R.remaining input) (W.contents output)
+        (V.contents faults) W.contents result.status result.output (V.contents result.faults) }
 {
     let input = Counted::new(input);
     let faults = Counted::new(faults);

@@ -33,9 +33,11 @@ pub fn run_words<N: Files + Logs, I: Source + Drop, O: Sink, F: Sink>(
     output: &mut O,
     faults: &mut F,
 ) -> u8
-    ensures done { result ≡ 0 → DoesWhatIsAsked (map string_bytes words.now) (call_files (N.held files.old) N.blank (N.named files.new) (N.kept files.new))
+    ensures done { result ≡ 0 → DoesWhatIsAsked (map string_bytes words.now)
+        (call_files (N.held files.old) N.blank (N.named files.new) (N.kept files.new))
         (I.left input) (O.held output.old) (O.held output.new) }
-    ensures no { result ≡ 1 → AnswersNo (map string_bytes words.now) (call_files (N.held files.old) N.blank (N.named files.new) (N.kept files.new))
+    ensures no { result ≡ 1 → AnswersNo (map string_bytes words.now)
+        (call_files (N.held files.old) N.blank (N.named files.new) (N.kept files.new))
         (I.left input) (O.held output.old) (O.held output.new) }
 
     // Of a network of bounds alone all is answered, or where the status tells otherwise a first part.
@@ -53,14 +55,15 @@ pub fn run_words<N: Files + Logs, I: Source + Drop, O: Sink, F: Sink>(
         (F.failures faults.new) (F.held faults.new) }
 
     // What stopped the call is told, and is as it is told.
-    ensures stopped { 2 ≤ result
-        → EndsCall (map string_bytes words.now) (call_files (N.held files.old) N.blank (N.named files.new) (N.kept files.new)) (I.left input) result
+    ensures stopped { 2 ≤ result → EndsCall (map string_bytes words.now) (call_files
+        (N.held files.old) N.blank (N.named files.new) (N.kept files.new)) (I.left input) result
         (O.held output.old) (O.held output.new) (O.failures output.old) (O.failures output.new)
         (F.failures faults.old) (F.held faults.old) (F.failures faults.new) (F.held faults.new) }
 
     // Where memory or a device is wanting, a first part of what is asked for is written, or nothing.
     ensures broken { result ≡ OUT_OF_ORDER → DoesPart (map string_bytes words.now)
-        (call_files (N.held files.old) N.blank (N.named files.new) (N.kept files.new)) (I.left input) (O.held output.old) (O.held output.new) }
+        (call_files (N.held files.old) N.blank (N.named files.new) (N.kept files.new))
+        (I.left input) (O.held output.old) (O.held output.new) }
 
     // Where no answers to commands are asked for, nothing is written for what is refused.
     ensures kept { AsksForNoCommands (map string_bytes words.now) → result ≡ REFUSED

@@ -4,11 +4,14 @@ use std::alloc::Global;
 
 const WORDS: &[&str] = &["bare", "--journal", "night.log"];
 
-const COMMANDS: &str = "network 2 100\nadd o 0 10\nadd 0 o -3\n\nwindow 0\nwindow  01 \nadd 0 o -11\nwindo 0\nadd o 1 7";
+const COMMANDS: &str =
+    "network 2 100\nadd o 0 10\nadd 0 o -3\n\nwindow 0\nwindow  01 \nadd 0 o -11\nwindo 0\nadd o 1 7";
 
-const ANSWERS: &str = "bound 0\nbound 1\nwindow 3 10\nwindow 0 100\nrefused conflict new b0\nrefused line\nbound 2\n";
+const ANSWERS: &str =
+    "bound 0\nbound 1\nwindow 3 10\nwindow 0 100\nrefused conflict new b0\nrefused line\nbound 2\n";
 
-const JOURNAL: &str = "journal 2\nnetwork 2 100\nbare\n> add o 0 10\n< bound 0\n> add 0 o -3\n< bound 1\n\
+const JOURNAL: &str =
+    "journal 2\nnetwork 2 100\nbare\n> add o 0 10\n< bound 0\n> add 0 o -3\n< bound 1\n\
                        > window 0\n< window 3 10\n> window 1\n< window 0 100\n> add 0 o -11\n\
                        < refused conflict new b0\n> ?\n< refused line\n> add o 1 7\n< bound 2\n";
 
@@ -16,7 +19,8 @@ const LATE: &str = "network 2 10\nlag 0 3\nadd o 0 2\nadvance 6\nadvance 5\nhapp
 
 const LATE_ANSWERS: &str = "bound 0\nrefused conflict now0 b0\nok\nok\n";
 
-const LATE_JOURNAL: &str = "journal 2\nnetwork 2 10\nbare\nlag 0 3\n> add o 0 2\n< bound 0\n> advance 6\n\
+const LATE_JOURNAL: &str =
+    "journal 2\nnetwork 2 10\nbare\nlag 0 3\n> add o 0 2\n< bound 0\n> advance 6\n\
                             < refused conflict now0 b0\n> advance 5\n< ok\n> happened 0 2\n< ok\n";
 
 /// Two commands, of which the second is cut short by a device.
@@ -37,13 +41,34 @@ const ROWS: [Row; 8] = [
     // lags stand in the head
     (LATE, Some(1_000), Some(LATE_JOURNAL), LATE_ANSWERS, "", 0),
     // no line behind the head
-    ("network 0 0", Some(100), Some("journal 2\nnetwork 0 0\nbare\n"), "", "", 0),
+    (
+        "network 0 0",
+        Some(100),
+        Some("journal 2\nnetwork 0 0\nbare\n"),
+        "",
+        "",
+        0,
+    ),
     // the file can't be made
     (COMMANDS, None, None, "", "fault script 6 log\n", 3),
     // no head, and so no journal
-    ("advance 4\n", Some(100), Some(""), "", "fault script 5 head\n", 2),
+    (
+        "advance 4\n",
+        Some(100),
+        Some(""),
+        "",
+        "fault script 5 head\n",
+        2,
+    ),
     // a lag that does not fit
-    ("network 1 5\nlag 1 2\n", Some(100), Some(""), "", "fault script 5 head\n", 2),
+    (
+        "network 1 5\nlag 1 2\n",
+        Some(100),
+        Some(""),
+        "",
+        "fault script 5 head\n",
+        2,
+    ),
     // no room for the head
     (TWO, Some(0), Some(""), "", "fault script 6 log\n", 3),
     // no room for the second pair, whose answer does not go out
@@ -99,7 +124,14 @@ fn is_audited(alloc: Global, journal: &str, answer: &str) -> bool {
         status: 0,
     };
     let stored = [("night.log", journal.as_bytes())];
-    gives(alloc, &["audit", "night.log"], &stored, whole(""), WIDE, told)
+    gives(
+        alloc,
+        &["audit", "night.log"],
+        &stored,
+        whole(""),
+        WIDE,
+        told,
+    )
 }
 
 #[test]
