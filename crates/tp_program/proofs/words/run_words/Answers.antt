@@ -40,6 +40,15 @@ returns-in-Ok-BareLog-clause-stopped g c =
     λ two.
     inr (inr (BareLog c.in-Ok-BareLog.log, rw c.in-Ok-BareLog.field-0-is at c.in-Ok-BareLog.ensures.asked, c.run_bare_journal.ensures.ends (λ none. omega (arith, two, none))))
 
+pub returns-in-Ok-BareLog-clause-done : goal.returns-in-Ok-BareLog-clause-done
+returns-in-Ok-BareLog-clause-done g c =
+    λ zero.
+    record {
+      request = BareLog c.in-Ok-BareLog.log;
+      asked = rw c.in-Ok-BareLog.field-0-is at c.in-Ok-BareLog.ensures.asked;
+      done = (c.run_bare_journal.ensures.all zero, c.run_bare_journal.ensures.named zero);
+    }
+
 pub returns-in-Ok-BareLog-clause-broken : goal.returns-in-Ok-BareLog-clause-broken
 returns-in-Ok-BareLog-clause-broken g c =
     λ three.
