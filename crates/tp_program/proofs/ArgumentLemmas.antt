@@ -1,5 +1,5 @@
 -- What a parse asks for.
-use Rattle.std.proofs.Common.{◌≡◌, ◌∙◌, ◌⊎◌, ap, arith, ℕ, ◌∷◌, inl, inr, refl, sym, subst, List, [], Option, Some, None, true, codes}
+use Rattle.std.proofs.Common.{◌≡◌, ◌∙◌, ◌⊎◌, ap, ap₂, arith, ℕ, ◌∷◌, inl, inr, refl, sym, subst, List, [], Option, Some, None, true, codes}
 use Rattle.std.specs.Prelude.{Box, Result, Ok, Err, if◌then◌else◌, nat_eq, option_map}
 use Rattle.std.specs.Box.{box_value}
 use Rattle.clap.specs.Words.{FailsBy, IsAmong, ReadsOne, Row, Text, fault_of, first_of, one_of, one_text, is_simple, is_simple_and_free, kind_of, rows_of, subcommand_name_of, subcommand_of, subcommand_rows, subcommand_rows_of}
@@ -197,10 +197,13 @@ abbrev named_command : Option (Text × List Row) → Text
 named_command None = codes "bare"
 named_command (Some named) = named.0
 
--- of the commands that take one, the file for a journal
+-- the file for a journal, of the command that takes one
+abbrev journal_of : Text → Option Text → Option Text
+journal_of name given = if nat_eq (first_letter name) 98 then given else None
+
 abbrev named_journal : Option (Text × List Row) → Option Text
 named_journal None = None
-named_journal (Some named) = if nat_eq (first_letter named.0) 98 then first_of (codes "journal") named.1 else None
+named_journal (Some named) = journal_of named.0 (first_of (codes "journal") named.1)
 
 -- a text where the words are without a fault
 abbrev when_free : List ErrorKind → Option Text → Option Text
@@ -222,7 +225,7 @@ bare_command_is (Some named) h = ap Some (sym h.0)
 
 bare_journal_is : (named : Option (Text × List Row)) → NamesBare named → None ≡ named_journal named
 bare_journal_is None h = refl
-bare_journal_is (Some named) h = rw (h.0, h.1) refl
+bare_journal_is (Some named) h = sym (ap₂ journal_of h.0 h.1)
 
 command_is : (named : Option (Text × List Row)) (name : Text) (rows : List Row) → named ≡ Some (name, rows) → Some name ≡ Some (named_command named)
 command_is named name rows is = ap Some (sym (ap named_command is))
