@@ -1,21 +1,18 @@
 -- Each answer of the machine, as it is written, has the form of an answer, and each question is read as its command.
-use Rattle.std.proofs.Common.{◌≡◌, cond, ℕ, zero, suc, ◌+◌, ◌^◌, ◌%◌, ◌<◌, ◌≤◌, Bool, true, false, ◌&&◌, IsTrue, List, [], ◌∷◌, ◌++◌, length, slice_get, get_or, is_some, Option, Some, None, MatchOption, refl, ap, sym, subst, ◌∙◌, arith, rules, append-nil, append_assoc, length-append, flat_map, decimal, codes}
-use Rattle.std.specs.Prelude.{nat_eq, nat_lt, nat_le, not, drop}
+use Rattle.std.proofs.Common.{◌≡◌, cond, ℕ, zero, suc, ◌+◌, ◌^◌, ◌%◌, ◌<◌, ◌≤◌, Bool, true, false, ◌&&◌, List, [], ◌∷◌, ◌++◌, length, slice_get, get_or, is_some, Option, Some, None, refl, ap, sym, subst, ◌∙◌, arith, append-nil, append_assoc, flat_map, decimal, codes}
+use Rattle.std.specs.Prelude.{nat_eq, nat_lt, nat_le, not}
 use Rattle.std.specs.FinMap.{get, len}
 use Rattle.std.specs.List.{list_all}
-use Rattle.std.specs.Option.{option_and_then}
 use Rattle.std.specs.Str.{bytes_eq}
 use Rattle.std.proofs.lemmas.Fmt.{decimal_by_steps, decimal_nonempty}
 use Rattle.std.proofs.lemmas.Slice.Eq.{bytes_eq-Decides}
-use Rattle.std.proofs.lemmas.Grind.{common_steps}
 use Rattle.std.proofs.lemmas.Bool.Decides.{nat_tests}
-use Rattle.tp_bounds.specs.declared.Bound.{Bound}
 use Rattle.tp_bounds.specs.declared.Edge.{Edge}
 use Rattle.tp_bounds.specs.declared.Edge.TheVariants.{Own, New, PastHigh, PastLow, Now, End}
 use Rattle.tp_bounds.specs.declared.Reason.{Reason}
 use Rattle.tp_bounds.specs.Reasons.{BeginsWith}
 use Rattle.tp_bounds.specs.Setting.{Setting, event_count, fixed_at, floor_of}
-use Rattle.tp_bounds.specs.Schedule.{IsSchedule, IsWindow}
+use Rattle.tp_bounds.specs.Schedule.{IsSchedule}
 use Rattle.tp_bounds.specs.Lawful.{IsLawful}
 use Rattle.tp_exec.specs.declared.command.Command.{Command}
 use Rattle.tp_exec.specs.declared.command.Command.TheVariants.{Advance, Add, Withdraw, Window, Dispatch, Happened, Report as Tell}
@@ -27,23 +24,22 @@ use Rattle.tp_exec.specs.declared.command.Report.{Report}
 use Rattle.tp_exec.specs.declared.refusal.Refusal.{Refusal}
 use Rattle.tp_exec.specs.declared.refusal.Refusal.TheVariants.{NoEvent, Done, NoBound, Weight, Back, Moment, Full, Spent, Memory, Conflict}
 use Rattle.tp_exec.specs.Machine.{Machine}
-use Rattle.tp_exec.specs.Step.{Step, Decides, Refuses, Tells, IsReport, AreMoments, first_refusal, is_point_of, is_in_range, accepted, asked, brings}
-use Rattle.tp_script.specs.Words.{words_of, is_digit}
-use Rattle.tp_script.specs.Commands.{moment_of, list_is_empty, command_of}
+use Rattle.tp_exec.specs.Step.{Step, Decides, Refuses, Tells, AreMoments, first_refusal, is_point_of, is_in_range, brings}
+use Rattle.tp_script.specs.Words.{words_of}
+use Rattle.tp_script.specs.Commands.{list_is_empty}
 use Rattle.tp_script.specs.Transcript.{answer_text, edge_text, kind_text, moment_text}
 use Rattle.tp_script.specs.Written.{command_text, IsSpelled}
 use Rattle.tp_script.proofs.SpellLemmas.{Solid, Gap as Blank, word_then, solid_then, solid_more, decimal_solid, decimal_then, moment_back}
 use Rattle.tp_script.proofs.ReadBack.{read_again}
-use Rattle.tp_journal.specs.Edges.{Fits_edge, Fit_edges, edge_of, front_of, last_of, begins}
+use Rattle.tp_journal.specs.Edges.{Fits_edge, Fit_edges, last_of}
 use Rattle.tp_journal.specs.Journal.{question_line, answer_line, Has}
 use Rattle.tp_journal.specs.Sound.{IsSound}
 use Rattle.tp_journal.proofs.Verdicts.{refused_step, decided_step}
 use Rattle.tp_journal.proofs.EdgeTexts.{fits_reason, edge_back, edge_word, gap_next, front_back, last_back}
-use Rattle.tp_audit.specs.declared.form.Asked.{Asked}
 use Rattle.tp_audit.specs.declared.form.Asked.TheVariants.{Nothing, Told}
 use Rattle.tp_audit.specs.declared.form.Mark.{Mark}
-use Rattle.tp_audit.specs.declared.form.Mark.TheVariants.{Gap, Zero, Digit, Other}
-use Rattle.tp_audit.specs.Form.{mark_after, is_neat, is_moment_word, is_edge_word, is_kind_word, is_kind_and, is_report_from, is_answer_from, is_reply, has_command, one_command, question_of}
+use Rattle.tp_audit.specs.declared.form.Mark.TheVariants.{Other}
+use Rattle.tp_audit.specs.Form.{mark_after, is_moment_word, is_edge_word, is_kind_word, is_answer_from, is_reply, has_command, one_command, question_of}
 use Rattle.tp_audit.proofs.NeatTexts.{Tidy, AllTidy, tidy_neat, tidy_join, tidy_all, tidy_number, number_behind, letter_behind}
 
 reply_of : (text : List ℕ) → Tidy text → is_answer_from (words_of text) ≡ true → is_reply (codes "< " ++ text) ≡ true
@@ -51,7 +47,7 @@ reply_of text t form = rw (tidy_neat text t, form) refl
 
 -- ---- numbers and moments
 
-number_word : (n : ℕ) → n < 2 ^ 64 → words_of (decimal n) ≡ decimal n ∷ []
+pub number_word : (n : ℕ) → n < 2 ^ 64 → words_of (decimal n) ≡ decimal n ∷ []
 number_word n small = ap words_of (sym (append-nil (decimal n))) ∙ decimal_then n [] small tt
 
 named_form : (n : ℕ) → n < 2 ^ 32 → is_reply (codes "< " ++ answer_text (Named (record { 0 = n }))) ≡ true
@@ -60,7 +56,7 @@ named_form n small =
     (ap is_answer_from (word_then 98 (codes "ound") (32 ∷ decimal n) refl (refl, (refl, (refl, (refl, tt)))) refl ∙ ap (λ (ws : List (List ℕ)). codes "bound" ∷ ws) (number_word n (omega arith)))
     ∙ rw (moment_back n (omega arith)) refl)
 
-two_words : (a b : ℕ) → a < 2 ^ 64 → b < 2 ^ 64 → words_of (decimal a ++ 32 ∷ decimal b) ≡ decimal a ∷ decimal b ∷ []
+pub two_words : (a b : ℕ) → a < 2 ^ 64 → b < 2 ^ 64 → words_of (decimal a ++ 32 ∷ decimal b) ≡ decimal a ∷ decimal b ∷ []
 two_words a b p q = decimal_then a (32 ∷ decimal b) p refl ∙ ap (λ (ws : List (List ℕ)). decimal a ∷ ws) (number_word b q)
 
 window_same : (a b : ℕ) → answer_text (Shown a b) ≡ codes "window " ++ (decimal a ++ 32 ∷ decimal b)
@@ -124,7 +120,7 @@ conflict_form P reason first fit =
 abbrev moment_word : ℕ × Bool → List ℕ
 moment_word p = decimal p.0 ++ cond p.1 (codes "!") []
 
-abbrev AreSoon : List (ℕ × Bool) → Type 0
+abbrev pub AreSoon : List (ℕ × Bool) → Type 0
 AreSoon [] = Unit {0}
 AreSoon (p ∷ ps) = (p.0 ≤ 1_000_000_000) × AreSoon ps
 
@@ -174,7 +170,7 @@ moments_form (p ∷ ps) h =
     ap (list_all is_moment_word) (solid_then (moment_word p) (flat_map moment_text ps) (some_letters (decimal p.0) (cond p.1 (codes "!") []) (decimal_nonempty p.0 small)) (solid_more (decimal p.0) (cond p.1 (codes "!") []) (decimal_solid p.0 small) (mark_solid p.1)) (gap_moments ps))
     ∙ (ap (λ t. t && list_all is_moment_word (words_of (flat_map moment_text ps))) (moment_form p.0 p.1 h.0) ∙ moments_form ps h.1)
 
-soon : (s : Setting) (t : ℕ → ℕ) (e : ℕ) → IsLawful s → IsSchedule s t → e < event_count s → t e ≤ 1_000_000_000
+pub soon : (s : Setting) (t : ℕ → ℕ) (e : ℕ) → IsLawful s → IsSchedule s t → e < event_count s → t e ≤ 1_000_000_000
 soon s t e lawful is there = by_past (fixed_at s e) refl
   where
     by_past : (o : Option ℕ) → fixed_at s e ≡ o → t e ≤ 1_000_000_000
@@ -190,7 +186,7 @@ soon_each : (ps : List (ℕ × Bool)) → ((k : ℕ) (p : ℕ × Bool) → slice
 soon_each [] h = tt
 soon_each (p ∷ ps) h = (h 0 p refl, soon_each ps (λ k q is. h (suc k) q is))
 
-are_soon : (s : Setting) (ps : List (ℕ × Bool)) → IsLawful s → AreMoments s ps → AreSoon ps
+pub are_soon : (s : Setting) (ps : List (ℕ × Bool)) → IsLawful s → AreMoments s ps → AreSoon ps
 are_soon s ps lawful h =
     soon_each ps (λ k p is. (
     let there : k < event_count s = omega (arith, in_list ps k p is, h.count) in
@@ -239,7 +235,7 @@ report_form r le all =
 
 -- ---- refusals without a reason
 
-abbrev IsPlain : Refusal → Type 0
+abbrev pub IsPlain : Refusal → Type 0
 IsPlain NoEvent = Unit {0}
 IsPlain Done = Unit {0}
 IsPlain NoBound = Unit {0}
@@ -263,7 +259,7 @@ plain_form Spent h = refl
 plain_form Memory h = refl
 plain_form (Conflict reason) h = absurd h
 
-abbrev Plain : Option Refusal → Type 0
+abbrev pub Plain : Option Refusal → Type 0
 Plain None = Unit {0}
 Plain (Some r) = IsPlain r
 
@@ -271,7 +267,7 @@ plain_if : (b : Bool) (o u : Option Refusal) → Plain o → Plain u → Plain (
 plain_if true o u p q = p
 plain_if false o u p q = q
 
-first_plain : (m : Machine) (c : Command) → Plain (first_refusal m c)
+pub first_plain : (m : Machine) (c : Command) → Plain (first_refusal m c)
 first_plain m (Advance to) = plain_if (nat_lt to m.setting.clock) _ _ (tt {0}) (plain_if (nat_lt m.setting.horizon to) _ _ (tt {0}) (tt {0}))
 first_plain m (Add b) =
     plain_if (not (is_point_of (event_count m.setting) b.from && is_point_of (event_count m.setting) b.to)) _ _ (tt {0})
@@ -291,7 +287,7 @@ first_plain m Tell = tt
 
 -- ---- each answer
 
-named_is : (m : Machine) (c : Command) (n : ℕ) → Tells m c (Named (record { 0 = n })) → n ≡ m.next
+pub named_is : (m : Machine) (c : Command) (n : ℕ) → Tells m c (Named (record { 0 = n })) → n ≡ m.next
 named_is m (Advance to) n h = absurd h
 named_is m (Add b) n h = h
 named_is m (Withdraw id) n h = absurd h
@@ -300,7 +296,7 @@ named_is m (Dispatch e) n h = absurd h
 named_is m (Happened e t) n h = absurd h
 named_is m Tell n h = absurd h
 
-there_is : (n e : ℕ) → cond (nat_lt e n) None (Some NoEvent) ≡ None → e < n
+pub there_is : (n e : ℕ) → cond (nat_lt e n) None (Some NoEvent) ≡ None → e < n
 there_is n e h = by_case (nat_lt e n) refl h
   where
     by_case : (b : Bool) → nat_lt e n ≡ b → cond b None (Some NoEvent) ≡ None → e < n

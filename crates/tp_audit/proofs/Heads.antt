@@ -38,7 +38,7 @@ turn_of place version line head number old new (Err Head) took m = inl (line, to
 -- ---- lines behind lines
 
 pub behind_none : (r : Reading) → IsBehind r r []
-behind_none r = record { took = none r.rest; free = All-nil Free; short = All-nil (λ line. length line ≤ longest_line) }
+behind_none r = record { took = none r.rest; free = All-nil Free; short = All-nil (λ line. length line ≤ longest_line); counted = omega arith }
   where
     none : (o : Option (List ℕ)) → Consumes o o []
     none None = tt
@@ -53,6 +53,7 @@ behind_more start mid new seen line b t =
       took = consumes_is start.rest new.rest (text_of seen ++ (line ++ 10 ∷ [])) (text_of (seen ++ line ∷ [])) (text_one seen line) (consumes_more start.rest mid.rest new.rest (text_of seen) (line ++ 10 ∷ []) b.took t.took);
       free = All-push Free seen line b.free t.free;
       short = All-push (λ l. length l ≤ longest_line) seen line b.short t.short;
+      counted = omega (arith, b.counted, t.counted, ap length (text_one seen line), length-append (text_of seen) (line ++ 10 ∷ []), length-append line (10 ∷ []));
     }
 
 then_place : (o : Option Place) (line : List ℕ) (q r : Place) (f : Place → Option Place) → o ≡ Some q → f q ≡ Some r → option_and_then f o ≡ Some r
@@ -109,6 +110,7 @@ breaks_line start mid new seen place number n b reached count h =
                   took = consumes_more start.rest mid.rest new.rest (text_of seen) c.0.text b.took c.0.took;
                   number = h.0 ∙ count;
                   more = c.1;
+                  counted = omega (arith, b.counted, c.0.counted, length-append (text_of seen) c.0.text);
                   all = c.2;
                 })
           ]
@@ -215,7 +217,7 @@ head_asks old start mid new version count place left asked allowed h turn =
 
 pub ends_behind : (start mid new : Reading) (seen : List (List ℕ)) → IsBehind start mid seen → Ends mid new → IsBehind start new seen
 ends_behind start mid new seen b e =
-    record { took = consumes_is start.rest new.rest (text_of seen ++ []) (text_of seen) (append-nil (text_of seen)) (consumes_more start.rest mid.rest new.rest (text_of seen) [] b.took e.took); free = b.free; short = b.short }
+    record { took = consumes_is start.rest new.rest (text_of seen ++ []) (text_of seen) (append-nil (text_of seen)) (consumes_more start.rest mid.rest new.rest (text_of seen) [] b.took e.took); free = b.free; short = b.short; counted = e.counted ∙ b.counted }
 
 pub head_stops : (old : Machine) (start mid new : Reading) (version count : ℕ) (place : Place) (left : List ℕ) → IsHead (head_of version old) → HeadSoFar old start mid version count place left → TurnsHead place version left (count + 1) mid new (Ok Stops) → HasHead old start new (record { version = version; count = count; asked = None })
 head_stops old start mid new version count place left allowed h turn =

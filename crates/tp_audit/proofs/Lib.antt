@@ -8,3 +8,12 @@ pub mod Told
 pub mod NeatTexts
 pub mod AnswerForms
 pub mod PairForms
+pub mod HeadForms
+pub mod FitAnswers
+pub mod CleanTexts
+pub mod WholeLines
+pub mod OneRuns
+pub mod OtherHeads
+pub mod Accepted
+pub mod FewEdges
+pub mod LineSizes

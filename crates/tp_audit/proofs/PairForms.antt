@@ -1,7 +1,7 @@
 -- The lines of the pairs of a run are pairs of lines of the format.
-use Rattle.std.proofs.Common.{◌≡◌, cond, ℕ, ◌+◌, ◌^◌, ◌<◌, ◌≤◌, Bool, true, false, ◌&&◌, List, [], ◌∷◌, ◌++◌, Option, Some, None, MatchOption, refl, ap, sym, subst, ◌∙◌, arith, is_some, flat_map}
+use Rattle.std.proofs.Common.{◌≡◌, cond, ℕ, ◌+◌, ◌^◌, ◌<◌, ◌≤◌, Bool, true, false, ◌&&◌, List, [], ◌∷◌, Option, Some, None, MatchOption, refl, ap, sym, subst, ◌∙◌, arith, is_some, flat_map}
 use Rattle.std.specs.Prelude.{nat_lt, nat_le, not, ℤ, pos, ◌-ℤ◌, int_le}
-use Rattle.std.specs.FinMap.{get, len}
+use Rattle.std.specs.FinMap.{len}
 use Rattle.std.specs.Option.{option_map, option_and_then}
 use Rattle.std.proofs.lemmas.Bool.Decides.{nat_tests}
 use Rattle.std.proofs.lemmas.Int.{ints}
@@ -16,18 +16,15 @@ use Rattle.tp_exec.specs.declared.command.Command.TheVariants.{Advance, Add, Wit
 use Rattle.tp_exec.specs.declared.command.Answer.{Answer}
 use Rattle.tp_exec.specs.declared.command.Answer.TheVariants.{Accepted, Named, Told as Shown, Reported, Refused}
 use Rattle.tp_exec.specs.declared.refusal.Refusal.{Refusal}
-use Rattle.tp_exec.specs.declared.refusal.Refusal.TheVariants.{NoEvent, Done, NoBound, Weight, Back, Moment, Full, Spent, Memory, Conflict}
+use Rattle.tp_exec.specs.declared.refusal.Refusal.TheVariants.{NoEvent, Done, Weight, Back, Moment, Full, Spent}
 use Rattle.tp_exec.specs.Machine.{Machine}
 use Rattle.tp_exec.specs.Step.{Step, Decides, first_refusal, accepted, is_point_of, is_in_range}
 use Rattle.tp_script.specs.Written.{IsSpelled}
 use Rattle.tp_journal.specs.Journal.{Entry, question_line, answer_line, pair_lines, Has, Runs}
 use Rattle.tp_journal.specs.Sound.{IsSound}
 use Rattle.tp_journal.proofs.SoundLemmas.{step_sound}
-use Rattle.tp_audit.specs.declared.form.Asked.{Asked}
-use Rattle.tp_audit.specs.declared.form.Asked.TheVariants.{Nothing, Told}
-use Rattle.tp_audit.specs.declared.form.Place.{Place}
 use Rattle.tp_audit.specs.declared.form.Place.TheVariants.{Question, Reply}
-use Rattle.tp_audit.specs.Form.{question_of, is_reply, next_place, place_after}
+use Rattle.tp_audit.specs.Form.{next_place, place_after}
 use Rattle.tp_audit.specs.Laws.{IsWithin}
 use Rattle.tp_audit.proofs.AnswerForms.{has_the_form, question_read}
 
@@ -69,23 +66,29 @@ record Within (s : Setting) (given most : ℕ) : Type 0 where
   pub lawful : IsLawful s
   pub next : given ≤ most
 
+-- a bound that may be added suits the setting
+pub suits_there : (m : Machine) (b : Bound) → first_refusal m (Add b) ≡ None → Suits m.setting b
+suits_there m b none =
+    let p = not_so (not (is_point_of (event_count m.setting) b.from && is_point_of (event_count m.setting) b.to)) NoEvent (cond (not (is_in_range b.w)) (Some Weight) (cond (nat_le m.limits.bounds (len m.setting.bounds)) (Some Full) (cond (nat_le m.limits.ids m.next) (Some Spent) None))) none in
+    let q = not_so (not (is_in_range b.w)) Weight (cond (nat_le m.limits.bounds (len m.setting.bounds)) (Some Full) (cond (nat_le m.limits.ids m.next) (Some Spent) None)) p.1 in
+    let ends = both_true (is_point_of (event_count m.setting) b.from) (is_point_of (event_count m.setting) b.to) p.0 in
+    record { from = point_there m.setting b.from ends.0; to = point_there m.setting b.to ends.1; weight = in_range b.w (is_not (is_in_range b.w) q.0) }
+
 added : (m : Machine) (b : Bound) → IsWithin m → first_refusal m (Add b) ≡ None → Within ((accepted m (Add b)).setting) (m.next + 1) m.limits.ids
 added m b h none =
     let p = not_so (not (is_point_of (event_count m.setting) b.from && is_point_of (event_count m.setting) b.to)) NoEvent (cond (not (is_in_range b.w)) (Some Weight) (cond (nat_le m.limits.bounds (len m.setting.bounds)) (Some Full) (cond (nat_le m.limits.ids m.next) (Some Spent) None))) none in
     let q = not_so (not (is_in_range b.w)) Weight (cond (nat_le m.limits.bounds (len m.setting.bounds)) (Some Full) (cond (nat_le m.limits.ids m.next) (Some Spent) None)) p.1 in
     let r = not_so (nat_le m.limits.bounds (len m.setting.bounds)) Full (cond (nat_le m.limits.ids m.next) (Some Spent) None) q.1 in
     let t = not_so (nat_le m.limits.ids m.next) Spent None r.1 in
-    let ends = both_true (is_point_of (event_count m.setting) b.from) (is_point_of (event_count m.setting) b.to) p.0 in
-    let suits : Suits m.setting b = record { from = point_there m.setting b.from ends.0; to = point_there m.setting b.to ends.1; weight = in_range b.w (is_not (is_in_range b.w) q.0) } in
-    record { lawful = lawful_put m.setting m.next b h.lawful suits; next = grind (arith, nat_tests, t.0) }
+    record { lawful = lawful_put m.setting m.next b h.lawful (suits_there m b none); next = grind (arith, nat_tests, t.0) }
 
-dispatched : (m : Machine) (e : ℕ) → IsWithin m → first_refusal m (Dispatch e) ≡ None → IsLawful ((accepted m (Dispatch e)).setting)
+pub dispatched : (m : Machine) (e : ℕ) → IsWithin m → first_refusal m (Dispatch e) ≡ None → IsLawful ((accepted m (Dispatch e)).setting)
 dispatched m e h none =
     let p = so (nat_lt e (event_count m.setting)) NoEvent (cond (is_some (fixed_at m.setting e)) (Some Done) None) none in
     let there : e < event_count m.setting = grind (arith, nat_tests, p.0) in
     lawful_fixed m.setting e m.setting.clock h.lawful there h.lawful.in_time
 
-happened : (m : Machine) (e t : ℕ) → IsWithin m → first_refusal m (Happened e t) ≡ None → IsLawful ((accepted m (Happened e t)).setting)
+pub happened : (m : Machine) (e t : ℕ) → IsWithin m → first_refusal m (Happened e t) ≡ None → IsLawful ((accepted m (Happened e t)).setting)
 happened m e t h none =
     let p = not_so (not (nat_lt e (event_count m.setting))) NoEvent (cond (is_some (fixed_at m.setting e)) (Some Done) (cond (nat_lt t (floor_of m.setting e)) (Some Back) (cond (nat_lt m.setting.clock t) (Some Moment) None))) none in
     let q = not_so (is_some (fixed_at m.setting e)) Done (cond (nat_lt t (floor_of m.setting e)) (Some Back) (cond (nat_lt m.setting.clock t) (Some Moment) None)) p.1 in
@@ -96,7 +99,7 @@ happened m e t h none =
     let by_now : t ≤ m.setting.clock = grind (arith, nat_tests, u.0) in
     lawful_fixed m.setting e t h.lawful there (omega (arith, by_now, h.lawful.in_time))
 
-advanced : (m : Machine) (t : ℕ) → IsWithin m → first_refusal m (Advance t) ≡ None → IsLawful ((accepted m (Advance t)).setting)
+pub advanced : (m : Machine) (t : ℕ) → IsWithin m → first_refusal m (Advance t) ≡ None → IsLawful ((accepted m (Advance t)).setting)
 advanced m t h none =
     let p = not_so (nat_lt t m.setting.clock) Back (cond (nat_lt m.setting.horizon t) (Some Moment) None) none in
     let q = not_so (nat_lt m.setting.horizon t) Moment None p.1 in
@@ -121,7 +124,7 @@ decided_within m new c (Shown low high) h none sound d = subst IsWithin (sym d.2
 decided_within m new c (Reported r) h none sound d = subst IsWithin (sym d.2) (accepted_within m c h none (subst IsSound d.2 sound))
 decided_within m new c (Refused r) h none sound d = subst IsWithin (sym d.1) h
 
-step_within : (m new : Machine) (c : Command) (a : Answer) → IsWithin m → Step m c a new → IsWithin new
+pub step_within : (m new : Machine) (c : Command) (a : Answer) → IsWithin m → Step m c a new → IsWithin new
 step_within m new c a h step = by_refusal (first_refusal m c) refl step
   where
     by_refusal : (o : Option Refusal) → first_refusal m c ≡ o → MatchOption o (Decides m c a new) (λ r. (a ≡ Refused r) × (new ≡ m)) → IsWithin new

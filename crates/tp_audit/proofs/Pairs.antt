@@ -238,7 +238,7 @@ free_last seen line all = (let n : length (seen ++ line ∷ []) ≡ length seen 
     last_of_push : (xs : List (List ℕ)) (x : List ℕ) → get_or (xs ++ x ∷ []) (length xs) [] ≡ x
     last_of_push xs x = grind (arith, common_steps)
 
-no_mark : (command : Command) → codes "> ?" ≡ codes "> " ++ command_text command → ⊥
+pub no_mark : (command : Command) → codes "> ?" ≡ codes "> " ++ command_text command → ⊥
 no_mark (Advance to) is = let e : ◌≡◌ {A = ℕ} 63 97 = cc in let f : ⊥ = omega (arith, e) in f
 no_mark (Add b) is = let e : ◌≡◌ {A = ℕ} 63 97 = cc in let f : ⊥ = omega (arith, e) in f
 no_mark (Withdraw id) is = let e : ◌≡◌ {A = ℕ} 63 119 = cc in let f : ⊥ = omega (arith, e) in f
@@ -247,7 +247,7 @@ no_mark (Dispatch k) is = let e : ◌≡◌ {A = ℕ} 63 100 = cc in let f : ⊥
 no_mark (Happened k moment) is = let e : ◌≡◌ {A = ℕ} 63 104 = cc in let f : ⊥ = omega (arith, e) in f
 no_mark Report is = let e : ◌≡◌ {A = ℕ} 63 114 = cc in let f : ⊥ = omega (arith, e) in f
 
-one_asked : (c d : Command) → IsSpelled c → IsSpelled d → codes "> " ++ command_text c ≡ codes "> " ++ command_text d → c ≡ d
+pub one_asked : (c d : Command) → IsSpelled c → IsSpelled d → codes "> " ++ command_text c ≡ codes "> " ++ command_text d → c ≡ d
 one_asked c d p q is =
     let same : command_text c ≡ command_text d = ap (drop 2) is in
     let e : Some c ≡ Some d = sym (read_again c p) ∙ (ap command_of same ∙ read_again d q) in

@@ -63,6 +63,7 @@ pub record IsBehind (start now : Reading) (before : List (List ℕ)) : Type 0 wh
   pub took : Consumes start.rest now.rest (text_of before)
   pub free : All Free before
   pub short : All (λ line. length line ≤ longest_line) before
+  pub counted : now.taken ≡ start.taken + length (text_of before)
 
 -- ---- a line that breaks the format
 
@@ -96,6 +97,7 @@ pub record CutsAt (start after : Reading) (n : ℕ) : Type 0 where
   pub took : Consumes start.rest after.rest (text_of before ++ part)
   pub number : n ≡ length before + 1
   pub more : HasMore after.rest
+  pub counted : after.taken ≡ start.taken + length (text_of before ++ part)
   pub all : after.taken ≡ after.most
 
 abbrev pub BreaksLine : Reading → Reading → ℕ → Type 0

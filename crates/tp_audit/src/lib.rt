@@ -15,5 +15,10 @@ mod telling;
 
 pub use auditing::audit;
 pub use faults::{AuditFault, Audited, JournalHead};
-pub use laws::{answers_have_the_form, pairs_have_the_form, questions_are_read};
+pub use laws::{
+    answers_have_the_form, heads_are_read, journals_are_accepted, journals_are_never_wrong,
+    journals_break_nowhere, journals_have_short_lines, journals_have_the_form,
+    journals_have_their_head, pairs_have_the_form, questions_are_read, texts_lead_to_one_state,
+    written_journals_are_accepted,
+};
 pub use telling::journal_head;

@@ -282,6 +282,29 @@ fn writers_that_fail(rt: HostRuntime) {
     assert!(rt; is_cut(rt.alloc()));
 }
 
+/// So many bytes of the commands before the reader fails, and how many bytes are answered.
+const READS: [(usize, usize); 4] = [(0, 0), (10, 0), (11, 3), (32, 9)];
+
+/// Whether a reader that fails behind so many bytes ends a run so.
+fn breaks(alloc: Global, bytes: usize, answered: usize) -> bool {
+    let all = COMMANDS.as_bytes();
+    let input = Feed {
+        bytes: &all[..bytes.min(all.len())],
+        most: usize::MAX,
+        broken: true,
+    };
+    comes_to(alloc, input, WIDE, answered, b"fault script 1 read\n")
+}
+
+#[test]
+fn readers_that_fail(rt: HostRuntime) {
+    assert!(rt;
+        READS
+            .iter()
+            .all(|(bytes, answered)| breaks(rt.alloc(), *bytes, *answered))
+    );
+}
+
 /// Whether a call that lacks the first files opens so many, and tells of the one that it lacks.
 fn lacks(alloc: Global, first: usize, opened: u64, faults: &[u8]) -> bool {
     let told = Told {

@@ -100,10 +100,10 @@ module _ (a a' b b' u d p q : ℕ) (up : a' ≡ a + u) (down : b' + d ≡ b) (so
 
 -- ---- all events
 
-one_least : (s : Setting) (e m n : ℕ) → IsLeastMoment s e m → IsLeastMoment s e n → m ≡ n
+pub one_least : (s : Setting) (e m n : ℕ) → IsLeastMoment s e m → IsLeastMoment s e n → m ≡ n
 one_least s e m n a b = let i = a.least n b.occurs in let j = b.least m a.occurs in omega (arith, i, j)
 
-one_greatest : (s : Setting) (e m n : ℕ) → IsGreatestMoment s e m → IsGreatestMoment s e n → m ≡ n
+pub one_greatest : (s : Setting) (e m n : ℕ) → IsGreatestMoment s e m → IsGreatestMoment s e n → m ≡ n
 one_greatest s e m n a b = let i = a.greatest n b.occurs in let j = b.greatest m a.occurs in omega (arith, i, j)
 
 module _ (s s' : Setting) (count count' : ℕ) (keys keys' : BTreeMap ℕ ℕ) (floors ends floors' ends' : List ℕ) (g g' : Engine) (up down : List ℕ) (news looks : ℕ)

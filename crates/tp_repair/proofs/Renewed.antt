@@ -227,7 +227,7 @@ own_there s count keys floors ends g id b key r is key_is =
     let it : x.0 ≡ key = cc in
     (x.1, ap (λ k. slice_index_or g.store.nodes.slots k None) (sym it) ∙ x.2, x.3)
 
-own_arc : (s : Setting) (count : ℕ) (keys : BTreeMap ℕ ℕ) (floors ends : List ℕ) (g : Engine) (id : BoundId) (b : Bound) (key : ℕ) → IsRepaired s count keys floors ends g → get s.bounds id.0 ≡ Some b
+pub own_arc : (s : Setting) (count : ℕ) (keys : BTreeMap ℕ ℕ) (floors ends : List ℕ) (g : Engine) (id : BoundId) (b : Bound) (key : ℕ) → IsRepaired s count keys floors ends g → get s.bounds id.0 ≡ Some b
     → (own : (n : Node) × (slice_index_or g.store.nodes.slots key None ≡ Some n) × (n.name ≡ Own id)) → own.0.arc ≡ arc_of b
 own_arc s count keys floors ends g id b key r is own =
     let x = r.nodes.exist key own.0 own.1 in

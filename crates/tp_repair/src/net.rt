@@ -6,7 +6,8 @@ ghost use Rattle.tp_bounds.specs.Schedule.{HasSchedule};
 ghost use Rattle.tp_bounds.specs.Changes.{with_bound, without_bound, proposing, at_moment, with_fixed};
 ghost use Rattle.tp_net.specs.Faults.{RefusesBy, IsNew, IsNow, IsPastOf, SaysBetween, IsBetween};
 ghost use Rattle.tp_repair.specs.Told.{edge_count};
-ghost use Rattle.tp_repair.specs.Costs.{IsCheap};
+ghost use Rattle.tp_repair.specs.Costs.{IsCheap, AreWindows, HoldsNoMoment};
+ghost use Rattle.tp_bounds.specs.declared.Bound.{Bound};
 ghost use Rattle.std.specs.Ordering.{nat_cmp};
 ghost use Rattle.std.specs.BTreeMap.{BTreeMap, get};
 ghost use Rattle.tp_net.specs.NewNet.{new_setting};
@@ -267,16 +268,21 @@ impl Net for RepairNet {
             let reason = named(alloc, &self.engine.store, Edge::New, &path)?;
             return Err(NetFault::Conflict(reason));
         }
+        // the bound is in force, and the moments are those that it leaves
         Ok(())
     }
 
-    /// It looks at each edge at most four times a direction, and at that of the bound once.
+    /// It looks at each edge at most four times a direction, and at that of the bound once; at that alone where the bound
+    /// holds no moment.
     fn remove(&mut self, id: BoundId) -> Result<(), AllocError>
         requires in_force { finite.get self.old.setting.bounds id.0 ≢ None }
         ensures ok { OnOk result (self.new.setting ≡ without_bound self.old.setting id.0) }
         ensures err { OnErr result (self.new.setting ≡ self.old.setting) }
         ensures possible { OnOk result (HasSchedule (without_bound self.old.setting id.0)) }
         ensures most { self.new.looks ≤ 8 * edge_count self.old.setting + 1 }
+        ensures loose { (low high : ℕ → ℕ) (b : Bound) → AreWindows self.old.setting low high
+            → finite.get self.old.setting.bounds id.0 ≡ Some b → HoldsNoMoment low high b
+            → OnOk result (self.new.looks ≡ 1) }
     {
         self.engine.looks = 0;
         let alloc = *self.fixed.allocator();

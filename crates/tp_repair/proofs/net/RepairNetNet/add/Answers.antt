@@ -70,7 +70,7 @@ invariant_of-self-in_err-reason c =
     let g' : Engine = c.bring.new.engine in
     let r : IsRepaired s n i.keys i.floors.items i.ends.items g0 = relooked s n i.keys i.floors.items i.ends.items i.engine 0 c.self.invariant in
     let b = subst (λ o. IsBrought c.args.id c.args.bound g0 g' i.bounds c.bring.new.bounds i.keys c.bring.new.keys o) c.in-Some.is c.in_ok-path.ensures.ok in
-    rw b.0.holds (repaired_unbrought s n i.keys c.bring.new.keys i.floors.items i.ends.items g0 g' i.bounds c.bring.new.bounds r b.0)
+    rw b.0.holds (relooked s n c.bring.new.keys i.floors.items i.ends.items g' _ (repaired_unbrought s n i.keys c.bring.new.keys i.floors.items i.ends.items g0 g' i.bounds c.bring.new.bounds r b.0))
 
 pub invariant_of-self-in-Some : goal.invariant_of-self-in-Some
 invariant_of-self-in-Some c =
@@ -81,7 +81,7 @@ invariant_of-self-in-Some c =
     let g' : Engine = c.bring.new.engine in
     let r : IsRepaired s n i.keys i.floors.items i.ends.items g0 = relooked s n i.keys i.floors.items i.ends.items i.engine 0 c.self.invariant in
     let b = subst (λ o. IsBrought c.args.id c.args.bound g0 g' i.bounds c.bring.new.bounds i.keys c.bring.new.keys o) c.in-Some.is c.in_ok-path.ensures.ok in
-    rw b.0.holds (repaired_unbrought s n i.keys c.bring.new.keys i.floors.items i.ends.items g0 g' i.bounds c.bring.new.bounds r b.0)
+    rw b.0.holds (relooked s n c.bring.new.keys i.floors.items i.ends.items g' _ (repaired_unbrought s n i.keys c.bring.new.keys i.floors.items i.ends.items g0 g' i.bounds c.bring.new.bounds r b.0))
 
 pub returns-in-Some-clause-exact : goal.returns-in-Some-clause-exact
 returns-in-Some-clause-exact c =
@@ -111,7 +111,8 @@ invariant_of-self-2 c =
     let to : HasPoint s c.args.bound.to = subst (λ (t : Told). HasPoint t.setting c.args.bound.to) (sym c.self.view_is) c.requires.to in
     let few : n < 2 ^ 32 = omega (arith, c.if-len.false, c.len.ensures.len) in
     let brought = repaired_brought s n i.keys c.bring.new.keys i.floors.items i.ends.items g0 g' c.args.id c.args.bound i.bounds c.bring.new.bounds r none from to c.requires.weight b refl few in
-    subst (λ (m : FinMap nat_cmp Bound). IsRepaired (record { horizon = i.horizon; clock = i.clock; bounds = m; fixed = i.fixed.items; lags = i.lags.items; proposed = None }) (length c.bring.new.bounds.entries) c.bring.new.keys i.floors.items i.ends.items g') (sym b.recorded.holds) brought
+    relooked _ _ _ _ _ g' _
+    (subst (λ (m : FinMap nat_cmp Bound). IsRepaired (record { horizon = i.horizon; clock = i.clock; bounds = m; fixed = i.fixed.items; lags = i.lags.items; proposed = None }) (length c.bring.new.bounds.entries) c.bring.new.keys i.floors.items i.ends.items g') (sym b.recorded.holds) brought)
 
 pub returns-clause-exact : goal.returns-clause-exact
 returns-clause-exact c =

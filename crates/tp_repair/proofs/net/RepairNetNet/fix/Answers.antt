@@ -321,7 +321,7 @@ invariant_of-self-2 c =
     let free : fixed_at s c.args.e ≡ None = subst (λ (t : Told). fixed_at t.setting c.args.e ≡ None) (sym c.self.view_is) c.requires.free in
     let floor : floor_of s c.args.e ≤ c.args.moment = subst (λ (t : Told). floor_of t.setting c.args.e ≤ c.args.moment) (sym c.self.view_is) c.requires.floor in
     let soon : c.args.moment ≤ i.horizon = subst (λ (t : Told). c.args.moment ≤ t.setting.horizon) (sym c.self.view_is) c.requires.in_time in
-    repaired_fixed s c.args.e c.args.moment n i.keys i.floors.items i.ends.items g0 c.settle.new.engine r0 c.in_ok-settle.ensures.ok lt free floor soon
+    relooked _ _ _ _ _ c.settle.new.engine _ (repaired_fixed s c.args.e c.args.moment n i.keys i.floors.items i.ends.items g0 c.settle.new.engine r0 c.in_ok-settle.ensures.ok lt free floor soon)
 
 pub returns-clause-exact : goal.returns-clause-exact
 returns-clause-exact c =

@@ -215,7 +215,7 @@ invariant_of-self-2 c =
     let k : IsKept s (names_of slots) (kept_arcs slots) g.low.items g.high.items = kept s n i.keys i.floors.items i.ends.items g r in
     let soon : c.args.now ≤ i.horizon = subst (λ (t : Told). c.args.now ≤ t.setting.horizon) (sym c.self.view_is) c.requires.in_time in
     let changed : IsChanged (raised_node c.args.now i.lags.items) g0 c.raise.new.engine = simp c.deref-6.ensures.value at c.in_ok-raise.ensures.ok in
-    repaired_raised s c.args.now n i.keys i.floors.items i.ends.items g0 c.raise.new.engine r0 changed soon
+    relooked _ _ _ _ _ c.raise.new.engine _ (repaired_raised s c.args.now n i.keys i.floors.items i.ends.items g0 c.raise.new.engine r0 changed soon)
 
 pub returns-clause-exact : goal.returns-clause-exact
 returns-clause-exact c =

@@ -12,6 +12,8 @@ use Rattle.tp_net.proofs.KeptMoments.{kept_possible}
 use Rattle.tp_repair.specs.Told.{Told, settled}
 use Rattle.tp_repair.specs.declared.engine.Engine.{Engine}
 use Rattle.tp_repair.specs.Engine.{IsRepaired}
+use Rattle.tp_repair.specs.Costs.{AreWindows}
+use Rattle.tp_repair.proofs.Loose.{loose_node}
 use Rattle.tp_repair.proofs.Repaired.{kept, holds_least, small_high, with_looks, relooked}
 use Rattle.tp_repair.proofs.Renewed.{some_of, low_fits, high_fits, has_own_key, own_node, start_left, start_left_high, repaired_left, repaired_untouched}
 use Rattle.tp_repair.proofs.net.RepairNetNet.remove.Goals as goal
@@ -115,8 +117,9 @@ invariant_of-self-2 c =
     let count : m + 1 ≡ n = ap (λ o. m + cond (is_some o) 1 0) (sym one) ∙ c.remove-bound.ensures.len in
     let r1 : IsRepaired s (m + 1) i.keys i.floors.items i.ends.items g0 = subst (λ q. IsRepaired s q i.keys i.floors.items i.ends.items g0) (sym count) r0 in
     let left = repaired_left s m i.keys c.remove-key.new.self i.floors.items i.ends.items g0 c.leave.new.engine c.args.id b.0 c.key_of-key.result r1 b.1 c.key_of-key.ensures c.remove-key.ensures.updates.0 c.in_ok-leave.ensures.ok in
-    subst (λ (h : FinMap nat_cmp Bound). IsRepaired (record { horizon = i.horizon; clock = i.clock; bounds = h; fixed = i.fixed.items; lags = i.lags.items; proposed = None }) m c.remove-key.new.self i.floors.items i.ends.items c.leave.new.engine)
-    (sym (held_removed i.bounds c.remove-bound.new.self c.args.id.0 c.remove-bound.ensures.updates.0)) left
+    relooked _ _ _ _ _ c.leave.new.engine _
+    (subst (λ (h : FinMap nat_cmp Bound). IsRepaired (record { horizon = i.horizon; clock = i.clock; bounds = h; fixed = i.fixed.items; lags = i.lags.items; proposed = None }) m c.remove-key.new.self i.floors.items i.ends.items c.leave.new.engine)
+    (sym (held_removed i.bounds c.remove-bound.new.self c.args.id.0 c.remove-bound.ensures.updates.0)) left)
 
 pub returns-clause-ok : goal.returns-clause-ok
 returns-clause-ok c =
@@ -148,3 +151,14 @@ returns-clause-possible c =
     let r1 : IsRepaired s (m + 1) i.keys i.floors.items i.ends.items g0 = subst (λ q. IsRepaired s q i.keys i.floors.items i.ends.items g0) (sym count) r0 in
     let left = repaired_left s m i.keys c.remove-key.new.self i.floors.items i.ends.items g0 c.leave.new.engine c.args.id b.0 c.key_of-key.result r1 b.1 c.key_of-key.ensures c.remove-key.ensures.updates.0 c.in_ok-leave.ensures.ok in
     subst (λ (t : Told). HasSchedule (without_bound t.setting c.args.id.0)) c.self.view_is (kept_possible _ _ _ _ _ (kept _ _ _ _ _ _ left))
+
+pub returns-clause-loose : goal.returns-clause-loose
+returns-clause-loose c = λ low high b w is loose.
+    let i = c.self.inside in
+    let s : Setting = settled i.horizon i.clock i.bounds.entries i.fixed.items i.lags.items in
+    let n = length i.bounds.entries in
+    let r : IsRepaired s n i.keys i.floors.items i.ends.items i.engine = c.self.invariant in
+    let windows : AreWindows s low high = subst (λ (t : Told). AreWindows t.setting low high) (sym c.self.view_is) w in
+    let held : get s.bounds c.args.id.0 ≡ Some b = ap (λ (t : Told). get t.setting.bounds c.args.id.0) c.self.view_is ∙ is in
+    let x = loose_node s n i.keys i.floors.items i.ends.items i.engine r low high windows c.args.id b c.key_of-key.result held c.key_of-key.ensures loose in
+    (c.in_ok-leave.ensures.loose x.0 x.1 x.2).0
