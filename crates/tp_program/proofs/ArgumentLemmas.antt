@@ -159,10 +159,6 @@ run_words w domain problem plan scale horizon = (
   ),
 )
 
-abbrev first_letter : List ℕ → ℕ
-first_letter [] = 0
-first_letter (x ∷ xs) = x
-
 -- the two files, the budget that is given, and the scale and the horizon where none are given
 pub plan_words : (w : SearchWords) → w.domain.now ≡ codes "d" → w.problem.now ≡ codes "p" → scale_ticks w.scale ≡ 1 → w.horizon ≡ 1000000 → w.budget ≡ 7 → AsksFor (codes "plan" ∷ codes "d" ∷ codes "p" ∷ codes "--budget" ∷ codes "7" ∷ []) (Plan w)
 unfolding clap_on_literals
