@@ -1,8 +1,8 @@
 -- What a parse asks for.
-use Rattle.std.proofs.Common.{◌≡◌, ◌∙◌, ◌⊎◌, ap, arith, ℕ, ◌∷◌, inl, inr, refl, sym, subst, List, [], Option, Some, None, true, codes}
-use Rattle.std.specs.Prelude.{Box, Result, Ok, Err, option_map}
+use Rattle.std.proofs.Common.{◌≡◌, ◌∙◌, ◌⊎◌, ap, ap₂, arith, ℕ, ◌∷◌, inl, inr, refl, sym, subst, List, [], Option, Some, None, true, codes}
+use Rattle.std.specs.Prelude.{Box, Result, Ok, Err, if◌then◌else◌, nat_eq, option_map}
 use Rattle.std.specs.Box.{box_value}
-use Rattle.clap.specs.Words.{FailsBy, IsAmong, ReadsOne, Row, Text, fault_of, one_of, one_text, is_simple, is_simple_and_free, kind_of, rows_of, subcommand_name_of, subcommand_of, subcommand_rows, subcommand_rows_of}
+use Rattle.clap.specs.Words.{FailsBy, IsAmong, ReadsOne, Row, Text, fault_of, first_of, one_of, one_text, is_simple, is_simple_and_free, kind_of, rows_of, subcommand_name_of, subcommand_of, subcommand_rows, subcommand_rows_of}
 use Rattle.clap.specs.declared.error.Error.{Error}
 use Rattle.clap.specs.declared.error.kind.ErrorKind.{ErrorKind}
 use Rattle.clap.specs.declared.error.kind.ErrorKind.TheVariants.{DisplayHelp, DisplayVersion, OutOfMemory}
@@ -14,12 +14,12 @@ use Rattle.clap.proofs.WalkLemmas.{one_text-rows}
 use Rattle.std.specs.Str.Parse.{digits_value, without_leading_plus}
 use Rattle.clap.specs.declared.parser.matches.Found.{Found}
 use Rattle.tp_program.specs.Commands.{tempo_app}
-use Rattle.tp_program.specs.Requests.{AskForOneThing, AsksBy, AsksFor, NamesBare, Spells, TellsText}
+use Rattle.tp_program.specs.Requests.{AskForOneThing, AsksBy, AsksFor, NamesBare, Spells, TellsText, command_name, journal_name}
 use Rattle.tp_text.specs.Scales.{scale_ticks}
 use Rattle.tp_plan_files.specs.declared.plan_words.PlanWords.{PlanWords}
 use Rattle.tp_plan_search.specs.declared.search_words.SearchWords.{SearchWords}
 use Rattle.tp_program.specs.declared.requests.Request.{Request}
-use Rattle.tp_program.specs.declared.requests.Request.TheVariants.{Bare, Check, Net, Run, Plan, Help}
+use Rattle.tp_program.specs.declared.requests.Request.TheVariants.{Bare, BareLog, Check, Net, Run, Plan, Audit, Help}
 
 module _ {Z : Type 0} where
   none_rows : (s : Option (Box SubCommand Z)) → option_map (λ b. (out-SubCommand (box_value b)).name.now) s ≡ None → subcommand_rows s ≡ None
@@ -49,10 +49,12 @@ simple_and_free = refl
 -- what matches ask for, the words ask for
 pub asks_by : (words : List Text) (named : Option (Text × List Row)) (r : Request) → fault_of tempo_app words ≡ [] → named ≡ subcommand_of tempo_app words → AsksBy named r → AsksFor words r
 asks_by words named Bare free is h = (free, subst (λ n. NamesBare n) is h)
+asks_by words named (BareLog log) free is h = (free, subst (λ n. AsksBy n (BareLog log)) is h)
 asks_by words named (Check w) free is h = (free, subst (λ n. AsksBy n (Check w)) is h)
 asks_by words named (Net w) free is h = (free, subst (λ n. AsksBy n (Net w)) is h)
 asks_by words named (Run w) free is h = (free, subst (λ n. AsksBy n (Run w)) is h)
 asks_by words named (Plan w) free is h = (free, subst (λ n. AsksBy n (Plan w)) is h)
+asks_by words named (Audit log) free is h = (free, subst (λ n. AsksBy n (Audit log)) is h)
 asks_by words named (Help text) free is h = absurd h
 
 -- an error that is a call for help or for the version
@@ -86,7 +88,12 @@ no_words = (refl, tt)
 
 pub bare_word : AsksFor (codes "bare" ∷ []) Bare
 unfolding clap_on_literals
-bare_word = (refl, refl)
+bare_word = (refl, (refl, refl))
+
+-- the file for a journal
+pub bare_log_words : (w : PlanWords) → w.plan.now ≡ codes "l" → AsksFor (codes "bare" ∷ codes "--journal" ∷ codes "l" ∷ []) (BareLog w.plan)
+unfolding clap_on_literals
+bare_log_words w log = (refl, (_, refl, ap Some (sym log)))
 
 -- a number that was read is spelled by its text
 pub number_spelled : {E : Type 0} (gives : List ℕ → Result ℕ E → Type 0) (f : Found) (id : Text) (n : ℕ) (o : Option (List ℕ)) → one_text f id ≡ o → (one_text f id ≡ None → Some n ≡ None) → ((t : List ℕ) → one_text f id ≡ Some t → ReadsOne gives t (Some n)) → ((t : List ℕ) → gives t (Ok n) → n ≡ digits_value 10 (without_leading_plus t)) → Spells (one_of id (rows_of f)) n
@@ -152,22 +159,6 @@ run_words w domain problem plan scale horizon = (
   ),
 )
 
-abbrev first_letter : List ℕ → ℕ
-first_letter [] = 0
-first_letter (x ∷ xs) = x
-
-plan_is_not_bare : codes "plan" ≡ codes "bare" → ⊥
-plan_is_not_bare same = let first : 112 ≡ 98 = ap first_letter same in omega (arith, first)
-
-check_is_not_plan : codes "check" ≡ codes "plan" → ⊥
-check_is_not_plan same = let first : 99 ≡ 112 = ap first_letter same in omega (arith, first)
-
-net_is_not_plan : codes "net" ≡ codes "plan" → ⊥
-net_is_not_plan same = let first : 110 ≡ 112 = ap first_letter same in omega (arith, first)
-
-run_is_not_plan : codes "run" ≡ codes "plan" → ⊥
-run_is_not_plan same = let first : 114 ≡ 112 = ap first_letter same in omega (arith, first)
-
 -- the two files, the budget that is given, and the scale and the horizon where none are given
 pub plan_words : (w : SearchWords) → w.domain.now ≡ codes "d" → w.problem.now ≡ codes "p" → scale_ticks w.scale ≡ 1 → w.horizon ≡ 1000000 → w.budget ≡ 7 → AsksFor (codes "plan" ∷ codes "d" ∷ codes "p" ∷ codes "--budget" ∷ codes "7" ∷ []) (Plan w)
 unfolding clap_on_literals
@@ -188,55 +179,82 @@ plan_words w domain problem scale horizon budget = (
   ),
 )
 
-abbrev first_name : Option (Text × List Row) → Text
-first_name None = []
-first_name (Some named) = named.0
+-- the file of a journal
+pub audit_words : (w : PlanWords) → w.plan.now ≡ codes "l" → AsksFor (codes "audit" ∷ codes "l" ∷ []) (Audit w.plan)
+unfolding clap_on_literals
+audit_words w log = (refl, (_, refl, ap Some (sym log)))
 
--- a parse names one command
-one_name : (named : Option (Text × List Row)) (a b : Text) (r s : List Row) → named ≡ Some (a, r) → named ≡ Some (b, s) → a ≡ b
-one_name named a b r s h k = sym (ap first_name h) ∙ ap first_name k
+abbrev first_letter : Text → ℕ
+first_letter [] = 0
+first_letter (x ∷ xs) = x
 
-no_text : (faults : List ErrorKind) → faults ≡ [] → IsAmong DisplayHelp faults ⊎ IsAmong DisplayVersion faults → ⊥
-no_text faults none (inl help) = subst (λ ks. IsAmong DisplayHelp ks) none help
-no_text faults none (inr version) = subst (λ ks. IsAmong DisplayVersion ks) none version
+-- the command that a parse names; a call without words is one of `bare`
+abbrev named_command : Option (Text × List Row) → Text
+named_command None = codes "bare"
+named_command (Some named) = named.0
 
-run_or_net : codes "net" ≡ codes "run" → ⊥
-run_or_net same = let first : 110 ≡ 114 = ap first_letter same in omega (arith, first)
+-- the file for a journal, of the command that takes one
+abbrev journal_of : Text → Option Text → Option Text
+journal_of name given = if nat_eq (first_letter name) 98 then given else None
 
-run_or_check : codes "check" ≡ codes "run" → ⊥
-run_or_check same = cc
+abbrev named_journal : Option (Text × List Row) → Option Text
+named_journal None = None
+named_journal (Some named) = journal_of named.0 (first_of (codes "journal") named.1)
 
-run_or_bare : codes "run" ≡ codes "bare" → ⊥
-run_or_bare same = cc
+-- a text where the words are without a fault
+abbrev when_free : List ErrorKind → Option Text → Option Text
+when_free [] t = t
+when_free (k ∷ ks) t = None
+
+free_is : (faults : List ErrorKind) (t u : Option Text) → faults ≡ [] → u ≡ t → u ≡ when_free faults t
+free_is [] t u none is = is
+free_is (k ∷ ks) t u none is = cc
+
+help_is : (faults : List ErrorKind) (t : Option Text) → IsAmong DisplayHelp faults ⊎ IsAmong DisplayVersion faults → None ≡ when_free faults t
+help_is [] t (inl help) = absurd help
+help_is [] t (inr version) = absurd version
+help_is (k ∷ ks) t asks = refl
+
+bare_command_is : (named : Option (Text × List Row)) → NamesBare named → Some (codes "bare") ≡ Some (named_command named)
+bare_command_is None h = refl
+bare_command_is (Some named) h = ap Some (sym h.0)
+
+bare_journal_is : (named : Option (Text × List Row)) → NamesBare named → None ≡ named_journal named
+bare_journal_is None h = refl
+bare_journal_is (Some named) h = sym (ap₂ journal_of h.0 h.1)
+
+command_is : (named : Option (Text × List Row)) (name : Text) (rows : List Row) → named ≡ Some (name, rows) → Some name ≡ Some (named_command named)
+command_is named name rows is = ap Some (sym (ap named_command is))
+
+journal_is : (named : Option (Text × List Row)) (name : Text) (rows : List Row) (t : Option Text) → named ≡ Some (name, rows) → t ≡ named_journal (Some (name, rows)) → t ≡ named_journal named
+journal_is named name rows t is same = same ∙ sym (ap named_journal is)
+
+-- what words ask for is of the command that a parse of them names
+asks_command : (words : List Text) (r : Request) → AsksFor words r → command_name r ≡ when_free (fault_of tempo_app words) (Some (named_command (subcommand_of tempo_app words)))
+asks_command words Bare h = free_is _ _ _ h.0 (bare_command_is _ h.1)
+asks_command words (BareLog log) h = free_is _ _ _ h.0 (command_is _ (codes "bare") h.1.0 h.1.1)
+asks_command words (Check w) h = free_is _ _ _ h.0 (command_is _ (codes "check") h.1.0 h.1.1)
+asks_command words (Net w) h = free_is _ _ _ h.0 (command_is _ (codes "net") h.1.0 h.1.1)
+asks_command words (Run w) h = free_is _ _ _ h.0 (command_is _ (codes "run") h.1.0 h.1.1)
+asks_command words (Plan w) h = free_is _ _ _ h.0 (command_is _ (codes "plan") h.1.0 h.1.1)
+asks_command words (Audit log) h = free_is _ _ _ h.0 (command_is _ (codes "audit") h.1.0 h.1.1)
+asks_command words (Help text) h = help_is _ _ h
+
+-- and its journal goes to the file that they name
+asks_journal : (words : List Text) (r : Request) → AsksFor words r → journal_name r ≡ when_free (fault_of tempo_app words) (named_journal (subcommand_of tempo_app words))
+asks_journal words Bare h = free_is _ _ _ h.0 (bare_journal_is _ h.1)
+asks_journal words (BareLog log) h = free_is _ _ _ h.0 (journal_is _ (codes "bare") h.1.0 _ h.1.1 (sym h.1.2))
+asks_journal words (Check w) h = free_is _ _ _ h.0 (journal_is _ (codes "check") h.1.0 None h.1.1 refl)
+asks_journal words (Net w) h = free_is _ _ _ h.0 (journal_is _ (codes "net") h.1.0 None h.1.1 refl)
+asks_journal words (Run w) h = free_is _ _ _ h.0 (journal_is _ (codes "run") h.1.0 None h.1.1 refl)
+asks_journal words (Plan w) h = free_is _ _ _ h.0 (journal_is _ (codes "plan") h.1.0 None h.1.1 refl)
+asks_journal words (Audit log) h = free_is _ _ _ h.0 (journal_is _ (codes "audit") h.1.0 None h.1.1 refl)
+asks_journal words (Help text) h = help_is _ _ h
 
 -- no words ask for two kinds of things
 pub distinct : (words : List Text) → AskForOneThing words
 distinct words =
     record {
-      bare_check = λ w bare check.
-          let no : codes "check" ≡ codes "bare" = subst NamesBare check.1.1 bare.1 in
-          cc;
-      bare_net = λ w bare net.
-          let no : codes "net" ≡ codes "bare" = subst NamesBare net.1.1 bare.1 in
-          cc;
-      check_net = λ v w check net.
-          let no : codes "check" ≡ codes "net" = one_name (subcommand_of tempo_app words) (codes "check") (codes "net") check.1.0 net.1.0 check.1.1 net.1.1 in
-          cc;
-      net_help = λ w text net help. no_text (fault_of tempo_app words) net.0 help;
-      bare_help = λ text bare help. no_text (fault_of tempo_app words) bare.0 help;
-      bare_run = λ w bare run. run_or_bare (subst NamesBare run.1.1 bare.1);
-      check_run = λ v w check run.
-          run_or_check (one_name (subcommand_of tempo_app words) (codes "check") (codes "run") check.1.0 run.1.0 check.1.1 run.1.1);
-      net_run = λ v w net run.
-          run_or_net (one_name (subcommand_of tempo_app words) (codes "net") (codes "run") net.1.0 run.1.0 net.1.1 run.1.1);
-      run_help = λ w text run help. no_text (fault_of tempo_app words) run.0 help;
-      bare_plan = λ w bare plan. plan_is_not_bare (subst NamesBare plan.1.1 bare.1);
-      check_plan = λ v w check plan.
-          check_is_not_plan (one_name (subcommand_of tempo_app words) (codes "check") (codes "plan") check.1.0 plan.1.0 check.1.1 plan.1.1);
-      net_plan = λ v w net plan.
-          net_is_not_plan (one_name (subcommand_of tempo_app words) (codes "net") (codes "plan") net.1.0 plan.1.0 net.1.1 plan.1.1);
-      run_plan = λ v w run plan.
-          run_is_not_plan (one_name (subcommand_of tempo_app words) (codes "run") (codes "plan") run.1.0 plan.1.0 run.1.1 plan.1.1);
-      plan_help = λ w text plan help. no_text (fault_of tempo_app words) plan.0 help;
-      check_help = λ w text check help. no_text (fault_of tempo_app words) check.0 help;
+      command = λ r s one other. asks_command words r one ∙ sym (asks_command words s other);
+      journal = λ r s one other. asks_journal words r one ∙ sym (asks_journal words s other);
     }

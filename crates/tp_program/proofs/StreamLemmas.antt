@@ -1,26 +1,37 @@
 -- What was written to a writer of bytes that are kept before and after.
 use Rattle.std.proofs.Common.{◌≡◌, ◌≢◌, ◌∙◌, ◌≤◌, zero, suc, ap, ℕ, List, [], ◌++◌, Option, Some, None, inl, inr, codes, sym, subst, refl, arith}
-use Rattle.std.specs.Prelude.{MatchOption}
+use Rattle.std.specs.Prelude.{MatchOption, Result, Ok, Err}
 use Rattle.std.specs.Io.KnownBytes.{Appends, Keeps}
 use Rattle.std.specs.String.{string_bytes}
 use Rattle.tp_device.specs.Bytes.{AppendsPart}
 use Rattle.tp_device.proofs.Parts.{appends_none}
-use Rattle.tp_bare.specs.Bare.{AnswersAll, AnswersPart, IsRefused}
+use Rattle.tp_bare.specs.Bare.{AnswersAll, AnswersPart, IsRefused, first_machine}
+use Rattle.tp_exec.specs.Machine.{Machine}
+use Rattle.tp_script.specs.Pending.{Reading}
+use Rattle.tp_script.specs.declared.serving.Served.{Served}
+use Rattle.tp_journal.specs.Journal.{Entry}
+use Rattle.tp_journal.specs.Writing.{EndsJournal, EndsUnlogged, Journals}
+use Rattle.tp_journal.specs.declared.faults.JournalFault.{JournalFault}
+use Rattle.tp_journal.specs.declared.faults.JournalFault.TheVariants.{Read, Write, Log, TooLong}
+use Rattle.tp_bare_journals.specs.Logged.{LogsAll, LogsLines, LogsPart}
 use Rattle.tp_ground.specs.declared.task.Task.{Task}
 use Rattle.tp_happen.specs.declared.plans.Step.{Step}
+use Rattle.tp_log_audits.specs.Bare.{SaysAuditPart, SaysJournal, SaysWrong}
 use Rattle.tp_plan_runs.specs.Invalid.{SaysInvalid, SaysInvalidPart}
 use Rattle.tp_plan_runs.specs.Runs.{EndsInNone, EndsInPart, EndsInPlan, RunsPart, RunsToNone, RunsToPlan, WritesPart}
 use Rattle.tp_plan_search.specs.Searches.{SaysNoPlan, SearchesPart, WritesPlan}
 use Rattle.tp_plan_search.specs.declared.search_words.SearchWords.{SearchWords}
+use Rattle.tp_program.specs.CallFiles.{CallFiles}
 use Rattle.tp_program.specs.Checks.{SaysPart, SaysValid}
 use Rattle.tp_program.specs.Done.{AnswersNo, DoesPart, DoesWhatIsAsked, IsAnsweredNo, IsDone, IsPartDone}
+use Rattle.tp_program.specs.Journaled.{LogsSome, LogsTo}
 use Rattle.tp_program.specs.Networks.{ShowsNetwork, ShowsPart}
 use Rattle.tp_files.specs.FaultLines.{Tells, TellsFault, TellsRefusal, fault_line}
 use Rattle.tp_program.specs.Requests.{AsksFor, AsksForNoCommands}
 use Rattle.tp_program.specs.Streams.{Ends, HandsOn, Runs, TellsSome}
 use Rattle.tp_plan_files.specs.declared.plan_words.PlanWords.{PlanWords}
 use Rattle.tp_program.specs.declared.requests.Request.{Request}
-use Rattle.tp_program.specs.declared.requests.Request.TheVariants.{Bare, Check, Net, Run, Plan, Help}
+use Rattle.tp_program.specs.declared.requests.Request.TheVariants.{Bare, BareLog, Check, Net, Run, Plan, Audit, Help}
 
 -- what was appended there was appended here
 abbrev pub Shift : Option (List ℕ) → Option (List ℕ) → Option (List ℕ) → Option (List ℕ) → Type 0
@@ -174,39 +185,157 @@ searches_part_over files w a b c d over (inl none) = inl (over _ none)
 searches_part_over files w a b c d over (inr h) =
     inr (record { task = h.task; text = h.text; named = h.named; is = h.is; part = part_over a b c d _ over h.part })
 
-done_over : (request : Request) (files : List ℕ → Option (List ℕ)) (input a b c d : Option (List ℕ)) → Shift a b c d → IsDone request files input a b → IsDone request files input c d
+journal_over : (input a b c d : Option (List ℕ)) → Shift a b c d → SaysJournal input a b → SaysJournal input c d
+journal_over input a b c d over h = (h.0, h.1, over _ h.2)
+
+wrong_over : (input a b c d : Option (List ℕ)) → Shift a b c d → SaysWrong input a b → SaysWrong input c d
+wrong_over input a b c d over h = (h.0, h.1, over _ h.2)
+
+audit_part_over : (input a b c d : Option (List ℕ)) → Shift a b c d → SaysAuditPart input a b → SaysAuditPart input c d
+audit_part_over input a b c d over (inl none) = inl (over _ none)
+audit_part_over input a b c d over (inr h) = inr (h.0, h.1, part_over a b c d _ over h.2)
+
+logs_over : (input a b c d log logged : Option (List ℕ)) → Shift a b c d → LogsAll input a b log logged → LogsAll input c d log logged
+logs_over None a b c d log logged over h = tt
+logs_over (Some bytes) a b c d log logged over h =
+    record {
+      answers = record {
+        head = h.answers.head;
+        setting = h.answers.setting;
+        line = h.answers.line;
+        lags = h.answers.lags;
+        lines = h.answers.lines;
+        text = h.answers.text;
+        last = h.answers.last;
+        read = h.answers.read;
+        short = h.answers.short;
+        spelled = h.answers.spelled;
+        set = h.answers.set;
+        end = h.answers.end;
+        ran = h.answers.ran;
+        written = over _ h.answers.written;
+      };
+      entries = h.entries;
+      entered = h.entered;
+      runs = h.runs;
+      logs = h.logs;
+    }
+
+unlogged_over : (old new : Machine) (lines : List (List ℕ)) (entries : List Entry) (a b c d log logged : Option (List ℕ)) → Shift a b c d → EndsUnlogged old new lines entries a b log logged → EndsUnlogged old new lines entries c d log logged
+unlogged_over old new lines entries a b c d log logged over h =
+    record {
+      lines_before = h.lines_before;
+      lines_last = h.lines_last;
+      before = h.before;
+      last = h.last;
+      said = h.said;
+      unsaid = h.unsaid;
+      mid = h.mid;
+      lines_are = h.lines_are;
+      entries_are = h.entries_are;
+      one = h.one;
+      ran_before = h.ran_before;
+      ran_last = h.ran_last;
+      answered = over _ h.answered;
+      count = h.count;
+      within = h.within;
+      pairs_before = h.pairs_before;
+      logs = h.logs;
+    }
+
+ends_journal_over : (old new : Machine) (after : Reading) (lines : List (List ℕ)) (entries : List Entry) (text part : List ℕ) (a b c d log logged : Option (List ℕ)) (result : Result Served JournalFault) → Shift a b c d → EndsJournal old new after lines entries text part a b log logged result → EndsJournal old new after lines entries text part c d log logged result
+ends_journal_over old new after lines entries text part a b c d log logged (Ok served) over h = (h.0, h.1, over _ h.2, h.3, h.4)
+ends_journal_over old new after lines entries text part a b c d log logged (Err Read) over h = (over _ h.0, h.1)
+ends_journal_over old new after lines entries text part a b c d log logged (Err TooLong) over h = (over _ h.0, h.1, h.2, h.3)
+ends_journal_over old new after lines entries text part a b c d log logged (Err Write) over h = (h.0, part_over a b c d _ over h.1, h.2)
+ends_journal_over old new after lines entries text part a b c d log logged (Err Log) over h = (h.0, unlogged_over old new lines entries a b c d log logged over h.1)
+
+journals_over : (old new : Machine) (before after : Reading) (a b c d log logged : Option (List ℕ)) (result : Result Served JournalFault) → Shift a b c d → Journals old new before after a b log logged result → Journals old new before after c d log logged result
+journals_over old new before after a b c d log logged result over h =
+    record {
+      lines = h.lines;
+      entries = h.entries;
+      text = h.text;
+      left = h.left;
+      part = h.part;
+      read = h.read;
+      behind = h.behind;
+      free = h.free;
+      counted = h.counted;
+      ran = h.ran;
+      transcript = h.transcript;
+      runs = h.runs;
+      ended = ends_journal_over old new after h.lines h.entries h.text h.part a b c d log logged result over h.ended;
+    }
+
+log_lines_over : (input a b c d log logged : Option (List ℕ)) (result : Result Served JournalFault) → Shift a b c d → LogsLines input a b log logged result → LogsLines input c d log logged result
+log_lines_over input a b c d log logged result over h =
+    record {
+      head = h.head;
+      setting = h.setting;
+      start = h.start;
+      behind_head = h.behind_head;
+      behind_lags = h.behind_lags;
+      after = h.after;
+      last = h.last;
+      from = h.from;
+      first = h.first;
+      most = h.most;
+      takes = h.takes;
+      same = h.same;
+      lags = h.lags;
+      still = h.still;
+      journals = journals_over (first_machine h.head h.setting) h.last h.behind_lags h.after a b c d log logged result over h.journals;
+    }
+
+logs_some_over : (files : CallFiles) (input a b c d : Option (List ℕ)) → Shift a b c d → LogsSome files input a b → LogsSome files input c d
+logs_some_over files input a b c d over (inl none) = inl (over _ none)
+logs_some_over files input a b c d over (inr h) = inr (h.0, log_lines_over input a b c d files.blank files.kept (Err h.0) over h.1)
+
+-- what a run with a journal tells of a fault
+pub logs_part : (files : CallFiles) (input a b : Option (List ℕ)) → LogsPart input a b files.blank files.kept → LogsSome files input a b
+logs_part files input a b (inl same) = inl (subst (λ n. Appends a n []) (sym same) (appends_none a))
+logs_part files input a b (inr h) = inr h
+
+done_over : (request : Request) (files : CallFiles) (input a b c d : Option (List ℕ)) → Shift a b c d → IsDone request files input a b → IsDone request files input c d
 done_over Bare files input a b c d over h = all_over input a b c d over h
-done_over (Check w) files input a b c d over h = valid_over files w a b c d over h
-done_over (Net w) files input a b c d over h = network_over files w a b c d over h
-done_over (Run w) files input a b c d over h = run_over files w input a b c d over h
-done_over (Plan w) files input a b c d over h = plan_over files w a b c d over h
+done_over (BareLog log) files input a b c d over h = (logs_over input a b c d files.blank files.kept over h.0, h.1)
+done_over (Check w) files input a b c d over h = valid_over files.held w a b c d over h
+done_over (Net w) files input a b c d over h = network_over files.held w a b c d over h
+done_over (Run w) files input a b c d over h = run_over files.held w input a b c d over h
+done_over (Plan w) files input a b c d over h = plan_over files.held w a b c d over h
+done_over (Audit log) files input a b c d over h = journal_over (files.held log.now) a b c d over h
 done_over (Help text) files input a b c d over h = over _ h
 
-part_done_over : (request : Request) (files : List ℕ → Option (List ℕ)) (input a b c d : Option (List ℕ)) → Shift a b c d → IsPartDone request files input a b → IsPartDone request files input c d
+part_done_over : (request : Request) (files : CallFiles) (input a b c d : Option (List ℕ)) → Shift a b c d → IsPartDone request files input a b → IsPartDone request files input c d
 part_done_over Bare files input a b c d over h = answers_part_over input a b c d over h
-part_done_over (Check w) files input a b c d over h = says_part_over files w a b c d over h
-part_done_over (Net w) files input a b c d over h = shows_part_over files w a b c d over h
-part_done_over (Run w) files input a b c d over h = runs_part_over files w input a b c d over h
-part_done_over (Plan w) files input a b c d over h = searches_part_over files w a b c d over h
+part_done_over (BareLog log) files input a b c d over h = logs_some_over files input a b c d over h
+part_done_over (Check w) files input a b c d over h = says_part_over files.held w a b c d over h
+part_done_over (Net w) files input a b c d over h = shows_part_over files.held w a b c d over h
+part_done_over (Run w) files input a b c d over h = runs_part_over files.held w input a b c d over h
+part_done_over (Plan w) files input a b c d over h = searches_part_over files.held w a b c d over h
+part_done_over (Audit log) files input a b c d over h = audit_part_over (files.held log.now) a b c d over h
 part_done_over (Help text) files input a b c d over h = part_over a b c d _ over h
 
-pub does_over : (words : List (List ℕ)) (files : List ℕ → Option (List ℕ)) (input a b c d : Option (List ℕ)) → Shift a b c d → DoesWhatIsAsked words files input a b → DoesWhatIsAsked words files input c d
+pub does_over : (words : List (List ℕ)) (files : CallFiles) (input a b c d : Option (List ℕ)) → Shift a b c d → DoesWhatIsAsked words files input a b → DoesWhatIsAsked words files input c d
 does_over words files input a b c d over h =
     record { request = h.request; asked = h.asked; done = done_over h.request files input a b c d over h.done }
 
-said_over : (request : Request) (files : List ℕ → Option (List ℕ)) (input a b c d : Option (List ℕ)) → Shift a b c d → IsAnsweredNo request files input a b → IsAnsweredNo request files input c d
+said_over : (request : Request) (files : CallFiles) (input a b c d : Option (List ℕ)) → Shift a b c d → IsAnsweredNo request files input a b → IsAnsweredNo request files input c d
 said_over Bare files input a b c d over h = absurd h
-said_over (Check w) files input a b c d over h = invalid_over files w a b c d over h
-said_over (Net w) files input a b c d over h = invalid_over files w a b c d over h
-said_over (Run w) files input a b c d over h = runs_none_over files w input a b c d over h
-said_over (Plan w) files input a b c d over h = no_plan_over files w a b c d over h
+said_over (BareLog log) files input a b c d over h = absurd h
+said_over (Check w) files input a b c d over h = invalid_over files.held w a b c d over h
+said_over (Net w) files input a b c d over h = invalid_over files.held w a b c d over h
+said_over (Run w) files input a b c d over h = runs_none_over files.held w input a b c d over h
+said_over (Plan w) files input a b c d over h = no_plan_over files.held w a b c d over h
+said_over (Audit log) files input a b c d over h = wrong_over (files.held log.now) a b c d over h
 said_over (Help text) files input a b c d over h = absurd h
 
-pub no_over : (words : List (List ℕ)) (files : List ℕ → Option (List ℕ)) (input a b c d : Option (List ℕ)) → Shift a b c d → AnswersNo words files input a b → AnswersNo words files input c d
+pub no_over : (words : List (List ℕ)) (files : CallFiles) (input a b c d : Option (List ℕ)) → Shift a b c d → AnswersNo words files input a b → AnswersNo words files input c d
 no_over words files input a b c d over h =
     record { request = h.request; asked = h.asked; said = said_over h.request files input a b c d over h.said }
 
-pub does_part_over : (words : List (List ℕ)) (files : List ℕ → Option (List ℕ)) (input a b c d : Option (List ℕ)) → Shift a b c d → DoesPart words files input a b → DoesPart words files input c d
+pub does_part_over : (words : List (List ℕ)) (files : CallFiles) (input a b c d : Option (List ℕ)) → Shift a b c d → DoesPart words files input a b → DoesPart words files input c d
 does_part_over words files input a b c d over (inl none) = inl (over _ none)
 does_part_over words files input a b c d over (inr h) = inr (h.0, h.1, part_done_over h.0 files input a b c d over h.2)
 
@@ -223,7 +352,7 @@ refusal_some status failures failures-now a b (inr h) =
 -- ---- a run
 
 -- what `run_words` tells of the output
-pub runs_from : (words : List (List ℕ)) (files : List ℕ → Option (List ℕ)) (input : Option (List ℕ)) (status : ℕ) (held now : Option (List ℕ)) → (status ≡ 0 → DoesWhatIsAsked words files input held now) → (status ≡ 1 → AnswersNo words files input held now) → (AsksFor words Bare → status ≡ 0 → AnswersAll input held now) → (AsksFor words Bare → status ≢ 0 → AnswersPart input held now) → (status ≡ 3 → DoesPart words files input held now) → (AsksForNoCommands words → status ≡ 2 → now ≡ held) → Runs words files input status held now
+pub runs_from : (words : List (List ℕ)) (files : CallFiles) (input : Option (List ℕ)) (status : ℕ) (held now : Option (List ℕ)) → (status ≡ 0 → DoesWhatIsAsked words files input held now) → (status ≡ 1 → AnswersNo words files input held now) → (AsksFor words Bare → status ≡ 0 → AnswersAll input held now) → (AsksFor words Bare → status ≢ 0 → AnswersPart input held now) → (status ≡ 3 → DoesPart words files input held now) → (AsksForNoCommands words → status ≡ 2 → now ≡ held) → Runs words files input status held now
 runs_from words files input status held now done answered all part broken kept =
     record {
       done = done;
@@ -234,7 +363,7 @@ runs_from words files input status held now done answered all part broken kept =
       kept = λ none two. subst (λ n. Appends held n []) (sym (kept none two)) (appends_none held);
     }
 
-runs_over : (words : List (List ℕ)) (files : List ℕ → Option (List ℕ)) (input : Option (List ℕ)) (status : ℕ) (a b c d : Option (List ℕ)) → Shift a b c d → Runs words files input status a b → Runs words files input status c d
+runs_over : (words : List (List ℕ)) (files : CallFiles) (input : Option (List ℕ)) (status : ℕ) (a b c d : Option (List ℕ)) → Shift a b c d → Runs words files input status a b → Runs words files input status c d
 runs_over words files input status a b c d over h =
     record {
       done = λ is. does_over words files input a b c d over (h.done is);
@@ -245,7 +374,7 @@ runs_over words files input status a b c d over h =
       kept = λ none two. over [] (h.kept none two);
     }
 
-holds : {W : Type 0} (words : List (List ℕ)) (files : List ℕ → Option (List ℕ)) (input : Option (List ℕ)) (status ended : ℕ) (a b before now : Option (List ℕ)) (f fnow : ℕ) (contents : W → Option (List ℕ)) (output : Option W) → HandsOn contents status b f before fnow now ended output → Runs words files input status a b → MatchOption output (ended ≡ 3) (λ w. Runs words files input ended a (contents w))
+holds : {W : Type 0} (words : List (List ℕ)) (files : CallFiles) (input : Option (List ℕ)) (status ended : ℕ) (a b before now : Option (List ℕ)) (f fnow : ℕ) (contents : W → Option (List ℕ)) (output : Option W) → HandsOn contents status b f before fnow now ended output → Runs words files input status a b → MatchOption output (ended ≡ 3) (λ w. Runs words files input ended a (contents w))
 holds words files input status ended a b before now f fnow contents None on runs = on.0
 holds words files input status ended a b before now f fnow contents (Some w) on runs =
     subst (λ s. Runs words files input s a (contents w)) (sym on.0) (runs_over words files input status a b a (contents w) (shift a b a (contents w) (keeps_same a) on.1) runs)
@@ -277,7 +406,7 @@ is_told status ended b first before now f fnow contents None on silent fault two
 is_told status ended b first before now f fnow contents (Some w) on silent fault two =
     subst (λ n. TellsSome first n) (sym on.2) (fault (omega (arith, on.0, two)))
 
-pub ends : {W : Type 0} (words : List (List ℕ)) (files : List ℕ → Option (List ℕ)) (input : Option (List ℕ)) (status ended : ℕ) (a b first before now : Option (List ℕ)) (f fnow : ℕ) (contents : W → Option (List ℕ)) (output : Option W) → HandsOn contents status b f before fnow now ended output → Runs words files input status a b → (AsksFor words Bare → status ≡ 2 → IsRefused input) → status ≤ 3 → (status ≤ 1 → before ≡ first) → (2 ≤ status → TellsSome first before) → Ends words files input a first contents ended output now
+pub ends : {W : Type 0} (words : List (List ℕ)) (files : CallFiles) (input : Option (List ℕ)) (status ended : ℕ) (a b first before now : Option (List ℕ)) (f fnow : ℕ) (contents : W → Option (List ℕ)) (output : Option W) → HandsOn contents status b f before fnow now ended output → Runs words files input status a b → (AsksFor words Bare → status ≡ 2 → IsRefused input) → status ≤ 3 → (status ≤ 1 → before ≡ first) → (2 ≤ status → TellsSome first before) → Ends words files input a first contents ended output now
 ends words files input status ended a b first before now f fnow contents output on runs refused within silent fault =
     record {
       output_holds = holds words files input status ended a b before now f fnow contents output on runs;
@@ -288,7 +417,7 @@ ends words files input status ended a b first before now f fnow contents output 
     }
 
 -- what `run_words` and the handing on tell, over the streams as they were
-pub counted : {W : Type 0} (words : List (List ℕ)) (files : List ℕ → Option (List ℕ)) (left input : Option (List ℕ)) (status ended : ℕ) (held a kept b first f0 f1 f2 now : Option (List ℕ)) (f fnow : ℕ) (contents : W → Option (List ℕ)) (output : Option W) → left ≡ input → held ≡ a → b ≡ kept → f0 ≡ first → now ≡ f2 → HandsOn contents status b f f1 fnow f2 ended output → Runs words files left status held kept → (AsksFor words Bare → status ≡ 2 → IsRefused left) → status ≤ 3 → (status ≤ 1 → f1 ≡ f0) → (2 ≤ status → TellsSome f0 f1) → Ends words files input a first contents ended output now
+pub counted : {W : Type 0} (words : List (List ℕ)) (files : CallFiles) (left input : Option (List ℕ)) (status ended : ℕ) (held a kept b first f0 f1 f2 now : Option (List ℕ)) (f fnow : ℕ) (contents : W → Option (List ℕ)) (output : Option W) → left ≡ input → held ≡ a → b ≡ kept → f0 ≡ first → now ≡ f2 → HandsOn contents status b f f1 fnow f2 ended output → Runs words files left status held kept → (AsksFor words Bare → status ≡ 2 → IsRefused left) → status ≤ 3 → (status ≤ 1 → f1 ≡ f0) → (2 ≤ status → TellsSome f0 f1) → Ends words files input a first contents ended output now
 counted words files left input status ended held a kept b first f0 f1 f2 now f fnow contents output from was is start end on runs refused within silent fault =
     let here : Runs words files input status a b = subst (λ i. Runs words files i status a b) from (subst (λ o. Runs words files left status o b) was (subst (λ n. Runs words files left status held n) (sym is) runs)) in
     let refuses_here : AsksFor words Bare → status ≡ 2 → IsRefused input = subst (λ i. AsksFor words Bare → status ≡ 2 → IsRefused i) from refused in
@@ -297,12 +426,12 @@ counted words files left input status ended held a kept b first f0 f1 f2 now f f
     (ends words files input status ended a b first f1 f2 f fnow contents output on here refuses_here within (λ one. silent one ∙ start) tells_here)
 
 -- the same over the writer that a buffer stands before
-over_buffer : {W : Type 0} (words : List (List ℕ)) (files : List ℕ → Option (List ℕ)) (input : Option (List ℕ)) (status : ℕ) (a held : Option (List ℕ)) (contents : W → Option (List ℕ)) (output : Option W) → Keeps held a → MatchOption output (status ≡ 3) (λ w. Runs words files input status a (contents w)) → MatchOption output (status ≡ 3) (λ w. Runs words files input status held (contents w))
+over_buffer : {W : Type 0} (words : List (List ℕ)) (files : CallFiles) (input : Option (List ℕ)) (status : ℕ) (a held : Option (List ℕ)) (contents : W → Option (List ℕ)) (output : Option W) → Keeps held a → MatchOption output (status ≡ 3) (λ w. Runs words files input status a (contents w)) → MatchOption output (status ≡ 3) (λ w. Runs words files input status held (contents w))
 over_buffer words files input status a held contents None keeps h = h
 over_buffer words files input status a held contents (Some w) keeps h =
     runs_over words files input status a (contents w) held (contents w) (shift a (contents w) held (contents w) keeps (keeps_same (contents w))) h
 
-ends_over : {W : Type 0} (words : List (List ℕ)) (files : List ℕ → Option (List ℕ)) (input a held first : Option (List ℕ)) (contents : W → Option (List ℕ)) (status : ℕ) (output : Option W) (now : Option (List ℕ)) → Keeps held a → Ends words files input a first contents status output now → Ends words files input held first contents status output now
+ends_over : {W : Type 0} (words : List (List ℕ)) (files : CallFiles) (input a held first : Option (List ℕ)) (contents : W → Option (List ℕ)) (status : ℕ) (output : Option W) (now : Option (List ℕ)) → Keeps held a → Ends words files input a first contents status output now → Ends words files input held first contents status output now
 ends_over words files input a held first contents status output now keeps h =
     record {
       output_holds = over_buffer words files input status a held contents output keeps h.output_holds;
@@ -312,7 +441,7 @@ ends_over words files input a held first contents status output now keeps h =
       fault = h.fault;
     }
 
-pub ends_from : {W : Type 0} (words : List (List ℕ)) (files : List ℕ → Option (List ℕ)) (left input inside a held start first : Option (List ℕ)) (contents : W → Option (List ℕ)) (status : ℕ) (output : Option W) (now : Option (List ℕ)) → left ≡ input → inside ≡ a → start ≡ first → Keeps held a → Ends words files left inside start contents status output now → Ends words files input held first contents status output now
+pub ends_from : {W : Type 0} (words : List (List ℕ)) (files : CallFiles) (left input inside a held start first : Option (List ℕ)) (contents : W → Option (List ℕ)) (status : ℕ) (output : Option W) (now : Option (List ℕ)) → left ≡ input → inside ≡ a → start ≡ first → Keeps held a → Ends words files left inside start contents status output now → Ends words files input held first contents status output now
 ends_from words files left input inside a held start first contents status output now from is begin keeps h =
     ends_over words files input a held first contents status output now keeps
     (subst (λ i. Ends words files i a first contents status output now) from
@@ -320,7 +449,7 @@ ends_from words files left input inside a held start first contents status outpu
     (subst (λ f. Ends words files left inside f contents status output now) begin h)))
 
 -- nothing was done for want of memory
-pub ends_lost : {W : Type 0} (words : List (List ℕ)) (files : List ℕ → Option (List ℕ)) (input held first : Option (List ℕ)) (contents : W → Option (List ℕ)) (status : ℕ) (output : Option W) (now : Option (List ℕ)) → status ≡ 3 → output ≡ None → TellsSome first now → Ends words files input held first contents status output now
+pub ends_lost : {W : Type 0} (words : List (List ℕ)) (files : CallFiles) (input held first : Option (List ℕ)) (contents : W → Option (List ℕ)) (status : ℕ) (output : Option W) (now : Option (List ℕ)) → status ≡ 3 → output ≡ None → TellsSome first now → Ends words files input held first contents status output now
 ends_lost words files input held first contents status output now three none told =
     record {
       output_holds = subst (λ o. MatchOption o (status ≡ 3) (λ w. Runs words files input status held (contents w))) (sym none) three;

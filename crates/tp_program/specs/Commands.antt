@@ -38,6 +38,18 @@ budget_rule = record (new_rule (codes "budget")) {
   parser = Some (vp.Signed (pos 0) (pos 1000000));
 }
 
+-- `--journal`, a file, by default none
+abbrev pub journal_rule : Rule
+journal_rule = record (new_rule (codes "journal")) {
+  long = Some (codes "journal");
+  action = Some Set;
+  value_names = 1;
+}
+
+-- commands on a network of bounds alone
+abbrev pub bare_app : App
+bare_app = with_rule (new_app (codes "bare")) journal_rule
+
 -- the files of a plan, and how its time is measured
 abbrev pub plan_app : App → App
 plan_app named =
@@ -59,6 +71,10 @@ search_app =
     let files = with_rule (with_rule (new_app (codes "plan")) (file_rule (codes "DOMAIN"))) (file_rule (codes "PROBLEM")) in
     with_rule (with_rule (with_rule files scale_rule) horizon_rule) budget_rule
 
+-- the file of a journal
+abbrev pub audit_app : App
+audit_app = with_rule (new_app (codes "audit")) (file_rule (codes "LOG"))
+
 -- the program's words begin after its name, and it tells its version
 abbrev pub start_app : App
 start_app =
@@ -67,11 +83,15 @@ start_app =
 
 -- with the commands that judge a plan
 abbrev pub judging_app : App
-judging_app = with_subcommand (with_subcommand start_app (new_app (codes "bare")).top) check_app.top
+judging_app = with_subcommand (with_subcommand start_app bare_app.top) check_app.top
 
 -- and the network of one
 abbrev pub network_app : App
 network_app = with_subcommand judging_app net_app.top
 
+-- and with those that run plans and search for them
+abbrev pub planning_app : App
+planning_app = with_subcommand (with_subcommand network_app run_app.top) search_app.top
+
 abbrev pub tempo_app : App
-tempo_app = with_subcommand (with_subcommand network_app run_app.top) search_app.top
+tempo_app = with_subcommand planning_app audit_app.top

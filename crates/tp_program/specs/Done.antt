@@ -4,62 +4,73 @@ use Rattle.std.specs.Io.KnownBytes.{Appends}
 use Rattle.std.specs.String.{string_bytes}
 use Rattle.tp_device.specs.Bytes.{AppendsPart}
 use Rattle.tp_bare.specs.Bare.{AnswersAll, AnswersPart}
+use Rattle.tp_log_audits.specs.Bare.{SaysAuditPart, SaysJournal, SaysWrong}
 use Rattle.tp_plan_runs.specs.Invalid.{SaysInvalid}
 use Rattle.tp_plan_runs.specs.Runs.{RunsPart, RunsToNone, RunsToPlan}
 use Rattle.tp_plan_search.specs.Searches.{SaysNoPlan, SearchesPart, WritesPlan}
+use Rattle.tp_program.specs.CallFiles.{CallFiles}
 use Rattle.tp_program.specs.Checks.{SaysPart, SaysValid}
+use Rattle.tp_program.specs.Journaled.{LogsSome, LogsTo}
 use Rattle.tp_program.specs.Networks.{ShowsNetwork, ShowsPart}
 use Rattle.tp_program.specs.Requests.{AsksFor}
 use Rattle.tp_program.specs.declared.requests.Request.{Request}
-use Rattle.tp_program.specs.declared.requests.Request.TheVariants.{Bare, Check, Net, Run, Plan, Help}
+use Rattle.tp_program.specs.declared.requests.Request.TheVariants.{Bare, BareLog, Check, Net, Run, Plan, Audit, Help}
 
--- all commands of the input were answered; the plan is valid and that was written; its network was written; all commands of the input were
--- answered on that network, and the plan of the run was written; or the help was written
-abbrev pub IsDone : Request → (List ℕ → Option (List ℕ)) → Option (List ℕ) → Option (List ℕ)
+-- all commands of the input were answered; the same, and their journal is in the file that was named for it; the plan is valid and that was
+-- written; its network was written; all commands of the input were answered on that network, and the plan of the run was written; a valid
+-- plan of the problem was written; the file of a journal is one, and that was written; or the help was written
+abbrev pub IsDone : Request → CallFiles → Option (List ℕ) → Option (List ℕ)
     → Option (List ℕ) → Type 0
 IsDone Bare files input held now = AnswersAll input held now
-IsDone (Check w) files input held now = SaysValid files w held now
-IsDone (Net w) files input held now = ShowsNetwork files w held now
-IsDone (Run w) files input held now = RunsToPlan files w input held now
-IsDone (Plan w) files input held now = WritesPlan files w held now
+IsDone (BareLog log) files input held now = LogsTo files log.now input held now
+IsDone (Check w) files input held now = SaysValid files.held w held now
+IsDone (Net w) files input held now = ShowsNetwork files.held w held now
+IsDone (Run w) files input held now = RunsToPlan files.held w input held now
+IsDone (Plan w) files input held now = WritesPlan files.held w held now
+IsDone (Audit log) files input held now = SaysJournal (files.held log.now) held now
 IsDone (Help text) files input held now = Appends held now (string_bytes text)
 
 -- the words ask for something, and it was done
-pub record DoesWhatIsAsked (words : List (List ℕ)) (files : List ℕ → Option (List ℕ))
+pub record DoesWhatIsAsked (words : List (List ℕ)) (files : CallFiles)
     (input held now : Option (List ℕ)) : Type 0 where
   pub request : Request
   pub asked : AsksFor words request
   pub done : IsDone request files input held now
 
--- the plan is not valid, and its first fault was written; or all commands of the input were answered, and the run has no plan
-abbrev pub IsAnsweredNo : Request → (List ℕ → Option (List ℕ)) → Option (List ℕ) → Option (List ℕ)
+-- the plan is not valid, and its first fault was written; all commands of the input were answered, and the run has no plan; no plan was
+-- found, and it was written why; or an answer of a journal is not allowed, and that was written
+abbrev pub IsAnsweredNo : Request → CallFiles → Option (List ℕ) → Option (List ℕ)
     → Option (List ℕ) → Type 0
 IsAnsweredNo Bare files input held now = ⊥
-IsAnsweredNo (Check w) files input held now = SaysInvalid files w held now
-IsAnsweredNo (Net w) files input held now = SaysInvalid files w held now
-IsAnsweredNo (Run w) files input held now = RunsToNone files w input held now
-IsAnsweredNo (Plan w) files input held now = SaysNoPlan files w held now
+IsAnsweredNo (BareLog log) files input held now = ⊥
+IsAnsweredNo (Check w) files input held now = SaysInvalid files.held w held now
+IsAnsweredNo (Net w) files input held now = SaysInvalid files.held w held now
+IsAnsweredNo (Run w) files input held now = RunsToNone files.held w input held now
+IsAnsweredNo (Plan w) files input held now = SaysNoPlan files.held w held now
+IsAnsweredNo (Audit log) files input held now = SaysWrong (files.held log.now) held now
 IsAnsweredNo (Help text) files input held now = ⊥
 
--- the words ask for the verdict on a plan, for its network or for its run, and the answer is no
-pub record AnswersNo (words : List (List ℕ)) (files : List ℕ → Option (List ℕ))
+-- the words ask for the verdict on a plan, for its network, for its run, for a plan or for an audit, and the answer is no
+pub record AnswersNo (words : List (List ℕ)) (files : CallFiles)
     (input held now : Option (List ℕ)) : Type 0 where
   pub request : Request
   pub asked : AsksFor words request
   pub said : IsAnsweredNo request files input held now
 
 -- some first part of that was done
-abbrev pub IsPartDone : Request → (List ℕ → Option (List ℕ)) → Option (List ℕ) → Option (List ℕ)
+abbrev pub IsPartDone : Request → CallFiles → Option (List ℕ) → Option (List ℕ)
     → Option (List ℕ) → Type 0
 IsPartDone Bare files input held now = AnswersPart input held now
-IsPartDone (Check w) files input held now = SaysPart files w held now
-IsPartDone (Net w) files input held now = ShowsPart files w held now
-IsPartDone (Run w) files input held now = RunsPart files w input held now
-IsPartDone (Plan w) files input held now = SearchesPart files w held now
+IsPartDone (BareLog log) files input held now = LogsSome files input held now
+IsPartDone (Check w) files input held now = SaysPart files.held w held now
+IsPartDone (Net w) files input held now = ShowsPart files.held w held now
+IsPartDone (Run w) files input held now = RunsPart files.held w input held now
+IsPartDone (Plan w) files input held now = SearchesPart files.held w held now
+IsPartDone (Audit log) files input held now = SaysAuditPart (files.held log.now) held now
 IsPartDone (Help text) files input held now = AppendsPart held now (string_bytes text)
 
 -- nothing was written, or the words ask for something, and some first part of it was written
-abbrev pub DoesPart : List (List ℕ) → (List ℕ → Option (List ℕ)) → Option (List ℕ) → Option (List ℕ)
+abbrev pub DoesPart : List (List ℕ) → CallFiles → Option (List ℕ) → Option (List ℕ)
     → Option (List ℕ) → Type 0
 DoesPart words files input held now =
     Appends held now []

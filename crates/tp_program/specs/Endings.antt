@@ -4,13 +4,16 @@ use Rattle.std.specs.String.{string_bytes}
 use Rattle.tp_device.specs.Bytes.{AppendsPart}
 use Rattle.tp_files.specs.FaultLines.{Tells, fault_line}
 use Rattle.tp_bare.specs.Bare.{StopsBare}
+use Rattle.tp_bare_journals.specs.Logged.{EndsJournaled}
+use Rattle.tp_log_audits.specs.Bare.{EndsBareAudit}
 use Rattle.tp_plan_runs.specs.Runs.{EndsRun}
 use Rattle.tp_plan_search.specs.SearchStops.{EndsSearch}
+use Rattle.tp_program.specs.CallFiles.{CallFiles}
 use Rattle.tp_program.specs.Checks.{EndsCheck}
 use Rattle.tp_program.specs.Networks.{EndsNet}
 use Rattle.tp_program.specs.Requests.{AsksFor}
 use Rattle.tp_program.specs.declared.requests.Request.{Request}
-use Rattle.tp_program.specs.declared.requests.Request.TheVariants.{Bare, Check, Net, Run, Plan, Help}
+use Rattle.tp_program.specs.declared.requests.Request.TheVariants.{Bare, BareLog, Check, Net, Run, Plan, Audit, Help}
 
 -- there was no memory for the words
 pub record LacksMemory (status : ℕ) (held held-now : Option (List ℕ)) (output output-now : ℕ)
@@ -39,25 +42,34 @@ pub record StopsHelp (text : List ℕ) (status : ℕ) (held held-now : Option (L
   pub told : Tells (fault_line (codes "script") (codes "2 write")) failures before failures-now now
 
 -- how what is asked for ends
-abbrev pub EndsRequest : Request → (List ℕ → Option (List ℕ)) → Option (List ℕ) → ℕ
+abbrev pub EndsRequest : Request → CallFiles → Option (List ℕ) → ℕ
     → Option (List ℕ) → Option (List ℕ) → ℕ → ℕ → ℕ → Option (List ℕ) → ℕ → Option (List ℕ) → Type 0
 EndsRequest Bare files input status held held-now output output-now failures before failures-now now
     = StopsBare status input held held-now output output-now failures before failures-now now
+EndsRequest (BareLog log) files input status held held-now output output-now failures before
+    failures-now now
+    = EndsJournaled status input held held-now files.blank files.kept output output-now failures
+    before failures-now now
 EndsRequest
     (Check w) files input status held held-now output output-now failures before failures-now now
-    = EndsCheck files w status held held-now output output-now failures before failures-now now
-EndsRequest (Net w) files input status held held-now output output-now failures before failures-now
-    now = EndsNet files w status held held-now output output-now failures before failures-now now
+    = EndsCheck files.held w status held held-now output output-now failures before failures-now now
 EndsRequest
-    (Run w) files input status held held-now output output-now failures before failures-now now
-    = EndsRun files w status input held held-now output output-now failures before failures-now now
-EndsRequest (Plan w) files input status held held-now output output-now failures before failures-now
-    now = EndsSearch files w status held held-now output output-now failures before failures-now now
+    (Net w) files input status held held-now output output-now failures before failures-now now
+    = EndsNet files.held w status held held-now output output-now failures before failures-now now
+EndsRequest (Run w) files input status held held-now output output-now failures before failures-now
+    now = EndsRun files.held w status input held held-now output output-now failures before
+    failures-now now
+EndsRequest
+    (Plan w) files input status held held-now output output-now failures before failures-now now =
+    EndsSearch files.held w status held held-now output output-now failures before failures-now now
+EndsRequest (Audit log) files input status held held-now output output-now failures before
+    failures-now now = EndsBareAudit (files.held log.now) log.now status held held-now output
+    output-now failures before failures-now now
 EndsRequest
     (Help text) files input status held held-now output output-now failures before failures-now now
     = StopsHelp (string_bytes text) status held held-now failures before failures-now now
 
-abbrev pub EndsCall : List (List ℕ) → (List ℕ → Option (List ℕ)) → Option (List ℕ) → ℕ
+abbrev pub EndsCall : List (List ℕ) → CallFiles → Option (List ℕ) → ℕ
     → Option (List ℕ) → Option (List ℕ) → ℕ → ℕ → ℕ → Option (List ℕ) → ℕ → Option (List ℕ) → Type 0
 EndsCall words files input status held held-now output output-now failures before failures-now now =
     RefusesWords status held held-now output output-now failures before failures-now now

@@ -9,7 +9,7 @@ use Rattle.tp_program.specs.Commands.{tempo_app}
 use Rattle.tp_plan_files.specs.declared.plan_words.PlanWords.{PlanWords}
 use Rattle.tp_plan_search.specs.declared.search_words.SearchWords.{SearchWords}
 use Rattle.tp_program.specs.declared.requests.Request.{Request}
-use Rattle.tp_program.specs.declared.requests.Request.TheVariants.{Bare, Check, Net, Run, Plan, Help}
+use Rattle.tp_program.specs.declared.requests.Request.TheVariants.{Bare, BareLog, Check, Net, Run, Plan, Audit, Help}
 
 -- the text is there, and its digits make the number
 abbrev pub Spells : Option Text → ℕ → Type 0
@@ -34,18 +34,24 @@ pub record IsSearchWords (rows : List Row) (w : SearchWords) : Type 0 where
   pub budget : Spells (one_of (codes "budget") rows) w.budget
   pub most : w.budget ≤ 1000000
 
--- no command is named, or `bare`
+-- no command is named, or `bare` without a file for a journal
 abbrev pub NamesBare : Option (Text × List Row) → Type 0
 NamesBare None = Unit {0}
-NamesBare (Some named) = named.0 ≡ codes "bare"
+NamesBare (Some named) = (named.0 ≡ codes "bare") × (first_of (codes "journal") named.1 ≡ None)
 
 -- what a command with its values asks for
 abbrev pub AsksBy : Option (Text × List Row) → Request → Type 0
 AsksBy named Bare = NamesBare named
+AsksBy named (BareLog log) =
+    (rows : List Row) × (named ≡ Some (codes "bare", rows))
+    × (first_of (codes "journal") rows ≡ Some log.now)
 AsksBy named (Check w) = (rows : List Row) × (named ≡ Some (codes "check", rows)) × IsPlanWords rows w
 AsksBy named (Net w) = (rows : List Row) × (named ≡ Some (codes "net", rows)) × IsPlanWords rows w
 AsksBy named (Run w) = (rows : List Row) × (named ≡ Some (codes "run", rows)) × IsPlanWords rows w
 AsksBy named (Plan w) = (rows : List Row) × (named ≡ Some (codes "plan", rows)) × IsSearchWords rows w
+AsksBy named (Audit log) =
+    (rows : List Row) × (named ≡ Some (codes "audit", rows))
+    × (first_of (codes "LOG") rows ≡ Some log.now)
 AsksBy named (Help text) = ⊥
 
 -- a parse that ends so gives a text that was called for
@@ -58,6 +64,8 @@ AsksFor words (Help text) =
     IsAmong DisplayHelp (fault_of tempo_app words)
     ⊎ IsAmong DisplayVersion (fault_of tempo_app words)
 AsksFor words Bare = (fault_of tempo_app words ≡ []) × AsksBy (subcommand_of tempo_app words) Bare
+AsksFor words (BareLog log) =
+    (fault_of tempo_app words ≡ []) × AsksBy (subcommand_of tempo_app words) (BareLog log)
 AsksFor words (Check w) =
     (fault_of tempo_app words ≡ []) × AsksBy (subcommand_of tempo_app words) (Check w)
 AsksFor words (Net w) =
@@ -66,31 +74,40 @@ AsksFor words (Run w) =
     (fault_of tempo_app words ≡ []) × AsksBy (subcommand_of tempo_app words) (Run w)
 AsksFor words (Plan w) =
     (fault_of tempo_app words ≡ []) × AsksBy (subcommand_of tempo_app words) (Plan w)
+AsksFor words (Audit log) =
+    (fault_of tempo_app words ≡ []) × AsksBy (subcommand_of tempo_app words) (Audit log)
 
 -- the words ask for no answers to commands: for something else, or for nothing
 pub record AsksForNoCommands (words : List Text) : Type 0 where
   pub no_bare : AsksFor words Bare → ⊥
+  pub no_log : (log : _) → AsksFor words (BareLog log) → ⊥
   pub no_run : (w : PlanWords) → AsksFor words (Run w) → ⊥
 
--- words ask for one kind of thing at most: for commands on a network, for a verdict, for the network of a plan, for its run, for a plan, or for help
+-- the command that a request is one of; a call without words is one of `bare`, and help is none
+abbrev pub command_name : Request → Option Text
+command_name Bare = Some (codes "bare")
+command_name (BareLog log) = Some (codes "bare")
+command_name (Check w) = Some (codes "check")
+command_name (Net w) = Some (codes "net")
+command_name (Run w) = Some (codes "run")
+command_name (Plan w) = Some (codes "plan")
+command_name (Audit log) = Some (codes "audit")
+command_name (Help text) = None
+
+-- the file for a journal
+abbrev pub journal_name : Request → Option Text
+journal_name Bare = None
+journal_name (BareLog log) = Some log.now
+journal_name (Check w) = None
+journal_name (Net w) = None
+journal_name (Run w) = None
+journal_name (Plan w) = None
+journal_name (Audit log) = None
+journal_name (Help text) = None
+
+-- words ask for one kind of thing at most: for one command, with one file for a journal or none, or for help
 pub record AskForOneThing (words : List Text) : Type 0 where
-  pub bare_check : (w : PlanWords) → AsksFor words Bare → AsksFor words (Check w) → ⊥
-  pub bare_net : (w : PlanWords) → AsksFor words Bare → AsksFor words (Net w) → ⊥
-  pub check_net : (v w : PlanWords) → AsksFor words (Check v) → AsksFor words (Net w) → ⊥
-  pub net_help : (w : PlanWords) (text : _) → AsksFor words (Net w) → AsksFor words (Help text) → ⊥
-  pub bare_help : (text : _) → AsksFor words Bare → AsksFor words (Help text) → ⊥
-  pub bare_run : (w : PlanWords) → AsksFor words Bare → AsksFor words (Run w) → ⊥
-  pub check_run : (v w : PlanWords) → AsksFor words (Check v) → AsksFor words (Run w) → ⊥
-  pub net_run : (v w : PlanWords) → AsksFor words (Net v) → AsksFor words (Run w) → ⊥
-  pub run_help : (w : PlanWords) (text : _) → AsksFor words (Run w) → AsksFor words (Help text) → ⊥
-  pub bare_plan : (w : SearchWords) → AsksFor words Bare → AsksFor words (Plan w) → ⊥
-  pub check_plan : (v : PlanWords) (w : SearchWords) → AsksFor words (Check v)
-      → AsksFor words (Plan w) → ⊥
-  pub net_plan : (v : PlanWords) (w : SearchWords) → AsksFor words (Net v) → AsksFor words (Plan w)
-      → ⊥
-  pub run_plan : (v : PlanWords) (w : SearchWords) → AsksFor words (Run v) → AsksFor words (Plan w)
-      → ⊥
-  pub plan_help : (w : SearchWords) (text : _) → AsksFor words (Plan w) → AsksFor words (Help text)
-      → ⊥
-  pub check_help : (w : PlanWords) (text : _) → AsksFor words (Check w) → AsksFor words (Help text)
-      → ⊥
+  pub command : (r s : Request) → AsksFor words r → AsksFor words s
+      → command_name r ≡ command_name s
+  pub journal : (r s : Request) → AsksFor words r → AsksFor words s
+      → journal_name r ≡ journal_name s

@@ -3,6 +3,7 @@ use Rattle.std.specs.Prelude.{◌≡◌, ◌≢◌, ◌≤◌, ◌⊎◌, ℕ, L
 use Rattle.std.specs.Io.KnownBytes.{Appends, Keeps}
 use Rattle.tp_device.specs.Bytes.{AppendsPart}
 use Rattle.tp_bare.specs.Bare.{AnswersAll, AnswersPart, IsRefused}
+use Rattle.tp_program.specs.CallFiles.{CallFiles}
 use Rattle.tp_program.specs.Done.{AnswersNo, DoesPart, DoesWhatIsAsked}
 use Rattle.tp_files.specs.FaultLines.{IsFaultText, TellsFault, fault_line}
 use Rattle.tp_program.specs.Requests.{AsksFor, AsksForNoCommands}
@@ -17,7 +18,7 @@ TellsSome before now =
 -- What is written to the output, by the exit status. It was done what the words ask for; the answer is no; of a network of bounds all is
 -- answered, or a first part; where memory or a device is wanting, a first part of what the words ask for was done, or nothing; for all
 -- else that is refused nothing is written
-pub record Runs (words : List (List ℕ)) (files : List ℕ → Option (List ℕ)) (input : Option (List ℕ))
+pub record Runs (words : List (List ℕ)) (files : CallFiles) (input : Option (List ℕ))
     (status : ℕ) (held now : Option (List ℕ)) : Type 0 where
   pub done : status ≡ 0 → DoesWhatIsAsked words files input held now
   pub no : status ≡ 1 → AnswersNo words files input held now
@@ -37,7 +38,7 @@ HandsOn contents status held failures before failures-now now ended None =
 
 -- How a run ends. The output holds what the status tells, or it is gone and the status is 3. A network is refused only where it has no head
 -- or comes with too many bytes. A fault line goes with each fault, and with nothing else
-pub record Ends (words : List (List ℕ)) (files : List ℕ → Option (List ℕ))
+pub record Ends (words : List (List ℕ)) (files : CallFiles)
     (input held faults : Option (List ℕ)) {W : Type 0} (contents : W → Option (List ℕ)) (status : ℕ)
     (output : Option W) (faults-now : Option (List ℕ)) : Type 0 where
   pub output_holds : MatchOption output (status ≡ 3) (λ w.

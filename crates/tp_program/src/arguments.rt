@@ -105,13 +105,25 @@ fn search_words<'w>(matches: &ArgMatches<'w>) -> Option<SearchWords<'w>>
     })
 }
 
+/// What `bare` asks for: a journal too, where a file is named for it.
+fn bare_asked<'w>(matches: &ArgMatches<'w>) -> Request<'w>
+    ensures asked { AsksBy (Some (codes "bare", rows_of (found_of matches.now))) result }
+    ensures bare { first_of (codes "journal") (rows_of (found_of matches.now)) ≡ None → result ≡ Request.Bare }
+{
+    match word(matches, "journal") {
+        None => Request::Bare,
+        Some(log) => Request::BareLog(log),
+    }
+}
+
 /// What a command with its values asks for.
 fn asked_by<'w>(name: &str, matches: &ArgMatches<'w>) -> Result<Request<'w>, Refusal>
     ensures asked { IfOk result (AsksBy (Some (name.now, rows_of (found_of matches.now)))) }
-    ensures bare { name.now ≡ codes "bare" → result ≡ Ok Request.Bare }
+    ensures bare { name.now ≡ codes "bare" → first_of (codes "journal") (rows_of (found_of matches.now)) ≡ None
+        → result ≡ Ok Request.Bare }
 {
     if name == "bare" {
-        return Ok(Request::Bare);
+        return Ok(bare_asked(matches));
     }
     if name == "check" {
         if let Some(words) = plan_words(matches) {
@@ -131,6 +143,11 @@ fn asked_by<'w>(name: &str, matches: &ArgMatches<'w>) -> Result<Request<'w>, Ref
     if name == "plan" {
         if let Some(words) = search_words(matches) {
             return Ok(Request::Plan(words));
+        }
+    }
+    if name == "audit" {
+        if let Some(log) = word(matches, "LOG") {
+            return Ok(Request::Audit(log));
         }
     }
     Err(Refusal::Words(None))
@@ -187,6 +204,12 @@ pub fn bare_calls()
     ensures bare { AsksFor (codes "bare" ∷ []) Request.Bare }
 {}
 
+/// The file for a journal behind `bare`.
+pub fn bare_log_calls()
+    ensures { (w : PlanWords) → w.plan.now ≡ codes "l"
+        → AsksFor (codes "bare" ∷ codes "--journal" ∷ codes "l" ∷ []) (Request.BareLog w.plan) }
+{}
+
 /// Files and options of `check`, in the order in which they may stand, with a horizon of 1000000 where none is given.
 pub fn check_calls()
     ensures { (w : PlanWords) → w.domain.now ≡ codes "d" → w.problem.now ≡ codes "p" → w.plan.now ≡ codes "l"
@@ -215,7 +238,13 @@ pub fn plan_calls()
         → AsksFor (codes "plan" ∷ codes "d" ∷ codes "p" ∷ codes "--budget" ∷ codes "7" ∷ []) (Request.Plan w) }
 {}
 
-/// Words ask for one kind of thing at most.
+/// The file of a journal behind `audit`.
+pub fn audit_calls()
+    ensures { (w : PlanWords) → w.plan.now ≡ codes "l"
+        → AsksFor (codes "audit" ∷ codes "l" ∷ []) (Request.Audit w.plan) }
+{}
+
+/// Words ask for one kind of thing at most: for one command, with one file for a journal or none, or for help.
 pub fn requests_are_distinct()
     ensures { (words : List (List ℕ)) → AskForOneThing words }
 {}

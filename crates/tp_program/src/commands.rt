@@ -2,7 +2,7 @@
 ghost use Rattle.std.specs.Prelude.{◌≡◌, false, IfOk, codes};
 ghost use Rattle.clap.specs.Words.{app_of, new_app, rule_of, with_subcommand};
 ghost use Rattle.clap.specs.declared.builder.command.Command.TheViews.{out-Command as fields_of};
-ghost use Rattle.tp_program.specs.Commands.{budget_rule, check_app, file_rule, horizon_rule, judging_app, net_app, network_app, plan_app, run_app, scale_rule, search_app, start_app, tempo_app};
+ghost use Rattle.tp_program.specs.Commands.{audit_app, bare_app, budget_rule, check_app, file_rule, horizon_rule, journal_rule, judging_app, net_app, network_app, plan_app, planning_app, run_app, scale_rule, search_app, start_app, tempo_app};
 
 use clap::{Arg, ArgAction, Command, value_parser};
 use std::alloc::{AllocError, Global};
@@ -20,9 +20,11 @@ For 2 and 3 a line `fault PART NUMBER WORD ..` goes to standard error.
 
 Examples:
   printf 'network 1 5\\nwindow 0\\n' | tempo bare
+  printf 'network 1 5\\nwindow 0\\n' | tempo bare --journal night.log
   tempo check domain.pddl problem.pddl plan.txt
   tempo net domain.pddl problem.pddl plan.txt
-  printf 'dispatch 0\\nadvance 3\\ndispatch 1\\n' | tempo run domain.pddl problem.pddl plan.txt";
+  printf 'dispatch 0\\nadvance 3\\ndispatch 1\\n' | tempo run domain.pddl problem.pddl plan.txt
+  tempo audit night.log";
 
 const BARE_ABOUT: &str = "Answers commands on a network of events and bounds";
 
@@ -45,7 +47,9 @@ Example:
   printf 'network 2 100\\nadd 0 1 5\\nwindow 1\\n' | tempo bare
 prints
   bound 0
-  window 0 100";
+  window 0 100
+
+With `--journal FILE` each command and its answer go to the file before the answer goes out, for `tempo audit FILE`.";
 
 const CHECK_ABOUT: &str = "Says whether a plan is valid, and if not, its first fault";
 
@@ -123,6 +127,23 @@ Example:
 prints
   0: (need)";
 
+const AUDIT_ABOUT: &str = "Says whether a file is a journal, and if not, which answer is wrong";
+
+const AUDIT_HELP: &str =
+    "Reads a journal of commands on a network of events and bounds: its head, and for each line that had an answer the pair of
+the command, behind `> `, and the answer, behind `< `. Each command is carried out anew, and each answer judged. It prints
+
+  audit ok N     the file is a journal of N pairs
+  wrong N        the answer on line N is not allowed
+
+Exit status: 0 for the first, 1 for the second, 2 refused input, 3 memory or a device. Input is refused by its first line
+that breaks the format (`fault journal 3 line N`), or where the network came from a plan (`fault journal 5 head`).
+
+Example:
+  tempo audit night.log
+prints
+  audit ok 7";
+
 /// A file that has to be named.
 fn file_argument<'a>(alloc: Global, id: &'a str, help: &'a str) -> Arg<'a>
     ensures rule { rule_of result ≡ file_rule id.entry.now }
@@ -176,14 +197,34 @@ fn budget_option<'a>(alloc: Global) -> Arg<'a>
         .help("How many nodes the search may expand, from 0 to 1000000")
 }
 
-/// The command `bare`.
-fn bare_command<'a>(alloc: Global) -> Command<'a>
+/// The file of a journal that is kept.
+fn journal_option<'a>(alloc: Global) -> Arg<'a>
+    ensures rule { rule_of result ≡ journal_rule }
+    ensures local { result.global ≡ false }
+{
+    Arg::new(alloc, "journal")
+        .long("journal")
+        .value_name("FILE")
+        .action(ArgAction::Set)
+        .help("A file to write the journal to; what it held is lost")
+}
+
+/// The command `bare` before it has its option.
+fn bare_start<'a>(alloc: Global) -> Command<'a>
     ensures app { app_of result ≡ new_app (codes "bare") }
     ensures local { (fields_of result).has_globals ≡ false }
 {
     Command::new(alloc, "bare")
         .about(BARE_ABOUT)
         .after_help(BARE_HELP)
+}
+
+/// The command `bare`.
+fn bare_command<'a>(alloc: Global) -> Result<Command<'a>, AllocError>
+    ensures app { IfOk result (λ c. app_of c ≡ bare_app) }
+    ensures local { IfOk result (λ c. (fields_of c).has_globals ≡ false) }
+{
+    bare_start(alloc).arg(journal_option(alloc))
 }
 
 /// A command that takes the files of a plan, before it has arguments.
@@ -245,6 +286,24 @@ fn search_command<'a>(alloc: Global) -> Result<Command<'a>, AllocError>
         .arg(budget_option(alloc))
 }
 
+/// The command `audit` before it has its argument.
+fn audit_start<'a>(alloc: Global) -> Command<'a>
+    ensures app { app_of result ≡ new_app (codes "audit") }
+    ensures local { (fields_of result).has_globals ≡ false }
+{
+    Command::new(alloc, "audit")
+        .about(AUDIT_ABOUT)
+        .after_help(AUDIT_HELP)
+}
+
+/// The command `audit`.
+fn audit_command<'a>(alloc: Global) -> Result<Command<'a>, AllocError>
+    ensures app { IfOk result (λ c. app_of c ≡ audit_app) }
+    ensures local { IfOk result (λ c. (fields_of c).has_globals ≡ false) }
+{
+    audit_start(alloc).arg(file_argument(alloc, "LOG", "The file of the journal"))
+}
+
 /// The program before it has commands. Its words begin after its name.
 fn tempo_start<'a>(alloc: Global) -> Result<Command<'a>, AllocError>
     ensures { IfOk result (λ c. app_of c ≡ start_app) }
@@ -261,10 +320,9 @@ fn tempo_start<'a>(alloc: Global) -> Result<Command<'a>, AllocError>
 fn judging_command<'a>(alloc: Global) -> Result<Command<'a>, AllocError>
     ensures { IfOk result (λ c. app_of c ≡ judging_app) }
 {
+    let bare = bare_command(alloc)?;
     let check = check_command(alloc)?;
-    tempo_start(alloc)?
-        .subcommand(bare_command(alloc))?
-        .subcommand(check)
+    tempo_start(alloc)?.subcommand(bare)?.subcommand(check)
 }
 
 /// The same with the command that prints networks.
@@ -283,10 +341,18 @@ fn running_command<'a>(alloc: Global) -> Result<Command<'a>, AllocError>
     network_command(alloc)?.subcommand(run)
 }
 
+/// The same with the command that searches.
+fn planning_command<'a>(alloc: Global) -> Result<Command<'a>, AllocError>
+    ensures { IfOk result (λ c. app_of c ≡ planning_app) }
+{
+    let search = search_command(alloc)?;
+    running_command(alloc)?.subcommand(search)
+}
+
 /// The program with all its commands.
 pub fn tempo_command<'a>(alloc: Global) -> Result<Command<'a>, AllocError>
     ensures { IfOk result (λ c. app_of c ≡ tempo_app) }
 {
-    let search = search_command(alloc)?;
-    running_command(alloc)?.subcommand(search)
+    let audit = audit_command(alloc)?;
+    planning_command(alloc)?.subcommand(audit)
 }

@@ -7,6 +7,8 @@ use tp_plan_search::SearchWords;
 pub enum Request<'w> {
     /// The answers to the commands of the input.
     Bare,
+    /// The same, and their journal in the file of a name.
+    BareLog(&'w str),
     /// The verdict on a plan.
     Check(PlanWords<'w>),
     /// The network of a plan.
@@ -15,6 +17,8 @@ pub enum Request<'w> {
     Run(PlanWords<'w>),
     /// A plan of a problem.
     Plan(SearchWords<'w>),
+    /// The audit of the journal in a file.
+    Audit(&'w str),
     /// A text of help, or the version.
     Help(String),
 }

@@ -6,6 +6,7 @@ ghost use Rattle.std.specs.String.{string_bytes};
 ghost use Rattle.tp_files.specs.Calls.{call_status, call_text};
 ghost use Rattle.tp_files.specs.FaultLines.{TellsFault};
 ghost use Rattle.tp_device.specs.Bytes.{AppendsPart};
+ghost use Rattle.tp_program.specs.CallFiles.{call_files};
 ghost use Rattle.tp_program.specs.Streams.{Ends, HandsOn, TellsSome};
 
 use crate::words::run_words;
@@ -15,6 +16,7 @@ use std::marker::Brand;
 use std::sync::ledger::{Blank, Ledger};
 use tp_device::{FromRead, Sink};
 use tp_files::{CallFault, FaultLine, Files, OUT_OF_ORDER, Outlet, complain, refuse_call};
+use tp_logs::Logs;
 
 /// What a run came to: its exit status, and the writers. The output is gone where the last of it could not be handed on.
 #[derive(Drop)]
@@ -103,7 +105,7 @@ fn run_counted<
     I: Ledger,
     O: Ledger,
     F: Ledger,
-    N: Files,
+    N: Files + Logs,
     R: Read + Drop,
     W: Write + Drop,
     V: Write + Drop,
@@ -124,7 +126,8 @@ fn run_counted<
     requires f { faults.blank.name ≡ F.name }
     requires f_parts { faults.blank.parts ≡ F.parts }
     requires f_some { 0 < faults.blank.parts }
-    ensures { Ends (map string_bytes words.now) (N.held files.old) (R.remaining input.stream)
+    ensures { Ends (map string_bytes words.now) (call_files (N.held files.old) N.blank
+        (N.named files.new) (N.kept files.new)) (R.remaining input.stream)
         (line_writer_contents W.contents output.stream) (V.contents faults.stream) W.contents
         result.status result.output (V.contents result.faults) }
 {
@@ -171,7 +174,7 @@ fn end_lost<F: Ledger, W, V: Write + Drop>(faults: Counted<V>) -> Ended<W, V>
 ///
 /// Each answer is handed to `output` as soon as its line is whole. What could not be written to `output` in the end is told
 /// as a failed write.
-pub fn run_streams<N: Files, R: Read + Drop, W: Write + Drop, V: Write + Drop>(
+pub fn run_streams<N: Files + Logs, R: Read + Drop, W: Write + Drop, V: Write + Drop>(
     alloc: Global,
     words: &[String],
     files: &mut N,
@@ -179,9 +182,9 @@ pub fn run_streams<N: Files, R: Read + Drop, W: Write + Drop, V: Write + Drop>(
     output: W,
     faults: V,
 ) -> Ended<W, V>
-    ensures { Ends (map string_bytes words.now) (N.held files.old) (R.remaining input)
-        (W.contents output) (V.contents faults) W.contents result.status result.output
-        (V.contents result.faults) }
+    ensures { Ends (map string_bytes words.now) (call_files (N.held files.old) N.blank
+        (N.named files.new) (N.kept files.new)) (R.remaining input) (W.contents output)
+        (V.contents faults) W.contents result.status result.output (V.contents result.faults) }
 {
     let input = Counted::new(input);
     let faults = Counted::new(faults);

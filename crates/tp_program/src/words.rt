@@ -4,6 +4,7 @@ ghost use Rattle.std.specs.String.{string_bytes};
 ghost use Rattle.std.specs.Io.KnownBytes.{Appends};
 ghost use Rattle.tp_device.specs.Bytes.{AppendsPart};
 ghost use Rattle.tp_bare.specs.Bare.{AnswersAll, AnswersPart, IsRefused};
+ghost use Rattle.tp_program.specs.CallFiles.{call_files};
 ghost use Rattle.tp_program.specs.Done.{AnswersNo, DoesPart, DoesWhatIsAsked};
 ghost use Rattle.tp_files.specs.FaultLines.{TellsFault, TellsRefusal};
 ghost use Rattle.tp_program.specs.Endings.{EndsBare, EndsCall, RefusesWords, StopsHelp};
@@ -15,13 +16,16 @@ use crate::net::run_net;
 use crate::requests::Request;
 use std::alloc::Global;
 use tp_bare::run_bare;
+use tp_bare_journals::run_bare_journal;
 use tp_device::{Sink, Source, push_all};
 use tp_files::{FaultLine, Files, OUT_OF_ORDER, REFUSED, complain, complain_more};
+use tp_log_audits::run_bare_audit;
+use tp_logs::Logs;
 use tp_plan_runs::run_run;
 use tp_plan_search::run_plan;
 
 /// Does what the words ask for. Answers the exit status, and for another than 0 and 1 writes one fault line.
-pub fn run_words<N: Files, I: Source + Drop, O: Sink, F: Sink>(
+pub fn run_words<N: Files + Logs, I: Source + Drop, O: Sink, F: Sink>(
     alloc: Global,
     words: &[String],
     files: &mut N,
@@ -29,9 +33,11 @@ pub fn run_words<N: Files, I: Source + Drop, O: Sink, F: Sink>(
     output: &mut O,
     faults: &mut F,
 ) -> u8
-    ensures done { result ≡ 0 → DoesWhatIsAsked (map string_bytes words.now) (N.held files.old)
+    ensures done { result ≡ 0 → DoesWhatIsAsked (map string_bytes words.now)
+        (call_files (N.held files.old) N.blank (N.named files.new) (N.kept files.new))
         (I.left input) (O.held output.old) (O.held output.new) }
-    ensures no { result ≡ 1 → AnswersNo (map string_bytes words.now) (N.held files.old)
+    ensures no { result ≡ 1 → AnswersNo (map string_bytes words.now)
+        (call_files (N.held files.old) N.blank (N.named files.new) (N.kept files.new))
         (I.left input) (O.held output.old) (O.held output.new) }
 
     // Of a network of bounds alone all is answered, or where the status tells otherwise a first part.
@@ -49,14 +55,15 @@ pub fn run_words<N: Files, I: Source + Drop, O: Sink, F: Sink>(
         (F.failures faults.new) (F.held faults.new) }
 
     // What stopped the call is told, and is as it is told.
-    ensures stopped { 2 ≤ result
-        → EndsCall (map string_bytes words.now) (N.held files.old) (I.left input) result
+    ensures stopped { 2 ≤ result → EndsCall (map string_bytes words.now) (call_files
+        (N.held files.old) N.blank (N.named files.new) (N.kept files.new)) (I.left input) result
         (O.held output.old) (O.held output.new) (O.failures output.old) (O.failures output.new)
         (F.failures faults.old) (F.held faults.old) (F.failures faults.new) (F.held faults.new) }
 
     // Where memory or a device is wanting, a first part of what is asked for is written, or nothing.
     ensures broken { result ≡ OUT_OF_ORDER → DoesPart (map string_bytes words.now)
-        (N.held files.old) (I.left input) (O.held output.old) (O.held output.new) }
+        (call_files (N.held files.old) N.blank (N.named files.new) (N.kept files.new))
+        (I.left input) (O.held output.old) (O.held output.new) }
 
     // Where no answers to commands are asked for, nothing is written for what is refused.
     ensures kept { AsksForNoCommands (map string_bytes words.now) → result ≡ REFUSED
@@ -72,10 +79,12 @@ pub fn run_words<N: Files, I: Source + Drop, O: Sink, F: Sink>(
 {
     match read_words(alloc, words) {
         Ok(Request::Bare) => run_bare(alloc, input, output, faults),
+        Ok(Request::BareLog(log)) => run_bare_journal(alloc, files, log, input, output, faults),
         Ok(Request::Check(plan)) => run_check(alloc, files, plan, output, faults),
         Ok(Request::Net(plan)) => run_net(alloc, files, plan, output, faults),
         Ok(Request::Run(plan)) => run_run(alloc, files, plan, input, output, faults),
         Ok(Request::Plan(search)) => run_plan(alloc, files, search, output, faults),
+        Ok(Request::Audit(log)) => run_bare_audit(alloc, files, log, output, faults),
         Ok(Request::Help(text)) => show(text.as_str(), output, faults),
         Err(Refusal::Words(text)) => refuse_words(text, faults),
         Err(Refusal::Memory) => complain(faults, FaultLine::out_of_order("arguments", "2 memory")),

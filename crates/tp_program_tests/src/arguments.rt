@@ -3,23 +3,28 @@ use super::devices::{Outcome, WIDE, run, whole};
 use std::alloc::Global;
 
 /// Words that are refused, and what is said of them.
-const REFUSED: [(&[&str], &str); 14] = [
+const REFUSED: [(&[&str], &str); 16] = [
     (&["split"], "error: unrecognized subcommand 'split'"),
     (&["plan", "d"], "<PROBLEM>"),
-    (&["audit", "log"], "error: unrecognized subcommand 'audit'"),
+    (&["audit"], "<LOG>"),
     (&["Bare"], "error: unrecognized subcommand 'Bare'"),
     (&["bare", "bare"], "error: unexpected argument 'bare' found"),
     (
         &["--journal", "log"],
         "error: unexpected argument '--journal' found",
     ),
+    (&["bare", "--journal"], "--journal <FILE>"),
     (
-        &["bare", "--journal", "log"],
-        "error: unexpected argument '--journal' found",
+        &["bare", "--journal", "a", "--journal", "b"],
+        "cannot be used multiple times",
     ),
     (&["check", "d", "p"], "<PLAN>"),
     (&["net", "d", "p"], "<PLAN>"),
     (&["run", "d", "p"], "<PLAN>"),
+    (
+        &["audit", "log", "d"],
+        "error: unexpected argument 'd' found",
+    ),
     (
         &["run", "d", "p", "l", "--journal", "log"],
         "error: unexpected argument '--journal' found",
@@ -36,7 +41,13 @@ const VERSION: &[&str] = &["tempo rattle-kit-", " logic "];
 
 const PROGRAM: &[&str] = &["Usage: tempo", "bare", "Examples:", "Exit status: 0 yes"];
 
-const BARE: &[&str] = &["Usage: tempo bare", "network N H", "window E", "Example:"];
+const BARE: &[&str] = &[
+    "Usage: tempo bare",
+    "network N H",
+    "window E",
+    "--journal <FILE>",
+    "Example:",
+];
 
 const CHECK: &[&str] = &[
     "Usage: tempo check",
@@ -64,8 +75,10 @@ const RUN: &[&str] = &[
     "Example:",
 ];
 
+const AUDIT: &[&str] = &["Usage: tempo audit", "audit ok N", "wrong N", "Example:"];
+
 /// Calls for help or for the version, and what stands in it.
-const HELP: [(&[&str], &[&str]); 13] = [
+const HELP: [(&[&str], &[&str]); 15] = [
     (&["--version"], VERSION),
     (&["-V"], VERSION),
     (&["--help"], PROGRAM),
@@ -79,6 +92,8 @@ const HELP: [(&[&str], &[&str]); 13] = [
     (&["help", "net"], NET),
     (&["run", "--help"], RUN),
     (&["help", "run"], RUN),
+    (&["audit", "--help"], AUDIT),
+    (&["help", "audit"], AUDIT),
 ];
 
 /// Options of `check` that no call may have.

@@ -1,12 +1,13 @@
 // Readers, writers and files in memory, and runs over them.
-ghost use Rattle.std.specs.Prelude.{Some, find, option_map};
+ghost use Rattle.std.specs.Prelude.{None, Some, find, if◌then◌else◌, option_map};
 ghost use Rattle.std.specs.Str.{bytes_eq};
 
 use std::alloc::{AllocError, Global};
 use std::io;
 use std::io::{ErrorKind, Read, Write};
-use tp_device::{Failed, Source};
+use tp_device::{Failed, Sink, Source};
 use tp_files::Files;
+use tp_logs::Logs;
 use tp_program::run_streams;
 
 /// Bytes that come at most so many a call. Behind them is the end, or where it is broken an error.
@@ -108,11 +109,54 @@ impl Source for Stored<'_> {
     }
 }
 
-/// Files in memory, and how many were opened or asked for in vain.
+/// A journal in memory with room for so many bytes. It fails at the piece that does not fit, and then takes no more. It does not
+/// tell its bytes.
+#[derive(Drop)]
+pub struct Note {
+    text: Vec<u8>,
+    room: usize,
+    failed: bool,
+}
+
+impl Sink for Note {
+    ghost held = { λ _. None };
+
+    ghost failures = { λ s. if s.failed then 1 else 0 };
+
+    fn push(&mut self, bytes: &[u8]) -> Result<usize, Failed> {
+        if self.failed {
+            return Ok(bytes.len());
+        }
+        if self.room < bytes.len() || self.text.extend_from_slice(bytes).is_err() {
+            self.failed = true;
+            return Err(Failed);
+        }
+        self.room -= bytes.len();
+        Ok(bytes.len())
+    }
+}
+
+/// Files in memory, how many were opened or asked for in vain, and the journal file that can be made, with its room.
 #[derive(Drop)]
 pub struct Shelf<'a> {
     pub files: &'a [(&'a str, &'a [u8])],
     pub opened: u64,
+    pub alloc: Global,
+    pub journal: Option<(&'a str, usize)>,
+    pub note: Option<Note>,
+}
+
+impl<'a> Shelf<'a> {
+    /// These files, and no journal file.
+    pub fn new(alloc: Global, files: &'a [(&'a str, &'a [u8])]) -> Shelf<'a> {
+        Shelf {
+            files,
+            opened: 0,
+            alloc,
+            journal: None,
+            note: None,
+        }
+    }
 }
 
 impl<'a> Files for Shelf<'a> {
@@ -126,6 +170,33 @@ impl<'a> Files for Shelf<'a> {
             Some(file) => Ok(Stored { bytes: file.1 }),
             None => Err(Failed),
         }
+    }
+}
+
+impl Logs for Shelf<'_> {
+    type Log = Note;
+
+    ghost named = { λ _. None };
+
+    ghost kept = { λ _. None };
+
+    ghost blank = { None };
+
+    ghost is_blank = { tt };
+
+    fn make(&mut self, name: &str) -> Result<Note, Failed> {
+        match self.journal {
+            Some((journal, room)) if journal == name => Ok(Note {
+                text: Vec::new(self.alloc),
+                room,
+                failed: false,
+            }),
+            _ => Err(Failed),
+        }
+    }
+
+    fn keep(&mut self, log: Note) {
+        self.note = Some(log);
     }
 }
 
@@ -189,10 +260,7 @@ fn streamed(
     input: Feed<'_>,
     room: Room,
 ) -> Outcome {
-    let mut files = Shelf {
-        files: stored,
-        opened: 0,
-    };
+    let mut files = Shelf::new(alloc, stored);
     let mut output = Page::new(alloc, room);
     let mut faults = Page::new(alloc, WIDE);
     let status = run_streams(alloc, words, &mut files, input, &mut output, &mut faults).status;
@@ -270,4 +338,67 @@ fn shows_in_pieces(alloc: Global, commands: &str, answers: &str, most: usize) ->
 pub fn shows(alloc: Global, commands: &str, answers: &str) -> bool {
     shows_in_pieces(alloc, commands, answers, usize::MAX)
         && shows_in_pieces(alloc, commands, answers, 1)
+}
+
+/// Whether the journal that was kept is that text; where none was kept, there is none.
+fn keeps(note: &Option<Note>, journal: Option<&str>) -> bool {
+    match (note, journal) {
+        (Some(note), Some(text)) => note.text.as_slice() == text.as_bytes(),
+        (None, None) => true,
+        _ => false,
+    }
+}
+
+/// What a run with a journal is to leave. The journal goes to a file with so much room, if it can be made.
+#[derive(Clone, Copy)]
+pub struct Kept<'a> {
+    pub room: Option<usize>,
+    pub journal: Option<&'a str>,
+    pub told: Told<'a>,
+}
+
+/// What came of a run of the words on files and input, with a journal file of that name, and whether the journal is the one that is
+/// to be kept.
+fn logged(
+    alloc: Global,
+    words: &[String],
+    stored: &[(&str, &[u8])],
+    input: Feed<'_>,
+    room: Room,
+    kept: Kept<'_>,
+) -> (Outcome, bool) {
+    let mut files = Shelf::new(alloc, stored);
+    if let Some(room) = kept.room {
+        files.journal = Some(("night.log", room));
+    }
+    let mut output = Page::new(alloc, room);
+    let mut faults = Page::new(alloc, WIDE);
+    let status = run_streams(alloc, words, &mut files, input, &mut output, &mut faults).status;
+    let is = keeps(&files.note, kept.journal);
+    let outcome = Outcome {
+        status,
+        starved: output.starved || faults.starved,
+        opened: files.opened,
+        answers: output.text,
+        faults: faults.text,
+    };
+    (outcome, is)
+}
+
+/// Whether a run with the journal file `night.log` comes to that.
+pub fn logs(
+    alloc: Global,
+    words: &[&str],
+    stored: &[(&str, &[u8])],
+    input: Feed<'_>,
+    room: Room,
+    kept: Kept<'_>,
+) -> bool {
+    match owned(alloc, words) {
+        Ok(words) => {
+            let (outcome, is) = logged(alloc, words.as_slice(), stored, input, room, kept);
+            is && outcome.is(kept.told)
+        }
+        Err(_) => false,
+    }
 }

@@ -212,10 +212,7 @@ impl Write for Withholding {
 
 /// Whether a run whose answers are kept back is told as a failed write.
 fn tells_what_is_kept_back(alloc: Global) -> bool {
-    let mut files = Shelf {
-        files: &[],
-        opened: 0,
-    };
+    let mut files = Shelf::new(alloc, &[]);
     let mut faults = Page::new(alloc, WIDE);
     let input = whole(COMMANDS);
     let status = run_streams(alloc, &[], &mut files, input, Withholding, &mut faults).status;

@@ -19,7 +19,7 @@ const BROKEN: [(&[u8], usize); 3] = [(b"", 1), (b"(a)", 1), (b"(a)", 100)];
 
 /// What is read of the file of that name. Where memory is refused, it is read once more.
 fn read(alloc: Global, files: &[(&str, &[u8])], name: &str) -> Result<String, FileFault> {
-    let mut shelf = Shelf { files, opened: 0 };
+    let mut shelf = Shelf::new(alloc, files);
     match open_text(alloc, &mut shelf, name) {
         Err(FileFault::Memory) => open_text(alloc, &mut shelf, name),
         other => other,

@@ -7,12 +7,16 @@
 //! - `net`: networks of plans in files, worked by hand
 //! - `run`: runs of plans in files, worked by hand
 //! - `plan`: plans that are found, and why there is none, worked by hand
+//! - `audit`: audits of journals in files
+//! - `journal`: journals that are kept in a file
 //! - `files`: texts that are read of files
 //! - `fault_lines`: the line of each fault, and its exit status
 #![tactic(auto)]
 
 #[cfg(test)]
 mod arguments;
+#[cfg(test)]
+mod audit;
 #[cfg(test)]
 mod check;
 #[cfg(test)]
@@ -25,6 +29,8 @@ mod fault_lines;
 mod faults;
 #[cfg(test)]
 mod files;
+#[cfg(test)]
+mod journal;
 #[cfg(test)]
 mod net;
 #[cfg(test)]

@@ -1,8 +1,10 @@
 use Rattle.std.proofs.Common.{◌∙◌, List, ℕ, arith, inl, inr, refl, subst}
 use Rattle.tp_device.proofs.Parts.{appends_none}
 use Rattle.tp_files.specs.FaultLines.{Tells}
-use Rattle.tp_program.specs.declared.requests.Request.TheVariants.{Bare, Check, Net, Run, Plan, Help}
+use Rattle.tp_program.specs.declared.requests.Request.TheVariants.{Bare, BareLog, Check, Net, Run, Plan, Audit, Help}
+use Rattle.tp_program.specs.CallFiles.{call_files}
 use Rattle.tp_program.specs.Endings.{StopsHelp}
+use Rattle.tp_program.proofs.StreamLemmas.{logs_part}
 use Rattle.tp_program.proofs.words.run_words.Goals as goal
 
 pub returns-clause-stopped : goal.returns-clause-stopped
@@ -33,6 +35,31 @@ returns-in-Ok-Bare-clause-stopped g c =
     λ two.
     inr (inr (Bare, rw c.in-Ok-Bare.field-0-is at c.in-Ok-Bare.ensures.asked, c.run_bare.ensures.ends (λ none. omega (arith, two, none))))
 
+pub returns-in-Ok-BareLog-clause-stopped : goal.returns-in-Ok-BareLog-clause-stopped
+returns-in-Ok-BareLog-clause-stopped g c =
+    λ two.
+    inr (inr (BareLog c.in-Ok-BareLog.log, rw c.in-Ok-BareLog.field-0-is at c.in-Ok-BareLog.ensures.asked, c.run_bare_journal.ensures.ends (λ none. omega (arith, two, none))))
+
+pub returns-in-Ok-BareLog-clause-done : goal.returns-in-Ok-BareLog-clause-done
+returns-in-Ok-BareLog-clause-done g c =
+    λ zero.
+    record {
+      request = BareLog c.in-Ok-BareLog.log;
+      asked = rw c.in-Ok-BareLog.field-0-is at c.in-Ok-BareLog.ensures.asked;
+      done = (c.run_bare_journal.ensures.all zero, c.run_bare_journal.ensures.named zero);
+    }
+
+pub returns-in-Ok-BareLog-clause-broken : goal.returns-in-Ok-BareLog-clause-broken
+returns-in-Ok-BareLog-clause-broken g c =
+    λ three.
+    let files = call_files (g.N.Files.held c.args.files.now) g.N.Logs.blank (g.N.Logs.named c.run_bare_journal.new.files) (g.N.Logs.kept c.run_bare_journal.new.files) in
+    inr (BareLog c.in-Ok-BareLog.log, rw c.in-Ok-BareLog.field-0-is at c.in-Ok-BareLog.ensures.asked, logs_part files (g.I.Source.left c.args.input) (g.O.Sink.held c.args.output.now) (g.O.Sink.held c.run_bare_journal.new.output) (c.run_bare_journal.ensures.part (λ none. omega (arith, three, none))))
+
+pub returns-in-Ok-BareLog-clause-kept : goal.returns-in-Ok-BareLog-clause-kept
+returns-in-Ok-BareLog-clause-kept g c =
+    λ none two.
+    absurd (none.no_log c.in-Ok-BareLog.log (rw c.in-Ok-BareLog.field-0-is at c.in-Ok-BareLog.ensures.asked))
+
 pub returns-in-Ok-Check-clause-stopped : goal.returns-in-Ok-Check-clause-stopped
 returns-in-Ok-Check-clause-stopped g c =
     λ two.
@@ -57,6 +84,11 @@ pub returns-in-Ok-Plan-clause-stopped : goal.returns-in-Ok-Plan-clause-stopped
 returns-in-Ok-Plan-clause-stopped g c =
     λ two.
     inr (inr (Plan c.in-Ok-Plan.search, rw c.in-Ok-Plan.field-0-is at c.in-Ok-Plan.ensures.asked, c.run_plan.ensures.stopped two))
+
+pub returns-in-Ok-Audit-clause-stopped : goal.returns-in-Ok-Audit-clause-stopped
+returns-in-Ok-Audit-clause-stopped g c =
+    λ two.
+    inr (inr (Audit c.in-Ok-Audit.log, rw c.in-Ok-Audit.field-0-is at c.in-Ok-Audit.ensures.asked, c.run_bare_audit.ensures.stopped two))
 
 pub returns-in-Ok-Help-clause-stopped : goal.returns-in-Ok-Help-clause-stopped
 returns-in-Ok-Help-clause-stopped g c =
