@@ -24,6 +24,7 @@ use Rattle.tp_plan_files.specs.declared.plan_words.PlanWords.{PlanWords}
 use Rattle.tp_plan_files.proofs.NamedLemmas.{Same, explains_over, plan_over}
 use Rattle.tp_plan_runs.specs.Answered.{AnswersPart, AnswersWhole, IsLong, IsTooLong, StopsAnswers}
 use Rattle.tp_plan_runs.specs.Ends.{RunsSteps, RunsVerdict, StopsSteps, StopsTelling, StopsVerdict, TellsRun}
+use Rattle.tp_plan_runs.specs.Invalid.{SaysInvalid, SaysInvalidPart}
 use Rattle.tp_plan_runs.specs.RunLines.{run_failures, run_status, run_text}
 use Rattle.tp_plan_runs.specs.Runs.{EndsRun, Runs, RunsNamed, RunsPart, StopsRun, run_lines}
 use Rattle.tp_plan_runs.proofs.StatusLemmas.{IsStatus, run_is}
@@ -112,13 +113,12 @@ stops_named held w task (Invalid plan tick why) input before now stop judged h =
 
 -- ---- the same of files that hold the same
 
-named_over : (a b : List ℕ → Option (List ℕ)) (w : PlanWords) (ended : Task → List Step → Type 0) → Same a b → RunsNamed a w ended → RunsNamed b w ended
+pub named_over : (a b : List ℕ → Option (List ℕ)) (w : PlanWords) (ended : Task → List Step → Type 0) → Same a b → RunsNamed a w ended → RunsNamed b w ended
 named_over a b w ended same h = (h.0, h.1, plan_over a b w h.0 h.1 same h.2, h.3, h.4)
 
-pub runs_over : (a b : List ℕ → Option (List ℕ)) (w : PlanWords) (input before now : Option (List ℕ)) (done : Bool) → Same a b → Runs a w input before now done → Runs b w input before now done
-runs_over a b w input before now true same h = named_over a b w _ same h
-runs_over a b w input before now false same (inl h) =
-    inl (record {
+pub invalid_over : (a b : List ℕ → Option (List ℕ)) (w : PlanWords) (before now : Option (List ℕ)) → Same a b → SaysInvalid a w before now → SaysInvalid b w before now
+invalid_over a b w before now same h =
+    record {
       task = h.task;
       steps = h.steps;
       tick = h.tick;
@@ -127,15 +127,11 @@ runs_over a b w input before now false same (inl h) =
       first = h.first;
       invalid = h.invalid;
       written = h.written;
-    })
-runs_over a b w input before now false same (inr h) = inr (named_over a b w _ same h)
+    }
 
-pub stops_over : (a b : List ℕ → Option (List ℕ)) (w : PlanWords) (input before now : Option (List ℕ)) (stop : RunStop) → Same a b → StopsRun a w input before now stop → StopsRun b w input before now stop
-stops_over a b w input before now (Judging fault) same h = (explains_over a b w fault same h.0, h.1)
-stops_over a b w input before now (Network fault) same h = (named_over a b w _ same h.0, h.1)
-stops_over a b w input before now (Answering fault) same h = named_over a b w _ same h
-stops_over a b w input before now Write same (inl h) =
-    inl (record {
+pub invalid_part_over : (a b : List ℕ → Option (List ℕ)) (w : PlanWords) (before now : Option (List ℕ)) → Same a b → SaysInvalidPart a w before now → SaysInvalidPart b w before now
+invalid_part_over a b w before now same h =
+    record {
       task = h.task;
       steps = h.steps;
       tick = h.tick;
@@ -144,7 +140,18 @@ stops_over a b w input before now Write same (inl h) =
       first = h.first;
       invalid = h.invalid;
       part = h.part;
-    })
+    }
+
+pub runs_over : (a b : List ℕ → Option (List ℕ)) (w : PlanWords) (input before now : Option (List ℕ)) (done : Bool) → Same a b → Runs a w input before now done → Runs b w input before now done
+runs_over a b w input before now true same h = named_over a b w _ same h
+runs_over a b w input before now false same (inl h) = inl (invalid_over a b w before now same h)
+runs_over a b w input before now false same (inr h) = inr (named_over a b w _ same h)
+
+pub stops_over : (a b : List ℕ → Option (List ℕ)) (w : PlanWords) (input before now : Option (List ℕ)) (stop : RunStop) → Same a b → StopsRun a w input before now stop → StopsRun b w input before now stop
+stops_over a b w input before now (Judging fault) same h = (explains_over a b w fault same h.0, h.1)
+stops_over a b w input before now (Network fault) same h = (named_over a b w _ same h.0, h.1)
+stops_over a b w input before now (Answering fault) same h = named_over a b w _ same h
+stops_over a b w input before now Write same (inl h) = inl (invalid_part_over a b w before now same h)
 stops_over a b w input before now Write same (inr h) = inr (named_over a b w _ same h)
 
 -- ---- what was written by then
@@ -175,7 +182,7 @@ part_then held w input before now (Answering fault) h = early held w input befor
 part_then held w input before now Write (inl h) = inr (inl h)
 part_then held w input before now Write (inr h) = inr (inr (h.0, h.1, h.2, h.3, inr h.4))
 
-is_long : (input : Option (List ℕ)) (rest : List (List ℕ)) → IsTooLong input rest → IsLong input
+pub is_long : (input : Option (List ℕ)) (rest : List (List ℕ)) → IsTooLong input rest → IsLong input
 is_long None rest h = tt
 is_long (Some bytes) rest h = omega (arith, h.4, h.5)
 

@@ -86,7 +86,7 @@ pub network_is : (fault : DeorderFault) → IsStatus (network_status fault)
 network_is deorder_fault.Memory = three
 network_is deorder_fault.TooMany = two
 
-bare_is : (fault : BareFault) → IsStatus (bare_status fault)
+pub bare_is : (fault : BareFault) → IsStatus (bare_status fault)
 bare_is bare.Network = three
 bare_is (bare.Serving serving.Read) = three
 bare_is (bare.Serving serving.Write) = three

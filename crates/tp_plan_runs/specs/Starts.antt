@@ -3,7 +3,7 @@ use Rattle.std.specs.Prelude.{◌≡◌, ℕ, List, length, Option, Result, Ok, 
 use Rattle.tp_bounds.specs.RunLimits.{greatest_limits}
 use Rattle.tp_bounds.specs.Setting.{Setting}
 use Rattle.tp_bounds.specs.declared.plan_nets.PlanNet.{PlanNet}
-use Rattle.tp_exec.specs.Machine.{Machine, plan_machine}
+use Rattle.tp_exec.specs.Machine.{IsFresh, Machine, plan_machine}
 use Rattle.tp_script.specs.Pending.{Reading}
 use Rattle.tp_script.specs.Lags.{ReadsLags}
 use Rattle.tp_script.specs.Serving.{Serves}
@@ -19,6 +19,10 @@ net_head net = (length net.events.items, net.horizon)
 -- the machine in which a run begins: the network of a plan, with lags, under the greatest limits
 abbrev pub run_machine : PlanNet → Setting → Machine
 run_machine net setting = plan_machine setting net.bounds.items (greatest_limits net.horizon)
+
+-- a run begins in it: the network was new but for lags
+abbrev pub IsNewRun : PlanNet → Machine → Type 0
+IsNewRun net m = (setting : Setting) × IsFresh setting × (m ≡ run_machine net setting)
 
 -- what came of the lines of lags at the beginning: the machine in which the run begins, or one of them was at fault or not read, or
 -- memory was wanting

@@ -14,6 +14,7 @@ mod run;
 mod run_lines;
 mod starting;
 
+pub use plan_of_run::tell_run;
 pub use run::run_run;
 pub use run_lines::{RunStop, network_line, run_line};
 pub use starting::start;

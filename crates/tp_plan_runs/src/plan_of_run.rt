@@ -27,8 +27,12 @@ fn write_lines<O: Sink>(run: &Plan, task: &Task, output: &mut O) -> Result<(), F
     print_plan(run, task, output)
 }
 
-/// Writes the plan of a run, if there is one. Answers whether there is. It costs one look at each event and each step.
-pub(crate) fn tell_run<O: Sink>(
+/// Writes the plan of a run, if there is one, behind the line `plan`. Answers whether there is. It costs one look at each event and
+/// each step.
+///
+/// # Errors
+/// `Answering(Network)` where memory is wanting; `Write` where the writer fails.
+pub fn tell_run<O: Sink>(
     executive: &Executive<RepairNet>,
     plan: &ValidPlan<'_>,
     output: &mut O,

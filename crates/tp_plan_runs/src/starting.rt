@@ -8,7 +8,7 @@ ghost use Rattle.tp_deorder.specs.Answers.{IsPlanNetOf};
 ghost use Rattle.tp_exec.specs.FromPlan.{CameFrom};
 ghost use Rattle.tp_exec.specs.Machine.{IsFresh, plan_machine};
 ghost use Rattle.tp_bare.specs.Bare.{bare_failures};
-ghost use Rattle.tp_plan_runs.specs.Starts.{BeginsRun};
+ghost use Rattle.tp_plan_runs.specs.Starts.{BeginsRun, IsNewRun};
 
 use std::alloc::{AllocError, Global};
 use tp_bare::BareFault;
@@ -49,6 +49,7 @@ pub fn start<I: Source>(
     requires longest { lines.old.longest ≡ 256 }
     requires bounds { length network.now.bounds.items ≤ 65535 }
     ensures begins { BeginsRun network.now lines.old lines.new result }
+    ensures new { IfOk result (IsNewRun network.now) }
 
     // It came from each plan that has this network.
     ensures came { IfOk result (λ e. (t : Task) (steps : List Step) → IsPlanNetOf t steps

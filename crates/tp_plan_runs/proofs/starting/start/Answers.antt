@@ -26,3 +26,7 @@ returns-in-Err-read_lags-clause-begins g c =
       c.read_lags.new.net.setting,
       subst (λ s. ReadsLags c.args.lines.now c.read_lags.new.lines s c.read_lags.new.net.setting (Err c.in-Err-read_lags.fault)) (c.in-Ok.ensures.setting ∙ ap (λ n. new_setting n c.args.network.now.horizon) same) c.in-Err-read_lags.ensures.lags,
     )
+
+pub returns-in-Ok-over-clause-new : goal.returns-in-Ok-over-clause-new
+returns-in-Ok-over-clause-new g c =
+    (c.read_lags.new.net.setting, c.in-Ok-read_lags.ensures.new (subst IsFresh (sym c.in-Ok.ensures.setting) (fresh_new _ _)), c.in-Ok-over.ensures.machine)

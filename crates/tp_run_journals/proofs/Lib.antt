@@ -1,0 +1,2 @@
+pub mod LoggedLemmas
+pub mod RunLemmas
