@@ -15,17 +15,17 @@ const LISTS: u64 = 1_000;
 const CHANGES: u64 = 100;
 
 /// The next number of a sequence (Knuth's linear congruential generator).
-fn next(seed: u64) -> u64 {
+pub fn next(seed: u64) -> u64 {
     seed.wrapping_mul(6_364_136_223_846_793_005)
         .wrapping_add(1_442_695_040_888_963_407)
 }
 
 /// A number below 64 of the bits from a place on.
-fn pick(seed: u64, place: u32) -> u64 {
+pub fn pick(seed: u64, place: u32) -> u64 {
     (seed >> (place % 58)) & 63
 }
 
-fn point(n: u64) -> Point {
+pub fn point(n: u64) -> Point {
     let e = (n % 7) as u16;
     if e == 0 {
         Point::Origin

@@ -53,7 +53,7 @@ fn read<N: Net>(net: &N) -> Reading {
     }
 }
 
-fn has_point<N: Net>(net: &N, point: Point) -> bool
+pub fn has_point<N: Net>(net: &N, point: Point) -> bool
     ensures { IsTrue result → HasPoint (N.seen net.now) point }
 {
     match point {
@@ -62,70 +62,71 @@ fn has_point<N: Net>(net: &N, point: Point) -> bool
     }
 }
 
-fn is_in_range(weight: i64) -> bool
+pub fn is_in_range(weight: i64) -> bool
     ensures { IsTrue result → IsInRange weight }
 {
     -2_000_000_000 <= weight && weight <= 2_000_000_000
 }
 
-fn answer_of(outcome: Result<(), NetFault>) -> Answer {
+fn answer_of(outcome: &Option<Result<(), NetFault>>) -> Answer {
     match outcome {
-        Ok(()) => Answer::Done,
-        Err(NetFault::Memory) => Answer::Memory,
-        Err(NetFault::Between) => Answer::Between,
-        Err(NetFault::Conflict(reason)) => {
+        None => Answer::Unasked,
+        Some(Ok(())) => Answer::Done,
+        Some(Err(NetFault::Memory)) => Answer::Memory,
+        Some(Err(NetFault::Between)) => Answer::Between,
+        Some(Err(NetFault::Conflict(reason))) => {
             Answer::Conflict(reason.edges.first().copied(), reason.edges.len())
         }
     }
 }
 
-fn ask_add<N: Net>(net: &mut N, id: BoundId, bound: Bound) -> Answer {
+fn ask_add<N: Net>(net: &mut N, id: BoundId, bound: Bound) -> Option<Result<(), NetFault>> {
     if net.bound(id).is_some() || !is_in_range(bound.w) {
-        return Answer::Unasked;
+        return None;
     }
     if !has_point(net, bound.from) || !has_point(net, bound.to) {
-        return Answer::Unasked;
+        return None;
     }
-    answer_of(net.add(id, bound))
+    Some(net.add(id, bound))
 }
 
-fn ask_remove<N: Net>(net: &mut N, id: BoundId) -> Answer {
+fn ask_remove<N: Net>(net: &mut N, id: BoundId) -> Option<Result<(), NetFault>> {
     if net.bound(id).is_none() {
-        return Answer::Unasked;
+        return None;
     }
     match net.remove(id) {
-        Ok(()) => Answer::Done,
-        Err(_) => Answer::Memory,
+        Ok(()) => Some(Ok(())),
+        Err(_) => Some(Err(NetFault::Memory)),
     }
 }
 
-fn ask_raise<N: Net>(net: &mut N, now: u32) -> Answer {
+fn ask_raise<N: Net>(net: &mut N, now: u32) -> Option<Result<(), NetFault>> {
     if now < net.now() || net.horizon() < now {
-        return Answer::Unasked;
+        return None;
     }
-    answer_of(net.raise(now))
+    Some(net.raise(now))
 }
 
-fn ask_fix<N: Net>(net: &mut N, e: u16, moment: u32) -> Answer {
+fn ask_fix<N: Net>(net: &mut N, e: u16, moment: u32) -> Option<Result<(), NetFault>> {
     if net.events() <= e {
-        return Answer::Unasked;
+        return None;
     }
     let floor = net.now().saturating_sub(net.lag(e));
     if net.fixed(e).is_some() || moment < floor || net.horizon() < moment {
-        return Answer::Unasked;
+        return None;
     }
-    answer_of(net.fix(e, moment))
+    Some(net.fix(e, moment))
 }
 
-fn ask_lag<N: Net>(net: &mut N, e: u16, lag: u32) -> Answer {
+fn ask_lag<N: Net>(net: &mut N, e: u16, lag: u32) -> Option<Result<(), NetFault>> {
     if net.events() <= e || net.now() != 0 || 1_000_000_000 < lag {
-        return Answer::Unasked;
+        return None;
     }
     net.set_lag(e, lag);
-    Answer::Done
+    Some(Ok(()))
 }
 
-fn ask_once<N: Net>(net: &mut N, change: Change) -> Answer {
+fn ask_once<N: Net>(net: &mut N, change: Change) -> Option<Result<(), NetFault>> {
     match change {
         Change::Add(id, bound) => ask_add(net, BoundId(id), bound),
         Change::Remove(id) => ask_remove(net, BoundId(id)),
@@ -135,12 +136,22 @@ fn ask_once<N: Net>(net: &mut N, change: Change) -> Answer {
     }
 }
 
-/// Asks for a change. Where a growth is refused and the network is as before, it is asked once more.
-pub fn ask<N: Net>(net: &mut N, change: Change) -> Answer {
+fn is_memory(outcome: &Option<Result<(), NetFault>>) -> bool {
+    matches!(outcome, Some(Err(NetFault::Memory)))
+}
+
+/// Asks for a change, where the network's conditions allow it. Where a growth is refused and the network is as before, it
+/// is asked for once more.
+pub fn outcome<N: Net>(net: &mut N, change: Change) -> Option<Result<(), NetFault>> {
     let before = read(net);
-    let answer = ask_once(net, change);
-    if answer != Answer::Memory || read(net) != before {
-        return answer;
+    let outcome = ask_once(net, change);
+    if !is_memory(&outcome) || read(net) != before {
+        return outcome;
     }
     ask_once(net, change)
+}
+
+/// What a network answers that is asked so.
+pub fn ask<N: Net>(net: &mut N, change: Change) -> Answer {
+    answer_of(&outcome(net, change))
 }
