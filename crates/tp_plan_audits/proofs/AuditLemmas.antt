@@ -1,5 +1,5 @@
 -- The audit of a plan's journal, from the network of the plan to the words that name it.
-use Rattle.std.proofs.Common.{◌≡◌, ◌∙◌, ◌≤◌, ℕ, ◌+◌, List, [], length, Option, Some, None, Bool, true, false, ◌⊎◌, inl, inr, refl, subst, sym, ap, arith}
+use Rattle.std.proofs.Common.{◌≡◌, ◌∙◌, ℕ, List, [], Option, Bool, true, false, inl, inr, refl, subst, sym, arith}
 use Rattle.std.specs.Prelude.{Result, Ok, Err, IfErr, IfOk, IfSome}
 use Rattle.std.specs.Io.KnownBytes.{Appends}
 use Rattle.tp_device.specs.Bytes.{AppendsPart}
@@ -17,7 +17,7 @@ use Rattle.tp_files.specs.FaultLines.{Tells}
 use Rattle.tp_audit.specs.Telling.{IsHeadTold}
 use Rattle.tp_audit.specs.declared.faults.JournalHead.{JournalHead}
 use Rattle.tp_log_audits.specs.AuditLines.{stop_status}
-use Rattle.tp_log_audits.specs.Audits.{BreaksLog, Hinders, HindersHead, IsFound, Says, found_line, is_journal, say_failures}
+use Rattle.tp_log_audits.specs.Audits.{Hinders, HindersHead, IsFound, Says, found_line, is_journal, say_failures}
 use Rattle.tp_log_audits.specs.declared.audit_lines.AuditStop.{AuditStop}
 use Rattle.tp_log_audits.specs.declared.audit_lines.AuditStop.TheVariants.{Open, Network, Memory, Read, Line, Head, Write}
 use Rattle.tp_log_audits.specs.declared.auditing.Found.{Found}
@@ -29,7 +29,7 @@ use Rattle.tp_plan_runs.proofs.RunLemmas.{Judged, invalid_over, invalid_part_ove
 use Rattle.tp_plan_runs.proofs.StatusLemmas.{IsStatus, judge_is, network_is, three, two}
 use Rattle.tp_plan_audits.specs.AuditStops.{plan_stop_failures, plan_stop_status, plan_stop_text}
 use Rattle.tp_plan_audits.specs.Ends.{HindersNet, SaysHeaded, SaysNet, SaysSteps, SaysVerdict, StopsHeaded, StopsHeadedBy, StopsNet, StopsSteps, StopsStepsBy, StopsVerdict, audit_result}
-use Rattle.tp_plan_audits.specs.PlanAudits.{EndsPlanAudit, IsNetFound, LagsFit, SaysPlan, SaysPlanPart, StopsAuditing, StopsPlanAudit, WritesAuditPart, audit_machine}
+use Rattle.tp_plan_audits.specs.PlanAudits.{EndsPlanAudit, IsNetFound, LagsFit, SaysPlan, StopsAuditing, StopsPlanAudit, WritesAuditPart, audit_machine}
 use Rattle.tp_plan_audits.specs.declared.stop_lines.PlanAuditStop.{PlanAuditStop}
 use Rattle.tp_plan_audits.specs.declared.stop_lines.PlanAuditStop.TheVariants.{Auditing, Judging, Deordering}
 

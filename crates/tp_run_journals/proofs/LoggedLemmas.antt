@@ -1,5 +1,5 @@
 -- Lines of lags, and then commands on the network of a plan with their journal.
-use Rattle.std.proofs.Common.{◌≡◌, ◌+◌, ◌-◌, ◌≤◌, ℕ, List, [], ◌∷◌, ◌++◌, append_assoc, length, Option, Some, None, refl, subst, sym, ap, ◌∙◌, inl, inr, arith}
+use Rattle.std.proofs.Common.{◌≡◌, ◌+◌, ◌-◌, ◌≤◌, ℕ, List, [], ◌∷◌, ◌++◌, append_assoc, length, Option, Some, None, refl, subst, sym, ap, ◌∙◌, inr, arith}
 use Rattle.std.specs.Prelude.{Result, Ok, Err, IfErr, IfOk, IfSome}
 use Rattle.std.specs.Io.KnownBytes.{Appends, Consumes, IsAtEnd}
 use Rattle.tp_bounds.specs.Setting.{Setting}
@@ -8,28 +8,27 @@ use Rattle.tp_bounds.specs.declared.plan_nets.PlanNet.{PlanNet}
 use Rattle.tp_exec.specs.Machine.{Machine}
 use Rattle.tp_script.specs.Pending.{Reading}
 use Rattle.tp_script.specs.Transcript.{Transcript, lines_of}
-use Rattle.tp_script.specs.Lags.{NoLagNext, SetsLags, TakesLags, lag_spelled}
+use Rattle.tp_script.specs.Lags.{NoLagNext, SetsLags, TakesLags}
 use Rattle.tp_script.specs.Serving.{Serves, TakesLines}
 use Rattle.tp_script.specs.declared.serving.Served.{Served}
 use Rattle.tp_script.specs.declared.serving.ServeFault.{ServeFault}
 use Rattle.tp_script.specs.declared.serving.ServeFault.TheVariants as serving
-use Rattle.tp_journal.specs.Journal.{Entry, IsHead, Runs, head_of}
-use Rattle.tp_journal.specs.Writing.{EndsUnlogged, EntersAll, HeadIsOne, IsNewExecutive, Journals, journal_bytes}
+use Rattle.tp_journal.specs.Journal.{Entry, IsHead, head_of}
+use Rattle.tp_journal.specs.Writing.{EndsUnlogged, EntersAll, HeadIsOne, IsNewExecutive, Journals}
 use Rattle.tp_journal.specs.declared.faults.JournalFault.{JournalFault}
 use Rattle.tp_journal.specs.declared.faults.JournalFault.TheVariants.{Read, Write, Log, TooLong}
 use Rattle.tp_journal.proofs.SoundLemmas.{plan_is_new}
 use Rattle.tp_journal.proofs.WriteLemmas.{enters_answers}
 use Rattle.tp_bare.specs.Bare.{TakesAllLags, first_setting}
-use Rattle.tp_bare.specs.declared.bare.BareFault.{BareFault}
-use Rattle.tp_bare.specs.declared.bare.BareFault.TheVariants.{Network, Serving}
+use Rattle.tp_bare.specs.declared.bare.BareFault.TheVariants.{Serving}
 use Rattle.tp_bare.proofs.BareLemmas.{end_lags}
 use Rattle.tp_bare_journals.specs.declared.journal_lines.JournalStop.{JournalStop}
 use Rattle.tp_bare_journals.specs.declared.journal_lines.JournalStop.TheVariants.{Making, Beginning, Journaling}
 use Rattle.tp_plan_runs.specs.Answered.{Answered, AnswersSome, AreLines, AreBehindLags, StopsAnswers}
-use Rattle.tp_plan_runs.specs.Starts.{AnswersRun, BeginsRun, IsNewRun, net_head, run_machine}
+use Rattle.tp_plan_runs.specs.Starts.{BeginsRun, IsNewRun, net_head, run_machine}
 use Rattle.tp_plan_runs.proofs.AnswerLemmas.{answers_none, lines_stop}
 use Rattle.tp_run_journals.specs.LogFile.{IsNamed, LogFile}
-use Rattle.tp_run_journals.specs.Logged.{AnswersTill, IsLogged, LogsLines, LogsRun, LogsWhole, StopsLogged}
+use Rattle.tp_run_journals.specs.Logged.{AnswersTill, IsLogged, LogsRun, LogsWhole, StopsLogged}
 use Rattle.tp_run_journals.specs.RunJournals.{StopsInFile}
 
 -- ---- the executive in which a run begins

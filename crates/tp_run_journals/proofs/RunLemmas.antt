@@ -1,5 +1,5 @@
 -- The run of a plan whose journal is kept, from its network to the words that name it.
-use Rattle.std.proofs.Common.{◌≡◌, ◌∙◌, ◌≤◌, ℕ, ◌+◌, List, [], take, Option, Some, None, Bool, true, false, ◌⊎◌, inl, inr, refl, subst, sym, ap, arith}
+use Rattle.std.proofs.Common.{◌≡◌, ◌∙◌, ℕ, List, [], take, Option, Bool, true, false, ◌⊎◌, inl, inr, refl, subst, sym}
 use Rattle.std.specs.Prelude.{Result, Ok, Err, IfErr, IfOk}
 use Rattle.std.specs.Io.KnownBytes.{Appends}
 use Rattle.tp_device.proofs.Parts.{appends_more, appends_none}
@@ -14,12 +14,9 @@ use Rattle.tp_validate.specs.declared.verdicts.Verdict.TheVariants.{Valid, Inval
 use Rattle.tp_deorder.specs.Answers.{IsPlanNetOf}
 use Rattle.tp_exec.specs.Machine.{Machine}
 use Rattle.tp_script.specs.declared.serving.ServeFault.TheVariants as serving
-use Rattle.tp_journal.specs.declared.faults.JournalFault.{JournalFault}
 use Rattle.tp_journal.specs.declared.faults.JournalFault.TheVariants as journal
 use Rattle.tp_files.specs.FaultLines.{Tells}
 use Rattle.tp_files.proofs.FaultLemmas.{whole_part}
-use Rattle.tp_bare.specs.ServeLines.{bare_status}
-use Rattle.tp_bare.specs.declared.bare.BareFault.{BareFault}
 use Rattle.tp_bare.specs.declared.bare.BareFault.TheVariants as bare
 use Rattle.tp_bare_journals.specs.JournalLines.{stop_status}
 use Rattle.tp_bare_journals.specs.Logged.{output_failures}
@@ -28,7 +25,7 @@ use Rattle.tp_bare_journals.specs.declared.journal_lines.JournalStop.TheVariants
 use Rattle.tp_plan_files.specs.Named.{IsNamedPlan}
 use Rattle.tp_plan_files.specs.declared.plan_words.PlanWords.{PlanWords}
 use Rattle.tp_plan_files.proofs.NamedLemmas.{Same, explains_over}
-use Rattle.tp_plan_runs.specs.Answered.{AnswersPart, AnswersSome, IsLong, StopsAnswers}
+use Rattle.tp_plan_runs.specs.Answered.{AnswersPart, AnswersSome, IsLong}
 use Rattle.tp_plan_runs.specs.Ends.{StopsTelling, TellsRun}
 use Rattle.tp_plan_runs.specs.RunLines.{run_failures}
 use Rattle.tp_plan_runs.specs.Runs.{RunsPart, run_lines}
@@ -38,8 +35,8 @@ use Rattle.tp_plan_runs.specs.declared.run_lines.RunStop.{RunStop}
 use Rattle.tp_plan_runs.specs.declared.run_lines.RunStop.TheVariants as run
 use Rattle.tp_run_journals.specs.Ends.{LogsSteps, LogsVerdict, StopsSteps, StopsVerdict, telling_stop, told_result}
 use Rattle.tp_run_journals.specs.LogFile.{IsNamed, LogFile}
-use Rattle.tp_run_journals.specs.Logged.{LogsWhole, StopsLogged}
-use Rattle.tp_run_journals.specs.RunJournals.{EndsRunLog, LogsEarly, LogsInPart, LogsTo, StopsInFile, StopsRunLog}
+use Rattle.tp_run_journals.specs.Logged.{LogsWhole}
+use Rattle.tp_run_journals.specs.RunJournals.{EndsRunLog, LogsTo, StopsInFile, StopsRunLog}
 use Rattle.tp_run_journals.specs.StopLines.{run_stop_failures, run_stop_status, run_stop_text}
 use Rattle.tp_run_journals.specs.declared.stop_lines.RunJournalStop.{RunJournalStop}
 use Rattle.tp_run_journals.specs.declared.stop_lines.RunJournalStop.TheVariants.{Judging, Network, Journal, Telling, Write}

@@ -1,7 +1,6 @@
 use Rattle.std.proofs.Common.{◌≡◌, ◌∙◌, ap, arith, length, subst, sym}
 use Rattle.std.proofs.lemmas.Result.{IfOk-weaker}
 use Rattle.std.specs.List.{All}
-use Rattle.tp_bounds.specs.RunLimits.{greatest_limits}
 use Rattle.tp_bounds.specs.Setting.{Setting, event_count}
 use Rattle.tp_net.specs.NewNet.{new_setting}
 use Rattle.tp_exec.specs.Machine.{IsFresh, plan_machine}
