@@ -1,6 +1,6 @@
 -- What a parse asks for.
 use Rattle.std.proofs.Common.{◌≡◌, ◌∙◌, ◌⊎◌, ap, ap₂, arith, ℕ, ◌∷◌, inl, inr, refl, sym, subst, List, [], Option, Some, None, true, codes}
-use Rattle.std.specs.Prelude.{Box, Result, Ok, Err, if◌then◌else◌, nat_eq, option_map}
+use Rattle.std.specs.Prelude.{Box, Result, Ok, Err, Bool, if◌then◌else◌, ◌||◌, nat_eq, option_map}
 use Rattle.std.specs.Box.{box_value}
 use Rattle.clap.specs.Words.{FailsBy, IsAmong, ReadsOne, Row, Text, fault_of, first_of, one_of, one_text, is_simple, is_simple_and_free, kind_of, rows_of, subcommand_name_of, subcommand_of, subcommand_rows, subcommand_rows_of}
 use Rattle.clap.specs.declared.error.Error.{Error}
@@ -19,7 +19,7 @@ use Rattle.tp_text.specs.Scales.{scale_ticks}
 use Rattle.tp_plan_files.specs.declared.plan_words.PlanWords.{PlanWords}
 use Rattle.tp_plan_search.specs.declared.search_words.SearchWords.{SearchWords}
 use Rattle.tp_program.specs.declared.requests.Request.{Request}
-use Rattle.tp_program.specs.declared.requests.Request.TheVariants.{Bare, BareLog, Check, Net, Run, Plan, Audit, Help}
+use Rattle.tp_program.specs.declared.requests.Request.TheVariants.{Bare, BareLog, Check, Net, Run, RunLog, Plan, Audit, Help}
 
 module _ {Z : Type 0} where
   none_rows : (s : Option (Box SubCommand Z)) → option_map (λ b. (out-SubCommand (box_value b)).name.now) s ≡ None → subcommand_rows s ≡ None
@@ -53,6 +53,7 @@ asks_by words named (BareLog log) free is h = (free, subst (λ n. AsksBy n (Bare
 asks_by words named (Check w) free is h = (free, subst (λ n. AsksBy n (Check w)) is h)
 asks_by words named (Net w) free is h = (free, subst (λ n. AsksBy n (Net w)) is h)
 asks_by words named (Run w) free is h = (free, subst (λ n. AsksBy n (Run w)) is h)
+asks_by words named (RunLog w log) free is h = (free, subst (λ n. AsksBy n (RunLog w log)) is h)
 asks_by words named (Plan w) free is h = (free, subst (λ n. AsksBy n (Plan w)) is h)
 asks_by words named (Audit log) free is h = (free, subst (λ n. AsksBy n (Audit log)) is h)
 asks_by words named (Help text) free is h = absurd h
@@ -148,11 +149,32 @@ run_words w domain problem plan scale horizon = (
   (
     _,
     refl,
+    refl,
     record {
       domain = ap Some (sym domain);
       problem = ap Some (sym problem);
       plan = ap Some (sym plan);
       scale = (codes "1000", refl, sym scale);
+      horizon = (codes "1000000", refl, sym horizon);
+      within = omega (arith, horizon);
+    },
+  ),
+)
+
+-- and with a file for a journal
+pub run_log_words : (w : PlanWords) (v : SearchWords) → w.domain.now ≡ codes "d" → w.problem.now ≡ codes "p" → w.plan.now ≡ codes "l" → scale_ticks w.scale ≡ 1 → w.horizon ≡ 1000000 → v.domain.now ≡ codes "j" → AsksFor (codes "run" ∷ codes "d" ∷ codes "p" ∷ codes "l" ∷ codes "--journal" ∷ codes "j" ∷ []) (RunLog w v.domain)
+unfolding clap_on_literals
+run_log_words w v domain problem plan scale horizon log = (
+  refl,
+  (
+    _,
+    refl,
+    ap Some (sym log),
+    record {
+      domain = ap Some (sym domain);
+      problem = ap Some (sym problem);
+      plan = ap Some (sym plan);
+      scale = (codes "1", refl, sym scale);
       horizon = (codes "1000000", refl, sym horizon);
       within = omega (arith, horizon);
     },
@@ -193,9 +215,13 @@ abbrev named_command : Option (Text × List Row) → Text
 named_command None = codes "bare"
 named_command (Some named) = named.0
 
--- the file for a journal, of the command that takes one
+-- `bare` and `run`
+abbrev keeps_journal : ℕ → Bool
+keeps_journal letter = nat_eq letter 98 || nat_eq letter 114
+
+-- the file for a journal, of the commands that take one
 abbrev journal_of : Text → Option Text → Option Text
-journal_of name given = if nat_eq (first_letter name) 98 then given else None
+journal_of name given = if keeps_journal (first_letter name) then given else None
 
 abbrev named_journal : Option (Text × List Row) → Option Text
 named_journal None = None
@@ -236,6 +262,7 @@ asks_command words (BareLog log) h = free_is _ _ _ h.0 (command_is _ (codes "bar
 asks_command words (Check w) h = free_is _ _ _ h.0 (command_is _ (codes "check") h.1.0 h.1.1)
 asks_command words (Net w) h = free_is _ _ _ h.0 (command_is _ (codes "net") h.1.0 h.1.1)
 asks_command words (Run w) h = free_is _ _ _ h.0 (command_is _ (codes "run") h.1.0 h.1.1)
+asks_command words (RunLog w log) h = free_is _ _ _ h.0 (command_is _ (codes "run") h.1.0 h.1.1)
 asks_command words (Plan w) h = free_is _ _ _ h.0 (command_is _ (codes "plan") h.1.0 h.1.1)
 asks_command words (Audit log) h = free_is _ _ _ h.0 (command_is _ (codes "audit") h.1.0 h.1.1)
 asks_command words (Help text) h = help_is _ _ h
@@ -246,7 +273,8 @@ asks_journal words Bare h = free_is _ _ _ h.0 (bare_journal_is _ h.1)
 asks_journal words (BareLog log) h = free_is _ _ _ h.0 (journal_is _ (codes "bare") h.1.0 _ h.1.1 (sym h.1.2))
 asks_journal words (Check w) h = free_is _ _ _ h.0 (journal_is _ (codes "check") h.1.0 None h.1.1 refl)
 asks_journal words (Net w) h = free_is _ _ _ h.0 (journal_is _ (codes "net") h.1.0 None h.1.1 refl)
-asks_journal words (Run w) h = free_is _ _ _ h.0 (journal_is _ (codes "run") h.1.0 None h.1.1 refl)
+asks_journal words (Run w) h = free_is _ _ _ h.0 (journal_is _ (codes "run") h.1.0 None h.1.1 (sym h.1.2))
+asks_journal words (RunLog w log) h = free_is _ _ _ h.0 (journal_is _ (codes "run") h.1.0 _ h.1.1 (sym h.1.2))
 asks_journal words (Plan w) h = free_is _ _ _ h.0 (journal_is _ (codes "plan") h.1.0 None h.1.1 refl)
 asks_journal words (Audit log) h = free_is _ _ _ h.0 (journal_is _ (codes "audit") h.1.0 None h.1.1 refl)
 asks_journal words (Help text) h = help_is _ _ h

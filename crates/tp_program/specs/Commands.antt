@@ -62,8 +62,9 @@ check_app = plan_app (new_app (codes "check"))
 abbrev pub net_app : App
 net_app = plan_app (new_app (codes "net"))
 
+-- with a file for a journal
 abbrev pub run_app : App
-run_app = plan_app (new_app (codes "run"))
+run_app = with_rule (plan_app (new_app (codes "run"))) journal_rule
 
 -- the files of a problem, how time is measured, and the budget of a search
 abbrev pub search_app : App

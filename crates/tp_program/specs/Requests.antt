@@ -9,7 +9,7 @@ use Rattle.tp_program.specs.Commands.{tempo_app}
 use Rattle.tp_plan_files.specs.declared.plan_words.PlanWords.{PlanWords}
 use Rattle.tp_plan_search.specs.declared.search_words.SearchWords.{SearchWords}
 use Rattle.tp_program.specs.declared.requests.Request.{Request}
-use Rattle.tp_program.specs.declared.requests.Request.TheVariants.{Bare, BareLog, Check, Net, Run, Plan, Audit, Help}
+use Rattle.tp_program.specs.declared.requests.Request.TheVariants.{Bare, BareLog, Check, Net, Run, RunLog, Plan, Audit, Help}
 
 -- the text is there, and its digits make the number
 abbrev pub Spells : Option Text → ℕ → Type 0
@@ -47,7 +47,12 @@ AsksBy named (BareLog log) =
     × (first_of (codes "journal") rows ≡ Some log.now)
 AsksBy named (Check w) = (rows : List Row) × (named ≡ Some (codes "check", rows)) × IsPlanWords rows w
 AsksBy named (Net w) = (rows : List Row) × (named ≡ Some (codes "net", rows)) × IsPlanWords rows w
-AsksBy named (Run w) = (rows : List Row) × (named ≡ Some (codes "run", rows)) × IsPlanWords rows w
+AsksBy named (Run w) =
+    (rows : List Row) × (named ≡ Some (codes "run", rows))
+    × (first_of (codes "journal") rows ≡ None) × IsPlanWords rows w
+AsksBy named (RunLog w log) =
+    (rows : List Row) × (named ≡ Some (codes "run", rows))
+    × (first_of (codes "journal") rows ≡ Some log.now) × IsPlanWords rows w
 AsksBy named (Plan w) = (rows : List Row) × (named ≡ Some (codes "plan", rows)) × IsSearchWords rows w
 AsksBy named (Audit log) =
     (rows : List Row) × (named ≡ Some (codes "audit", rows))
@@ -72,6 +77,8 @@ AsksFor words (Net w) =
     (fault_of tempo_app words ≡ []) × AsksBy (subcommand_of tempo_app words) (Net w)
 AsksFor words (Run w) =
     (fault_of tempo_app words ≡ []) × AsksBy (subcommand_of tempo_app words) (Run w)
+AsksFor words (RunLog w log) =
+    (fault_of tempo_app words ≡ []) × AsksBy (subcommand_of tempo_app words) (RunLog w log)
 AsksFor words (Plan w) =
     (fault_of tempo_app words ≡ []) × AsksBy (subcommand_of tempo_app words) (Plan w)
 AsksFor words (Audit log) =
@@ -82,6 +89,7 @@ pub record AsksForNoCommands (words : List Text) : Type 0 where
   pub no_bare : AsksFor words Bare → ⊥
   pub no_log : (log : _) → AsksFor words (BareLog log) → ⊥
   pub no_run : (w : PlanWords) → AsksFor words (Run w) → ⊥
+  pub no_run_log : (w : PlanWords) (log : _) → AsksFor words (RunLog w log) → ⊥
 
 -- the command that a request is one of; a call without words is one of `bare`, and help is none
 abbrev pub command_name : Request → Option Text
@@ -90,6 +98,7 @@ command_name (BareLog log) = Some (codes "bare")
 command_name (Check w) = Some (codes "check")
 command_name (Net w) = Some (codes "net")
 command_name (Run w) = Some (codes "run")
+command_name (RunLog w log) = Some (codes "run")
 command_name (Plan w) = Some (codes "plan")
 command_name (Audit log) = Some (codes "audit")
 command_name (Help text) = None
@@ -101,6 +110,7 @@ journal_name (BareLog log) = Some log.now
 journal_name (Check w) = None
 journal_name (Net w) = None
 journal_name (Run w) = None
+journal_name (RunLog w log) = Some log.now
 journal_name (Plan w) = None
 journal_name (Audit log) = None
 journal_name (Help text) = None

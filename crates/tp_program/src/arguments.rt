@@ -116,6 +116,17 @@ fn bare_asked<'w>(matches: &ArgMatches<'w>) -> Request<'w>
     }
 }
 
+/// What `run` asks for: a journal too, where a file is named for it.
+fn run_asked<'w>(matches: &ArgMatches<'w>) -> Option<Request<'w>>
+    ensures { IfSome result (AsksBy (Some (codes "run", rows_of (found_of matches.now)))) }
+{
+    let plan = plan_words(matches)?;
+    match word(matches, "journal") {
+        None => Some(Request::Run(plan)),
+        Some(log) => Some(Request::RunLog(plan, log)),
+    }
+}
+
 /// What a command with its values asks for.
 fn asked_by<'w>(name: &str, matches: &ArgMatches<'w>) -> Result<Request<'w>, Refusal>
     ensures asked { IfOk result (AsksBy (Some (name.now, rows_of (found_of matches.now)))) }
@@ -136,8 +147,8 @@ fn asked_by<'w>(name: &str, matches: &ArgMatches<'w>) -> Result<Request<'w>, Ref
         }
     }
     if name == "run" {
-        if let Some(words) = plan_words(matches) {
-            return Ok(Request::Run(words));
+        if let Some(request) = run_asked(matches) {
+            return Ok(request);
         }
     }
     if name == "plan" {
@@ -229,6 +240,13 @@ pub fn run_calls()
     ensures { (w : PlanWords) → w.domain.now ≡ codes "d" → w.problem.now ≡ codes "p" → w.plan.now ≡ codes "l"
         → scale_ticks w.scale ≡ 1000 → w.horizon ≡ 1000000
         → AsksFor (codes "run" ∷ codes "d" ∷ codes "p" ∷ codes "--scale" ∷ codes "1000" ∷ codes "l" ∷ []) (Request.Run w) }
+{}
+
+/// The file for a journal behind the others of `run`.
+pub fn run_log_calls()
+    ensures { (w : PlanWords) → (v : SearchWords) → w.domain.now ≡ codes "d" → w.problem.now ≡ codes "p" → w.plan.now ≡ codes "l"
+        → scale_ticks w.scale ≡ 1 → w.horizon ≡ 1000000 → v.domain.now ≡ codes "j"
+        → AsksFor (codes "run" ∷ codes "d" ∷ codes "p" ∷ codes "l" ∷ codes "--journal" ∷ codes "j" ∷ []) (Request.RunLog w v.domain) }
 {}
 
 /// Files and options of `plan`, with a horizon of 1000000 where none is given.

@@ -98,6 +98,8 @@ the commands of `bare`, one a line. In a report the network is `kept`, or `alter
 Behind the answers it prints `plan` and the plan of the run, each step at its moment, if every event happened and the
 network is kept. That plan is valid. For a plan that is not valid it prints the line that `check` prints.
 
+With `--journal FILE` each command and its answer go to the file before the answer goes out.
+
 Exit status: 0 a plan of the run was printed, 1 there is none, 2 refused input, 3 memory or a device.
 
 Example:
@@ -270,7 +272,7 @@ fn run_command<'a>(alloc: Global) -> Result<Command<'a>, AllocError>
     ensures app { IfOk result (λ c. app_of c ≡ run_app) }
     ensures local { IfOk result (λ c. (fields_of c).has_globals ≡ false) }
 {
-    plan_command(alloc, plan_start(alloc, "run", RUN_ABOUT, RUN_HELP))
+    plan_command(alloc, plan_start(alloc, "run", RUN_ABOUT, RUN_HELP))?.arg(journal_option(alloc))
 }
 
 /// The command `plan`.

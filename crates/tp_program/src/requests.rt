@@ -15,6 +15,8 @@ pub enum Request<'w> {
     Net(PlanWords<'w>),
     /// The answers to the commands of the input on the network of a plan, and the plan of that run.
     Run(PlanWords<'w>),
+    /// The same, and their journal in the file of a name.
+    RunLog(PlanWords<'w>, &'w str),
     /// A plan of a problem.
     Plan(SearchWords<'w>),
     /// The audit of the journal in a file.

@@ -3,7 +3,7 @@ use super::devices::{Outcome, WIDE, run, whole};
 use std::alloc::Global;
 
 /// Words that are refused, and what is said of them.
-const REFUSED: [(&[&str], &str); 16] = [
+const REFUSED: [(&[&str], &str); 17] = [
     (&["split"], "error: unrecognized subcommand 'split'"),
     (&["plan", "d"], "<PROBLEM>"),
     (&["audit"], "<LOG>"),
@@ -25,8 +25,9 @@ const REFUSED: [(&[&str], &str); 16] = [
         &["audit", "log", "d"],
         "error: unexpected argument 'd' found",
     ),
+    (&["run", "d", "p", "l", "--journal"], "--journal <FILE>"),
     (
-        &["run", "d", "p", "l", "--journal", "log"],
+        &["net", "d", "p", "l", "--journal", "log"],
         "error: unexpected argument '--journal' found",
     ),
     (
@@ -70,6 +71,7 @@ const RUN: &[&str] = &[
     "Usage: tempo run",
     "lag E L",
     "`altered`",
+    "--journal <FILE>",
     "--scale",
     "Exit status: 0 a plan of the run was printed",
     "Example:",

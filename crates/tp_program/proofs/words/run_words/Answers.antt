@@ -1,7 +1,7 @@
 use Rattle.std.proofs.Common.{◌∙◌, List, ℕ, arith, inl, inr, refl, subst}
 use Rattle.tp_device.proofs.Parts.{appends_none}
 use Rattle.tp_files.specs.FaultLines.{Tells}
-use Rattle.tp_program.specs.declared.requests.Request.TheVariants.{Bare, BareLog, Check, Net, Run, Plan, Audit, Help}
+use Rattle.tp_program.specs.declared.requests.Request.TheVariants.{Bare, BareLog, Check, Net, Run, RunLog, Plan, Audit, Help}
 use Rattle.tp_program.specs.CallFiles.{call_files}
 use Rattle.tp_program.specs.Endings.{StopsHelp}
 use Rattle.tp_program.proofs.StreamLemmas.{logs_part}
@@ -79,6 +79,16 @@ pub returns-in-Ok-Run-clause-kept : goal.returns-in-Ok-Run-clause-kept
 returns-in-Ok-Run-clause-kept g c =
     λ none two.
     absurd (none.no_run c.in-Ok-Run.plan (rw c.in-Ok-Run.field-0-is at c.in-Ok-Run.ensures.asked))
+
+pub returns-in-Ok-RunLog-clause-stopped : goal.returns-in-Ok-RunLog-clause-stopped
+returns-in-Ok-RunLog-clause-stopped g c =
+    λ two.
+    inr (inr (RunLog c.in-Ok-RunLog.plan c.in-Ok-RunLog.log, rw c.in-Ok-RunLog.field-0-is at c.in-Ok-RunLog.ensures.asked, c.run_run_journal.ensures.stopped two))
+
+pub returns-in-Ok-RunLog-clause-kept : goal.returns-in-Ok-RunLog-clause-kept
+returns-in-Ok-RunLog-clause-kept g c =
+    λ none two.
+    absurd (none.no_run_log c.in-Ok-RunLog.plan c.in-Ok-RunLog.log (rw c.in-Ok-RunLog.field-0-is at c.in-Ok-RunLog.ensures.asked))
 
 pub returns-in-Ok-Plan-clause-stopped : goal.returns-in-Ok-Plan-clause-stopped
 returns-in-Ok-Plan-clause-stopped g c =
