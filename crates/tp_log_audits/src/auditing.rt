@@ -61,8 +61,12 @@ pub fn head_in<N: Files>(alloc: Global, files: &mut N, log: &str) -> Result<Jour
     }
 }
 
-/// The audit of the journal that a source has left.
-fn audit_of<S: Source + Drop>(
+/// Audits the journal that a source has left against an executive, which is new. Each line is read once and each command that was
+/// accepted carried out, so that it costs little more than the run did.
+///
+/// # Errors
+/// `Read` where a read fails, `Memory`; `Line(n)` where line n breaks the format; `Head` for the head of another executive.
+pub fn audit_of<S: Source + Drop>(
     alloc: Global,
     source: S,
     executive: Executive<RepairNet>,
@@ -87,12 +91,10 @@ fn audit_of<S: Source + Drop>(
     }
 }
 
-/// Audits the journal in the file of a name against an executive, which is new. Each line is read once and each command that was
-/// accepted carried out, so that it costs little more than the run did.
+/// The same of the journal in the file of a name.
 ///
 /// # Errors
-/// `Open` where the file can't be opened, `Read` where a read fails, `Memory`; `Line(n)` where line n breaks the format; `Head` for
-/// the head of another executive.
+/// `Open` where the file can't be opened; those of `audit_of`.
 pub fn audit_in<N: Files>(
     alloc: Global,
     files: &mut N,

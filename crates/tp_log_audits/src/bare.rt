@@ -26,8 +26,8 @@ const MOST_EVENTS: u16 = 1_024;
 /// The greatest horizon.
 const GREATEST_HORIZON: u32 = 1_000_000_000;
 
-/// Whether all lags are of so many events, and in range.
-fn lags_fit(events: u16, lags: &[(u16, u32)]) -> bool
+/// Whether all lags are of so many events, and in range. One look at each.
+pub fn lags_fit(events: u16, lags: &[(u16, u32)]) -> bool
     ensures { IsTrue result ↔ All (LagFits events) lags.now }
 {
     lags.iter().all(|lag| lag.0 < events && lag.1 <= MOST_LAG)
@@ -52,8 +52,8 @@ fn is_bare(head: &JournalHead) -> bool
     }
 }
 
-/// Sets the lags of a new network.
-fn set_lags<N: Net>(net: &mut N, lags: &[(u16, u32)])
+/// Sets the lags of a new network, one after another. It takes no memory.
+pub fn set_lags<N: Net>(net: &mut N, lags: &[(u16, u32)])
     requires start { (N.seen net.old).clock ≡ 0 }
     requires fit { All (LagFits (event_count (N.seen net.old))) lags.now }
     ensures set { N.seen net.new ≡ lagged (N.seen net.old) lags.now }

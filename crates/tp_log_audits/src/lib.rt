@@ -12,6 +12,6 @@ mod bare;
 mod verdicts;
 
 pub use audit_lines::{AuditStop, audit_stop_line};
-pub use auditing::{Found, audit_in, head_in};
-pub use bare::run_bare_audit;
+pub use auditing::{Found, audit_in, audit_of, head_in};
+pub use bare::{lags_fit, run_bare_audit, set_lags};
 pub use verdicts::say;

@@ -19,8 +19,10 @@ pub enum Request<'w> {
     RunLog(PlanWords<'w>, &'w str),
     /// A plan of a problem.
     Plan(SearchWords<'w>),
-    /// The audit of the journal in a file.
+    /// The audit of the journal in a file, of commands on a network of bounds alone.
     Audit(&'w str),
+    /// The audit of the journal in a file, of commands on the network of a plan.
+    PlanAudit(&'w str, PlanWords<'w>),
     /// A text of help, or the version.
     Help(String),
 }

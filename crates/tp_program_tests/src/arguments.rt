@@ -3,7 +3,7 @@ use super::devices::{Outcome, WIDE, run, whole};
 use std::alloc::Global;
 
 /// Words that are refused, and what is said of them.
-const REFUSED: [(&[&str], &str); 17] = [
+const REFUSED: [(&[&str], &str); 20] = [
     (&["split"], "error: unrecognized subcommand 'split'"),
     (&["plan", "d"], "<PROBLEM>"),
     (&["audit"], "<LOG>"),
@@ -21,9 +21,12 @@ const REFUSED: [(&[&str], &str); 17] = [
     (&["check", "d", "p"], "<PLAN>"),
     (&["net", "d", "p"], "<PLAN>"),
     (&["run", "d", "p"], "<PLAN>"),
+    (&["audit", "log", "d"], ""),
+    (&["audit", "log", "d", "p"], ""),
+    (&["audit", "log", "--scale", "7"], ""),
     (
-        &["audit", "log", "d"],
-        "error: unexpected argument 'd' found",
+        &["audit", "log", "d", "p", "l", "o"],
+        "error: unexpected argument 'o' found",
     ),
     (&["run", "d", "p", "l", "--journal"], "--journal <FILE>"),
     (
@@ -77,7 +80,14 @@ const RUN: &[&str] = &[
     "Example:",
 ];
 
-const AUDIT: &[&str] = &["Usage: tempo audit", "audit ok N", "wrong N", "Example:"];
+const AUDIT: &[&str] = &[
+    "Usage: tempo audit",
+    "[DOMAIN]",
+    "audit ok N",
+    "wrong N",
+    "--horizon",
+    "Examples:",
+];
 
 /// Calls for help or for the version, and what stands in it.
 const HELP: [(&[&str], &[&str]); 15] = [

@@ -1,4 +1,4 @@
-// Journals of the runs of plans, worked by hand.
+// Journals of the runs of plans, worked by hand, and their audits.
 use super::devices::{Kept, Told, WIDE, gives, logs, whole};
 use std::alloc::Global;
 use tp_small_worlds::{CHARGE, TOGGLE, TOGGLED, UNCHARGED};
@@ -14,6 +14,21 @@ const RUN: &[&str] = &[
     "night.log",
 ];
 
+const AUDIT: &[&str] = &[
+    "audit",
+    "night.log",
+    "domain",
+    "problem",
+    "plan",
+    "--horizon",
+    "100",
+];
+
+/// The same up to another horizon.
+const OTHERWISE: &[&str] = &["audit", "night.log", "domain", "problem", "plan"];
+
+const ALONE: &[&str] = &["audit", "night.log"];
+
 const WATCH: &str = "0: (watch) [5]\n2: (give)\n3: (drop)\n";
 
 const COMMANDS: &str =
@@ -28,6 +43,13 @@ const JOURNAL: &str =
                        > dispatch 0\n< ok\n> advance 1\n< ok\n> dispatch 3\n< ok\n> window 2\n\
                        < window 1 1\n> advance 2\n< refused conflict now2 past3+ b6\n> dispatch 2\n\
                        < ok\n> advance 5\n< ok\n> dispatch 1\n< ok\n";
+
+/// The same with another answer in line 18.
+const ALTERED: &str =
+    "journal 2\nnetwork 4 100\nown 7\nbound 0 1 0 -5\nbound 1 0 1 5\nbound 2 2 0 0\n\
+                       bound 3 1 2 0\nbound 4 3 0 0\nbound 5 1 3 0\nbound 6 3 2 0\n\
+                       > dispatch 0\n< ok\n> advance 1\n< ok\n> dispatch 3\n< ok\n> window 2\n\
+                       < window 0 1\n";
 
 /// A run without a plan, of which an event may be reported late.
 const REST: &str = "0: (rest) [4]\n";
@@ -151,26 +173,114 @@ fn a_run_whose_journal_can_not_be_made(rt: HostRuntime) {
     assert!(rt; is_unmade(rt.alloc()));
 }
 
-/// Whether a journal is refused as that of another network, where no plan is named.
-fn is_of_a_plan(alloc: Global, journal: &str) -> bool {
-    let stored = [("night.log", journal.as_bytes())];
+/// The words, a domain and a problem, a plan, a journal, what an audit writes, the fault line, and the exit status.
+type Audit = (
+    &'static [&'static str],
+    &'static str,
+    &'static str,
+    &'static str,
+    &'static str,
+    &'static str,
+    &'static str,
+    u8,
+);
+
+const AUDITS: [Audit; 8] = [
+    (
+        AUDIT,
+        TOGGLE,
+        TOGGLED,
+        WATCH,
+        JOURNAL,
+        "audit ok 8\n",
+        "",
+        0,
+    ),
+    (AUDIT, TOGGLE, TOGGLED, WATCH, ALTERED, "wrong 18\n", "", 1),
+    (
+        AUDIT,
+        CHARGE,
+        UNCHARGED,
+        REST,
+        LATE_JOURNAL,
+        "audit ok 4\n",
+        "",
+        0,
+    ),
+    // without the plan, with another horizon, or with another plan
+    (
+        ALONE,
+        TOGGLE,
+        TOGGLED,
+        WATCH,
+        JOURNAL,
+        "",
+        "fault journal 5 head\n",
+        2,
+    ),
+    (
+        OTHERWISE,
+        TOGGLE,
+        TOGGLED,
+        WATCH,
+        JOURNAL,
+        "",
+        "fault journal 5 head\n",
+        2,
+    ),
+    (
+        AUDIT,
+        CHARGE,
+        UNCHARGED,
+        REST,
+        JOURNAL,
+        "",
+        "fault journal 5 head\n",
+        2,
+    ),
+    // the head is looked at before the files of the plan, and the plan before the rest
+    (
+        AUDIT,
+        "(",
+        TOGGLED,
+        WATCH,
+        "journal 3\n",
+        "",
+        "fault journal 3 line 1\n",
+        2,
+    ),
+    (
+        AUDIT,
+        CHARGE,
+        UNCHARGED,
+        "0: (charge) [7]\n",
+        JOURNAL,
+        "invalid 0 duration 0\n",
+        "",
+        1,
+    ),
+];
+
+/// Whether an audit comes to that.
+fn is_audited(alloc: Global, row: Audit) -> bool {
+    let (words, domain, problem, plan, journal, answers, faults, status) = row;
+    let stored = [
+        ("domain", domain.as_bytes()),
+        ("problem", problem.as_bytes()),
+        ("plan", plan.as_bytes()),
+        ("night.log", journal.as_bytes()),
+    ];
     let told = Told {
-        answers: b"",
-        faults: b"fault journal 5 head\n",
-        status: 2,
+        answers: answers.as_bytes(),
+        faults: faults.as_bytes(),
+        status,
     };
-    gives(
-        alloc,
-        &["audit", "night.log"],
-        &stored,
-        whole(""),
-        WIDE,
-        told,
-    )
+    gives(alloc, words, &stored, whole(""), WIDE, told)
 }
 
 #[test]
-fn journals_of_plans_are_none_of_bounds_alone(rt: HostRuntime) {
-    assert!(rt; is_of_a_plan(rt.alloc(), JOURNAL));
-    assert!(rt; is_of_a_plan(rt.alloc(), LATE_JOURNAL));
+fn journals_of_plans_are_audited(rt: HostRuntime) {
+    for row in AUDITS {
+        assert!(rt; is_audited(rt.alloc(), row));
+    }
 }

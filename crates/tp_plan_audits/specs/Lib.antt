@@ -1,0 +1,3 @@
+pub mod AuditStops
+pub mod Ends
+pub mod PlanAudits
