@@ -226,7 +226,7 @@ plan_words w domain problem scale horizon budget = (
 -- the file of a journal
 pub audit_words : (w : PlanWords) → w.plan.now ≡ codes "l" → AsksFor (codes "audit" ∷ codes "l" ∷ []) (Audit w.plan)
 unfolding clap_on_literals
-audit_words w log = (refl, (_, refl, ap Some (sym log), refl, (One, codes "1", refl, refl)))
+audit_words w log = (refl, (_, refl, ap Some (sym log), refl, (One, (codes "1", refl, refl))))
 
 abbrev first_letter : Text → ℕ
 first_letter [] = 0
