@@ -1,6 +1,6 @@
 -- What a parse asks for.
 use Rattle.std.proofs.Common.{◌≡◌, ◌∙◌, ◌⊎◌, ap, ap₂, arith, ℕ, ◌∷◌, inl, inr, refl, sym, subst, List, [], Option, Some, None, true, codes}
-use Rattle.std.specs.Prelude.{Box, Result, Ok, Err, if◌then◌else◌, nat_eq, option_map}
+use Rattle.std.specs.Prelude.{Box, Result, Ok, Err, Bool, if◌then◌else◌, ◌||◌, nat_eq, option_map}
 use Rattle.std.specs.Box.{box_value}
 use Rattle.clap.specs.Words.{FailsBy, IsAmong, ReadsOne, Row, Text, fault_of, first_of, one_of, one_text, is_simple, is_simple_and_free, kind_of, rows_of, subcommand_name_of, subcommand_of, subcommand_rows, subcommand_rows_of}
 use Rattle.clap.specs.declared.error.Error.{Error}
@@ -14,12 +14,13 @@ use Rattle.clap.proofs.WalkLemmas.{one_text-rows}
 use Rattle.std.specs.Str.Parse.{digits_value, without_leading_plus}
 use Rattle.clap.specs.declared.parser.matches.Found.{Found}
 use Rattle.tp_program.specs.Commands.{tempo_app}
-use Rattle.tp_program.specs.Requests.{AskForOneThing, AsksBy, AsksFor, NamesBare, Spells, TellsText, command_name, journal_name}
+use Rattle.tp_program.specs.Requests.{AskForOneThing, AsksBy, AsksFor, NamesBare, Spells, TellsText, command_name, domain_name, journal_name}
 use Rattle.tp_text.specs.Scales.{scale_ticks}
+use Rattle.tp_text.specs.declared.number.Scale.TheVariants.{One}
 use Rattle.tp_plan_files.specs.declared.plan_words.PlanWords.{PlanWords}
 use Rattle.tp_plan_search.specs.declared.search_words.SearchWords.{SearchWords}
 use Rattle.tp_program.specs.declared.requests.Request.{Request}
-use Rattle.tp_program.specs.declared.requests.Request.TheVariants.{Bare, BareLog, Check, Net, Run, Plan, Audit, Help}
+use Rattle.tp_program.specs.declared.requests.Request.TheVariants.{Bare, BareLog, Check, Net, Run, RunLog, Plan, Audit, PlanAudit, Help}
 
 module _ {Z : Type 0} where
   none_rows : (s : Option (Box SubCommand Z)) → option_map (λ b. (out-SubCommand (box_value b)).name.now) s ≡ None → subcommand_rows s ≡ None
@@ -53,8 +54,10 @@ asks_by words named (BareLog log) free is h = (free, subst (λ n. AsksBy n (Bare
 asks_by words named (Check w) free is h = (free, subst (λ n. AsksBy n (Check w)) is h)
 asks_by words named (Net w) free is h = (free, subst (λ n. AsksBy n (Net w)) is h)
 asks_by words named (Run w) free is h = (free, subst (λ n. AsksBy n (Run w)) is h)
+asks_by words named (RunLog w log) free is h = (free, subst (λ n. AsksBy n (RunLog w log)) is h)
 asks_by words named (Plan w) free is h = (free, subst (λ n. AsksBy n (Plan w)) is h)
 asks_by words named (Audit log) free is h = (free, subst (λ n. AsksBy n (Audit log)) is h)
+asks_by words named (PlanAudit log w) free is h = (free, subst (λ n. AsksBy n (PlanAudit log w)) is h)
 asks_by words named (Help text) free is h = absurd h
 
 -- an error that is a call for help or for the version
@@ -148,6 +151,47 @@ run_words w domain problem plan scale horizon = (
   (
     _,
     refl,
+    refl,
+    record {
+      domain = ap Some (sym domain);
+      problem = ap Some (sym problem);
+      plan = ap Some (sym plan);
+      scale = (codes "1000", refl, sym scale);
+      horizon = (codes "1000000", refl, sym horizon);
+      within = omega (arith, horizon);
+    },
+  ),
+)
+
+-- and with a file for a journal
+pub run_log_words : (w : PlanWords) (v : SearchWords) → w.domain.now ≡ codes "d" → w.problem.now ≡ codes "p" → w.plan.now ≡ codes "l" → scale_ticks w.scale ≡ 1 → w.horizon ≡ 1000000 → v.domain.now ≡ codes "j" → AsksFor (codes "run" ∷ codes "d" ∷ codes "p" ∷ codes "l" ∷ codes "--journal" ∷ codes "j" ∷ []) (RunLog w v.domain)
+unfolding clap_on_literals
+run_log_words w v domain problem plan scale horizon log = (
+  refl,
+  (
+    _,
+    refl,
+    ap Some (sym log),
+    record {
+      domain = ap Some (sym domain);
+      problem = ap Some (sym problem);
+      plan = ap Some (sym plan);
+      scale = (codes "1", refl, sym scale);
+      horizon = (codes "1000000", refl, sym horizon);
+      within = omega (arith, horizon);
+    },
+  ),
+)
+
+-- the files of a plan behind that of a journal
+pub plan_audit_words : (w : PlanWords) (v : SearchWords) → w.domain.now ≡ codes "d" → w.problem.now ≡ codes "p" → w.plan.now ≡ codes "l" → scale_ticks w.scale ≡ 1000 → w.horizon ≡ 1000000 → v.domain.now ≡ codes "j" → AsksFor (codes "audit" ∷ codes "j" ∷ codes "d" ∷ codes "p" ∷ codes "l" ∷ codes "--scale" ∷ codes "1000" ∷ []) (PlanAudit v.domain w)
+unfolding clap_on_literals
+plan_audit_words w v domain problem plan scale horizon log = (
+  refl,
+  (
+    _,
+    refl,
+    ap Some (sym log),
     record {
       domain = ap Some (sym domain);
       problem = ap Some (sym problem);
@@ -182,7 +226,7 @@ plan_words w domain problem scale horizon budget = (
 -- the file of a journal
 pub audit_words : (w : PlanWords) → w.plan.now ≡ codes "l" → AsksFor (codes "audit" ∷ codes "l" ∷ []) (Audit w.plan)
 unfolding clap_on_literals
-audit_words w log = (refl, (_, refl, ap Some (sym log)))
+audit_words w log = (refl, (_, refl, ap Some (sym log), refl, (One, (codes "1", refl, refl))))
 
 abbrev first_letter : Text → ℕ
 first_letter [] = 0
@@ -193,9 +237,13 @@ abbrev named_command : Option (Text × List Row) → Text
 named_command None = codes "bare"
 named_command (Some named) = named.0
 
--- the file for a journal, of the command that takes one
+-- `bare` and `run`
+abbrev keeps_journal : ℕ → Bool
+keeps_journal letter = nat_eq letter 98 || nat_eq letter 114
+
+-- the file for a journal, of the commands that take one
 abbrev journal_of : Text → Option Text → Option Text
-journal_of name given = if nat_eq (first_letter name) 98 then given else None
+journal_of name given = if keeps_journal (first_letter name) then given else None
 
 abbrev named_journal : Option (Text × List Row) → Option Text
 named_journal None = None
@@ -215,6 +263,14 @@ help_is [] t (inl help) = absurd help
 help_is [] t (inr version) = absurd version
 help_is (k ∷ ks) t asks = refl
 
+-- the file of a domain, of the commands that take one
+abbrev domain_of : Text → Option Text → Option Text
+domain_of name given = if nat_eq (first_letter name) 98 then None else given
+
+abbrev named_domain : Option (Text × List Row) → Option Text
+named_domain None = None
+named_domain (Some named) = domain_of named.0 (first_of (codes "DOMAIN") named.1)
+
 bare_command_is : (named : Option (Text × List Row)) → NamesBare named → Some (codes "bare") ≡ Some (named_command named)
 bare_command_is None h = refl
 bare_command_is (Some named) h = ap Some (sym h.0)
@@ -222,6 +278,10 @@ bare_command_is (Some named) h = ap Some (sym h.0)
 bare_journal_is : (named : Option (Text × List Row)) → NamesBare named → None ≡ named_journal named
 bare_journal_is None h = refl
 bare_journal_is (Some named) h = sym (ap₂ journal_of h.0 h.1)
+
+bare_domain_is : (named : Option (Text × List Row)) → NamesBare named → None ≡ named_domain named
+bare_domain_is None h = refl
+bare_domain_is (Some named) h = sym (ap (λ name. domain_of name (first_of (codes "DOMAIN") named.1)) h.0)
 
 command_is : (named : Option (Text × List Row)) (name : Text) (rows : List Row) → named ≡ Some (name, rows) → Some name ≡ Some (named_command named)
 command_is named name rows is = ap Some (sym (ap named_command is))
@@ -236,8 +296,10 @@ asks_command words (BareLog log) h = free_is _ _ _ h.0 (command_is _ (codes "bar
 asks_command words (Check w) h = free_is _ _ _ h.0 (command_is _ (codes "check") h.1.0 h.1.1)
 asks_command words (Net w) h = free_is _ _ _ h.0 (command_is _ (codes "net") h.1.0 h.1.1)
 asks_command words (Run w) h = free_is _ _ _ h.0 (command_is _ (codes "run") h.1.0 h.1.1)
+asks_command words (RunLog w log) h = free_is _ _ _ h.0 (command_is _ (codes "run") h.1.0 h.1.1)
 asks_command words (Plan w) h = free_is _ _ _ h.0 (command_is _ (codes "plan") h.1.0 h.1.1)
 asks_command words (Audit log) h = free_is _ _ _ h.0 (command_is _ (codes "audit") h.1.0 h.1.1)
+asks_command words (PlanAudit log w) h = free_is _ _ _ h.0 (command_is _ (codes "audit") h.1.0 h.1.1)
 asks_command words (Help text) h = help_is _ _ h
 
 -- and its journal goes to the file that they name
@@ -246,10 +308,28 @@ asks_journal words Bare h = free_is _ _ _ h.0 (bare_journal_is _ h.1)
 asks_journal words (BareLog log) h = free_is _ _ _ h.0 (journal_is _ (codes "bare") h.1.0 _ h.1.1 (sym h.1.2))
 asks_journal words (Check w) h = free_is _ _ _ h.0 (journal_is _ (codes "check") h.1.0 None h.1.1 refl)
 asks_journal words (Net w) h = free_is _ _ _ h.0 (journal_is _ (codes "net") h.1.0 None h.1.1 refl)
-asks_journal words (Run w) h = free_is _ _ _ h.0 (journal_is _ (codes "run") h.1.0 None h.1.1 refl)
+asks_journal words (Run w) h = free_is _ _ _ h.0 (journal_is _ (codes "run") h.1.0 None h.1.1 (sym h.1.2))
+asks_journal words (RunLog w log) h = free_is _ _ _ h.0 (journal_is _ (codes "run") h.1.0 _ h.1.1 (sym h.1.2))
 asks_journal words (Plan w) h = free_is _ _ _ h.0 (journal_is _ (codes "plan") h.1.0 None h.1.1 refl)
 asks_journal words (Audit log) h = free_is _ _ _ h.0 (journal_is _ (codes "audit") h.1.0 None h.1.1 refl)
+asks_journal words (PlanAudit log w) h = free_is _ _ _ h.0 (journal_is _ (codes "audit") h.1.0 None h.1.1 refl)
 asks_journal words (Help text) h = help_is _ _ h
+
+domain_is : (named : Option (Text × List Row)) (name : Text) (rows : List Row) (t : Option Text) → named ≡ Some (name, rows) → t ≡ named_domain (Some (name, rows)) → t ≡ named_domain named
+domain_is named name rows t is same = same ∙ sym (ap named_domain is)
+
+-- and of the domain in the file that they name
+asks_domain : (words : List Text) (r : Request) → AsksFor words r → domain_name r ≡ when_free (fault_of tempo_app words) (named_domain (subcommand_of tempo_app words))
+asks_domain words Bare h = free_is _ _ _ h.0 (bare_domain_is _ h.1)
+asks_domain words (BareLog log) h = free_is _ _ _ h.0 (domain_is _ (codes "bare") h.1.0 None h.1.1 refl)
+asks_domain words (Check w) h = free_is _ _ _ h.0 (domain_is _ (codes "check") h.1.0 _ h.1.1 (sym h.1.2.domain))
+asks_domain words (Net w) h = free_is _ _ _ h.0 (domain_is _ (codes "net") h.1.0 _ h.1.1 (sym h.1.2.domain))
+asks_domain words (Run w) h = free_is _ _ _ h.0 (domain_is _ (codes "run") h.1.0 _ h.1.1 (sym h.1.3.domain))
+asks_domain words (RunLog w log) h = free_is _ _ _ h.0 (domain_is _ (codes "run") h.1.0 _ h.1.1 (sym h.1.3.domain))
+asks_domain words (Plan w) h = free_is _ _ _ h.0 (domain_is _ (codes "plan") h.1.0 _ h.1.1 (sym h.1.2.domain))
+asks_domain words (Audit log) h = free_is _ _ _ h.0 (domain_is _ (codes "audit") h.1.0 None h.1.1 (sym h.1.3))
+asks_domain words (PlanAudit log w) h = free_is _ _ _ h.0 (domain_is _ (codes "audit") h.1.0 _ h.1.1 (sym h.1.3.domain))
+asks_domain words (Help text) h = help_is _ _ h
 
 -- no words ask for two kinds of things
 pub distinct : (words : List Text) → AskForOneThing words
@@ -257,4 +337,5 @@ distinct words =
     record {
       command = λ r s one other. asks_command words r one ∙ sym (asks_command words s other);
       journal = λ r s one other. asks_journal words r one ∙ sym (asks_journal words s other);
+      domain = λ r s one other. asks_domain words r one ∙ sym (asks_domain words s other);
     }

@@ -1,5 +1,5 @@
 -- What was written to a writer of bytes that are kept before and after.
-use Rattle.std.proofs.Common.{◌≡◌, ◌≢◌, ◌∙◌, ◌≤◌, zero, suc, ap, ℕ, List, [], ◌++◌, Option, Some, None, inl, inr, codes, sym, subst, refl, arith}
+use Rattle.std.proofs.Common.{◌≡◌, ◌≢◌, ◌∙◌, ◌≤◌, zero, suc, ap, ℕ, List, [], ◌++◌, Option, Some, None, ◌⊎◌, inl, inr, codes, sym, subst, refl, arith}
 use Rattle.std.specs.Prelude.{MatchOption, Result, Ok, Err}
 use Rattle.std.specs.Io.KnownBytes.{Appends, Keeps}
 use Rattle.std.specs.String.{string_bytes}
@@ -18,7 +18,14 @@ use Rattle.tp_ground.specs.declared.task.Task.{Task}
 use Rattle.tp_happen.specs.declared.plans.Step.{Step}
 use Rattle.tp_log_audits.specs.Bare.{SaysAuditPart, SaysJournal, SaysWrong}
 use Rattle.tp_plan_runs.specs.Invalid.{SaysInvalid, SaysInvalidPart}
-use Rattle.tp_plan_runs.specs.Runs.{EndsInNone, EndsInPart, EndsInPlan, RunsPart, RunsToNone, RunsToPlan, WritesPart}
+use Rattle.tp_plan_runs.specs.Runs.{EndsInNone, EndsInPart, EndsInPlan, RunsNamed, RunsPart, RunsToNone, RunsToPlan, WritesPart}
+use Rattle.tp_audit.specs.declared.faults.JournalHead.{JournalHead}
+use Rattle.tp_log_audits.specs.Audits.{found_line}
+use Rattle.tp_log_audits.specs.declared.auditing.Found.{Found}
+use Rattle.tp_log_audits.specs.declared.auditing.Found.TheVariants as found
+use Rattle.tp_plan_audits.specs.PlanAudits.{IsPlanFound, SaysFound, SaysPlanJournal, SaysPlanNo, WithHead, WritesAuditPart}
+use Rattle.tp_run_journals.specs.LogFile.{LogFile, log_file}
+use Rattle.tp_run_journals.specs.RunJournals.{LogsInNone, LogsInPlan, LogsToNone, LogsToPlan}
 use Rattle.tp_plan_search.specs.Searches.{SaysNoPlan, SearchesPart, WritesPlan}
 use Rattle.tp_plan_search.specs.declared.search_words.SearchWords.{SearchWords}
 use Rattle.tp_program.specs.CallFiles.{CallFiles}
@@ -31,7 +38,7 @@ use Rattle.tp_program.specs.Requests.{AsksFor, AsksForNoCommands}
 use Rattle.tp_program.specs.Streams.{Ends, HandsOn, Runs, TellsSome}
 use Rattle.tp_plan_files.specs.declared.plan_words.PlanWords.{PlanWords}
 use Rattle.tp_program.specs.declared.requests.Request.{Request}
-use Rattle.tp_program.specs.declared.requests.Request.TheVariants.{Bare, BareLog, Check, Net, Run, Plan, Audit, Help}
+use Rattle.tp_program.specs.declared.requests.Request.TheVariants.{Bare, BareLog, Check, Net, Run, RunLog, Plan, Audit, PlanAudit, Help}
 
 -- what was appended there was appended here
 abbrev pub Shift : Option (List ℕ) → Option (List ℕ) → Option (List ℕ) → Option (List ℕ) → Type 0
@@ -297,14 +304,116 @@ pub logs_part : (files : CallFiles) (input a b : Option (List ℕ)) → LogsPart
 logs_part files input a b (inl same) = inl (subst (λ n. Appends a n []) (sym same) (appends_none a))
 logs_part files input a b (inr h) = inr h
 
+-- what is said of the run of a named plan may be said otherwise
+named_over : (held : List ℕ → Option (List ℕ)) (w : PlanWords) (P Q : Task → List Step → Type 0) → ((task : Task) (steps : List Step) → P task steps → Q task steps) → RunsNamed held w P → RunsNamed held w Q
+named_over held w P Q f h = (h.0, h.1, h.2, h.3, f h.0 h.1 h.4)
+
+log_plan_over : (task : Task) (steps : List Step) (horizon : ℕ) (file : LogFile) (input a b c d : Option (List ℕ)) → Shift a b c d → LogsInPlan task steps horizon input a b file → LogsInPlan task steps horizon input c d file
+log_plan_over task steps horizon file input a b c d over h =
+    record {
+      ends = record {
+        net = h.ends.net;
+        is_net = h.ends.is_net;
+        answers = h.ends.answers;
+        last = h.ends.last;
+        answered = h.ends.answered;
+        run = h.ends.run;
+        is = h.ends.is;
+        written = over _ h.ends.written;
+      };
+      logged = h.logged;
+      named = h.named;
+    }
+
+log_none_over : (task : Task) (steps : List Step) (horizon : ℕ) (file : LogFile) (input a b c d : Option (List ℕ)) → Shift a b c d → LogsInNone task steps horizon input a b file → LogsInNone task steps horizon input c d file
+log_none_over task steps horizon file input a b c d over h =
+    record {
+      ends = record {
+        net = h.ends.net;
+        is_net = h.ends.is_net;
+        answers = h.ends.answers;
+        last = h.ends.last;
+        answered = h.ends.answered;
+        none = h.ends.none;
+        written = over _ h.ends.written;
+      };
+      logged = h.logged;
+      named = h.named;
+    }
+
+run_log_over : (files : CallFiles) (w : PlanWords) (name : List ℕ) (input a b c d : Option (List ℕ)) → Shift a b c d → LogsToPlan files.held w input a b (log_file name files.named files.blank files.kept) → LogsToPlan files.held w input c d (log_file name files.named files.blank files.kept)
+run_log_over files w name input a b c d over h =
+    let file = log_file name files.named files.blank files.kept in
+    named_over files.held w (λ task steps. LogsInPlan task steps w.horizon input a b file) (λ task steps. LogsInPlan task steps w.horizon input c d file) (λ task steps. log_plan_over task steps w.horizon file input a b c d over) h
+
+run_log_none_over : (files : CallFiles) (w : PlanWords) (name : List ℕ) (input a b c d : Option (List ℕ)) → Shift a b c d → LogsToNone files.held w input a b (log_file name files.named files.blank files.kept) → LogsToNone files.held w input c d (log_file name files.named files.blank files.kept)
+run_log_none_over files w name input a b c d over (inl h) = inl (invalid_over files.held w a b c d over h)
+run_log_none_over files w name input a b c d over (inr h) =
+    let file = log_file name files.named files.blank files.kept in
+    inr (named_over files.held w (λ task steps. LogsInNone task steps w.horizon input a b file) (λ task steps. LogsInNone task steps w.horizon input c d file) (λ task steps. log_none_over task steps w.horizon file input a b c d over) h)
+
+-- ---- audits of the runs of plans
+
+head_over : (input : Option (List ℕ)) (P Q : JournalHead → Type 0) → ((head : JournalHead) → P head → Q head) → WithHead input P → WithHead input Q
+head_over input P Q f h = (h.0, h.1, f h.0 h.2)
+
+found_over : (task : Task) (steps : List Step) (horizon : ℕ) (head : JournalHead) (input a b c d : Option (List ℕ)) (what : Found) → Shift a b c d → SaysFound task steps horizon head input a b what → SaysFound task steps horizon head input c d what
+found_over task steps horizon head input a b c d what over h = (h.0, over _ h.1)
+
+plan_journal_over : (held : List ℕ → Option (List ℕ)) (w : PlanWords) (input a b c d : Option (List ℕ)) → Shift a b c d → SaysPlanJournal held w input a b → SaysPlanJournal held w input c d
+plan_journal_over held w input a b c d over h =
+    head_over input
+    (λ head. RunsNamed held w (λ task steps. (pairs : ℕ) × SaysFound task steps w.horizon head input a b (found.Journal pairs)))
+    (λ head. RunsNamed held w (λ task steps. (pairs : ℕ) × SaysFound task steps w.horizon head input c d (found.Journal pairs)))
+    (λ head. named_over held w
+    (λ task steps. (pairs : ℕ) × SaysFound task steps w.horizon head input a b (found.Journal pairs))
+    (λ task steps. (pairs : ℕ) × SaysFound task steps w.horizon head input c d (found.Journal pairs))
+    (λ task steps is. (is.0, found_over task steps w.horizon head input a b c d (found.Journal is.0) over is.1)))
+    h
+
+-- one answer of no, under a head
+no_under : (held : List ℕ → Option (List ℕ)) (w : PlanWords) (head : JournalHead) (input a b c d : Option (List ℕ)) → Shift a b c d → SaysInvalid held w a b ⊎ RunsNamed held w (λ task steps. (n : ℕ) × SaysFound task steps w.horizon head input a b (found.Wrong n)) → SaysInvalid held w c d ⊎ RunsNamed held w (λ task steps. (n : ℕ) × SaysFound task steps w.horizon head input c d (found.Wrong n))
+no_under held w head input a b c d over (inl h) = inl (invalid_over held w a b c d over h)
+no_under held w head input a b c d over (inr h) =
+    inr (named_over held w
+    (λ task steps. (n : ℕ) × SaysFound task steps w.horizon head input a b (found.Wrong n))
+    (λ task steps. (n : ℕ) × SaysFound task steps w.horizon head input c d (found.Wrong n))
+    (λ task steps is. (is.0, found_over task steps w.horizon head input a b c d (found.Wrong is.0) over is.1))
+    h)
+
+plan_no_over : (held : List ℕ → Option (List ℕ)) (w : PlanWords) (input a b c d : Option (List ℕ)) → Shift a b c d → SaysPlanNo held w input a b → SaysPlanNo held w input c d
+plan_no_over held w input a b c d over h =
+    head_over input
+    (λ head. SaysInvalid held w a b ⊎ RunsNamed held w (λ task steps. (n : ℕ) × SaysFound task steps w.horizon head input a b (found.Wrong n)))
+    (λ head. SaysInvalid held w c d ⊎ RunsNamed held w (λ task steps. (n : ℕ) × SaysFound task steps w.horizon head input c d (found.Wrong n)))
+    (λ head is. no_under held w head input a b c d over is) h
+
+abbrev WritesFound : PlanWords → JournalHead → Option (List ℕ) → Option (List ℕ) → Option (List ℕ) → Task → List Step → Type 0
+WritesFound w head input a b task steps = (f : Found) × IsPlanFound task steps w.horizon head input f × AppendsPart a b (found_line f)
+
+part_under : (held : List ℕ → Option (List ℕ)) (w : PlanWords) (head : JournalHead) (input a b c d : Option (List ℕ)) → Shift a b c d → SaysInvalidPart held w a b ⊎ RunsNamed held w (WritesFound w head input a b) → SaysInvalidPart held w c d ⊎ RunsNamed held w (WritesFound w head input c d)
+part_under held w head input a b c d over (inl h) = inl (invalid_part_over held w a b c d over h)
+part_under held w head input a b c d over (inr h) =
+    inr (named_over held w (WritesFound w head input a b) (WritesFound w head input c d) (λ task steps is. (is.0, is.1, part_over a b c d _ over is.2)) h)
+
+plan_audit_part_over : (held : List ℕ → Option (List ℕ)) (w : PlanWords) (input a b c d : Option (List ℕ)) → Shift a b c d → WritesAuditPart held w input a b → WritesAuditPart held w input c d
+plan_audit_part_over held w input a b c d over (inl none) = inl (over _ none)
+plan_audit_part_over held w input a b c d over (inr h) =
+    inr (head_over input
+    (λ head. SaysInvalidPart held w a b ⊎ RunsNamed held w (WritesFound w head input a b))
+    (λ head. SaysInvalidPart held w c d ⊎ RunsNamed held w (WritesFound w head input c d))
+    (λ head is. part_under held w head input a b c d over is) h)
+
 done_over : (request : Request) (files : CallFiles) (input a b c d : Option (List ℕ)) → Shift a b c d → IsDone request files input a b → IsDone request files input c d
 done_over Bare files input a b c d over h = all_over input a b c d over h
 done_over (BareLog log) files input a b c d over h = (logs_over input a b c d files.blank files.kept over h.0, h.1)
 done_over (Check w) files input a b c d over h = valid_over files.held w a b c d over h
 done_over (Net w) files input a b c d over h = network_over files.held w a b c d over h
 done_over (Run w) files input a b c d over h = run_over files.held w input a b c d over h
+done_over (RunLog w log) files input a b c d over h = run_log_over files w log.now input a b c d over h
 done_over (Plan w) files input a b c d over h = plan_over files.held w a b c d over h
 done_over (Audit log) files input a b c d over h = journal_over (files.held log.now) a b c d over h
+done_over (PlanAudit log w) files input a b c d over h = plan_journal_over files.held w (files.held log.now) a b c d over h
 done_over (Help text) files input a b c d over h = over _ h
 
 part_done_over : (request : Request) (files : CallFiles) (input a b c d : Option (List ℕ)) → Shift a b c d → IsPartDone request files input a b → IsPartDone request files input c d
@@ -313,8 +422,10 @@ part_done_over (BareLog log) files input a b c d over h = logs_some_over files i
 part_done_over (Check w) files input a b c d over h = says_part_over files.held w a b c d over h
 part_done_over (Net w) files input a b c d over h = shows_part_over files.held w a b c d over h
 part_done_over (Run w) files input a b c d over h = runs_part_over files.held w input a b c d over h
+part_done_over (RunLog w log) files input a b c d over h = runs_part_over files.held w input a b c d over h
 part_done_over (Plan w) files input a b c d over h = searches_part_over files.held w a b c d over h
 part_done_over (Audit log) files input a b c d over h = audit_part_over (files.held log.now) a b c d over h
+part_done_over (PlanAudit log w) files input a b c d over h = plan_audit_part_over files.held w (files.held log.now) a b c d over h
 part_done_over (Help text) files input a b c d over h = part_over a b c d _ over h
 
 pub does_over : (words : List (List ℕ)) (files : CallFiles) (input a b c d : Option (List ℕ)) → Shift a b c d → DoesWhatIsAsked words files input a b → DoesWhatIsAsked words files input c d
@@ -327,8 +438,10 @@ said_over (BareLog log) files input a b c d over h = absurd h
 said_over (Check w) files input a b c d over h = invalid_over files.held w a b c d over h
 said_over (Net w) files input a b c d over h = invalid_over files.held w a b c d over h
 said_over (Run w) files input a b c d over h = runs_none_over files.held w input a b c d over h
+said_over (RunLog w log) files input a b c d over h = run_log_none_over files w log.now input a b c d over h
 said_over (Plan w) files input a b c d over h = no_plan_over files.held w a b c d over h
 said_over (Audit log) files input a b c d over h = wrong_over (files.held log.now) a b c d over h
+said_over (PlanAudit log w) files input a b c d over h = plan_no_over files.held w (files.held log.now) a b c d over h
 said_over (Help text) files input a b c d over h = absurd h
 
 pub no_over : (words : List (List ℕ)) (files : CallFiles) (input a b c d : Option (List ℕ)) → Shift a b c d → AnswersNo words files input a b → AnswersNo words files input c d

@@ -8,6 +8,10 @@ use Rattle.clap.specs.declared.builder.value_parser.ValueParser.TheVariants as v
 abbrev pub file_rule : Text → Rule
 file_rule id = record (new_rule id) { action = Some Set; required = true }
 
+-- a file that may be named
+abbrev pub other_rule : Text → Rule
+other_rule id = record (new_rule id) { action = Some Set }
+
 -- `--scale`, from 1 to 1000, by default 1
 abbrev pub scale_rule : Rule
 scale_rule = record (new_rule (codes "scale")) {
@@ -62,8 +66,9 @@ check_app = plan_app (new_app (codes "check"))
 abbrev pub net_app : App
 net_app = plan_app (new_app (codes "net"))
 
+-- with a file for a journal
 abbrev pub run_app : App
-run_app = plan_app (new_app (codes "run"))
+run_app = with_rule (plan_app (new_app (codes "run"))) journal_rule
 
 -- the files of a problem, how time is measured, and the budget of a search
 abbrev pub search_app : App
@@ -71,9 +76,16 @@ search_app =
     let files = with_rule (with_rule (new_app (codes "plan")) (file_rule (codes "DOMAIN"))) (file_rule (codes "PROBLEM")) in
     with_rule (with_rule (with_rule files scale_rule) horizon_rule) budget_rule
 
--- the file of a journal
+-- the files of a plan, which may be left out
+abbrev pub with_others : App → App
+with_others log =
+    with_rule (with_rule (with_rule log (other_rule (codes "DOMAIN"))) (other_rule (codes "PROBLEM"))) (other_rule (codes "PLAN"))
+
+-- the file of a journal, and perhaps those of the plan that was run
 abbrev pub audit_app : App
-audit_app = with_rule (new_app (codes "audit")) (file_rule (codes "LOG"))
+audit_app =
+    let log = with_rule (new_app (codes "audit")) (file_rule (codes "LOG")) in
+    with_rule (with_rule (with_others log) scale_rule) horizon_rule
 
 -- the program's words begin after its name, and it tells its version
 abbrev pub start_app : App

@@ -5,16 +5,19 @@ use Rattle.std.specs.String.{string_bytes}
 use Rattle.tp_device.specs.Bytes.{AppendsPart}
 use Rattle.tp_bare.specs.Bare.{AnswersAll, AnswersPart}
 use Rattle.tp_log_audits.specs.Bare.{SaysAuditPart, SaysJournal, SaysWrong}
+use Rattle.tp_plan_audits.specs.PlanAudits.{SaysPlanJournal, SaysPlanNo, WritesAuditPart}
 use Rattle.tp_plan_runs.specs.Invalid.{SaysInvalid}
 use Rattle.tp_plan_runs.specs.Runs.{RunsPart, RunsToNone, RunsToPlan}
 use Rattle.tp_plan_search.specs.Searches.{SaysNoPlan, SearchesPart, WritesPlan}
+use Rattle.tp_run_journals.specs.LogFile.{log_file}
+use Rattle.tp_run_journals.specs.RunJournals.{LogsToNone, LogsToPlan}
 use Rattle.tp_program.specs.CallFiles.{CallFiles}
 use Rattle.tp_program.specs.Checks.{SaysPart, SaysValid}
 use Rattle.tp_program.specs.Journaled.{LogsSome, LogsTo}
 use Rattle.tp_program.specs.Networks.{ShowsNetwork, ShowsPart}
 use Rattle.tp_program.specs.Requests.{AsksFor}
 use Rattle.tp_program.specs.declared.requests.Request.{Request}
-use Rattle.tp_program.specs.declared.requests.Request.TheVariants.{Bare, BareLog, Check, Net, Run, Plan, Audit, Help}
+use Rattle.tp_program.specs.declared.requests.Request.TheVariants.{Bare, BareLog, Check, Net, Run, RunLog, Plan, Audit, PlanAudit, Help}
 
 -- all commands of the input were answered; the same, and their journal is in the file that was named for it; the plan is valid and that was
 -- written; its network was written; all commands of the input were answered on that network, and the plan of the run was written; a valid
@@ -26,8 +29,12 @@ IsDone (BareLog log) files input held now = LogsTo files log.now input held now
 IsDone (Check w) files input held now = SaysValid files.held w held now
 IsDone (Net w) files input held now = ShowsNetwork files.held w held now
 IsDone (Run w) files input held now = RunsToPlan files.held w input held now
+IsDone (RunLog w log) files input held now =
+    LogsToPlan files.held w input held now (log_file log.now files.named files.blank files.kept)
 IsDone (Plan w) files input held now = WritesPlan files.held w held now
 IsDone (Audit log) files input held now = SaysJournal (files.held log.now) held now
+IsDone (PlanAudit log w) files input held now =
+    SaysPlanJournal files.held w (files.held log.now) held now
 IsDone (Help text) files input held now = Appends held now (string_bytes text)
 
 -- the words ask for something, and it was done
@@ -46,8 +53,12 @@ IsAnsweredNo (BareLog log) files input held now = ⊥
 IsAnsweredNo (Check w) files input held now = SaysInvalid files.held w held now
 IsAnsweredNo (Net w) files input held now = SaysInvalid files.held w held now
 IsAnsweredNo (Run w) files input held now = RunsToNone files.held w input held now
+IsAnsweredNo (RunLog w log) files input held now =
+    LogsToNone files.held w input held now (log_file log.now files.named files.blank files.kept)
 IsAnsweredNo (Plan w) files input held now = SaysNoPlan files.held w held now
 IsAnsweredNo (Audit log) files input held now = SaysWrong (files.held log.now) held now
+IsAnsweredNo (PlanAudit log w) files input held now =
+    SaysPlanNo files.held w (files.held log.now) held now
 IsAnsweredNo (Help text) files input held now = ⊥
 
 -- the words ask for the verdict on a plan, for its network, for its run, for a plan or for an audit, and the answer is no
@@ -65,8 +76,11 @@ IsPartDone (BareLog log) files input held now = LogsSome files input held now
 IsPartDone (Check w) files input held now = SaysPart files.held w held now
 IsPartDone (Net w) files input held now = ShowsPart files.held w held now
 IsPartDone (Run w) files input held now = RunsPart files.held w input held now
+IsPartDone (RunLog w log) files input held now = RunsPart files.held w input held now
 IsPartDone (Plan w) files input held now = SearchesPart files.held w held now
 IsPartDone (Audit log) files input held now = SaysAuditPart (files.held log.now) held now
+IsPartDone (PlanAudit log w) files input held now =
+    WritesAuditPart files.held w (files.held log.now) held now
 IsPartDone (Help text) files input held now = AppendsPart held now (string_bytes text)
 
 -- nothing was written, or the words ask for something, and some first part of it was written

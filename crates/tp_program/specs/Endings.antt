@@ -6,14 +6,17 @@ use Rattle.tp_files.specs.FaultLines.{Tells, fault_line}
 use Rattle.tp_bare.specs.Bare.{StopsBare}
 use Rattle.tp_bare_journals.specs.Logged.{EndsJournaled}
 use Rattle.tp_log_audits.specs.Bare.{EndsBareAudit}
+use Rattle.tp_plan_audits.specs.PlanAudits.{EndsPlanAudit}
 use Rattle.tp_plan_runs.specs.Runs.{EndsRun}
 use Rattle.tp_plan_search.specs.SearchStops.{EndsSearch}
+use Rattle.tp_run_journals.specs.LogFile.{log_file}
+use Rattle.tp_run_journals.specs.RunJournals.{EndsRunLog}
 use Rattle.tp_program.specs.CallFiles.{CallFiles}
 use Rattle.tp_program.specs.Checks.{EndsCheck}
 use Rattle.tp_program.specs.Networks.{EndsNet}
 use Rattle.tp_program.specs.Requests.{AsksFor}
 use Rattle.tp_program.specs.declared.requests.Request.{Request}
-use Rattle.tp_program.specs.declared.requests.Request.TheVariants.{Bare, BareLog, Check, Net, Run, Plan, Audit, Help}
+use Rattle.tp_program.specs.declared.requests.Request.TheVariants.{Bare, BareLog, Check, Net, Run, RunLog, Plan, Audit, PlanAudit, Help}
 
 -- there was no memory for the words
 pub record LacksMemory (status : ℕ) (held held-now : Option (List ℕ)) (output output-now : ℕ)
@@ -59,12 +62,20 @@ EndsRequest
 EndsRequest (Run w) files input status held held-now output output-now failures before failures-now
     now = EndsRun files.held w status input held held-now output output-now failures before
     failures-now now
+EndsRequest (RunLog w log) files input status held held-now output output-now failures before
+    failures-now now
+    = EndsRunLog files.held w status input held held-now (log_file log.now files.named files.blank
+    files.kept) output output-now failures before failures-now now
 EndsRequest
     (Plan w) files input status held held-now output output-now failures before failures-now now =
     EndsSearch files.held w status held held-now output output-now failures before failures-now now
 EndsRequest (Audit log) files input status held held-now output output-now failures before
     failures-now now = EndsBareAudit (files.held log.now) log.now status held held-now output
     output-now failures before failures-now now
+EndsRequest (PlanAudit log w) files input status held held-now output output-now failures before
+    failures-now now
+    = EndsPlanAudit files.held w log.now status (files.held log.now) held held-now output output-now
+    failures before failures-now now
 EndsRequest
     (Help text) files input status held held-now output output-now failures before failures-now now
     = StopsHelp (string_bytes text) status held held-now failures before failures-now now

@@ -116,6 +116,31 @@ fn bare_asked<'w>(matches: &ArgMatches<'w>) -> Request<'w>
     }
 }
 
+/// What `run` asks for: a journal too, where a file is named for it.
+fn run_asked<'w>(matches: &ArgMatches<'w>) -> Option<Request<'w>>
+    ensures { IfSome result (AsksBy (Some (codes "run", rows_of (found_of matches.now)))) }
+{
+    let plan = plan_words(matches)?;
+    match word(matches, "journal") {
+        None => Some(Request::Run(plan)),
+        Some(log) => Some(Request::RunLog(plan, log)),
+    }
+}
+
+/// What `audit` asks for: that of a plan's run, where its files are named.
+fn audit_asked<'w>(matches: &ArgMatches<'w>) -> Option<Request<'w>>
+    ensures { IfSome result (AsksBy (Some (codes "audit", rows_of (found_of matches.now)))) }
+{
+    let log = word(matches, "LOG")?;
+    match word(matches, "DOMAIN") {
+        None => {
+            let _scale = scale(matches)?;
+            Some(Request::Audit(log))
+        }
+        Some(_) => Some(Request::PlanAudit(log, plan_words(matches)?)),
+    }
+}
+
 /// What a command with its values asks for.
 fn asked_by<'w>(name: &str, matches: &ArgMatches<'w>) -> Result<Request<'w>, Refusal>
     ensures asked { IfOk result (AsksBy (Some (name.now, rows_of (found_of matches.now)))) }
@@ -136,8 +161,8 @@ fn asked_by<'w>(name: &str, matches: &ArgMatches<'w>) -> Result<Request<'w>, Ref
         }
     }
     if name == "run" {
-        if let Some(words) = plan_words(matches) {
-            return Ok(Request::Run(words));
+        if let Some(request) = run_asked(matches) {
+            return Ok(request);
         }
     }
     if name == "plan" {
@@ -146,8 +171,8 @@ fn asked_by<'w>(name: &str, matches: &ArgMatches<'w>) -> Result<Request<'w>, Ref
         }
     }
     if name == "audit" {
-        if let Some(log) = word(matches, "LOG") {
-            return Ok(Request::Audit(log));
+        if let Some(request) = audit_asked(matches) {
+            return Ok(request);
         }
     }
     Err(Refusal::Words(None))
@@ -231,6 +256,13 @@ pub fn run_calls()
         → AsksFor (codes "run" ∷ codes "d" ∷ codes "p" ∷ codes "--scale" ∷ codes "1000" ∷ codes "l" ∷ []) (Request.Run w) }
 {}
 
+/// The file for a journal behind the others of `run`.
+pub fn run_log_calls()
+    ensures { (w : PlanWords) → (v : SearchWords) → w.domain.now ≡ codes "d" → w.problem.now ≡ codes "p" → w.plan.now ≡ codes "l"
+        → scale_ticks w.scale ≡ 1 → w.horizon ≡ 1000000 → v.domain.now ≡ codes "j"
+        → AsksFor (codes "run" ∷ codes "d" ∷ codes "p" ∷ codes "l" ∷ codes "--journal" ∷ codes "j" ∷ []) (Request.RunLog w v.domain) }
+{}
+
 /// Files and options of `plan`, with a horizon of 1000000 where none is given.
 pub fn plan_calls()
     ensures { (w : SearchWords) → w.domain.now ≡ codes "d" → w.problem.now ≡ codes "p"
@@ -244,7 +276,15 @@ pub fn audit_calls()
         → AsksFor (codes "audit" ∷ codes "l" ∷ []) (Request.Audit w.plan) }
 {}
 
-/// Words ask for one kind of thing at most: for one command, with one file for a journal or none, or for help.
+/// The files of a plan behind that of a journal.
+pub fn plan_audit_calls()
+    ensures { (w : PlanWords) → (v : SearchWords) → w.domain.now ≡ codes "d" → w.problem.now ≡ codes "p" → w.plan.now ≡ codes "l"
+        → scale_ticks w.scale ≡ 1000 → w.horizon ≡ 1000000 → v.domain.now ≡ codes "j"
+        → AsksFor (codes "audit" ∷ codes "j" ∷ codes "d" ∷ codes "p" ∷ codes "l" ∷ codes "--scale" ∷ codes "1000" ∷ []) (Request.PlanAudit v.domain w) }
+{}
+
+/// Words ask for one kind of thing at most: for one command, with one file for a journal or none, and one of a domain or none, or for
+/// help.
 pub fn requests_are_distinct()
     ensures { (words : List (List ℕ)) → AskForOneThing words }
 {}

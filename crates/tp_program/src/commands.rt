@@ -2,7 +2,7 @@
 ghost use Rattle.std.specs.Prelude.{◌≡◌, false, IfOk, codes};
 ghost use Rattle.clap.specs.Words.{app_of, new_app, rule_of, with_subcommand};
 ghost use Rattle.clap.specs.declared.builder.command.Command.TheViews.{out-Command as fields_of};
-ghost use Rattle.tp_program.specs.Commands.{audit_app, bare_app, budget_rule, check_app, file_rule, horizon_rule, journal_rule, judging_app, net_app, network_app, plan_app, planning_app, run_app, scale_rule, search_app, start_app, tempo_app};
+ghost use Rattle.tp_program.specs.Commands.{audit_app, bare_app, budget_rule, check_app, file_rule, horizon_rule, journal_rule, judging_app, net_app, network_app, other_rule, plan_app, planning_app, run_app, scale_rule, search_app, start_app, tempo_app, with_others};
 
 use clap::{Arg, ArgAction, Command, value_parser};
 use std::alloc::{AllocError, Global};
@@ -24,7 +24,8 @@ Examples:
   tempo check domain.pddl problem.pddl plan.txt
   tempo net domain.pddl problem.pddl plan.txt
   printf 'dispatch 0\\nadvance 3\\ndispatch 1\\n' | tempo run domain.pddl problem.pddl plan.txt
-  tempo audit night.log";
+  printf 'dispatch 0\\n' | tempo run domain.pddl problem.pddl plan.txt --journal night.log
+  tempo audit night.log domain.pddl problem.pddl plan.txt";
 
 const BARE_ABOUT: &str = "Answers commands on a network of events and bounds";
 
@@ -98,6 +99,9 @@ the commands of `bare`, one a line. In a report the network is `kept`, or `alter
 Behind the answers it prints `plan` and the plan of the run, each step at its moment, if every event happened and the
 network is kept. That plan is valid. For a plan that is not valid it prints the line that `check` prints.
 
+With `--journal FILE` each command and its answer go to the file before the answer goes out; `tempo audit FILE` with the same
+three files judges it.
+
 Exit status: 0 a plan of the run was printed, 1 there is none, 2 refused input, 3 memory or a device.
 
 Example:
@@ -136,12 +140,16 @@ the command, behind `> `, and the answer, behind `< `. Each command is carried o
   audit ok N     the file is a journal of N pairs
   wrong N        the answer on line N is not allowed
 
-Exit status: 0 for the first, 1 for the second, 2 refused input, 3 memory or a device. Input is refused by its first line
-that breaks the format (`fault journal 3 line N`), or where the network came from a plan (`fault journal 5 head`).
+The network is the one that the head tells. The journal of `tempo run` is judged where the domain, the problem and the plan
+are named, too: its network is that of the plan, and for a plan that is not valid it prints the line that `check` prints.
 
-Example:
+Exit status: 0 for the first, 1 for the others, 2 refused input, 3 memory or a device. A journal is refused by its first line
+that breaks the format (`fault journal 3 line N`), or where its network is not that one (`fault journal 5 head`).
+
+Examples:
   tempo audit night.log
-prints
+  tempo audit night.log domain.pddl problem.pddl plan.txt
+print
   audit ok 7";
 
 /// A file that has to be named.
@@ -270,7 +278,7 @@ fn run_command<'a>(alloc: Global) -> Result<Command<'a>, AllocError>
     ensures app { IfOk result (λ c. app_of c ≡ run_app) }
     ensures local { IfOk result (λ c. (fields_of c).has_globals ≡ false) }
 {
-    plan_command(alloc, plan_start(alloc, "run", RUN_ABOUT, RUN_HELP))
+    plan_command(alloc, plan_start(alloc, "run", RUN_ABOUT, RUN_HELP))?.arg(journal_option(alloc))
 }
 
 /// The command `plan`.
@@ -286,7 +294,15 @@ fn search_command<'a>(alloc: Global) -> Result<Command<'a>, AllocError>
         .arg(budget_option(alloc))
 }
 
-/// The command `audit` before it has its argument.
+/// A file that may be named.
+fn other_argument<'a>(alloc: Global, id: &'a str, help: &'a str) -> Arg<'a>
+    ensures rule { rule_of result ≡ other_rule id.entry.now }
+    ensures local { result.global ≡ false }
+{
+    Arg::new(alloc, id).action(ArgAction::Set).help(help)
+}
+
+/// The command `audit` before it has its arguments.
 fn audit_start<'a>(alloc: Global) -> Command<'a>
     ensures app { app_of result ≡ new_app (codes "audit") }
     ensures local { (fields_of result).has_globals ≡ false }
@@ -296,12 +312,31 @@ fn audit_start<'a>(alloc: Global) -> Command<'a>
         .after_help(AUDIT_HELP)
 }
 
+/// The same with the files of a plan, which may be left out.
+fn audit_files<'a>(alloc: Global, start: Command<'a>) -> Result<Command<'a>, AllocError>
+    requires { (fields_of start).has_globals ≡ false }
+    ensures app { IfOk result (λ c. app_of c ≡ with_others (app_of start.entry)) }
+    ensures local { IfOk result (λ c. (fields_of c).has_globals ≡ false) }
+{
+    start
+        .arg(other_argument(
+            alloc,
+            "DOMAIN",
+            "The file of the domain of a plan that was run",
+        ))?
+        .arg(other_argument(alloc, "PROBLEM", "The file of its problem"))?
+        .arg(other_argument(alloc, "PLAN", "The file of the plan"))
+}
+
 /// The command `audit`.
 fn audit_command<'a>(alloc: Global) -> Result<Command<'a>, AllocError>
     ensures app { IfOk result (λ c. app_of c ≡ audit_app) }
     ensures local { IfOk result (λ c. (fields_of c).has_globals ≡ false) }
 {
-    audit_start(alloc).arg(file_argument(alloc, "LOG", "The file of the journal"))
+    let start = audit_start(alloc).arg(file_argument(alloc, "LOG", "The file of the journal"))?;
+    audit_files(alloc, start)?
+        .arg(scale_option(alloc))?
+        .arg(horizon_option(alloc))
 }
 
 /// The program before it has commands. Its words begin after its name.

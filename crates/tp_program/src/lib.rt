@@ -28,8 +28,8 @@ mod streams;
 mod words;
 
 pub use arguments::{
-    Refusal, audit_calls, bare_calls, bare_log_calls, check_calls, net_calls, plan_calls,
-    read_words, requests_are_distinct, run_calls,
+    Refusal, audit_calls, bare_calls, bare_log_calls, check_calls, net_calls, plan_audit_calls,
+    plan_calls, read_words, requests_are_distinct, run_calls, run_log_calls,
 };
 pub use host::HostDesk;
 pub use requests::Request;

@@ -15,10 +15,14 @@ pub enum Request<'w> {
     Net(PlanWords<'w>),
     /// The answers to the commands of the input on the network of a plan, and the plan of that run.
     Run(PlanWords<'w>),
+    /// The same, and their journal in the file of a name.
+    RunLog(PlanWords<'w>, &'w str),
     /// A plan of a problem.
     Plan(SearchWords<'w>),
-    /// The audit of the journal in a file.
+    /// The audit of the journal in a file, of commands on a network of bounds alone.
     Audit(&'w str),
+    /// The audit of the journal in a file, of commands on the network of a plan.
+    PlanAudit(&'w str, PlanWords<'w>),
     /// A text of help, or the version.
     Help(String),
 }

@@ -21,8 +21,10 @@ use tp_device::{Sink, Source, push_all};
 use tp_files::{FaultLine, Files, OUT_OF_ORDER, REFUSED, complain, complain_more};
 use tp_log_audits::run_bare_audit;
 use tp_logs::Logs;
+use tp_plan_audits::run_plan_audit;
 use tp_plan_runs::run_run;
 use tp_plan_search::run_plan;
+use tp_run_journals::run_run_journal;
 
 /// Does what the words ask for. Answers the exit status, and for another than 0 and 1 writes one fault line.
 pub fn run_words<N: Files + Logs, I: Source + Drop, O: Sink, F: Sink>(
@@ -83,8 +85,14 @@ pub fn run_words<N: Files + Logs, I: Source + Drop, O: Sink, F: Sink>(
         Ok(Request::Check(plan)) => run_check(alloc, files, plan, output, faults),
         Ok(Request::Net(plan)) => run_net(alloc, files, plan, output, faults),
         Ok(Request::Run(plan)) => run_run(alloc, files, plan, input, output, faults),
+        Ok(Request::RunLog(plan, log)) => run_run_journal(
+            alloc, files, plan, log, input, output, faults,
+        ),
         Ok(Request::Plan(search)) => run_plan(alloc, files, search, output, faults),
         Ok(Request::Audit(log)) => run_bare_audit(alloc, files, log, output, faults),
+        Ok(Request::PlanAudit(log, plan)) => run_plan_audit(
+            alloc, files, log, plan, output, faults,
+        ),
         Ok(Request::Help(text)) => show(text.as_str(), output, faults),
         Err(Refusal::Words(text)) => refuse_words(text, faults),
         Err(Refusal::Memory) => complain(faults, FaultLine::out_of_order("arguments", "2 memory")),

@@ -3,7 +3,7 @@ use super::devices::{Outcome, WIDE, run, whole};
 use std::alloc::Global;
 
 /// Words that are refused, and what is said of them.
-const REFUSED: [(&[&str], &str); 16] = [
+const REFUSED: [(&[&str], &str); 20] = [
     (&["split"], "error: unrecognized subcommand 'split'"),
     (&["plan", "d"], "<PROBLEM>"),
     (&["audit"], "<LOG>"),
@@ -21,12 +21,16 @@ const REFUSED: [(&[&str], &str); 16] = [
     (&["check", "d", "p"], "<PLAN>"),
     (&["net", "d", "p"], "<PLAN>"),
     (&["run", "d", "p"], "<PLAN>"),
+    (&["audit", "log", "d"], ""),
+    (&["audit", "log", "d", "p"], ""),
+    (&["audit", "log", "--scale", "7"], ""),
     (
-        &["audit", "log", "d"],
-        "error: unexpected argument 'd' found",
+        &["audit", "log", "d", "p", "l", "o"],
+        "error: unexpected argument 'o' found",
     ),
+    (&["run", "d", "p", "l", "--journal"], "--journal <FILE>"),
     (
-        &["run", "d", "p", "l", "--journal", "log"],
+        &["net", "d", "p", "l", "--journal", "log"],
         "error: unexpected argument '--journal' found",
     ),
     (
@@ -70,12 +74,20 @@ const RUN: &[&str] = &[
     "Usage: tempo run",
     "lag E L",
     "`altered`",
+    "--journal <FILE>",
     "--scale",
     "Exit status: 0 a plan of the run was printed",
     "Example:",
 ];
 
-const AUDIT: &[&str] = &["Usage: tempo audit", "audit ok N", "wrong N", "Example:"];
+const AUDIT: &[&str] = &[
+    "Usage: tempo audit",
+    "[DOMAIN]",
+    "audit ok N",
+    "wrong N",
+    "--horizon",
+    "Examples:",
+];
 
 /// Calls for help or for the version, and what stands in it.
 const HELP: [(&[&str], &[&str]); 15] = [

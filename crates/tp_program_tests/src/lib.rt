@@ -9,6 +9,7 @@
 //! - `plan`: plans that are found, and why there is none, worked by hand
 //! - `audit`: audits of journals in files
 //! - `journal`: journals that are kept in a file
+//! - `run_journal`: journals of the runs of plans, and their audits
 //! - `files`: texts that are read of files
 //! - `fault_lines`: the line of each fault, and its exit status
 #![tactic(auto)]
@@ -37,3 +38,5 @@ mod net;
 mod plan;
 #[cfg(test)]
 mod run;
+#[cfg(test)]
+mod run_journal;

@@ -1,7 +1,7 @@
 use Rattle.std.proofs.Common.{◌∙◌, List, ℕ, arith, inl, inr, refl, subst}
 use Rattle.tp_device.proofs.Parts.{appends_none}
 use Rattle.tp_files.specs.FaultLines.{Tells}
-use Rattle.tp_program.specs.declared.requests.Request.TheVariants.{Bare, BareLog, Check, Net, Run, Plan, Audit, Help}
+use Rattle.tp_program.specs.declared.requests.Request.TheVariants.{Bare, BareLog, Check, Net, Run, RunLog, Plan, Audit, PlanAudit, Help}
 use Rattle.tp_program.specs.CallFiles.{call_files}
 use Rattle.tp_program.specs.Endings.{StopsHelp}
 use Rattle.tp_program.proofs.StreamLemmas.{logs_part}
@@ -40,15 +40,6 @@ returns-in-Ok-BareLog-clause-stopped g c =
     λ two.
     inr (inr (BareLog c.in-Ok-BareLog.log, rw c.in-Ok-BareLog.field-0-is at c.in-Ok-BareLog.ensures.asked, c.run_bare_journal.ensures.ends (λ none. omega (arith, two, none))))
 
-pub returns-in-Ok-BareLog-clause-done : goal.returns-in-Ok-BareLog-clause-done
-returns-in-Ok-BareLog-clause-done g c =
-    λ zero.
-    record {
-      request = BareLog c.in-Ok-BareLog.log;
-      asked = rw c.in-Ok-BareLog.field-0-is at c.in-Ok-BareLog.ensures.asked;
-      done = (c.run_bare_journal.ensures.all zero, c.run_bare_journal.ensures.named zero);
-    }
-
 pub returns-in-Ok-BareLog-clause-broken : goal.returns-in-Ok-BareLog-clause-broken
 returns-in-Ok-BareLog-clause-broken g c =
     λ three.
@@ -80,6 +71,16 @@ returns-in-Ok-Run-clause-kept g c =
     λ none two.
     absurd (none.no_run c.in-Ok-Run.plan (rw c.in-Ok-Run.field-0-is at c.in-Ok-Run.ensures.asked))
 
+pub returns-in-Ok-RunLog-clause-stopped : goal.returns-in-Ok-RunLog-clause-stopped
+returns-in-Ok-RunLog-clause-stopped g c =
+    λ two.
+    inr (inr (RunLog c.in-Ok-RunLog.plan c.in-Ok-RunLog.log, rw c.in-Ok-RunLog.field-0-is at c.in-Ok-RunLog.ensures.asked, c.run_run_journal.ensures.stopped two))
+
+pub returns-in-Ok-RunLog-clause-kept : goal.returns-in-Ok-RunLog-clause-kept
+returns-in-Ok-RunLog-clause-kept g c =
+    λ none two.
+    absurd (none.no_run_log c.in-Ok-RunLog.plan c.in-Ok-RunLog.log (rw c.in-Ok-RunLog.field-0-is at c.in-Ok-RunLog.ensures.asked))
+
 pub returns-in-Ok-Plan-clause-stopped : goal.returns-in-Ok-Plan-clause-stopped
 returns-in-Ok-Plan-clause-stopped g c =
     λ two.
@@ -89,6 +90,11 @@ pub returns-in-Ok-Audit-clause-stopped : goal.returns-in-Ok-Audit-clause-stopped
 returns-in-Ok-Audit-clause-stopped g c =
     λ two.
     inr (inr (Audit c.in-Ok-Audit.log, rw c.in-Ok-Audit.field-0-is at c.in-Ok-Audit.ensures.asked, c.run_bare_audit.ensures.stopped two))
+
+pub returns-in-Ok-PlanAudit-clause-stopped : goal.returns-in-Ok-PlanAudit-clause-stopped
+returns-in-Ok-PlanAudit-clause-stopped g c =
+    λ two.
+    inr (inr (PlanAudit c.in-Ok-PlanAudit.log c.in-Ok-PlanAudit.plan, rw c.in-Ok-PlanAudit.field-0-is at c.in-Ok-PlanAudit.ensures.asked, c.run_plan_audit.ensures.stopped two))
 
 pub returns-in-Ok-Help-clause-stopped : goal.returns-in-Ok-Help-clause-stopped
 returns-in-Ok-Help-clause-stopped g c =
