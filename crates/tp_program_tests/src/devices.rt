@@ -185,14 +185,18 @@ impl Logs for Shelf<'_> {
     ghost is_blank = { tt };
 
     fn make(&mut self, name: &str) -> Result<Note, Failed> {
-        match self.journal {
-            Some((journal, room)) if journal == name => Ok(Note {
-                text: Vec::new(self.alloc),
-                room,
-                failed: false,
-            }),
-            _ => Err(Failed),
+        let journal = self.journal;
+        let Some((of, room)) = journal else {
+            return Err(Failed);
+        };
+        if of != name {
+            return Err(Failed);
         }
+        Ok(Note {
+            text: Vec::new(self.alloc),
+            room,
+            failed: false,
+        })
     }
 
     fn keep(&mut self, log: Note) {
