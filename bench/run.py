@@ -1,12 +1,13 @@
 #!/usr/bin/env python3
-"""Times `tempo bare` on long lists of commands, `tempo check` on large plans, tasks and texts, and `tempo plan` on problems that
-spend its budget. It prints numbers and judges nothing.
+"""Times `tempo bare` on long lists of commands, `tempo check` on large plans, tasks and texts, `tempo plan` on problems that
+spend its budget, and journals: lists of commands with and without one, and its audit. It prints numbers and judges nothing.
 
-    bench/run.py [--full] [--check | --network | --plan] [PROGRAM]
+    bench/run.py [--full] [--check | --network | --plan | --journals] [PROGRAM]
 
 PROGRAM is a built `tempo`; without it, the program is proved and built by `rt run` first. `--full` also brings 65,535 bounds into
 force, and dispatches 1,024 events one tick after another, which takes minutes; `--check` times plans, tasks and texts alone,
-`--network` lists of commands alone, `--plan` searches alone. Each list is read from a file by a process of its own; the times of single
+`--network` lists of commands alone, `--plan` searches alone, `--journals` journals and runs of plans alone. Each list is read from a
+file by a process of its own; the times of single
 commands are from writing the command to reading its answer, the mean of all of them. A verdict's time is that of the whole
 process, the best of three, or where one takes seconds the first; its memory is the greatest that the process held.
 """
@@ -391,18 +392,103 @@ def searches(program):
     judged(program, "12 lamps, no plan, until no node is left", *lamps(12), None, "plan", ("--budget", "1000000"))
 
 
+def once(words, source, sink):
+    """Runs a call from a file to a file. Answers how long it took, its exit status and its greatest memory in megabytes."""
+    with open(source) as given, open(sink, "w") as taken:
+        begin = time.perf_counter()
+        child = subprocess.Popen([str(word) for word in words], stdin=given, stdout=taken, stderr=subprocess.DEVNULL)
+        _, status, used = os.wait4(child.pid, 0)
+        took = time.perf_counter() - begin
+    return took, os.waitstatus_to_exitcode(status), used.ru_maxrss // 1024
+
+
+def best_of(words, source, sink):
+    """The best of three, or where one takes seconds the first."""
+    best = None
+    for _ in range(3):
+        ran = once(words, source, sink)
+        best = ran if best is None else min(best, ran)
+        if ran[0] > 2:
+            break
+    return best
+
+
+def kept(program, name, lines, texts=None):
+    """A list of commands without a journal, with one, and the audit of that: on a network of bounds alone, or with three texts on
+    that of a plan. A status tells where the program has no such words."""
+    with tempfile.TemporaryDirectory() as room:
+        commands, answers, log, said = (pathlib.Path(room, part) for part in ("commands", "answers", "night.log", "said"))
+        files = [pathlib.Path(room, part) for part in ("domain", "problem", "plan")] if texts else []
+        for file, text in zip(files, texts or ()):
+            file.write_text(text)
+        commands.write_text("".join(f"{line}\n" for line in lines))
+        call = [program, "run", *files] if files else [program, "bare"]
+        for what, words, sink in (
+            ("without a journal", call, answers),
+            ("with a journal", [*call, "--journal", log], answers),
+            ("its audit", [program, "audit", log, *files], said),
+        ):
+            took, status, memory = best_of(words, commands, sink)
+            told = sink.read_text().splitlines()
+            refused = sum(line.startswith("refused") for line in told)
+            size = log.stat().st_size if log.exists() else 0
+            told = (told or [""])[0] if sink is said else f"{refused} of {len(lines)} refused"
+            print(f"{f'{name}, {what}':74} {took:8.3f} s  {memory:4} MB  status {status}  log {size:9} bytes  {told}", flush=True)
+
+
+def conflicts(count):
+    """A chain of 1,024 events, and so many bounds that are refused with all of it as the reason."""
+    return chain() + [f"add o {EVENTS - 1} {EVENTS - 2 - k % 512}" for k in range(count)]
+
+
+def conflicts_both_ways(count):
+    """The same with reasons that go the other way round, over the bounds of greater weight."""
+    return chain() + [f"add {EVENTS - 1} 0 -{10 * EVENTS + k}" for k in range(count)]
+
+
+def rounds_of_visits():
+    """The commands of the run of 512 visits: each event at the plan's tick, and the windows of all of them before each round."""
+    lines = []
+    for first in range(0, 512, ROBOTS):
+        lines += [f"window {event}" for event in range(EVENTS)]
+        for part, tick in ((0, 0), (1, 5)):
+            lines.append(f"advance {6 * (first // ROBOTS) + tick}")
+            lines += [f"dispatch {2 * step + part}" for step in range(first, first + ROBOTS)]
+    return lines
+
+
+def journals(program):
+    """What a journal costs, and its audit. A journal is written pair by pair, before the answers."""
+    kept(program, "20,000 lines, up to 400 bounds in force", [HEAD, *mixed(20_000)])
+    kept(program, "20,000 lines that are no commands", [HEAD, *["windo 0"] * 20_000])
+    kept(program, "20,000 refusals of one word", [HEAD, *(f"withdraw {k}" for k in range(20_000))])
+    kept(program, "1,000 reports of 1,024 events", [HEAD, *["report"] * 1_000])
+    kept(program, "5,000 refusals by reasons of 1,024 edges", [HEAD, *conflicts(5_000)])
+    kept(program, "5,000 refusals by reasons the other way round", [HEAD, *conflicts_both_ways(5_000)])
+    lags = [f"lag {event} 1000" for event in range(EVENTS)]
+    kept(program, "1,024 events that are reported late, a chain", [HEAD, *lags, *chain(), "advance 2000", *(f"happened {event} {1000 + event}" for event in range(EVENTS))])
+    texts = (PLACES, places_problem(), visits())
+    kept(program, "the network of 512 visits, no command", [], texts)
+    kept(program, "a run of 512 visits, each event at its tick", [line for line in rounds_of_visits() if "window" not in line], texts)
+    kept(program, "the same with 16,384 windows", rounds_of_visits(), texts)
+
+
 def main():
     words = [word for word in sys.argv[1:] if not word.startswith("--")]
-    program = pathlib.Path(words[0]) if words else built()
-    if not {"--network", "--check"} & {*sys.argv}:
+    program = pathlib.Path(words[0]).resolve() if words else built()
+    groups = {"--plan", "--check", "--network", "--journals"}
+    groups = groups & {*sys.argv} or groups
+    if "--plan" in groups:
         searches(program)
-    if not {"--network", "--plan"} & {*sys.argv}:
+    if "--check" in groups:
         checks(program)
         reads(program)
         worst_reads(program)
         quantified(program)
-    if not {"--check", "--plan"} & {*sys.argv}:
+    if "--network" in groups:
         network(program)
+    if "--journals" in groups:
+        journals(program)
     if "--full" in sys.argv:
         whole_run(program, "chain from its end", chain_from_its_end())
         changes(program, "dense", dense(chain(), MOST_BOUNDS - 20), 5)

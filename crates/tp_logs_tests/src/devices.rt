@@ -1,0 +1,204 @@
+//! Files and writers in memory, which tell their bytes.
+
+ghost use Rattle.std.specs.Prelude.{◌≡◌, ◌<◌, refl, [], None, Some, find, if◌then◌else◌, option_map};
+ghost use Rattle.std.specs.Str.{bytes_eq};
+ghost use Rattle.std.specs.String.{string_bytes};
+
+use std::alloc::Global;
+use std::io::Read;
+use std::sync::ledger::{Blank, Book, Ledger, Share};
+use tp_device::{Failed, Sink, Source};
+use tp_files::Files;
+use tp_logs::Logs;
+
+/// A text with room for so many bytes. A push takes as many as there is room for; where there is none, it fails.
+#[derive(Drop)]
+pub(crate) struct Sheet<L: Ledger> {
+    text: Vec<u8>,
+    room: usize,
+    book: Book<L>,
+    share: Share<L>,
+    ghost counts: { 0 < share.parts },
+}
+
+impl<L: Ledger> Sheet<L> {
+    /// An empty sheet. Its failures are counted in the blank ledger.
+    pub(crate) fn new(alloc: Global, room: usize, blank: Blank) -> Self
+        requires name { blank.name ≡ L.name }
+        requires parts { blank.parts ≡ L.parts }
+        requires some { 0 < blank.parts }
+    {
+        let (book, share) = blank.open();
+        Sheet {
+            text: Vec::new(alloc),
+            room,
+            book,
+            share,
+        }
+    }
+
+    /// What was written.
+    pub(crate) fn into_text(self) -> Vec<u8> {
+        self.text
+    }
+}
+
+impl<L: Ledger> Sink for Sheet<L> {
+    ghost held = { λ s. Some s.text.items };
+
+    ghost failures = { λ s. s.book.total };
+
+    fn push(&mut self, bytes: &[u8]) -> Result<usize, Failed> {
+        let count = bytes.len().min(self.room);
+        let full = count == 0 && !bytes.is_empty();
+        if full || self.text.extend_from_slice(&bytes[..count]).is_err() {
+            self.book.add(&mut self.share, 1);
+            return Err(Failed);
+        }
+        self.room -= count;
+        Ok(count)
+    }
+}
+
+/// Room for one file that is made and written. It is made of the sheet that lies there, if there is one.
+#[derive(Drop)]
+pub(crate) struct Desk<L: Ledger> {
+    alloc: Global,
+    sheet: Option<Sheet<L>>,
+    name: Option<String>,
+    last: Option<Sheet<L>>,
+}
+
+impl<L: Ledger> Desk<L> {
+    /// A desk with that sheet, if there is one.
+    pub(crate) fn new(alloc: Global, sheet: Option<Sheet<L>>) -> Self {
+        Desk {
+            alloc,
+            sheet,
+            name: None,
+            last: None,
+        }
+    }
+
+    /// What the file that was kept holds, if one was.
+    pub(crate) fn into_text(self) -> Option<Vec<u8>> {
+        let Desk {
+            alloc: _,
+            sheet: _,
+            name: _,
+            last,
+        } = self;
+        match last {
+            Some(sheet) => Some(sheet.into_text()),
+            None => None,
+        }
+    }
+}
+
+impl<L: Ledger> Logs for Desk<L> {
+    type Log = Sheet<L>;
+
+    ghost named = { λ d. option_map string_bytes d.name };
+
+    ghost kept = { λ d. option_map (λ s. s.text.items) d.last };
+
+    ghost blank = { Some [] };
+
+    ghost is_blank = { refl };
+
+    fn make(&mut self, name: &str) -> Result<Sheet<L>, Failed> {
+        let Ok(name) = String::from_str(self.alloc, name) else {
+            return Err(Failed);
+        };
+        match self.sheet.take() {
+            Some(sheet) if sheet.text.is_empty() => {
+                self.name = Some(name);
+                Ok(sheet)
+            }
+            _ => Err(Failed),
+        }
+    }
+
+    fn keep(&mut self, log: Sheet<L>) {
+        self.last = Some(log);
+    }
+}
+
+/// What is left of a file in memory.
+#[derive(Drop)]
+pub(crate) struct Stored<'a> {
+    bytes: &'a [u8],
+}
+
+impl Source for Stored<'_> {
+    ghost left = { λ s. Some s.bytes.now };
+
+    ghost failures = { λ _. 0 };
+
+    fn pull(&mut self, buffer: &mut [u8]) -> Result<usize, Failed> {
+        Ok(self.bytes.read(buffer).unwrap_or(0))
+    }
+}
+
+/// Files in memory, under their names.
+#[derive(Clone, Copy)]
+pub(crate) struct Shelf<'a> {
+    pub(crate) files: &'a [(&'a str, &'a [u8])],
+}
+
+impl<'a> Files for Shelf<'a> {
+    type Input = Stored<'a>;
+
+    ghost held = { λ s name. option_map (λ f. f.1.now) (find (λ f. bytes_eq f.0.now name) s.files.now) };
+
+    fn open(&mut self, name: &str) -> Result<Stored<'a>, Failed> {
+        match self.files.iter().find(|file| file.0 == name) {
+            Some(file) => Ok(Stored { bytes: file.1 }),
+            None => Err(Failed),
+        }
+    }
+}
+
+/// A file that can be read up to its end, where reading fails. It tells none of its bytes.
+#[derive(Drop)]
+pub(crate) struct Torn<'a> {
+    bytes: &'a [u8],
+    failed: bool,
+}
+
+impl Source for Torn<'_> {
+    ghost left = { λ _. None };
+
+    ghost failures = { λ s. if s.failed then 1 else 0 };
+
+    fn pull(&mut self, buffer: &mut [u8]) -> Result<usize, Failed> {
+        if self.failed {
+            return Ok(0);
+        }
+        let count = self.bytes.read(buffer).unwrap_or(0);
+        if count == 0 && !buffer.is_empty() {
+            self.failed = true;
+            return Err(Failed);
+        }
+        Ok(count)
+    }
+}
+
+/// Files that are all the same torn one.
+#[derive(Clone, Copy)]
+pub(crate) struct Ruins<'a> {
+    pub(crate) bytes: &'a [u8],
+}
+
+impl<'a> Files for Ruins<'a> {
+    type Input = Torn<'a>;
+
+    ghost held = { λ _ _. None };
+
+    fn open(&mut self, _name: &str) -> Result<Torn<'a>, Failed> {
+        Ok(Torn {
+            bytes: self.bytes,
+            failed: false,
+        })
+    }
+}
