@@ -393,13 +393,14 @@ def searches(program):
 
 
 def once(words, source, sink):
-    """Runs a call from a file to a file. Answers how long it took, its exit status and its greatest memory in megabytes."""
+    """Runs a call from a file to a file. Answers how long it took, its processor time, its exit status and its greatest memory in
+    megabytes."""
     with open(source) as given, open(sink, "w") as taken:
         begin = time.perf_counter()
         child = subprocess.Popen([str(word) for word in words], stdin=given, stdout=taken, stderr=subprocess.DEVNULL)
         _, status, used = os.wait4(child.pid, 0)
         took = time.perf_counter() - begin
-    return took, os.waitstatus_to_exitcode(status), used.ru_maxrss // 1024
+    return took, used.ru_utime + used.ru_stime, os.waitstatus_to_exitcode(status), used.ru_maxrss // 1024
 
 
 def best_of(words, source, sink):
@@ -428,12 +429,12 @@ def kept(program, name, lines, texts=None):
             ("with a journal", [*call, "--journal", log], answers),
             ("its audit", [program, "audit", log, *files], said),
         ):
-            took, status, memory = best_of(words, commands, sink)
+            took, busy, status, memory = best_of(words, commands, sink)
             told = sink.read_text().splitlines()
             refused = sum(line.startswith("refused") for line in told)
             size = log.stat().st_size if log.exists() else 0
             told = (told or [""])[0] if sink is said else f"{refused} of {len(lines)} refused"
-            print(f"{f'{name}, {what}':74} {took:8.3f} s  {memory:4} MB  status {status}  log {size:9} bytes  {told}", flush=True)
+            print(f"{f'{name}, {what}':70} {took:8.3f} s, busy {busy:7.3f} s  {memory:4} MB  status {status}  log {size:9} bytes  {told}", flush=True)
 
 
 def conflicts(count):
