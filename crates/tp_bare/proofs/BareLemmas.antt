@@ -5,7 +5,7 @@ use Rattle.std.specs.Io.KnownBytes.{Appends, Consumes, IsAtEnd}
 use Rattle.tp_device.specs.Bytes.{AppendsPart}
 use Rattle.tp_device.proofs.Parts.{appends_none}
 use Rattle.tp_bounds.specs.Setting.{Setting}
-use Rattle.tp_exec.specs.Machine.{Machine}
+use Rattle.tp_script.specs.Machine.{Machine}
 use Rattle.tp_script.specs.Pending.{Reading}
 use Rattle.tp_script.specs.Reading.{Free, EndsLine, TakesWhole}
 use Rattle.tp_script.specs.Transcript.{lines_of, before_lines, Transcript}

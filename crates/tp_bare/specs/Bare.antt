@@ -5,7 +5,7 @@ use Rattle.tp_device.specs.Bytes.{AppendsPart}
 use Rattle.tp_bounds.specs.RunLimits.{greatest_limits}
 use Rattle.tp_bounds.specs.Setting.{Setting}
 use Rattle.tp_net.specs.NewNet.{new_setting}
-use Rattle.tp_exec.specs.Machine.{Machine, new_machine}
+use Rattle.tp_script.specs.Machine.{Machine, new_machine}
 use Rattle.tp_script.specs.Transcript.{lines_of, Transcript}
 use Rattle.tp_script.specs.Pending.{Reading}
 use Rattle.tp_script.specs.Reading.{Free}

@@ -1,6 +1,6 @@
 // A network of bounds alone: its head, the lags of its events, and the commands on it.
 ghost use Rattle.std.specs.Prelude.{◌≡◌, ◌≢◌, ℕ, ◌≤◌, [], IfOk, IfErr, OnOk, OnErr};
-ghost use Rattle.tp_exec.specs.Machine.{IsFresh};
+ghost use Rattle.tp_script.specs.Machine.{IsFresh};
 ghost use Rattle.tp_files.specs.FaultLines.{TellsFault};
 ghost use Rattle.tp_bare.specs.Bare.{AnswersAll, AnswersLines, AnswersPart, BareStops, BeginsLines, IsRefused, StopsBare, bare_failures, bare_result};
 
@@ -8,10 +8,9 @@ use crate::serve_lines::bare_line;
 use std::alloc::Global;
 use tp_bounds::Limits;
 use tp_device::{Sink, Source};
-use tp_exec::Executive;
 use tp_files::{OUT_OF_ORDER, REFUSED, complain};
 use tp_repair::RepairNet;
-use tp_script::{Lines, ServeFault, Served, read_head, read_lags, serve};
+use tp_script::{Executive, Lines, ServeFault, Served, read_head, read_lags, serve};
 
 /// The most bytes of a command line.
 const LONGEST: usize = 256;

@@ -33,6 +33,11 @@ pub use deordering::deorder;
 use std::alloc::AllocError;
 use thiserror::Error;
 
+// What carries a plan out needs of the crates of tasks and plans.
+pub use tp_ground;
+pub use tp_happen;
+pub use tp_validate;
+
 /// What keeps a plan from having a network: out of memory, or too many events, ticks or bounds for the limits.
 #[derive(Clone, Copy, Debug, PartialEq, Eq, Error)]
 pub enum DeorderFault {

@@ -14,18 +14,18 @@ use Rattle.tp_bounds.specs.Schedule.{IsSchedule, HasSchedule}
 use Rattle.tp_bounds.specs.OwnBounds.{with_bounds, IsWithin, MeetsEach}
 use Rattle.tp_bounds.proofs.Numbering.{in_force_each, others_stay}
 use Rattle.tp_bounds.proofs.Schedules.{is_schedule, schedule_is}
-use Rattle.tp_ground.specs.declared.Body.{Body}
-use Rattle.tp_ground.specs.declared.Body.TheVariants.{Instant, Durative}
-use Rattle.tp_ground.specs.declared.task.Task.{Task}
-use Rattle.tp_ground.specs.Valid.{Planned, IsValid, IsValidRun}
-use Rattle.tp_ground.specs.Bounds.{MeetsBounds}
-use Rattle.tp_ground.proofs.Sound.{without_fault}
-use Rattle.tp_ground.proofs.Retimed.{retimed_run}
-use Rattle.tp_happen.specs.declared.plans.Step.{Step}
-use Rattle.tp_happen.specs.Steps.{IsPlan, ends_in_time}
-use Rattle.tp_happen.specs.TaskLabels.{is_durative}
-use Rattle.tp_validate.specs.OfTask.{IsOfTask, is_step_of, step_of, planned, scale_of, begin, plan_of, state_at, IsValidPlan}
-use Rattle.tp_validate.specs.Verdict.{IsSound}
+use Rattle.tp_deorder.specs.tp_ground.declared.Body.{Body}
+use Rattle.tp_deorder.specs.tp_ground.declared.Body.TheVariants.{Instant, Durative}
+use Rattle.tp_deorder.specs.tp_ground.declared.task.Task.{Task}
+use Rattle.tp_deorder.specs.tp_ground.Valid.{Planned, IsValid, IsValidRun}
+use Rattle.tp_deorder.specs.tp_ground.Bounds.{MeetsBounds}
+use Rattle.tp_deorder.proofs.Sound.{without_fault}
+use Rattle.tp_deorder.proofs.Retimed.{retimed_run}
+use Rattle.tp_deorder.specs.tp_happen.declared.plans.Step.{Step}
+use Rattle.tp_deorder.specs.tp_happen.Steps.{IsPlan, ends_in_time}
+use Rattle.tp_deorder.specs.tp_happen.TaskLabels.{is_durative}
+use Rattle.tp_deorder.specs.tp_validate.OfTask.{IsOfTask, is_step_of, step_of, planned, scale_of, begin, plan_of, state_at, IsValidPlan}
+use Rattle.tp_deorder.specs.tp_validate.Verdict.{IsSound}
 use Rattle.tp_deorder.specs.Answers.{IsPlanNetOf, own_ticks}
 use Rattle.tp_deorder.specs.Inequalities.{event_count_of}
 use Rattle.tp_deorder.specs.EventTexts.{has_two}

@@ -7,10 +7,10 @@ ghost use Rattle.tp_bounds.specs.Setting.{Setting, event_count};
 ghost use Rattle.tp_bounds.specs.Schedule.{HasSchedule};
 ghost use Rattle.tp_bounds.specs.Lawful.{IsLawful};
 ghost use Rattle.tp_bounds.specs.declared.plan_nets.PlanNet.{PlanNet};
-ghost use Rattle.tp_ground.specs.declared.task.Task.{Task};
-ghost use Rattle.tp_happen.specs.declared.plans.Step.{Step};
-ghost use Rattle.tp_validate.specs.OfTask.{IsValidPlan};
-ghost use Rattle.tp_validate.specs.Verdict.{IsSound};
+ghost use Rattle.tp_deorder.specs.tp_ground.declared.task.Task.{Task};
+ghost use Rattle.tp_deorder.specs.tp_happen.declared.plans.Step.{Step};
+ghost use Rattle.tp_deorder.specs.tp_validate.OfTask.{IsValidPlan};
+ghost use Rattle.tp_deorder.specs.tp_validate.Verdict.{IsSound};
 ghost use Rattle.tp_deorder.specs.Answers.{IsPlanNetOf};
 ghost use Rattle.tp_deorder.specs.EventTexts as spec;
 ghost use Rattle.tp_deorder.specs.RunPlans.{moved_step, count_or_none, run_steps};
@@ -24,10 +24,10 @@ ghost use Rattle.tp_exec.specs.OwnBounds.{IsDone, dispatched_at, TellsMoments};
 ghost use Rattle.tp_exec.specs.FromPlan.{CameFrom, TellsSteps};
 
 use std::alloc::{AllocError, Global};
-use tp_ground::{ActionId, Body, Task};
-use tp_happen::{Plan, Step};
+use tp_deorder::tp_ground::{ActionId, Body, Task};
+use tp_deorder::tp_happen::{Plan, Step};
 use tp_net::Net;
-use tp_validate::ValidPlan;
+use tp_deorder::tp_validate::ValidPlan;
 
 /// The moments at which the events were dispatched, if all were.
 fn dispatched<N: Net>(alloc: Global, net: &N) -> Result<Option<Vec<u32>>, AllocError>

@@ -27,3 +27,6 @@ pub mod WrittenTasks
 pub mod OwnNames
 pub mod Readable
 pub mod Rows
+pub use Rattle.tp_syntax.specs.Terms
+pub use Rattle.tp_syntax.specs.Domains
+pub use Rattle.tp_syntax.specs.Problems

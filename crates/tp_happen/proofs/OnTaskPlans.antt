@@ -3,7 +3,7 @@ use Rattle.std.proofs.Common.{◌≡◌, ℕ, ◌+◌, ◌<◌, ◌≤◌, Bool,
 use Rattle.std.specs.Prelude.{nat_lt, ◌==◌}
 use Rattle.std.specs.List.{AllByRecursion, list_all, position_from}
 use Rattle.std.proofs.lemmas.Bool.Decides.{nat_tests}
-use Rattle.tp_syntax.specs.Terms as terms
+use Rattle.tp_ground.specs.Terms as terms
 use Rattle.tp_ground.specs.Words.{Words, same_words}
 use Rattle.tp_ground.specs.Tables.{words_at}
 use Rattle.tp_ground.specs.Readable as readable

@@ -2,8 +2,8 @@
 use Rattle.std.specs.Prelude.{ℕ, ◌+◌, ◌≤◌, List}
 use Rattle.std.specs.List.{AllByRecursion}
 use Rattle.tp_text.specs.declared.number.Scale.{Scale}
-use Rattle.tp_syntax.specs.Domains.{Domain, SpellsDomain}
-use Rattle.tp_syntax.specs.Problems.{Problem, SpellsProblem}
+use Rattle.tp_ground.specs.Domains.{Domain, SpellsDomain}
+use Rattle.tp_ground.specs.Problems.{Problem, SpellsProblem}
 use Rattle.tp_bounds.specs.RunLimits.{RunLimits}
 use Rattle.tp_ground.specs.Grounding.{IsTask}
 use Rattle.tp_ground.specs.declared.task.Task.{Task}

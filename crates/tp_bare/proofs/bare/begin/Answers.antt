@@ -1,7 +1,7 @@
 use Rattle.std.proofs.Common.{sym, subst, ap, ◌∙◌}
 use Rattle.std.specs.Prelude.{Ok, Err}
-use Rattle.tp_exec.specs.Machine.{IsFresh, new_machine}
-use Rattle.tp_exec.proofs.Ready.{fresh_new}
+use Rattle.tp_script.specs.Machine.{IsFresh, new_machine}
+use Rattle.tp_script.proofs.Ready.{fresh_new}
 use Rattle.tp_script.specs.Lags.{ReadsLags}
 use Rattle.tp_bare.proofs.bare.begin.Goals as goal
 
