@@ -51,6 +51,7 @@ fn renew(alloc: Global, engine: &mut Engine, key: usize, amount: u64) -> Result<
     ensures err { OnErr result (IsUntouched engine.old engine.new) }
     ensures looks { (edges : ℕ) → IsWired (length engine.old.low.items) edges engine.old
         → OnOk result (engine.new.looks ≤ 8 * edges + 1) }
+    ensures some { OnOk result (1 ≤ engine.new.looks) }
     ensures err_looks { OnErr result (engine.new.looks ≡ engine.old.looks) }
 {
     let node = engine.store.nodes[key];
@@ -87,6 +88,7 @@ pub fn leave(alloc: Global, engine: &mut Engine, key: usize, amount: u64) -> Res
     ensures err { OnErr result (IsUntouched engine.old engine.new) }
     ensures looks { (edges : ℕ) → IsWired (length engine.old.low.items) edges engine.old
         → OnOk result (engine.new.looks ≤ 8 * edges + 1) }
+    ensures some { OnOk result (1 ≤ engine.new.looks) }
     ensures err_looks { OnErr result (engine.new.looks ≡ engine.old.looks) }
     ensures loose { (n : Node) → get engine.old.store.nodes key ≡ Some n
         → IsLoose engine.old.low.items engine.old.high.items n.arc

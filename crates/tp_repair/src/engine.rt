@@ -169,6 +169,7 @@ pub fn refute(
     ensures still { IsUntouched engine.old engine.new }
     ensures looks { (edges : ℕ) → IsWired (length engine.old.low.items) edges engine.old
         → engine.new.looks ≤ edges + 1 }
+    ensures some { IfOk result (λ _. 1 ≤ engine.new.looks) }
 {
     match rise(
         alloc,

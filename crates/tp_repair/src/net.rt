@@ -3,10 +3,10 @@ ghost use Rattle.std.specs.Prelude.{◌≡◌, ◌≢◌, ◌↔◌, ℕ, ◌+�
 ghost use Rattle.std.specs.FinMap as finite;
 ghost use Rattle.tp_bounds.specs.Setting.{event_count, fixed_at, floor_of, HasPoint, IsInRange};
 ghost use Rattle.tp_bounds.specs.Schedule.{HasSchedule};
-ghost use Rattle.tp_bounds.specs.Changes.{with_bound, without_bound, proposing, at_moment, with_fixed};
+ghost use Rattle.tp_bounds.specs.Changes.{with_bound, without_bound, proposing, at_moment, with_fixed, with_lag};
 ghost use Rattle.tp_net.specs.Faults.{RefusesBy, IsNew, IsNow, IsPastOf, SaysBetween, IsBetween};
 ghost use Rattle.tp_repair.specs.Told.{edge_count};
-ghost use Rattle.tp_repair.specs.Costs.{IsCheap, AreWindows, HoldsNoMoment};
+ghost use Rattle.tp_repair.specs.Costs.{IsCheap, AreWindows, HoldsNoMoment, SeesConflict};
 ghost use Rattle.tp_bounds.specs.declared.Bound.{Bound};
 ghost use Rattle.std.specs.Ordering.{nat_cmp};
 ghost use Rattle.std.specs.BTreeMap.{BTreeMap, get};
@@ -22,7 +22,7 @@ use crate::store::named;
 use std::alloc::{AllocError, Global};
 use std::collections::BTreeMap;
 use std::marker::Model;
-use tp_bounds::{Bound, BoundId, Edge, Reason};
+use tp_bounds::{Bound, BoundId, Edge, MOST_LAG, Reason};
 use tp_net::edges::{floor, name_past, start_arc, stop_arc};
 use tp_net::{Net, NetFault};
 
@@ -222,7 +222,14 @@ impl Net for RepairNet {
         true
     }
 
-    fn set_lag(&mut self, e: u16, lag: u32) {
+    /// The count of looks stays: it is that of the last change.
+    fn set_lag(&mut self, e: u16, lag: u32)
+        requires event { e < event_count self.old.setting }
+        requires start { self.old.setting.clock ≡ 0 }
+        requires lag { lag ≤ MOST_LAG }
+        ensures set { self.new.setting ≡ with_lag self.old.setting e lag }
+        ensures looks { self.new.looks ≡ self.old.looks }
+    {
         self.lags[e as usize] = lag;
     }
 
@@ -248,6 +255,7 @@ impl Net for RepairNet {
         ensures between { SaysBetween result ↔ ((true ≡ false) × IsBetween bound) }
         ensures most { self.new.looks ≤ 2 * (edge_count self.old.setting + 1) }
         ensures some { OnOk result (2 ≤ self.new.looks) }
+        ensures seen { SeesConflict result self.new.looks }
         ensures cheap { OnOk result (IsCheap 2 self.old.setting
             (with_bound self.old.setting id.0 bound) self.new.looks) }
     {
@@ -280,6 +288,7 @@ impl Net for RepairNet {
         ensures err { OnErr result (self.new.setting ≡ self.old.setting) }
         ensures possible { OnOk result (HasSchedule (without_bound self.old.setting id.0)) }
         ensures most { self.new.looks ≤ 8 * edge_count self.old.setting + 1 }
+        ensures some { OnOk result (1 ≤ self.new.looks) }
         ensures loose { (low high : ℕ → ℕ) (b : Bound) → AreWindows self.old.setting low high
             → finite.get self.old.setting.bounds id.0 ≡ Some b → HoldsNoMoment low high b
             → OnOk result (self.new.looks ≡ 1) }
@@ -305,6 +314,7 @@ impl Net for RepairNet {
         ensures between { ¬ SaysBetween result }
         ensures still { now ≡ self.old.setting.clock → self.new.looks ≡ 0 }
         ensures most { self.new.looks ≤ edge_count self.old.setting + 1 }
+        ensures seen { SeesConflict result self.new.looks }
         ensures cheap { OnOk result
             (IsCheap 0 self.old.setting (at_moment self.old.setting now) self.new.looks) }
     {
@@ -336,6 +346,7 @@ impl Net for RepairNet {
         ensures between { ¬ SaysBetween result }
         ensures most { self.new.looks ≤ 2 * (edge_count self.old.setting + 1) }
         ensures some { OnOk result (2 ≤ self.new.looks) }
+        ensures seen { SeesConflict result self.new.looks }
         ensures cheap { OnOk result
             (IsCheap 2 self.old.setting (with_fixed self.old.setting e moment) self.new.looks) }
     {

@@ -272,6 +272,7 @@ pub fn solve(alloc: Global, engine: &mut Engine, arc: Arc, amount: u64) -> Resul
     ensures err_high { OnErr result (engine.new.high.items ≡ engine.old.high.items) }
     ensures looks { (edges : ℕ) → IsWired (length engine.old.low.items) edges engine.old
         → OnOk result (engine.new.looks ≤ 8 * edges + 1) }
+    ensures some { OnOk result (1 ≤ engine.new.looks) }
     ensures err_looks { OnErr result (engine.new.looks ≡ engine.old.looks) }
 {
     let (low, more) = low_without(
