@@ -1,8 +1,8 @@
 //! The nodes of a search. Those of one tick that stem from one wait share a moment: the state before the tick's
 //! happening, the steps that run, and what can start there.
 
-use crate::own::{Own, Span, part, small};
 use std::alloc::{AllocError, Global};
+use tp_forms::{Own, Span, part, small};
 use tp_ground::ActionId;
 
 /// The most steps of a plan.

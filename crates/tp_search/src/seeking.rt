@@ -29,17 +29,20 @@ fn steps_of(alloc: Global, chosen: &[Chosen]) -> Result<Vec<Step>, AllocError> {
     chosen.iter().map(step_of).collect(alloc)
 }
 
-// The plan of a node that is one by its own account, if it is valid.
+// The plan of a node that lacks no conjunct and past whose tick nothing runs, if it is valid.
 fn plan_at<'t>(
     alloc: Global,
     task: &'t Task,
-    frontier: &Frontier<'_>,
+    frontier: &mut Frontier<'_>,
     node: u32,
     horizon: u32,
 ) -> Result<Option<ValidPlan<'t>>, SearchFault>
     ensures { IfOk result (λ r. IfSome r
         (λ v. (v.task ≡ task.now) × EndsBy horizon v.steps × IsValidPlan task.now v.steps)) }
 {
+    if !frontier.nothing_runs(node)? {
+        return Ok(None);
+    }
     let chosen = frontier.steps(node)?;
     let steps = steps_of(alloc, &chosen)?;
     certified(alloc, task, horizon, steps)
@@ -58,8 +61,8 @@ fn seek<'t>(
     ensures { IfOk result (IsAnswer task.now budget horizon) }
 {
     let mut expanded = 0;
-    while let Some((node, done)) = frontier.take()? {
-        if done {
+    while let Some((node, lacking)) = frontier.take() {
+        if lacking == 0 {
             if let Some(plan) = plan_at(alloc, task, frontier, node, horizon)? {
                 return Ok(Found::Plan(plan));
             }

@@ -1,9 +1,12 @@
 //! Searches of small tasks, with answers worked out by hand.
 //!
+//! - `reaching`: what is in relaxed reach
 //! - `seeking`: what a search answers, as a text
 //! - `worlds`: matches, switches, tanks and charges
 #![tactic(auto)]
 
+#[cfg(test)]
+mod reaching;
 #[cfg(test)]
 mod seeking;
 #[cfg(test)]

@@ -14,7 +14,7 @@ pub enum SeekFault {
 
 impl From<AllocError> for SeekFault {
     ghost use Rattle.std.specs.Prelude.{◌≡◌};
-    ghost use Rattle.tp_frontier.specs.declared.fault.SeekFault.TheVariants as faults;
+    ghost use Rattle.tp_forms.specs.declared.fault.SeekFault.TheVariants as faults;
 
     ghost from_gives = { λ _ e. e ≡ faults.Memory };
 

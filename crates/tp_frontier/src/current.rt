@@ -1,0 +1,215 @@
+//! The node at hand.
+
+use crate::known::{Known, push_copy};
+use crate::store::{Running, Start};
+use std::alloc::{AllocError, Global};
+use tp_forms::{Deed, Marks, Own, SeekFault, carry_out};
+
+/// The node at hand: the steps that run past its tick, the events of its tick, which conjuncts its state meets, and the
+/// state's number once it is kept.
+#[derive(Drop)]
+pub struct Current {
+    pub running: Vec<Running>,
+    pub events: Vec<u32>,
+    pub chain: Vec<Start>,
+    pub met: Vec<bool>,
+    pub lacking: usize,
+    pub values: Vec<Option<i64>>,
+    pub state: Option<u32>,
+}
+
+impl Current {
+    pub fn new(alloc: Global) -> Self {
+        Current {
+            running: Vec::new(alloc),
+            events: Vec::new(alloc),
+            chain: Vec::new(alloc),
+            met: Vec::new(alloc),
+            lacking: 0,
+            values: Vec::new(alloc),
+            state: None,
+        }
+    }
+
+    // Ends that are due happen; the other steps go on.
+    fn take_run(
+        &mut self,
+        known: &Known<'_>,
+        own: &mut Own,
+        run: Running,
+    ) -> Result<(), SeekFault> {
+        if run.left > 0 {
+            push_copy(&mut self.running, run)?;
+            return Ok(());
+        }
+        if let (Some(action), Some(deed)) = (known.action(run.action), known.end_of(run.action)) {
+            push_copy(&mut self.events, action.first.saturating_add(1))?;
+            let units = known.units(run.duration);
+            carry_out(&known.forms, own, deed, units, &mut self.values)?;
+        }
+        Ok(())
+    }
+
+    fn take_start(
+        &mut self,
+        known: &Known<'_>,
+        own: &mut Own,
+        start: Start,
+    ) -> Result<(), SeekFault> {
+        if let (Some(action), Some(deed)) = (
+            known.action(start.action),
+            known.first_of(start.action),
+        ) {
+            push_copy(&mut self.events, action.first)?;
+            let units = known.units(start.duration);
+            carry_out(&known.forms, own, deed, units, &mut self.values)?;
+            if action.invariant.is_some() {
+                push_copy(&mut self.running, running_from(start))?;
+            }
+        }
+        Ok(())
+    }
+
+    pub fn take_runs(
+        &mut self,
+        known: &Known<'_>,
+        own: &mut Own,
+        runs: &[Running],
+    ) -> Result<(), SeekFault> {
+        self.running.clear();
+        self.events.clear();
+        for run in runs {
+            self.take_run(known, own, *run)?;
+        }
+        Ok(())
+    }
+
+    pub fn take_starts(&mut self, known: &Known<'_>, own: &mut Own) -> Result<(), SeekFault> {
+        for place in 0..self.chain.len() {
+            if let Some(start) = self.chain.get(place).copied() {
+                self.take_start(known, own, start)?;
+            }
+        }
+        Ok(())
+    }
+
+    // Which conjuncts the state at hand meets.
+    pub fn judge(&mut self, known: &Known<'_>, own: &Own) -> Result<(), SeekFault> {
+        self.met.clear();
+        self.lacking = 0;
+        for form in &known.forms.conjuncts {
+            let met = known.forms.holds(own, *form)?;
+            push_copy(&mut self.met, met)?;
+            if !met {
+                self.lacking = self.lacking.saturating_add(1);
+            }
+        }
+        Ok(())
+    }
+
+    fn is_met(&self, conjunct: u32) -> bool {
+        self.met.get(conjunct as usize).copied().unwrap_or(true)
+    }
+
+    // How many conjuncts are lacking once these may have changed.
+    fn lacking_after(
+        &self,
+        known: &Known<'_>,
+        own: &Own,
+        changed: &[u32],
+    ) -> Result<usize, SeekFault> {
+        let mut count = self.lacking;
+        for conjunct in changed {
+            let now = known.conjunct_holds(own, *conjunct)?;
+            let before = self.is_met(*conjunct);
+            if now && !before {
+                count = count.saturating_sub(1);
+            } else if before && !now {
+                count = count.saturating_add(1);
+            }
+        }
+        Ok(count)
+    }
+
+    // How many conjuncts lack with one more event, whose effects may change some of them.
+    pub fn lacking_with(
+        &mut self,
+        known: &Known<'_>,
+        own: &mut Own,
+        deed: &Deed<'_>,
+        start: Start,
+    ) -> Result<usize, SeekFault> {
+        let changed = known.touched.of(start.action);
+        if changed.is_empty() && deed.event.writes.is_empty() {
+            return Ok(self.lacking);
+        }
+        let units = known.units(start.duration);
+        carry_out(&known.forms, own, deed, units, &mut self.values)?;
+        let lacking = self.lacking_after(known, own, changed)?;
+        own.undo();
+        Ok(lacking)
+    }
+
+    // The least count of ticks that a running step has left.
+    pub fn least_left(&self) -> Option<u32> {
+        let mut least = None;
+        for run in &self.running {
+            match least {
+                Some(left) if left <= run.left => {}
+                _ => least = Some(run.left),
+            }
+        }
+        least
+    }
+
+    // Whether the invariants of all running steps hold in the state at hand.
+    pub fn invariants_hold(&self, known: &Known<'_>, own: &Own) -> Result<bool, SeekFault> {
+        for run in &self.running {
+            if let Some(form) = known.invariant_of(run.action) {
+                if !known.forms.holds(own, form)? {
+                    return Ok(false);
+                }
+            }
+        }
+        Ok(true)
+    }
+
+    // The running steps so many ticks later, sorted; no step has fewer left.
+    pub fn runs_after(&self, alloc: Global, ticks: u32) -> Result<Vec<Running>, AllocError> {
+        let mut runs = Vec::new(alloc);
+        for run in &self.running {
+            runs.push(Running {
+                left: run.left.saturating_sub(ticks),
+                ..*run
+            })?;
+        }
+        runs.sort_unstable();
+        Ok(runs)
+    }
+}
+
+fn running_from(start: Start) -> Running {
+    Running {
+        action: start.action,
+        duration: start.duration,
+        left: start.duration,
+    }
+}
+
+/// How many conjuncts lack with one more start, None where it interferes with an event of the tick.
+pub fn lacking_with(
+    known: &Known<'_>,
+    marks: &Marks,
+    own: &mut Own,
+    current: &mut Current,
+    start: Start,
+) -> Result<Option<usize>, SeekFault> {
+    let Some(deed) = known.first_of(start.action) else {
+        return Ok(None);
+    };
+    if marks.interferes(&known.forms, deed) {
+        return Ok(None);
+    }
+    let lacking = current.lacking_with(known, own, deed, start)?;
+    Ok(Some(lacking))
+}
