@@ -18,8 +18,8 @@ use std::alloc::{AllocError, Global};
 use std::marker::Model;
 use tp_bounds::{Bound, BoundId, Limits, PlanNet, Point, Setting};
 use tp_deorder::tp_happen::Plan;
-use tp_net::Net;
 use tp_deorder::tp_validate::ValidPlan;
+use tp_net::Net;
 
 /// The greatest weight of a bound, either way, in ticks.
 const GREATEST_WEIGHT: i64 = 2_000_000_000;

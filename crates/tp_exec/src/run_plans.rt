@@ -26,8 +26,8 @@ ghost use Rattle.tp_exec.specs.FromPlan.{CameFrom, TellsSteps};
 use std::alloc::{AllocError, Global};
 use tp_deorder::tp_ground::{ActionId, Body, Task};
 use tp_deorder::tp_happen::{Plan, Step};
-use tp_net::Net;
 use tp_deorder::tp_validate::ValidPlan;
+use tp_net::Net;
 
 /// The moments at which the events were dispatched, if all were.
 fn dispatched<N: Net>(alloc: Global, net: &N) -> Result<Option<Vec<u32>>, AllocError>
