@@ -248,6 +248,18 @@ def at_once(program):
     judged(program, "two small steps at each of 256 ticks, 65,025 actions", small, few, "".join(f"{k}: (act o0 o2)\n{k}: (act o0 o3)\n" for k in range(256)))
 
 
+YARD = """(define (domain yard) (:types truck place gauge) (:predicates (at ?t - truck ?p - place) (idle ?t - truck) (free ?g - gauge))
+(:durative-action drive :parameters (?t - truck ?p - place) :duration (= ?duration 5)
+:condition (and (at start (exists (?g - gauge) (free ?g))) (over all (exists (?g - gauge) (free ?g))))
+:effect (and (at start (not (idle ?t))) (at end (at ?t ?p)) (at end (idle ?t)))))"""
+
+
+def yard_problem():
+    """Trucks, places and four gauges, one of which is free."""
+    objects = f"{each('t#', 59)} - truck {each('p#', 1000)} - place {each('g#', 4)} - gauge"
+    return f"(define (problem q) (:domain yard) (:objects {objects}) (:init {each('(idle t#)', 59)} (free g3)) (:goal (at t0 p0)))"
+
+
 def checks(program):
     """Verdicts on large plans, tasks and texts."""
     domain, problem = wide(1000)
@@ -260,6 +272,7 @@ def checks(program):
     judged(program, "the network of 512 steps side by side, on the same task", PLACES, problem, visits(), "net")
     at_once(program)
     judged(program, "59,319 ground actions of three objects, one step", TRIPLES, triples_problem(39), "0: (a o0 o1 o2)\n")
+    judged(program, "59,000 ground actions with two 'exists' over four objects each", YARD, yard_problem(), "0: (drive t0 p0) [5]\n")
     long_problem = "(define (problem q) (:domain long) (:init (q0)) (:goal (q0)))"
     judged(program, "a domain of a megabyte, no step", long_domain(1_048_576), long_problem, "")
 

@@ -23,6 +23,7 @@ mod environment;
 mod fault;
 mod grounder;
 mod grounding;
+mod guesses;
 mod lookup;
 mod lowering;
 mod noting;

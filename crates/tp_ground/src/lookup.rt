@@ -1,6 +1,6 @@
 //! Words looked up and written out by the numbers of their names.
 
-ghost use Rattle.std.specs.Prelude.{◌≡◌, ◌∷◌, [], ◌++◌, map, length, nat_eq, option_map, slice_get, IfOk, OnOk, slice_index_or, string_bytes, IfSome, ◌+◌, ◌<◌, ◌^◌};
+ghost use Rattle.std.specs.Prelude.{◌≡◌, ◌∷◌, [], ◌++◌, map, length, nat_eq, option_map, slice_get, IfOk, OnOk, slice_index_or, string_bytes, IfSome, ◌+◌, ◌<◌, ◌^◌, true, Some};
 ghost use Rattle.std.specs.List.{AllByRecursion, IsDistinct, position_from};
 ghost use Rattle.std.specs.Str.{bytes_eq};
 ghost use Rattle.std.specs.Cmp.Lexicographic.{pointwise};
@@ -156,6 +156,17 @@ pub fn label_at<'a>(labels: &'a [Label], number: u32) -> &'a [usize]
     match labels.get(number as usize) {
         Some(label) => label.as_slice(),
         None => &[],
+    }
+}
+
+/// Whether there is a label at a number, with exactly these words.
+pub fn has_words_at(names: &IndexSet<String>, labels: &[Label], number: u32, words: &[&str]) -> bool
+    ensures { result ≡ true → slice_get (map (named (map string_bytes names.now.keys))
+        (map (λ l. l.items) labels.now)) number ≡ Some (map (λ w. w.now) words.now) }
+{
+    match labels.get(number as usize) {
+        Some(label) => are_names(names, label.as_slice(), words),
+        None => false,
     }
 }
 

@@ -8,7 +8,8 @@ ghost use Rattle.tp_ground.specs.Labels.{named, with_label, Grows, AreNamed};
 ghost use Rattle.tp_ground.specs.Tables.{words_at, IsFull, CannotNumber};
 
 use crate::fault::{GroundFault, TooManyKind};
-use crate::lookup::{Label, find, label_at, text_of, word_of};
+use crate::guesses::Guesses;
+use crate::lookup::{Label, find, has_words_at, label_at, text_of, word_of};
 use indexmap::IndexSet;
 use smallvec::SmallVec;
 use std::alloc::{AllocError, Global};
@@ -22,6 +23,8 @@ pub struct Numbering {
     fluents: IndexSet<Label>,
     actions: Vec<Label>,
     most: u32,
+    /// Where atoms and fluents were found before.
+    guesses: Guesses,
 }
 
 impl Model for Numbering {
@@ -114,6 +117,7 @@ impl Numbering {
             fluents: IndexSet::new(alloc),
             actions: Vec::new(alloc),
             most,
+            guesses: Guesses::new(alloc),
         }
     }
 
@@ -133,8 +137,20 @@ impl Numbering {
         self.fluents.len()
     }
 
-    /// The number of an atom, which gets the next one if it has none.
-    pub fn atom(&mut self, words: &[&str]) -> Result<u32, GroundFault>
+    // The number of an atom that stands where such words were found last.
+    fn guessed_atom(&self, words: &[&str]) -> Option<u32>
+        ensures { IfSome result
+            (λ i. slice_get self.now.atoms i ≡ Some (map (λ w. w.now) words.now)) }
+    {
+        let place = self.guesses.guess(words)?;
+        if !has_words_at(&self.names, self.atoms.as_slice(), place, words) {
+            return None;
+        }
+        Some(place)
+    }
+
+    // The number of an atom, looked up by the numbers of its names.
+    fn placed_atom(&mut self, words: &[&str]) -> Result<u32, GroundFault>
         ensures atoms { OnOk result
             (self.new.atoms ≡ with_words self.old.atoms (map (λ w. w.now) words.now)) }
         ensures place { IfOk result
@@ -150,8 +166,42 @@ impl Numbering {
         place_of(&mut self.atoms, self.most, label, TooManyKind::Atoms)
     }
 
-    /// The number of a fluent, which gets the next one if it has none.
-    pub fn fluent(&mut self, words: &[&str]) -> Result<u32, GroundFault>
+    /// The number of an atom, which gets the next one if it has none.
+    pub fn atom(&mut self, words: &[&str]) -> Result<u32, GroundFault>
+        ensures atoms { OnOk result
+            (self.new.atoms ≡ with_words self.old.atoms (map (λ w. w.now) words.now)) }
+        ensures place { IfOk result
+            (λ i. slice_get self.new.atoms i ≡ Some (map (λ w. w.now) words.now)) }
+        ensures unchanged { OnErr result (self.new.atoms ≡ self.old.atoms) }
+        ensures fluents { self.new.fluents ≡ self.old.fluents }
+        ensures actions { self.new.actions ≡ self.old.actions }
+        ensures most { self.new.most ≡ self.old.most }
+        ensures err { IfErr result (CannotNumber self.old.most
+            (with_words self.old.atoms (map (λ w. w.now) words.now)) self.old.fluents) }
+    {
+        if let Some(place) = self.guessed_atom(words) {
+            return Ok(place);
+        }
+        self.guesses.make_room(*self.names.allocator())?;
+        let place = self.placed_atom(words)?;
+        self.guesses.keep(words, place);
+        Ok(place)
+    }
+
+    // The number of a fluent that stands where such words were found last.
+    fn guessed_fluent(&self, words: &[&str]) -> Option<u32>
+        ensures { IfSome result
+            (λ i. slice_get self.now.fluents i ≡ Some (map (λ w. w.now) words.now)) }
+    {
+        let place = self.guesses.guess(words)?;
+        if !has_words_at(&self.names, self.fluents.as_slice(), place, words) {
+            return None;
+        }
+        Some(place)
+    }
+
+    // The number of a fluent, looked up by the numbers of its names.
+    fn placed_fluent(&mut self, words: &[&str]) -> Result<u32, GroundFault>
         ensures fluents { OnOk result
             (self.new.fluents ≡ with_words self.old.fluents (map (λ w. w.now) words.now)) }
         ensures place { IfOk result
@@ -165,6 +215,28 @@ impl Numbering {
     {
         let label = label_of(&mut self.names, words)?;
         place_of(&mut self.fluents, self.most, label, TooManyKind::Fluents)
+    }
+
+    /// The number of a fluent, which gets the next one if it has none.
+    pub fn fluent(&mut self, words: &[&str]) -> Result<u32, GroundFault>
+        ensures fluents { OnOk result
+            (self.new.fluents ≡ with_words self.old.fluents (map (λ w. w.now) words.now)) }
+        ensures place { IfOk result
+            (λ i. slice_get self.new.fluents i ≡ Some (map (λ w. w.now) words.now)) }
+        ensures unchanged { OnErr result (self.new.fluents ≡ self.old.fluents) }
+        ensures atoms { self.new.atoms ≡ self.old.atoms }
+        ensures actions { self.new.actions ≡ self.old.actions }
+        ensures most { self.new.most ≡ self.old.most }
+        ensures err { IfErr result (CannotNumber self.old.most self.old.atoms
+            (with_words self.old.fluents (map (λ w. w.now) words.now))) }
+    {
+        if let Some(place) = self.guessed_fluent(words) {
+            return Ok(place);
+        }
+        self.guesses.make_room(*self.names.allocator())?;
+        let place = self.placed_fluent(words)?;
+        self.guesses.keep(words, place);
+        Ok(place)
     }
 
     /// Numbers one more action.
