@@ -6,7 +6,9 @@ use tp_bounds::{Limits, PlanNet};
 use tp_deorder::deorder;
 use tp_ground::{Task, ground};
 use tp_happen::read_plan;
-use tp_small_worlds::{CHARGE, EMPTY_TANK, MATCH, MATCHES, TANK, TOGGLE, TOGGLED, UNCHARGED};
+use tp_small_worlds::{
+    CHARGE, EMPTY_TANK, LINE, MATCH, MATCHES, TANK, TOGGLE, TOGGLED, UNCHARGED, UNSET,
+};
 use tp_syntax::{Domain, read_domain, read_problem};
 use tp_text::Scale;
 use tp_validate::{Verdict, validate};
@@ -38,11 +40,9 @@ pub(crate) const CHARGES: World<'static> = World {
     problem: UNCHARGED,
 };
 
-/// A fluent that each step sets.
 pub(crate) const LINES: World<'static> = World {
-    domain: "(define (domain line) (:functions (x))
- (:action set :parameters () :effect (assign (x) 1)))",
-    problem: "(define (problem p) (:domain line) (:init (= (x) 0)) (:goal (= (x) 1)))",
+    domain: LINE,
+    problem: UNSET,
 };
 
 fn task_in(alloc: Global, domain: &Domain, world: World<'_>) -> Result<Task, Fail> {

@@ -2,12 +2,12 @@
 
 ghost use Rattle.std.specs.Prelude.{◌≤◌};
 
-use crate::examples::{MATCH, MATCH_PROBLEM, TANK};
 use crate::support::{domain, task_within};
 use std::alloc::Global;
 use std::test::Fail;
 use tp_bounds::Limits;
 use tp_ground::{GroundFault, TooManyKind};
+use tp_small_worlds::{MATCH, MATCHES, TANK};
 use tp_syntax::Domain;
 
 // Whether match has no task for this reason, or has one, under limits of so many atoms and actions.
@@ -22,7 +22,7 @@ fn is_refused(
     requires actions { actions ≤ 65535 }
 {
     let limits = Limits::new(10, 10, 10, 100, atoms, actions, 10);
-    let fault = task_within(alloc, domain, MATCH_PROBLEM, &limits)?.err();
+    let fault = task_within(alloc, domain, MATCHES, &limits)?.err();
     Ok(fault == why)
 }
 

@@ -1,9 +1,10 @@
 //! The tasks of domains and problems.
 
-use crate::examples::{CHARGE, MATCH, MATCH_PROBLEM, ROADS, TANK, TOGGLE};
+use crate::examples::ROADS;
 use crate::support::{NOTHING, Told, are_told};
 use std::test::Fail;
 use tp_ground::ActionId;
+use tp_small_worlds::{CHARGE, MATCH, MATCHES, TANK, TOGGLE, TOGGLED};
 
 #[test]
 fn what_match_mentions_is_numbered(rt: HostRuntime) -> Result<(), Fail> {
@@ -14,7 +15,7 @@ fn what_match_mentions_is_numbered(rt: HostRuntime) -> Result<(), Fail> {
         truths: &[true, false, false],
         ..NOTHING
     };
-    assert!(rt; are_told(rt.alloc(), MATCH, MATCH_PROBLEM, &told)?);
+    assert!(rt; are_told(rt.alloc(), MATCH, MATCHES, &told)?);
     Ok(())
 }
 
@@ -30,7 +31,7 @@ fn actions_are_found_by_all_their_words(rt: HostRuntime) -> Result<(), Fail> {
         ],
         ..NOTHING
     };
-    assert!(rt; are_told(rt.alloc(), MATCH, MATCH_PROBLEM, &told)?);
+    assert!(rt; are_told(rt.alloc(), MATCH, MATCHES, &told)?);
     Ok(())
 }
 
@@ -41,7 +42,7 @@ fn an_action_tells_its_words(rt: HostRuntime) -> Result<(), Fail> {
         words: &[(0, Some("mend-fuse")), (1, Some("f1")), (2, None)],
         ..NOTHING
     };
-    assert!(rt; are_told(rt.alloc(), MATCH, MATCH_PROBLEM, &told)?);
+    assert!(rt; are_told(rt.alloc(), MATCH, MATCHES, &told)?);
     Ok(())
 }
 
@@ -60,14 +61,13 @@ fn the_greatest_number_is_kept(rt: HostRuntime) -> Result<(), Fail> {
 
 #[test]
 fn what_toggle_mentions_is_numbered(rt: HostRuntime) -> Result<(), Fail> {
-    let problem = "(define (problem p) (:domain toggle) (:init (p)) (:goal (done)))";
     let told = Told {
         counts: (4, 3, 0),
         actions: &[(0, "(need)"), (1, "(drop)"), (2, "(give)"), (3, "(watch)")],
         atoms: &[(0, "(p)"), (1, "(done)"), (2, "(q)")],
         ..NOTHING
     };
-    assert!(rt; are_told(rt.alloc(), TOGGLE, problem, &told)?);
+    assert!(rt; are_told(rt.alloc(), TOGGLE, TOGGLED, &told)?);
     Ok(())
 }
 

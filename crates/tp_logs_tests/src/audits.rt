@@ -1,8 +1,9 @@
 //! Audits of journals in files, worked by hand.
 
-use super::devices::{Ruins, Shelf};
+use super::devices::Ruins;
 use super::keeping::{NAME, Told, audited};
 use std::alloc::Global;
+use tp_small_devices::Shelf;
 
 /// Seven pairs of a network of bounds alone.
 const SEVEN: &[u8] =

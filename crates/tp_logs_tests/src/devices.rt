@@ -1,7 +1,6 @@
 //! Files and writers in memory, which tell their bytes.
 
-ghost use Rattle.std.specs.Prelude.{◌≡◌, ◌<◌, refl, [], None, Some, find, if◌then◌else◌, option_map};
-ghost use Rattle.std.specs.Str.{bytes_eq};
+ghost use Rattle.std.specs.Prelude.{◌≡◌, ◌<◌, refl, [], None, Some, if◌then◌else◌, option_map};
 ghost use Rattle.std.specs.String.{string_bytes};
 
 use std::alloc::Global;
@@ -121,41 +120,6 @@ impl<L: Ledger> Logs for Desk<L> {
 
     fn keep(&mut self, log: Sheet<L>) {
         self.last = Some(log);
-    }
-}
-
-/// What is left of a file in memory.
-#[derive(Drop)]
-pub(crate) struct Stored<'a> {
-    bytes: &'a [u8],
-}
-
-impl Source for Stored<'_> {
-    ghost left = { λ s. Some s.bytes.now };
-
-    ghost failures = { λ _. 0 };
-
-    fn pull(&mut self, buffer: &mut [u8]) -> Result<usize, Failed> {
-        Ok(self.bytes.read(buffer).unwrap_or(0))
-    }
-}
-
-/// Files in memory, under their names.
-#[derive(Clone, Copy)]
-pub(crate) struct Shelf<'a> {
-    pub(crate) files: &'a [(&'a str, &'a [u8])],
-}
-
-impl<'a> Files for Shelf<'a> {
-    type Input = Stored<'a>;
-
-    ghost held = { λ s name. option_map (λ f. f.1.now) (find (λ f. bytes_eq f.0.now name) s.files.now) };
-
-    fn open(&mut self, name: &str) -> Result<Stored<'a>, Failed> {
-        match self.files.iter().find(|file| file.0 == name) {
-            Some(file) => Ok(Stored { bytes: file.1 }),
-            None => Err(Failed),
-        }
     }
 }
 

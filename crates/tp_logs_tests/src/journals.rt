@@ -1,8 +1,8 @@
 //! Journals of commands, worked by hand, and what ends them early.
 
-use super::devices::Shelf;
 use super::keeping::{NAME, Outcome, Room, Told, WIDE, audited, broken_off, journaled};
 use std::alloc::Global;
+use tp_small_devices::Shelf;
 
 const NIGHT: &[u8] =
     b"network 2 100\nadd o 0 10\nadd 0 o -3\n\n  window   00 \nwindo 0\nadd 0 o -11\n";

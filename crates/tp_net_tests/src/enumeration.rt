@@ -1,9 +1,9 @@
 //! Small networks are compared with a plain enumeration of all assignments of moments to their events.
 ghost use Rattle.std.specs.Prelude.{ℕ, ◌<◌};
 
-use crate::trials::{Answer, Change, ask, window};
 use tp_bounds::{Bound, BoundId, Edge, Point};
 use tp_net::{BoxNet, Net, ScratchNet};
+use tp_net_trials::{Answer, Change, ask, window};
 
 /// A network as the tests keep it: at most three events, a horizon of at most 6, identifiers below 4.
 #[derive(Clone, Copy, Debug)]

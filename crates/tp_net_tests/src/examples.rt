@@ -1,11 +1,11 @@
 //! Networks by hand, with the windows and the refusals that they have to give.
 ghost use Rattle.std.specs.Prelude.{ℕ, ◌≤◌};
 
-use crate::trials::{Answer, Change, ask, window};
 use std::alloc::{AllocError, Global};
 use std::test::Fail;
 use tp_bounds::{Bound, BoundId, Edge, Point};
 use tp_net::{BoxNet, Net, ScratchNet};
+use tp_net_trials::{Answer, Change, ask, window};
 
 const ORIGIN: Point = Point::Origin;
 

@@ -1,10 +1,8 @@
 //! Tests of `tp_net`, apart from it so that the gate proves it once. `examples`: networks by hand; `enumeration`: small networks
-//! against all assignments; `trials`: the changes that both ask for.
+//! against all assignments.
 #![tactic(auto)]
 
 #[cfg(test)]
 mod enumeration;
 #[cfg(test)]
 mod examples;
-#[cfg(test)]
-mod trials;

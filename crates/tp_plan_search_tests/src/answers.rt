@@ -2,8 +2,9 @@
 
 ghost use Rattle.std.specs.Prelude.{◌≤◌};
 
-use crate::devices::{Asked, Shelf, Told, gives};
+use crate::devices::{Asked, Told, gives};
 use std::alloc::Global;
+use tp_small_devices::Shelf;
 use tp_small_worlds::{MATCH, MATCHES, TOGGLE, TOGGLED};
 use tp_text::Scale;
 
@@ -21,7 +22,7 @@ type Row<'a> = (&'a str, u32, &'a str, u8);
 // Whether each row of a domain comes to that, with a unit of time of so many ticks.
 fn answered(alloc: Global, domain: &str, scale: Scale, rows: &[Row<'_>]) -> bool {
     rows.iter().all(|row| {
-        let files = [("d", domain), ("p", row.0)];
+        let files = [("d", domain.as_bytes()), ("p", row.0.as_bytes())];
         let files = Shelf { files: &files };
         let asked = Asked {
             scale,

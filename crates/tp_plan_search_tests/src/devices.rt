@@ -1,53 +1,15 @@
-//! Files and writers in memory, and what a search over them comes to.
+//! What a search over files and writers in memory comes to.
 
-ghost use Rattle.std.specs.Prelude.{◌≡◌, ◌<◌, ◌≤◌, Some, find, option_map};
-ghost use Rattle.std.specs.Str.{bytes_eq};
+ghost use Rattle.std.specs.Prelude.{◌≡◌, ◌<◌, ◌≤◌};
 
 use std::alloc::Global;
-use std::io::{Read, Write};
+use std::io::Write;
 use std::marker::Brand;
 use std::sync::ledger::{Blank, Ledger};
-use tp_device::{Failed, Source, ToWrite};
-use tp_files::Files;
+use tp_device::ToWrite;
 use tp_plan_search::{SearchWords, run_plan};
+use tp_small_devices::Shelf;
 use tp_text::Scale;
-
-/// What is left of a file in memory.
-#[derive(Drop)]
-pub(crate) struct Stored<'a> {
-    bytes: &'a [u8],
-}
-
-impl Source for Stored<'_> {
-    ghost left = { λ s. Some s.bytes.now };
-
-    ghost failures = { λ _. 0 };
-
-    fn pull(&mut self, buffer: &mut [u8]) -> Result<usize, Failed> {
-        Ok(self.bytes.read(buffer).unwrap_or(0))
-    }
-}
-
-/// Files in memory, under their names.
-#[derive(Clone, Copy)]
-pub(crate) struct Shelf<'a> {
-    pub(crate) files: &'a [(&'a str, &'a str)],
-}
-
-impl<'a> Files for Shelf<'a> {
-    type Input = Stored<'a>;
-
-    ghost held = { λ s name. option_map (λ f. f.1.now) (find (λ f. bytes_eq f.0.now name) s.files.now) };
-
-    fn open(&mut self, name: &str) -> Result<Stored<'a>, Failed> {
-        match self.files.iter().find(|file| file.0 == name) {
-            Some(file) => Ok(Stored {
-                bytes: file.1.as_bytes(),
-            }),
-            None => Err(Failed),
-        }
-    }
-}
 
 /// A search of the files `d` and `p`: how many expansions it may make, and how far plans may go.
 #[derive(Clone, Copy)]

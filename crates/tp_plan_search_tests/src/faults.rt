@@ -1,7 +1,8 @@
 //! Files at fault, numbers that are too great, and writers that fail.
 
-use crate::devices::{Asked, Shelf, Told, gives};
+use crate::devices::{Asked, Told, gives};
 use std::alloc::Global;
+use tp_small_devices::Shelf;
 use tp_small_worlds::{MATCH, TOGGLE, TOGGLED};
 use tp_text::Scale;
 
@@ -16,7 +17,7 @@ const TOO_GREAT: &str = "(define (problem p) (:domain supply)
  (:init (= (stock) 1000000000000001)) (:goal (< (stock) 0)))";
 
 // Whether a search over files ends with that fault, with that status, and nothing else is written.
-fn refused(alloc: Global, files: &[(&str, &str)], fault: &str, status: u8) -> bool {
+fn refused(alloc: Global, files: &[(&str, &[u8])], fault: &str, status: u8) -> bool {
     let asked = Asked {
         scale: Scale::One,
         horizon: 100,
@@ -34,26 +35,32 @@ fn refused(alloc: Global, files: &[(&str, &str)], fault: &str, status: u8) -> bo
 #[test]
 fn files_at_fault(rt: HostRuntime) {
     let alloc = rt.alloc();
-    let found = refused(alloc, &[("p", TOGGLED)], "fault file 1 read d\n", 3)
-        && refused(alloc, &[("d", TOGGLE)], "fault file 1 read p\n", 3)
-        && refused(
-            alloc,
-            &[("d", "(define"), ("p", "(")],
-            "fault domain 2 text 4 unclosed 0\n",
-            2,
-        )
-        && refused(
-            alloc,
-            &[("d", TOGGLE), ("p", "")],
-            "fault problem 2 text 7 empty\n",
-            2,
-        )
-        && refused(
-            alloc,
-            &[("d", MATCH), ("p", TOGGLED)],
-            "fault problem 4 unknown 29\n",
-            2,
-        );
+    let found = refused(
+        alloc,
+        &[("p", TOGGLED.as_bytes())],
+        "fault file 1 read d\n",
+        3,
+    ) && refused(
+        alloc,
+        &[("d", TOGGLE.as_bytes())],
+        "fault file 1 read p\n",
+        3,
+    ) && refused(
+        alloc,
+        &[("d", b"(define"), ("p", b"(")],
+        "fault domain 2 text 4 unclosed 0\n",
+        2,
+    ) && refused(
+        alloc,
+        &[("d", TOGGLE.as_bytes()), ("p", b"")],
+        "fault problem 2 text 7 empty\n",
+        2,
+    ) && refused(
+        alloc,
+        &[("d", MATCH.as_bytes()), ("p", TOGGLED.as_bytes())],
+        "fault problem 4 unknown 29\n",
+        2,
+    );
     assert!(rt; found);
 }
 
@@ -63,12 +70,12 @@ fn numbers_too_great(rt: HostRuntime) {
     let alloc = rt.alloc();
     let found = refused(
         alloc,
-        &[("d", SUPPLY), ("p", TOO_GREAT)],
+        &[("d", SUPPLY.as_bytes()), ("p", TOO_GREAT.as_bytes())],
         "fault ground 3 range\n",
         2,
     ) && refused(
         alloc,
-        &[("d", SUPPLY), ("p", OWED)],
+        &[("d", SUPPLY.as_bytes()), ("p", OWED.as_bytes())],
         "fault search 2 range\n",
         2,
     );
@@ -87,7 +94,7 @@ fn cut_short(alloc: Global, room: usize, answer: &str) -> bool {
         fault: "fault script 2 write\n",
         status: 3,
     };
-    let files = [("d", TOGGLE), ("p", TOGGLED)];
+    let files = [("d", TOGGLE.as_bytes()), ("p", TOGGLED.as_bytes())];
     gives(alloc, Shelf { files: &files }, asked, room, told)
 }
 

@@ -2,83 +2,38 @@
 use super::devices::{Outcome, Room, Told, WIDE, gives, run, whole};
 use super::files::blanks;
 use std::alloc::{AllocError, Global};
+use tp_small_worlds::{MATCHES, TOGGLED, UNCHARGED};
 
-const MATCH_DOMAIN: &[u8] = b"(define (domain match)
- (:requirements :typing :durative-actions)
- (:types match fuse)
- (:predicates (light) (unused ?m - match) (mended ?f - fuse))
- (:durative-action light-match :parameters (?m - match)
-  :duration (= ?duration 8)
-  :condition (and (at start (unused ?m)))
-  :effect (and (at start (not (unused ?m))) (at start (light))
-               (at end (not (light)))))
- (:durative-action mend-fuse :parameters (?f - fuse)
-  :duration (= ?duration 5)
-  :condition (over all (light))
-  :effect (at end (mended ?f))))
-";
-
-const MATCH_PROBLEM: &[u8] = b"(define (problem p) (:domain match) (:objects m1 - match f1 - fuse)
- (:init (unused m1)) (:goal (mended f1)))
-";
-
-const TOGGLE_DOMAIN: &[u8] = b"(define (domain toggle)
- (:predicates (p) (q) (done))
- (:action need :parameters () :precondition (p) :effect (done))
- (:action drop :parameters () :effect (not (p)))
- (:action give :parameters () :effect (q))
- (:durative-action watch :parameters () :duration (= ?duration 5)
-  :condition (over all (or (p) (q))) :effect (at end (done))))
-";
-
-const TOGGLE_PROBLEM: &[u8] = b"(define (problem p) (:domain toggle) (:init (p)) (:goal (done)))
-";
-
-const SUPPLY_DOMAIN: &[u8] = b"(define (domain supply)
+const SUPPLY_DOMAIN: &str = "(define (domain supply)
  (:functions (stock))
  (:action empty-and-fill :parameters () :effect (and (assign (stock) 0) (increase (stock) 5)))
  (:action square :parameters () :effect (increase (stock) (* (stock) (stock)))))
 ";
 
-const SUPPLY_PROBLEM: &[u8] = b"(define (problem p) (:domain supply)
+const SUPPLY_PROBLEM: &str = "(define (problem p) (:domain supply)
  (:init (= (stock) 1000000000)) (:goal (> (stock) 0)))
-";
-
-const CHARGE_DOMAIN: &[u8] = b"(define (domain charge)
- (:predicates (full))
- (:functions (e))
- (:durative-action charge :parameters ()
-  :duration (and (>= ?duration 2) (<= ?duration 6))
-  :effect (at end (increase (e) (* ?duration 2))))
- (:durative-action rest :parameters ()
-  :duration (and (>= ?duration 2) (<= ?duration 6))
-  :effect (at end (full))))
-";
-
-const CHARGE_PROBLEM: &[u8] = b"(define (problem p) (:domain charge)
- (:init (= (e) 0)) (:goal (or (>= (e) 8) (full))))
 ";
 
 /// A domain and a problem.
 #[derive(Clone, Copy)]
 struct Example {
-    domain: &'static [u8],
-    problem: &'static [u8],
+    domain: &'static str,
+    problem: &'static str,
 }
 
 const MATCH: Example = Example {
-    domain: MATCH_DOMAIN,
-    problem: MATCH_PROBLEM,
+    domain: tp_small_worlds::MATCH,
+    problem: MATCHES,
 };
 
 const TOGGLE: Example = Example {
-    domain: TOGGLE_DOMAIN,
-    problem: TOGGLE_PROBLEM,
+    domain: tp_small_worlds::TOGGLE,
+    problem: TOGGLED,
 };
 
 const CHARGE: Example = Example {
-    domain: CHARGE_DOMAIN,
-    problem: CHARGE_PROBLEM,
+    domain: tp_small_worlds::CHARGE,
+    problem: UNCHARGED,
 };
 
 const SUPPLY: Example = Example {
@@ -88,41 +43,41 @@ const SUPPLY: Example = Example {
 
 /// An empty plan reaches this goal.
 const MET: Example = Example {
-    problem: b"(define (problem p) (:domain toggle) (:init (p)) (:goal (p)))",
+    problem: "(define (problem p) (:domain toggle) (:init (p)) (:goal (p)))",
     ..TOGGLE
 };
 
 /// One number of this problem is past 10^15.
 const GREAT: Example = Example {
-    problem: b"(define (problem p) (:domain supply)
+    problem: "(define (problem p) (:domain supply)
  (:init (= (stock) 1000000000000001)) (:goal (> (stock) 0)))",
     ..SUPPLY
 };
 
 /// The list of this domain does not end.
 const CUT: Example = Example {
-    domain: b"(define (domain d)",
+    domain: "(define (domain d)",
     ..CHARGE
 };
 
 /// This problem is another domain's.
 const OTHER: Example = Example {
-    problem: TOGGLE_PROBLEM,
+    problem: TOGGLED,
     ..CHARGE
 };
 
 /// One number of this problem has a fraction.
 const FRACTION: Example = Example {
-    problem: b"(define (problem p) (:domain charge)
+    problem: "(define (problem p) (:domain charge)
  (:init (= (e) 2.5)) (:goal (full)))",
     ..CHARGE
 };
 
 /// The one action of this domain has 131,072 bindings.
 const LARGE: Example = Example {
-    domain: b"(define (domain d) (:action a
+    domain: "(define (domain d) (:action a
  :parameters (?a ?b ?c ?d ?e ?f ?g ?h ?i ?j ?k ?l ?m ?n ?o ?p ?q - object)))",
-    problem: b"(define (problem p) (:domain d) (:objects x y) (:goal (and)))",
+    problem: "(define (problem p) (:domain d) (:objects x y) (:goal (and)))",
 };
 
 /// A domain and a problem, a plan of theirs, the options of the call, and the line that it writes.
@@ -170,8 +125,8 @@ fn told_by(line: &[u8]) -> Told<'_> {
 /// Whether a call with those files and options writes that line, and ends with its status.
 fn writes(alloc: Global, example: Example, plan: &[u8], options: &[&str], line: &[u8]) -> bool {
     let files: [(&str, &[u8]); 3] = [
-        ("domain", example.domain),
-        ("problem", example.problem),
+        ("domain", example.domain.as_bytes()),
+        ("problem", example.problem.as_bytes()),
         ("plan", plan),
     ];
     match call_with(alloc, options) {
@@ -455,21 +410,33 @@ fn bytes_that_are_no_text_and_texts_that_are_too_long(rt: HostRuntime) {
 
 const CALL: &[&str] = &["check", "domain", "problem", "plan"];
 
-const DOMAIN: (&str, &[u8]) = ("domain", CHARGE_DOMAIN);
+/// The texts of the domain and of the problem, if there are such files; the line of what is wrong, its status, and how many files
+/// were asked for.
+type Opened = (
+    Option<&'static str>,
+    Option<&'static str>,
+    &'static [u8],
+    u8,
+    u64,
+);
 
-const PROBLEM: (&str, &[u8]) = ("problem", CHARGE_PROBLEM);
-
-/// Files, the line of what is wrong with them, its status, and how many files were asked for.
-const OPENED: [(&[(&str, &[u8])], &[u8], u8, u64); 4] = [
-    (&[], b"fault file 1 read domain\n", 3, 1),
+const OPENED: [Opened; 4] = [
+    (None, None, b"fault file 1 read domain\n", 3, 1),
+    (Some("("), None, b"fault domain 2 text 4 unclosed 0\n", 2, 1),
     (
-        &[("domain", b"(")],
-        b"fault domain 2 text 4 unclosed 0\n",
+        Some(CHARGE.domain),
+        None,
+        b"fault file 1 read problem\n",
+        3,
         2,
-        1,
     ),
-    (&[DOMAIN], b"fault file 1 read problem\n", 3, 2),
-    (&[DOMAIN, PROBLEM], b"fault file 1 read plan\n", 3, 3),
+    (
+        Some(CHARGE.domain),
+        Some(CHARGE.problem),
+        b"fault file 1 read plan\n",
+        3,
+        3,
+    ),
 ];
 
 /// Whether so many files were asked for, before that line was written.
@@ -490,19 +457,39 @@ fn asks_for(alloc: Global, files: &[(&str, &[u8])], line: &[u8], status: u8, ope
     }
 }
 
+/// Whether a call with the files of a row comes to what the row says.
+fn is_opened(alloc: Global, row: Opened) -> bool {
+    let (domain, problem, line, status, opened) = row;
+    match (domain, problem) {
+        (Some(domain), Some(problem)) => {
+            let files: [(&str, &[u8]); 2] = [
+                ("domain", domain.as_bytes()),
+                ("problem", problem.as_bytes()),
+            ];
+            asks_for(alloc, &files, line, status, opened)
+        }
+        (Some(domain), None) => {
+            let files: [(&str, &[u8]); 1] = [("domain", domain.as_bytes())];
+            asks_for(alloc, &files, line, status, opened)
+        }
+        _ => asks_for(alloc, &[], line, status, opened),
+    }
+}
+
 #[test]
 fn a_file_is_opened_only_when_what_stands_before_it_is_done(rt: HostRuntime) {
-    for (files, line, status, opened) in OPENED {
-        assert!(rt;
-            asks_for(rt.alloc(), files, line, status, opened),
-            "{status} {opened}"
-        );
+    for row in OPENED {
+        assert!(rt; is_opened(rt.alloc(), row), "{} {}", row.3, row.4);
     }
 }
 
 #[test]
 fn a_verdict_that_cannot_be_written(rt: HostRuntime) {
-    let files: [(&str, &[u8]); 3] = [DOMAIN, PROBLEM, ("plan", b"0: (rest) [4]\n")];
+    let files: [(&str, &[u8]); 3] = [
+        ("domain", CHARGE.domain.as_bytes()),
+        ("problem", CHARGE.problem.as_bytes()),
+        ("plan", b"0: (rest) [4]\n"),
+    ];
     let room = Room { most: 1, calls: 2 };
     let told = Told {
         answers: b"va",

@@ -1,14 +1,9 @@
-// Readers, writers and files in memory, and runs over them.
-ghost use Rattle.std.specs.Prelude.{None, Some, find, if◌then◌else◌, option_map};
-ghost use Rattle.std.specs.Str.{bytes_eq};
-
+// Readers and writers in memory, and runs over them and files.
 use std::alloc::{AllocError, Global};
 use std::io;
 use std::io::{ErrorKind, Read, Write};
-use tp_device::{Failed, Sink, Source};
-use tp_files::Files;
-use tp_logs::Logs;
 use tp_program::run_streams;
+use tp_small_devices::{Desk, Note};
 
 /// Bytes that come at most so many a call. Behind them is the end, or where it is broken an error.
 #[derive(Clone, Copy)]
@@ -93,117 +88,6 @@ impl Page {
     }
 }
 
-/// What is left of a file in memory.
-#[derive(Drop)]
-pub struct Stored<'a> {
-    bytes: &'a [u8],
-}
-
-impl Source for Stored<'_> {
-    ghost left = { λ s. Some s.bytes.now };
-
-    ghost failures = { λ _. 0 };
-
-    fn pull(&mut self, buffer: &mut [u8]) -> Result<usize, Failed> {
-        Ok(self.bytes.read(buffer).unwrap_or(0))
-    }
-}
-
-/// A journal in memory with room for so many bytes. It fails at the piece that does not fit, and then takes no more. It does not
-/// tell its bytes.
-#[derive(Drop)]
-pub struct Note {
-    text: Vec<u8>,
-    room: usize,
-    failed: bool,
-}
-
-impl Sink for Note {
-    ghost held = { λ _. None };
-
-    ghost failures = { λ s. if s.failed then 1 else 0 };
-
-    fn push(&mut self, bytes: &[u8]) -> Result<usize, Failed> {
-        if self.failed {
-            return Ok(bytes.len());
-        }
-        if self.room < bytes.len() || self.text.extend_from_slice(bytes).is_err() {
-            self.failed = true;
-            return Err(Failed);
-        }
-        self.room -= bytes.len();
-        Ok(bytes.len())
-    }
-}
-
-/// Files in memory, how many were opened or asked for in vain, and the journal file that can be made, with its room.
-#[derive(Drop)]
-pub struct Shelf<'a> {
-    pub files: &'a [(&'a str, &'a [u8])],
-    pub opened: u64,
-    pub alloc: Global,
-    pub journal: Option<(&'a str, usize)>,
-    pub note: Option<Note>,
-}
-
-impl<'a> Shelf<'a> {
-    /// These files, and no journal file.
-    pub fn new(alloc: Global, files: &'a [(&'a str, &'a [u8])]) -> Shelf<'a> {
-        Shelf {
-            files,
-            opened: 0,
-            alloc,
-            journal: None,
-            note: None,
-        }
-    }
-}
-
-impl<'a> Files for Shelf<'a> {
-    type Input = Stored<'a>;
-
-    ghost held = { λ s name. option_map (λ f. f.1.now) (find (λ f. bytes_eq f.0.now name) s.files.now) };
-
-    fn open(&mut self, name: &str) -> Result<Stored<'a>, Failed> {
-        self.opened = self.opened.saturating_add(1);
-        match self.files.iter().find(|file| file.0 == name) {
-            Some(file) => Ok(Stored { bytes: file.1 }),
-            None => Err(Failed),
-        }
-    }
-}
-
-impl Logs for Shelf<'_> {
-    type Log = Note;
-
-    ghost named = { λ _. None };
-
-    ghost kept = { λ _. None };
-
-    ghost blank = { None };
-
-    ghost is_blank = { tt };
-
-    fn make(&mut self, name: &str) -> Result<Note, Failed> {
-        let journal = self.journal;
-        let Some((of, room)) = journal else {
-            return Err(Failed);
-        };
-        if of != name {
-            return Err(Failed);
-        }
-        Ok(Note {
-            text: Vec::new(self.alloc),
-            room,
-            failed: false,
-        })
-    }
-
-    fn keep(&mut self, log: Note) {
-        self.note = Some(log);
-    }
-}
-
 /// What a run is to write, and how it is to end.
 #[derive(Clone, Copy)]
 pub struct Told<'a> {
@@ -264,7 +148,7 @@ fn streamed(
     input: Feed<'_>,
     room: Room,
 ) -> Outcome {
-    let mut files = Shelf::new(alloc, stored);
+    let mut files = Desk::new(alloc, stored, None);
     let mut output = Page::new(alloc, room);
     let mut faults = Page::new(alloc, WIDE);
     let status = run_streams(alloc, words, &mut files, input, &mut output, &mut faults).status;
@@ -347,7 +231,7 @@ pub fn shows(alloc: Global, commands: &str, answers: &str) -> bool {
 /// Whether the journal that was kept is that text; where none was kept, there is none.
 fn keeps(note: &Option<Note>, journal: Option<&str>) -> bool {
     match (note, journal) {
-        (Some(note), Some(text)) => note.text.as_slice() == text.as_bytes(),
+        (Some(note), Some(text)) => note.text() == text.as_bytes(),
         (None, None) => true,
         _ => false,
     }
@@ -371,14 +255,12 @@ fn logged(
     room: Room,
     kept: Kept<'_>,
 ) -> (Outcome, bool) {
-    let mut files = Shelf::new(alloc, stored);
-    if let Some(room) = kept.room {
-        files.journal = Some(("night.log", room));
-    }
+    let journal = kept.room.map(|room| ("night.log", room));
+    let mut files = Desk::new(alloc, stored, journal);
     let mut output = Page::new(alloc, room);
     let mut faults = Page::new(alloc, WIDE);
     let status = run_streams(alloc, words, &mut files, input, &mut output, &mut faults).status;
-    let is = keeps(&files.note, kept.journal);
+    let is = keeps(&files.last, kept.journal);
     let outcome = Outcome {
         status,
         starved: output.starved || faults.starved,

@@ -1,9 +1,10 @@
 // Runs that come to a fault, and texts at the edges of a line.
-use super::devices::{Feed, Page, Room, Shelf, Told, WIDE, gives, shows, whole};
+use super::devices::{Feed, Page, Room, Told, WIDE, gives, shows, whole};
 use std::alloc::{AllocError, Global};
 use std::io;
 use std::io::{ErrorKind, Write};
 use tp_program::run_streams;
+use tp_small_devices::Desk;
 
 const COMMANDS: &str = "network 2 100\nadd o 0 10\nadd 0 o -3\nwindow 0\nwindow 1\n";
 
@@ -212,7 +213,7 @@ impl Write for Withholding {
 
 /// Whether a run whose answers are kept back is told as a failed write.
 fn tells_what_is_kept_back(alloc: Global) -> bool {
-    let mut files = Shelf::new(alloc, &[]);
+    let mut files = Desk::new(alloc, &[], None);
     let mut faults = Page::new(alloc, WIDE);
     let input = whole(COMMANDS);
     let status = run_streams(alloc, &[], &mut files, input, Withholding, &mut faults).status;

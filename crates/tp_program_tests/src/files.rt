@@ -1,7 +1,8 @@
 // Texts that are read of files.
-use super::devices::{Feed, Shelf};
+use super::devices::Feed;
 use std::alloc::{AllocError, Global};
 use tp_files::{FileFault, HostFile, open_text, read_text};
+use tp_small_devices::Shelf;
 
 const TEXTS: &[(&str, &[u8])] = &[("a", b"(a)\n"), ("empty", b""), ("umlaut", b"; \xc3\xa4\n")];
 
@@ -19,7 +20,7 @@ const BROKEN: [(&[u8], usize); 3] = [(b"", 1), (b"(a)", 1), (b"(a)", 100)];
 
 /// What is read of the file of that name. Where memory is refused, it is read once more.
 fn read(alloc: Global, files: &[(&str, &[u8])], name: &str) -> Result<String, FileFault> {
-    let mut shelf = Shelf::new(alloc, files);
+    let mut shelf = Shelf { files };
     match open_text(alloc, &mut shelf, name) {
         Err(FileFault::Memory) => open_text(alloc, &mut shelf, name),
         other => other,

@@ -1,6 +1,6 @@
 //! Tests of the program `tempo`: runs over files, readers and writers in memory.
 //!
-//! - `devices`: the files, readers and writers, and what a run over them comes to
+//! - `devices`: the readers and writers, and what a run over them and files comes to
 //! - `arguments`: calls for help, and words that are refused
 //! - `examples`, `faults`: networks, worked by hand, and what ends them early
 //! - `check`: verdicts on plans in files, worked by hand

@@ -2,7 +2,9 @@
 use super::devices::{Outcome, Told, WIDE, gives, run, whole};
 use std::alloc::{AllocError, Global};
 use std::fmt::Write;
-use tp_small_worlds::{CHARGE, EMPTY_TANK, MATCH, MATCHES, TANK, TOGGLE, TOGGLED, UNCHARGED};
+use tp_small_worlds::{
+    CHARGE, EMPTY_TANK, LINE, MATCH, MATCHES, TANK, TOGGLE, TOGGLED, UNCHARGED, UNSET,
+};
 
 /// A domain and a problem, a plan of theirs, the words of the call, what it writes, and its exit status.
 #[derive(Clone, Copy)]
@@ -18,12 +20,6 @@ struct Row {
 const NET: &[&str] = &["net", "domain", "problem", "plan"];
 
 const NET_UP_TO_100: &[&str] = &["net", "domain", "problem", "plan", "--horizon", "100"];
-
-/// A fluent that each step sets.
-const LINE: &str = "(define (domain line) (:functions (x))
- (:action set :parameters () :effect (assign (x) 1)))";
-
-const UNSET: &str = "(define (problem p) (:domain line) (:init (= (x) 0)) (:goal (= (x) 1)))";
 
 const NETWORKS: [Row; 6] = [
     Row {

@@ -1,7 +1,7 @@
 // Runs of plans in files, worked by hand.
 use super::devices::{Feed, Room, Told, WIDE, gives, run, whole};
 use std::alloc::Global;
-use tp_small_worlds::{CHARGE, EMPTY_TANK, TANK, TOGGLE, TOGGLED, UNCHARGED};
+use tp_small_worlds::{CHARGE, EMPTY_TANK, LINE, TANK, TOGGLE, TOGGLED, UNCHARGED, UNSET};
 
 /// A domain and a problem, a plan of theirs, the commands of the input, what is written, and the exit status.
 #[derive(Clone, Copy)]
@@ -15,12 +15,6 @@ struct Row {
 }
 
 const RUN: &[&str] = &["run", "domain", "problem", "plan", "--horizon", "100"];
-
-/// A fluent that each step sets.
-const LINE: &str = "(define (domain line) (:functions (x))
- (:action set :parameters () :effect (assign (x) 1)))";
-
-const UNSET: &str = "(define (problem p) (:domain line) (:init (= (x) 0)) (:goal (= (x) 1)))";
 
 const WATCH: &str = "0: (watch) [5]\n2: (give)\n3: (drop)\n";
 

@@ -1,6 +1,6 @@
 //! Tests of `tp_repair`, apart from it so that the gate proves it once. `worked`: worked examples, line by line; `rows`: networks by
-//! hand, with the looks that they tell; `lists`: the same changes on this network and on the plain one; `trials`: the changes that both
-//! ask for; `reasons`: the same commands on executives over both, whose reasons are checked on copied settings.
+//! hand, with the looks that they tell; `lists`: the same changes on this network and on the plain one; `reasons`: the same commands on
+//! executives over both, whose reasons are checked on copied settings.
 #![tactic(auto)]
 
 #[cfg(test)]
@@ -9,7 +9,5 @@ mod lists;
 mod reasons;
 #[cfg(test)]
 mod rows;
-#[cfg(test)]
-mod trials;
 #[cfg(test)]
 mod worked;

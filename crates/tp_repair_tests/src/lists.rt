@@ -1,9 +1,9 @@
 //! The same changes on the network that is repaired and on the plain one: the same are made, and the windows are the same.
-use crate::trials::{Answer, Change, ask, window};
 use std::alloc::{AllocError, Global};
 use std::test::Fail;
 use tp_bounds::{Bound, Point};
 use tp_net::{Net, ScratchNet};
+use tp_net_trials::{Answer, Change, ask, window};
 use tp_repair::RepairNet;
 
 const EVENTS: u16 = 6;

@@ -5,12 +5,12 @@ ghost use Rattle.std.specs.Prelude.{◌≡◌, true};
 ghost use Rattle.tp_net.specs.NewNet.{new_setting};
 
 use crate::lists::{next, pick, point};
-use crate::trials::{has_point, is_in_range, window};
 use std::alloc::{AllocError, Global};
 use std::test::Fail;
 use tp_bounds::{Bound, BoundId, Edge, Limits, Setting, check_reason};
 use tp_exec::{Answer, Command, Executive, Refusal, perform};
 use tp_net::{Net, ScratchNet};
+use tp_net_trials::{has_point, is_in_range, window};
 use tp_repair::RepairNet;
 
 const LISTS: u64 = 1_000;

@@ -1,11 +1,11 @@
 //! Networks by hand: their windows, and how many edges a change looks at.
 ghost use Rattle.std.specs.Prelude.{◌≤◌};
 
-use crate::trials::{Answer, Change, ask, window};
 use std::alloc::{AllocError, Global};
 use std::test::Fail;
 use tp_bounds::{Bound, BoundId, Edge, Point};
 use tp_net::Net;
+use tp_net_trials::{Answer, Change, ask, window};
 use tp_repair::RepairNet;
 
 const ORIGIN: Point = Point::Origin;

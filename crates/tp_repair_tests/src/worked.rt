@@ -2,11 +2,11 @@
 //! network, so that a bound that is one too many is in none of them.
 ghost use Rattle.std.specs.Prelude.{◌≤◌};
 
-use crate::trials::{Change, outcome, window};
 use std::alloc::{AllocError, Global};
 use std::test::Fail;
 use tp_bounds::{Bound, BoundId, Edge, Point};
 use tp_net::NetFault;
+use tp_net_trials::{Change, outcome, window};
 use tp_repair::RepairNet;
 
 const ORIGIN: Point = Point::Origin;

@@ -1,4 +1,4 @@
-//! Four small domains with a problem each, as the texts that tests read: what happens in them can be worked out by hand.
+//! Five small domains with a problem each, as the texts that tests read: what happens in them can be worked out by hand.
 #![tactic(auto)]
 
 /// A fuse is mended by the light of a match.
@@ -58,3 +58,10 @@ pub const CHARGE: &str = "(define (domain charge)
 /// Nothing is charged.
 pub const UNCHARGED: &str = "(define (problem p) (:domain charge)
  (:init (= (e) 0)) (:goal (or (>= (e) 8) (full))))";
+
+/// A fluent that each step sets.
+pub const LINE: &str = "(define (domain line) (:functions (x))
+ (:action set :parameters () :effect (assign (x) 1)))";
+
+/// It is not set.
+pub const UNSET: &str = "(define (problem p) (:domain line) (:init (= (x) 0)) (:goal (= (x) 1)))";

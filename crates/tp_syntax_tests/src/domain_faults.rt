@@ -1,10 +1,11 @@
 //! Tests of texts that are refused as domains.
 
 use crate::domains::effect_fault;
-use crate::texts::{MATCH, fault_of, refusal};
+use crate::texts::{fault_of, refusal};
 use std::alloc::{AllocError, Global};
 use std::str::from_utf8;
 use std::test::Fail;
+use tp_small_worlds::MATCH;
 use tp_syntax::{LeftOutPart, SyntaxFault};
 use tp_text::TextFault;
 

@@ -1,8 +1,9 @@
 //! Tests of domains that are read.
 
-use crate::texts::{CHARGE, MATCH, TANK, TOGGLE, fault_of};
+use crate::texts::fault_of;
 use std::alloc::{AllocError, Global};
 use std::test::Fail;
+use tp_small_worlds::{CHARGE, MATCH, TANK, TOGGLE};
 use tp_syntax::{
     Body, Cond, Domain, Expr, Joined, Signature, SyntaxFault, TypeName, Typed, read_domain,
 };

@@ -9,6 +9,7 @@ use std::marker::Brand;
 use std::sync::ledger::{Blank, Ledger};
 use std::test::Fail;
 use tp_device::{Failed, ToWrite};
+use tp_small_worlds::{MATCH, TOGGLE};
 use tp_syntax::{Domain, print_domain, read_domain};
 
 /// What printing to a writer answers.
@@ -84,19 +85,7 @@ fn sections_and_fields_stand_in_their_order(rt: HostRuntime) -> Result<(), Fail>
     assert!(rt;
         is_printed_as(
             rt.alloc(),
-            "(define (domain match)
- (:requirements :typing :durative-actions)
- (:types match fuse)
- (:predicates (light) (unused ?m - match) (mended ?f - fuse))
- (:durative-action light-match :parameters (?m - match)
-  :duration (= ?duration 8)
-  :condition (and (at start (unused ?m)))
-  :effect (and (at start (not (unused ?m))) (at start (light))
-               (at end (not (light)))))
- (:durative-action mend-fuse :parameters (?f - fuse)
-  :duration (= ?duration 5)
-  :condition (over all (light))
-  :effect (at end (mended ?f))))",
+            MATCH,
             "(define (domain match)
 (:requirements :typing :durative-actions)
 (:types match - object fuse - object)
@@ -115,13 +104,7 @@ fn a_missing_field_is_the_empty_conjunction(rt: HostRuntime) -> Result<(), Fail>
     assert!(rt;
         is_printed_as(
             rt.alloc(),
-            "(define (domain toggle)
- (:predicates (p) (q) (done))
- (:action need :parameters () :precondition (p) :effect (done))
- (:action drop :parameters () :effect (not (p)))
- (:action give :parameters () :effect (q))
- (:durative-action watch :parameters () :duration (= ?duration 5)
-  :condition (over all (or (p) (q))) :effect (at end (done))))",
+            TOGGLE,
             "(define (domain toggle)
 (:predicates (p) (q) (done))
 (:action need :parameters () :precondition (p) :effect (done))

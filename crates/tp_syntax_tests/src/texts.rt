@@ -5,45 +5,6 @@ use std::str::from_utf8;
 use std::test::Fail;
 use tp_syntax::{Domain, SyntaxFault, read_domain, read_problem};
 
-pub const MATCH: &str = "(define (domain match)
- (:requirements :typing :durative-actions)
- (:types match fuse)
- (:predicates (light) (unused ?m - match) (mended ?f - fuse))
- (:durative-action light-match :parameters (?m - match)
-  :duration (= ?duration 8)
-  :condition (and (at start (unused ?m)))
-  :effect (and (at start (not (unused ?m))) (at start (light))
-               (at end (not (light)))))
- (:durative-action mend-fuse :parameters (?f - fuse)
-  :duration (= ?duration 5)
-  :condition (over all (light))
-  :effect (at end (mended ?f))))";
-
-pub const TOGGLE: &str = "(define (domain toggle)
- (:predicates (p) (q) (done))
- (:action need :parameters () :precondition (p) :effect (done))
- (:action drop :parameters () :effect (not (p)))
- (:action give :parameters () :effect (q))
- (:durative-action watch :parameters () :duration (= ?duration 5)
-  :condition (over all (or (p) (q))) :effect (at end (done))))";
-
-pub const TANK: &str = "(define (domain tank)
- (:functions (level))
- (:action fill-a :parameters () :effect (increase (level) 1))
- (:action fill-b :parameters () :effect (increase (level) 2))
- (:durative-action hold :parameters () :duration (>= ?duration 1)
-  :condition (over all (<= (level) 3)) :effect ()))";
-
-pub const CHARGE: &str = "(define (domain charge)
- (:predicates (full))
- (:functions (e))
- (:durative-action charge :parameters ()
-  :duration (and (>= ?duration 2) (<= ?duration 6))
-  :effect (at end (increase (e) (* ?duration 2))))
- (:durative-action rest :parameters ()
-  :duration (and (>= ?duration 2) (<= ?duration 6))
-  :effect (at end (full))))";
-
 /// Fuses, matches and two numbers: the domain of the problems.
 pub const FUSES: &str = "(define (domain match)
  (:types match fuse)

@@ -1,6 +1,9 @@
-//! Changes that the tests ask of a network, each only where the network's conditions allow it.
-ghost use Rattle.std.specs.Prelude.{IsTrue};
-ghost use Rattle.tp_bounds.specs.Setting.{HasPoint, IsInRange};
+//! Changes that tests ask of a network, each only where the network's conditions allow it, and what it answers.
+#![tactic(auto)]
+
+ghost use Rattle.std.specs.Prelude.{◌↔◌, ◌<◌, IsSome, IfSome, IsTrue};
+ghost use Rattle.tp_bounds.specs.Schedule.{IsLeastMoment, IsGreatestMoment};
+ghost use Rattle.tp_bounds.specs.Setting.{HasPoint, IsInRange, event_count};
 
 use tp_bounds::{Bound, BoundId, Edge, Point};
 use tp_net::{Net, NetFault};
@@ -36,7 +39,11 @@ struct Reading {
 }
 
 /// The least and the greatest moment of an event, where there is such an event.
-pub fn window<N: Net>(net: &N, e: u16) -> Option<(u32, u32)> {
+pub fn window<N: Net>(net: &N, e: u16) -> Option<(u32, u32)>
+    ensures told { IsSome result ↔ (e < event_count (N.seen net.now)) }
+    ensures least { IfSome result (λ w. IsLeastMoment (N.seen net.now) e w.0) }
+    ensures greatest { IfSome result (λ w. IsGreatestMoment (N.seen net.now) e w.1) }
+{
     if e < net.events() {
         Some((net.low(e), net.high(e)))
     } else {
@@ -53,8 +60,9 @@ fn read<N: Net>(net: &N) -> Reading {
     }
 }
 
+/// Whether a network has a point.
 pub fn has_point<N: Net>(net: &N, point: Point) -> bool
-    ensures { IsTrue result → HasPoint (N.seen net.now) point }
+    ensures { IsTrue result ↔ HasPoint (N.seen net.now) point }
 {
     match point {
         Point::Origin => true,
@@ -62,8 +70,9 @@ pub fn has_point<N: Net>(net: &N, point: Point) -> bool
     }
 }
 
+/// Whether a bound may have that weight.
 pub fn is_in_range(weight: i64) -> bool
-    ensures { IsTrue result → IsInRange weight }
+    ensures { IsTrue result ↔ IsInRange weight }
 {
     -2_000_000_000 <= weight && weight <= 2_000_000_000
 }
