@@ -58,7 +58,9 @@ is_neat text = ends_word (marks_of Gap text)
 
 -- line 1 names the version
 abbrev pub version_of : List ℕ → Option ℕ
-version_of line = if bytes_eq line (codes "journal 1") then Some 1 else (if bytes_eq line (codes "journal 2") then Some 2 else None)
+version_of line =
+    if bytes_eq line (codes "journal 1") then Some 1
+    else (if bytes_eq line (codes "journal 2") then Some 2 else None)
 
 -- line 2: the events and the horizon
 abbrev pub network_of : List ℕ → Option (ℕ × ℕ)
@@ -90,7 +92,8 @@ is_own_from id (name ∷ i ∷ []) = false
 is_own_from id (name ∷ i ∷ f ∷ []) = false
 is_own_from id (name ∷ i ∷ f ∷ t ∷ []) = false
 is_own_from id (name ∷ i ∷ f ∷ t ∷ w ∷ []) =
-    bytes_eq name (codes "bound") && (is_number id (moment_of i) && (not (bytes_eq w (codes "-0")) && are_ends f t w))
+    bytes_eq name (codes "bound")
+    && (is_number id (moment_of i) && (not (bytes_eq w (codes "-0")) && are_ends f t w))
 is_own_from id (name ∷ i ∷ f ∷ t ∷ w ∷ v ∷ ws) = false
 
 -- the line of an own bound under that identifier. The weight 0 has no minus
@@ -119,7 +122,9 @@ has_command version Report = true
 
 -- a moment in a report, with its mark or without
 abbrev pub is_moment_word : List ℕ → Bool
-is_moment_word w = if bytes_eq (last_of w) (codes "!") then is_some (moment_of (front_of w)) else is_some (moment_of w)
+is_moment_word w =
+    if bytes_eq (last_of w) (codes "!") then is_some (moment_of (front_of w))
+    else is_some (moment_of w)
 
 abbrev pub is_edge_word : List ℕ → Bool
 is_edge_word w = is_some (edge_of w)
@@ -127,11 +132,14 @@ is_edge_word w = is_some (edge_of w)
 -- the word of a refusal without a reason, or of a line that was no command
 abbrev pub is_refusal_word : List ℕ → Bool
 is_refusal_word w =
-    bytes_eq w (codes "event") || (bytes_eq w (codes "done") || (bytes_eq w (codes "bound") || (bytes_eq w (codes "weight") || (bytes_eq w (codes "back")
-    || (bytes_eq w (codes "moment") || (bytes_eq w (codes "full") || (bytes_eq w (codes "spent") || (bytes_eq w (codes "memory") || bytes_eq w (codes "line")))))))))
+    bytes_eq w (codes "event") || (bytes_eq w (codes "done") || (bytes_eq w (codes "bound")
+    || (bytes_eq w (codes "weight") || (bytes_eq w (codes "back") || (bytes_eq w (codes "moment")
+    || (bytes_eq w (codes "full") || (bytes_eq w (codes "spent")
+    || (bytes_eq w (codes "memory") || bytes_eq w (codes "line")))))))))
 
 abbrev pub is_kind_word : List ℕ → Bool
-is_kind_word w = bytes_eq w (codes "bare") || (bytes_eq w (codes "kept") || bytes_eq w (codes "altered"))
+is_kind_word w = bytes_eq w (codes "bare")
+    || (bytes_eq w (codes "kept") || bytes_eq w (codes "altered"))
 
 -- one moment or identifier, and no more
 abbrev pub is_moment_alone : List (List ℕ) → Bool
@@ -140,7 +148,9 @@ is_moment_alone (w ∷ ws) = is_some (moment_of w) && list_is_empty ws
 
 abbrev pub is_refusal_from : List (List ℕ) → Bool
 is_refusal_from [] = false
-is_refusal_from (w ∷ ws) = if bytes_eq w (codes "conflict") then not (list_is_empty ws) && list_all is_edge_word ws else (is_refusal_word w && list_is_empty ws)
+is_refusal_from (w ∷ ws) =
+    if bytes_eq w (codes "conflict") then not (list_is_empty ws) && list_all is_edge_word ws
+    else (is_refusal_word w && list_is_empty ws)
 
 -- the kind, and then moments
 abbrev pub is_kind_and : List (List ℕ) → Bool
@@ -166,7 +176,8 @@ is_answer_from (name ∷ ws) =
 
 -- the line of an answer, whatever the machine may answer
 abbrev pub is_reply : List ℕ → Bool
-is_reply line = begins (codes "< ") line && (is_neat (drop 2 line) && is_answer_from (words_of (drop 2 line)))
+is_reply line = begins (codes "< ") line
+    && (is_neat (drop 2 line) && is_answer_from (words_of (drop 2 line)))
 
 -- ---- places
 

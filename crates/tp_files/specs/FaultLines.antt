@@ -16,7 +16,8 @@ detail_text (Name name) = codes " " ++ name.now
 
 -- the line of a fault of that part, with that number and word, and with this behind
 abbrev pub fault_line_with : List ℕ → List ℕ → List ℕ → List ℕ
-fault_line_with part words behind = ((codes "fault " ++ part) ++ (codes " " ++ words)) ++ (behind ++ codes "\n")
+fault_line_with part words behind = ((codes "fault " ++ part) ++ (codes " " ++ words))
+    ++ (behind ++ codes "\n")
 
 -- the same with nothing behind
 abbrev pub fault_line : List ℕ → List ℕ → List ℕ
@@ -28,7 +29,8 @@ placed_line part words at = fault_line_with part words (codes " " ++ decimal at)
 
 -- with a place and what stands there
 abbrev pub construct_line : List ℕ → List ℕ → ℕ → List ℕ → List ℕ
-construct_line part words at what = fault_line_with part words ((codes " " ++ decimal at) ++ (codes " " ++ what))
+construct_line part words at what =
+    fault_line_with part words ((codes " " ++ decimal at) ++ (codes " " ++ what))
 
 -- with a name
 abbrev pub named_line : List ℕ → List ℕ → List ℕ → List ℕ
@@ -66,4 +68,6 @@ pub record TellsFault (more : List ℕ) (failures : ℕ) (before : Option (List 
 abbrev pub TellsRefusal : ℕ → ℕ → Option (List ℕ) → ℕ → Option (List ℕ) → Type 0
 TellsRefusal status failures before failures-now now =
     TellsFault [] failures before failures-now now
-    ⊎ ((status ≡ 2) × ((more : List ℕ) × Tells (fault_line (codes "arguments") (codes "1 words") ++ more) failures before failures-now now))
+    ⊎ ((status ≡ 2) × ((more : List ℕ)
+    × Tells (fault_line (codes "arguments") (codes "1 words") ++ more)
+    failures before failures-now now))

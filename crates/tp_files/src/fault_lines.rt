@@ -162,7 +162,8 @@ impl<'w> FaultLine<'w> {
 
     /// Writes what stands behind them, and ends the line.
     fn write_rest<F: Sink>(&self, faults: &mut F) -> Result<(), Failed>
-        ensures bytes { Writes (F.held faults.old) (F.held faults.new) (detail_text self.now.detail ++ codes "\n") result }
+        ensures bytes { Writes (F.held faults.old) (F.held faults.new)
+            (detail_text self.now.detail ++ codes "\n") result }
         ensures cause { F.failures faults.new ≡ failures_after (F.failures faults.old) result }
     {
         self.write_detail(faults)?;
@@ -209,7 +210,8 @@ fn push_number<F: Sink>(faults: &mut F, n: u32) -> Result<(), Failed>
 
 /// Writes a place and a word, each after a space.
 fn push_construct<F: Sink>(faults: &mut F, at: u32, what: &str) -> Result<(), Failed>
-    ensures bytes { Writes (F.held faults.old) (F.held faults.new) ((codes " " ++ decimal at) ++ (codes " " ++ what.now)) result }
+    ensures bytes { Writes (F.held faults.old) (F.held faults.new)
+        ((codes " " ++ decimal at) ++ (codes " " ++ what.now)) result }
     ensures cause { F.failures faults.new ≡ failures_after (F.failures faults.old) result }
 {
     push_number(faults, at)?;

@@ -32,7 +32,8 @@ pub record Head : Type 0 where
 -- the lines of own bounds, from an identifier on
 abbrev pub own_lines : ℕ → List Bound → List (List ℕ)
 own_lines id [] = []
-own_lines id (b ∷ bs) = (codes "bound " ++ decimal id ++ codes " " ++ bound_text b) ∷ own_lines (suc id) bs
+own_lines id (b ∷ bs) = (codes "bound " ++ decimal id ++ codes " " ++ bound_text b)
+    ∷ own_lines (suc id) bs
 
 abbrev pub kind_lines : Option (List Bound) → List (List ℕ)
 kind_lines None = codes "bare" ∷ []

@@ -101,7 +101,8 @@ pub(crate) fn write_head<N: Net, V: Sink>(
 
 /// Writes the line of a question.
 fn write_question<V: Sink>(log: &mut V, command: &Command) -> Result<(), Failed>
-    ensures bytes { Writes (V.held log.old) (V.held log.new) (codes "> " ++ command_line command.now) result }
+    ensures bytes { Writes (V.held log.old) (V.held log.new)
+        (codes "> " ++ command_line command.now) result }
     ensures cause { V.failures log.new ≡ failures_after (V.failures log.old) result }
 {
     push_all(log, b"> ")?;
@@ -110,7 +111,8 @@ fn write_question<V: Sink>(log: &mut V, command: &Command) -> Result<(), Failed>
 
 /// Writes the line of a reply.
 fn write_reply<V: Sink>(log: &mut V, answer: &Answer) -> Result<(), Failed>
-    ensures bytes { Writes (V.held log.old) (V.held log.new) (codes "< " ++ line_of answer.now) result }
+    ensures bytes { Writes (V.held log.old) (V.held log.new)
+        (codes "< " ++ line_of answer.now) result }
     ensures cause { V.failures log.new ≡ failures_after (V.failures log.old) result }
 {
     push_all(log, b"< ")?;

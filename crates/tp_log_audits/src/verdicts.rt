@@ -19,7 +19,8 @@ fn write_last<O: Sink>(output: &mut O, text: &[u8]) -> Result<(), Failed>
 
 /// Writes a number and ends the line.
 fn write_number<O: Sink>(output: &mut O, n: u64) -> Result<(), Failed>
-    ensures bytes { Writes (O.held output.old) (O.held output.new) (decimal n ++ codes "\n") result }
+    ensures bytes { Writes (O.held output.old) (O.held output.new)
+        (decimal n ++ codes "\n") result }
     ensures cause { O.failures output.new ≡ failures_after (O.failures output.old) result }
 {
     write_last(output, Buffer::new().format(n).as_bytes())
@@ -27,7 +28,8 @@ fn write_number<O: Sink>(output: &mut O, n: u64) -> Result<(), Failed>
 
 /// Writes a number behind words, and ends the line.
 fn write_counted<O: Sink>(output: &mut O, words: &[u8], n: u64) -> Result<(), Failed>
-    ensures bytes { Writes (O.held output.old) (O.held output.new) (words.now ++ (decimal n ++ codes "\n")) result }
+    ensures bytes { Writes (O.held output.old) (O.held output.new)
+        (words.now ++ (decimal n ++ codes "\n")) result }
     ensures cause { O.failures output.new ≡ failures_after (O.failures output.old) result }
 {
     push_all(output, words)?;

@@ -68,7 +68,8 @@ syntax_text part (syntax_fault.Shape at) = placed_line part (codes "3 shape") at
 syntax_text part (syntax_fault.Unknown at) = placed_line part (codes "4 unknown") at
 syntax_text part (syntax_fault.Twice at) = placed_line part (codes "5 twice") at
 syntax_text part (syntax_fault.Types at) = placed_line part (codes "6 types") at
-syntax_text part (syntax_fault.LeftOut at what) = construct_line part (codes "7 left-out") at (left_out_text what)
+syntax_text part (syntax_fault.LeftOut at what) = construct_line part (codes "7 left-out") at
+    (left_out_text what)
 
 -- the file of a domain or a problem: one that is too long is a text that is
 abbrev pub source_status : FileFault → ℕ
@@ -86,7 +87,8 @@ ground_status _ = 2
 
 abbrev pub ground_text : GroundFault → List ℕ
 ground_text ground_fault.Memory = fault_line (codes "ground") (codes "1 memory")
-ground_text (ground_fault.TooMany kind) = named_line (codes "ground") (codes "2 too-many") (kind_text kind)
+ground_text (ground_fault.TooMany kind) = named_line (codes "ground") (codes "2 too-many")
+    (kind_text kind)
 ground_text ground_fault.Range = fault_line (codes "ground") (codes "3 range")
 
 abbrev pub plan_status : PlanFault → ℕ

@@ -9,7 +9,8 @@ abbrev pub why_text : Fault → List ℕ
 why_text (Condition event) = codes "condition " ++ decimal event
 why_text (Undefined event) = codes "undefined " ++ decimal event
 why_text (Clash event) = codes "clash " ++ decimal event
-why_text (Interferes event other) = codes "interferes " ++ decimal event ++ codes " " ++ decimal other
+why_text (Interferes event other) = codes "interferes " ++ decimal event ++ codes " "
+    ++ decimal other
 why_text (OverAll step) = codes "over-all " ++ decimal step
 why_text (Duration step) = codes "duration " ++ decimal step
 why_text Goal = codes "goal"

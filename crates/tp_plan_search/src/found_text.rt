@@ -15,7 +15,8 @@ use tp_validate::ValidPlan;
 
 /// Writes a number, and ends the line.
 fn write_number<W: Sink>(writer: &mut W, n: u32) -> Result<(), Failed>
-    ensures bytes { Writes (W.held writer.old) (W.held writer.new) (decimal n ++ codes "\n") result }
+    ensures bytes { Writes (W.held writer.old) (W.held writer.new)
+        (decimal n ++ codes "\n") result }
     ensures cause { W.failures writer.new ≡ failures_after (W.failures writer.old) result }
 {
     push_all(writer, Buffer::new().format(n).as_bytes())?;

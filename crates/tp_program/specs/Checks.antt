@@ -34,7 +34,8 @@ StopsLine verdict before now stop = (stop ≡ Write) × AppendsPart before now (
 abbrev pub IsVerdictLine : Task → List Step → List ℕ → Type 0
 IsVerdictLine task steps line =
     (IsValidPlan task steps × (line ≡ codes "valid\n"))
-    ⊎ ((tick : ℕ) × (why : Fault) × IsFirst task steps tick why × (¬ IsValidPlan task steps) × (line ≡ invalid_line tick why))
+    ⊎ ((tick : ℕ) × (why : Fault) × IsFirst task steps tick why × (¬ IsValidPlan task steps)
+    × (line ≡ invalid_line tick why))
 
 -- nothing was written, or a first part of the line of the verdict on the plan that the words name
 abbrev pub SaysPart : (List ℕ → Option (List ℕ)) → PlanWords → Option (List ℕ) → Option (List ℕ)

@@ -57,7 +57,9 @@ bare_app = with_rule (new_app (codes "bare")) journal_rule
 -- the files of a plan, and how its time is measured
 abbrev pub plan_app : App → App
 plan_app named =
-    let files = with_rule (with_rule (with_rule named (file_rule (codes "DOMAIN"))) (file_rule (codes "PROBLEM"))) (file_rule (codes "PLAN")) in
+    let files = with_rule
+    (with_rule (with_rule named (file_rule (codes "DOMAIN"))) (file_rule (codes "PROBLEM")))
+    (file_rule (codes "PLAN")) in
     with_rule (with_rule files scale_rule) horizon_rule
 
 abbrev pub check_app : App
@@ -73,13 +75,15 @@ run_app = with_rule (plan_app (new_app (codes "run"))) journal_rule
 -- the files of a problem, how time is measured, and the budget of a search
 abbrev pub search_app : App
 search_app =
-    let files = with_rule (with_rule (new_app (codes "plan")) (file_rule (codes "DOMAIN"))) (file_rule (codes "PROBLEM")) in
+    let files = with_rule (with_rule (new_app (codes "plan")) (file_rule (codes "DOMAIN")))
+    (file_rule (codes "PROBLEM")) in
     with_rule (with_rule (with_rule files scale_rule) horizon_rule) budget_rule
 
 -- the files of a plan, which may be left out
 abbrev pub with_others : App → App
 with_others log =
-    with_rule (with_rule (with_rule log (other_rule (codes "DOMAIN"))) (other_rule (codes "PROBLEM"))) (other_rule (codes "PLAN"))
+    with_rule (with_rule (with_rule log (other_rule (codes "DOMAIN")))
+    (other_rule (codes "PROBLEM"))) (other_rule (codes "PLAN"))
 
 -- the file of a journal, and perhaps those of the plan that was run
 abbrev pub audit_app : App

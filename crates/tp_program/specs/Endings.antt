@@ -25,7 +25,8 @@ pub record LacksMemory (status : ℕ) (held held-now : Option (List ℕ)) (outpu
   pub three : status ≡ 3
   pub kept : held-now ≡ held
   pub same : output-now ≡ output
-  pub told : Tells (fault_line (codes "arguments") (codes "2 memory")) failures before failures-now now
+  pub told : Tells (fault_line (codes "arguments") (codes "2 memory"))
+      failures before failures-now now
 
 -- the words are refused
 pub record RefusesWords (status : ℕ) (held held-now : Option (List ℕ)) (output output-now : ℕ)
@@ -35,7 +36,8 @@ pub record RefusesWords (status : ℕ) (held held-now : Option (List ℕ)) (outp
   pub kept : held-now ≡ held
   pub same : output-now ≡ output
   pub more : List ℕ
-  pub told : Tells (fault_line (codes "arguments") (codes "1 words") ++ more) failures before failures-now now
+  pub told : Tells (fault_line (codes "arguments") (codes "1 words") ++ more)
+      failures before failures-now now
 
 -- help was not written whole
 pub record StopsHelp (text : List ℕ) (status : ℕ) (held held-now : Option (List ℕ)) (failures : ℕ)

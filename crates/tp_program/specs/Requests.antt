@@ -50,7 +50,8 @@ AsksBy named Bare = NamesBare named
 AsksBy named (BareLog log) =
     (rows : List Row) × (named ≡ Some (codes "bare", rows))
     × (first_of (codes "journal") rows ≡ Some log.now)
-AsksBy named (Check w) = (rows : List Row) × (named ≡ Some (codes "check", rows)) × IsPlanWords rows w
+AsksBy named (Check w) = (rows : List Row) × (named ≡ Some (codes "check", rows))
+    × IsPlanWords rows w
 AsksBy named (Net w) = (rows : List Row) × (named ≡ Some (codes "net", rows)) × IsPlanWords rows w
 AsksBy named (Run w) =
     (rows : List Row) × (named ≡ Some (codes "run", rows))
@@ -58,7 +59,8 @@ AsksBy named (Run w) =
 AsksBy named (RunLog w log) =
     (rows : List Row) × (named ≡ Some (codes "run", rows))
     × (first_of (codes "journal") rows ≡ Some log.now) × IsPlanWords rows w
-AsksBy named (Plan w) = (rows : List Row) × (named ≡ Some (codes "plan", rows)) × IsSearchWords rows w
+AsksBy named (Plan w) = (rows : List Row) × (named ≡ Some (codes "plan", rows))
+    × IsSearchWords rows w
 AsksBy named (Audit log) =
     (rows : List Row) × (named ≡ Some (codes "audit", rows))
     × (first_of (codes "LOG") rows ≡ Some log.now) × (first_of (codes "DOMAIN") rows ≡ None)

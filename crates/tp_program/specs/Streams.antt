@@ -13,7 +13,9 @@ use Rattle.tp_program.specs.declared.requests.Request.TheVariants.{Bare}
 -- these.
 abbrev pub TellsSome : Option (List ℕ) → Option (List ℕ) → Type 0
 TellsSome before now =
-    (text : List ℕ) × (more : List ℕ) × IsFaultText text × ((more ≡ []) ⊎ (text ≡ fault_line (codes "arguments") (codes "1 words"))) × AppendsPart before now (text ++ more)
+    (text : List ℕ) × (more : List ℕ) × IsFaultText text
+    × ((more ≡ []) ⊎ (text ≡ fault_line (codes "arguments") (codes "1 words")))
+    × AppendsPart before now (text ++ more)
 
 -- What is written to the output, by the exit status. It was done what the words ask for; the answer is no; of a network of bounds all is
 -- answered, or a first part; where memory or a device is wanting, a first part of what the words ask for was done, or nothing; for all

@@ -58,7 +58,8 @@ fn number(matches: &ArgMatches<'_>, id: &str) -> Option<u32>
 
 /// The scale that `--scale` asks for, if there is such a one.
 fn scale(matches: &ArgMatches<'_>) -> Option<Scale>
-    ensures { IfSome result (λ s. Spells (one_of (codes "scale") (rows_of (found_of matches.now))) (scale_ticks s)) }
+    ensures { IfSome result
+        (λ s. Spells (one_of (codes "scale") (rows_of (found_of matches.now))) (scale_ticks s)) }
 {
     Scale::from_number(number(matches, "scale")?)
 }
@@ -108,7 +109,8 @@ fn search_words<'w>(matches: &ArgMatches<'w>) -> Option<SearchWords<'w>>
 /// What `bare` asks for: a journal too, where a file is named for it.
 fn bare_asked<'w>(matches: &ArgMatches<'w>) -> Request<'w>
     ensures asked { AsksBy (Some (codes "bare", rows_of (found_of matches.now))) result }
-    ensures bare { first_of (codes "journal") (rows_of (found_of matches.now)) ≡ None → result ≡ Request.Bare }
+    ensures bare { first_of (codes "journal") (rows_of (found_of matches.now)) ≡ None
+        → result ≡ Request.Bare }
 {
     match word(matches, "journal") {
         None => Request::Bare,
@@ -144,7 +146,8 @@ fn audit_asked<'w>(matches: &ArgMatches<'w>) -> Option<Request<'w>>
 /// What a command with its values asks for.
 fn asked_by<'w>(name: &str, matches: &ArgMatches<'w>) -> Result<Request<'w>, Refusal>
     ensures asked { IfOk result (AsksBy (Some (name.now, rows_of (found_of matches.now)))) }
-    ensures bare { name.now ≡ codes "bare" → first_of (codes "journal") (rows_of (found_of matches.now)) ≡ None
+    ensures bare { name.now ≡ codes "bare"
+        → first_of (codes "journal") (rows_of (found_of matches.now)) ≡ None
         → result ≡ Ok Request.Bare }
 {
     if name == "bare" {
@@ -237,37 +240,46 @@ pub fn bare_log_calls()
 
 /// Files and options of `check`, in the order in which they may stand, with a horizon of 1000000 where none is given.
 pub fn check_calls()
-    ensures { (w : PlanWords) → w.domain.now ≡ codes "d" → w.problem.now ≡ codes "p" → w.plan.now ≡ codes "l"
+    ensures { (w : PlanWords) → w.domain.now ≡ codes "d" → w.problem.now ≡ codes "p"
+        → w.plan.now ≡ codes "l"
         → scale_ticks w.scale ≡ 1000 → w.horizon ≡ 1000000
-        → AsksFor (codes "check" ∷ codes "d" ∷ codes "p" ∷ codes "--scale" ∷ codes "1000" ∷ codes "l" ∷ []) (Request.Check w) }
+        → AsksFor (codes "check" ∷ codes "d" ∷ codes "p" ∷ codes "--scale" ∷ codes "1000"
+        ∷ codes "l" ∷ []) (Request.Check w) }
 {}
 
 /// The same of `net`.
 pub fn net_calls()
-    ensures { (w : PlanWords) → w.domain.now ≡ codes "d" → w.problem.now ≡ codes "p" → w.plan.now ≡ codes "l"
+    ensures { (w : PlanWords) → w.domain.now ≡ codes "d" → w.problem.now ≡ codes "p"
+        → w.plan.now ≡ codes "l"
         → scale_ticks w.scale ≡ 1000 → w.horizon ≡ 1000000
-        → AsksFor (codes "net" ∷ codes "d" ∷ codes "p" ∷ codes "--scale" ∷ codes "1000" ∷ codes "l" ∷ []) (Request.Net w) }
+        → AsksFor (codes "net" ∷ codes "d" ∷ codes "p" ∷ codes "--scale" ∷ codes "1000" ∷ codes "l"
+        ∷ []) (Request.Net w) }
 {}
 
 /// The same of `run`.
 pub fn run_calls()
-    ensures { (w : PlanWords) → w.domain.now ≡ codes "d" → w.problem.now ≡ codes "p" → w.plan.now ≡ codes "l"
+    ensures { (w : PlanWords) → w.domain.now ≡ codes "d" → w.problem.now ≡ codes "p"
+        → w.plan.now ≡ codes "l"
         → scale_ticks w.scale ≡ 1000 → w.horizon ≡ 1000000
-        → AsksFor (codes "run" ∷ codes "d" ∷ codes "p" ∷ codes "--scale" ∷ codes "1000" ∷ codes "l" ∷ []) (Request.Run w) }
+        → AsksFor (codes "run" ∷ codes "d" ∷ codes "p" ∷ codes "--scale" ∷ codes "1000" ∷ codes "l"
+        ∷ []) (Request.Run w) }
 {}
 
 /// The file for a journal behind the others of `run`.
 pub fn run_log_calls()
-    ensures { (w : PlanWords) → (v : SearchWords) → w.domain.now ≡ codes "d" → w.problem.now ≡ codes "p" → w.plan.now ≡ codes "l"
+    ensures { (w : PlanWords) → (v : SearchWords) → w.domain.now ≡ codes "d"
+        → w.problem.now ≡ codes "p" → w.plan.now ≡ codes "l"
         → scale_ticks w.scale ≡ 1 → w.horizon ≡ 1000000 → v.domain.now ≡ codes "j"
-        → AsksFor (codes "run" ∷ codes "d" ∷ codes "p" ∷ codes "l" ∷ codes "--journal" ∷ codes "j" ∷ []) (Request.RunLog w v.domain) }
+        → AsksFor (codes "run" ∷ codes "d" ∷ codes "p" ∷ codes "l" ∷ codes "--journal" ∷ codes "j"
+        ∷ []) (Request.RunLog w v.domain) }
 {}
 
 /// Files and options of `plan`, with a horizon of 1000000 where none is given.
 pub fn plan_calls()
     ensures { (w : SearchWords) → w.domain.now ≡ codes "d" → w.problem.now ≡ codes "p"
         → scale_ticks w.scale ≡ 1 → w.horizon ≡ 1000000 → w.budget ≡ 7
-        → AsksFor (codes "plan" ∷ codes "d" ∷ codes "p" ∷ codes "--budget" ∷ codes "7" ∷ []) (Request.Plan w) }
+        → AsksFor (codes "plan" ∷ codes "d" ∷ codes "p" ∷ codes "--budget" ∷ codes "7"
+        ∷ []) (Request.Plan w) }
 {}
 
 /// The file of a journal behind `audit`.
@@ -278,9 +290,11 @@ pub fn audit_calls()
 
 /// The files of a plan behind that of a journal.
 pub fn plan_audit_calls()
-    ensures { (w : PlanWords) → (v : SearchWords) → w.domain.now ≡ codes "d" → w.problem.now ≡ codes "p" → w.plan.now ≡ codes "l"
+    ensures { (w : PlanWords) → (v : SearchWords) → w.domain.now ≡ codes "d"
+        → w.problem.now ≡ codes "p" → w.plan.now ≡ codes "l"
         → scale_ticks w.scale ≡ 1000 → w.horizon ≡ 1000000 → v.domain.now ≡ codes "j"
-        → AsksFor (codes "audit" ∷ codes "j" ∷ codes "d" ∷ codes "p" ∷ codes "l" ∷ codes "--scale" ∷ codes "1000" ∷ []) (Request.PlanAudit v.domain w) }
+        → AsksFor (codes "audit" ∷ codes "j" ∷ codes "d" ∷ codes "p" ∷ codes "l" ∷ codes "--scale"
+        ∷ codes "1000" ∷ []) (Request.PlanAudit v.domain w) }
 {}
 
 /// Words ask for one kind of thing at most: for one command, with one file for a journal or none, and one of a domain or none, or for
