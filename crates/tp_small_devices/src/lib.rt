@@ -145,10 +145,13 @@ impl Logs for Desk<'_> {
     ghost is_blank = { tt };
 
     fn make(&mut self, name: &str) -> Result<Note, Failed> {
-        match self.journal {
-            Some((of, room)) if of == name => Ok(Note::new(self.alloc, room)),
-            _ => Err(Failed),
+        let Some((of, room)) = self.journal else {
+            return Err(Failed);
+        };
+        if of != name {
+            return Err(Failed);
         }
+        Ok(Note::new(self.alloc, room))
     }
 
     fn keep(&mut self, log: Note) {
