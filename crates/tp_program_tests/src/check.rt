@@ -424,15 +424,15 @@ const OPENED: [Opened; 4] = [
     (None, None, b"fault file 1 read domain\n", 3, 1),
     (Some("("), None, b"fault domain 2 text 4 unclosed 0\n", 2, 1),
     (
-        Some(CHARGE.domain),
+        Some(tp_small_worlds::CHARGE),
         None,
         b"fault file 1 read problem\n",
         3,
         2,
     ),
     (
-        Some(CHARGE.domain),
-        Some(CHARGE.problem),
+        Some(tp_small_worlds::CHARGE),
+        Some(UNCHARGED),
         b"fault file 1 read plan\n",
         3,
         3,
