@@ -37,8 +37,8 @@ use Rattle.tp_journal.specs.Sound.{IsSound}
 use Rattle.tp_journal.proofs.Verdicts.{refused_step, decided_step}
 use Rattle.tp_journal.proofs.EdgeTexts.{fits_reason, edge_back, edge_word, gap_next, front_back, last_back}
 use Rattle.tp_audit.specs.declared.form.Asked.TheVariants.{Nothing, Told}
-use Rattle.tp_audit.specs.declared.form.Mark.{Mark}
-use Rattle.tp_audit.specs.declared.form.Mark.TheVariants.{Other}
+use Rattle.tp_audit.specs.declared.form.LastByte.{LastByte}
+use Rattle.tp_audit.specs.declared.form.LastByte.TheVariants.{Other}
 use Rattle.tp_audit.specs.Form.{mark_after, is_moment_word, is_edge_word, is_kind_word, is_answer_from, is_reply, has_command, one_command, question_of}
 use Rattle.tp_audit.proofs.NeatTexts.{Tidy, AllTidy, tidy_neat, tidy_join, tidy_all, tidy_number, number_behind, letter_behind}
 
@@ -72,13 +72,13 @@ window_form a b p q =
 
 -- ---- edges
 
-letter_plus : (mark : Mark) → mark_after mark 43 ≡ Some Other
+letter_plus : (mark : LastByte) → mark_after mark 43 ≡ Some Other
 letter_plus mark = refl
 
-letter_minus : (mark : Mark) → mark_after mark 45 ≡ Some Other
+letter_minus : (mark : LastByte) → mark_after mark 45 ≡ Some Other
 letter_minus mark = refl
 
-letter_bang : (mark : Mark) → mark_after mark 33 ≡ Some Other
+letter_bang : (mark : LastByte) → mark_after mark 33 ≡ Some Other
 letter_bang mark = refl
 
 edge_tidy : (e : Edge) → Fits_edge e → Tidy (edge_text e)

@@ -21,7 +21,7 @@ use Rattle.tp_script.specs.Serving as serving
 use Rattle.tp_script.specs.Written.{point_text, bound_text}
 use Rattle.tp_script.proofs.SpellLemmas.{Solid, word_then, solid_then, decimal_solid, decimal_then, decimal_digits, number_back, moment_back, event_back}
 use Rattle.tp_journal.specs.Journal.{Entry, question_line, answer_line, pair_lines, journal_lines, Runs, head_of, Head, IsHead, IsVersion, IsWritable, IsWritablePoint, IsWritableWeight, AreLags, own_lines, kind_lines, lag_line, head_lines}
-use Rattle.tp_audit.specs.declared.form.Mark.TheVariants.{Other}
+use Rattle.tp_audit.specs.declared.form.LastByte.TheVariants.{Other}
 use Rattle.tp_audit.specs.declared.form.Place.{Place}
 use Rattle.tp_audit.specs.declared.form.Place.TheVariants.{Start, Network, Kind, Own, Lag, Question}
 use Rattle.tp_audit.specs.Form.{version_of, network_of, own_count_of, own_count_from, is_own_line, are_ends, lag_of, lag_from, own_place, may_lag, lag_place, next_place, place_after, may_end}

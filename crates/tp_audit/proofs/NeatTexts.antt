@@ -5,28 +5,28 @@ use Rattle.std.specs.Option.{option_and_then}
 use Rattle.std.proofs.lemmas.Fmt.{decimal_by_steps}
 use Rattle.std.proofs.lemmas.Bool.Decides.{nat_tests}
 use Rattle.tp_script.specs.Words.{is_digit}
-use Rattle.tp_audit.specs.declared.form.Mark.{Mark}
-use Rattle.tp_audit.specs.declared.form.Mark.TheVariants.{Gap, Zero, Digit, Other}
+use Rattle.tp_audit.specs.declared.form.LastByte.{LastByte}
+use Rattle.tp_audit.specs.declared.form.LastByte.TheVariants.{Gap, Zero, Digit, Other}
 use Rattle.tp_audit.specs.Form.{digit_after, mark_after, marks_of, ends_word, is_neat}
 
 -- the text is words with one space between, and ends with one
 pub record Tidy (xs : List ℕ) : Type 0 where
-  pub mark : Mark
+  pub mark : LastByte
   pub reads : marks_of Gap xs ≡ Some mark
   pub ends : ends_word (Some mark) ≡ true
 
 pub tidy_neat : (xs : List ℕ) → Tidy xs → is_neat xs ≡ true
 tidy_neat xs t = ap ends_word t.reads ∙ t.ends
 
-pub marks_more : (mark : Mark) (xs ys : List ℕ) → marks_of mark (xs ++ ys) ≡ option_and_then (λ k. marks_of k ys) (marks_of mark xs)
+pub marks_more : (mark : LastByte) (xs ys : List ℕ) → marks_of mark (xs ++ ys) ≡ option_and_then (λ k. marks_of k ys) (marks_of mark xs)
 marks_more mark [] ys = refl
 marks_more mark (x ∷ xs) ys = by_next (mark_after mark x) (λ next. marks_more next xs ys)
   where
-    by_next : (o : Option Mark) → ((next : Mark) → marks_of next (xs ++ ys) ≡ option_and_then (λ k. marks_of k ys) (marks_of next xs)) → option_and_then (λ next. marks_of next (xs ++ ys)) o ≡ option_and_then (λ k. marks_of k ys) (option_and_then (λ next. marks_of next xs) o)
+    by_next : (o : Option LastByte) → ((next : LastByte) → marks_of next (xs ++ ys) ≡ option_and_then (λ k. marks_of k ys) (marks_of next xs)) → option_and_then (λ next. marks_of next (xs ++ ys)) o ≡ option_and_then (λ k. marks_of k ys) (option_and_then (λ next. marks_of next xs) o)
     by_next None h = refl
     by_next (Some next) h = h next
 
-space_ends : (mark : Mark) (ys : List ℕ) → ends_word (Some mark) ≡ true → marks_of mark (32 ∷ ys) ≡ marks_of Gap ys
+space_ends : (mark : LastByte) (ys : List ℕ) → ends_word (Some mark) ≡ true → marks_of mark (32 ∷ ys) ≡ marks_of Gap ys
 space_ends Gap ys h = absurd (let f : ⊥ = cc in f)
 space_ends Zero ys h = refl
 space_ends Digit ys h = refl
@@ -52,14 +52,14 @@ tidy_all f text (x ∷ xs) t all = tidy_join text (f x ++ flat_map (λ y. 32 ∷
 
 -- ---- numbers
 
-abbrev pub number_mark : ℕ → Mark
+abbrev pub number_mark : ℕ → LastByte
 number_mark n = cond (nat_eq n 0) Zero Digit
 
 ends_by : (b : Bool) → ends_word (Some (cond b Zero Digit)) ≡ true
 ends_by true = refl
 ends_by false = refl
 
-digit_mark : (mark : Mark) (d : ℕ) → d < 10 → mark_after mark (48 + d) ≡ digit_after mark (48 + d)
+digit_mark : (mark : LastByte) (d : ℕ) → d < 10 → mark_after mark (48 + d) ≡ digit_after mark (48 + d)
 digit_mark mark d lt =
     let a : nat_eq (48 + d) 32 ≡ false = grind (arith, nat_tests) in
     let b : nat_eq (48 + d) 9 ≡ false = grind (arith, nat_tests) in
@@ -84,7 +84,7 @@ one_digit n lt =
 longer : (n : ℕ) → 0 < n → number_mark n ≡ Digit
 longer n lt = let a : nat_eq n 0 ≡ false = grind (arith, nat_tests) in rw a refl
 
-digit_more : (mark : Mark) (n d : ℕ) (ds : List ℕ) → 0 < n → d < 10 → marks_of mark ds ≡ Some (number_mark n) → marks_of mark (ds ++ (48 + d) ∷ []) ≡ Some Digit
+digit_more : (mark : LastByte) (n d : ℕ) (ds : List ℕ) → 0 < n → d < 10 → marks_of mark ds ≡ Some (number_mark n) → marks_of mark (ds ++ (48 + d) ∷ []) ≡ Some Digit
 digit_more mark n d ds some lt h =
     marks_more mark ds ((48 + d) ∷ [])
     ∙ (ap (option_and_then (λ k. marks_of k ((48 + d) ∷ []))) (h ∙ ap Some (longer n some))
@@ -112,7 +112,7 @@ number_behind n xs small is =
     }
 
 -- a byte that is no digit and no blank behind a text
-pub letter_behind : (xs : List ℕ) (b : ℕ) → ((mark : Mark) → mark_after mark b ≡ Some Other) → Tidy xs → Tidy (xs ++ b ∷ [])
+pub letter_behind : (xs : List ℕ) (b : ℕ) → ((mark : LastByte) → mark_after mark b ≡ Some Other) → Tidy xs → Tidy (xs ++ b ∷ [])
 letter_behind xs b is t =
     record {
       mark = Other;

@@ -20,7 +20,7 @@ use Rattle.tp_script.specs.Commands.{command_of}
 use Rattle.tp_script.specs.Written.{command_text, IsSpelled}
 use Rattle.tp_script.proofs.ReadBack.{read_again}
 use Rattle.tp_journal.specs.Edges.{begins}
-use Rattle.tp_journal.specs.declared.judging.Verdict.TheVariants.{Right, Wrong as Wrongly}
+use Rattle.tp_journal.specs.declared.judging.Finding.TheVariants.{Right, Wrong as Wrongly}
 use Rattle.tp_journal.specs.Journal.{Entry, IsHead, IsJournalText, Has, Runs, head_of, head_lines, pair_lines, question_line, answer_line, journal_lines, text_of}
 use Rattle.tp_journal.proofs.WriteLemmas.{text_more}
 use Rattle.tp_audit.specs.declared.form.Asked.{Asked}

@@ -8,8 +8,8 @@ use Rattle.tp_script.specs.Pending.{Reading}
 use Rattle.tp_script.specs.Reading.{Free, HasMore, TakesPart}
 use Rattle.tp_journal.specs.Journal.{Entry, IsHead, head_of, head_lines, question_line, answer_line, Runs, IsJournal, IsJournalText, text_of, longest_line}
 use Rattle.tp_journal.specs.Allowed.{IsJudged}
-use Rattle.tp_journal.specs.declared.judging.Verdict.{Verdict}
-use Rattle.tp_journal.specs.declared.judging.Verdict.TheVariants.{Right, Wrong as Wrongly, Memory as Unknown}
+use Rattle.tp_journal.specs.declared.judging.Finding.{Finding}
+use Rattle.tp_journal.specs.declared.judging.Finding.TheVariants.{Right, Wrong as Wrongly, Memory as Unknown}
 use Rattle.tp_audit.specs.declared.form.Asked.{Asked}
 use Rattle.tp_audit.specs.declared.form.Asked.TheVariants.{Nothing, Told}
 use Rattle.tp_audit.specs.declared.form.Place.{Place}
@@ -273,7 +273,7 @@ Heads old start now (Err Head) = IfSome start.rest (λ bytes. HasOtherHead old b
 -- ---- pairs
 
 -- what is found of a reply to a question
-abbrev pub IsReplyJudged : Machine → Machine → Asked → List ℕ → Verdict → Type 0
+abbrev pub IsReplyJudged : Machine → Machine → Asked → List ℕ → Finding → Type 0
 IsReplyJudged old new (Told command) line verdict = IsJudged old command (drop 2 line) new verdict
 IsReplyJudged old new Nothing line Right = (new ≡ old) × (line ≡ codes "< refused line")
 IsReplyJudged old new Nothing line Wrongly = line ≢ codes "< refused line"

@@ -14,36 +14,36 @@ use Rattle.tp_audit.specs.declared.form.Asked.{Asked}
 use Rattle.tp_audit.specs.declared.form.Asked.TheVariants.{Nothing, Told}
 use Rattle.tp_audit.specs.declared.form.Place.{Place}
 use Rattle.tp_audit.specs.declared.form.Place.TheVariants.{Start, Network, Kind, Own, Lag, Question, Reply}
-use Rattle.tp_audit.specs.declared.form.Mark.{Mark}
-use Rattle.tp_audit.specs.declared.form.Mark.TheVariants.{Gap, Zero, Digit, Other}
+use Rattle.tp_audit.specs.declared.form.LastByte.{LastByte}
+use Rattle.tp_audit.specs.declared.form.LastByte.TheVariants.{Gap, Zero, Digit, Other}
 
 -- ---- one spelling of words and numbers
 
 -- what a digit is, behind what comes before it: none follows a zero with which a number begins
-abbrev pub digit_after : Mark → ℕ → Option Mark
+abbrev pub digit_after : LastByte → ℕ → Option LastByte
 digit_after Gap b = if nat_eq b 48 then Some Zero else Some Digit
 digit_after Zero b = None
 digit_after Digit b = Some Digit
 digit_after Other b = if nat_eq b 48 then Some Zero else Some Digit
 
 -- what a space is: none begins a text, and none follows a space
-abbrev pub space_after : Mark → Option Mark
+abbrev pub space_after : LastByte → Option LastByte
 space_after Gap = None
 space_after Zero = Some Gap
 space_after Digit = Some Gap
 space_after Other = Some Gap
 
-abbrev pub mark_after : Mark → ℕ → Option Mark
+abbrev pub mark_after : LastByte → ℕ → Option LastByte
 mark_after mark b =
     if nat_eq b 32 then space_after mark else (if nat_eq b 9 || nat_eq b 13 then None else
     (if is_digit b then digit_after mark b else Some Other))
 
 -- the last byte of a text, if each byte of it may follow the one before
-abbrev pub marks_of : Mark → List ℕ → Option Mark
+abbrev pub marks_of : LastByte → List ℕ → Option LastByte
 marks_of mark [] = Some mark
 marks_of mark (b ∷ bs) = option_and_then (λ next. marks_of next bs) (mark_after mark b)
 
-abbrev pub ends_word : Option Mark → Bool
+abbrev pub ends_word : Option LastByte → Bool
 ends_word None = false
 ends_word (Some Gap) = false
 ends_word (Some Zero) = true

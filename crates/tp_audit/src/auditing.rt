@@ -14,7 +14,7 @@ use crate::form::{Asked, Place, head_place, is_reply, read_question, read_versio
 use std::alloc::Global;
 use tp_device::Source;
 use tp_exec::{Executive, Kind};
-use tp_journal::{Verdict, begins_with, head_text, judge};
+use tp_journal::{Finding, begins_with, head_text, judge};
 use tp_net::Net;
 use tp_script::{LineFault, Lines, Next};
 
@@ -302,7 +302,7 @@ fn judge_reply<N: Net>(
     executive: &mut Executive<N>,
     asked: Asked,
     line: &[u8],
-) -> Verdict
+) -> Finding
     requires sound { IsSound executive.old }
     requires formed { is_reply line.now ≡ true }
     ensures judged { IsReplyJudged executive.old executive.new asked line.now result }
@@ -312,9 +312,9 @@ fn judge_reply<N: Net>(
         Asked::Told(command) => judge(alloc, executive, command, &line[2..]),
         Asked::Nothing => {
             if line == b"< refused line".as_slice() {
-                Verdict::Right
+                Finding::Right
             } else {
-                Verdict::Wrong
+                Finding::Wrong
             }
         }
     }
@@ -343,9 +343,9 @@ fn take_reply<N: Net, R: Source>(
                 return Err(AuditFault::Line(number));
             }
             match judge_reply(alloc, executive, asked, lines.line()) {
-                Verdict::Right => Ok(()),
-                Verdict::Wrong => Err(AuditFault::Wrong(number)),
-                Verdict::Memory => Err(AuditFault::Memory),
+                Finding::Right => Ok(()),
+                Finding::Wrong => Err(AuditFault::Wrong(number)),
+                Finding::Memory => Err(AuditFault::Memory),
             }
         }
     }

@@ -46,7 +46,7 @@ pub(crate) enum Place {
 
 /// What the byte before is.
 #[derive(Clone, Copy, Debug, PartialEq, Eq)]
-enum Mark {
+enum LastByte {
     /// None, or a space.
     Gap,
     /// A zero with which a number begins.
@@ -59,29 +59,29 @@ enum Mark {
 
 /// What the next byte is, if it may follow: a space follows no space and no blank is another byte,
 /// and no digit follows a zero with which a number begins.
-fn mark_after(mark: Mark, b: u8) -> Option<Mark>
+fn mark_after(mark: LastByte, b: u8) -> Option<LastByte>
     ensures { result ≡ mark_after mark b }
 {
     if b == b' ' {
         return match mark {
-            Mark::Gap => None,
-            _ => Some(Mark::Gap),
+            LastByte::Gap => None,
+            _ => Some(LastByte::Gap),
         };
     }
     if b == b'\t' || b == b'\r' {
         return None;
     }
     if b < b'0' || b'9' < b {
-        return Some(Mark::Other);
+        return Some(LastByte::Other);
     }
     match mark {
-        Mark::Zero => None,
-        Mark::Digit => Some(Mark::Digit),
+        LastByte::Zero => None,
+        LastByte::Digit => Some(LastByte::Digit),
         _ => {
             if b == b'0' {
-                Some(Mark::Zero)
+                Some(LastByte::Zero)
             } else {
-                Some(Mark::Digit)
+                Some(LastByte::Digit)
             }
         }
     }
@@ -91,14 +91,14 @@ fn mark_after(mark: Mark, b: u8) -> Option<Mark>
 fn is_neat(text: &[u8]) -> bool
     ensures { result ≡ is_neat text.now }
 {
-    let mut mark = Mark::Gap;
+    let mut mark = LastByte::Gap;
     for b in text {
         let Some(next) = mark_after(mark, *b) else {
             return false;
         };
         mark = next;
     }
-    !matches!(mark, Mark::Gap)
+    !matches!(mark, LastByte::Gap)
 }
 
 /// The version that line 1 names.

@@ -20,7 +20,7 @@ use tp_net::Net;
 
 /// What is found of an answer.
 #[derive(Clone, Copy, Debug, PartialEq, Eq)]
-pub enum Verdict {
+pub enum Finding {
     /// The machine allows it, and the executive has gone on.
     Right,
     /// The machine does not allow it.
@@ -30,13 +30,13 @@ pub enum Verdict {
 }
 
 /// The verdict by a comparison.
-fn compared(same: Result<bool, AllocError>) -> Verdict
+fn compared(same: Result<bool, AllocError>) -> Finding
     ensures { result ≡ verdict_of same }
 {
     match same {
-        Ok(true) => Verdict::Right,
-        Ok(false) => Verdict::Wrong,
-        Err(_) => Verdict::Memory,
+        Ok(true) => Finding::Right,
+        Ok(false) => Finding::Wrong,
+        Err(_) => Finding::Memory,
     }
 }
 
@@ -47,7 +47,7 @@ fn judge_refused<N: Net>(
     command: Command,
     refusal: Refusal,
     text: &[u8],
-) -> Verdict
+) -> Finding
     requires { first_refusal executive.now command ≡ Some refusal }
     ensures { IsJudged executive.now command text.now executive.now result }
 {
@@ -61,7 +61,7 @@ fn judge_reason<N: Net>(
     command: Command,
     reason: Reason,
     text: &[u8],
-) -> Verdict
+) -> Finding
     requires sound { IsSound executive.now }
     requires formed { first_refusal executive.now command ≡ None }
     requires reads { edges_of (words_of (drop 16 text.now)) ≡ Some reason.edges.items }
@@ -72,13 +72,13 @@ fn judge_reason<N: Net>(
     let _next = executive.next();
     let edges = reason.edges.as_slice();
     if !can_conflict(command) {
-        return Verdict::Wrong;
+        return Finding::Wrong;
     }
     if !begins_with_brought(command, edges) {
-        return Verdict::Wrong;
+        return Finding::Wrong;
     }
     if !is_reason(executive, command, edges) {
-        return Verdict::Wrong;
+        return Finding::Wrong;
     }
     compared(is_text_of(alloc, &Answer::Refused(Refusal::Conflict(reason)), text))
 }
@@ -89,7 +89,7 @@ fn judge_refusal<N: Net>(
     executive: &Executive<N>,
     command: Command,
     text: &[u8],
-) -> Verdict
+) -> Finding
     requires sound { IsSound executive.now }
     requires formed { first_refusal executive.now command ≡ None }
     requires refused { begins (codes "refused") text.now ≡ true }
@@ -97,20 +97,20 @@ fn judge_refusal<N: Net>(
 {
     if text == b"refused memory".as_slice() {
         return if may_grow(command) {
-            Verdict::Right
+            Finding::Right
         } else {
-            Verdict::Wrong
+            Finding::Wrong
         };
     }
     if !begins_with(text, b"refused conflict") {
-        return Verdict::Wrong;
+        return Finding::Wrong;
     }
     let _count = executive.net().events();
     let _next = executive.next();
     match read_reason(alloc, &text[16..]) {
         Ok(Some(reason)) => judge_reason(alloc, executive, command, reason, text),
-        Ok(None) => Verdict::Wrong,
-        Err(_) => Verdict::Memory,
+        Ok(None) => Finding::Wrong,
+        Err(_) => Finding::Memory,
     }
 }
 
@@ -127,7 +127,7 @@ fn judge_telling<N: Net>(
     executive: &mut Executive<N>,
     command: Command,
     text: &[u8],
-) -> Verdict
+) -> Finding
     requires sound { IsSound executive.old }
     requires formed { first_refusal executive.old command ≡ None }
     requires telling { begins (codes "refused") text.now ≡ false }
@@ -136,7 +136,7 @@ fn judge_telling<N: Net>(
 {
     let answer = perform(executive, command);
     if wants_memory(&answer) {
-        return Verdict::Memory;
+        return Finding::Memory;
     }
     compared(is_text_of(alloc, &answer, text))
 }
@@ -151,7 +151,7 @@ pub fn judge<N: Net>(
     executive: &mut Executive<N>,
     command: Command,
     text: &[u8],
-) -> Verdict
+) -> Finding
     requires { IsSound executive.old }
     ensures exact { IsJudged executive.old command text.now executive.new result }
     ensures sound { IsSound executive.new }

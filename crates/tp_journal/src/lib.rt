@@ -19,6 +19,6 @@ mod writing;
 
 pub use edges::{begins_with, read_edge};
 pub use faults::JournalFault;
-pub use judging::{Verdict, judge};
+pub use judging::{Finding, judge};
 pub use page::{head_text, is_text_of_command};
 pub use writing::journal;

@@ -6,7 +6,7 @@ ghost use Rattle.tp_journal.specs.Sound.{IsSound};
 use std::alloc::{AllocError, Global};
 use tp_bounds::Limits;
 use tp_exec::Executive;
-use tp_journal::{Verdict, judge};
+use tp_journal::{Finding, judge};
 use tp_net::ScratchNet;
 use tp_script::read_command;
 
@@ -38,9 +38,9 @@ fn judged(
             return false;
         };
         let wanted = if *right {
-            Verdict::Right
+            Finding::Right
         } else {
-            Verdict::Wrong
+            Finding::Wrong
         };
         if judge(alloc, &mut executive, command, text) != wanted {
             return false;

@@ -19,20 +19,20 @@ use tp_text::Scale;
 
 /// Why a call's words ask for nothing.
 #[derive(Drop)]
-pub enum Refusal {
+pub enum NoRequest {
     /// Out of memory.
     Memory,
     /// They are no words of a command. The text says more, where there is one.
     Words(Option<String>),
 }
 
-impl From<AllocError> for Refusal {
-    ghost use Rattle.tp_program.specs.declared.arguments.Refusal.TheVariants.{Memory};
+impl From<AllocError> for NoRequest {
+    ghost use Rattle.tp_program.specs.declared.arguments.NoRequest.TheVariants.{Memory};
 
     ghost from_gives = { λ _ e. e ≡ Memory };
 
-    fn from(_e: AllocError) -> Refusal {
-        Refusal::Memory
+    fn from(_e: AllocError) -> NoRequest {
+        NoRequest::Memory
     }
 }
 
@@ -144,7 +144,7 @@ fn audit_asked<'w>(matches: &ArgMatches<'w>) -> Option<Request<'w>>
 }
 
 /// What a command with its values asks for.
-fn asked_by<'w>(name: &str, matches: &ArgMatches<'w>) -> Result<Request<'w>, Refusal>
+fn asked_by<'w>(name: &str, matches: &ArgMatches<'w>) -> Result<Request<'w>, NoRequest>
     ensures asked { IfOk result (AsksBy (Some (name.now, rows_of (found_of matches.now)))) }
     ensures bare { name.now ≡ codes "bare"
         → first_of (codes "journal") (rows_of (found_of matches.now)) ≡ None
@@ -178,11 +178,11 @@ fn asked_by<'w>(name: &str, matches: &ArgMatches<'w>) -> Result<Request<'w>, Ref
             return Ok(request);
         }
     }
-    Err(Refusal::Words(None))
+    Err(NoRequest::Words(None))
 }
 
 /// What a parse asks for.
-fn asked<'w>(matches: &ArgMatches<'w>) -> Result<Request<'w>, Refusal>
+fn asked<'w>(matches: &ArgMatches<'w>) -> Result<Request<'w>, NoRequest>
     ensures asked { IfOk result (AsksBy (subcommand_rows_of matches.now)) }
     ensures bare { NamesBare (subcommand_rows_of matches.now) → result ≡ Ok Request.Bare }
 {
@@ -193,31 +193,31 @@ fn asked<'w>(matches: &ArgMatches<'w>) -> Result<Request<'w>, Refusal>
 }
 
 /// The text that a parse gave in place of matches.
-fn text_of<'w>(alloc: Global, error: &Error) -> Result<Request<'w>, Refusal>
+fn text_of<'w>(alloc: Global, error: &Error) -> Result<Request<'w>, NoRequest>
     ensures { IfOk result (λ r. (text : _) × (r ≡ Request.Help text)) }
 {
     Ok(Request::Help(format!(in alloc; "{error}")?))
 }
 
 /// What is left where a parse gave no matches: help or the version that was called for, or a refusal.
-fn without_matches<'w>(alloc: Global, error: &Error) -> Result<Request<'w>, Refusal>
+fn without_matches<'w>(alloc: Global, error: &Error) -> Result<Request<'w>, NoRequest>
     ensures help { IfOk result (λ r.
         ((text : _) × (r ≡ Request.Help text)) × TellsText (kind_of error.now)) }
-    ensures memory { kind_of error.now ≡ kinds.OutOfMemory → result ≡ Err Refusal.Memory }
+    ensures memory { kind_of error.now ≡ kinds.OutOfMemory → result ≡ Err NoRequest.Memory }
 {
     match error.kind() {
-        ErrorKind::OutOfMemory => Err(Refusal::Memory),
+        ErrorKind::OutOfMemory => Err(NoRequest::Memory),
         ErrorKind::DisplayHelp => text_of(alloc, error),
         ErrorKind::DisplayVersion => text_of(alloc, error),
-        _ => Err(Refusal::Words(Some(format!(in alloc; "{error}")?))),
+        _ => Err(NoRequest::Words(Some(format!(in alloc; "{error}")?))),
     }
 }
 
 /// Reads the words of a call.
-pub fn read_words<'w>(alloc: Global, words: &'w [String]) -> Result<Request<'w>, Refusal>
+pub fn read_words<'w>(alloc: Global, words: &'w [String]) -> Result<Request<'w>, NoRequest>
     ensures asked { IfOk result (AsksFor (map string_bytes words.now)) }
     ensures bare { AsksFor (map string_bytes words.now) Request.Bare
-        → (result ≡ Ok Request.Bare) ⊎ (result ≡ Err Refusal.Memory) }
+        → (result ≡ Ok Request.Bare) ⊎ (result ≡ Err NoRequest.Memory) }
 {
     let command = tempo_command(alloc)?;
     match command.try_get_matches_from(words) {

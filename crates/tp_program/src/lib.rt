@@ -28,7 +28,7 @@ mod streams;
 mod words;
 
 pub use arguments::{
-    Refusal, audit_calls, bare_calls, bare_log_calls, check_calls, net_calls, plan_audit_calls,
+    NoRequest, audit_calls, bare_calls, bare_log_calls, check_calls, net_calls, plan_audit_calls,
     plan_calls, read_words, requests_are_distinct, run_calls, run_log_calls,
 };
 pub use host::HostDesk;

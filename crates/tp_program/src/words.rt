@@ -10,7 +10,7 @@ ghost use Rattle.tp_files.specs.FaultLines.{TellsFault, TellsRefusal};
 ghost use Rattle.tp_program.specs.Endings.{EndsBare, EndsCall, RefusesWords, StopsHelp};
 ghost use Rattle.tp_program.specs.Requests.{AsksFor, AsksForNoCommands};
 
-use crate::arguments::{Refusal, read_words};
+use crate::arguments::{NoRequest, read_words};
 use crate::check::run_check;
 use crate::net::run_net;
 use crate::requests::Request;
@@ -94,8 +94,11 @@ pub fn run_words<N: Files + Logs, I: Source + Drop, O: Sink, F: Sink>(
             alloc, files, log, plan, output, faults,
         ),
         Ok(Request::Help(text)) => show(text.as_str(), output, faults),
-        Err(Refusal::Words(text)) => refuse_words(text, faults),
-        Err(Refusal::Memory) => complain(faults, FaultLine::out_of_order("arguments", "2 memory")),
+        Err(NoRequest::Words(text)) => refuse_words(text, faults),
+        Err(NoRequest::Memory) => complain(
+            faults,
+            FaultLine::out_of_order("arguments", "2 memory"),
+        ),
     }
 }
 

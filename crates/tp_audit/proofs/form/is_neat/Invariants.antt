@@ -1,5 +1,5 @@
 use Rattle.std.proofs.Common.{◌≡◌, drop}
-use Rattle.tp_audit.specs.declared.form.Mark.TheVariants.{Gap}
+use Rattle.tp_audit.specs.declared.form.LastByte.TheVariants.{Gap}
 use Rattle.tp_audit.specs.Form.{marks_of}
 use Rattle.tp_audit.proofs.form.is_neat.Given as goal
 
