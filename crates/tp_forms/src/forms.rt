@@ -5,6 +5,7 @@ use crate::own::{Own, Places, Span, part, place_in, places_of, small};
 use crate::values::{Sight, judged, value};
 use std::alloc::{AllocError, Global};
 use tp_ground::{Body, Change, Cond, Expr, GroundEvent, NumericEffect, Task};
+use tp_reach::met;
 
 /// A conjunct that is no literal, and whether it is to be true or false.
 #[derive(Clone, Copy)]
@@ -55,13 +56,21 @@ pub struct Deed<'t> {
     timed: bool,
 }
 
-/// An action by its first event, which its end follows; with its invariant where it lasts.
+/// An action by its first event, which its end follows; with its invariant where it lasts. One that can never start has
+/// no events: its first is past all.
 #[derive(Clone, Copy)]
 pub struct Action {
     pub first: u32,
     pub invariant: Option<Form>,
     pub timed: bool,
 }
+
+// What stands for an action that can never start.
+const NEVER: Action = Action {
+    first: u32::MAX,
+    invariant: None,
+    timed: false,
+};
 
 /// A task as the search reads it.
 #[derive(Drop)]
@@ -103,12 +112,34 @@ fn mark_body(atoms: &mut [bool], fluents: &mut [bool], body: &Body) {
     }
 }
 
-// The places of atoms and fluents.
-fn all_places(alloc: Global, task: &Task) -> Result<(Places, Places), AllocError> {
+fn first_event(body: &Body) -> &GroundEvent {
+    match body {
+        Body::Instant(only) => only,
+        Body::Durative(start, _, _) => start,
+    }
+}
+
+// Which actions can start, as far as the relaxed reach tells.
+fn startable(alloc: Global, task: &Task, reach: &[bool]) -> Result<Vec<bool>, AllocError> {
+    let mut startable = Vec::with_capacity(alloc, task.actions.len())?;
+    for body in &task.actions {
+        startable.push(met(reach, true, &first_event(body).condition))?;
+    }
+    Ok(startable)
+}
+
+// The places of atoms and fluents; what only actions that can never start change, stays.
+fn all_places(
+    alloc: Global,
+    task: &Task,
+    startable: &[bool],
+) -> Result<(Places, Places), AllocError> {
     let mut atoms = Vec::from_elem(alloc, false, task.initial_atoms.len())?;
     let mut fluents = Vec::from_elem(alloc, false, task.initial_numbers.len())?;
-    for body in &task.actions {
-        mark_body(atoms.as_mut_slice(), fluents.as_mut_slice(), body);
+    for (body, starts) in task.actions.iter().zip(startable) {
+        if *starts {
+            mark_body(atoms.as_mut_slice(), fluents.as_mut_slice(), body);
+        }
     }
     let atoms = places_of(alloc, &atoms)?;
     let fluents = places_of(alloc, &fluents)?;
@@ -180,9 +211,11 @@ fn mixes(alloc: Global, writes: &[NumericEffect]) -> Result<bool, AllocError> {
 }
 
 impl<'t> Forms<'t> {
-    /// The lists of a task. They take the time and memory of all conditions and effects.
-    pub fn new(alloc: Global, task: &'t Task) -> Result<Self, AllocError> {
-        let (atoms, fluents) = all_places(alloc, task)?;
+    /// The lists of a task whose relaxed reach is `reach`. They take the time and memory of all conditions and effects
+    /// of the actions that can start in it.
+    pub fn new(alloc: Global, task: &'t Task, reach: &[bool]) -> Result<Self, AllocError> {
+        let startable = startable(alloc, task, reach)?;
+        let (atoms, fluents) = all_places(alloc, task, &startable)?;
         let mut forms = Forms {
             atoms,
             fluents,
@@ -192,15 +225,26 @@ impl<'t> Forms<'t> {
             actions: Vec::new(alloc),
             conjuncts: Vec::new(alloc),
         };
-        forms.add_task(alloc, task)?;
+        forms.add_actions(alloc, task, &startable)?;
+        forms.add_goal(&task.goal)?;
         Ok(forms)
     }
 
-    fn add_task(&mut self, alloc: Global, task: &'t Task) -> Result<(), AllocError> {
-        for body in &task.actions {
-            self.add_body(alloc, body)?;
+    fn add_actions(
+        &mut self,
+        alloc: Global,
+        task: &'t Task,
+        startable: &[bool],
+    ) -> Result<(), AllocError> {
+        self.actions.reserve(task.actions.len())?;
+        for (body, starts) in task.actions.iter().zip(startable) {
+            if *starts {
+                self.add_body(alloc, body)?;
+            } else {
+                self.actions.push(NEVER)?;
+            }
         }
-        self.add_goal(&task.goal)
+        Ok(())
     }
 
     fn add_goal(&mut self, goal: &'t Cond) -> Result<(), AllocError> {

@@ -5,30 +5,32 @@ use crate::store::{Running, Start};
 use std::alloc::{AllocError, Global};
 use tp_forms::{Deed, Marks, Own, SeekFault, carry_out};
 
-/// The node at hand: the steps that run past its tick, the events of its tick, which conjuncts its state meets, and the
-/// state's number once it is kept.
+/// The node at hand: the steps that run past its tick, the events of its tick, which conjuncts its state meets, as far as
+/// they were looked at, how many it lacks, and the state's number once it is kept.
 #[derive(Drop)]
 pub struct Current {
     pub running: Vec<Running>,
     pub events: Vec<u32>,
     pub chain: Vec<Start>,
-    pub met: Vec<bool>,
+    pub met: Vec<Option<bool>>,
     pub lacking: usize,
     pub values: Vec<Option<i64>>,
     pub state: Option<u32>,
 }
 
 impl Current {
-    pub fn new(alloc: Global) -> Self {
-        Current {
+    // For states of so many conjuncts.
+    pub fn new(alloc: Global, conjuncts: usize) -> Result<Self, AllocError> {
+        let met = Vec::from_elem(alloc, None, conjuncts)?;
+        Ok(Current {
             running: Vec::new(alloc),
             events: Vec::new(alloc),
             chain: Vec::new(alloc),
-            met: Vec::new(alloc),
+            met,
             lacking: 0,
             values: Vec::new(alloc),
             state: None,
-        }
+        })
     }
 
     // Ends that are due happen; the other steps go on.
@@ -93,22 +95,46 @@ impl Current {
         Ok(())
     }
 
-    // Which conjuncts the state at hand meets.
-    pub fn judge(&mut self, known: &Known<'_>, own: &Own) -> Result<(), SeekFault> {
-        self.met.clear();
-        self.lacking = 0;
-        for form in &known.forms.conjuncts {
-            let met = known.forms.holds(own, *form)?;
-            push_copy(&mut self.met, met)?;
-            if !met {
-                self.lacking = self.lacking.saturating_add(1);
+    // A state at hand that lacks so many conjuncts, of which none was looked at.
+    pub fn lack(&mut self, lacking: usize) {
+        for met in &mut self.met {
+            *met = None;
+        }
+        self.lacking = lacking;
+    }
+
+    // Looks at those of some conjuncts that were not looked at in the state at hand.
+    fn look_at(
+        &mut self,
+        known: &Known<'_>,
+        own: &Own,
+        conjuncts: &[u32],
+    ) -> Result<(), SeekFault> {
+        for conjunct in conjuncts {
+            self.look_at_one(known, own, *conjunct)?;
+        }
+        Ok(())
+    }
+
+    fn look_at_one(
+        &mut self,
+        known: &Known<'_>,
+        own: &Own,
+        conjunct: u32,
+    ) -> Result<(), SeekFault> {
+        if let Some(met) = self.met.get_mut(conjunct as usize) {
+            if met.is_none() {
+                *met = Some(known.conjunct_holds(own, conjunct)?);
             }
         }
         Ok(())
     }
 
     fn is_met(&self, conjunct: u32) -> bool {
-        self.met.get(conjunct as usize).copied().unwrap_or(true)
+        match self.met.get(conjunct as usize).copied() {
+            Some(Some(met)) => met,
+            _ => true,
+        }
     }
 
     // How many conjuncts are lacking once these may have changed.
@@ -143,6 +169,7 @@ impl Current {
         if changed.is_empty() && deed.event.writes.is_empty() {
             return Ok(self.lacking);
         }
+        self.look_at(known, own, changed)?;
         let units = known.units(start.duration);
         carry_out(&known.forms, own, deed, units, &mut self.values)?;
         let lacking = self.lacking_after(known, own, changed)?;
@@ -207,7 +234,7 @@ pub fn lacking_with(
     let Some(deed) = known.first_of(start.action) else {
         return Ok(None);
     };
-    if marks.interferes(&known.forms, deed) {
+    if !current.events.is_empty() && marks.interferes(&known.forms, deed) {
         return Ok(None);
     }
     let lacking = current.lacking_with(known, own, deed, start)?;

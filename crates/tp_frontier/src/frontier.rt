@@ -23,6 +23,7 @@ pub struct Frontier<'t> {
     marks: Marks,
     own: Own,
     current: Current,
+    taken: Option<(u32, usize)>,
 }
 
 impl<'t> Model for Frontier<'t> {
@@ -68,9 +69,9 @@ impl<'t> Frontier<'t> {
         reach: &[bool],
         horizon: u32,
     ) -> Result<Self, SeekFault> {
-        let forms = Forms::new(alloc, task)?;
+        let forms = Forms::new(alloc, task, reach)?;
         let own = Own::initial(alloc, task, &forms.atoms, &forms.fluents)?;
-        let known = Known::new(alloc, task, forms, &own, reach, horizon)?;
+        let known = Known::new(alloc, task, forms, &own, horizon)?;
         Frontier::from_known(alloc, known, own)
     }
 
@@ -79,6 +80,7 @@ impl<'t> Frontier<'t> {
         let marks = Marks::new(alloc, forms.atoms.places.len(), forms.fluents.places.len())?;
         let queues = Queues::new(alloc, forms.conjuncts.len())?;
         let store = Store::new(alloc, known.width(), forms.fluents.moving)?;
+        let current = Current::new(alloc, forms.conjuncts.len())?;
         let mut frontier = Frontier {
             alloc,
             known,
@@ -86,7 +88,8 @@ impl<'t> Frontier<'t> {
             queues,
             marks,
             own,
-            current: Current::new(alloc),
+            current,
+            taken: None,
         };
         frontier.make_root()?;
         Ok(frontier)
@@ -114,7 +117,8 @@ impl<'t> Frontier<'t> {
         ensures { MatchOption result (AreEmpty self.old × (self.new ≡ self.old))
             (λ t. IsTaken self.old t.0 t.1 self.new) }
     {
-        self.queues.take()
+        self.taken = self.queues.take();
+        self.taken
     }
 
     /// Whether no step of a node runs past its tick. With no conjunct lacking it is a plan then.
@@ -191,6 +195,14 @@ impl<'t> Frontier<'t> {
         Some((next_start(starts, node.choice), end))
     }
 
+    // How many conjuncts the state at hand, a node's own, lacks; known of the node taken last.
+    fn lacking_at(&self, number: u32) -> Result<usize, SeekFault> {
+        match self.taken {
+            Some((node, lacking)) if node == number => Ok(lacking),
+            _ => self.known.lacking(&self.own),
+        }
+    }
+
     // The children that choose one more start at the node's tick.
     #[tactic(auto, using(crate::proofs::Waiting::goes_on_same, crate::proofs::Waiting::goes_on_further))]
     fn make_starts(&mut self, number: u32, node: Node) -> Result<(), SeekFault>
@@ -202,7 +214,8 @@ impl<'t> Frontier<'t> {
         if u32::from(node.steps) >= MOST_STEPS || first >= end {
             return Ok(());
         }
-        self.current.judge(&self.known, &self.own)?;
+        let lacking = self.lacking_at(number)?;
+        self.current.lack(lacking);
         mark_events(&self.known, &mut self.marks, &self.current.events, true);
         for start in first..end {
             self.make_start(number, node, start)?;

@@ -24,8 +24,8 @@ impl<'t> Known<'t> {
         self.forms.deeds.get(number as usize)
     }
 
-    pub fn action(&self, number: u32) -> Option<Action> {
-        self.forms.actions.get(number as usize).copied()
+    pub fn action(&self, number: u32) -> Option<&Action> {
+        self.forms.actions.get(number as usize)
     }
 
     pub fn first_of(&self, action: u32) -> Option<&Deed<'t>> {
@@ -55,7 +55,7 @@ impl<'t> Known<'t> {
     fn duration_of(
         &self,
         own: &Own,
-        action: Action,
+        action: &Action,
         deed: &Deed<'_>,
     ) -> Result<Option<u32>, SeekFault> {
         if action.invariant.is_some() {
@@ -66,7 +66,7 @@ impl<'t> Known<'t> {
     }
 
     // The duration with which an action can start at a tick, in the state before that tick's happening.
-    fn start_of(&self, own: &Own, action: Action, tick: u32) -> Result<Option<u32>, SeekFault> {
+    fn start_of(&self, own: &Own, action: &Action, tick: u32) -> Result<Option<u32>, SeekFault> {
         let Some(deed) = self.deed(action.first) else {
             return Ok(None);
         };
@@ -196,10 +196,9 @@ impl<'t> Known<'t> {
         task: &'t Task,
         forms: Forms<'t>,
         own: &Own,
-        reach: &[bool],
         horizon: u32,
     ) -> Result<Self, AllocError> {
-        let waiting = waiting_for(alloc, &forms, own, reach)?;
+        let waiting = waiting_for(alloc, &forms, own)?;
         let touched = touched(alloc, &forms)?;
         Ok(Known {
             scale: task.scale,
