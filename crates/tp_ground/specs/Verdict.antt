@@ -63,11 +63,11 @@ fault_at scale initial plan m =
     fault_or Duration (position_from
     (λ (p : Planned). (p.moment == m) && is_unlawful scale before p.duration p.body) 0 plan)
     (fault_or Undefined (position_from (λ (e : Placed). (e.moment == m)
-        && not (is_defined scale before e.timed)) 0 (events plan))
+    && not (is_defined scale before e.timed)) 0 (events plan))
     (fault_or Condition (position_from (λ (e : Placed). (e.moment == m)
-        && not (holds before e.timed.event.condition)) 0 (events plan))
+    && not (holds before e.timed.event.condition)) 0 (events plan))
     (fault_or Clash (position_from (λ (e : Placed). (e.moment == m)
-        && mixes e.timed.event) 0 (events plan))
+    && mixes e.timed.event) 0 (events plan))
     (fault_or (λ (p : ℕ × ℕ). Interferes p.0 p.1) (first_pair m 0 (events plan))
     (fault_or OverAll (position_from (λ (p : Planned). is_broken after m p p.body) 0 plan) None)))))
 

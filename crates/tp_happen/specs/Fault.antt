@@ -40,7 +40,7 @@ abbrev pub fault_of : ℕ → spec.State → List Timed → Option (ℕ × Why)
 fault_of scale s ts =
     or_fault (named Undefined (position_from (λ t. not (is_defined scale s t)) 0 ts))
     (or_fault (named Condition
-        (position_from (λ (t : Timed). not (spec.holds s t.event.condition)) 0 ts))
+    (position_from (λ (t : Timed). not (spec.holds s t.event.condition)) 0 ts))
     (or_fault (named Clash (position_from (λ (t : Timed). mixes t.event) 0 ts))
     (named_pair (first_pair 0 ts))))
 

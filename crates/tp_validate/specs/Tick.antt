@@ -24,9 +24,9 @@ of_events scale s m es rest =
     fault_or fault.Undefined
     (position_from (λ (e : Placed). (e.moment == m) && not (is_defined scale s e.timed)) 0 es)
     (fault_or fault.Condition (position_from (λ (e : Placed). (e.moment == m)
-        && not (holds s e.timed.event.condition)) 0 es)
+    && not (holds s e.timed.event.condition)) 0 es)
     (fault_or fault.Clash (position_from (λ (e : Placed). (e.moment == m)
-        && mixes e.timed.event) 0 es)
+    && mixes e.timed.event) 0 es)
     (fault_or (λ (p : ℕ × ℕ). fault.Interferes p.0 p.1) (first_pair m 0 es) rest)))
 
 -- the fault at a moment, from the state before it and the events there
@@ -36,7 +36,7 @@ fault_from scale s m ps es =
     (λ (p : Planned). (p.moment == m) && is_unlawful scale s p.duration p.body) 0 ps)
     (of_events scale s m es
     (fault_or fault.OverAll
-        (position_from (λ (p : Planned). is_broken (after_of scale s (at m es)) m p p.body) 0 ps) None))
+    (position_from (λ (p : Planned). is_broken (after_of scale s (at m es)) m p p.body) 0 ps) None))
 
 -- the expressions of an invariant that runs past a moment are small after it
 abbrev pub invariant_small : State → ℕ → Planned → Body → Bool
