@@ -273,6 +273,7 @@ def checks(program):
     at_once(program)
     judged(program, "59,319 ground actions of three objects, one step", TRIPLES, triples_problem(39), "0: (a o0 o1 o2)\n")
     judged(program, "59,000 ground actions with two 'exists' over four objects each", YARD, yard_problem(), "0: (drive t0 p0) [5]\n")
+    judged(program, "62,500 ground actions over objects whose names end alike", *alike(), "")
     long_problem = "(define (problem q) (:domain long) (:init (q0)) (:goal (q0)))"
     judged(program, "a domain of a megabyte, no step", long_domain(1_048_576), long_problem, "")
 
@@ -280,6 +281,12 @@ def checks(program):
 def each(form, count):
     """So many texts with a number in the place of #, one after another."""
     return " ".join(form.replace("#", str(k)) for k in range(count))
+
+
+def alike():
+    """Actions over objects whose names all end alike, so that no place of a name found before is a good guess."""
+    domain = "(define (domain d) (:predicates (p ?a ?b)) (:action a :parameters (?x ?y) :precondition (p ?x ?y) :effect (p ?y ?x)))"
+    return domain, f"(define (problem q) (:domain d) (:objects {each('o#_same', 250)}) (:init) (:goal ()))"
 
 
 def asking(declared, atoms):
@@ -399,10 +406,29 @@ def lamps(count):
     return domain, f"(define (problem q) (:domain lamps) (:objects {names}) (:init) (:goal (and (lit l0) (not (lit l0)))))"
 
 
+RING = """(define (domain ring) (:predicates (lit ?l) (next ?a ?b))
+(:action pass :parameters (?a ?b) :precondition (and (next ?a ?b) (lit ?a) (not (lit ?b))) :effect (and (not (lit ?a)) (lit ?b))))"""
+
+
+def ring(count):
+    """Lamps in a ring, of which one is lit and another is to be lit. Of all pairs only the neighbours can ever act."""
+    following = " ".join(f"(next l{k} l{(k + 1) % count})" for k in range(count))
+    return RING, f"(define (problem q) (:domain ring) (:objects {each('l#', count)}) (:init (lit l0) {following}) (:goal (lit l{count // 2})))"
+
+
+def many_goals(count):
+    """Lamps that are all to be lit and one that is not to be, too, so that no state meets the goal of so many conjuncts."""
+    domain, _ = lamps(0)
+    goal = f"{each('(lit l#)', count)} (not (lit l0))"
+    return domain, f"(define (problem q) (:domain lamps) (:objects {each('l#', count)}) (:init) (:goal (and {goal})))"
+
+
 def searches(program):
     judged(program, "a plan of one visit, 4,000 atoms, 8,000 actions", PLACES, places_problem(), None, "plan")
     judged(program, "40 lamps, no plan, a budget of 1,000,000", *lamps(40), None, "plan", ("--budget", "1000000"))
     judged(program, "12 lamps, no plan, until no node is left", *lamps(12), None, "plan", ("--budget", "1000000"))
+    judged(program, "a ring of 250 lamps: 62,500 actions, 250 of which can start", *ring(250), None, "plan", ("--budget", "1000"))
+    judged(program, "a goal of 5,001 conjuncts, a budget of 300", *many_goals(5000), None, "plan", ("--budget", "300"))
 
 
 def once(words, source, sink):

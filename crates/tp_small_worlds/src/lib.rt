@@ -63,5 +63,5 @@ pub const UNCHARGED: &str = "(define (problem p) (:domain charge)
 pub const LINE: &str = "(define (domain line) (:functions (x))
  (:action set :parameters () :effect (assign (x) 1)))";
 
-/// It is not set.
+/// It begins as 0 and is to be 1.
 pub const UNSET: &str = "(define (problem p) (:domain line) (:init (= (x) 0)) (:goal (= (x) 1)))";
