@@ -9,8 +9,8 @@ use Rattle.tp_ast.specs.Words.{head_of, comparison}
 use Rattle.tp_ast.specs.Expressions.{Expression, expressions_of}
 use Rattle.tp_ast.specs.TypedLists.{parameters_at}
 use Rattle.tp_ast.specs.declared.words.Comparison.{Comparison}
-use Rattle.tp_ast.specs.declared.words.Kind.{Kind}
-use Rattle.tp_ast.specs.declared.words.Kind.TheVariants.{Joined, Bound, Simple}
+use Rattle.tp_ast.specs.declared.words.CondKind.{CondKind}
+use Rattle.tp_ast.specs.declared.words.CondKind.TheVariants.{Joined, Bound, Simple}
 use Rattle.tp_ast.specs.declared.words.Head.{Head}
 use Rattle.tp_ast.specs.declared.words.Head.TheVariants.{And, Or, Not, Imply, Forall, Exists, Equal, Less, AtMost, AtLeast, More, Other}
 
@@ -35,7 +35,7 @@ conditions [] = no_conditions
 conditions (c ∷ cs) = condition c (conditions cs)
 
 -- what stands after the word: conditions, variables and a condition, or neither
-abbrev pub kind_of : Head → Kind
+abbrev pub kind_of : Head → CondKind
 kind_of And = Joined
 kind_of Or = Joined
 kind_of Not = Joined

@@ -48,16 +48,16 @@ mentioned known (p ∷ ps) =
 abbrev pub with_mentioned : List Parent → List Parent
 with_mentioned ps = ps ++ mentioned (object ∷ map (λ p. p.name) ps) ps
 
--- each is below 'object': there is no circle
-abbrev pub no_circle : List Parent → Bool
-no_circle ps = list_all (λ p. at_or_below ps (length ps) p.name object) ps
+-- each is below 'object': there is no cycle
+abbrev pub no_cycle : List Parent → Bool
+no_cycle ps = list_all (λ p. at_or_below ps (length ps) p.name object) ps
 
 -- 'object' may be listed, below nothing else
 abbrev pub types_from : List Parent → Option (List Parent)
 types_from ps =
     let types = with_mentioned (filter (λ p. not (is_object p)) ps) in
     provided (not (has_twice (map (λ p. p.name) ps)) && (list_all
-    (λ p. not (is_object p) || bytes_eq p.parent object) ps && no_circle types)) types
+    (λ p. not (is_object p) || bytes_eq p.parent object) ps && no_cycle types)) types
 
 unfoldable pub types_in : Shapes → Option (List Parent)
 types_in ss = typed_list Names ss >>= λ ds. types_from (map type_below ds)

@@ -2,7 +2,7 @@
 use Rattle.std.specs.Prelude.{ℕ, List, [], ◌∷◌, Bool, true, false, codes, Option, Some, None, option_map}
 use Rattle.tp_text.specs.Shapes.{Shape, leaf, node, Shapes, no_shapes, shape}
 use Rattle.tp_ast.specs.Gives.{◌>>=◌, provided}
-use Rattle.tp_ast.specs.Words.{is_word, change_of, mark_of, head_of, rule_form_of, duration_comparison}
+use Rattle.tp_ast.specs.Words.{is_word, effect_word_of, specifier_of, head_of, rule_form_of, duration_comparison}
 use Rattle.tp_ast.specs.Lists.{only, both}
 use Rattle.tp_ast.specs.Terms.{Fact}
 use Rattle.tp_ast.specs.Symbols.{Declared, Form, Symbols, atom_in}
@@ -12,16 +12,16 @@ use Rattle.tp_ast.specs.Parts.{Joined, joined_of}
 use Rattle.tp_ast.specs.declared.words.Comparison.{Comparison}
 use Rattle.tp_ast.specs.declared.words.Writing.{Writing}
 use Rattle.tp_ast.specs.declared.words.Writing.TheVariants as writings
-use Rattle.tp_ast.specs.declared.words.Mark.{Mark}
-use Rattle.tp_ast.specs.declared.words.Mark.TheVariants.{AtStart, OverAll, AtEnd}
+use Rattle.tp_ast.specs.declared.words.TimeSpecifier.{TimeSpecifier}
+use Rattle.tp_ast.specs.declared.words.TimeSpecifier.TheVariants.{AtStart, OverAll, AtEnd}
 use Rattle.tp_ast.specs.declared.words.RuleForm.TheVariants.{And, At, Limit}
-use Rattle.tp_ast.specs.declared.words.Change.{Change}
-use Rattle.tp_ast.specs.declared.words.Change.TheVariants.{Not, Assign, Increase, Decrease, ScaleUp, ScaleDown, When, Other}
+use Rattle.tp_ast.specs.declared.words.EffectWord.{EffectWord}
+use Rattle.tp_ast.specs.declared.words.EffectWord.TheVariants.{Not, Assign, Increase, Decrease, ScaleUp, ScaleDown, When, Other}
 
-pub data Outcome : Type 0 where
-  adds : Fact → Outcome
-  deletes : Fact → Outcome
-  writes : Writing → Fact → Expression → Outcome
+pub data SimpleEffect : Type 0 where
+  adds : Fact → SimpleEffect
+  deletes : Fact → SimpleEffect
+  writes : Writing → Fact → Expression → SimpleEffect
 
 -- (NAME TERM ..) as a tree
 unfoldable pub atom_at : Symbols → List Form → List Declared → Shape → Option Fact
@@ -31,17 +31,17 @@ atom_at σ forms scope (node (shape (node ss) rest)) = None
 atom_at σ forms scope (node (shape (leaf w) rest)) = atom_in σ forms scope w rest
 
 -- (not ATOM)
-unfoldable pub deleted : Symbols → List Declared → Shapes → Option Outcome
+unfoldable pub deleted : Symbols → List Declared → Shapes → Option SimpleEffect
 deleted σ scope rest = only rest >>= λ s. option_map deletes (atom_at σ σ.predicates scope s)
 
 -- (OP F X)
-unfoldable pub written : Symbols → Terms → Writing → Shapes → Option Outcome
+unfoldable pub written : Symbols → Terms → Writing → Shapes → Option SimpleEffect
 written σ may op rest =
     both rest >>= λ p.
     atom_at σ σ.functions may.scope p.0 >>= λ a. option_map (writes op a) (expression_of σ may p.1)
 
 -- what stands behind the word
-unfoldable pub changed : Change → Symbols → Bool → List Declared → List ℕ → Shapes → Option Outcome
+unfoldable pub changed : EffectWord → Symbols → Bool → List Declared → List ℕ → Shapes → Option SimpleEffect
 changed Other σ duration scope w rest = option_map adds (atom_in σ σ.predicates scope w rest)
 changed Not σ duration scope w rest = deleted σ scope rest
 changed Assign σ duration scope w rest = written σ (terms_for scope duration) writings.Assign rest
@@ -53,48 +53,48 @@ changed ScaleUp σ duration scope w rest = written σ (terms_for scope duration)
 changed ScaleDown σ duration scope w rest = None
 changed When σ duration scope w rest = None
 
-unfoldable pub outcome_of : Symbols → Bool → List Declared → List ℕ → Shapes → Option Outcome
-outcome_of σ duration scope w rest = changed (change_of w) σ duration scope w rest
+unfoldable pub simple_effect_of : Symbols → Bool → List Declared → List ℕ → Shapes → Option SimpleEffect
+simple_effect_of σ duration scope w rest = changed (effect_word_of w) σ duration scope w rest
 
 abbrev pub Effect : Type 0
-Effect = Joined Outcome
+Effect = Joined SimpleEffect
 
 -- E, in which '?duration' may stand or not
 abbrev pub effect_of : Symbols → Bool → List Declared → Shape → Option Effect
-effect_of σ duration scope s = joined_of σ.types (outcome_of σ duration) scope s
+effect_of σ duration scope s = joined_of σ.types (simple_effect_of σ duration) scope s
 
 -- what stands at its moments
 pub record Timed (A : Type 0) : Type 0 where
-  pub mark : Mark
+  pub specifier : TimeSpecifier
   pub what : A
 
 -- the word after 'at' or 'over'
-unfoldable pub mark_at : List ℕ → Shape → Option Mark
-mark_at w (leaf v) = mark_of w v
-mark_at w (node ss) = None
+unfoldable pub specifier_at : List ℕ → Shape → Option TimeSpecifier
+specifier_at w (leaf v) = specifier_of w v
+specifier_at w (node ss) = None
 
-unfoldable pub marked_tree : List ℕ → Shapes → Option (Mark × Shape)
-marked_tree w rest = both rest >>= λ p. option_map (λ m. (m, p.1)) (mark_at w p.0)
+unfoldable pub specified_tree : List ℕ → Shapes → Option (TimeSpecifier × Shape)
+specified_tree w rest = both rest >>= λ p. option_map (λ m. (m, p.1)) (specifier_at w p.0)
 
-unfoldable pub marked :
-    {A : Type 0} → (Mark → Shape → Option A) → List ℕ → Shapes → Option (Timed A)
-marked read w rest =
-    marked_tree w rest >>= λ p. option_map (λ x. record { mark = p.0; what = x }) (read p.0 p.1)
+unfoldable pub specified :
+    {A : Type 0} → (TimeSpecifier → Shape → Option A) → List ℕ → Shapes → Option (Timed A)
+specified read w rest =
+    specified_tree w rest >>= λ p. option_map (λ x. record { specifier = p.0; what = x }) (read p.0 p.1)
 
 -- TC
 abbrev pub timed_condition_of : Symbols → List Declared → Shape → Option (Joined (Timed Condition))
 timed_condition_of σ scope s =
-    joined_of σ.types (λ within. marked (λ m. condition_of σ within)) scope s
+    joined_of σ.types (λ within. specified (λ m. condition_of σ within)) scope s
 
 -- an effect has a start and an end alone
-abbrev pub effect_at : Symbols → List Declared → Mark → Shape → Option Effect
+abbrev pub effect_at : Symbols → List Declared → TimeSpecifier → Shape → Option Effect
 effect_at σ scope OverAll s = None
 effect_at σ scope AtStart s = effect_of σ true scope s
 effect_at σ scope AtEnd s = effect_of σ true scope s
 
 -- TE
 abbrev pub timed_effect_of : Symbols → List Declared → Shape → Option (Joined (Timed Effect))
-timed_effect_of σ scope s = joined_of σ.types (λ within. marked (effect_at σ within)) scope s
+timed_effect_of σ scope s = joined_of σ.types (λ within. specified (effect_at σ within)) scope s
 
 mutual
   pub data Rule : Type 0 where

@@ -4,11 +4,11 @@ use Rattle.std.specs.Char.{to_ascii_lowercase}
 use Rattle.std.specs.Str.{bytes_eq}
 use Rattle.tp_ast.specs.declared.words.Head as heads
 use Rattle.tp_ast.specs.declared.words.Operator as operators
-use Rattle.tp_ast.specs.declared.words.Change as changes
+use Rattle.tp_ast.specs.declared.words.EffectWord as effect_words
 use Rattle.tp_ast.specs.declared.words.Joint as joints
 use Rattle.tp_ast.specs.declared.words.RuleForm as rule_forms
 use Rattle.tp_ast.specs.declared.words.Comparison as comparisons
-use Rattle.tp_ast.specs.declared.words.Mark as marks
+use Rattle.tp_ast.specs.declared.words.TimeSpecifier as specifiers
 use Rattle.tp_ast.specs.declared.words.Key as keys
 use Rattle.tp_ast.specs.declared.words.Section as sections
 use Rattle.tp_ast.specs.declared.words.ProblemSection as problem_sections
@@ -47,16 +47,16 @@ operator_of w =
     else (if is_word (codes "/") w then operators.TheVariants.Divide
     else operators.TheVariants.Other)))
 
-unfoldable pub change_of : List ℕ → changes.Change
-change_of w =
-    if is_word (codes "not") w then changes.TheVariants.Not
-    else (if is_word (codes "assign") w then changes.TheVariants.Assign
-    else (if is_word (codes "increase") w then changes.TheVariants.Increase
-    else (if is_word (codes "decrease") w then changes.TheVariants.Decrease
-    else (if is_word (codes "scale-up") w then changes.TheVariants.ScaleUp
-    else (if is_word (codes "scale-down") w then changes.TheVariants.ScaleDown
-    else (if is_word (codes "when") w then changes.TheVariants.When
-    else changes.TheVariants.Other))))))
+unfoldable pub effect_word_of : List ℕ → effect_words.EffectWord
+effect_word_of w =
+    if is_word (codes "not") w then effect_words.TheVariants.Not
+    else (if is_word (codes "assign") w then effect_words.TheVariants.Assign
+    else (if is_word (codes "increase") w then effect_words.TheVariants.Increase
+    else (if is_word (codes "decrease") w then effect_words.TheVariants.Decrease
+    else (if is_word (codes "scale-up") w then effect_words.TheVariants.ScaleUp
+    else (if is_word (codes "scale-down") w then effect_words.TheVariants.ScaleDown
+    else (if is_word (codes "when") w then effect_words.TheVariants.When
+    else effect_words.TheVariants.Other))))))
 
 unfoldable pub joint_of : List ℕ → joints.Joint
 joint_of w =
@@ -88,12 +88,12 @@ duration_comparison heads.TheVariants.AtLeast = Some comparisons.TheVariants.AtL
 duration_comparison _ = None
 
 -- 'at start', 'over all', 'at end'
-unfoldable pub mark_of : List ℕ → List ℕ → Option marks.Mark
-mark_of w v =
-    if is_word (codes "at") w then (if is_word (codes "start") v then Some marks.TheVariants.AtStart
-    else (if is_word (codes "end") v then Some marks.TheVariants.AtEnd else None))
+unfoldable pub specifier_of : List ℕ → List ℕ → Option specifiers.TimeSpecifier
+specifier_of w v =
+    if is_word (codes "at") w then (if is_word (codes "start") v then Some specifiers.TheVariants.AtStart
+    else (if is_word (codes "end") v then Some specifiers.TheVariants.AtEnd else None))
     else (if is_word (codes "over") w
-    then (if is_word (codes "all") v then Some marks.TheVariants.OverAll else None) else None)
+    then (if is_word (codes "all") v then Some specifiers.TheVariants.OverAll else None) else None)
 
 unfoldable pub key_of : List ℕ → Option keys.Key
 key_of w =

@@ -7,11 +7,11 @@ use crate::words::Writing;
 
 /// One change: an atom that holds or does not hold afterwards, or a fluent with a new value.
 #[derive(Debug, PartialEq, Drop)]
-pub enum Outcome {
+pub enum SimpleEffect {
     Add(Atom),
     Delete(Atom),
     Write(Writing, Atom, Expr),
 }
 
 /// What an event changes.
-pub type Effect = Joined<Outcome>;
+pub type Effect = Joined<SimpleEffect>;

@@ -54,7 +54,7 @@ pub enum SyntaxFault {
     /// The name there was declared before.
     #[error("the name at {0} is declared twice")]
     Twice(u32),
-    /// What stands there is of the wrong types, or the types lead round in a circle.
+    /// What stands there is of the wrong types, or the types lead round in a cycle.
     #[error("the types at {0} do not fit")]
     Types(u32),
     /// The construct there is left out.

@@ -1,4 +1,10 @@
 //! The syntax tree of domains and problems; specs/ has the grammar of the texts that spell them.
+//!
+//! - `words`: the words that forms begin with
+//! - `term`, `types`, `symbols`: terms and atoms; types; what a domain declares
+//! - `expr`, `cond`, `joined`, `effect`, `timed`, `rule`: expressions, conditions, effects and duration constraints
+//! - `action`, `domain`, `problem`: what they are parts of
+//! - `fault`: why a text is none
 #![tactic(auto)]
 
 pub mod action;

@@ -3,12 +3,12 @@
 use crate::cond::Cond;
 use crate::effect::Effect;
 use crate::joined::Joined;
-use crate::words::Mark;
+use crate::words::TimeSpecifier;
 
 /// Something at the start, at the end or all the time between.
 #[derive(Debug, PartialEq, Drop)]
 pub struct Timed<A> {
-    pub mark: Mark,
+    pub specifier: TimeSpecifier,
     pub what: A,
 }
 

@@ -1,7 +1,7 @@
 //! The words that forms begin with.
 
 ghost use Rattle.std.specs.Prelude.{◌≡◌, codes};
-ghost use Rattle.tp_ast.specs.Words.{is_word, IsLower, operator_of, head_of, change_of, joint_of, rule_form_of, mark_of, key_of, section_of, problem_section_of};
+ghost use Rattle.tp_ast.specs.Words.{is_word, IsLower, operator_of, head_of, effect_word_of, joint_of, rule_form_of, specifier_of, key_of, section_of, problem_section_of};
 
 /// Of conditions.
 #[derive(Clone, Copy, Debug, PartialEq, Eq)]
@@ -33,7 +33,7 @@ pub enum Operator {
 
 /// Of effects.
 #[derive(Clone, Copy, Debug, PartialEq, Eq)]
-pub enum Change {
+pub enum EffectWord {
     Not,
     Assign,
     Increase,
@@ -81,7 +81,7 @@ pub enum Writing {
 
 /// When something of a durative action stands.
 #[derive(Clone, Copy, Debug, PartialEq, Eq)]
-pub enum Mark {
+pub enum TimeSpecifier {
     AtStart,
     OverAll,
     AtEnd,
@@ -118,7 +118,7 @@ pub enum Items {
 
 /// What stands after the first word of a condition.
 #[derive(Clone, Copy, Debug, PartialEq, Eq)]
-pub enum Kind {
+pub enum CondKind {
     Joined,
     Bound,
     Simple,
@@ -193,26 +193,26 @@ pub fn head_of(word: &str) -> Head
     }
 }
 
-#[tactic(auto, unfolding(crate::specs::Words::change_of))]
-pub fn change_of(word: &str) -> Change
-    ensures { result ≡ change_of word.now }
+#[tactic(auto, unfolding(crate::specs::Words::effect_word_of))]
+pub fn effect_word_of(word: &str) -> EffectWord
+    ensures { result ≡ effect_word_of word.now }
 {
     if is_word(word, "not") {
-        Change::Not
+        EffectWord::Not
     } else if is_word(word, "assign") {
-        Change::Assign
+        EffectWord::Assign
     } else if is_word(word, "increase") {
-        Change::Increase
+        EffectWord::Increase
     } else if is_word(word, "decrease") {
-        Change::Decrease
+        EffectWord::Decrease
     } else if is_word(word, "scale-up") {
-        Change::ScaleUp
+        EffectWord::ScaleUp
     } else if is_word(word, "scale-down") {
-        Change::ScaleDown
+        EffectWord::ScaleDown
     } else if is_word(word, "when") {
-        Change::When
+        EffectWord::When
     } else {
-        Change::Other
+        EffectWord::Other
     }
 }
 
@@ -242,21 +242,21 @@ pub fn rule_form_of(word: &str) -> RuleForm
     }
 }
 
-#[tactic(auto, unfolding(crate::specs::Words::mark_of))]
-pub fn mark_of(word: &str, moment: &str) -> Option<Mark>
-    ensures { result ≡ mark_of word.now moment.now }
+#[tactic(auto, unfolding(crate::specs::Words::specifier_of))]
+pub fn specifier_of(word: &str, moment: &str) -> Option<TimeSpecifier>
+    ensures { result ≡ specifier_of word.now moment.now }
 {
     if is_word(word, "at") {
         if is_word(moment, "start") {
-            Some(Mark::AtStart)
+            Some(TimeSpecifier::AtStart)
         } else if is_word(moment, "end") {
-            Some(Mark::AtEnd)
+            Some(TimeSpecifier::AtEnd)
         } else {
             None
         }
     } else if is_word(word, "over") {
         if is_word(moment, "all") {
-            Some(Mark::OverAll)
+            Some(TimeSpecifier::OverAll)
         } else {
             None
         }

@@ -1,4 +1,5 @@
-// A network of bounds alone: its head, the lags of its events, and the commands on it.
+//! A network of bounds alone: its head, the lags of its events, and the commands on it.
+
 ghost use Rattle.std.specs.Prelude.{◌≡◌, ◌≢◌, ℕ, ◌≤◌, [], IfOk, IfErr, OnOk, OnErr};
 ghost use Rattle.tp_script.specs.Machine.{IsFresh};
 ghost use Rattle.tp_files.specs.FaultLines.{TellsFault};

@@ -1,4 +1,5 @@
-// The lines of faults of commands.
+//! The lines of faults of commands.
+
 ghost use Rattle.std.specs.Prelude.{◌≡◌};
 ghost use Rattle.tp_files.specs.FaultLines.{fault_text};
 ghost use Rattle.tp_bare.specs.ServeLines.{bare_status, bare_text, serve_status, serve_text};

@@ -1,4 +1,5 @@
-// Why commands whose journal is kept were not answered to their end, and the lines that tell it.
+//! Why commands whose journal is kept were not answered to their end, and the lines that tell it.
+
 ghost use Rattle.std.specs.Prelude.{◌≡◌};
 ghost use Rattle.tp_files.specs.FaultLines.{fault_text};
 ghost use Rattle.tp_bare_journals.specs.JournalLines.{journal_status, journal_text, stop_status, stop_text};

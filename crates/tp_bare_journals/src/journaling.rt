@@ -1,4 +1,5 @@
-// Commands on a network of bounds alone, with their journal.
+//! Commands on a network of bounds alone, with their journal.
+
 ghost use Rattle.std.specs.Prelude.{◌≡◌, ℕ, ◌≤◌, IfErr, OnOk};
 ghost use Rattle.tp_bare_journals.specs.Logged.{LogsAll, LogsFrom, StopsLogged, log_failures, logged_result, output_failures};
 

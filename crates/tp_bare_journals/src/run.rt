@@ -1,4 +1,5 @@
-// The commands of the input, with the journal file of a name.
+//! The commands of the input, with the journal file of a name.
+
 ghost use Rattle.std.specs.Prelude.{◌≡◌, ◌≢◌, ◌≤◌, [], OnOk, IfErr, IfSome};
 ghost use Rattle.tp_files.specs.FaultLines.{TellsFault};
 ghost use Rattle.tp_bare.specs.Bare.{IsRefused};

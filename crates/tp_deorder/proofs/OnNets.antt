@@ -6,8 +6,8 @@ use Rattle.std.proofs.lemmas.List.Elements.{All-nil, All-cons}
 use Rattle.tp_bounds.specs.declared.Bound.{Bound}
 use Rattle.tp_bounds.specs.Nets.{SuitsNet}
 use Rattle.tp_ground.specs.declared.task.Task.{Task}
-use Rattle.tp_ground.specs.declared.Body.{Body}
-use Rattle.tp_ground.specs.declared.Body.TheVariants.{Instant, Durative}
+use Rattle.tp_ground.specs.declared.events.Body.{Body}
+use Rattle.tp_ground.specs.declared.events.Body.TheVariants.{Instant, Durative}
 use Rattle.tp_ground.specs.Valid.{Planned, Placed, events, events_from, events_of, count_of, IsValidRun, IsValid}
 use Rattle.tp_ground.specs.Verdict.{last_moment}
 use Rattle.tp_ground.specs.Bounds.{In}

@@ -6,8 +6,8 @@ use Rattle.tp_bounds.specs.declared.plan_nets.PlanNet.{PlanNet}
 use Rattle.tp_bounds.specs.RunLimits.{RunLimits}
 use Rattle.tp_bounds.specs.Nets.{IsNet}
 use Rattle.std.specs.Option.{option_to_list}
-use Rattle.tp_ground.specs.declared.Body.{Body}
-use Rattle.tp_ground.specs.declared.Body.TheVariants.{Instant, Durative}
+use Rattle.tp_ground.specs.declared.events.Body.{Body}
+use Rattle.tp_ground.specs.declared.events.Body.TheVariants.{Instant, Durative}
 use Rattle.tp_ground.specs.declared.task.Task.{Task}
 use Rattle.tp_ground.specs.Words.{Words}
 use Rattle.tp_ground.specs.Tables.{words_at}

@@ -1,4 +1,5 @@
-// Readers and writers of std as devices.
+//! Readers and writers of std as devices.
+
 ghost use Rattle.std.specs.Prelude.{◌≡◌, ◌<◌};
 
 use crate::failures::FailureCount;

@@ -14,8 +14,8 @@ use Rattle.tp_bounds.specs.Schedule.{IsSchedule, HasSchedule}
 use Rattle.tp_bounds.specs.OwnBounds.{with_bounds, IsWithin, MeetsEach}
 use Rattle.tp_bounds.proofs.Numbering.{in_force_each, others_stay}
 use Rattle.tp_bounds.proofs.Schedules.{is_schedule, schedule_is}
-use Rattle.tp_deorder.specs.tp_ground.declared.Body.{Body}
-use Rattle.tp_deorder.specs.tp_ground.declared.Body.TheVariants.{Instant, Durative}
+use Rattle.tp_deorder.specs.tp_ground.declared.events.Body.{Body}
+use Rattle.tp_deorder.specs.tp_ground.declared.events.Body.TheVariants.{Instant, Durative}
 use Rattle.tp_deorder.specs.tp_ground.declared.task.Task.{Task}
 use Rattle.tp_deorder.specs.tp_ground.Valid.{Planned, IsValid, IsValidRun}
 use Rattle.tp_deorder.specs.tp_ground.Bounds.{MeetsBounds}

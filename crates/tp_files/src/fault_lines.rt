@@ -1,4 +1,5 @@
-// The lines of faults, and the exit statuses that go with them.
+//! The lines of faults, and the exit statuses that go with them.
+
 ghost use Rattle.std.specs.Prelude.{◌≡◌, [], ◌++◌, codes, decimal};
 ghost use Rattle.tp_device.specs.Bytes.{Writes, failures_after};
 ghost use Rattle.tp_files.specs.FaultLines.{Tells, TellsFault, construct_line, detail_text, fault_line, fault_line_with, fault_text, head_text, named_line, placed_line};

@@ -1,4 +1,5 @@
-// Files under names, and the texts that they hold.
+//! Files under names, and the texts that they hold.
+
 ghost use Rattle.std.specs.Prelude.{◌≡◌, ℕ, List, Option, IfOk, IfErr};
 ghost use Rattle.std.specs.String.{string_bytes};
 ghost use Rattle.tp_files.specs.Texts.{HasFault, HoldsText, failures_after_file};

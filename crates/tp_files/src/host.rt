@@ -1,4 +1,5 @@
-// The files of the host, and the words of its call.
+//! The files of the host, and the words of its call.
+
 ghost use Rattle.std.specs.Prelude.{◌≡◌, None, drop, if◌then◌else◌};
 ghost use Rattle.tp_files.specs.Calls.{call_status, call_text};
 ghost use Rattle.tp_files.specs.FaultLines.{Tells, fault_text};

@@ -1,4 +1,5 @@
-// A writer of std as a sink that hands the writer back.
+//! A writer of std as a sink that hands the writer back.
+
 ghost use Rattle.std.specs.Prelude.{◌≡◌, ◌<◌};
 
 use std::io::Write;

@@ -3,7 +3,7 @@ use Rattle.std.proofs.Common.{◌≡◌, ℕ, ◌+◌, Bool, true, false, cond, 
 use Rattle.std.specs.List.{list_any}
 use Rattle.std.proofs.lemmas.Bool.{or_parts, or_cases, or_left, or_right, and_from, cases_Bool, cond-true, cond-false}
 use Rattle.std.proofs.Math.IntN.{+ℤ_idr, +ℤ_assoc}
-use Rattle.tp_ground.specs.declared.NumericEffect.{NumericEffect}
+use Rattle.tp_ground.specs.declared.events.NumericEffect.{NumericEffect}
 use Rattle.tp_ground.specs.State.{State, units}
 use Rattle.tp_ground.specs.Event.{has, fluents_set, fluents_written, is_additive}
 use Rattle.tp_ground.specs.Happens.{Timed, value_set, set_in, added_in, set_by, added_by, plus, atom_after, number_after}

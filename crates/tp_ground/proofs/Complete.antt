@@ -2,10 +2,10 @@
 use Rattle.std.proofs.Common.{◌≡◌, ℕ, suc, zero, ◌+◌, Bool, true, false, ◌&&◌, ◌==◌, nat_le, nat_lt, List, [], ◌∷◌, ⊎_elim, inl, inr, refl, sym, ap, ap₂, ◌∙◌, subst, arith, add-one, Some, None, pos, ◌*ℤ◌, eqb-true}
 use Rattle.std.specs.List.{list_all, position_from, AllByRecursion}
 use Rattle.std.proofs.lemmas.Bool.{and_parts, and_from, and_left, and_right, cases_Bool, not_from_true, cond-false, leb-true, ltb-true, le-leb}
-use Rattle.tp_ground.specs.declared.Body.{Body}
-use Rattle.tp_ground.specs.declared.Body.TheVariants.{Instant, Durative}
-use Rattle.tp_ground.specs.declared.Cond.{Cond}
-use Rattle.tp_ground.specs.declared.Limit.{Limit}
+use Rattle.tp_ground.specs.declared.events.Body.{Body}
+use Rattle.tp_ground.specs.declared.events.Body.TheVariants.{Instant, Durative}
+use Rattle.tp_ground.specs.declared.events.Cond.{Cond}
+use Rattle.tp_ground.specs.declared.events.Limit.{Limit}
 use Rattle.tp_ground.specs.State.{State, both, value, holds, compares_values}
 use Rattle.tp_ground.specs.Event.{mixes}
 use Rattle.tp_ground.specs.Happens.{Timed, is_defined, apart, atom_after, number_after}

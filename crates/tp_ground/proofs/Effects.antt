@@ -2,11 +2,11 @@
 use Rattle.std.proofs.Common.{◌≡◌, ℕ, Bool, true, false, cond, not, ◌&&◌, ◌||◌, ◌==◌, List, [], ◌∷◌, ◌++◌, map, inl, inr, ⊎_elim, refl, sym, ap, ap₂, subst, Option, None, ℤ, pos, ◌+ℤ◌, ◌*ℤ◌, filter, eq-eqb, is_some}
 use Rattle.std.specs.List.{list_any, list_all, flat_map}
 use Rattle.std.proofs.lemmas.Bool.{or_parts, or_cases, or_left, or_right, cond-true, not_from_false}
-use Rattle.tp_ground.specs.declared.Change.{Change}
-use Rattle.tp_ground.specs.declared.Change.TheVariants.{Assign, ScaleUp, Increase, Decrease}
-use Rattle.tp_ground.specs.declared.GroundEvent.{GroundEvent}
-use Rattle.tp_ground.specs.declared.NumericEffect.{NumericEffect}
-use Rattle.tp_ground.specs.declared.Limit.{Limit}
+use Rattle.tp_ground.specs.declared.events.Change.{Change}
+use Rattle.tp_ground.specs.declared.events.Change.TheVariants.{Assign, ScaleUp, Increase, Decrease}
+use Rattle.tp_ground.specs.declared.events.GroundEvent.{GroundEvent}
+use Rattle.tp_ground.specs.declared.events.NumericEffect.{NumericEffect}
+use Rattle.tp_ground.specs.declared.events.Limit.{Limit}
 use Rattle.tp_ground.specs.State.{State, both, value, fluents_of, atoms_in, mentions_duration}
 use Rattle.tp_ground.specs.Event.{has, meets, interferes, disturbs, fluents_read, fluents_set, fluents_written, is_additive}
 use Rattle.tp_ground.specs.Happens.{value_set, amount, set_in, added_in, is_assign}

@@ -1,8 +1,8 @@
 -- The events of a plan: their numbers, and the events of the retimed plan.
 use Rattle.std.proofs.Common.{◌≡◌, ℕ, ◌+◌, ◌-◌, ◌≤◌, ◌<◌, true, false, ◌||◌, List, [], ◌∷◌, ◌++◌, map, ◌⊎◌, inl, inr, ⊎_elim, refl, sym, ◌∙◌, ap, ap₂, subst, arith}
 use Rattle.std.proofs.lemmas.Bool.{or_parts, cases_Bool, MatchBool-at_true}
-use Rattle.tp_ground.specs.declared.Body.{Body}
-use Rattle.tp_ground.specs.declared.Body.TheVariants.{Instant, Durative}
+use Rattle.tp_ground.specs.declared.events.Body.{Body}
+use Rattle.tp_ground.specs.declared.events.Body.TheVariants.{Instant, Durative}
 use Rattle.tp_ground.specs.State.{State}
 use Rattle.tp_ground.specs.Valid.{Planned, Placed, events_of, events_from, count_of}
 use Rattle.tp_ground.specs.Bounds.{In, uses_duration, BodyKeeps, StepsKeep, retimed_body, retimed_from}

@@ -6,27 +6,27 @@ use Rattle.tp_syntax.specs.DomainViews.{body_view}
 use Rattle.tp_ast.specs.declared.rule.DurationRule.{DurationRule}
 use Rattle.tp_ast.specs.declared.joined.Joined.{Joined}
 use Rattle.tp_ast.specs.declared.timed.Timed.{Timed}
-use Rattle.tp_ast.specs.declared.effect.Outcome.{Outcome}
+use Rattle.tp_ast.specs.declared.effect.SimpleEffect.{SimpleEffect}
 use Rattle.tp_ast.specs.declared.cond.Cond as syntax_conds
 use Rattle.tp_ast.specs.declared.action.Body as syntax
 use Rattle.tp_ast.specs.declared.action.Body.TheVariants as bodies
-use Rattle.tp_ast.specs.declared.words.Mark.TheVariants.{OverAll}
+use Rattle.tp_ast.specs.declared.words.TimeSpecifier.TheVariants.{OverAll}
 use Rattle.tp_ground.specs.Bindings.{Universe, Env}
 use Rattle.tp_ground.specs.Tables.{Tables}
-use Rattle.tp_ground.specs.Written.{GroundCondition, GroundOutcome, GroundLimit, GroundHappening, instant, durative, happening, condition_at, start_in, end_in, body_in}
-use Rattle.tp_ground.specs.Mentions.{Mentions, ◌then◌, of_condition, of_outcome, of_limit, of_each, of_start, of_end, of_body}
+use Rattle.tp_ground.specs.Written.{GroundCondition, GroundEffect, GroundLimit, GroundHappening, instant, durative, happening, condition_at, start_in, end_in, body_in}
+use Rattle.tp_ground.specs.Mentions.{Mentions, ◌then◌, of_condition, of_simple_effect, of_limit, of_each, of_start, of_end, of_body}
 use Rattle.tp_ground.specs.ReadBack.{named_condition, named_limit, named_event, named_body}
-use Rattle.tp_ground.specs.NumberedOutcomes.{named_outcome}
+use Rattle.tp_ground.specs.NumberedEffects.{named_simple_effect}
 use Rattle.tp_ground.specs.NumberedEnds.{named_ends}
 use Rattle.tp_ground.specs.declared.lowering.bodies.Ends.{Ends}
 use Rattle.tp_ground.specs.Lowered.{Notes, IsLowered, Overflows, Lowers}
 use Rattle.tp_ground.specs.declared.fault.GroundFault.{GroundFault}
-use Rattle.tp_ground.specs.declared.Cond.{Cond}
-use Rattle.tp_ground.specs.declared.Limit.{Limit}
-use Rattle.tp_ground.specs.declared.GroundEvent.{GroundEvent}
-use Rattle.tp_ground.specs.declared.Body.{Body}
-use Rattle.tp_ground.specs.declared.Body.TheVariants.{Instant, Durative}
-use Rattle.tp_ground.specs.declared.lowering.effects.NumberedOutcome.{NumberedOutcome}
+use Rattle.tp_ground.specs.declared.events.Cond.{Cond}
+use Rattle.tp_ground.specs.declared.events.Limit.{Limit}
+use Rattle.tp_ground.specs.declared.events.GroundEvent.{GroundEvent}
+use Rattle.tp_ground.specs.declared.events.Body.{Body}
+use Rattle.tp_ground.specs.declared.events.Body.TheVariants.{Instant, Durative}
+use Rattle.tp_ground.specs.declared.lowering.effects.NumberedEffect.{NumberedEffect}
 use Rattle.tp_ground.proofs.OnLowered.{AllLowered, failed, notes_then, overflows_first, overflows_then, lowered_as, lowered_both}
 
 -- a fault at the first, the second or the third of three
@@ -40,25 +40,25 @@ module _ (a : Tables) (m n k : Mentions) (f : GroundFault) where
   pub at_third : (b d : Tables) → Notes a b m → Notes b d n → Overflows d k f → Overflows a (m then n then k) f
   at_third b d l g h = overflows_then a d (m then n) k f (notes_then a b d m n l g) h
 
--- a condition and outcomes
-abbrev named_pair : Tables → Cond × Vec NumberedOutcome Global → GroundCondition × List GroundOutcome
-named_pair t p = (named_condition t p.0, map (named_outcome t) p.1.items)
+-- a condition and simple effects
+abbrev named_pair : Tables → Cond × Vec NumberedEffect Global → GroundCondition × List GroundEffect
+named_pair t p = (named_condition t p.0, map (named_simple_effect t) p.1.items)
 
-abbrev with_rule : GroundCondition × List GroundOutcome → List GroundLimit → GroundHappening
+abbrev with_rule : GroundCondition × List GroundEffect → List GroundLimit → GroundHappening
 with_rule p ls = happening p.0 p.1 ls
 
-abbrev pub Assembled : GroundEvent → Cond → List NumberedOutcome → List Limit → Type 0
-Assembled e c os ls = (t : Tables) → named_event t e ≡ happening (named_condition t c) (map (named_outcome t) os) (map (named_limit t) ls)
+abbrev pub Assembled : GroundEvent → Cond → List NumberedEffect → List Limit → Type 0
+Assembled e c os ls = (t : Tables) → named_event t e ≡ happening (named_condition t c) (map (named_simple_effect t) os) (map (named_limit t) ls)
 
-module _ (a b d : Tables) (c : Cond) (os : Vec NumberedOutcome Global) (e : GroundEvent) (cond : GroundCondition) (outs : List GroundOutcome) (l : IsLowered named_condition a b c cond (of_condition cond)) (k : AllLowered named_outcome of_outcome b d os outs) where
-  pair_lowered : IsLowered named_pair a d (c, os) (cond, outs) (of_condition cond then of_each of_outcome outs)
-  pair_lowered = lowered_both (λ (p : GroundCondition) (q : List GroundOutcome). (p, q)) (c, os) (λ t. refl) l k
+module _ (a b d : Tables) (c : Cond) (os : Vec NumberedEffect Global) (e : GroundEvent) (cond : GroundCondition) (outs : List GroundEffect) (l : IsLowered named_condition a b c cond (of_condition cond)) (k : AllLowered named_simple_effect of_simple_effect b d os outs) where
+  pair_lowered : IsLowered named_pair a d (c, os) (cond, outs) (of_condition cond then of_each of_simple_effect outs)
+  pair_lowered = lowered_both (λ (p : GroundCondition) (q : List GroundEffect). (p, q)) (c, os) (λ t. refl) l k
 
-  pub start_lowered : (w : Tables) (ls : Vec Limit Global) (limits : List GroundLimit) → AllLowered named_limit of_limit d w ls limits → Assembled e c os.items ls.items → IsLowered named_event a w e (happening cond outs limits) (of_condition cond then of_each of_outcome outs then of_each of_limit limits)
+  pub start_lowered : (w : Tables) (ls : Vec Limit Global) (limits : List GroundLimit) → AllLowered named_limit of_limit d w ls limits → Assembled e c os.items ls.items → IsLowered named_event a w e (happening cond outs limits) (of_condition cond then of_each of_simple_effect outs then of_each of_limit limits)
   start_lowered w ls limits g h = lowered_both with_rule e (λ t. h t) pair_lowered g
 
-  pub plain_lowered : (ls : List Limit) → ls ≡ [] → Assembled e c os.items ls → IsLowered named_event a d e (happening cond outs []) (of_condition cond then of_each of_outcome outs)
-  plain_lowered ls none h = lowered_as (λ (p : GroundCondition × List GroundOutcome). with_rule p []) e (λ t. h t ∙ ap (λ (zs : List Limit). happening (named_condition t c) (map (named_outcome t) os.items) (map (named_limit t) zs)) none) pair_lowered
+  pub plain_lowered : (ls : List Limit) → ls ≡ [] → Assembled e c os.items ls → IsLowered named_event a d e (happening cond outs []) (of_condition cond then of_each of_simple_effect outs)
+  plain_lowered ls none h = lowered_as (λ (p : GroundCondition × List GroundEffect). with_rule p []) e (λ t. h t ∙ ap (λ (zs : List Limit). happening (named_condition t c) (map (named_simple_effect t) os.items) (map (named_limit t) zs)) none) pair_lowered
 
 -- a start and an end, one after the other
 module _ (a b c : Tables) (start end : GroundHappening) (m n : Mentions) where
@@ -75,7 +75,7 @@ pub instant_lowered : (a b : Tables) (e : GroundEvent) (h : GroundHappening) (m 
 instant_lowered a b e h m l = lowered_as instant (Instant e) (λ t. refl) l
 
 -- a durative action, its ends and its invariant numbered one after another
-module _ (u : Universe) (env : Env) (x : syntax.Body) (r : DurationRule) (c : Joined (Timed syntax_conds.Cond)) (f : Joined (Timed (Joined Outcome))) (is : x ≡ bodies.Durative r c f) where
+module _ (u : Universe) (env : Env) (x : syntax.Body) (r : DurationRule) (c : Joined (Timed syntax_conds.Cond)) (f : Joined (Timed (Joined SimpleEffect))) (is : x ≡ bodies.Durative r c f) where
   abbrev of_ends : Mentions
   of_ends = of_start u env (rule_view r) (timed_condition_view c) (timed_effect_view f) then of_end u env (timed_condition_view c) (timed_effect_view f)
 

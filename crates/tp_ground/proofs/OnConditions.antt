@@ -19,10 +19,10 @@ use Rattle.tp_ground.specs.Written.{GroundCondition, atom, compared, negation, a
 use Rattle.tp_ground.specs.Mentions.{nothing, of_condition, of_conditions, of_each, ◌then◌}
 use Rattle.tp_ground.specs.ReadBack.{named_condition, named_expression}
 use Rattle.tp_ground.specs.Lowered.{IsLowered, Overflows, Lowers}
-use Rattle.tp_ground.specs.declared.Cond as conds
-use Rattle.tp_ground.specs.declared.Cond.{Cond}
-use Rattle.tp_ground.specs.declared.Expr as exprs
-use Rattle.tp_ground.specs.declared.Comparison as how
+use Rattle.tp_ground.specs.declared.events.Cond as conds
+use Rattle.tp_ground.specs.declared.events.Cond.{Cond}
+use Rattle.tp_ground.specs.declared.events.Expr as exprs
+use Rattle.tp_ground.specs.declared.events.Comparison as how
 use Rattle.tp_ground.specs.declared.fault.GroundFault.{GroundFault}
 use Rattle.tp_ground.proofs.OnLowered.{AllLowered, failed, lowered_as, lowered_same, lowered_none, then_nothing}
 

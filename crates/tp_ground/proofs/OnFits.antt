@@ -6,26 +6,26 @@ use Rattle.std.proofs.lemmas.Bool.{lt-ltb, and_parts, and_from}
 use Rattle.std.proofs.lemmas.List.Folds.{list_all-append}
 use Rattle.tp_syntax.specs.Parts.{Joined, Parts, all_parts, for_each, one, no_parts, part}
 use Rattle.tp_syntax.specs.Effects as effects
-use Rattle.tp_syntax.specs.Effects.{Outcome, Effect, Timed}
+use Rattle.tp_syntax.specs.Effects.{SimpleEffect, Effect, Timed}
 use Rattle.tp_syntax.specs.Actions as actions
-use Rattle.tp_ast.specs.declared.words.Mark.{Mark}
-use Rattle.tp_ast.specs.declared.words.Mark.TheVariants.{AtStart, AtEnd}
+use Rattle.tp_ast.specs.declared.words.TimeSpecifier.{TimeSpecifier}
+use Rattle.tp_ast.specs.declared.words.TimeSpecifier.TheVariants.{AtStart, AtEnd}
 use Rattle.tp_ground.specs.Words.{Words}
 use Rattle.tp_ground.specs.Bindings.{Universe, Env}
 use Rattle.tp_ground.specs.Tables.{Tables, words_at}
 use Rattle.tp_ground.specs.Fits.{event_fits, body_fits}
-use Rattle.tp_ground.specs.Written.{GroundOutcome, GroundHappening, GroundBody, adds, deletes, writes, added, deleted, written, inner, parts_in, all_parts_in, outcome_part, outcomes_part, outcomes_in, outcomes_at, is_mark, instant, durative, body_in}
+use Rattle.tp_ground.specs.Written.{GroundEffect, GroundHappening, GroundBody, adds, deletes, writes, added, deleted, written, inner, parts_in, all_parts_in, simple_effect_part, simple_effects_part, simple_effects_in, simple_effects_at, is_specifier, instant, durative, body_in}
 use Rattle.tp_ground.specs.ReadBack.{named_write, named_event, named_body}
-use Rattle.tp_ground.specs.declared.NumericEffect.{NumericEffect}
-use Rattle.tp_ground.specs.declared.GroundEvent.{GroundEvent}
-use Rattle.tp_ground.specs.declared.Body.{Body}
-use Rattle.tp_ground.specs.declared.Body.TheVariants.{Instant, Durative}
+use Rattle.tp_ground.specs.declared.events.NumericEffect.{NumericEffect}
+use Rattle.tp_ground.specs.declared.events.GroundEvent.{GroundEvent}
+use Rattle.tp_ground.specs.declared.events.Body.{Body}
+use Rattle.tp_ground.specs.declared.events.Body.TheVariants.{Instant, Durative}
 
 abbrev are_words : Words → Bool
 are_words [] = false
 are_words (w ∷ ws) = true
 
-abbrev has_words : GroundOutcome → Bool
+abbrev has_words : GroundEffect → Bool
 has_words (adds w) = are_words w
 has_words (deletes w) = are_words w
 has_words (writes w) = are_words w.fluent
@@ -49,7 +49,7 @@ writes_in_range t (w ∷ ws) h =
     let p = and_parts (are_words (words_at t.fluents w.fluent)) (list_all (λ v. are_words v.fluent) (map (named_write t) ws)) h in
     and_from (nat_lt w.fluent (length t.fluents)) _ (lt-ltb w.fluent (length t.fluents) (in_range t.fluents w.fluent p.0)) (writes_in_range t ws p.1)
 
--- ---- outcomes that are written out have words
+-- ---- simple effects that are written out have words
 
 module _ {A B : Type 0} (ok : B → Bool) (u : Universe) (read : Env → A → List B) (each : (env : Env) (a : A) → list_all ok (read env a) ≡ true) where
   over : (envs : List Env) (f : Env → List B) → ((env : Env) → list_all ok (f env) ≡ true) → list_all ok (flat_map f envs) ≡ true
@@ -66,37 +66,37 @@ module _ {A B : Type 0} (ok : B → Bool) (u : Universe) (read : Env → A → L
     all_parts_ok env no_parts = refl
     all_parts_ok env (part p ps) = list_all-append ok (parts_in u read env p) (all_parts_in u read env ps) ∙ and_from (list_all ok (parts_in u read env p)) _ (parts_ok env p) (all_parts_ok env ps)
 
-outcome_ok : (u : Universe) (m : Mark) (env : Env) (o : Outcome) → list_all has_words (outcome_part u m env o) ≡ true
-outcome_ok u m env (effects.adds f) = refl
-outcome_ok u m env (effects.deletes f) = refl
-outcome_ok u m env (effects.writes w f x) = refl
+simple_effect_ok : (u : Universe) (m : TimeSpecifier) (env : Env) (o : SimpleEffect) → list_all has_words (simple_effect_part u m env o) ≡ true
+simple_effect_ok u m env (effects.adds f) = refl
+simple_effect_ok u m env (effects.deletes f) = refl
+simple_effect_ok u m env (effects.writes w f x) = refl
 
-outcomes_ok : (u : Universe) (env : Env) (e : Effect) → list_all has_words (outcomes_in u env e) ≡ true
-outcomes_ok u env e = parts_ok has_words u (outcome_part u AtStart) (outcome_ok u AtStart) env e
+simple_effects_ok : (u : Universe) (env : Env) (e : Effect) → list_all has_words (simple_effects_in u env e) ≡ true
+simple_effects_ok u env e = parts_ok has_words u (simple_effect_part u AtStart) (simple_effect_ok u AtStart) env e
 
-timed_ok : (u : Universe) (m : Mark) (env : Env) (t : Timed Effect) → list_all has_words (outcomes_part u m env t) ≡ true
-timed_ok u m env t = by (is_mark t.mark m)
+timed_ok : (u : Universe) (m : TimeSpecifier) (env : Env) (t : Timed Effect) → list_all has_words (simple_effects_part u m env t) ≡ true
+timed_ok u m env t = by (is_specifier t.specifier m)
   where
-    by : (b : Bool) → list_all has_words (if b then outcomes_in u env t.what else []) ≡ true
-    by true = outcomes_ok u env t.what
+    by : (b : Bool) → list_all has_words (if b then simple_effects_in u env t.what else []) ≡ true
+    by true = simple_effects_ok u env t.what
     by false = refl
 
-outcomes_at_ok : (u : Universe) (m : Mark) (env : Env) (e : Joined (Timed Effect)) → list_all has_words (outcomes_at u m env e) ≡ true
-outcomes_at_ok u m env e = parts_ok has_words u (outcomes_part u m) (timed_ok u m) env e
+simple_effects_at_ok : (u : Universe) (m : TimeSpecifier) (env : Env) (e : Joined (Timed Effect)) → list_all has_words (simple_effects_at u m env e) ≡ true
+simple_effects_at_ok u m env e = parts_ok has_words u (simple_effects_part u m) (timed_ok u m) env e
 
-added_ok : (os : List GroundOutcome) → list_all has_words os ≡ true → list_all are_words (added os) ≡ true
+added_ok : (os : List GroundEffect) → list_all has_words os ≡ true → list_all are_words (added os) ≡ true
 added_ok [] h = refl
 added_ok (adds w ∷ os) h = let p = and_parts (are_words w) (list_all has_words os) h in and_from (are_words w) _ p.0 (added_ok os p.1)
 added_ok (deletes w ∷ os) h = added_ok os (and_parts (are_words w) (list_all has_words os) h).1
 added_ok (writes w ∷ os) h = added_ok os (and_parts (are_words w.fluent) (list_all has_words os) h).1
 
-deleted_ok : (os : List GroundOutcome) → list_all has_words os ≡ true → list_all are_words (deleted os) ≡ true
+deleted_ok : (os : List GroundEffect) → list_all has_words os ≡ true → list_all are_words (deleted os) ≡ true
 deleted_ok [] h = refl
 deleted_ok (adds w ∷ os) h = deleted_ok os (and_parts (are_words w) (list_all has_words os) h).1
 deleted_ok (deletes w ∷ os) h = let p = and_parts (are_words w) (list_all has_words os) h in and_from (are_words w) _ p.0 (deleted_ok os p.1)
 deleted_ok (writes w ∷ os) h = deleted_ok os (and_parts (are_words w.fluent) (list_all has_words os) h).1
 
-written_ok : (os : List GroundOutcome) → list_all has_words os ≡ true → list_all (λ w. are_words w.fluent) (written os) ≡ true
+written_ok : (os : List GroundEffect) → list_all has_words os ≡ true → list_all (λ w. are_words w.fluent) (written os) ≡ true
 written_ok [] h = refl
 written_ok (adds w ∷ os) h = written_ok os (and_parts (are_words w) (list_all has_words os) h).1
 written_ok (deletes w ∷ os) h = written_ok os (and_parts (are_words w) (list_all has_words os) h).1
@@ -104,7 +104,7 @@ written_ok (writes w ∷ os) h = let p = and_parts (are_words w.fluent) (list_al
 
 -- ---- events and bodies
 
-pub event_fits_of : (t : Tables) (e : GroundEvent) (os : List GroundOutcome) → list_all has_words os ≡ true → map (words_at t.atoms) e.adds.items ≡ added os → map (words_at t.atoms) e.deletes.items ≡ deleted os → map (named_write t) e.writes.items ≡ written os → event_fits (length t.atoms) (length t.fluents) e ≡ true
+pub event_fits_of : (t : Tables) (e : GroundEvent) (os : List GroundEffect) → list_all has_words os ≡ true → map (words_at t.atoms) e.adds.items ≡ added os → map (words_at t.atoms) e.deletes.items ≡ deleted os → map (named_write t) e.writes.items ≡ written os → event_fits (length t.atoms) (length t.fluents) e ≡ true
 event_fits_of t e os ok a d w =
     and_from _ _ (all_in_range t.atoms e.adds.items (ap (list_all are_words) a ∙ added_ok os ok))
     (and_from _ _ (all_in_range t.atoms e.deletes.items (ap (list_all are_words) d ∙ deleted_ok os ok))
@@ -125,12 +125,12 @@ end_part (durative s e i) d = e
 pub body_fits_of : (t : Tables) (b : Body) (u : Universe) (env : Env) (a : actions.Body) → named_body t b ≡ body_in u env a → body_fits (length t.atoms) (length t.fluents) b ≡ true
 body_fits_of t (Instant e) u env (actions.instant c f) is =
     let h : named_event t e ≡ instant_part (body_in u env (actions.instant c f)) (named_event t e) = ap (λ b. instant_part b (named_event t e)) is in
-    event_fits_of t e (outcomes_in u env f) (outcomes_ok u env f) (ap (λ k. k.adds) h) (ap (λ k. k.deletes) h) (ap (λ k. k.writes) h)
+    event_fits_of t e (simple_effects_in u env f) (simple_effects_ok u env f) (ap (λ k. k.adds) h) (ap (λ k. k.deletes) h) (ap (λ k. k.writes) h)
 body_fits_of t (Instant e) u env (actions.durative r c f) is = cc
 body_fits_of t (Durative start end between) u env (actions.instant c f) is = cc
 body_fits_of t (Durative start end between) u env (actions.durative r c f) is =
     let s : named_event t start ≡ start_part (body_in u env (actions.durative r c f)) (named_event t start) = ap (λ b. start_part b (named_event t start)) is in
     let e : named_event t end ≡ end_part (body_in u env (actions.durative r c f)) (named_event t end) = ap (λ b. end_part b (named_event t end)) is in
     and_from _ _
-    (event_fits_of t start (outcomes_at u AtStart env f) (outcomes_at_ok u AtStart env f) (ap (λ k. k.adds) s) (ap (λ k. k.deletes) s) (ap (λ k. k.writes) s))
-    (event_fits_of t end (outcomes_at u AtEnd env f) (outcomes_at_ok u AtEnd env f) (ap (λ k. k.adds) e) (ap (λ k. k.deletes) e) (ap (λ k. k.writes) e))
+    (event_fits_of t start (simple_effects_at u AtStart env f) (simple_effects_at_ok u AtStart env f) (ap (λ k. k.adds) s) (ap (λ k. k.deletes) s) (ap (λ k. k.writes) s))
+    (event_fits_of t end (simple_effects_at u AtEnd env f) (simple_effects_at_ok u AtEnd env f) (ap (λ k. k.adds) e) (ap (λ k. k.deletes) e) (ap (λ k. k.writes) e))

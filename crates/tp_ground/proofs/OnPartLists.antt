@@ -70,6 +70,6 @@ module _ (env : Env) (x : DurationRule) where
   pub limit_of : (op : Comparison) (y : Expr) → x ≡ the_rules.Limit op y → limits_in env (rule_view x) ≡ record { how = comparison_of op; value = expression_in env (expr_view y) } ∷ []
   limit_of op y is = ap (λ z. limits_in env (rule_view z)) is ∙ ap (limits_in env) (rule_Limit op y)
 
--- what stands at its mark
-pub marked : {C : Type 0} (b : Bool) (xs : List C) → b ≡ true → (if b then xs else []) ≡ xs
-marked b xs h = ap (λ v. if v then xs else []) h
+-- what stands at its specifier
+pub specified : {C : Type 0} (b : Bool) (xs : List C) → b ≡ true → (if b then xs else []) ≡ xs
+specified b xs h = ap (λ v. if v then xs else []) h

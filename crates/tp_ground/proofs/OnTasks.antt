@@ -32,8 +32,8 @@ use Rattle.tp_ground.specs.declared.task.Task.{Task}
 use Rattle.tp_ground.specs.declared.fault.GroundFault.{GroundFault}
 use Rattle.tp_ground.specs.declared.fault.GroundFault.TheVariants as faults
 use Rattle.tp_ground.specs.declared.fault.TooManyKind.TheVariants as kinds
-use Rattle.tp_ground.specs.declared.Cond.{Cond}
-use Rattle.tp_ground.specs.declared.Body.{Body}
+use Rattle.tp_ground.specs.declared.events.Cond.{Cond}
+use Rattle.tp_ground.specs.declared.events.Body.{Body}
 use Rattle.tp_ground.proofs.OnBodies.{at_first, at_second, at_third}
 use Rattle.tp_ground.proofs.OnEntries.{empty_env}
 use Rattle.tp_ground.proofs.OnFits.{body_fits_of}

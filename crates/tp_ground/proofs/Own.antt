@@ -2,9 +2,9 @@
 use Rattle.std.proofs.Common.{◌≡◌, ℕ, ◌+◌, Bool, true, false, ◌||◌, List, [], ◌∷◌, inl, inr, refl, arith}
 use Rattle.std.specs.List.{AllByRecursion}
 use Rattle.std.specs.Bool.{MatchBool}
-use Rattle.tp_ground.specs.declared.Cond.{Cond}
-use Rattle.tp_ground.specs.declared.Body.{Body}
-use Rattle.tp_ground.specs.declared.Body.TheVariants.{Instant, Durative}
+use Rattle.tp_ground.specs.declared.events.Cond.{Cond}
+use Rattle.tp_ground.specs.declared.events.Body.{Body}
+use Rattle.tp_ground.specs.declared.events.Body.TheVariants.{Instant, Durative}
 use Rattle.tp_ground.specs.State.{State}
 use Rattle.tp_ground.specs.Valid.{Planned, Placed, events, events_of, events_from, count_of, BodyHolds, IsValidRun}
 use Rattle.tp_ground.specs.Bounds.{In, uses_duration, BodyKeeps, StepsKeep, MeetsBounds}

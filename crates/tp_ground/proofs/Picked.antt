@@ -3,7 +3,7 @@ use Rattle.std.proofs.Common.{◌≡◌, ◌≢◌, ℕ, ◌<◌, Bool, true, fa
 use Rattle.std.specs.List.{list_any, list_all, AllByRecursion}
 use Rattle.std.proofs.lemmas.Bool.{or_parts, or_cases, and_parts, and_from, cases_Bool, not-true, not_from_false, cond-true, cond-false}
 use Rattle.std.proofs.Math.IntN.{+ℤ_idl}
-use Rattle.tp_ground.specs.declared.GroundEvent.{GroundEvent}
+use Rattle.tp_ground.specs.declared.events.GroundEvent.{GroundEvent}
 use Rattle.tp_ground.specs.State.{State, units}
 use Rattle.tp_ground.specs.Event.{has, interferes, disturbs, fluents_set}
 use Rattle.tp_ground.specs.Happens.{Timed, set_in, added_in, set_by, added_by, apart}

@@ -2,11 +2,11 @@
 use Rattle.std.proofs.Common.{◌≡◌, ◌≢◌, ℕ, suc, ◌+◌, ◌-◌, ◌≤◌, ◌<◌, max, Bool, true, false, ◌&&◌, ◌||◌, nat_lt, nat_le, ◌==◌, List, [], ◌∷◌, ◌++◌, map, ◌⊎◌, inl, inr, ⊎_elim, refl, sym, ◌∙◌, ap, subst, arith, Some, None, pos, ◌*ℤ◌}
 use Rattle.std.specs.List.{AllByRecursion, flat_map}
 use Rattle.std.proofs.lemmas.Bool.{or_left, or_right, and_parts, and_from, ltb-true, leb-true, lt-ltb, le-leb, cases_Bool, cases_lt, cases_eq, cases_order, MatchBool-at_true, MatchBool-at_false}
-use Rattle.tp_ground.specs.declared.GroundEvent.{GroundEvent}
-use Rattle.tp_ground.specs.declared.Limit.{Limit}
-use Rattle.tp_ground.specs.declared.Cond.{Cond}
-use Rattle.tp_ground.specs.declared.Body.{Body}
-use Rattle.tp_ground.specs.declared.Body.TheVariants.{Instant, Durative}
+use Rattle.tp_ground.specs.declared.events.GroundEvent.{GroundEvent}
+use Rattle.tp_ground.specs.declared.events.Limit.{Limit}
+use Rattle.tp_ground.specs.declared.events.Cond.{Cond}
+use Rattle.tp_ground.specs.declared.events.Body.{Body}
+use Rattle.tp_ground.specs.declared.events.Body.TheVariants.{Instant, Durative}
 use Rattle.tp_ground.specs.State.{State, both, value, fluents_of, atoms_in, holds, compares_values}
 use Rattle.tp_ground.specs.Event.{meets, interferes}
 use Rattle.tp_ground.specs.Valid.{Planned, Placed, events, events_of, events_from, count_of, IsLawful, StepHolds, BodyHolds, IsRun, IsValidRun}

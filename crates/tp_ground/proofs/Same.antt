@@ -1,10 +1,10 @@
 -- What is read of a state depends only on the atoms and fluents that are mentioned.
 use Rattle.std.proofs.Common.{◌≡◌, ℕ, Bool, true, false, not, ◌&&◌, ◌||◌, ◌==◌, List, [], ◌∷◌, ◌++◌, ◌⊎◌, inl, inr, ⊎_elim, refl, sym, ap, ap₂, subst, Option, None, ℤ, ◌+ℤ◌, ◌-ℤ◌, ◌*ℤ◌, is_some, eq-eqb, eqb-true}
 use Rattle.std.proofs.lemmas.Bool.{or_parts, or_cases, or_left, or_right}
-use Rattle.tp_ground.specs.declared.Expr.{Expr}
-use Rattle.tp_ground.specs.declared.Expr.TheVariants.{Number, Fluent, Duration, Negated', Sum', Difference', Product'}
-use Rattle.tp_ground.specs.declared.Cond.{Cond, Row_of-Cond, end_of-Cond, more_of-Cond}
-use Rattle.tp_ground.specs.declared.Cond.TheVariants.{Atom, Compare, Not', And', Or'}
+use Rattle.tp_ground.specs.declared.events.Expr.{Expr}
+use Rattle.tp_ground.specs.declared.events.Expr.TheVariants.{Number, Fluent, Duration, Negated', Sum', Difference', Product'}
+use Rattle.tp_ground.specs.declared.events.Cond.{Cond, Row_of-Cond, end_of-Cond, more_of-Cond}
+use Rattle.tp_ground.specs.declared.events.Cond.TheVariants.{Atom, Compare, Not', And', Or'}
 use Rattle.tp_ground.specs.State.{State, value, both, negated, compares_values, fluents_of, atoms_in, atoms_in_row, fluents_in, fluents_in_row, truth, all_true, some_true, has_values, have_values, holds, mentions_duration}
 use Rattle.tp_ground.specs.Event.{has, meets}
 

@@ -3,9 +3,9 @@ use Rattle.std.proofs.Common.{◌≡◌, ℕ, Bool, true, false, cond, not, ◌&
 use Rattle.std.specs.List.{list_any, list_all, AllByRecursion}
 use Rattle.std.proofs.lemmas.Bool.{or_parts, or_cases, or_left, or_right, and_parts, and_from, cases_Bool, not-true, not_from_false, cond-true, cond-false, false_from_ne_true, true_from_ne_false}
 use Rattle.std.proofs.Math.IntN.{+ℤ_idl}
-use Rattle.tp_ground.specs.declared.Change.{Change}
-use Rattle.tp_ground.specs.declared.Change.TheVariants.{Assign, ScaleUp, Increase, Decrease}
-use Rattle.tp_ground.specs.declared.NumericEffect.{NumericEffect}
+use Rattle.tp_ground.specs.declared.events.Change.{Change}
+use Rattle.tp_ground.specs.declared.events.Change.TheVariants.{Assign, ScaleUp, Increase, Decrease}
+use Rattle.tp_ground.specs.declared.events.NumericEffect.{NumericEffect}
 use Rattle.tp_ground.specs.State.{State, both, value, units}
 use Rattle.tp_ground.specs.Event.{has, interferes, is_additive, fluents_set, fluents_written, mixes_in, mixes}
 use Rattle.tp_ground.specs.Happens.{Timed, value_set, amount, set_in, added_in, set_by, added_by, plus, is_assign, is_defined, apart, atom_after, number_after}

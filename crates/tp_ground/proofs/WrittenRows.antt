@@ -9,8 +9,8 @@ use Rattle.tp_syntax.specs.Parts.{all_parts, part, no_parts, one}
 use Rattle.tp_syntax.specs.Effects as effects
 use Rattle.tp_syntax.specs.Actions as actions
 use Rattle.tp_ast.specs.declared.words.Comparison.TheVariants as comparisons
-use Rattle.tp_ast.specs.declared.words.Mark.TheVariants.{AtStart, AtEnd}
-use Rattle.tp_ground.specs.declared.Comparison.TheVariants.{Equal}
+use Rattle.tp_ast.specs.declared.words.TimeSpecifier.TheVariants.{AtStart, AtEnd}
+use Rattle.tp_ground.specs.declared.events.Comparison.TheVariants.{Equal}
 use Rattle.tp_ground.specs.Words.{firsts}
 use Rattle.tp_ground.specs.Bindings.{Universe, Env, bindings, bound}
 use Rattle.tp_ground.specs.Written.{number, atom, negation, all_of, any_of, no_conditions, condition, always, never, durative, condition_in, body_in}
@@ -38,11 +38,11 @@ light = about (codes "light") []
 abbrev light_match : actions.Body
 light_match = actions.durative
     (effects.rule comparisons.Equal (expressions.number (pos 8)))
-    (all_parts (part (one (record { mark = AtStart; what = conditions.fact unused })) no_parts))
+    (all_parts (part (one (record { specifier = AtStart; what = conditions.fact unused })) no_parts))
     (all_parts
-    (part (one (record { mark = AtStart; what = one (effects.deletes unused) }))
-    (part (one (record { mark = AtStart; what = one (effects.adds light) }))
-    (part (one (record { mark = AtEnd; what = one (effects.deletes light) })) no_parts))))
+    (part (one (record { specifier = AtStart; what = one (effects.deletes unused) }))
+    (part (one (record { specifier = AtStart; what = one (effects.adds light) }))
+    (part (one (record { specifier = AtEnd; what = one (effects.deletes light) })) no_parts))))
 
 abbrev env : Env
 env = bound parameters (codes "m1" ∷ [])

@@ -1,10 +1,10 @@
 -- The bounds of a plan, as statements on an assignment of moments to its events, and the plan of such an assignment.
 use Rattle.std.specs.Prelude.{◌≡◌, ◌≢◌, ℕ, ◌+◌, ◌-◌, ◌≤◌, ◌<◌, Bool, true, ◌||◌, ◌⊎◌, List, [], ◌∷◌, ◌++◌, MatchBool}
 use Rattle.std.specs.List.{list_any}
-use Rattle.tp_ground.specs.declared.GroundEvent.{GroundEvent}
-use Rattle.tp_ground.specs.declared.Cond.{Cond}
-use Rattle.tp_ground.specs.declared.Body.{Body}
-use Rattle.tp_ground.specs.declared.Body.TheVariants.{Instant, Durative}
+use Rattle.tp_ground.specs.declared.events.GroundEvent.{GroundEvent}
+use Rattle.tp_ground.specs.declared.events.Cond.{Cond}
+use Rattle.tp_ground.specs.declared.events.Body.{Body}
+use Rattle.tp_ground.specs.declared.events.Body.TheVariants.{Instant, Durative}
 use Rattle.tp_ground.specs.State.{State, atoms_in, fluents_in, mentions_duration}
 use Rattle.tp_ground.specs.Event.{meets, fluents_written, interferes}
 use Rattle.tp_ground.specs.Valid.{Planned, Placed, events, count_of, IsLawful}

@@ -1,10 +1,10 @@
 -- What an event reads and writes, and when two events interfere.
 use Rattle.std.specs.Prelude.{ℕ, Bool, true, false, ◌==◌, not, ◌&&◌, ◌||◌, List, [], ◌∷◌, ◌++◌, map}
 use Rattle.std.specs.List.{list_any, filter, flat_map}
-use Rattle.tp_ground.specs.declared.Change.{Change}
-use Rattle.tp_ground.specs.declared.Change.TheVariants.{Assign, ScaleUp, Increase, Decrease}
-use Rattle.tp_ground.specs.declared.NumericEffect.{NumericEffect}
-use Rattle.tp_ground.specs.declared.GroundEvent.{GroundEvent}
+use Rattle.tp_ground.specs.declared.events.Change.{Change}
+use Rattle.tp_ground.specs.declared.events.Change.TheVariants.{Assign, ScaleUp, Increase, Decrease}
+use Rattle.tp_ground.specs.declared.events.NumericEffect.{NumericEffect}
+use Rattle.tp_ground.specs.declared.events.GroundEvent.{GroundEvent}
 use Rattle.tp_ground.specs.State.{fluents_of, atoms_in, fluents_in}
 
 -- the number is in the list; the lists have a number in common

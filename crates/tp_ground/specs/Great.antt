@@ -7,7 +7,7 @@ use Rattle.tp_syntax.specs.Conditions as conditions
 use Rattle.tp_syntax.specs.Conditions.{Condition, Conditions}
 use Rattle.tp_syntax.specs.Parts.{Joined, Parts, all_parts, for_each, one, no_parts, part}
 use Rattle.tp_syntax.specs.Effects as effects
-use Rattle.tp_syntax.specs.Effects.{Outcome, Effect, Timed, Rule, Rules, all_rules, no_rules, more_rules}
+use Rattle.tp_syntax.specs.Effects.{SimpleEffect, Effect, Timed, Rule, Rules, all_rules, no_rules, more_rules}
 use Rattle.tp_syntax.specs.Actions as actions
 use Rattle.tp_syntax.specs.Domains.{Domain}
 use Rattle.tp_syntax.specs.Problems as problems
@@ -51,13 +51,13 @@ abbrev mutual
   great_parts great no_parts = false
   great_parts great (part p ps) = great_part great p || great_parts great ps
 
-abbrev pub great_outcome : Outcome → Bool
-great_outcome (effects.adds f) = false
-great_outcome (effects.deletes f) = false
-great_outcome (effects.writes w f x) = great_expression x
+abbrev pub great_simple_effect : SimpleEffect → Bool
+great_simple_effect (effects.adds f) = false
+great_simple_effect (effects.deletes f) = false
+great_simple_effect (effects.writes w f x) = great_expression x
 
 abbrev pub great_effect : Effect → Bool
-great_effect e = great_part great_outcome e
+great_effect e = great_part great_simple_effect e
 
 abbrev pub great_timed : {A : Type 0} → (A → Bool) → Timed A → Bool
 great_timed great t = great t.what

@@ -1,8 +1,8 @@
 -- What writes do to one fluent, one write after another.
 use Rattle.std.specs.Prelude.{ℕ, Bool, true, false, ◌==◌, if◌then◌else◌, List, [], ◌∷◌, Option, ℤ, ◌+ℤ◌, ◌-ℤ◌, ◌*ℤ◌}
-use Rattle.tp_ground.specs.declared.Change.{Change}
-use Rattle.tp_ground.specs.declared.Change.TheVariants.{Assign, ScaleUp, Increase, Decrease}
-use Rattle.tp_ground.specs.declared.NumericEffect.{NumericEffect}
+use Rattle.tp_ground.specs.declared.events.Change.{Change}
+use Rattle.tp_ground.specs.declared.events.Change.TheVariants.{Assign, ScaleUp, Increase, Decrease}
+use Rattle.tp_ground.specs.declared.events.NumericEffect.{NumericEffect}
 use Rattle.tp_ground.specs.State.{State, both, value, units}
 use Rattle.tp_ground.specs.Event.{has}
 use Rattle.tp_ground.specs.Happens.{Timed}

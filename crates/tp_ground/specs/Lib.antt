@@ -20,7 +20,7 @@ pub mod Written
 pub mod Mentions
 pub mod ReadBack
 pub mod Lowered
-pub mod NumberedOutcomes
+pub mod NumberedEffects
 pub mod NumberedEnds
 pub mod Grounding
 pub mod WrittenTasks

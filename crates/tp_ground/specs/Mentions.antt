@@ -4,10 +4,10 @@ use Rattle.tp_syntax.specs.Conditions.{Condition}
 use Rattle.tp_syntax.specs.Parts.{Joined}
 use Rattle.tp_syntax.specs.Effects.{Effect, Timed, Rule}
 use Rattle.tp_syntax.specs.Actions as actions
-use Rattle.tp_ast.specs.declared.words.Mark.TheVariants.{AtStart, OverAll, AtEnd}
+use Rattle.tp_ast.specs.declared.words.TimeSpecifier.TheVariants.{AtStart, OverAll, AtEnd}
 use Rattle.tp_ground.specs.Words.{Words}
 use Rattle.tp_ground.specs.Bindings.{Universe, Env}
-use Rattle.tp_ground.specs.Written.{GroundExpression, number, fluent, the_duration, negative, sum, difference, product, GroundCondition, GroundConditions, atom, compared, negation, all_of, any_of, no_conditions, condition, GroundOutcome, adds, deletes, writes, GroundLimit, outcomes_in, outcomes_at, limits_in, condition_in, condition_at}
+use Rattle.tp_ground.specs.Written.{GroundExpression, number, fluent, the_duration, negative, sum, difference, product, GroundCondition, GroundConditions, atom, compared, negation, all_of, any_of, no_conditions, condition, GroundEffect, adds, deletes, writes, GroundLimit, simple_effects_in, simple_effects_at, limits_in, condition_in, condition_at}
 
 -- the atoms, and the fluents
 pub record Mentions : Type 0 where
@@ -49,10 +49,10 @@ abbrev mutual
   of_conditions (condition c cs) = of_condition c then of_conditions cs
 
 -- a write mentions its fluent, and then those of its value
-abbrev pub of_outcome : GroundOutcome → Mentions
-of_outcome (adds w) = an_atom w
-of_outcome (deletes w) = an_atom w
-of_outcome (writes w) = a_fluent w.fluent then of_expression w.value
+abbrev pub of_simple_effect : GroundEffect → Mentions
+of_simple_effect (adds w) = an_atom w
+of_simple_effect (deletes w) = an_atom w
+of_simple_effect (writes w) = a_fluent w.fluent then of_expression w.value
 
 abbrev pub of_limit : GroundLimit → Mentions
 of_limit l = of_expression l.value
@@ -62,20 +62,20 @@ abbrev pub of_each : {X : Type 0} → (X → Mentions) → List X → Mentions
 of_each of [] = nothing
 of_each of (x ∷ xs) = of x then of_each of xs
 
--- Of an event: its condition, its outcomes in their order, and for a start the rule.
+-- Of an event: its condition, its simple effects in their order, and for a start the rule.
 abbrev pub of_instant : Universe → Env → Condition → Effect → Mentions
 of_instant u env c e =
-    of_condition (condition_in u env c) then of_each of_outcome (outcomes_in u env e)
+    of_condition (condition_in u env c) then of_each of_simple_effect (simple_effects_in u env e)
 
 abbrev pub of_start :
     Universe → Env → Rule → Joined (Timed Condition) → Joined (Timed Effect) → Mentions
 of_start u env r c e =
     of_condition (condition_at u AtStart env c)
-    then of_each of_outcome (outcomes_at u AtStart env e) then of_each of_limit (limits_in env r)
+    then of_each of_simple_effect (simple_effects_at u AtStart env e) then of_each of_limit (limits_in env r)
 
 abbrev pub of_end : Universe → Env → Joined (Timed Condition) → Joined (Timed Effect) → Mentions
 of_end u env c e =
-    of_condition (condition_at u AtEnd env c) then of_each of_outcome (outcomes_at u AtEnd env e)
+    of_condition (condition_at u AtEnd env c) then of_each of_simple_effect (simple_effects_at u AtEnd env e)
 
 -- of a durative action: its start, its end, and what holds between them
 abbrev pub of_body : Universe → Env → actions.Body → Mentions

@@ -1,8 +1,8 @@
 -- The relaxed reach: what can be added if negated atoms and comparisons count as met.
 use Rattle.std.specs.Prelude.{◌≡◌, ℕ, Bool, true, false, not, ◌&&◌, ◌||◌, List}
-use Rattle.tp_ground.specs.declared.Cond.{Cond, Row_of-Cond, end_of-Cond, more_of-Cond}
-use Rattle.tp_ground.specs.declared.Cond.TheVariants.{Atom, Compare, Not', And', Or'}
-use Rattle.tp_ground.specs.declared.GroundEvent.{GroundEvent}
+use Rattle.tp_ground.specs.declared.events.Cond.{Cond, Row_of-Cond, end_of-Cond, more_of-Cond}
+use Rattle.tp_ground.specs.declared.events.Cond.TheVariants.{Atom, Compare, Not', And', Or'}
+use Rattle.tp_ground.specs.declared.events.GroundEvent.{GroundEvent}
 use Rattle.tp_ground.specs.State.{State}
 use Rattle.tp_ground.specs.Event.{has}
 use Rattle.tp_ground.specs.Bounds.{In}

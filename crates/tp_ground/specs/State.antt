@@ -1,12 +1,12 @@
 -- States, values of expressions, and what holds in a state.
 use Rattle.std.specs.Prelude.{ℕ, ◌/◌, ◌%◌, Bool, true, false, ◌==◌, not, ◌&&◌, ◌||◌, if◌then◌else◌, List, [], ◌∷◌, ◌++◌, Option, Some, None, ℤ, pos, ◌+ℤ◌, ◌-ℤ◌, ◌*ℤ◌, neg_ℤ, is_some, int_lt, int_le}
 use Rattle.std.specs.Ordering.{int_eq}
-use Rattle.tp_ground.specs.declared.Comparison.{Comparison}
-use Rattle.tp_ground.specs.declared.Comparison.TheVariants.{Less, AtMost, Equal, AtLeast, Greater}
-use Rattle.tp_ground.specs.declared.Expr.{Expr}
-use Rattle.tp_ground.specs.declared.Expr.TheVariants.{Number, Fluent, Duration, Negated', Sum', Difference', Product'}
-use Rattle.tp_ground.specs.declared.Cond.{Cond, Row_of-Cond, end_of-Cond, more_of-Cond}
-use Rattle.tp_ground.specs.declared.Cond.TheVariants.{Atom, Compare, Not', And', Or'}
+use Rattle.tp_ground.specs.declared.events.Comparison.{Comparison}
+use Rattle.tp_ground.specs.declared.events.Comparison.TheVariants.{Less, AtMost, Equal, AtLeast, Greater}
+use Rattle.tp_ground.specs.declared.events.Expr.{Expr}
+use Rattle.tp_ground.specs.declared.events.Expr.TheVariants.{Number, Fluent, Duration, Negated', Sum', Difference', Product'}
+use Rattle.tp_ground.specs.declared.events.Cond.{Cond, Row_of-Cond, end_of-Cond, more_of-Cond}
+use Rattle.tp_ground.specs.declared.events.Cond.TheVariants.{Atom, Compare, Not', And', Or'}
 
 -- Which atoms are true, and the number of each fluent that has one.
 pub record State : Type 0 where

@@ -1,9 +1,9 @@
 -- The first fault of a plan.
 use Rattle.std.specs.Prelude.{◌≡◌, ℕ, zero, suc, ◌+◌, ◌<◌, Bool, false, not, ◌&&◌, ◌==◌, nat_le, nat_lt, List, [], ◌∷◌, Option, Some, None, is_some, pos, ◌*ℤ◌, max}
 use Rattle.std.specs.List.{list_all, position_from}
-use Rattle.tp_ground.specs.declared.Body.{Body}
-use Rattle.tp_ground.specs.declared.Body.TheVariants.{Instant, Durative}
-use Rattle.tp_ground.specs.declared.Cond.{Cond}
+use Rattle.tp_ground.specs.declared.events.Body.{Body}
+use Rattle.tp_ground.specs.declared.events.Body.TheVariants.{Instant, Durative}
+use Rattle.tp_ground.specs.declared.events.Cond.{Cond}
 use Rattle.tp_ground.specs.State.{State, both, value, holds, compares_values}
 use Rattle.tp_ground.specs.Event.{interferes, mixes}
 use Rattle.tp_ground.specs.Happens.{is_defined, atom_after, number_after}

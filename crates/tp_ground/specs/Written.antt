@@ -11,18 +11,18 @@ use Rattle.tp_syntax.specs.Conditions as conditions
 use Rattle.tp_syntax.specs.Conditions.{Condition, Conditions}
 use Rattle.tp_syntax.specs.Parts.{Joined, Parts, all_parts, for_each, one, no_parts, part}
 use Rattle.tp_syntax.specs.Effects as effects
-use Rattle.tp_syntax.specs.Effects.{Outcome, Effect, Timed, Rule, Rules, all_rules, no_rules, more_rules}
+use Rattle.tp_syntax.specs.Effects.{SimpleEffect, Effect, Timed, Rule, Rules, all_rules, no_rules, more_rules}
 use Rattle.tp_syntax.specs.Actions as actions
 use Rattle.tp_ast.specs.declared.words.Comparison as syntax
 use Rattle.tp_ast.specs.declared.words.Comparison.TheVariants as comparisons
 use Rattle.tp_ast.specs.declared.words.Writing.{Writing}
 use Rattle.tp_ast.specs.declared.words.Writing.TheVariants as writings
-use Rattle.tp_ast.specs.declared.words.Mark.{Mark}
-use Rattle.tp_ast.specs.declared.words.Mark.TheVariants.{AtStart, OverAll, AtEnd}
-use Rattle.tp_ground.specs.declared.Comparison.{Comparison}
-use Rattle.tp_ground.specs.declared.Comparison.TheVariants.{Less, AtMost, Equal, AtLeast, Greater}
-use Rattle.tp_ground.specs.declared.Change.{Change}
-use Rattle.tp_ground.specs.declared.Change.TheVariants.{Assign, ScaleUp, Increase, Decrease}
+use Rattle.tp_ast.specs.declared.words.TimeSpecifier.{TimeSpecifier}
+use Rattle.tp_ast.specs.declared.words.TimeSpecifier.TheVariants.{AtStart, OverAll, AtEnd}
+use Rattle.tp_ground.specs.declared.events.Comparison.{Comparison}
+use Rattle.tp_ground.specs.declared.events.Comparison.TheVariants.{Less, AtMost, Equal, AtLeast, Greater}
+use Rattle.tp_ground.specs.declared.events.Change.{Change}
+use Rattle.tp_ground.specs.declared.events.Change.TheVariants.{Assign, ScaleUp, Increase, Decrease}
 use Rattle.tp_ground.specs.Words.{Words}
 use Rattle.tp_ground.specs.Bindings.{Universe, Env, bindings, bound, object_for, words_in}
 
@@ -58,10 +58,10 @@ pub record GroundWrite : Type 0 where
   pub value : GroundExpression
 
 -- one change of an event
-pub data GroundOutcome : Type 0 where
-  adds : Words → GroundOutcome
-  deletes : Words → GroundOutcome
-  writes : GroundWrite → GroundOutcome
+pub data GroundEffect : Type 0 where
+  adds : Words → GroundEffect
+  deletes : Words → GroundEffect
+  writes : GroundWrite → GroundEffect
 
 -- one comparison of the duration with a value
 pub record GroundLimit : Type 0 where
@@ -167,32 +167,32 @@ change_of writings.Increase = Increase
 change_of writings.Decrease = Decrease
 change_of writings.ScaleUp = ScaleUp
 
-abbrev pub outcome_in : Env → Outcome → GroundOutcome
-outcome_in env (effects.adds f) = adds (words_in env f)
-outcome_in env (effects.deletes f) = deletes (words_in env f)
-outcome_in env (effects.writes w f x) =
+abbrev pub simple_effect_in : Env → SimpleEffect → GroundEffect
+simple_effect_in env (effects.adds f) = adds (words_in env f)
+simple_effect_in env (effects.deletes f) = deletes (words_in env f)
+simple_effect_in env (effects.writes w f x) =
     writes (record { change = change_of w; fluent = words_in env f; value = expression_in env x })
 
--- an outcome is one wherever it stands
-abbrev pub outcome_part : Universe → Mark → Env → Outcome → List GroundOutcome
-outcome_part u m env o = outcome_in env o ∷ []
+-- a simple effect is one wherever it stands
+abbrev pub simple_effect_part : Universe → TimeSpecifier → Env → SimpleEffect → List GroundEffect
+simple_effect_part u m env o = simple_effect_in env o ∷ []
 
-abbrev pub outcomes_in : Universe → Env → Effect → List GroundOutcome
-outcomes_in u env e = parts_in u (outcome_part u AtStart) env e
+abbrev pub simple_effects_in : Universe → Env → Effect → List GroundEffect
+simple_effects_in u env e = parts_in u (simple_effect_part u AtStart) env e
 
-abbrev pub added : List GroundOutcome → List Words
+abbrev pub added : List GroundEffect → List Words
 added [] = []
 added (adds w ∷ os) = w ∷ added os
 added (deletes w ∷ os) = added os
 added (writes w ∷ os) = added os
 
-abbrev pub deleted : List GroundOutcome → List Words
+abbrev pub deleted : List GroundEffect → List Words
 deleted [] = []
 deleted (adds w ∷ os) = deleted os
 deleted (deletes w ∷ os) = w ∷ deleted os
 deleted (writes w ∷ os) = deleted os
 
-abbrev pub written : List GroundOutcome → List GroundWrite
+abbrev pub written : List GroundEffect → List GroundWrite
 written [] = []
 written (adds w ∷ os) = written os
 written (deletes w ∷ os) = written os
@@ -200,29 +200,29 @@ written (writes w ∷ os) = w ∷ written os
 
 -- ---- conditions and effects of a durative action, at one of its marks
 
-abbrev pub mark_number : Mark → ℕ
+abbrev pub mark_number : TimeSpecifier → ℕ
 mark_number AtStart = 0
 mark_number OverAll = 1
 mark_number AtEnd = 2
 
-abbrev pub is_mark : Mark → Mark → Bool
-is_mark m n = mark_number m == mark_number n
+abbrev pub is_specifier : TimeSpecifier → TimeSpecifier → Bool
+is_specifier m n = mark_number m == mark_number n
 
--- what one part gives there: nothing at another mark
-abbrev pub condition_part : Universe → Mark → Env → Timed Condition → List GroundCondition
-condition_part u m env t = if is_mark t.mark m then condition_in u env t.what ∷ [] else []
+-- what one part gives there: nothing at another specifier
+abbrev pub condition_part : Universe → TimeSpecifier → Env → Timed Condition → List GroundCondition
+condition_part u m env t = if is_specifier t.specifier m then condition_in u env t.what ∷ [] else []
 
-abbrev pub outcomes_part : Universe → Mark → Env → Timed Effect → List GroundOutcome
-outcomes_part u m env t = if is_mark t.mark m then outcomes_in u env t.what else []
+abbrev pub simple_effects_part : Universe → TimeSpecifier → Env → Timed Effect → List GroundEffect
+simple_effects_part u m env t = if is_specifier t.specifier m then simple_effects_in u env t.what else []
 
-abbrev pub conjuncts_at : Universe → Mark → Env → Joined (Timed Condition) → List GroundCondition
+abbrev pub conjuncts_at : Universe → TimeSpecifier → Env → Joined (Timed Condition) → List GroundCondition
 conjuncts_at u m env c = parts_in u (condition_part u m) env c
 
-abbrev pub condition_at : Universe → Mark → Env → Joined (Timed Condition) → GroundCondition
+abbrev pub condition_at : Universe → TimeSpecifier → Env → Joined (Timed Condition) → GroundCondition
 condition_at u m env c = all_of (conditions_from (conjuncts_at u m env c))
 
-abbrev pub outcomes_at : Universe → Mark → Env → Joined (Timed Effect) → List GroundOutcome
-outcomes_at u m env e = parts_in u (outcomes_part u m) env e
+abbrev pub simple_effects_at : Universe → TimeSpecifier → Env → Joined (Timed Effect) → List GroundEffect
+simple_effects_at u m env e = parts_in u (simple_effects_part u m) env e
 
 -- ---- rules of durations
 
@@ -238,21 +238,21 @@ abbrev mutual
 
 -- ---- actions
 
-abbrev pub happening : GroundCondition → List GroundOutcome → List GroundLimit → GroundHappening
+abbrev pub happening : GroundCondition → List GroundEffect → List GroundLimit → GroundHappening
 happening c os ls =
     record { condition = c; adds = added os; deletes = deleted os; writes = written os; rule = ls }
 
 abbrev pub instant_in : Universe → Env → Condition → Effect → GroundHappening
-instant_in u env c e = happening (condition_in u env c) (outcomes_in u env e) []
+instant_in u env c e = happening (condition_in u env c) (simple_effects_in u env e) []
 
 abbrev pub start_in :
     Universe → Env → Rule → Joined (Timed Condition) → Joined (Timed Effect) → GroundHappening
 start_in u env r c e =
-    happening (condition_at u AtStart env c) (outcomes_at u AtStart env e) (limits_in env r)
+    happening (condition_at u AtStart env c) (simple_effects_at u AtStart env e) (limits_in env r)
 
 abbrev pub end_in :
     Universe → Env → Joined (Timed Condition) → Joined (Timed Effect) → GroundHappening
-end_in u env c e = happening (condition_at u AtEnd env c) (outcomes_at u AtEnd env e) []
+end_in u env c e = happening (condition_at u AtEnd env c) (simple_effects_at u AtEnd env e) []
 
 abbrev pub body_in : Universe → Env → actions.Body → GroundBody
 body_in u env (actions.instant c e) = instant (instant_in u env c e)

@@ -96,7 +96,7 @@ fn bodies(
 {
     let mut rows = rows_of(alloc, universe, parameters)?;
     let outside = Env::Empty;
-    let mut lowered = Vec::new(alloc);
+    let mut lowered = Vec::with_capacity(alloc, rows.count)?;
     for place in 0..rows.count {
         rows.turn_to(place);
         let inner = Env::Inner(&*parameters, &rows.row, &outside);

@@ -5,7 +5,7 @@ ghost use Rattle.tp_ground.specs.Views.{universe_view};
 
 use crate::universe::{Universe, note};
 use std::alloc::{AllocError, Global};
-use tp_syntax::{Action, Body, Cond, Effect, Joined, Outcome, Timed, Typed};
+use tp_syntax::{Action, Body, Cond, Effect, Joined, SimpleEffect, Timed, Typed};
 
 fn note_variables<'a>(
     alloc: Global,
@@ -96,7 +96,7 @@ fn note_part<'a, P: Noted>(
     }
 }
 
-impl Noted for Outcome {
+impl Noted for SimpleEffect {
     fn note<'a>(&'a self, _alloc: Global, _universe: &mut Universe<'a>) -> Result<(), AllocError> {
         Ok(())
     }

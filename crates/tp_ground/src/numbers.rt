@@ -5,15 +5,15 @@ ghost use Rattle.std.specs.List.{list_any};
 ghost use Rattle.tp_syntax.specs.ExprViews.{expr_view};
 ghost use Rattle.tp_syntax.specs.CondViews.{cond_view};
 ghost use Rattle.tp_syntax.specs.PartViews.{joined_view};
-ghost use Rattle.tp_syntax.specs.EffectViews.{outcome_view, effect_view, timed_view, timed_condition_view, timed_effect_view};
+ghost use Rattle.tp_syntax.specs.EffectViews.{simple_effect_view, effect_view, timed_view, timed_condition_view, timed_effect_view};
 ghost use Rattle.tp_syntax.specs.RuleViews.{rule_view};
 ghost use Rattle.tp_syntax.specs.DomainViews.{body_view, action_view, initial_view, domain_view, problem_view};
 ghost use Rattle.tp_syntax.specs.Conditions.{Condition};
 ghost use Rattle.tp_syntax.specs.Effects;
-ghost use Rattle.tp_ground.specs.Great.{is_great, great_expression, great_condition, great_part, great_outcome, great_effect, great_timed, great_rule, great_body, great_initial, has_great_number};
+ghost use Rattle.tp_ground.specs.Great.{is_great, great_expression, great_condition, great_part, great_simple_effect, great_effect, great_timed, great_rule, great_body, great_initial, has_great_number};
 
 use tp_syntax::{
-    Action, Body, Cond, Domain, DurationRule, Effect, Expr, Initial, Joined, Outcome, Problem,
+    Action, Body, Cond, Domain, DurationRule, Effect, Expr, Initial, Joined, Problem, SimpleEffect,
     Timed,
 };
 
@@ -103,17 +103,17 @@ fn part_is_great<P: Numbers>(part: &Joined<P>) -> bool
     }
 }
 
-impl Numbers for Outcome {
-    ghost Seen = { Effects.Outcome };
+impl Numbers for SimpleEffect {
+    ghost Seen = { Effects.SimpleEffect };
 
-    ghost seen = { outcome_view };
+    ghost seen = { simple_effect_view };
 
-    ghost great = { great_outcome };
+    ghost great = { great_simple_effect };
 
     fn has_great(&self) -> bool {
         match self {
-            Outcome::Add(_) | Outcome::Delete(_) => false,
-            Outcome::Write(_, _, value) => expression_is_great(value),
+            SimpleEffect::Add(_) | SimpleEffect::Delete(_) => false,
+            SimpleEffect::Write(_, _, value) => expression_is_great(value),
         }
     }
 }

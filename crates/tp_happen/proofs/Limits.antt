@@ -2,7 +2,7 @@
 use Rattle.std.proofs.Common.{◌≡◌, ℕ, Bool, true, false, ◌&&◌, List, [], ◌∷◌, Option, ℤ, ◌⊎◌, inl, inr, ⊎_elim, refl, sym, ◌∙◌}
 use Rattle.std.specs.List.{list_all}
 use Rattle.std.proofs.lemmas.Bool.{and_parts, and_from, and_left, and_right, and_cases, false_from_ne_true, true≢false}
-use Rattle.tp_ground.specs.declared.NumericEffect.{NumericEffect}
+use Rattle.tp_ground.specs.declared.events.NumericEffect.{NumericEffect}
 use Rattle.tp_ground.specs.State.{State, units}
 use Rattle.tp_ground.specs.Happens.{Timed}
 use Rattle.tp_happen.specs.Small.{values_small, all_small}

@@ -1,7 +1,7 @@
 -- What a condition of conditions mentions, by the list of these.
 use Rattle.std.proofs.Common.{◌≡◌, ◌++◌, refl, ap, ◌∙◌, Vec, Global}
 use Rattle.std.specs.List.{flat_map}
-use Rattle.tp_ground.specs.declared.Cond.{Cond, And, Or, Row_of-Cond, end_of-Cond, more_of-Cond, items-the_row-Cond, items_hidden-the_row-Cond-0}
+use Rattle.tp_ground.specs.declared.events.Cond.{Cond, And, Or, Row_of-Cond, end_of-Cond, more_of-Cond, items-the_row-Cond, items_hidden-the_row-Cond-0}
 use Rattle.tp_ground.specs.State.{atoms_in, atoms_in_row, fluents_in, fluents_in_row}
 use Rattle.tp_happen.proofs.Rows.{row_of}
 

@@ -1,7 +1,7 @@
 -- A step of the search for two events that interfere.
 use Rattle.std.proofs.Common.{◌≡◌, ℕ, ◌+◌, ◌<◌, List, Option, length, get_or, drop, drop-cons, add-one, sym, ap, ap₂, ◌∙◌}
 use Rattle.std.specs.List.{position_from}
-use Rattle.tp_ground.specs.declared.GroundEvent.{GroundEvent}
+use Rattle.tp_ground.specs.declared.events.GroundEvent.{GroundEvent}
 use Rattle.tp_ground.specs.Event.{interferes}
 use Rattle.tp_ground.specs.Happens.{Timed}
 use Rattle.tp_happen.specs.Fault.{first_pair, pair_or}

@@ -2,8 +2,8 @@
 use Rattle.std.proofs.Common.{◌≡◌, ℕ, Bool, true, false, cond, not, nat_lt, length, List, [], ◌∷◌, ◌++◌, map, refl}
 use Rattle.std.specs.List.{list_all, filter}
 use Rattle.std.proofs.lemmas.Bool.{and_parts, and_from}
-use Rattle.tp_ground.specs.declared.NumericEffect.{NumericEffect}
-use Rattle.tp_ground.specs.declared.GroundEvent.{GroundEvent}
+use Rattle.tp_ground.specs.declared.events.NumericEffect.{NumericEffect}
+use Rattle.tp_ground.specs.declared.events.GroundEvent.{GroundEvent}
 use Rattle.tp_ground.specs.Event.{is_additive}
 use Rattle.tp_ground.specs.Fits.{event_fits}
 use Rattle.tp_ground.specs.Happens.{Timed}

@@ -1,9 +1,9 @@
 -- Numbers that the machine works with: none passes 10^15 in absolute value.
 use Rattle.std.specs.Prelude.{Bool, true, ◌&&◌, Option, Some, None, ℤ, unsigned_abs, nat_le}
-use Rattle.tp_ground.specs.declared.Expr.{Expr}
-use Rattle.tp_ground.specs.declared.Expr.TheVariants.{Number, Fluent, Duration, Negated', Sum', Difference', Product'}
-use Rattle.tp_ground.specs.declared.Cond.{Cond, Row_of-Cond, end_of-Cond, more_of-Cond}
-use Rattle.tp_ground.specs.declared.Cond.TheVariants.{Atom, Compare, Not', And', Or'}
+use Rattle.tp_ground.specs.declared.events.Expr.{Expr}
+use Rattle.tp_ground.specs.declared.events.Expr.TheVariants.{Number, Fluent, Duration, Negated', Sum', Difference', Product'}
+use Rattle.tp_ground.specs.declared.events.Cond.{Cond, Row_of-Cond, end_of-Cond, more_of-Cond}
+use Rattle.tp_ground.specs.declared.events.Cond.TheVariants.{Atom, Compare, Not', And', Or'}
 use Rattle.tp_ground.specs.State.{State, value}
 
 abbrev pub is_small : Option ℤ → Bool

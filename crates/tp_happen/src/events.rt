@@ -21,7 +21,7 @@ pub struct Event<'t> {
 
 impl<'t> Model for Event<'t> {
     ghost use Rattle.tp_ground.specs.contracts.GroundEvent as ground_event;
-    ghost use Rattle.tp_ground.specs.declared.GroundEvent.{GroundEvent as Body};
+    ghost use Rattle.tp_ground.specs.declared.events.GroundEvent.{GroundEvent as Body};
     ghost use Rattle.std.specs.Coded.{codes};
 
     ghost Value = { Body };

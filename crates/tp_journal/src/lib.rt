@@ -9,7 +9,6 @@
 #![tactic(auto)]
 
 mod edges;
-mod failures;
 mod faults;
 mod judging;
 mod page;

@@ -1,4 +1,5 @@
-// What hinders an audit, and the lines that tell it.
+//! What hinders an audit, and the lines that tell it.
+
 ghost use Rattle.std.specs.Prelude.{◌≡◌};
 ghost use Rattle.tp_files.specs.FaultLines.{fault_text};
 ghost use Rattle.tp_log_audits.specs.AuditLines.{stop_status, stop_text};

@@ -1,4 +1,5 @@
-// The head of a journal in a file, and its audit against an executive.
+//! The head of a journal in a file, and its audit against an executive.
+
 ghost use Rattle.std.specs.Prelude.{◌≡◌, ℕ, List, IfOk, IfErr, IfSome};
 ghost use Rattle.tp_journal.specs.Writing.{IsNewExecutive};
 ghost use Rattle.tp_audit.specs.Telling.{IsHeadTold};

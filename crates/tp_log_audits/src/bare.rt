@@ -1,4 +1,5 @@
-// The audit of a journal of a network of bounds alone.
+//! The audit of a journal of a network of bounds alone.
+
 ghost use Rattle.std.specs.Prelude.{◌≡◌, ◌≢◌, ◌≤◌, ℕ, List, [], IsTrue, ◌↔◌, IfOk, IfErr};
 ghost use Rattle.std.specs.List.{All};
 ghost use Rattle.tp_exec.specs.Machine.{IsFresh};
@@ -13,18 +14,12 @@ use crate::auditing::{Found, audit_in, head_in};
 use crate::verdicts::say;
 use std::alloc::{AllocError, Global};
 use tp_audit::JournalHead;
-use tp_bounds::{Limits, MOST_LAG};
+use tp_bounds::{Limits, MOST_EVENTS, MOST_HORIZON, MOST_LAG};
 use tp_device::Sink;
 use tp_exec::Executive;
 use tp_files::{Files, OUT_OF_ORDER, REFUSED, complain};
 use tp_net::Net;
 use tp_repair::RepairNet;
-
-/// The most events of a network.
-const MOST_EVENTS: u16 = 1_024;
-
-/// The greatest horizon.
-const GREATEST_HORIZON: u32 = 1_000_000_000;
 
 /// Whether all lags are of so many events, and in range. One look at each.
 pub fn lags_fit(events: u16, lags: &[(u16, u32)]) -> bool
@@ -38,7 +33,7 @@ fn head_fits(head: &JournalHead) -> bool
     ensures { IsTrue result ↔ HeadFits head.now }
 {
     head.events <= MOST_EVENTS
-        && head.horizon <= GREATEST_HORIZON
+        && head.horizon <= MOST_HORIZON
         && lags_fit(head.events, head.lags.as_slice())
 }
 

@@ -1,4 +1,5 @@
-// The lines of what an audit found.
+//! The lines of what an audit found.
+
 ghost use Rattle.std.specs.Prelude.{◌≡◌, ◌++◌, codes, decimal, IfOk, IfErr};
 ghost use Rattle.tp_device.specs.Bytes.{Writes, AppendsPart, failures_after};
 ghost use Rattle.tp_log_audits.specs.Audits.{Says, found_line, say_failures};

@@ -1,4 +1,5 @@
-// Journal files of the host.
+//! Journal files of the host.
+
 ghost use Rattle.std.specs.Prelude.{None, if◌then◌else◌};
 
 use crate::logs::Logs;

@@ -1,4 +1,5 @@
-// Journal files under names.
+//! Journal files under names.
+
 ghost use Rattle.std.specs.Prelude.{◌≡◌, ℕ, List, [], Option, IfOk, IfSome};
 
 use tp_device::{Failed, Sink};

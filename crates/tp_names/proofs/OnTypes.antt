@@ -10,7 +10,7 @@ use Rattle.std.proofs.lemmas.List.Folds.{list_any-append}
 use Rattle.tp_types.specs.NameSets.{insert_key}
 use Rattle.tp_ast.specs.Symbols.{Name, Parent, parent_view}
 use Rattle.tp_ast.specs.declared.types.TypeName.{TypeName}
-use Rattle.tp_ast.specs.Domains.{object, is_object, mentioned, with_mentioned, no_circle, types_from}
+use Rattle.tp_ast.specs.Domains.{object, is_object, mentioned, with_mentioned, no_cycle, types_from}
 use Rattle.tp_names.specs.FormViews.{Knows, names_in, to_mention}
 
 abbrev same_text : Bor (List ℕ) → Bor (List ℕ) → Bool
@@ -121,14 +121,14 @@ mention_pushed done new t ks js k p ps pushed made grown is fresh =
     ∙ ap (λ (qs : List Parent). map parent_view done ++ qs) (mention_new ks k p ps is fresh)
 
 pub types_twice : (ps : List Parent) → has_twice (map (λ p. p.name) ps) ≡ true → types_from ps ≡ None
-types_twice ps twice = ap (λ b. provided (not b && (list_all (λ p. not (is_object p) || bytes_eq p.parent object) ps && no_circle (with_mentioned (filter (λ p. not (is_object p)) ps)))) (with_mentioned (filter (λ p. not (is_object p)) ps))) twice
+types_twice ps twice = ap (λ b. provided (not b && (list_all (λ p. not (is_object p) || bytes_eq p.parent object) ps && no_cycle (with_mentioned (filter (λ p. not (is_object p)) ps)))) (with_mentioned (filter (λ p. not (is_object p)) ps))) twice
 
-pub types_made : (ps types : List Parent) → has_twice (map (λ p. p.name) ps) ≡ false → list_all (λ p. not (is_object p) || bytes_eq p.parent object) ps ≡ true → types ≡ with_mentioned (filter (λ p. not (is_object p)) ps) → no_circle types ≡ true → types_from ps ≡ Some types
+pub types_made : (ps types : List Parent) → has_twice (map (λ p. p.name) ps) ≡ false → list_all (λ p. not (is_object p) || bytes_eq p.parent object) ps ≡ true → types ≡ with_mentioned (filter (λ p. not (is_object p)) ps) → no_cycle types ≡ true → types_from ps ≡ Some types
 types_made ps types once highest made straight =
     let all = with_mentioned (filter (λ (p : Parent). not (is_object p)) ps) in
-    ap (λ b. provided (not b && (list_all (λ p. not (is_object p) || bytes_eq p.parent object) ps && no_circle all)) all) once
-    ∙ ap (λ b. provided (true && (b && no_circle all)) all) highest
-    ∙ ap (λ b. provided (true && (true && b)) all) (ap no_circle (sym made) ∙ straight)
+    ap (λ b. provided (not b && (list_all (λ p. not (is_object p) || bytes_eq p.parent object) ps && no_cycle all)) all) once
+    ∙ ap (λ b. provided (true && (b && no_cycle all)) all) highest
+    ∙ ap (λ b. provided (true && (true && b)) all) (ap no_cycle (sym made) ∙ straight)
     ∙ ap Some (sym made)
 
 pub knows_same : (ks js : List (Bor (List ℕ))) (ns : List Name) → ks ≡ js → Knows js ns → Knows ks ns

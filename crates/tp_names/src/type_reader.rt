@@ -3,7 +3,7 @@
 ghost use Rattle.std.specs.Prelude.{◌≡◌, ◌∷◌, ◌||◌, map, filter, not, string_bytes, length, List, IfOk, OnOk};
 ghost use Rattle.std.specs.List.{list_all, list_any};
 ghost use Rattle.std.specs.Str.{bytes_eq};
-ghost use Rattle.tp_ast.specs.Domains.{object, above, type_below, is_object, mentioned, with_mentioned, no_circle, types_from, types_in};
+ghost use Rattle.tp_ast.specs.Domains.{object, above, type_below, is_object, mentioned, with_mentioned, no_cycle, types_from, types_in};
 ghost use Rattle.tp_names.specs.FormViews.{Knows, to_mention};
 ghost use Rattle.tp_ast.specs.Symbols.{Parent, parent_view, typed_view};
 ghost use Rattle.tp_ast.specs.Terms.{shapes};
@@ -17,7 +17,7 @@ use tp_ast::symbols::Typed;
 use tp_ast::types::TypeName;
 use tp_ast::words::Items;
 use tp_text::Tree;
-use tp_types::circles::no_circle;
+use tp_types::cycles::no_cycle;
 use tp_types::names::NameSet;
 use tp_types::table::second_named;
 
@@ -181,7 +181,7 @@ fn types_from(
         return Err(SyntaxFault::Types(at));
     }
     let types = with_mentioned(alloc, listed)?;
-    let is_straight = no_circle(alloc, &types)?;
+    let is_straight = no_cycle(alloc, &types)?;
     if !is_straight {
         return Err(SyntaxFault::Types(at));
     }

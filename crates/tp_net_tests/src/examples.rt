@@ -111,7 +111,7 @@ fn bounds_between_events(rt: HostRuntime) -> Result<(), Fail> {
     Ok(())
 }
 
-fn refuses_a_circle(net: &mut ScratchNet) -> bool {
+fn refuses_a_cycle(net: &mut ScratchNet) -> bool {
     takes(net, add(0, ZERO, ONE, -1))
         && refuses(net, add(1, ONE, ZERO, 0), Edge::New, 2)
         && has_window(net, 0, 1, 1_000_000_000)
@@ -122,6 +122,6 @@ fn refuses_a_circle(net: &mut ScratchNet) -> bool {
 #[test]
 fn two_events_that_wait_for_each_other(rt: HostRuntime) -> Result<(), Fail> {
     let mut net = scratch(rt.alloc(), 1_000_000_000)?;
-    assert!(rt; refuses_a_circle(&mut net));
+    assert!(rt; refuses_a_cycle(&mut net));
     Ok(())
 }

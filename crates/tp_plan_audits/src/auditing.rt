@@ -1,4 +1,5 @@
-// The audit of a journal against the network of a plan, and what is written of it.
+//! The audit of a journal against the network of a plan, and what is written of it.
+
 ghost use Rattle.std.specs.Prelude.{◌≡◌, ◌≤◌, length, IfOk, IfErr};
 ghost use Rattle.tp_log_audits.specs.Audits.{say_failures};
 ghost use Rattle.tp_plan_audits.specs.AuditStops.{plan_stop_failures};

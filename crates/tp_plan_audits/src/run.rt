@@ -1,4 +1,5 @@
-// The audit of the journal in a file against the plan that words name.
+//! The audit of the journal in a file against the plan that words name.
+
 ghost use Rattle.std.specs.Prelude.{◌≡◌, ◌≢◌, ◌≤◌, [], IfOk, IfErr};
 ghost use Rattle.tp_files.specs.FaultLines.{TellsFault};
 ghost use Rattle.tp_plan_audits.specs.AuditStops.{plan_stop_failures};

@@ -1,4 +1,5 @@
-// The executive against which the journal of a plan's run is audited.
+//! The executive against which the journal of a plan's run is audited.
+
 ghost use Rattle.std.specs.Prelude.{◌≡◌, ◌≤◌, length, IfOk, IsTrue, ◌↔◌};
 ghost use Rattle.tp_journal.specs.Writing.{IsNewExecutive};
 ghost use Rattle.tp_plan_audits.specs.PlanAudits.{LagsFit, audit_machine};

@@ -1,4 +1,5 @@
-// What hinders the audit of the journal of a plan's run, and its line.
+//! What hinders the audit of the journal of a plan's run, and its line.
+
 ghost use Rattle.std.specs.Prelude.{◌≡◌};
 ghost use Rattle.tp_files.specs.FaultLines.{fault_text};
 ghost use Rattle.tp_plan_audits.specs.AuditStops.{plan_stop_status, plan_stop_text};

@@ -1,4 +1,5 @@
-// The lines of faults of texts, tasks and plans.
+//! The lines of faults of texts, tasks and plans.
+
 ghost use Rattle.std.specs.Prelude.{◌≡◌};
 ghost use Rattle.tp_files.specs.FaultLines.{fault_text};
 ghost use Rattle.tp_plan_files.specs.JudgeLines.{ground_status, ground_text, judge_status, judge_text, kind_text, left_out_text, plan_status, plan_text, source_status, source_text, syntax_status, syntax_text, text_status, text_text};

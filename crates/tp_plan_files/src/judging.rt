@@ -1,4 +1,5 @@
-// The task and the verdict that files hold.
+//! The task and the verdict that files hold.
+
 ghost use Rattle.std.specs.Prelude.{◌≡◌, ◌≤◌, ℕ, List, IfOk, IfErr};
 ghost use Rattle.tp_syntax.specs.DomainViews.{domain_view, problem_view};
 ghost use Rattle.tp_syntax.specs.Domains.{SpellsDomain};

@@ -1,4 +1,5 @@
-// A short line that is put together before it is written.
+//! A short line that is put together before it is written.
+
 ghost use Rattle.std.specs.Prelude.{◌≡◌, ℕ, ◌+◌, ◌≤◌, List, ◌++◌, length, take, decimal};
 
 use itoa::Buffer;

@@ -1,4 +1,5 @@
-// What words of a call name.
+//! What words of a call name.
+
 use tp_text::Scale;
 
 /// The files of a plan, the ticks of a unit of its time, and the tick that no step may end past.

@@ -1,4 +1,5 @@
-// The line of a verdict on a plan.
+//! The line of a verdict on a plan.
+
 ghost use Rattle.std.specs.Prelude.{◌≡◌, ◌+◌, ◌≤◌, ◌++◌, codes, decimal, length};
 ghost use Rattle.tp_device.specs.Bytes.{Writes, failures_after};
 ghost use Rattle.tp_plan_files.specs.VerdictLines.{invalid_line, verdict_line, why_text};

@@ -1,4 +1,5 @@
-// The plan of a run, behind the answers.
+//! The plan of a run, behind the answers.
+
 ghost use Rattle.std.specs.Prelude.{◌≡◌, ◌≤◌, IfOk, IfErr};
 ghost use Rattle.tp_device.specs.Bytes.{Writes, failures_after};
 ghost use Rattle.tp_bounds.specs.RunLimits.{greatest_limits};

@@ -1,4 +1,5 @@
-// The run of the plan that words name.
+//! The run of the plan that words name.
+
 ghost use Rattle.std.specs.Prelude.{◌≡◌, ◌≢◌, ◌≤◌, ◌⊎◌, [], IfOk, IfErr};
 ghost use Rattle.tp_bounds.specs.RunLimits.{greatest_limits};
 ghost use Rattle.tp_deorder.specs.Answers.{IsPlanNetOf};

@@ -1,4 +1,5 @@
-// Why the run of a plan stopped, and its line.
+//! Why the run of a plan stopped, and its line.
+
 ghost use Rattle.std.specs.Prelude.{◌≡◌};
 ghost use Rattle.tp_files.specs.FaultLines.{fault_text};
 ghost use Rattle.tp_plan_runs.specs.RunLines.{network_status, network_text, run_status, run_text};

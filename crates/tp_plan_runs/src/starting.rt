@@ -1,4 +1,5 @@
-// The executive in which the run of a plan begins.
+//! The executive in which the run of a plan begins.
+
 ghost use Rattle.std.specs.Prelude.{◌≡◌, ℕ, ◌≤◌, List, length, IfOk};
 ghost use Rattle.tp_bounds.specs.RunLimits.{greatest_limits};
 ghost use Rattle.tp_bounds.specs.Setting.{event_count};

@@ -1,4 +1,5 @@
-// The text of what a search came to. Nothing here takes memory.
+//! The text of what a search came to. Nothing here takes memory.
+
 ghost use Rattle.std.specs.Prelude.{◌≡◌, ◌++◌, codes, decimal};
 ghost use Rattle.tp_device.specs.Bytes.{Writes, failures_after};
 ghost use Rattle.tp_happen.specs.PlanPrints.{plan_text};

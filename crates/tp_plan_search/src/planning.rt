@@ -1,4 +1,5 @@
-// The search for a plan of the problem in a file.
+//! The search for a plan of the problem in a file.
+
 ghost use Rattle.std.specs.Prelude.{◌≡◌, ◌≢◌, ◌≤◌, ℕ, List, [], Option, IfOk, IfErr};
 ghost use Rattle.tp_files.specs.FaultLines.{TellsFault};
 ghost use Rattle.tp_plan_files.specs.Causes.{Explains};

@@ -1,4 +1,5 @@
-// What words of a call name.
+//! What words of a call name.
+
 ghost use Rattle.std.specs.Prelude.{◌≡◌};
 
 use tp_plan_files::PlanWords;

@@ -1,4 +1,5 @@
-// Why there is no answer, and the line of it.
+//! Why there is no answer, and the line of it.
+
 ghost use Rattle.std.specs.Prelude.{◌≡◌};
 ghost use Rattle.tp_files.specs.FaultLines.{fault_text};
 ghost use Rattle.tp_plan_search.specs.SearchStops.{search_status, search_text, stop_status, stop_text};

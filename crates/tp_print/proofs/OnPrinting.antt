@@ -22,7 +22,7 @@ use Rattle.tp_ast.specs.declared.joined.Joined as joineds
 use Rattle.tp_ast.specs.declared.joined.Joined.{Joined}
 use Rattle.tp_ast.specs.declared.symbols.Typed.{Typed}
 use Rattle.tp_ast.specs.declared.cond.Cond.{Cond}
-use Rattle.tp_ast.specs.declared.effect.Outcome.{Outcome}
+use Rattle.tp_ast.specs.declared.effect.SimpleEffect.{SimpleEffect}
 use Rattle.tp_ast.specs.declared.timed.Timed.{Timed}
 use Rattle.tp_ast.specs.declared.rule.DurationRule.{DurationRule}
 use Rattle.tp_ast.specs.declared.action.Body.{Body}
@@ -139,12 +139,12 @@ section_is w f (x ∷ xs) some parts =
 pub moments_text : (s t : Shape) → codes " :condition " ++ (shape_text s ++ (codes " :effect " ++ shape_text t)) ≡ more_text (field_before (codes ":condition") s (field_before (codes ":effect") t no_shapes))
 moments_text s t = ap (λ (l : List ℕ). codes " :condition " ++ (shape_text s ++ (codes " :effect " ++ l))) (sym (append-nil (shape_text t)))
 
-pub instant_text : (b : Body) (c : Cond) (e : Joined Outcome) → b ≡ Instant c e → codes " :precondition " ++ (shape_text (condition_shape (cond_view c)) ++ (codes " :effect " ++ shape_text (effect_shape (effect_view e)))) ≡ more_text (body_shapes (body_view b))
+pub instant_text : (b : Body) (c : Cond) (e : Joined SimpleEffect) → b ≡ Instant c e → codes " :precondition " ++ (shape_text (condition_shape (cond_view c)) ++ (codes " :effect " ++ shape_text (effect_shape (effect_view e)))) ≡ more_text (body_shapes (body_view b))
 instant_text b c e is =
     ap (λ (l : List ℕ). codes " :precondition " ++ (shape_text (condition_shape (cond_view c)) ++ (codes " :effect " ++ l))) (sym (append-nil (shape_text (effect_shape (effect_view e)))))
     ∙ ap (λ (d : Body). more_text (body_shapes (body_view d))) (sym is)
 
-pub durative_text : (b : Body) (r : DurationRule) (c : Joined (Timed Cond)) (e : Joined (Timed (Joined Outcome))) → b ≡ Durative r c e → codes " :duration " ++ (shape_text (rule_shape (rule_view r)) ++ more_text (moment_shapes (timed_condition_view c) (timed_effect_view e))) ≡ more_text (body_shapes (body_view b))
+pub durative_text : (b : Body) (r : DurationRule) (c : Joined (Timed Cond)) (e : Joined (Timed (Joined SimpleEffect))) → b ≡ Durative r c e → codes " :duration " ++ (shape_text (rule_shape (rule_view r)) ++ more_text (moment_shapes (timed_condition_view c) (timed_effect_view e))) ≡ more_text (body_shapes (body_view b))
 durative_text b r c e is = ap (λ (d : Body). more_text (body_shapes (body_view d))) (sym is)
 
 pub action_text : (w n f : List ℕ) → (40 ∷ (w ++ 32 ∷ [])) ++ (n ++ (f ++ 41 ∷ 10 ∷ [])) ≡ (40 ∷ ((w ++ 32 ∷ (n ++ f)) ++ 41 ∷ [])) ++ 10 ∷ []

@@ -10,9 +10,9 @@ use Rattle.tp_ast.specs.Symbols.{Name, Declared, Parent, Symbols}
 use Rattle.tp_ast.specs.TypedLists.{typing_of, typed_list, parameters_of, parameters_at}
 use Rattle.tp_ast.specs.Conditions.{Condition, all_of, no_conditions, condition_of}
 use Rattle.tp_ast.specs.Parts.{Joined, all_parts, no_parts}
-use Rattle.tp_ast.specs.Effects.{outcome_of, marked, effect_at, Effect, effect_of, Timed, timed_condition_of, timed_effect_of, rule_of}
+use Rattle.tp_ast.specs.Effects.{simple_effect_of, specified, effect_at, Effect, effect_of, Timed, timed_condition_of, timed_effect_of, rule_of}
 use Rattle.tp_ast.specs.Actions.{Field, fields_of, field, each_once, is_field_of, or_missing, Body, instant, durative, Action, body_of, action_of}
-use Rattle.tp_print.specs.Printing.{field_before, typed_shapes, condition_shape, joined_shape, outcome_shape, effect_shape, timed_shape, rule_shape, field_shapes, action_shape}
+use Rattle.tp_print.specs.Printing.{field_before, typed_shapes, condition_shape, joined_shape, simple_effect_shape, effect_shape, timed_shape, rule_shape, field_shapes, action_shape}
 use Rattle.tp_ast.specs.declared.words.Key.TheVariants.{Parameters, Precondition, Duration}
 use Rattle.tp_ast.specs.declared.words.Key.TheVariants as keys
 use Rattle.tp_print.proofs.OnPrintingWords.{some_is, bind_some, map_some, no_some, name_read, name_again, name_word, keyword}
@@ -40,24 +40,24 @@ some_condition σ vs None c h = subst (CondAgain σ vs) (some_is (all_of no_cond
 some_condition σ vs (Some s) c h = condition_again σ vs s c h
 
 abbrev EffectAgain : Symbols → List Declared → Effect → Type 0
-EffectAgain σ vs e = JoinedAgain σ.types (outcome_of σ false) outcome_shape vs e
+EffectAgain σ vs e = JoinedAgain σ.types (simple_effect_of σ false) simple_effect_shape vs e
 
 some_effect : (σ : Symbols) (vs : List Declared) (o : Option Shape) (e : Effect) → or_missing (all_parts no_parts) (effect_of σ false vs) o ≡ Some e → EffectAgain σ vs e
-some_effect σ vs None e h = subst (EffectAgain σ vs) (some_is (all_parts no_parts) e h) (nothing_again σ.types (outcome_of σ false) outcome_shape vs)
+some_effect σ vs None e h = subst (EffectAgain σ vs) (some_is (all_parts no_parts) e h) (nothing_again σ.types (simple_effect_of σ false) simple_effect_shape vs)
 some_effect σ vs (Some s) e h = effect_again σ false vs s e h
 
 abbrev TimedCondAgain : Symbols → List Declared → Joined (Timed Condition) → Type 0
-TimedCondAgain σ vs j = JoinedAgain σ.types (λ within. marked (λ m. condition_of σ within)) (timed_shape condition_shape) vs j
+TimedCondAgain σ vs j = JoinedAgain σ.types (λ within. specified (λ m. condition_of σ within)) (timed_shape condition_shape) vs j
 
 some_timed_condition : (σ : Symbols) (vs : List Declared) (o : Option Shape) (j : Joined (Timed Condition)) → or_missing (all_parts no_parts) (timed_condition_of σ vs) o ≡ Some j → TimedCondAgain σ vs j
-some_timed_condition σ vs None j h = subst (TimedCondAgain σ vs) (some_is (all_parts no_parts) j h) (nothing_again σ.types (λ within. marked (λ m. condition_of σ within)) (timed_shape condition_shape) vs)
+some_timed_condition σ vs None j h = subst (TimedCondAgain σ vs) (some_is (all_parts no_parts) j h) (nothing_again σ.types (λ within. specified (λ m. condition_of σ within)) (timed_shape condition_shape) vs)
 some_timed_condition σ vs (Some s) j h = timed_condition_again σ vs s j h
 
 abbrev TimedEffectAgain : Symbols → List Declared → Joined (Timed Effect) → Type 0
-TimedEffectAgain σ vs j = JoinedAgain σ.types (λ within. marked (effect_at σ within)) (timed_shape effect_shape) vs j
+TimedEffectAgain σ vs j = JoinedAgain σ.types (λ within. specified (effect_at σ within)) (timed_shape effect_shape) vs j
 
 some_timed_effect : (σ : Symbols) (vs : List Declared) (o : Option Shape) (j : Joined (Timed Effect)) → or_missing (all_parts no_parts) (timed_effect_of σ vs) o ≡ Some j → TimedEffectAgain σ vs j
-some_timed_effect σ vs None j h = subst (TimedEffectAgain σ vs) (some_is (all_parts no_parts) j h) (nothing_again σ.types (λ within. marked (effect_at σ within)) (timed_shape effect_shape) vs)
+some_timed_effect σ vs None j h = subst (TimedEffectAgain σ vs) (some_is (all_parts no_parts) j h) (nothing_again σ.types (λ within. specified (effect_at σ within)) (timed_shape effect_shape) vs)
 some_timed_effect σ vs (Some s) j h = timed_effect_again σ vs s j h
 
 -- ---- actions

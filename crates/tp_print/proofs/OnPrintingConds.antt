@@ -15,8 +15,8 @@ use Rattle.tp_ast.specs.Conditions.{Condition, all_of, any_of, negation, implies
 use Rattle.tp_print.specs.Printing.{two_shapes, argument_shape, argument_shapes, typed_shapes, expression_shape, comparison_word, condition_shape, condition_shapes}
 use Rattle.tp_ast.specs.declared.words.Comparison.{Comparison}
 use Rattle.tp_ast.specs.declared.words.Comparison.TheVariants as comparisons
-use Rattle.tp_ast.specs.declared.words.Kind.{Kind}
-use Rattle.tp_ast.specs.declared.words.Kind.TheVariants.{Joined, Bound, Simple}
+use Rattle.tp_ast.specs.declared.words.CondKind.{CondKind}
+use Rattle.tp_ast.specs.declared.words.CondKind.TheVariants.{Joined, Bound, Simple}
 use Rattle.tp_ast.specs.declared.words.Head.{Head}
 use Rattle.tp_ast.specs.declared.words.Head.TheVariants.{And, Or, Not, Imply, Forall, Exists, Equal, Less, AtMost, AtLeast, More, Preference, Other}
 use Rattle.tp_ast.proofs.OnConds.{at_joined, at_bound, at_simple}
@@ -299,7 +299,7 @@ module _ (σ : Symbols) where
 
   -- ---- conditions
 
-  by_kind : (k : Kind) (o p q : Option Condition) (c : Condition) → elim k as (λ v. Option Condition) [ Joined ↦ o | Bound ↦ p | Simple ↦ q ] ≡ Some c → (o ≡ Some c) ⊎ ((p ≡ Some c) ⊎ (q ≡ Some c))
+  by_kind : (k : CondKind) (o p q : Option Condition) (c : Condition) → elim k as (λ v. Option Condition) [ Joined ↦ o | Bound ↦ p | Simple ↦ q ] ≡ Some c → (o ≡ Some c) ⊎ ((p ≡ Some c) ⊎ (q ≡ Some c))
   by_kind Joined o p q c h = inl h
   by_kind Bound o p q c h = inr (inl h)
   by_kind Simple o p q c h = inr (inr h)

@@ -3,40 +3,40 @@ use Rattle.std.proofs.Common.{◌≡◌, ℕ, List, Bool, true, Option, Some, op
 use Rattle.tp_text.specs.Shapes.{Shape, leaf, node, Shapes, no_shapes, shape}
 use Rattle.tp_text.specs.Texts.{IsWord, HasWords}
 use Rattle.tp_ast.specs.Gives.{◌>>=◌}
-use Rattle.tp_ast.specs.Words.{lower, is_word, change_of, joint_of, mark_of}
+use Rattle.tp_ast.specs.Words.{lower, is_word, effect_word_of, joint_of, specifier_of}
 use Rattle.tp_ast.specs.Lists.{only, both}
 use Rattle.tp_ast.specs.Terms.{Fact}
 use Rattle.tp_ast.specs.Symbols.{Declared, Form, Symbols, atom_in}
 use Rattle.tp_ast.specs.Expressions.{Expression, terms_for, expression_of}
 use Rattle.tp_ast.specs.Conditions.{Condition, condition_of}
 use Rattle.tp_ast.specs.Parts.{Joined, Reader, one, joined_of}
-use Rattle.tp_ast.specs.Effects.{Outcome, adds, deletes, writes, atom_at, deleted, written, changed, outcome_of, Effect, effect_of, Timed, mark_at, marked_tree, marked, timed_condition_of, effect_at, timed_effect_of}
-use Rattle.tp_print.specs.Printing.{one_shape, two_shapes, argument_shapes, fact_shape, expression_shape, condition_shape, writing_word, outcome_shape, effect_shape, mark_word, moment_word, timed_shape}
+use Rattle.tp_ast.specs.Effects.{SimpleEffect, adds, deletes, writes, atom_at, deleted, written, changed, simple_effect_of, Effect, effect_of, Timed, specifier_at, specified_tree, specified, timed_condition_of, effect_at, timed_effect_of}
+use Rattle.tp_print.specs.Printing.{one_shape, two_shapes, argument_shapes, fact_shape, expression_shape, condition_shape, writing_word, simple_effect_shape, effect_shape, mark_word, moment_word, timed_shape}
 use Rattle.tp_ast.specs.declared.words.Writing.{Writing}
 use Rattle.tp_ast.specs.declared.words.Writing.TheVariants as writings
-use Rattle.tp_ast.specs.declared.words.Mark.{Mark}
-use Rattle.tp_ast.specs.declared.words.Mark.TheVariants.{AtStart, OverAll, AtEnd}
-use Rattle.tp_ast.specs.declared.words.Change.{Change}
-use Rattle.tp_ast.specs.declared.words.Change.TheVariants.{Not, Assign, Increase, Decrease, ScaleUp, ScaleDown, When, Other}
+use Rattle.tp_ast.specs.declared.words.TimeSpecifier.{TimeSpecifier}
+use Rattle.tp_ast.specs.declared.words.TimeSpecifier.TheVariants.{AtStart, OverAll, AtEnd}
+use Rattle.tp_ast.specs.declared.words.EffectWord.{EffectWord}
+use Rattle.tp_ast.specs.declared.words.EffectWord.TheVariants.{Not, Assign, Increase, Decrease, ScaleUp, ScaleDown, When, Other}
 use Rattle.tp_ast.specs.declared.words.Joint.TheVariants.{One}
 use Rattle.tp_print.proofs.OnPrintingWords.{bind_some, map_some, no_some, lower_lower, keyword}
 use Rattle.tp_print.proofs.OnPrintingExprs.{Again, atom_again, expression_again}
 use Rattle.tp_print.proofs.OnPrintingConds.{condition_again}
 use Rattle.tp_print.proofs.OnPrintingParts.{joint_again, JoinedAgain, at_one, joined_again}
 
-change_again : (w : List ℕ) → change_of (lower w) ≡ change_of w
-unfolding change_of is_word
+change_again : (w : List ℕ) → effect_word_of (lower w) ≡ effect_word_of w
+unfolding effect_word_of is_word
 change_again w = rw (lower_lower w) refl
 
 joint_not : joint_of (codes "not") ≡ One
 unfolding joint_of is_word
 joint_not = refl
 
-change_not : change_of (codes "not") ≡ Not
-unfolding change_of is_word
+change_not : effect_word_of (codes "not") ≡ Not
+unfolding effect_word_of is_word
 change_not = refl
 
-abbrev writing_change : Writing → Change
+abbrev writing_change : Writing → EffectWord
 writing_change writings.Assign = Assign
 writing_change writings.Increase = Increase
 writing_change writings.Decrease = Decrease
@@ -49,8 +49,8 @@ joint_writing writings.Increase = refl
 joint_writing writings.Decrease = refl
 joint_writing writings.ScaleUp = refl
 
-change_writing : (op : Writing) → change_of (writing_word op) ≡ writing_change op
-unfolding change_of is_word
+change_writing : (op : Writing) → effect_word_of (writing_word op) ≡ writing_change op
+unfolding effect_word_of is_word
 change_writing writings.Assign = refl
 change_writing writings.Increase = refl
 change_writing writings.Decrease = refl
@@ -80,32 +80,32 @@ fact_again σ forms scope (node (shape (leaf w) rest)) f h =
 -- ---- effects
 
 module _ (σ : Symbols) (duration : Bool) (scope : List Declared) where
-  EffectAgain : Outcome → Type 0
-  EffectAgain x = JoinedAgain σ.types (outcome_of σ duration) outcome_shape scope (one x)
+  EffectAgain : SimpleEffect → Type 0
+  EffectAgain x = JoinedAgain σ.types (simple_effect_of σ duration) simple_effect_shape scope (one x)
 
-  added : (w : List ℕ) (rest : Shapes) (x : Outcome) → change_of w ≡ Other → joint_of w ≡ One → option_map adds (atom_in σ σ.predicates scope w rest) ≡ Some x → EffectAgain x
-  unfolding EffectAgain outcome_of changed
+  added : (w : List ℕ) (rest : Shapes) (x : SimpleEffect) → effect_word_of w ≡ Other → joint_of w ≡ One → option_map adds (atom_in σ σ.predicates scope w rest) ≡ Some x → EffectAgain x
+  unfolding EffectAgain simple_effect_of changed
   added w rest x is joins h =
       let m = map_some adds (atom_in σ σ.predicates scope w rest) x h in
       let a = atom_again σ σ.predicates scope w rest m.0 m.1 in
       let n = m.0.name in
       let args = argument_shapes m.0.arguments in
-      let change : change_of n ≡ Other = ap change_of a.name ∙ change_again w ∙ is in
+      let change : effect_word_of n ≡ Other = ap effect_word_of a.name ∙ change_again w ∙ is in
       let joint : joint_of n ≡ One = ap joint_of a.name ∙ joint_again w ∙ joins in
       subst EffectAgain m.2 (record {
-        again = at_one σ.types (outcome_of σ duration) outcome_shape scope n args (adds m.0) joint (ap (λ (k : Change). changed k σ duration scope n args) change ∙ ap (option_map adds) a.again);
+        again = at_one σ.types (simple_effect_of σ duration) simple_effect_shape scope n args (adds m.0) joint (ap (λ (k : EffectWord). changed k σ duration scope n args) change ∙ ap (option_map adds) a.again);
         words = (a.word, a.words);
       })
 
-  removed : (rest : Shapes) (x : Outcome) → deleted σ scope rest ≡ Some x → EffectAgain x
-  unfolding EffectAgain outcome_of changed deleted only
+  removed : (rest : Shapes) (x : SimpleEffect) → deleted σ scope rest ≡ Some x → EffectAgain x
+  unfolding EffectAgain simple_effect_of changed deleted only
   removed rest x h =
       let b = bind_some (only rest) (λ s. option_map deletes (atom_at σ σ.predicates scope s)) x h in
       let m = map_some deletes (atom_at σ σ.predicates scope b.0) x b.2 in
       let a = fact_again σ σ.predicates scope b.0 m.0 m.1 in
       let args = one_shape (fact_shape m.0) in
       subst EffectAgain m.2 (record {
-        again = at_one σ.types (outcome_of σ duration) outcome_shape scope (codes "not") args (deletes m.0) joint_not (ap (λ (k : Change). changed k σ duration scope (codes "not") args) change_not ∙ ap (option_map deletes) a.again);
+        again = at_one σ.types (simple_effect_of σ duration) simple_effect_shape scope (codes "not") args (deletes m.0) joint_not (ap (λ (k : EffectWord). changed k σ duration scope (codes "not") args) change_not ∙ ap (option_map deletes) a.again);
         words = (keyword (codes "not") refl, (a.words, tt));
       })
 
@@ -116,8 +116,8 @@ module _ (σ : Symbols) (duration : Bool) (scope : List Declared) where
   written_reads writings.Decrease f y a e = ap (λ o. o >>= λ g. option_map (writes writings.Decrease g) (expression_of σ (terms_for scope duration) (expression_shape y))) a.again ∙ ap (option_map (writes writings.Decrease f)) e.again
   written_reads writings.ScaleUp f y a e = ap (λ o. o >>= λ g. option_map (writes writings.ScaleUp g) (expression_of σ (terms_for scope duration) (expression_shape y))) a.again ∙ ap (option_map (writes writings.ScaleUp f)) e.again
 
-  set : (op : Writing) (rest : Shapes) (x : Outcome) → written σ (terms_for scope duration) op rest ≡ Some x → EffectAgain x
-  unfolding EffectAgain outcome_of written
+  set : (op : Writing) (rest : Shapes) (x : SimpleEffect) → written σ (terms_for scope duration) op rest ≡ Some x → EffectAgain x
+  unfolding EffectAgain simple_effect_of written
   set op rest x h =
       let p = bind_some (both rest) (λ q. atom_at σ σ.functions scope q.0 >>= λ a. option_map (writes op a) (expression_of σ (terms_for scope duration) q.1)) x h in
       let b = bind_some (atom_at σ σ.functions scope p.0.0) (λ a. option_map (writes op a) (expression_of σ (terms_for scope duration) p.0.1)) x p.2 in
@@ -126,11 +126,11 @@ module _ (σ : Symbols) (duration : Bool) (scope : List Declared) where
       let e = expression_again σ (terms_for scope duration) p.0.1 m.0 m.1 in
       let args = two_shapes (fact_shape b.0) (expression_shape m.0) in
       subst EffectAgain m.2 (record {
-        again = at_one σ.types (outcome_of σ duration) outcome_shape scope (writing_word op) args (writes op b.0 m.0) (joint_writing op) (ap (λ (k : Change). changed k σ duration scope (writing_word op) args) (change_writing op) ∙ written_reads op b.0 m.0 a e);
+        again = at_one σ.types (simple_effect_of σ duration) simple_effect_shape scope (writing_word op) args (writes op b.0 m.0) (joint_writing op) (ap (λ (k : EffectWord). changed k σ duration scope (writing_word op) args) (change_writing op) ∙ written_reads op b.0 m.0 a e);
         words = (writing_is_word op, (a.words, (e.words, tt)));
       })
 
-  changed_again : (k : Change) (w : List ℕ) (rest : Shapes) (x : Outcome) → change_of w ≡ k → joint_of w ≡ One → changed k σ duration scope w rest ≡ Some x → EffectAgain x
+  changed_again : (k : EffectWord) (w : List ℕ) (rest : Shapes) (x : SimpleEffect) → effect_word_of w ≡ k → joint_of w ≡ One → changed k σ duration scope w rest ≡ Some x → EffectAgain x
   unfolding changed
   changed_again Other w rest x is joins h = added w rest x is joins h
   changed_again Not w rest x is joins h = removed rest x h
@@ -141,52 +141,52 @@ module _ (σ : Symbols) (duration : Bool) (scope : List Declared) where
   changed_again ScaleDown w rest x is joins h = no_some h
   changed_again When w rest x is joins h = no_some h
 
-  outcome_again : (w : List ℕ) (rest : Shapes) (x : Outcome) → joint_of w ≡ One → outcome_of σ duration scope w rest ≡ Some x → EffectAgain x
-  unfolding outcome_of
-  outcome_again w rest x joins h = changed_again (change_of w) w rest x refl joins h
+  simple_effect_again : (w : List ℕ) (rest : Shapes) (x : SimpleEffect) → joint_of w ≡ One → simple_effect_of σ duration scope w rest ≡ Some x → EffectAgain x
+  unfolding simple_effect_of
+  simple_effect_again w rest x joins h = changed_again (effect_word_of w) w rest x refl joins h
 
-  outcome_is : (w : List ℕ) (rest : Shapes) (x : Outcome) → joint_of w ≡ One → outcome_of σ duration scope w rest ≡ Some x → JoinedAgain σ.types (outcome_of σ duration) outcome_shape scope (one x)
+  simple_effect_is : (w : List ℕ) (rest : Shapes) (x : SimpleEffect) → joint_of w ≡ One → simple_effect_of σ duration scope w rest ≡ Some x → JoinedAgain σ.types (simple_effect_of σ duration) simple_effect_shape scope (one x)
   unfolding EffectAgain
-  outcome_is w rest x joins h = outcome_again w rest x joins h
+  simple_effect_is w rest x joins h = simple_effect_again w rest x joins h
 
-pub effect_again : (σ : Symbols) (duration : Bool) (scope : List Declared) (s : Shape) (e : Effect) → effect_of σ duration scope s ≡ Some e → JoinedAgain σ.types (outcome_of σ duration) outcome_shape scope e
-effect_again σ duration scope s e h = joined_again σ.types (outcome_of σ duration) outcome_shape (outcome_is σ duration) scope s e h
+pub effect_again : (σ : Symbols) (duration : Bool) (scope : List Declared) (s : Shape) (e : Effect) → effect_of σ duration scope s ≡ Some e → JoinedAgain σ.types (simple_effect_of σ duration) simple_effect_shape scope e
+effect_again σ duration scope s e h = joined_again σ.types (simple_effect_of σ duration) simple_effect_shape (simple_effect_is σ duration) scope s e h
 
 -- ---- at moments
 
-joint_mark : (m : Mark) → joint_of (mark_word m) ≡ One
+joint_mark : (m : TimeSpecifier) → joint_of (mark_word m) ≡ One
 unfolding joint_of is_word
 joint_mark AtStart = refl
 joint_mark OverAll = refl
 joint_mark AtEnd = refl
 
-mark_is_word : (m : Mark) → IsWord (mark_word m)
+mark_is_word : (m : TimeSpecifier) → IsWord (mark_word m)
 mark_is_word AtStart = keyword (codes "at") refl
 mark_is_word OverAll = keyword (codes "over") refl
 mark_is_word AtEnd = keyword (codes "at") refl
 
-moment_is_word : (m : Mark) → IsWord (moment_word m)
+moment_is_word : (m : TimeSpecifier) → IsWord (moment_word m)
 moment_is_word AtStart = keyword (codes "start") refl
 moment_is_word OverAll = keyword (codes "all") refl
 moment_is_word AtEnd = keyword (codes "end") refl
 
-mark_reads : (m : Mark) (s : Shape) → marked_tree (mark_word m) (two_shapes (leaf (moment_word m)) s) ≡ Some (m, s)
-unfolding marked_tree mark_at mark_of both only is_word
+mark_reads : (m : TimeSpecifier) (s : Shape) → specified_tree (mark_word m) (two_shapes (leaf (moment_word m)) s) ≡ Some (m, s)
+unfolding specified_tree specifier_at specifier_of both only is_word
 mark_reads AtStart s = refl
 mark_reads OverAll s = refl
 mark_reads AtEnd s = refl
 
-module _ {A : Type 0} (σ : Symbols) (inner : List Declared → Mark → Shape → Option A) (tree : A → Shape) (inner_again : (scope : List Declared) (m : Mark) (s : Shape) (x : A) → inner scope m s ≡ Some x → (inner scope m (tree x) ≡ Some x) × HasWords (tree x)) where
+module _ {A : Type 0} (σ : Symbols) (inner : List Declared → TimeSpecifier → Shape → Option A) (tree : A → Shape) (inner_again : (scope : List Declared) (m : TimeSpecifier) (s : Shape) (x : A) → inner scope m s ≡ Some x → (inner scope m (tree x) ≡ Some x) × HasWords (tree x)) where
   abbrev reader : Reader (Timed A)
-  reader = λ within. marked (inner within)
+  reader = λ within. specified (inner within)
 
-  timed : (m : Mark) (x : A) → Timed A
-  timed m x = record { mark = m; what = x }
+  timed : (m : TimeSpecifier) (x : A) → Timed A
+  timed m x = record { specifier = m; what = x }
 
-  timed_one : (scope : List Declared) (w : List ℕ) (rest : Shapes) (x : Timed A) → joint_of w ≡ One → marked (inner scope) w rest ≡ Some x → JoinedAgain σ.types reader (timed_shape tree) scope (one x)
-  unfolding marked timed
+  timed_one : (scope : List Declared) (w : List ℕ) (rest : Shapes) (x : Timed A) → joint_of w ≡ One → specified (inner scope) w rest ≡ Some x → JoinedAgain σ.types reader (timed_shape tree) scope (one x)
+  unfolding specified timed
   timed_one scope w rest x joins h =
-      let b = bind_some (marked_tree w rest) (λ p. option_map (timed p.0) (inner scope p.0 p.1)) x h in
+      let b = bind_some (specified_tree w rest) (λ p. option_map (timed p.0) (inner scope p.0 p.1)) x h in
       let m = map_some (timed b.0.0) (inner scope b.0.0 b.0.1) x b.2 in
       let a = inner_again scope b.0.0 b.0.1 m.0 m.1 in
       let args = two_shapes (leaf (moment_word b.0.0)) (tree m.0) in
@@ -197,19 +197,19 @@ module _ {A : Type 0} (σ : Symbols) (inner : List Declared → Mark → Shape �
         words = (mark_is_word b.0.0, (moment_is_word b.0.0, (a.1, tt)));
       })
 
-  pub timed_again : (scope : List Declared) (s : Shape) (j : Joined (Timed A)) → joined_of σ.types (λ within. marked (inner within)) scope s ≡ Some j → JoinedAgain σ.types (λ within. marked (inner within)) (timed_shape tree) scope j
+  pub timed_again : (scope : List Declared) (s : Shape) (j : Joined (Timed A)) → joined_of σ.types (λ within. specified (inner within)) scope s ≡ Some j → JoinedAgain σ.types (λ within. specified (inner within)) (timed_shape tree) scope j
   timed_again scope s j h = joined_again σ.types reader (timed_shape tree) timed_one scope s j h
 
-condition_inner : (σ : Symbols) (scope : List Declared) (m : Mark) (s : Shape) (c : Condition) → condition_of σ scope s ≡ Some c → (condition_of σ scope (condition_shape c) ≡ Some c) × HasWords (condition_shape c)
+condition_inner : (σ : Symbols) (scope : List Declared) (m : TimeSpecifier) (s : Shape) (c : Condition) → condition_of σ scope s ≡ Some c → (condition_of σ scope (condition_shape c) ≡ Some c) × HasWords (condition_shape c)
 condition_inner σ scope m s c h = let a = condition_again σ scope s c h in (a.again, a.words)
 
-pub timed_condition_again : (σ : Symbols) (scope : List Declared) (s : Shape) (j : Joined (Timed Condition)) → timed_condition_of σ scope s ≡ Some j → JoinedAgain σ.types (λ within. marked (λ m. condition_of σ within)) (timed_shape condition_shape) scope j
+pub timed_condition_again : (σ : Symbols) (scope : List Declared) (s : Shape) (j : Joined (Timed Condition)) → timed_condition_of σ scope s ≡ Some j → JoinedAgain σ.types (λ within. specified (λ m. condition_of σ within)) (timed_shape condition_shape) scope j
 timed_condition_again σ scope s j h = timed_again σ (λ within m. condition_of σ within) condition_shape (condition_inner σ) scope s j h
 
-effect_inner : (σ : Symbols) (scope : List Declared) (m : Mark) (s : Shape) (e : Effect) → effect_at σ scope m s ≡ Some e → (effect_at σ scope m (effect_shape e) ≡ Some e) × HasWords (effect_shape e)
+effect_inner : (σ : Symbols) (scope : List Declared) (m : TimeSpecifier) (s : Shape) (e : Effect) → effect_at σ scope m s ≡ Some e → (effect_at σ scope m (effect_shape e) ≡ Some e) × HasWords (effect_shape e)
 effect_inner σ scope AtStart s e h = let a = effect_again σ true scope s e h in (a.again, a.words)
 effect_inner σ scope OverAll s e h = no_some h
 effect_inner σ scope AtEnd s e h = let a = effect_again σ true scope s e h in (a.again, a.words)
 
-pub timed_effect_again : (σ : Symbols) (scope : List Declared) (s : Shape) (j : Joined (Timed Effect)) → timed_effect_of σ scope s ≡ Some j → JoinedAgain σ.types (λ within. marked (effect_at σ within)) (timed_shape effect_shape) scope j
+pub timed_effect_again : (σ : Symbols) (scope : List Declared) (s : Shape) (j : Joined (Timed Effect)) → timed_effect_of σ scope s ≡ Some j → JoinedAgain σ.types (λ within. specified (effect_at σ within)) (timed_shape effect_shape) scope j
 timed_effect_again σ scope s j h = timed_again σ (effect_at σ) effect_shape (effect_inner σ) scope s j h

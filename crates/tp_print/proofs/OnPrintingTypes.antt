@@ -11,7 +11,7 @@ use Rattle.tp_ast.specs.Gives.{◌>>=◌, provided}
 use Rattle.tp_ast.specs.Terms.{name_of}
 use Rattle.tp_ast.specs.Symbols.{Name, Declared, Parent}
 use Rattle.tp_ast.specs.TypedLists.{type_at, typed_list, has_twice}
-use Rattle.tp_ast.specs.Domains.{object, above, type_below, is_object, mentioned, with_mentioned, no_circle, types_from, types_in}
+use Rattle.tp_ast.specs.Domains.{object, above, type_below, is_object, mentioned, with_mentioned, no_cycle, types_from, types_in}
 use Rattle.tp_print.specs.Printing.{typed_shapes, type_shapes}
 use Rattle.tp_ast.specs.declared.words.Items.TheVariants.{Names}
 use Rattle.tp_print.proofs.OnPrintingWords.{bind_some, map_some, provided_some, no_some, IsName, name_read}
@@ -225,8 +225,8 @@ record TypesAgain (ts : List Parent) : Type 0 where
   again : types_from ts ≡ Some ts
   names : AllByRecursion HasNames ts
 
-completed : (ps : List Parent) → AllByRecursion HasNames ps → has_twice (names ps) ≡ false → no_circle (with_mentioned (filter plain ps)) ≡ true → TypesAgain (with_mentioned (filter plain ps))
-completed ps are once circle =
+completed : (ps : List Parent) → AllByRecursion HasNames ps → has_twice (names ps) ≡ false → no_cycle (with_mentioned (filter plain ps)) ≡ true → TypesAgain (with_mentioned (filter plain ps))
+completed ps are once cycle =
     let qs = filter plain ps in
     let known = object ∷ names qs in
     let ms = mentioned known qs in
@@ -241,17 +241,17 @@ completed ps are once circle =
     let kept : with_mentioned (filter plain ts) ≡ ts = ap with_mentioned (all_plain ts no_object) ∙ complete in
     record {
       again =
-          ap (λ (us : List Parent). provided (not (has_twice (names ts)) && (list_all (λ p. not (is_object p) || bytes_eq p.parent object) ts && no_circle us)) us) kept
-          ∙ ap (λ (b : Bool). provided b ts) (and_from (not (has_twice (names ts))) (list_all (λ p. not (is_object p) || bytes_eq p.parent object) ts && no_circle ts) (ap not twice) (and_from (list_all (λ p. not (is_object p) || bytes_eq p.parent object) ts) (no_circle ts) (plain_below ts no_object) circle));
+          ap (λ (us : List Parent). provided (not (has_twice (names ts)) && (list_all (λ p. not (is_object p) || bytes_eq p.parent object) ts && no_cycle us)) us) kept
+          ∙ ap (λ (b : Bool). provided b ts) (and_from (not (has_twice (names ts))) (list_all (λ p. not (is_object p) || bytes_eq p.parent object) ts && no_cycle ts) (ap not twice) (and_from (list_all (λ p. not (is_object p) || bytes_eq p.parent object) ts) (no_cycle ts) (plain_below ts no_object) cycle));
       names = all_append HasNames qs ms (names_left ps are) (mentioned_names known ms all.each);
     }
 
 types_from_again : (ps ts : List Parent) → AllByRecursion HasNames ps → types_from ps ≡ Some ts → TypesAgain ts
 types_from_again ps ts are h =
     let us = with_mentioned (filter plain ps) in
-    let p = provided_some (not (has_twice (names ps)) && (list_all (λ q. not (is_object q) || bytes_eq q.parent object) ps && no_circle us)) us ts h in
-    let a = and_parts (not (has_twice (names ps))) (list_all (λ q. not (is_object q) || bytes_eq q.parent object) ps && no_circle us) p.0 in
-    let b = and_parts (list_all (λ q. not (is_object q) || bytes_eq q.parent object) ps) (no_circle us) a.1 in
+    let p = provided_some (not (has_twice (names ps)) && (list_all (λ q. not (is_object q) || bytes_eq q.parent object) ps && no_cycle us)) us ts h in
+    let a = and_parts (not (has_twice (names ps))) (list_all (λ q. not (is_object q) || bytes_eq q.parent object) ps && no_cycle us) p.0 in
+    let b = and_parts (list_all (λ q. not (is_object q) || bytes_eq q.parent object) ps) (no_cycle us) a.1 in
     subst TypesAgain p.1 (completed ps are (not-true (has_twice (names ps)) a.0) b.1)
 
 -- ---- as a typed list

@@ -6,7 +6,7 @@ use Rattle.tp_text.specs.Texts.{shape_text}
 use Rattle.tp_ast.specs.Domains.{Domain, SpellsDomain}
 use Rattle.tp_ast.specs.Symbols.{Declared}
 use Rattle.tp_print.specs.Printing.{headed, name_shapes, types_shape, typed_shapes, type_shapes, form_shapes, mark_word, moment_word, name_shape, section_shapes}
-use Rattle.tp_ast.specs.declared.words.Mark.{Mark}
+use Rattle.tp_ast.specs.declared.words.TimeSpecifier.{TimeSpecifier}
 
 -- each on a line of its own, which ends in LF
 abbrev pub lines_text : Shapes → List ℕ
@@ -36,7 +36,7 @@ abbrev pub operands_text : Shape → Shape → List ℕ
 operands_text s t = 32 ∷ (shape_text s ++ 32 ∷ (shape_text t ++ 41 ∷ []))
 
 -- a moment's words behind '('
-abbrev pub moment_text : Mark → List ℕ
+abbrev pub moment_text : TimeSpecifier → List ℕ
 moment_text m = 40 ∷ (mark_word m ++ 32 ∷ (moment_word m ++ 32 ∷ []))
 
 -- a writer that tells its bytes took these

@@ -7,15 +7,15 @@ use Rattle.tp_ast.specs.Symbols.{Name, Declared, Parent, Form}
 use Rattle.tp_ast.specs.Expressions.{Expression, number, fluent, sum, negative, difference, product, the_duration}
 use Rattle.tp_ast.specs.Conditions.{Condition, Conditions, all_of, any_of, negation, implies, for_all, for_some, fact, same, compared, no_conditions, condition}
 use Rattle.tp_ast.specs.Parts.{Joined, Parts, all_parts, for_each, one, no_parts, part}
-use Rattle.tp_ast.specs.Effects.{Outcome, adds, deletes, writes, Effect, Timed, Rule, Rules, all_rules, rule, no_rules, more_rules}
+use Rattle.tp_ast.specs.Effects.{SimpleEffect, adds, deletes, writes, Effect, Timed, Rule, Rules, all_rules, rule, no_rules, more_rules}
 use Rattle.tp_ast.specs.Actions.{Action, Body, instant, durative}
 use Rattle.tp_ast.specs.Domains.{Domain}
 use Rattle.tp_ast.specs.declared.words.Comparison.{Comparison}
 use Rattle.tp_ast.specs.declared.words.Comparison.TheVariants.{Less, AtMost, Equal, AtLeast, More}
 use Rattle.tp_ast.specs.declared.words.Writing.{Writing}
 use Rattle.tp_ast.specs.declared.words.Writing.TheVariants.{Assign, Increase, Decrease, ScaleUp}
-use Rattle.tp_ast.specs.declared.words.Mark.{Mark}
-use Rattle.tp_ast.specs.declared.words.Mark.TheVariants.{AtStart, OverAll, AtEnd}
+use Rattle.tp_ast.specs.declared.words.TimeSpecifier.{TimeSpecifier}
+use Rattle.tp_ast.specs.declared.words.TimeSpecifier.TheVariants.{AtStart, OverAll, AtEnd}
 
 -- a list that begins with a word
 abbrev pub headed : List ℕ → Shapes → Shape
@@ -110,27 +110,27 @@ writing_word Increase = codes "increase"
 writing_word Decrease = codes "decrease"
 writing_word ScaleUp = codes "scale-up"
 
-abbrev pub outcome_shape : Outcome → Shape
-outcome_shape (adds f) = fact_shape f
-outcome_shape (deletes f) = headed (codes "not") (one_shape (fact_shape f))
-outcome_shape (writes op f x) =
+abbrev pub simple_effect_shape : SimpleEffect → Shape
+simple_effect_shape (adds f) = fact_shape f
+simple_effect_shape (deletes f) = headed (codes "not") (one_shape (fact_shape f))
+simple_effect_shape (writes op f x) =
     headed (writing_word op) (two_shapes (fact_shape f) (expression_shape x))
 
 abbrev pub effect_shape : Effect → Shape
-effect_shape e = joined_shape outcome_shape e
+effect_shape e = joined_shape simple_effect_shape e
 
-abbrev pub mark_word : Mark → List ℕ
+abbrev pub mark_word : TimeSpecifier → List ℕ
 mark_word AtStart = codes "at"
 mark_word OverAll = codes "over"
 mark_word AtEnd = codes "at"
 
-abbrev pub moment_word : Mark → List ℕ
+abbrev pub moment_word : TimeSpecifier → List ℕ
 moment_word AtStart = codes "start"
 moment_word OverAll = codes "all"
 moment_word AtEnd = codes "end"
 
 abbrev pub timed_shape : {A : Type 0} → (A → Shape) → Timed A → Shape
-timed_shape f t = headed (mark_word t.mark) (two_shapes (leaf (moment_word t.mark)) (f t.what))
+timed_shape f t = headed (mark_word t.specifier) (two_shapes (leaf (moment_word t.specifier)) (f t.what))
 
 abbrev mutual
   pub rule_shape : Rule → Shape

@@ -13,21 +13,21 @@ ghost use Rattle.tp_ast.specs.Conditions.{Condition, conditions, same, compared}
 ghost use Rattle.tp_ast.specs.Parts.{parts};
 ghost use Rattle.tp_ast.specs.PartViews.{joined_view};
 ghost use Rattle.tp_ast.specs.Effects.{rules_in, writes};
-ghost use Rattle.tp_ast.specs.EffectViews.{outcome_view, effect_view, timed_view};
+ghost use Rattle.tp_ast.specs.EffectViews.{simple_effect_view, effect_view, timed_view};
 ghost use Rattle.tp_ast.specs.RuleViews.{rule_view};
-ghost use Rattle.tp_print.specs.Printing.{argument_shape, argument_shapes, fact_shape, name_shapes, types_shape, typed_shapes, expression_shape, comparison_word, condition_shape, condition_shapes, joined_shape, part_shapes, writing_word, outcome_shape, effect_shape, timed_shape, rule_shape, rule_shapes};
+ghost use Rattle.tp_print.specs.Printing.{argument_shape, argument_shapes, fact_shape, name_shapes, types_shape, typed_shapes, expression_shape, comparison_word, condition_shape, condition_shapes, joined_shape, part_shapes, writing_word, simple_effect_shape, effect_shape, timed_shape, rule_shape, rule_shapes};
 ghost use Rattle.tp_print.specs.DomainTexts.{Took, item_text, operands_text, moment_text};
 
 use itoa::Buffer;
 use tp_ast::cond::Cond;
-use tp_ast::effect::{Effect, Outcome};
+use tp_ast::effect::{Effect, SimpleEffect};
 use tp_ast::expr::Expr;
 use tp_ast::joined::Joined;
 use tp_ast::rule::DurationRule;
 use tp_ast::symbols::Typed;
 use tp_ast::term::{Atom, Term};
 use tp_ast::timed::Timed;
-use tp_ast::words::{Comparison, Mark, Writing};
+use tp_ast::words::{Comparison, TimeSpecifier, Writing};
 use tp_device::{Failed, Sink, push_all};
 
 // Hands over some bytes.
@@ -401,7 +401,7 @@ fn print_write<W: Sink>(
     value: &Expr,
 ) -> Result<(), Failed>
     ensures bytes { OnOk result (Took (W.held writer.old) (W.held writer.new) (shape_text
-        (outcome_shape (writes writing (atom_view fluent.now) (expr_view value.now))))) }
+        (simple_effect_shape (writes writing (atom_view fluent.now) (expr_view value.now))))) }
     ensures cause { W.failures writer.new ≡ failures_after (W.failures writer.old) result }
 {
     put(writer, b"(")?;
@@ -409,22 +409,22 @@ fn print_write<W: Sink>(
     print_target(writer, fluent, value)
 }
 
-impl Printed for Outcome {
-    ghost Seen = { Rattle.tp_ast.specs.Effects.Outcome };
+impl Printed for SimpleEffect {
+    ghost Seen = { Rattle.tp_ast.specs.Effects.SimpleEffect };
 
-    ghost seen = { outcome_view };
+    ghost seen = { simple_effect_view };
 
-    ghost tree = { outcome_shape };
+    ghost tree = { simple_effect_shape };
 
     fn print<W: Sink>(&self, writer: &mut W) -> Result<(), Failed> {
         match self {
-            Outcome::Add(atom) => print_atom(writer, atom),
-            Outcome::Delete(atom) => {
+            SimpleEffect::Add(atom) => print_atom(writer, atom),
+            SimpleEffect::Delete(atom) => {
                 put(writer, b"(not ")?;
                 print_atom(writer, atom)?;
                 put(writer, b")")
             }
-            Outcome::Write(writing, fluent, value) => {
+            SimpleEffect::Write(writing, fluent, value) => {
                 print_write(writer, *writing, fluent, value)
             }
         }
@@ -432,13 +432,13 @@ impl Printed for Outcome {
 }
 
 // A moment's words behind '(', with a space after each.
-fn moment_words(mark: Mark) -> &'static [u8]
-    ensures { result.now ≡ moment_text mark }
+fn moment_words(specifier: TimeSpecifier) -> &'static [u8]
+    ensures { result.now ≡ moment_text specifier }
 {
-    match mark {
-        Mark::AtStart => b"(at start ",
-        Mark::OverAll => b"(over all ",
-        Mark::AtEnd => b"(at end ",
+    match specifier {
+        TimeSpecifier::AtStart => b"(at start ",
+        TimeSpecifier::OverAll => b"(over all ",
+        TimeSpecifier::AtEnd => b"(at end ",
     }
 }
 
@@ -450,7 +450,7 @@ impl Printed for Timed<Cond> {
     ghost tree = { timed_shape condition_shape };
 
     fn print<W: Sink>(&self, writer: &mut W) -> Result<(), Failed> {
-        put(writer, moment_words(self.mark))?;
+        put(writer, moment_words(self.specifier))?;
         print_cond(writer, &self.what)?;
         put(writer, b")")
     }
@@ -464,7 +464,7 @@ impl Printed for Timed<Effect> {
     ghost tree = { timed_shape effect_shape };
 
     fn print<W: Sink>(&self, writer: &mut W) -> Result<(), Failed> {
-        put(writer, moment_words(self.mark))?;
+        put(writer, moment_words(self.specifier))?;
         print_joined(writer, &self.what)?;
         put(writer, b")")
     }

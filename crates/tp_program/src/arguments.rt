@@ -1,4 +1,5 @@
-// The reading of the words of a call.
+//! The reading of the words of a call.
+
 ghost use Rattle.std.specs.Prelude.{◌≡◌, ◌≢◌, ◌⊎◌, ℕ, ◌∷◌, [], List, Some, None, Ok, Err, IfOk, IfErr, IfSome, map, option_map, codes};
 ghost use Rattle.std.specs.String.{string_bytes};
 ghost use Rattle.clap.specs.Words.{Text, Row, first_of, found_of, kind_of, one_of, rows_of, subcommand_rows_of};

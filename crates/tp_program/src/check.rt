@@ -1,4 +1,5 @@
-// The judging of the plan in a file.
+//! The judging of the plan in a file.
+
 ghost use Rattle.std.specs.Prelude.{◌≡◌, ◌≢◌, ◌≤◌, [], IfOk, IfErr};
 ghost use Rattle.tp_files.specs.FaultLines.{TellsFault};
 ghost use Rattle.tp_plan_files.specs.Named.{IsNamedTask};

@@ -1,4 +1,5 @@
-// The commands of the program, their words and their help, as `clap` is told of them.
+//! The commands of the program, their words and their help, as `clap` is told of them.
+
 ghost use Rattle.std.specs.Prelude.{◌≡◌, false, IfOk, codes};
 ghost use Rattle.clap.specs.Words.{app_of, new_app, rule_of, with_subcommand};
 ghost use Rattle.clap.specs.declared.builder.command.Command.TheViews.{out-Command as fields_of};

@@ -1,4 +1,5 @@
-// The files of the host: those that are read, and those of journals.
+//! The files of the host: those that are read, and those of journals.
+
 ghost use Rattle.std.specs.Prelude.{None};
 
 use std::rt::Files as HostFileSystem;

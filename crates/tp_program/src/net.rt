@@ -1,4 +1,5 @@
-// The network of the plan in a file.
+//! The network of the plan in a file.
+
 ghost use Rattle.std.specs.Prelude.{◌≡◌, ◌≢◌, ◌≤◌, [], IfOk, IfErr, OnOk};
 ghost use Rattle.std.specs.String.{string_bytes};
 ghost use Rattle.tp_validate.specs.OfTask.{plan_of};

@@ -1,4 +1,5 @@
-// What a call may ask for.
+//! What a call may ask for.
+
 use tp_plan_files::PlanWords;
 use tp_plan_search::SearchWords;
 

@@ -1,4 +1,5 @@
-// Why a command on a plan in files stopped.
+//! Why a command on a plan in files stopped.
+
 ghost use Rattle.std.specs.Prelude.{◌≡◌};
 ghost use Rattle.tp_files.specs.FaultLines.{fault_text};
 ghost use Rattle.tp_program.specs.Stops.{stop_status, stop_text};

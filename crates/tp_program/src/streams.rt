@@ -1,4 +1,5 @@
-// A run over readers and writers of std.
+//! A run over readers and writers of std.
+
 ghost use Rattle.std.specs.Prelude.{◌≡◌, ◌≤◌, ◌<◌, [], IfSome, None, map};
 ghost use Rattle.std.specs.Io.Buffered.{line_writer_contents};
 ghost use Rattle.std.specs.Io.KnownBytes.{Keeps};

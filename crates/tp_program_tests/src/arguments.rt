@@ -1,4 +1,5 @@
-// Calls for help, and words that are refused.
+//! Calls for help, and words that are refused.
+
 use super::devices::{Outcome, WIDE, run, whole};
 use std::alloc::Global;
 

@@ -1,4 +1,5 @@
-// Audits of journals in files, worked by hand.
+//! Audits of journals in files, worked by hand.
+
 use super::devices::{Told, WIDE, gives, whole};
 
 const AUDIT: &[&str] = &["audit", "night.log"];

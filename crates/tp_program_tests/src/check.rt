@@ -1,4 +1,5 @@
-// Verdicts on plans in files, worked by hand.
+//! Verdicts on plans in files, worked by hand.
+
 use super::devices::{Outcome, Room, Told, WIDE, gives, run, whole};
 use super::files::blanks;
 use std::alloc::{AllocError, Global};

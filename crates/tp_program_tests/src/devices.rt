@@ -1,4 +1,5 @@
-// Readers and writers in memory, and runs over them and files.
+//! Readers and writers in memory, and runs over them and files.
+
 use std::alloc::{AllocError, Global};
 use std::io;
 use std::io::{ErrorKind, Read, Write};

@@ -1,4 +1,5 @@
-// Worked examples: commands and their answers.
+//! Worked examples: commands and their answers.
+
 use super::devices::shows;
 
 /// Commands, and the answers that they get.

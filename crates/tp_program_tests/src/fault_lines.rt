@@ -1,4 +1,5 @@
-// The line of each fault, and its exit status.
+//! The line of each fault, and its exit status.
+
 ghost use Rattle.std.specs.Prelude.{◌≡◌, ◌<◌};
 
 use super::devices::{Page, WIDE};

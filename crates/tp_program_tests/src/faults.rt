@@ -1,4 +1,5 @@
-// Runs that come to a fault, and texts at the edges of a line.
+//! Runs that come to a fault, and texts at the edges of a line.
+
 use super::devices::{Feed, Page, Room, Told, WIDE, gives, shows, whole};
 use std::alloc::{AllocError, Global};
 use std::io;

@@ -1,4 +1,5 @@
-// Texts that are read of files.
+//! Texts that are read of files.
+
 use super::devices::Feed;
 use std::alloc::{AllocError, Global};
 use tp_files::{FileFault, HostFile, open_text, read_text};

@@ -1,4 +1,5 @@
-// Journals that commands on a network of bounds alone leave in a file, worked by hand, and their audits.
+//! Journals that commands on a network of bounds alone leave in a file, worked by hand, and their audits.
+
 use super::devices::{Feed, Kept, Room, Told, WIDE, gives, logs, whole};
 use std::alloc::Global;
 

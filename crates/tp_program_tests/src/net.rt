@@ -1,4 +1,5 @@
-// Networks of plans in files, worked by hand.
+//! Networks of plans in files, worked by hand.
+
 use super::devices::{Outcome, Told, WIDE, gives, run, whole};
 use std::alloc::{AllocError, Global};
 use std::fmt::Write;

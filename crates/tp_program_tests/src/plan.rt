@@ -1,4 +1,5 @@
-// Plans that are found of problems in files, and why none is, worked by hand.
+//! Plans that are found of problems in files, and why none is, worked by hand.
+
 use super::devices::{Told, WIDE, gives, whole};
 use std::alloc::Global;
 use tp_small_worlds::{MATCH, TOGGLE, TOGGLED};

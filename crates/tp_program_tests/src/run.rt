@@ -1,4 +1,5 @@
-// Runs of plans in files, worked by hand.
+//! Runs of plans in files, worked by hand.
+
 use super::devices::{Feed, Room, Told, WIDE, gives, run, whole};
 use std::alloc::Global;
 use tp_small_worlds::{CHARGE, EMPTY_TANK, LINE, TANK, TOGGLE, TOGGLED, UNCHARGED, UNSET};

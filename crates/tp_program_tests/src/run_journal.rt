@@ -1,4 +1,5 @@
-// Journals of the runs of plans, worked by hand, and their audits.
+//! Journals of the runs of plans, worked by hand, and their audits.
+
 use super::devices::{Kept, Told, WIDE, gives, logs, whole};
 use std::alloc::Global;
 use tp_small_worlds::{CHARGE, TOGGLE, TOGGLED, UNCHARGED};

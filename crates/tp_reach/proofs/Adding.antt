@@ -4,11 +4,11 @@ use Rattle.std.specs.List.{list_all, count_by}
 use Rattle.std.proofs.lemmas.Bool.{and_parts, and_from, or_cases, or_left, or_right, cond-true}
 use Rattle.std.proofs.lemmas.List.Recursion.{is_count_by}
 use Rattle.std.proofs.Math.Seq.{take-append_seam}
-use Rattle.tp_ground.specs.declared.Cond.{Cond, Row_of-Cond, end_of-Cond, more_of-Cond}
-use Rattle.tp_ground.specs.declared.Cond.TheVariants.{Atom, Compare, Not', And', Or'}
-use Rattle.tp_ground.specs.declared.GroundEvent.{GroundEvent}
-use Rattle.tp_ground.specs.declared.Body.{Body}
-use Rattle.tp_ground.specs.declared.Body.TheVariants.{Instant, Durative}
+use Rattle.tp_ground.specs.declared.events.Cond.{Cond, Row_of-Cond, end_of-Cond, more_of-Cond}
+use Rattle.tp_ground.specs.declared.events.Cond.TheVariants.{Atom, Compare, Not', And', Or'}
+use Rattle.tp_ground.specs.declared.events.GroundEvent.{GroundEvent}
+use Rattle.tp_ground.specs.declared.events.Body.{Body}
+use Rattle.tp_ground.specs.declared.events.Body.TheVariants.{Instant, Durative}
 use Rattle.tp_ground.specs.Bounds.{In}
 use Rattle.tp_ground.specs.Event.{has}
 use Rattle.tp_ground.specs.State.{State}

@@ -20,20 +20,20 @@ use tp_ast::expr::Expr;
 use tp_ast::fault::{LeftOutPart, SyntaxFault};
 use tp_ast::symbols::Typed;
 use tp_ast::term::{Atom, Term};
-use tp_ast::words::{Comparison, Head, Kind, head_of};
+use tp_ast::words::{Comparison, CondKind, Head, head_of};
 use tp_names::symbols::{Scope, Symbols, argument_known, atom_in};
 use tp_names::term::{is_name, is_variable, terms_of};
 use tp_names::typed::{parameters_at, place};
 use tp_names::variables::Variables;
 use tp_text::{Token, Tree};
 
-fn kind_of(head: Head) -> Kind
+fn kind_of(head: Head) -> CondKind
     ensures { result ≡ kind_of head }
 {
     match head {
-        Head::And | Head::Or | Head::Not | Head::Imply => Kind::Joined,
-        Head::Forall | Head::Exists => Kind::Bound,
-        _ => Kind::Simple,
+        Head::And | Head::Or | Head::Not | Head::Imply => CondKind::Joined,
+        Head::Forall | Head::Exists => CondKind::Bound,
+        _ => CondKind::Simple,
     }
 }
 
@@ -343,11 +343,11 @@ pub fn read_cond(
     };
     let head = head_of(word.text);
     match kind_of(head) {
-        Kind::Joined => {
+        CondKind::Joined => {
             let conds = read_conds(alloc, args, symbols, scope, at)?;
             combined(alloc, head, conds, at)
         }
-        Kind::Bound => read_bound(alloc, args, symbols, scope, head, at),
-        Kind::Simple => simple(alloc, symbols, scope, head, word, args, at),
+        CondKind::Bound => read_bound(alloc, args, symbols, scope, head, at),
+        CondKind::Simple => simple(alloc, symbols, scope, head, word, args, at),
     }
 }

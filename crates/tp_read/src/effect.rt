@@ -6,20 +6,20 @@ ghost use Rattle.tp_ast.specs.Terms.{shapes, atom_view};
 ghost use Rattle.tp_ast.specs.Symbols.{form_view};
 ghost use Rattle.tp_names.specs.SymbolViews.{scope_view, symbols_view};
 ghost use Rattle.tp_ast.specs.Expressions.{terms_for};
-ghost use Rattle.tp_ast.specs.Effects.{Outcome, atom_at, deleted, written, changed, outcome_of, effect_of};
-ghost use Rattle.tp_ast.specs.EffectViews.{outcome_view, effect_view};
+ghost use Rattle.tp_ast.specs.Effects.{SimpleEffect, atom_at, deleted, written, changed, simple_effect_of, effect_of};
+ghost use Rattle.tp_ast.specs.EffectViews.{simple_effect_view, effect_view};
 ghost use Rattle.tp_ast.specs.Gives.{Gives};
 
 use crate::expr::read_value;
-use crate::joined::{Part, read_joined};
+use crate::joined::{Inner, read_joined};
 use std::alloc::Global;
-use tp_ast::effect::{Effect, Outcome};
+use tp_ast::effect::{Effect, SimpleEffect};
 use tp_ast::expr::Expr;
 use tp_ast::fault::{LeftOutPart, SyntaxFault};
 use tp_ast::joined::Joined;
 use tp_ast::symbols::Signature;
 use tp_ast::term::Atom;
-use tp_ast::words::{Change, Writing, change_of};
+use tp_ast::words::{EffectWord, Writing, effect_word_of};
 use tp_names::lists::{both, only};
 use tp_names::symbols::{Scope, Symbols, atom_in};
 use tp_text::{Token, Tree};
@@ -57,15 +57,15 @@ fn deleted(
     scope: &Scope,
     args: &[Tree],
     at: u32,
-) -> Result<Outcome, SyntaxFault>
-    ensures { Gives outcome_view result
+) -> Result<SimpleEffect, SyntaxFault>
+    ensures { Gives simple_effect_view result
         (deleted (symbols_view symbols.now) (scope_view scope.now) (shapes args.now)) }
 {
     let Some(tree) = only(args) else {
         return Err(SyntaxFault::Shape(at));
     };
     let atom = atom_at(alloc, symbols, &symbols.predicates, scope, tree, at)?;
-    Ok(Outcome::Delete(atom))
+    Ok(SimpleEffect::Delete(atom))
 }
 
 #[tactic(auto, unfolding(tp_ast::specs::Effects::written))]
@@ -77,8 +77,8 @@ fn written(
     writing: Writing,
     args: &[Tree],
     at: u32,
-) -> Result<Outcome, SyntaxFault>
-    ensures { Gives outcome_view result (written (symbols_view symbols.now)
+) -> Result<SimpleEffect, SyntaxFault>
+    ensures { Gives simple_effect_view result (written (symbols_view symbols.now)
         (terms_for (scope_view scope.now) duration) writing (shapes args.now)) }
 {
     let Some((fluent, value)) = both(args) else {
@@ -86,47 +86,47 @@ fn written(
     };
     let atom = atom_at(alloc, symbols, &symbols.functions, scope, fluent, at)?;
     let value = read_value(alloc, value, symbols, scope, duration, at)?;
-    Ok(Outcome::Write(writing, atom, value))
+    Ok(SimpleEffect::Write(writing, atom, value))
 }
 
 #[tactic(auto, unfolding(tp_ast::specs::Effects::changed))]
 fn changed(
     alloc: Global,
-    change: Change,
+    change: EffectWord,
     symbols: &Symbols,
     duration: bool,
     scope: &Scope,
     word: &Token,
     args: &[Tree],
     at: u32,
-) -> Result<Outcome, SyntaxFault>
-    ensures { Gives outcome_view result (changed change (symbols_view symbols.now) duration
+) -> Result<SimpleEffect, SyntaxFault>
+    ensures { Gives simple_effect_view result (changed change (symbols_view symbols.now) duration
         (scope_view scope.now) word.now.text.now (shapes args.now)) }
 {
     let writing = match change {
-        Change::Other => {
+        EffectWord::Other => {
             let atom = atom_in(alloc, symbols, &symbols.predicates, scope, word, args, at)?;
-            return Ok(Outcome::Add(atom));
+            return Ok(SimpleEffect::Add(atom));
         }
-        Change::Not => return deleted(alloc, symbols, scope, args, at),
-        Change::When => return Err(SyntaxFault::LeftOut(at, LeftOutPart::When)),
-        Change::ScaleDown => return Err(SyntaxFault::LeftOut(at, LeftOutPart::ScaleDown)),
-        Change::Assign => Writing::Assign,
-        Change::Increase => Writing::Increase,
-        Change::Decrease => Writing::Decrease,
-        Change::ScaleUp => Writing::ScaleUp,
+        EffectWord::Not => return deleted(alloc, symbols, scope, args, at),
+        EffectWord::When => return Err(SyntaxFault::LeftOut(at, LeftOutPart::When)),
+        EffectWord::ScaleDown => return Err(SyntaxFault::LeftOut(at, LeftOutPart::ScaleDown)),
+        EffectWord::Assign => Writing::Assign,
+        EffectWord::Increase => Writing::Increase,
+        EffectWord::Decrease => Writing::Decrease,
+        EffectWord::ScaleUp => Writing::ScaleUp,
     };
     written(alloc, symbols, duration, scope, writing, args, at)
 }
 
-impl Part for Outcome {
-    ghost Seen = { Rattle.tp_ast.specs.Effects.Outcome };
+impl Inner for SimpleEffect {
+    ghost Seen = { Rattle.tp_ast.specs.Effects.SimpleEffect };
 
-    ghost seen = { outcome_view };
+    ghost seen = { simple_effect_view };
 
-    ghost spelled = { outcome_of };
+    ghost spelled = { simple_effect_of };
 
-    #[tactic(auto, unfolding(tp_ast::specs::Effects::outcome_of))]
+    #[tactic(auto, unfolding(tp_ast::specs::Effects::simple_effect_of))]
     fn read(
         alloc: Global,
         symbols: &Symbols,
@@ -135,10 +135,10 @@ impl Part for Outcome {
         word: &Token,
         args: &[Tree],
         at: u32,
-    ) -> Result<Outcome, SyntaxFault> {
+    ) -> Result<SimpleEffect, SyntaxFault> {
         changed(
             alloc,
-            change_of(word.text),
+            effect_word_of(word.text),
             symbols,
             duration,
             scope,

@@ -21,7 +21,7 @@ use tp_names::variables::Variables;
 use tp_text::{Token, Tree};
 
 /// What may stand inside: a list that begins with another word than `and` and `forall`.
-pub trait Part: Drop {
+pub trait Inner: Drop {
     /// What it shows.
     ghost Seen: { Type 0 };
 
@@ -45,7 +45,7 @@ pub trait Part: Drop {
 }
 
 #[cycle(joined)]
-fn read_parts<P: Part>(
+fn read_parts<P: Inner>(
     alloc: Global,
     trees: &[Tree],
     symbols: &Symbols,
@@ -66,7 +66,7 @@ fn read_parts<P: Part>(
 
 // Variables, and parts in which they may be named.
 #[cycle(joined)]
-fn read_bound<P: Part>(
+fn read_bound<P: Inner>(
     alloc: Global,
     args: &[Tree],
     symbols: &Symbols,
@@ -95,7 +95,7 @@ fn read_bound<P: Part>(
 
 /// The parts that a member of the list at `at` spells.
 #[cycle(joined)]
-pub fn read_joined<P: Part>(
+pub fn read_joined<P: Inner>(
     alloc: Global,
     tree: &Tree,
     symbols: &Symbols,

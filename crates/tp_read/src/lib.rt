@@ -1,4 +1,8 @@
 //! Reads expressions, conditions, effects and duration constraints.
+//!
+//! - `expr`, `cond`: expressions, and conditions over them
+//! - `joined`: what `and` and `forall` join; `effect` and `timed` are read by it
+//! - `rule`: duration constraints
 #![tactic(auto)]
 
 pub mod cond;

@@ -6,42 +6,45 @@ ghost use Rattle.tp_ast.specs.Terms.{shapes};
 ghost use Rattle.tp_names.specs.SymbolViews.{scope_view, symbols_view};
 ghost use Rattle.tp_ast.specs.Conditions.{Condition, condition_of};
 ghost use Rattle.tp_ast.specs.CondViews.{cond_view};
-ghost use Rattle.tp_ast.specs.Effects.{mark_at, marked_tree, marked, effect_at, timed_condition_of, timed_effect_of};
+ghost use Rattle.tp_ast.specs.Effects.{specifier_at, specified_tree, specified, effect_at, timed_condition_of, timed_effect_of};
 ghost use Rattle.tp_ast.specs.EffectViews.{effect_view, timed_view, timed_condition_view, timed_effect_view};
 ghost use Rattle.tp_ast.specs.Gives.{Gives};
 
 use crate::cond::read_cond;
-use crate::joined::{Part, read_joined};
+use crate::joined::{Inner, read_joined};
 use std::alloc::Global;
 use tp_ast::cond::Cond;
-use tp_ast::effect::{Effect, Outcome};
+use tp_ast::effect::{Effect, SimpleEffect};
 use tp_ast::fault::{LeftOutPart, SyntaxFault};
 use tp_ast::joined::Joined;
 use tp_ast::timed::{Timed, TimedCond, TimedEffect};
-use tp_ast::words::{Mark, is_word, mark_of};
+use tp_ast::words::{TimeSpecifier, is_word, specifier_of};
 use tp_names::lists::both;
 use tp_names::symbols::{Scope, Symbols};
 use tp_text::{Token, Tree};
 
-#[tactic(auto, unfolding(tp_ast::specs::Effects::mark_at))]
-fn mark_at(word: &Token, tree: &Tree) -> Option<Mark>
-    ensures { result ≡ mark_at word.now.text.now (shape_of tree.now) }
+#[tactic(auto, unfolding(tp_ast::specs::Effects::specifier_at))]
+fn specifier_at(word: &Token, tree: &Tree) -> Option<TimeSpecifier>
+    ensures { result ≡ specifier_at word.now.text.now (shape_of tree.now) }
 {
     match tree {
-        Tree::Word(token) => mark_of(word.text, token.text),
+        Tree::Word(token) => specifier_of(word.text, token.text),
         Tree::List { .. } => None,
     }
 }
 
-// The mark and the tree behind it.
-#[tactic(auto, unfolding(tp_ast::specs::Effects::marked_tree))]
-fn marked_tree<'t, 'a>(word: &Token, args: &'t [Tree<'a>]) -> Option<(Mark, &'t Tree<'a>)>
+// The specifier and the tree behind it.
+#[tactic(auto, unfolding(tp_ast::specs::Effects::specified_tree))]
+fn specified_tree<'t, 'a>(
+    word: &Token,
+    args: &'t [Tree<'a>],
+) -> Option<(TimeSpecifier, &'t Tree<'a>)>
     ensures { option_map (λ p. (p.0, shape_of p.1.now)) result
-        ≡ marked_tree word.now.text.now (shapes args.now) }
+        ≡ specified_tree word.now.text.now (shapes args.now) }
 {
     let (moment, tree) = both(args)?;
-    let mark = mark_at(word, moment)?;
-    Some((mark, tree))
+    let specifier = specifier_at(word, moment)?;
+    Some((specifier, tree))
 }
 
 // The innermost list that names the time that runs on.
@@ -66,8 +69,8 @@ fn continuous_place(tree: &Tree) -> Option<u32> {
     None
 }
 
-// What is wrong with the list at `at` that begins with the word and has no mark.
-fn unmarked_fault(word: &Token, args: &[Tree], at: u32) -> SyntaxFault {
+// What is wrong with the list at `at` that begins with the word and has no specifier.
+fn unspecified_fault(word: &Token, args: &[Tree], at: u32) -> SyntaxFault {
     if is_word(word.text, "preference") {
         return SyntaxFault::LeftOut(at, LeftOutPart::Preference);
     }
@@ -82,14 +85,14 @@ fn unmarked_fault(word: &Token, args: &[Tree], at: u32) -> SyntaxFault {
     SyntaxFault::Shape(at)
 }
 
-impl Part for Timed<Cond> {
+impl Inner for Timed<Cond> {
     ghost Seen = { Rattle.tp_ast.specs.Effects.Timed Condition };
 
     ghost seen = { timed_view cond_view };
 
-    ghost spelled = { λ σ duration within. marked (λ m. condition_of σ within) };
+    ghost spelled = { λ σ duration within. specified (λ m. condition_of σ within) };
 
-    #[tactic(auto, unfolding(tp_ast::specs::Effects::marked))]
+    #[tactic(auto, unfolding(tp_ast::specs::Effects::specified))]
     fn read(
         alloc: Global,
         symbols: &Symbols,
@@ -99,11 +102,11 @@ impl Part for Timed<Cond> {
         args: &[Tree],
         at: u32,
     ) -> Result<Timed<Cond>, SyntaxFault> {
-        let Some((mark, tree)) = marked_tree(word, args) else {
-            return Err(unmarked_fault(word, args, at));
+        let Some((specifier, tree)) = specified_tree(word, args) else {
+            return Err(unspecified_fault(word, args, at));
         };
         let what = read_cond(alloc, tree, symbols, scope, at)?;
-        Ok(Timed { mark, what })
+        Ok(Timed { specifier, what })
     }
 }
 
@@ -112,27 +115,29 @@ fn effect_at(
     alloc: Global,
     symbols: &Symbols,
     scope: &Scope,
-    mark: Mark,
+    specifier: TimeSpecifier,
     tree: &Tree,
     at: u32,
 ) -> Result<Effect, SyntaxFault>
     ensures { Gives effect_view result
-        (effect_at (symbols_view symbols.now) (scope_view scope.now) mark (shape_of tree.now)) }
+        (effect_at (symbols_view symbols.now) (scope_view scope.now) specifier (shape_of tree.now)) }
 {
-    match mark {
-        Mark::OverAll => Err(SyntaxFault::Shape(at)),
-        Mark::AtStart | Mark::AtEnd => read_joined(alloc, tree, symbols, true, scope, at),
+    match specifier {
+        TimeSpecifier::OverAll => Err(SyntaxFault::Shape(at)),
+        TimeSpecifier::AtStart | TimeSpecifier::AtEnd => read_joined(
+            alloc, tree, symbols, true, scope, at,
+        ),
     }
 }
 
-impl Part for Timed<Effect> {
+impl Inner for Timed<Effect> {
     ghost Seen = { Rattle.tp_ast.specs.Effects.Timed Rattle.tp_ast.specs.Effects.Effect };
 
     ghost seen = { timed_view effect_view };
 
-    ghost spelled = { λ σ duration within. marked (effect_at σ within) };
+    ghost spelled = { λ σ duration within. specified (effect_at σ within) };
 
-    #[tactic(auto, unfolding(tp_ast::specs::Effects::marked))]
+    #[tactic(auto, unfolding(tp_ast::specs::Effects::specified))]
     fn read(
         alloc: Global,
         symbols: &Symbols,
@@ -142,11 +147,11 @@ impl Part for Timed<Effect> {
         args: &[Tree],
         at: u32,
     ) -> Result<Timed<Effect>, SyntaxFault> {
-        let Some((mark, tree)) = marked_tree(word, args) else {
-            return Err(unmarked_fault(word, args, at));
+        let Some((specifier, tree)) = specified_tree(word, args) else {
+            return Err(unspecified_fault(word, args, at));
         };
-        let what = effect_at(alloc, symbols, scope, mark, tree, at)?;
-        Ok(Timed { mark, what })
+        let what = effect_at(alloc, symbols, scope, specifier, tree, at)?;
+        Ok(Timed { specifier, what })
     }
 }
 

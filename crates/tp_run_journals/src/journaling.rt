@@ -1,4 +1,5 @@
-// The answers to all commands of a reader on the network of a plan, with their journal.
+//! The answers to all commands of a reader on the network of a plan, with their journal.
+
 ghost use Rattle.std.specs.Prelude.{◌≡◌, ◌≤◌, List, length, IfOk, IfErr};
 ghost use Rattle.tp_bounds.specs.RunLimits.{greatest_limits};
 ghost use Rattle.tp_ground.specs.declared.task.Task.{Task};

@@ -1,4 +1,5 @@
-// The run of the plan that words name, with the journal file of a name.
+//! The run of the plan that words name, with the journal file of a name.
+
 ghost use Rattle.std.specs.Prelude.{◌≡◌, ◌≢◌, ◌≤◌, ◌⊎◌, List, [], length, IfOk, IfErr, IfSome};
 ghost use Rattle.tp_bounds.specs.RunLimits.{greatest_limits};
 ghost use Rattle.tp_ground.specs.declared.task.Task.{Task};

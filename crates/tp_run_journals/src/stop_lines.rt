@@ -1,4 +1,5 @@
-// Why the run of a plan whose journal is kept stopped, and its line.
+//! Why the run of a plan whose journal is kept stopped, and its line.
+
 ghost use Rattle.std.specs.Prelude.{◌≡◌};
 ghost use Rattle.tp_files.specs.FaultLines.{fault_text};
 ghost use Rattle.tp_run_journals.specs.StopLines.{run_stop_status, run_stop_text};

@@ -1,4 +1,5 @@
-// Audits of journals of runs of plans, worked by hand.
+//! Audits of journals of runs of plans, worked by hand.
+
 use super::devices::{Told, World, audits, audits_its_own};
 use tp_small_worlds::{CHARGE, TOGGLE, TOGGLED, UNCHARGED};
 

@@ -1,4 +1,5 @@
-// Runs and audits over files and streams in memory.
+//! Runs and audits over files and streams in memory.
+
 use std::alloc::Global;
 use tp_log_audits::run_bare_audit;
 use tp_plan_audits::run_plan_audit;

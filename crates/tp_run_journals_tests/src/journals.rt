@@ -1,4 +1,5 @@
-// Journals of runs of plans, worked by hand, and what ends them early.
+//! Journals of runs of plans, worked by hand, and what ends them early.
+
 use super::devices::{Told, World, logs};
 use tp_small_worlds::{CHARGE, UNCHARGED};
 

@@ -8,9 +8,9 @@ use Rattle.tp_happen.specs.Parts.{part_of}
 use Rattle.tp_happen.specs.declared.events.Part.TheVariants.{Only}
 use Rattle.tp_happen.specs.TaskLabels.{is_durative}
 use Rattle.tp_ground.specs.Bounds.{In}
-use Rattle.tp_ground.specs.declared.Body.{Body}
-use Rattle.tp_ground.specs.declared.Body.TheVariants.{Instant, Durative}
-use Rattle.tp_ground.specs.declared.GroundEvent.{GroundEvent}
+use Rattle.tp_ground.specs.declared.events.Body.{Body}
+use Rattle.tp_ground.specs.declared.events.Body.TheVariants.{Instant, Durative}
+use Rattle.tp_ground.specs.declared.events.GroundEvent.{GroundEvent}
 use Rattle.tp_ground.specs.Event.{interferes}
 use Rattle.tp_ground.specs.declared.task.Task.{Task}
 use Rattle.tp_ground.proofs.Lists.{all_at, all_from}

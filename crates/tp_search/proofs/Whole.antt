@@ -4,10 +4,10 @@ use Rattle.std.specs.List.{AllByRecursion, slice_get}
 use Rattle.std.specs.Option.{option_map, option_to_list}
 use Rattle.std.proofs.lemmas.Bool.{false_from_ne_true, cond-false}
 use Rattle.std.proofs.Math.IntN.{+ℤ_idr}
-use Rattle.tp_ground.specs.declared.GroundEvent.{GroundEvent}
-use Rattle.tp_ground.specs.declared.Cond.{Cond}
-use Rattle.tp_ground.specs.declared.Body.{Body}
-use Rattle.tp_ground.specs.declared.Body.TheVariants.{Instant, Durative}
+use Rattle.tp_ground.specs.declared.events.GroundEvent.{GroundEvent}
+use Rattle.tp_ground.specs.declared.events.Cond.{Cond}
+use Rattle.tp_ground.specs.declared.events.Body.{Body}
+use Rattle.tp_ground.specs.declared.events.Body.TheVariants.{Instant, Durative}
 use Rattle.tp_ground.specs.declared.task.Task.{Task}
 use Rattle.tp_ground.specs.State.{State, holds}
 use Rattle.tp_ground.specs.Happens.{Timed, Happens, plus}

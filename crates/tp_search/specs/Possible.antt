@@ -2,8 +2,8 @@
 use Rattle.std.specs.Prelude.{◌≡◌, ◌<◌, ℕ, true, List, [], ◌∷◌, length, slice_get, Some}
 use Rattle.std.specs.List.{AllByRecursion}
 use Rattle.tp_ground.specs.declared.task.Task.{Task}
-use Rattle.tp_ground.specs.declared.Body.TheVariants.{Instant}
-use Rattle.tp_ground.specs.declared.GroundEvent.{GroundEvent}
+use Rattle.tp_ground.specs.declared.events.Body.TheVariants.{Instant}
+use Rattle.tp_ground.specs.declared.events.GroundEvent.{GroundEvent}
 use Rattle.tp_ground.specs.Event.{interferes}
 use Rattle.tp_ground.specs.Happens.{Timed}
 use Rattle.tp_ground.specs.Bounds.{In}

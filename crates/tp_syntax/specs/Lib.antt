@@ -20,7 +20,7 @@ pub use Rattle.tp_ast.specs.Effects
 pub use Rattle.tp_ast.specs.Actions
 pub use Rattle.tp_ast.specs.Domains
 pub use Rattle.tp_names.specs.FormViews
-pub use Rattle.tp_types.specs.Circles
+pub use Rattle.tp_types.specs.Cycles
 pub use Rattle.tp_types.specs.Jumps
 pub use Rattle.tp_types.specs.TypeTables
 pub use Rattle.tp_ast.specs.Problems

@@ -4,7 +4,7 @@ use std::alloc::{AllocError, Global};
 use std::rc::Rc;
 use std::test::Fail;
 use tp_syntax::{TypeName, Types, types_fit};
-use tp_types::circles::ranks;
+use tp_types::cycles::ranks;
 use tp_types::jumps::jumps;
 use tp_types::table::places;
 
@@ -93,8 +93,8 @@ fn goes_round(alloc: Global, types: &Types) -> Result<bool, AllocError> {
 }
 
 #[test]
-fn a_circle_of_types_is_walked(rt: HostRuntime) -> Result<(), Fail> {
-    let circle = [below(rt.alloc(), "a", "b")?, below(rt.alloc(), "b", "a")?];
-    assert!(rt; goes_round(rt.alloc(), &Types::new(rt.alloc(), &circle)?)?);
+fn a_cycle_of_types_is_walked(rt: HostRuntime) -> Result<(), Fail> {
+    let cycle = [below(rt.alloc(), "a", "b")?, below(rt.alloc(), "b", "a")?];
+    assert!(rt; goes_round(rt.alloc(), &Types::new(rt.alloc(), &cycle)?)?);
     Ok(())
 }

@@ -9,8 +9,8 @@ use Rattle.tp_text.specs.declared.fault.TextFault.TheVariants as faults
 use Rattle.tp_text.specs.declared.token.Token.{Token}
 use Rattle.tp_text.specs.declared.tree.Frame.{Frame}
 use Rattle.tp_text.specs.declared.tree.Builder.{Builder}
-use Rattle.tp_text.specs.declared.tree.Kind.{Kind}
-use Rattle.tp_text.specs.declared.tree.Kind.TheVariants.{Left, Right, Word}
+use Rattle.tp_text.specs.declared.tree.TokenKind.{TokenKind}
+use Rattle.tp_text.specs.declared.tree.TokenKind.TheVariants.{Left, Right, Word}
 use Rattle.tp_text.specs.declared.tree.Tree.{Tree, fold-Tree}
 use Rattle.tp_text.specs.declared.tree.Tree.TheOpen.{Tree-F}
 
@@ -111,7 +111,7 @@ HasRoom ms left = lefts ms < rights ms + 64
 HasRoom ms right = Unit {0}
 HasRoom ms (word w) = Unit {0}
 
-abbrev pub kind_mark : Kind → List ℕ → Mark
+abbrev pub kind_mark : TokenKind → List ℕ → Mark
 kind_mark Left text = left
 kind_mark Right text = right
 kind_mark Word text = word text

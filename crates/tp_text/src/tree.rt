@@ -47,19 +47,19 @@ fn make_word<'a>(token: Token<'a>) -> Tree<'a>
     Tree::Word(token)
 }
 
-enum Kind {
+enum TokenKind {
     Left,
     Right,
     Word,
 }
 
-fn kind_of(token: &Token) -> Kind
+fn kind_of(token: &Token) -> TokenKind
     ensures { mark_of token.now.text.now ≡ kind_mark result token.now.text.now }
 {
     match token.text.as_bytes() {
-        [b'('] => Kind::Left,
-        [b')'] => Kind::Right,
-        _ => Kind::Word,
+        [b'('] => TokenKind::Left,
+        [b')'] => TokenKind::Right,
+        _ => TokenKind::Word,
     }
 }
 
@@ -123,9 +123,9 @@ impl<'a> Builder<'a> {
             return Err(TextFault::Extra(token.span.start));
         }
         match kind_of(token) {
-            Kind::Left => self.begin(alloc, token.span.start),
-            Kind::Right => self.end(token.span),
-            Kind::Word => self.add(*token),
+            TokenKind::Left => self.begin(alloc, token.span.start),
+            TokenKind::Right => self.end(token.span),
+            TokenKind::Word => self.add(*token),
         }
     }
 }

@@ -1,6 +1,6 @@
 pub mod OnPairs
 pub mod OnTables
-pub mod OnCircles
+pub mod OnCycles
 pub mod OnJumps
 pub mod OnMarks
 pub mod OnNames

@@ -6,10 +6,10 @@ use Rattle.std.specs.Cmp.Lexicographic.{bytes_decides}
 use Rattle.tp_ast.specs.Gives.{◌>>=◌}
 use Rattle.tp_ast.specs.Symbols.{Name, Parent, parent_view, parent_of, at_or_below}
 use Rattle.tp_types.specs.Tables.{place_of}
-use Rattle.tp_types.specs.Circles.{type_name, rank_of, is_ranked}
+use Rattle.tp_types.specs.Cycles.{type_name, rank_of, is_ranked}
 use Rattle.tp_types.specs.Jumps.{jump_of, is_name, leads_up, is_jump, IsAbove}
 use Rattle.tp_ast.specs.declared.types.TypeName.{TypeName}
-use Rattle.tp_types.proofs.OnCircles.{goes_up, is_there, is_highest, no_place, all_at_place, from_ranked, within}
+use Rattle.tp_types.proofs.OnCycles.{goes_up, is_there, is_highest, no_place, all_at_place, from_ranked, within}
 
 module _ (ts : List TypeName) (ranks : List ℕ) (all : list_all (is_ranked ts ranks) (map type_name ts) ≡ true) where
   abbrev ps : List Parent

@@ -9,9 +9,9 @@ use Rattle.std.proofs.lemmas.List.Folds.{list_any-append}
 use Rattle.tp_types.specs.NameSets.{insert_key}
 use Rattle.tp_ast.specs.Symbols.{Name, Parent, parent_view, parent_of, at_or_below, types_fit}
 use Rattle.tp_ast.specs.declared.types.TypeName.{TypeName}
-use Rattle.tp_types.specs.Circles.{type_name, is_ranked}
+use Rattle.tp_types.specs.Cycles.{type_name, is_ranked}
 use Rattle.tp_types.specs.Marks.{has_mark, fits, past_shared, AreMarks}
-use Rattle.tp_types.proofs.OnCircles.{is_there, is_highest}
+use Rattle.tp_types.proofs.OnCycles.{is_there, is_highest}
 use Rattle.tp_types.proofs.OnJumps.{up_one}
 
 abbrev same_text : Bor (List ℕ) → Bor (List ℕ) → Bool

@@ -4,7 +4,7 @@ use Rattle.std.specs.Str.{bytes_eq}
 use Rattle.tp_ast.specs.Gives.{◌>>=◌}
 use Rattle.tp_ast.specs.Symbols.{Name, parent_view, parent_of, at_or_below}
 use Rattle.tp_types.specs.Tables.{place_of}
-use Rattle.tp_types.specs.Circles.{type_name, rank_of}
+use Rattle.tp_types.specs.Cycles.{type_name, rank_of}
 use Rattle.tp_ast.specs.declared.types.TypeName.{TypeName}
 
 -- the type whose place is noted for a type, if any is

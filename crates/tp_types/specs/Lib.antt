@@ -1,5 +1,5 @@
 pub mod Tables
-pub mod Circles
+pub mod Cycles
 pub mod Jumps
 pub mod TypeTables
 pub mod TypeViews

@@ -2,7 +2,7 @@
 use Rattle.std.specs.Prelude.{◌≡◌, List, map, true, Option, Some, None}
 use Rattle.std.specs.List.{list_all}
 use Rattle.tp_types.specs.Tables.{IsTable}
-use Rattle.tp_types.specs.Circles.{type_name, is_ranked}
+use Rattle.tp_types.specs.Cycles.{type_name, is_ranked}
 use Rattle.tp_types.specs.Jumps.{is_jump}
 use Rattle.tp_ast.specs.declared.types.TypeName.{TypeName}
 use Rattle.tp_types.specs.declared.types.TypeTable.{TypeTable}

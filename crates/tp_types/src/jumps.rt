@@ -3,12 +3,12 @@
 
 ghost use Rattle.std.specs.Prelude.{◌≡◌, map, length, option_map, string_bytes, true, IfSome};
 ghost use Rattle.std.specs.List.{list_all};
-ghost use Rattle.tp_types.specs.Circles.{type_name, is_ranked};
+ghost use Rattle.tp_types.specs.Cycles.{type_name, is_ranked};
 ghost use Rattle.tp_types.specs.Jumps.{jump_of, is_jump, IsAbove};
 ghost use Rattle.tp_ast.specs.Symbols.{parent_view, at_or_below};
 ghost use Rattle.tp_types.specs.Tables.{IsTable};
 
-use crate::circles::{parent_of, rank_of};
+use crate::cycles::{parent_of, rank_of};
 use std::alloc::{AllocError, Global};
 use std::collections::BTreeMap;
 use tp_ast::types::TypeName;

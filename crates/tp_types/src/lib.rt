@@ -1,7 +1,11 @@
 //! Names found by tables, and the order among types.
+//!
+//! - `names`, `once`, `table`, `lookup`: names in an order, names that stand once, where they stand, what they were declared as
+//! - `cycles`, `jumps`: whether types lead back to themselves, and jumps up their order
+//! - `marks`, `types`: whether types fit
 #![tactic(auto)]
 
-pub mod circles;
+pub mod cycles;
 pub mod jumps;
 pub mod lookup;
 pub mod marks;

@@ -3,12 +3,12 @@
 ghost use Rattle.std.specs.Prelude.{◌≡◌, map, string_bytes, true, IfOk, OnOk, IfSome};
 ghost use Rattle.std.specs.List.{list_all, list_any};
 ghost use Rattle.std.specs.Str.{bytes_eq};
-ghost use Rattle.tp_types.specs.Circles.{type_name, is_ranked};
+ghost use Rattle.tp_types.specs.Cycles.{type_name, is_ranked};
 ghost use Rattle.tp_types.specs.Marks.{has_mark, fits, past_shared, AreMarks};
 ghost use Rattle.tp_types.specs.Tables.{Name, IsTable};
 ghost use Rattle.tp_ast.specs.Symbols.{parent_view, types_fit};
 
-use crate::circles::parent_of;
+use crate::cycles::parent_of;
 use crate::names::NameSet;
 use std::alloc::{AllocError, Global};
 use std::collections::BTreeMap;

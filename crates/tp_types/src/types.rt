@@ -6,7 +6,7 @@ ghost use Rattle.tp_ast.specs.Symbols.{parent_view, parent_of, at_or_below, type
 ghost use Rattle.tp_types.specs.TypeViews.{types_view};
 ghost use Rattle.tp_ast.specs.TypedLists.{is_type};
 
-use crate::circles::{are_ranked, parent_of as parent_in, ranks};
+use crate::cycles::{are_ranked, parent_of as parent_in, ranks};
 use crate::jumps::{are_jumps, climb, jumps, own_name};
 use crate::marks::{fit_by_marks, past_shared};
 use crate::table::{Named, places};
@@ -62,7 +62,7 @@ impl<'a> Types<'a> {
         let places = places(alloc, declared)?;
         let ranks = ranks(alloc, declared, &places)?;
         let jumps = jumps(alloc, declared, &places, &ranks)?;
-        // Types that lead round in a circle have no ranks: they are walked over.
+        // Types that lead round in a cycle have no ranks: they are walked over.
         if !are_ranked(declared, &places, &ranks) {
             return Ok(Types::listed(declared));
         }

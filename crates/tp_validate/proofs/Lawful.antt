@@ -1,10 +1,10 @@
 -- A duration whose rule has values is unlawful if it is no tick or breaks the rule.
 use Rattle.std.proofs.Common.{◌≡◌, ℕ, true, not, ◌&&◌, nat_le, None, is_some, ap}
 use Rattle.std.specs.List.{list_all}
-use Rattle.tp_ground.specs.declared.GroundEvent.{GroundEvent}
-use Rattle.tp_ground.specs.declared.Limit.{Limit}
-use Rattle.tp_ground.specs.declared.Cond.{Cond}
-use Rattle.tp_ground.specs.declared.Body.TheVariants.{Durative}
+use Rattle.tp_ground.specs.declared.events.GroundEvent.{GroundEvent}
+use Rattle.tp_ground.specs.declared.events.Limit.{Limit}
+use Rattle.tp_ground.specs.declared.events.Cond.{Cond}
+use Rattle.tp_ground.specs.declared.events.Body.TheVariants.{Durative}
 use Rattle.tp_ground.specs.State.{State, value}
 use Rattle.tp_ground.specs.Verdict.{is_unlawful}
 use Rattle.tp_validate.specs.Rules.{limit_holds}

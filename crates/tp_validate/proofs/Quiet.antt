@@ -2,10 +2,10 @@
 use Rattle.std.proofs.Common.{◌≡◌, ◌≢◌, ℕ, zero, suc, ◌+◌, ◌≤◌, ◌<◌, Bool, true, false, ◌&&◌, ◌==◌, nat_le, nat_lt, List, [], ◌∷◌, Option, Some, None, ⊎_elim, inl, inr, refl, sym, ap, ◌∙◌, subst, arith}
 use Rattle.std.specs.List.{position_from}
 use Rattle.std.proofs.lemmas.Bool.{cases_Bool, cases_lt, and_left, and_right, and_cases, cond-true, cond-false, leb-true, ltb-true, le-leb, lt-ltb, eqb-true, ne_eqb, not_from_true, not-false, true≢false}
-use Rattle.tp_ground.specs.declared.Body.{Body}
-use Rattle.tp_ground.specs.declared.Body.TheVariants.{Instant, Durative}
-use Rattle.tp_ground.specs.declared.Cond.{Cond}
-use Rattle.tp_ground.specs.declared.GroundEvent.{GroundEvent}
+use Rattle.tp_ground.specs.declared.events.Body.{Body}
+use Rattle.tp_ground.specs.declared.events.Body.TheVariants.{Instant, Durative}
+use Rattle.tp_ground.specs.declared.events.Cond.{Cond}
+use Rattle.tp_ground.specs.declared.events.GroundEvent.{GroundEvent}
 use Rattle.tp_ground.specs.State.{State, holds}
 use Rattle.tp_ground.specs.Happens.{Happens, atom_after, number_after}
 use Rattle.tp_ground.specs.Valid.{Planned, Placed, events, events_of, events_from, count_of, at}

@@ -3,7 +3,7 @@ use Rattle.std.specs.Prelude.{◌≡◌, ℕ, suc, Bool, true, nat_lt, ◌&&◌,
 use Rattle.std.specs.Option.{option_to_list}
 use Rattle.std.specs.List.{list_all}
 use Rattle.tp_text.specs.Scales.{scale_ticks}
-use Rattle.tp_ground.specs.declared.Body.{Body}
+use Rattle.tp_ground.specs.declared.events.Body.{Body}
 use Rattle.tp_ground.specs.declared.task.Task.{Task}
 use Rattle.tp_ground.specs.State.{State}
 use Rattle.tp_ground.specs.Valid.{Planned, Placed, events, IsValid}

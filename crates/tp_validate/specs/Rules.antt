@@ -1,9 +1,9 @@
 -- The numbers of duration rules.
 use Rattle.std.specs.Prelude.{ℕ, Bool, true, not, ◌||◌, ◌==◌, Some, None, pos, ◌*ℤ◌}
 use Rattle.std.specs.List.{list_all}
-use Rattle.tp_ground.specs.declared.Limit.{Limit}
-use Rattle.tp_ground.specs.declared.Body.{Body}
-use Rattle.tp_ground.specs.declared.Body.TheVariants.{Instant, Durative}
+use Rattle.tp_ground.specs.declared.events.Limit.{Limit}
+use Rattle.tp_ground.specs.declared.events.Body.{Body}
+use Rattle.tp_ground.specs.declared.events.Body.TheVariants.{Instant, Durative}
 use Rattle.tp_ground.specs.State.{State, both, value, compares_values}
 use Rattle.tp_ground.specs.Valid.{Planned}
 use Rattle.tp_happen.specs.Small.{values_small}

@@ -1,8 +1,8 @@
 -- What there is to find at one moment of a plan.
 use Rattle.std.specs.Prelude.{◌≡◌, ℕ, ◌+◌, Bool, true, false, not, ◌&&◌, ◌||◌, ◌==◌, nat_le, nat_lt, List, Option, None, ◌⊎◌, slice_index_or}
 use Rattle.std.specs.List.{list_all, position_from}
-use Rattle.tp_ground.specs.declared.Body.{Body}
-use Rattle.tp_ground.specs.declared.Body.TheVariants.{Instant, Durative}
+use Rattle.tp_ground.specs.declared.events.Body.{Body}
+use Rattle.tp_ground.specs.declared.events.Body.TheVariants.{Instant, Durative}
 use Rattle.tp_ground.specs.State.{State, holds}
 use Rattle.tp_ground.specs.Event.{mixes}
 use Rattle.tp_ground.specs.Happens.{Timed, Happens, is_defined, atom_after, number_after}

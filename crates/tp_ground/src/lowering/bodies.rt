@@ -12,40 +12,40 @@ ghost use Rattle.tp_ground.specs.Written.{happening, condition_at, start_in, end
 ghost use Rattle.tp_ground.specs.Mentions.{◌then◌, of_condition, of_start, of_end, of_instant, of_body};
 ghost use Rattle.tp_ground.specs.ReadBack.{named_condition, named_limit, named_event, named_body};
 ghost use Rattle.tp_ground.specs.NumberedEnds.{named_ends};
-ghost use Rattle.tp_ground.specs.NumberedOutcomes.{named_outcome, AreSplit};
+ghost use Rattle.tp_ground.specs.NumberedEffects.{named_simple_effect, AreSplit};
 ghost use Rattle.tp_ground.specs.Lowered.{Lowers};
 
 use crate::environment::Env;
 use crate::fault::GroundFault;
 use crate::lowering::conditions::condition;
-use crate::lowering::effects::NumberedOutcome;
+use crate::lowering::effects::NumberedEffect;
 use crate::lowering::parts::joined;
 use crate::lowering::rules::limits;
 use crate::numbering::Numbering;
 use crate::universe::Universe;
 use crate::{Body, Cond, GroundEvent, Limit, NumericEffect};
 use std::alloc::{AllocError, Global};
-use tp_syntax::{DurationRule, Effect, Mark, TimedCond, TimedEffect};
+use tp_syntax::{DurationRule, Effect, TimeSpecifier, TimedCond, TimedEffect};
 
-// The adds, the deletes and the writes among outcomes.
+// The adds, the deletes and the writes among simple effects.
 struct Changes {
     adds: Vec<u32>,
     deletes: Vec<u32>,
     writes: Vec<NumericEffect>,
 }
 
-fn split(alloc: Global, outcomes: Vec<NumberedOutcome>) -> Result<Changes, AllocError>
+fn split(alloc: Global, simple_effects: Vec<NumberedEffect>) -> Result<Changes, AllocError>
     ensures { IfOk result
-        (λ s. AreSplit outcomes.items s.adds.items s.deletes.items s.writes.items) }
+        (λ s. AreSplit simple_effects.items s.adds.items s.deletes.items s.writes.items) }
 {
     let mut adds = Vec::new(alloc);
     let mut deletes = Vec::new(alloc);
     let mut writes = Vec::new(alloc);
-    for outcome in outcomes {
-        match outcome {
-            NumberedOutcome::Add(atom) => adds.push(atom)?,
-            NumberedOutcome::Delete(atom) => deletes.push(atom)?,
-            NumberedOutcome::Write(write) => writes.push(write)?,
+    for simple_effect in simple_effects {
+        match simple_effect {
+            NumberedEffect::Add(atom) => adds.push(atom)?,
+            NumberedEffect::Delete(atom) => deletes.push(atom)?,
+            NumberedEffect::Write(write) => writes.push(write)?,
         }
     }
     Ok(Changes {
@@ -55,22 +55,22 @@ fn split(alloc: Global, outcomes: Vec<NumberedOutcome>) -> Result<Changes, Alloc
     })
 }
 
-// The event of these outcomes.
+// The event of these simple effects.
 fn event(
     alloc: Global,
     condition: Cond,
-    outcomes: Vec<NumberedOutcome>,
+    simple_effects: Vec<NumberedEffect>,
     rule: Vec<Limit>,
 ) -> Result<GroundEvent, AllocError>
     ensures { IfOk result
         (λ e. (t : Tables) → named_event t e ≡ happening (named_condition t condition)
-        (map (named_outcome t) outcomes.items) (map (named_limit t) rule.items)) }
+        (map (named_simple_effect t) simple_effects.items) (map (named_limit t) rule.items)) }
 {
     let Changes {
         adds,
         deletes,
         writes,
-    } = split(alloc, outcomes)?;
+    } = split(alloc, simple_effects)?;
     Ok(GroundEvent {
         condition,
         adds,
@@ -80,21 +80,21 @@ fn event(
     })
 }
 
-// The conjuncts of a durative action's condition at a mark.
+// The conjuncts of a durative action's condition at a specifier.
 fn condition_at(
     alloc: Global,
     universe: &Universe,
     env: &Env,
-    mark: Mark,
+    specifier: TimeSpecifier,
     numbering: &mut Numbering,
     condition: &TimedCond,
 ) -> Result<Cond, GroundFault>
     ensures { Lowers named_condition numbering.old result numbering.new (condition_at
-        (universe_view universe.now) mark (env_view env.now) (timed_condition_view condition.now))
-        (of_condition (condition_at (universe_view universe.now) mark
+        (universe_view universe.now) specifier (env_view env.now) (timed_condition_view condition.now))
+        (of_condition (condition_at (universe_view universe.now) specifier
         (env_view env.now) (timed_condition_view condition.now))) }
 {
-    Ok(Cond::And(joined(alloc, universe, env, mark, numbering, condition)?))
+    Ok(Cond::And(joined(alloc, universe, env, specifier, numbering, condition)?))
 }
 
 fn start(
@@ -112,10 +112,24 @@ fn start(
         (of_start (universe_view universe.now) (env_view env.now) (rule_view duration.now)
         (timed_condition_view condition.now) (timed_effect_view effect.now)) }
 {
-    let condition = condition_at(alloc, universe, env, Mark::AtStart, numbering, condition)?;
-    let outcomes = joined(alloc, universe, env, Mark::AtStart, numbering, effect)?;
+    let condition = condition_at(
+        alloc,
+        universe,
+        env,
+        TimeSpecifier::AtStart,
+        numbering,
+        condition,
+    )?;
+    let simple_effects = joined(
+        alloc,
+        universe,
+        env,
+        TimeSpecifier::AtStart,
+        numbering,
+        effect,
+    )?;
     let rule = limits(alloc, env, numbering, duration)?;
-    Ok(event(alloc, condition, outcomes, rule)?)
+    Ok(event(alloc, condition, simple_effects, rule)?)
 }
 
 fn end(
@@ -131,9 +145,23 @@ fn end(
         (timed_effect_view effect.now)) (of_end (universe_view universe.now)
         (env_view env.now) (timed_condition_view condition.now) (timed_effect_view effect.now)) }
 {
-    let condition = condition_at(alloc, universe, env, Mark::AtEnd, numbering, condition)?;
-    let outcomes = joined(alloc, universe, env, Mark::AtEnd, numbering, effect)?;
-    Ok(event(alloc, condition, outcomes, Vec::new(alloc))?)
+    let condition = condition_at(
+        alloc,
+        universe,
+        env,
+        TimeSpecifier::AtEnd,
+        numbering,
+        condition,
+    )?;
+    let simple_effects = joined(
+        alloc,
+        universe,
+        env,
+        TimeSpecifier::AtEnd,
+        numbering,
+        effect,
+    )?;
+    Ok(event(alloc, condition, simple_effects, Vec::new(alloc))?)
 }
 
 fn instant(
@@ -150,8 +178,15 @@ fn instant(
         (env_view env.now) (cond_view precondition.now) (effect_view effect.now)) }
 {
     let condition = condition(alloc, universe, env, numbering, precondition)?;
-    let outcomes = joined(alloc, universe, env, Mark::AtStart, numbering, effect)?;
-    Ok(event(alloc, condition, outcomes, Vec::new(alloc))?)
+    let simple_effects = joined(
+        alloc,
+        universe,
+        env,
+        TimeSpecifier::AtStart,
+        numbering,
+        effect,
+    )?;
+    Ok(event(alloc, condition, simple_effects, Vec::new(alloc))?)
 }
 
 // A start and an end.
@@ -202,7 +237,14 @@ fn durative(
         (timed_condition_view condition.now) (timed_effect_view effect.now))) }
 {
     let ends = ends_of(alloc, universe, env, numbering, duration, condition, effect)?;
-    let between = condition_at(alloc, universe, env, Mark::OverAll, numbering, condition)?;
+    let between = condition_at(
+        alloc,
+        universe,
+        env,
+        TimeSpecifier::OverAll,
+        numbering,
+        condition,
+    )?;
     Ok(Body::Durative(ends.first, ends.last, between))
 }
 

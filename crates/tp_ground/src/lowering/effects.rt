@@ -4,31 +4,31 @@ ghost use Rattle.std.specs.Prelude.{◌≡◌, ◌∷◌, [], map};
 ghost use Rattle.tp_syntax.specs.Terms.{atom_view};
 ghost use Rattle.tp_syntax.specs.ExprViews.{expr_view};
 ghost use Rattle.tp_syntax.specs.CondViews.{cond_view};
-ghost use Rattle.tp_syntax.specs.EffectViews.{outcome_view, effect_view, timed_view};
+ghost use Rattle.tp_syntax.specs.EffectViews.{simple_effect_view, effect_view, timed_view};
 ghost use Rattle.tp_syntax.specs.Conditions.{Condition};
 ghost use Rattle.tp_syntax.specs.Effects;
 ghost use Rattle.tp_syntax.specs.Effects.{writes};
 ghost use Rattle.tp_ground.specs.Views.{env_view, universe_view};
-ghost use Rattle.tp_ground.specs.Written.{GroundCondition, GroundOutcome, outcome_in, condition_in, change_of, is_mark, outcome_part, condition_part, outcomes_part};
-ghost use Rattle.tp_ground.specs.Mentions.{of_outcome, of_condition, of_each};
+ghost use Rattle.tp_ground.specs.Written.{GroundCondition, GroundEffect, simple_effect_in, condition_in, change_of, is_specifier, simple_effect_part, condition_part, simple_effects_part};
+ghost use Rattle.tp_ground.specs.Mentions.{of_simple_effect, of_condition, of_each};
 ghost use Rattle.tp_ground.specs.ReadBack.{named_condition};
-ghost use Rattle.tp_ground.specs.NumberedOutcomes.{named_outcome};
+ghost use Rattle.tp_ground.specs.NumberedEffects.{named_simple_effect};
 ghost use Rattle.tp_ground.specs.Lowered.{Lowers};
 
 use crate::environment::Env;
 use crate::fault::GroundFault;
 use crate::lowering::conditions::{atom, condition};
 use crate::lowering::expressions::{expression, fluent};
-use crate::lowering::parts::{Part, joined};
+use crate::lowering::parts::{Lowerable, joined};
 use crate::numbering::Numbering;
 use crate::universe::Universe;
 use crate::{Change, Cond, NumericEffect};
 use std::alloc::Global;
-use tp_syntax::{Atom, Effect, Expr, Mark, Outcome, Timed, Writing};
+use tp_syntax::{Atom, Effect, Expr, SimpleEffect, TimeSpecifier, Timed, Writing};
 
 /// One change over numbers.
 #[derive(Drop)]
-pub enum NumberedOutcome {
+pub enum NumberedEffect {
     Add(u32),
     Delete(u32),
     Write(NumericEffect),
@@ -52,51 +52,53 @@ fn write(
     writing: Writing,
     atom: &Atom,
     value: &Expr,
-) -> Result<NumberedOutcome, GroundFault>
-    ensures { Lowers named_outcome numbering.old result numbering.new (outcome_in (env_view env.now)
-        (writes writing (atom_view atom.now) (expr_view value.now))) (of_outcome (outcome_in
+) -> Result<NumberedEffect, GroundFault>
+    ensures { Lowers named_simple_effect numbering.old result numbering.new (simple_effect_in (env_view env.now)
+        (writes writing (atom_view atom.now) (expr_view value.now))) (of_simple_effect (simple_effect_in
         (env_view env.now) (writes writing (atom_view atom.now) (expr_view value.now)))) }
 {
     let fluent = fluent(alloc, env, numbering, atom)?;
     let value = expression(alloc, env, numbering, value)?;
-    Ok(NumberedOutcome::Write(NumericEffect {
+    Ok(NumberedEffect::Write(NumericEffect {
         fluent,
         change: change_of(writing),
         value,
     }))
 }
 
-fn outcome(
+fn simple_effect(
     alloc: Global,
     env: &Env,
     numbering: &mut Numbering,
-    outcome: &Outcome,
-) -> Result<NumberedOutcome, GroundFault>
-    ensures { Lowers named_outcome numbering.old result numbering.new
-        (outcome_in (env_view env.now) (outcome_view outcome.now))
-        (of_outcome (outcome_in (env_view env.now) (outcome_view outcome.now))) }
+    simple_effect: &SimpleEffect,
+) -> Result<NumberedEffect, GroundFault>
+    ensures { Lowers named_simple_effect numbering.old result numbering.new
+        (simple_effect_in (env_view env.now) (simple_effect_view simple_effect.now))
+        (of_simple_effect (simple_effect_in (env_view env.now) (simple_effect_view simple_effect.now))) }
 {
-    match outcome {
-        Outcome::Add(added) => {
+    match simple_effect {
+        SimpleEffect::Add(added) => {
             let number = atom(alloc, env, numbering, added)?;
-            Ok(NumberedOutcome::Add(number))
+            Ok(NumberedEffect::Add(number))
         }
-        Outcome::Delete(deleted) => {
+        SimpleEffect::Delete(deleted) => {
             let number = atom(alloc, env, numbering, deleted)?;
-            Ok(NumberedOutcome::Delete(number))
+            Ok(NumberedEffect::Delete(number))
         }
-        Outcome::Write(writing, fluent, value) => {
+        SimpleEffect::Write(writing, fluent, value) => {
             write(alloc, env, numbering, *writing, fluent, value)
         }
     }
 }
 
-fn is_mark(left: Mark, right: Mark) -> bool
-    ensures { result ≡ is_mark left right }
+fn is_specifier(left: TimeSpecifier, right: TimeSpecifier) -> bool
+    ensures { result ≡ is_specifier left right }
 {
     matches!(
         (left, right),
-        (Mark::AtStart, Mark::AtStart) | (Mark::OverAll, Mark::OverAll) | (Mark::AtEnd, Mark::AtEnd)
+        (TimeSpecifier::AtStart, TimeSpecifier::AtStart)
+            | (TimeSpecifier::OverAll, TimeSpecifier::OverAll)
+            | (TimeSpecifier::AtEnd, TimeSpecifier::AtEnd)
     )
 }
 
@@ -117,36 +119,36 @@ fn conjunct(
     Ok(one)
 }
 
-impl Part for Outcome {
-    type Lowered = NumberedOutcome;
+impl Lowerable for SimpleEffect {
+    type Lowered = NumberedEffect;
 
-    ghost Seen = { Effects.Outcome };
+    ghost Seen = { Effects.SimpleEffect };
 
-    ghost Written = { GroundOutcome };
+    ghost Written = { GroundEffect };
 
-    ghost seen = { outcome_view };
+    ghost seen = { simple_effect_view };
 
-    ghost named = { named_outcome };
+    ghost named = { named_simple_effect };
 
-    ghost mentions = { of_outcome };
+    ghost mentions = { of_simple_effect };
 
-    ghost written = { outcome_part };
+    ghost written = { simple_effect_part };
 
     fn lower(
         &self,
         alloc: Global,
         _universe: &Universe,
         env: &Env,
-        _mark: Mark,
+        _mark: TimeSpecifier,
         numbering: &mut Numbering,
-    ) -> Result<Vec<NumberedOutcome>, GroundFault> {
+    ) -> Result<Vec<NumberedEffect>, GroundFault> {
         let mut one = Vec::with_capacity(alloc, 1)?;
-        one.push(outcome(alloc, env, numbering, self)?)?;
+        one.push(simple_effect(alloc, env, numbering, self)?)?;
         Ok(one)
     }
 }
 
-impl Part for Timed<tp_syntax::Cond> {
+impl Lowerable for Timed<tp_syntax::Cond> {
     type Lowered = Cond;
 
     ghost Seen = { Effects.Timed Condition };
@@ -166,10 +168,10 @@ impl Part for Timed<tp_syntax::Cond> {
         alloc: Global,
         universe: &Universe,
         env: &Env,
-        mark: Mark,
+        specifier: TimeSpecifier,
         numbering: &mut Numbering,
     ) -> Result<Vec<Cond>, GroundFault> {
-        if is_mark(self.mark, mark) {
+        if is_specifier(self.specifier, specifier) {
             conjunct(alloc, universe, env, numbering, &self.what)
         } else {
             Ok(Vec::new(alloc))
@@ -177,31 +179,31 @@ impl Part for Timed<tp_syntax::Cond> {
     }
 }
 
-impl Part for Timed<Effect> {
-    type Lowered = NumberedOutcome;
+impl Lowerable for Timed<Effect> {
+    type Lowered = NumberedEffect;
 
     ghost Seen = { Effects.Timed Effects.Effect };
 
-    ghost Written = { GroundOutcome };
+    ghost Written = { GroundEffect };
 
     ghost seen = { timed_view effect_view };
 
-    ghost named = { named_outcome };
+    ghost named = { named_simple_effect };
 
-    ghost mentions = { of_outcome };
+    ghost mentions = { of_simple_effect };
 
-    ghost written = { outcomes_part };
+    ghost written = { simple_effects_part };
 
     fn lower(
         &self,
         alloc: Global,
         universe: &Universe,
         env: &Env,
-        mark: Mark,
+        specifier: TimeSpecifier,
         numbering: &mut Numbering,
-    ) -> Result<Vec<NumberedOutcome>, GroundFault> {
-        if is_mark(self.mark, mark) {
-            joined(alloc, universe, env, mark, numbering, &self.what)
+    ) -> Result<Vec<NumberedEffect>, GroundFault> {
+        if is_specifier(self.specifier, specifier) {
+            joined(alloc, universe, env, specifier, numbering, &self.what)
         } else {
             Ok(Vec::new(alloc))
         }

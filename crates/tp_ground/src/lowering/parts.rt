@@ -4,7 +4,7 @@ ghost use Rattle.std.specs.Prelude.{◌≡◌, List, map};
 ghost use Rattle.std.specs.List.{flat_map};
 ghost use Rattle.tp_syntax.specs.Symbols.{typed_view};
 ghost use Rattle.tp_syntax.specs.PartViews.{joined_view};
-ghost use Rattle.tp_ast.specs.declared.words.Mark as marks;
+ghost use Rattle.tp_ast.specs.declared.words.TimeSpecifier as specifiers;
 ghost use Rattle.tp_ground.specs.Bindings as bindings;
 ghost use Rattle.tp_ground.specs.Views.{env_view, universe_view};
 ghost use Rattle.tp_ground.specs.Tables.{Tables};
@@ -18,10 +18,10 @@ use crate::numbering::Numbering;
 use crate::rows::rows_of;
 use crate::universe::Universe;
 use std::alloc::Global;
-use tp_syntax::{Joined, Mark, Typed};
+use tp_syntax::{Joined, TimeSpecifier, Typed};
 
 /// What may stand inside.
-pub trait Part: Drop {
+pub trait Lowerable: Drop {
     /// What it is made into.
     type Lowered: Drop;
 
@@ -37,41 +37,41 @@ pub trait Part: Drop {
 
     ghost mentions: { Written → Mentions };
 
-    /// What is written out at a mark.
-    ghost written: { bindings.Universe → marks.Mark → bindings.Env → Seen → List Written };
+    /// What is written out at a specifier.
+    ghost written: { bindings.Universe → specifiers.TimeSpecifier → bindings.Env → Seen → List Written };
 
-    /// What it is at a mark.
+    /// What it is at a specifier.
     fn lower(
         &self,
         alloc: Global,
         universe: &Universe,
         env: &Env,
-        mark: Mark,
+        specifier: TimeSpecifier,
         numbering: &mut Numbering,
     ) -> Result<Vec<Self::Lowered>, GroundFault>
         ensures { Lowers (λ t v. map (named t) v.items) numbering.old result numbering.new (written
-            (universe_view universe.now) mark (env_view env.now) (seen self.now)) (of_each mentions
-            (written (universe_view universe.now) mark (env_view env.now) (seen self.now))) };
+            (universe_view universe.now) specifier (env_view env.now) (seen self.now)) (of_each mentions
+            (written (universe_view universe.now) specifier (env_view env.now) (seen self.now))) };
 }
 
 #[cycle(joined)]
-fn all_parts<P: Part>(
+fn all_parts<P: Lowerable>(
     alloc: Global,
     universe: &Universe,
     env: &Env,
-    mark: Mark,
+    specifier: TimeSpecifier,
     numbering: &mut Numbering,
     parts: &[Joined<P>],
 ) -> Result<Vec<P::Lowered>, GroundFault>
     ensures { Lowers (λ t v. map (P.named t) v.items) numbering.old result numbering.new
         (flat_map (λ p. parts_in (universe_view universe.now) (P.written
-        (universe_view universe.now) mark) (env_view env.now) (joined_view P.seen p)) parts.now)
+        (universe_view universe.now) specifier) (env_view env.now) (joined_view P.seen p)) parts.now)
         (of_each P.mentions (flat_map (λ p. parts_in (universe_view universe.now) (P.written
-        (universe_view universe.now) mark) (env_view env.now) (joined_view P.seen p)) parts.now)) }
+        (universe_view universe.now) specifier) (env_view env.now) (joined_view P.seen p)) parts.now)) }
 {
     let mut lowered = Vec::new(alloc);
     for part in parts {
-        let mut more = joined(alloc, universe, env, mark, numbering, part)?;
+        let mut more = joined(alloc, universe, env, specifier, numbering, part)?;
         lowered.append(&mut more)?;
     }
     Ok(lowered)
@@ -79,21 +79,21 @@ fn all_parts<P: Part>(
 
 // Parts under each binding of variables.
 #[cycle(joined)]
-fn under_each<P: Part>(
+fn under_each<P: Lowerable>(
     alloc: Global,
     universe: &Universe,
     env: &Env,
-    mark: Mark,
+    specifier: TimeSpecifier,
     numbering: &mut Numbering,
     variables: &[Typed],
     part: &Joined<P>,
 ) -> Result<Vec<P::Lowered>, GroundFault>
     ensures { Lowers (λ t v. map (P.named t) v.items) numbering.old result numbering.new
         (flat_map (λ e. parts_in (universe_view universe.now)
-        (P.written (universe_view universe.now) mark) e (joined_view P.seen part.now))
+        (P.written (universe_view universe.now) specifier) e (joined_view P.seen part.now))
         (inner (universe_view universe.now) (env_view env.now) (map typed_view variables.now)))
         (of_each P.mentions (flat_map (λ e. parts_in (universe_view universe.now)
-        (P.written (universe_view universe.now) mark) e (joined_view P.seen part.now))
+        (P.written (universe_view universe.now) specifier) e (joined_view P.seen part.now))
         (inner (universe_view universe.now) (env_view env.now) (map typed_view variables.now)))) }
 {
     let mut rows = rows_of(alloc, universe, variables)?;
@@ -101,33 +101,33 @@ fn under_each<P: Part>(
     for place in 0..rows.count {
         rows.turn_to(place);
         let inner = Env::Inner(&*variables, &rows.row, &*env);
-        let mut more = joined(alloc, universe, &inner, mark, numbering, part)?;
+        let mut more = joined(alloc, universe, &inner, specifier, numbering, part)?;
         lowered.append(&mut more)?;
     }
     Ok(lowered)
 }
 
-/// The parts at a mark, each after the one before.
+/// The parts at a specifier, each after the one before.
 #[cycle(joined)]
-pub fn joined<P: Part>(
+pub fn joined<P: Lowerable>(
     alloc: Global,
     universe: &Universe,
     env: &Env,
-    mark: Mark,
+    specifier: TimeSpecifier,
     numbering: &mut Numbering,
     part: &Joined<P>,
 ) -> Result<Vec<P::Lowered>, GroundFault>
     ensures { Lowers (λ t v. map (P.named t) v.items) numbering.old result numbering.new
-        (parts_in (universe_view universe.now) (P.written (universe_view universe.now) mark)
+        (parts_in (universe_view universe.now) (P.written (universe_view universe.now) specifier)
         (env_view env.now) (joined_view P.seen part.now))
         (of_each P.mentions (parts_in (universe_view universe.now) (P.written
-        (universe_view universe.now) mark) (env_view env.now) (joined_view P.seen part.now))) }
+        (universe_view universe.now) specifier) (env_view env.now) (joined_view P.seen part.now))) }
 {
     match part {
-        Joined::And(parts) => all_parts(alloc, universe, env, mark, numbering, parts),
+        Joined::And(parts) => all_parts(alloc, universe, env, specifier, numbering, parts),
         Joined::Forall(variables, inner) => {
-            under_each(alloc, universe, env, mark, numbering, variables, inner)
+            under_each(alloc, universe, env, specifier, numbering, variables, inner)
         }
-        Joined::One(one) => one.lower(alloc, universe, env, mark, numbering),
+        Joined::One(one) => one.lower(alloc, universe, env, specifier, numbering),
     }
 }

@@ -1,5 +1,5 @@
 use Rattle.std.proofs.Common.{sym, ◌∙◌}
-use Rattle.tp_types.proofs.OnCircles.{not_true}
+use Rattle.tp_types.proofs.OnCycles.{not_true}
 use Rattle.tp_names.proofs.OnTypes.{not_false, mention_kept, mention_pushed}
 use Rattle.tp_names.proofs.type_reader.mention.Goals as goal
 

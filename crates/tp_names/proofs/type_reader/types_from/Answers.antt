@@ -1,7 +1,7 @@
 use Rattle.std.proofs.Common.{List, map, refl, string_bytes, ap, sym, ◌∙◌}
 use Rattle.tp_ast.specs.Symbols.{Parent, parent_view}
 use Rattle.tp_ast.specs.TypedLists.{has_twice}
-use Rattle.tp_ast.specs.Domains.{no_circle}
+use Rattle.tp_ast.specs.Domains.{no_cycle}
 use Rattle.tp_ast.specs.declared.types.TypeName.{TypeName}
 use Rattle.tp_types.proofs.OnTables.{map_twice, some_twice, none_twice}
 use Rattle.tp_names.proofs.OnTypes.{types_twice, types_made}
@@ -20,4 +20,4 @@ returns c =
     (ap has_twice (map_twice (λ (p : Parent). p.name) parent_view ts) ∙ none_twice (λ (t : TypeName). string_bytes t.name) ts ts c.in_ok-number.field-0 c.in_ok-number.ensures refl c.in_default.is)
     (sym c.object_is_highest.ensures ∙ c.if-not-object_is_highest.false)
     c.in_ok-types.ensures
-    (ap (λ (us : List TypeName). no_circle (map parent_view us)) (sym c.deref.ensures.value) ∙ sym c.in_ok-is_straight.ensures ∙ c.if-not-is_straight.false)
+    (ap (λ (us : List TypeName). no_cycle (map parent_view us)) (sym c.deref.ensures.value) ∙ sym c.in_ok-is_straight.ensures ∙ c.if-not-is_straight.false)

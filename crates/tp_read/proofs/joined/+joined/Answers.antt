@@ -21,7 +21,7 @@ use Rattle.tp_read.proofs.joined.+joined.Goals as goal
 pub read_joined-returns-in-Word : goal.read_joined-returns-in-Word
 read_joined-returns-in-Word g t c =
     let σ = symbols_view c.args.symbols.now in
-    let read = g.P.Part.spelled σ c.args.duration in
+    let read = g.P.Inner.spelled σ c.args.duration in
     let scope = scope_view c.args.scope.now in
     let f = λ (s : Shape). joined_of σ.types read scope s in
     a_word f _ _ c.in-Word.is ∙ at_word σ.types read scope _
@@ -29,15 +29,15 @@ read_joined-returns-in-Word g t c =
 pub read_joined-returns-in_default : goal.read_joined-returns-in_default
 read_joined-returns-in_default g t c =
     let σ = symbols_view c.args.symbols.now in
-    let read = g.P.Part.spelled σ c.args.duration in
+    let read = g.P.Inner.spelled σ c.args.duration in
     let scope = scope_view c.args.scope.now in
     let f = λ (s : Shape). joined_of σ.types read scope s in
-    empty_list f _ _ _ c.as_slice.result.now c.in-List.is c.as_slice.ensures.value c.in_default.len_below ∙ at_nothing σ.types read scope ∙ ap Some (and_none g.P.Part.seen c.new.result c.new.ensures.items)
+    empty_list f _ _ _ c.as_slice.result.now c.in-List.is c.as_slice.ensures.value c.in_default.len_below ∙ at_nothing σ.types read scope ∙ ap Some (and_none g.P.Inner.seen c.new.result c.new.ensures.items)
 
 pub read_joined-returns-in_default-first : goal.read_joined-returns-in_default-first
 read_joined-returns-in_default-first g t c =
     let σ = symbols_view c.args.symbols.now in
-    let read = g.P.Part.spelled σ c.args.duration in
+    let read = g.P.Inner.spelled σ c.args.duration in
     let scope = scope_view c.args.scope.now in
     let f = λ (s : Shape). joined_of σ.types read scope s in
     list_first f _ _ _ c.as_slice.result.now c.first-item.result _ _ c.in-List.is c.as_slice.ensures.value c.in-len1-up.len_at_least c.first-item.is c.in_default-first.is ∙ at_list σ.types read scope _ _
@@ -45,35 +45,35 @@ read_joined-returns-in_default-first g t c =
 pub read_joined-returns-in_err-parts-in-And : goal.read_joined-returns-in_err-parts-in-And
 read_joined-returns-in_err-parts-in-And g t c =
     let σ = symbols_view c.args.symbols.now in
-    let read = g.P.Part.spelled σ c.args.duration in
+    let read = g.P.Inner.spelled σ c.args.duration in
     let scope = scope_view c.args.scope.now in
     let f = λ (s : Shape). joined_of σ.types read scope s in
     let is = word_first f _ _ _ c.as_slice.result.now c.first-item.result _ c.in-List.is c.as_slice.ensures.value c.in-len1-up.len_at_least c.first-item.is c.in-Word-first.is ∙ by_joint σ.types read scope _ _ c.joint_of.result _ c.joint_of.ensures c.in-And.is in
     let p = err_from_is_err_and c.from_residual.result c.from_residual.ensures.1 in
-    rw (p.1, p.2) (fails_same c.in_err-parts-in-And.field-0.0 _ _ is (fails_map (λ (ps : List (Joined g.P.Part.Seen)). all_parts (parts ps)) c.in_err-parts-in-And.field-0.0 _ c.in_err-parts-in-And.ensures))
+    rw (p.1, p.2) (fails_same c.in_err-parts-in-And.field-0.0 _ _ is (fails_map (λ (ps : List (Joined g.P.Inner.Seen)). all_parts (parts ps)) c.in_err-parts-in-And.field-0.0 _ c.in_err-parts-in-And.ensures))
 
 pub read_joined-returns-in_ok-parts-in-And : goal.read_joined-returns-in_ok-parts-in-And
 read_joined-returns-in_ok-parts-in-And g t c =
     let σ = symbols_view c.args.symbols.now in
-    let read = g.P.Part.spelled σ c.args.duration in
+    let read = g.P.Inner.spelled σ c.args.duration in
     let scope = scope_view c.args.scope.now in
     let f = λ (s : Shape). joined_of σ.types read scope s in
     let is = word_first f _ _ _ c.as_slice.result.now c.first-item.result _ c.in-List.is c.as_slice.ensures.value c.in-len1-up.len_at_least c.first-item.is c.in-Word-first.is ∙ by_joint σ.types read scope _ _ c.joint_of.result _ c.joint_of.ensures c.in-And.is in
-    is ∙ ap (option_map (λ (ps : List (Joined g.P.Part.Seen)). all_parts (parts ps))) c.in_ok-parts-in-And.ensures ∙ ap Some (sym (and_view g.P.Part.seen c.in_ok-parts-in-And.parts))
+    is ∙ ap (option_map (λ (ps : List (Joined g.P.Inner.Seen)). all_parts (parts ps))) c.in_ok-parts-in-And.ensures ∙ ap Some (sym (and_view g.P.Inner.seen c.in_ok-parts-in-And.parts))
 
 pub read_joined-returns-in-Forall : goal.read_joined-returns-in-Forall
 read_joined-returns-in-Forall g t c =
     let σ = symbols_view c.args.symbols.now in
-    let read = g.P.Part.spelled σ c.args.duration in
+    let read = g.P.Inner.spelled σ c.args.duration in
     let scope = scope_view c.args.scope.now in
     let f = λ (s : Shape). joined_of σ.types read scope s in
     let is = word_first f _ _ _ c.as_slice.result.now c.first-item.result _ c.in-List.is c.as_slice.ensures.value c.in-len1-up.len_at_least c.first-item.is c.in-Word-first.is ∙ by_joint σ.types read scope _ _ c.joint_of.result _ c.joint_of.ensures c.in-Forall.is in
-    gives_same (joined_view g.P.Part.seen) _ _ _ is c.read_bound.ensures
+    gives_same (joined_view g.P.Inner.seen) _ _ _ is c.read_bound.ensures
 
 pub read_joined-returns-in_err-read-in-One : goal.read_joined-returns-in_err-read-in-One
 read_joined-returns-in_err-read-in-One g t c =
     let σ = symbols_view c.args.symbols.now in
-    let read = g.P.Part.spelled σ c.args.duration in
+    let read = g.P.Inner.spelled σ c.args.duration in
     let scope = scope_view c.args.scope.now in
     let f = λ (s : Shape). joined_of σ.types read scope s in
     let is = word_first f _ _ _ c.as_slice.result.now c.first-item.result _ c.in-List.is c.as_slice.ensures.value c.in-len1-up.len_at_least c.first-item.is c.in-Word-first.is ∙ by_joint σ.types read scope _ _ c.joint_of.result _ c.joint_of.ensures c.in-One.is in
@@ -83,42 +83,42 @@ read_joined-returns-in_err-read-in-One g t c =
 pub read_joined-returns-in_ok-read-in-One : goal.read_joined-returns-in_ok-read-in-One
 read_joined-returns-in_ok-read-in-One g t c =
     let σ = symbols_view c.args.symbols.now in
-    let read = g.P.Part.spelled σ c.args.duration in
+    let read = g.P.Inner.spelled σ c.args.duration in
     let scope = scope_view c.args.scope.now in
     let f = λ (s : Shape). joined_of σ.types read scope s in
     let is = word_first f _ _ _ c.as_slice.result.now c.first-item.result _ c.in-List.is c.as_slice.ensures.value c.in-len1-up.len_at_least c.first-item.is c.in-Word-first.is ∙ by_joint σ.types read scope _ _ c.joint_of.result _ c.joint_of.ensures c.in-One.is in
-    is ∙ ap (option_map one) c.in_ok-read-in-One.ensures ∙ ap Some (sym (one_view g.P.Part.seen _))
+    is ∙ ap (option_map one) c.in_ok-read-in-One.ensures ∙ ap Some (sym (one_view g.P.Inner.seen _))
 
 pub read_parts-returns-in_err-read_joined : goal.read_parts-returns-in_err-read_joined
 read_parts-returns-in_err-read_joined g t c =
     let σ = symbols_view c.args.symbols.now in
-    let each = each_part σ.types (g.P.Part.spelled σ c.args.duration) (scope_view c.args.scope.now) in
+    let each = each_part σ.types (g.P.Inner.spelled σ c.args.duration) (scope_view c.args.scope.now) in
     let p = err_from_is_err_and c.from_residual.result c.from_residual.ensures.1 in
     rw (p.1, p.2) (fails each c.in_err-read_joined.field-0.0 _ c.args.trees.now c.loop-tree.tree-index c.tree-item.result _ c.loop-tree-test.true c.tree-item.is c.in_err-read_joined.ensures c.loop-tree.invariant)
 
 pub read_parts-loop-tree-preserved : goal.read_parts-loop-tree-preserved
 read_parts-loop-tree-preserved g t c =
     let σ = symbols_view c.args.symbols.now in
-    let each = each_part σ.types (g.P.Part.spelled σ c.args.duration) (scope_view c.args.scope.now) in
+    let each = each_part σ.types (g.P.Inner.spelled σ c.args.duration) (scope_view c.args.scope.now) in
     goes_on each _ _ c.args.trees.now c.loop-tree.tree-index c.tree-item.result _ _ c.loop-tree-test.true c.tree-item.is c.in_ok-read_joined.ensures
-    (ap (map (joined_view g.P.Part.seen)) c.in_ok-push.ensures.items ∙ map-append (joined_view g.P.Part.seen) _ _)
+    (ap (map (joined_view g.P.Inner.seen)) c.in_ok-push.ensures.items ∙ map-append (joined_view g.P.Inner.seen) _ _)
     c.loop-tree.invariant
 
 pub read_parts-returns : goal.read_parts-returns
 read_parts-returns g t c =
     let σ = symbols_view c.args.symbols.now in
-    let each = each_part σ.types (g.P.Part.spelled σ c.args.duration) (scope_view c.args.scope.now) in
+    let each = each_part σ.types (g.P.Inner.spelled σ c.args.duration) (scope_view c.args.scope.now) in
     ends each _ c.args.trees.now c.loop-tree.tree-index _ c.loop-tree-test.false c.loop-tree.invariant
 
 pub read_bound-returns-in_default : goal.read_bound-returns-in_default
 read_bound-returns-in_default g t c =
     let σ = symbols_view c.args.symbols.now in
-    bound_none σ.types (g.P.Part.spelled σ c.args.duration) (scope_view c.args.scope.now) c.args.args.now c.in_default.len_below
+    bound_none σ.types (g.P.Inner.spelled σ c.args.duration) (scope_view c.args.scope.now) c.args.args.now c.in_default.len_below
 
 pub read_bound-returns-in_err-vars : goal.read_bound-returns-in_err-vars
 read_bound-returns-in_err-vars g t c =
     let σ = symbols_view c.args.symbols.now in
-    let read = g.P.Part.spelled σ c.args.duration in
+    let read = g.P.Inner.spelled σ c.args.duration in
     let scope = scope_view c.args.scope.now in
     let p = err_from_is_err_and c.from_residual.result c.from_residual.ensures.1 in
     rw (p.1, p.2) (fails_same c.in_err-vars.field-0.0 _ _ (bound_first σ.types read scope c.args.args.now c.list-item.result c.in-len1-up.len_at_least c.list-item.is) (fails_bind c.in_err-vars.field-0.0 _ _ c.in_err-vars.ensures))
@@ -126,7 +126,7 @@ read_bound-returns-in_err-vars g t c =
 pub read_bound-returns-in_default-body : goal.read_bound-returns-in_default-body
 read_bound-returns-in_default-body g t c =
     let σ = symbols_view c.args.symbols.now in
-    let read = g.P.Part.spelled σ c.args.duration in
+    let read = g.P.Inner.spelled σ c.args.duration in
     let scope = scope_view c.args.scope.now in
     let vs : List Declared = map typed_view c.in_ok-vars.vars.items in
     let ys = take (length c.args.args.now - 1) (drop 1 c.args.args.now) in
@@ -136,7 +136,7 @@ read_bound-returns-in_default-body g t c =
 pub read_bound-returns-then-not-is_empty : goal.read_bound-returns-then-not-is_empty
 read_bound-returns-then-not-is_empty g t c =
     let σ = symbols_view c.args.symbols.now in
-    let read = g.P.Part.spelled σ c.args.duration in
+    let read = g.P.Inner.spelled σ c.args.duration in
     let scope = scope_view c.args.scope.now in
     let vs : List Declared = map typed_view c.in_ok-vars.vars.items in
     let ys = take (length c.args.args.now - 1) (drop 1 c.args.args.now) in
@@ -146,7 +146,7 @@ read_bound-returns-then-not-is_empty g t c =
 pub read_bound-returns-in_err-inner : goal.read_bound-returns-in_err-inner
 read_bound-returns-in_err-inner g t c =
     let σ = symbols_view c.args.symbols.now in
-    let read = g.P.Part.spelled σ c.args.duration in
+    let read = g.P.Inner.spelled σ c.args.duration in
     let scope = scope_view c.args.scope.now in
     let vs : List Declared = map typed_view c.in_ok-vars.vars.items in
     let ys = take (length c.args.args.now - 1) (drop 1 c.args.args.now) in
@@ -158,11 +158,11 @@ read_bound-returns-in_err-inner g t c =
 pub read_bound-returns : goal.read_bound-returns
 read_bound-returns g t c =
     let σ = symbols_view c.args.symbols.now in
-    let read = g.P.Part.spelled σ c.args.duration in
+    let read = g.P.Inner.spelled σ c.args.duration in
     let scope = scope_view c.args.scope.now in
     let vs : List Declared = map typed_view c.in_ok-vars.vars.items in
     let ys = take (length c.args.args.now - 1) (drop 1 c.args.args.now) in
     let first = bound_first σ.types read scope c.args.args.now c.list-item.result c.in-len1-up.len_at_least c.list-item.is ∙ ap (λ o. o >>= λ (ws : List Declared). option_map (for_each ws) (only_part σ.types read (ws ++ scope) (shapes ys))) c.in_ok-vars.ensures in
     let same = only_one σ.types read (vs ++ scope) ys c.tree-item.result c.in-len1-up-body.len_at_least c.tree-item.is (eqb-true (length (take (length ys - 1) (drop 1 ys))) 0 (sym c.is_empty.ensures ∙ c.if-not-is_empty.false)) ∙ ap (λ (ds : List Declared). joined_of σ.types read ds (shape_of c.tree-item.result)) (sym (scope_Inner _ _ ∙ ap (λ (ts : List Typed). map typed_view ts ++ scope) c.in_ok-known.ensures)) in
     first ∙ ap (option_map (for_each vs)) (same ∙ c.in_ok-inner.ensures)
-    ∙ ap Some (sym (forall_view g.P.Part.seen c.into_items.result c.in_ok-new.field-0 ∙ ap (λ (ts : List Typed). for_each (map typed_view ts) (joined_view g.P.Part.seen c.in_ok-new.field-0.value)) (c.into_items.ensures ∙ c.in_ok-known.ensures) ∙ ap (for_each vs) (ap (joined_view g.P.Part.seen) c.in_ok-new.ensures.ok)))
+    ∙ ap Some (sym (forall_view g.P.Inner.seen c.into_items.result c.in_ok-new.field-0 ∙ ap (λ (ts : List Typed). for_each (map typed_view ts) (joined_view g.P.Inner.seen c.in_ok-new.field-0.value)) (c.into_items.ensures ∙ c.in_ok-known.ensures) ∙ ap (for_each vs) (ap (joined_view g.P.Inner.seen) c.in_ok-new.ensures.ok)))

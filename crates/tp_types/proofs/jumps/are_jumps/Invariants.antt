@@ -1,6 +1,6 @@
 use Rattle.std.proofs.Common.{◌≡◌, map, drop}
 use Rattle.std.specs.List.{list_all}
-use Rattle.tp_types.specs.Circles.{type_name}
+use Rattle.tp_types.specs.Cycles.{type_name}
 use Rattle.tp_types.specs.Jumps.{is_jump}
 use Rattle.tp_types.proofs.jumps.are_jumps.Given as goal
 

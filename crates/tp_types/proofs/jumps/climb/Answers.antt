@@ -1,5 +1,5 @@
 use Rattle.std.proofs.Common.{List, ℕ, ap, sym, ◌∙◌, map, length}
-use Rattle.tp_types.specs.Circles.{type_name, rank_of}
+use Rattle.tp_types.specs.Cycles.{type_name, rank_of}
 use Rattle.tp_ast.specs.Symbols.{parent_view, at_or_below}
 use Rattle.tp_types.proofs.OnJumps.{at_level}
 use Rattle.tp_types.proofs.jumps.climb.Goals as goal

@@ -1,7 +1,7 @@
 use denote.Shadow.{shadow}
 use denote.Text.{Utf8}
 use Rattle.std.proofs.Common.{◌≡◌, Some, map, length}
-use Rattle.tp_types.specs.Circles.{type_name, rank_of}
+use Rattle.tp_types.specs.Cycles.{type_name, rank_of}
 use Rattle.tp_ast.specs.Symbols.{parent_view, at_or_below}
 use Rattle.tp_types.proofs.jumps.climb.Given as goal
 

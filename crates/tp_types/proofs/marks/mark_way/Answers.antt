@@ -1,7 +1,7 @@
 use Rattle.std.proofs.Common.{List, ℕ, map, string_bytes, ap, sym, ◌∙◌}
 use Rattle.tp_ast.specs.Symbols.{parent_view, parent_of}
 use Rattle.tp_types.specs.Marks.{has_mark, fits}
-use Rattle.tp_types.proofs.OnCircles.{not_true}
+use Rattle.tp_types.proofs.OnCycles.{not_true}
 use Rattle.tp_types.proofs.OnMarks.{more_marks, parent_fits}
 use Rattle.tp_types.proofs.marks.mark_way.Goals as goal
 

@@ -1,6 +1,6 @@
 use Rattle.std.proofs.Common.{◌≡◌, true, not, ◌&&◌, nat_le, None, is_some, List, sym, ap, ◌∙◌}
 use Rattle.std.specs.List.{list_all}
-use Rattle.tp_ground.specs.declared.Limit.{Limit}
+use Rattle.tp_ground.specs.declared.events.Limit.{Limit}
 use Rattle.tp_ground.specs.State.{value}
 use Rattle.tp_ground.specs.Verdict.{is_unlawful}
 use Rattle.tp_happen.specs.Stored.{state_of}

@@ -1,0 +1,9 @@
+use Rattle.std.proofs.Common.{sym, ◌∙◌}
+use Rattle.tp_ground.specs.Mentions.{of_simple_effect, of_each}
+use Rattle.tp_ground.specs.NumberedEffects.{named_simple_effect}
+use Rattle.tp_ground.proofs.OnLowered.{all_named, written_as}
+use Rattle.tp_ground.proofs.OnPartLists.{specified}
+use Rattle.tp_ground.proofs.lowering.effects.TimedEffectLowerable.lower.Goals as goal
+
+pub returns-then-is_specifier : goal.returns-then-is_specifier
+returns-then-is_specifier c = written_as (all_named named_simple_effect of_simple_effect) (of_each of_simple_effect) _ _ _ _ _ (specified _ _ (sym c.is_specifier.ensures ∙ c.if-is_specifier.true)) c.joined.ensures

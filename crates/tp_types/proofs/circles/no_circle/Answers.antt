@@ -1,6 +1,0 @@
-use Rattle.std.proofs.Common.{sym, ◌∙◌}
-use Rattle.tp_types.proofs.OnCircles.{straight}
-use Rattle.tp_types.proofs.circles.no_circle.Goals as goal
-
-pub returns-then-are_ranked : goal.returns-then-are_ranked
-returns-then-are_ranked c = sym (straight c.args.types.now c.deref.result.now (sym c.are_ranked.ensures ∙ c.if-are_ranked.true))
