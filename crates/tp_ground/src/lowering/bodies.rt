@@ -25,6 +25,7 @@ use crate::numbering::Numbering;
 use crate::universe::Universe;
 use crate::{Body, Cond, GroundEvent, Limit, NumericEffect};
 use std::alloc::{AllocError, Global};
+use tp_syntax::TimeSpecifier::{AtEnd, AtStart, OverAll};
 use tp_syntax::{DurationRule, Effect, TimeSpecifier, TimedCond, TimedEffect};
 
 // The adds, the deletes and the writes among simple effects.
@@ -112,22 +113,8 @@ fn start(
         (of_start (universe_view universe.now) (env_view env.now) (rule_view duration.now)
         (timed_condition_view condition.now) (timed_effect_view effect.now)) }
 {
-    let condition = condition_at(
-        alloc,
-        universe,
-        env,
-        TimeSpecifier::AtStart,
-        numbering,
-        condition,
-    )?;
-    let simple_effects = joined(
-        alloc,
-        universe,
-        env,
-        TimeSpecifier::AtStart,
-        numbering,
-        effect,
-    )?;
+    let condition = condition_at(alloc, universe, env, AtStart, numbering, condition)?;
+    let simple_effects = joined(alloc, universe, env, AtStart, numbering, effect)?;
     let rule = limits(alloc, env, numbering, duration)?;
     Ok(event(alloc, condition, simple_effects, rule)?)
 }
@@ -145,22 +132,8 @@ fn end(
         (timed_effect_view effect.now)) (of_end (universe_view universe.now)
         (env_view env.now) (timed_condition_view condition.now) (timed_effect_view effect.now)) }
 {
-    let condition = condition_at(
-        alloc,
-        universe,
-        env,
-        TimeSpecifier::AtEnd,
-        numbering,
-        condition,
-    )?;
-    let simple_effects = joined(
-        alloc,
-        universe,
-        env,
-        TimeSpecifier::AtEnd,
-        numbering,
-        effect,
-    )?;
+    let condition = condition_at(alloc, universe, env, AtEnd, numbering, condition)?;
+    let simple_effects = joined(alloc, universe, env, AtEnd, numbering, effect)?;
     Ok(event(alloc, condition, simple_effects, Vec::new(alloc))?)
 }
 
@@ -178,14 +151,7 @@ fn instant(
         (env_view env.now) (cond_view precondition.now) (effect_view effect.now)) }
 {
     let condition = condition(alloc, universe, env, numbering, precondition)?;
-    let simple_effects = joined(
-        alloc,
-        universe,
-        env,
-        TimeSpecifier::AtStart,
-        numbering,
-        effect,
-    )?;
+    let simple_effects = joined(alloc, universe, env, AtStart, numbering, effect)?;
     Ok(event(alloc, condition, simple_effects, Vec::new(alloc))?)
 }
 
@@ -237,14 +203,7 @@ fn durative(
         (timed_condition_view condition.now) (timed_effect_view effect.now))) }
 {
     let ends = ends_of(alloc, universe, env, numbering, duration, condition, effect)?;
-    let between = condition_at(
-        alloc,
-        universe,
-        env,
-        TimeSpecifier::OverAll,
-        numbering,
-        condition,
-    )?;
+    let between = condition_at(alloc, universe, env, OverAll, numbering, condition)?;
     Ok(Body::Durative(ends.first, ends.last, between))
 }
 
