@@ -106,7 +106,7 @@ module _ (t : Tables) where
   pub named_Atom : (a : ℕ) → named_condition t (conds.Atom a) ≡ atom (words_at t.atoms a)
   named_Atom a = search (rules, conds.the_lemmas)
 
-  pub named_Compare : (op : how.Comparison) (x y : exprs.Expr) → named_condition t (conds.Compare op x y) ≡ compared op (named_expression t x) (named_expression t y)
+  pub named_Compare : (op : how.Comparison) (x y : Box exprs.Expr Global) → named_condition t (conds.Compare op x y) ≡ compared op (named_expression t x.value) (named_expression t y.value)
   named_Compare op x y = search (rules, conds.the_lemmas)
 
 -- all or any of what a list says

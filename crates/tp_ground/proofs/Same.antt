@@ -58,7 +58,7 @@ module _ (s s' : State) where
   mutual
     pub truth_same : (c : Cond) → SameAtoms s s' (atoms_in c) → SameNumbers s s' (fluents_in c) → truth s c ≡ truth s' c
     truth_same (Atom a) h k = h a (or_left (a == a) false (eq-eqb a a refl))
-    truth_same (Compare how x y) h k = ap₂ (compares_values how) (value_same s s' None None x (λ f i. k f (has_left (fluents_of x) _ f i)) (inl refl)) (value_same s s' None None y (λ f i. k f (has_right (fluents_of x) _ f i)) (inl refl))
+    truth_same (Compare how x y) h k = ap₂ (compares_values how) (value_same s s' None None x.value (λ f i. k f (has_left (fluents_of x.value) _ f i)) (inl refl)) (value_same s s' None None y.value (λ f i. k f (has_right (fluents_of x.value) _ f i)) (inl refl))
     truth_same (Not' p c) h k = ap not (truth_same c h k)
     truth_same (And' shape cs) h k = all_same cs h k
     truth_same (Or' shape cs) h k = some_same cs h k
@@ -74,7 +74,7 @@ module _ (s s' : State) where
   mutual
     has_values_same : (c : Cond) → SameNumbers s s' (fluents_in c) → has_values s c ≡ has_values s' c
     has_values_same (Atom a) k = refl
-    has_values_same (Compare how x y) k = ap₂ (λ v w. is_some v && is_some w) (value_same s s' None None x (λ f i. k f (has_left (fluents_of x) _ f i)) (inl refl)) (value_same s s' None None y (λ f i. k f (has_right (fluents_of x) _ f i)) (inl refl))
+    has_values_same (Compare how x y) k = ap₂ (λ v w. is_some v && is_some w) (value_same s s' None None x.value (λ f i. k f (has_left (fluents_of x.value) _ f i)) (inl refl)) (value_same s s' None None y.value (λ f i. k f (has_right (fluents_of x.value) _ f i)) (inl refl))
     has_values_same (Not' p c) k = has_values_same c k
     has_values_same (And' shape cs) k = have_values_same cs k
     has_values_same (Or' shape cs) k = have_values_same cs k

@@ -27,7 +27,7 @@ named_expression t = fold-Expr GroundExpression (named_expression_step t)
 abbrev pub named_condition_step : Tables → Cond-F GroundCondition → GroundCondition
 named_condition_step t (Cond-F.Atom a) = atom (words_at t.atoms a)
 named_condition_step t (Cond-F.Compare how x y) =
-    compared how (named_expression t x) (named_expression t y)
+    compared how (named_expression t x.value) (named_expression t y.value)
 named_condition_step t (Cond-F.Not c) = negation c.value
 named_condition_step t (Cond-F.And cs) = all_of (conditions_from cs.items)
 named_condition_step t (Cond-F.Or cs) = any_of (conditions_from cs.items)

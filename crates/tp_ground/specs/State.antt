@@ -86,7 +86,7 @@ abbrev mutual
 abbrev mutual
   pub fluents_in : Cond → List ℕ
   fluents_in (Atom a) = []
-  fluents_in (Compare how x y) = fluents_of x ++ fluents_of y
+  fluents_in (Compare how x y) = fluents_of x.value ++ fluents_of y.value
   fluents_in (Not' p c) = fluents_in c
   fluents_in (And' shape cs) = fluents_in_row cs
   fluents_in (Or' shape cs) = fluents_in_row cs
@@ -99,7 +99,7 @@ abbrev mutual
 abbrev mutual
   pub truth : State → Cond → Bool
   truth s (Atom a) = s.atom a
-  truth s (Compare how x y) = compares_values how (value s None x) (value s None y)
+  truth s (Compare how x y) = compares_values how (value s None x.value) (value s None y.value)
   truth s (Not' p c) = not (truth s c)
   truth s (And' shape cs) = all_true s cs
   truth s (Or' shape cs) = some_true s cs
@@ -116,7 +116,7 @@ abbrev mutual
 abbrev mutual
   pub has_values : State → Cond → Bool
   has_values s (Atom a) = true
-  has_values s (Compare how x y) = is_some (value s None x) && is_some (value s None y)
+  has_values s (Compare how x y) = is_some (value s None x.value) && is_some (value s None y.value)
   has_values s (Not' p c) = has_values s c
   has_values s (And' shape cs) = have_values s cs
   has_values s (Or' shape cs) = have_values s cs

@@ -26,7 +26,7 @@ pub enum Expr {
 #[derive(Drop)]
 pub enum Cond {
     Atom(u32),
-    Compare(Comparison, Expr, Expr),
+    Compare(Comparison, Box<Expr>, Box<Expr>),
     Not(Box<Cond>),
     And(Vec<Cond>),
     Or(Vec<Cond>),

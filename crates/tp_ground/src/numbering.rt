@@ -65,8 +65,51 @@ fn name_number(names: &mut IndexSet<String>, name: &str) -> Result<usize, AllocE
     Ok(number)
 }
 
-// The label of words.
-fn label_of(names: &mut IndexSet<String>, words: &[&str]) -> Result<Label, AllocError>
+// The number of a name at a place of another label, if it stands there.
+fn stands_near(names: &IndexSet<String>, near: &[usize], place: usize, name: &str) -> Option<usize>
+    ensures { IfSome result
+        (λ i. slice_get (map string_bytes names.now.keys) i ≡ Some name.now) }
+{
+    let number = *near.get(place)?;
+    match names.get_index(number) {
+        Some(known) if known.as_str() == name => Some(number),
+        _ => None,
+    }
+}
+
+// The same as `name_number`, but looks first at a place of another label, which costs less than a look-up.
+fn number_near(
+    names: &mut IndexSet<String>,
+    near: &[usize],
+    place: usize,
+    name: &str,
+) -> Result<usize, AllocError>
+    requires { IsDistinct bytes_eq (map string_bytes names.old.keys) }
+    ensures number { IfOk result
+        (λ i. slice_get (map string_bytes names.new.keys) i ≡ Some name.now) }
+    ensures grows { Grows (map string_bytes names.old.keys) (map string_bytes names.new.keys) }
+    ensures distinct { IsDistinct bytes_eq (map string_bytes names.new.keys) }
+{
+    if let Some(number) = stands_near(&*names, near, place, name) {
+        return Ok(number);
+    }
+    name_number(names, name)
+}
+
+// The last label, if there is one.
+fn last_of(labels: &[Label]) -> &[usize] {
+    match labels.last() {
+        Some(label) => label.as_slice(),
+        None => &[],
+    }
+}
+
+// The label of words, which may have names in common with a label near it.
+fn label_of(
+    names: &mut IndexSet<String>,
+    near: &[usize],
+    words: &[&str],
+) -> Result<Label, AllocError>
     requires { IsDistinct bytes_eq (map string_bytes names.old.keys) }
     ensures label { IfOk result
         (λ l. named (map string_bytes names.new.keys) l.items ≡ map (λ w. w.now) words.now) }
@@ -77,7 +120,7 @@ fn label_of(names: &mut IndexSet<String>, words: &[&str]) -> Result<Label, Alloc
 {
     let mut label = SmallVec::new(*names.allocator());
     for word in words {
-        let number = name_number(names, word)?;
+        let number = number_near(names, near, label.len(), word)?;
         label.push(number)?;
     }
     Ok(label)
@@ -162,7 +205,7 @@ impl Numbering {
         ensures err { IfErr result (CannotNumber self.old.most
             (with_words self.old.atoms (map (λ w. w.now) words.now)) self.old.fluents) }
     {
-        let label = label_of(&mut self.names, words)?;
+        let label = label_of(&mut self.names, &[], words)?;
         place_of(&mut self.atoms, self.most, label, TooManyKind::Atoms)
     }
 
@@ -213,7 +256,7 @@ impl Numbering {
         ensures err { IfErr result (CannotNumber self.old.most self.old.atoms
             (with_words self.old.fluents (map (λ w. w.now) words.now))) }
     {
-        let label = label_of(&mut self.names, words)?;
+        let label = label_of(&mut self.names, &[], words)?;
         place_of(&mut self.fluents, self.most, label, TooManyKind::Fluents)
     }
 
@@ -239,7 +282,14 @@ impl Numbering {
         Ok(place)
     }
 
-    /// Numbers one more action.
+    /// Makes room for so many more actions.
+    pub fn make_room(&mut self, count: usize) -> Result<(), AllocError>
+        ensures { self.new ≡ self.old }
+    {
+        self.actions.reserve(count)
+    }
+
+    /// Numbers one more action, which mostly has names in common with the one before it.
     pub fn push_action(&mut self, words: &[&str]) -> Result<(), AllocError>
         ensures actions { OnOk result
             (self.new.actions ≡ self.old.actions ++ map (λ w. w.now) words.now ∷ []) }
@@ -248,7 +298,8 @@ impl Numbering {
         ensures fluents { self.new.fluents ≡ self.old.fluents }
         ensures most { self.new.most ≡ self.old.most }
     {
-        let label = label_of(&mut self.names, words)?;
+        let near = last_of(&self.actions);
+        let label = label_of(&mut self.names, near, words)?;
         self.actions.push(label)?;
         Ok(())
     }

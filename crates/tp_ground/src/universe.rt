@@ -176,7 +176,7 @@ pub fn with_first<'a>(
 ) -> Result<Vec<&'a str>, AllocError>
     ensures { IfOk result (λ v. map (λ o. o.now) v.items ≡ name.now ∷ map (λ o. o.now) rest.now) }
 {
-    let mut names = Vec::new(alloc);
+    let mut names = Vec::with_capacity(alloc, rest.len().saturating_add(1))?;
     names.push(name)?;
     names.extend_from_slice(rest)?;
     Ok(names)

@@ -27,7 +27,7 @@ values_small s d (Product' p x q y) =
 abbrev mutual
   pub all_small : State → Cond → Bool
   all_small s (Atom a) = true
-  all_small s (Compare how x y) = values_small s None x && values_small s None y
+  all_small s (Compare how x y) = values_small s None x.value && values_small s None y.value
   all_small s (Not' p c) = all_small s c
   all_small s (And' shape cs) = rows_small s cs
   all_small s (Or' shape cs) = rows_small s cs

@@ -17,7 +17,7 @@ ghost use Rattle.tp_ground.specs.Lowered.{Lowers};
 use crate::Cond;
 use crate::environment::{Env, object_for, words_in};
 use crate::fault::GroundFault;
-use crate::lowering::expressions::{comparison_of, expression};
+use crate::lowering::expressions::{comparison_of, operand};
 use crate::numbering::Numbering;
 use crate::rows::rows_of;
 use crate::universe::Universe;
@@ -77,8 +77,8 @@ fn compared(
         (env_view env.now) comparison (expr_view left.now) (expr_view right.now)) (of_condition
         (compared_in (env_view env.now) comparison (expr_view left.now) (expr_view right.now))) }
 {
-    let x = expression(alloc, env, numbering, left)?;
-    let y = expression(alloc, env, numbering, right)?;
+    let x = operand(alloc, env, numbering, left)?;
+    let y = operand(alloc, env, numbering, right)?;
     Ok(Cond::Compare(comparison_of(comparison), x, y))
 }
 

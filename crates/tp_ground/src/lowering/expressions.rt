@@ -46,8 +46,9 @@ pub fn fluent(
     numbering.fluent(&words)
 }
 
+/// The same, in a box of its own.
 #[cycle(expression)]
-fn operand(
+pub fn operand(
     alloc: Global,
     env: &Env,
     numbering: &mut Numbering,
