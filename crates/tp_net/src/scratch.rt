@@ -35,36 +35,19 @@ pub struct ScratchNet {
 }
 
 impl Model for ScratchNet {
-    ghost use Rattle.std.specs.Prelude.{None};
-    ghost use Rattle.tp_bounds.specs.Held.{held};
     ghost use Rattle.tp_bounds.specs.Setting.{Setting};
     ghost use Rattle.tp_bounds.specs.Codes.{coded_setting};
     ghost use Rattle.tp_net.specs.Kept.{IsKept};
+    ghost use Rattle.tp_net.specs.Settled.{settled};
 
     ghost Value = { Setting };
 
     ghost coded = { coded_setting };
 
-    ghost view = { λ a. record {
-      horizon = a.horizon;
-      clock = a.clock;
-      bounds
-          = held a.bounds.entries;
-      fixed = a.fixed.items;
-      lags = a.lags.items;
-      proposed = None;
-    } };
+    ghost view = { λ a. settled a.horizon a.clock a.bounds.entries a.fixed.items a.lags.items };
 
-    ghost invariant = { λ a. IsKept (record {
-      horizon = a.horizon;
-      clock = a.clock;
-      bounds
-          = held a.bounds.entries;
-      fixed = a.fixed.items;
-      lags = a.lags.items;
-      proposed = None;
-    })
-        a.names.items a.arcs.items a.low.items a.high.items };
+    ghost invariant = { λ a. IsKept (settled a.horizon a.clock a.bounds.entries a.fixed.items
+        a.lags.items) a.names.items a.arcs.items a.low.items a.high.items };
 }
 
 /// The greatest moments of the origin and of events that nothing keeps from the horizon.

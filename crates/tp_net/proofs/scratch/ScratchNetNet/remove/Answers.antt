@@ -1,19 +1,19 @@
-use Rattle.std.proofs.Common.{◌≡◌, ℕ, ◌+◌, None, List, subst, ap, ◌∙◌, arith, length}
+use Rattle.std.proofs.Common.{◌≡◌, ℕ, ◌+◌, List, subst, ap, ◌∙◌, arith, length}
 use Rattle.tp_bounds.specs.Setting.{Setting}
 use Rattle.tp_bounds.specs.Changes.{without_bound}
 use Rattle.tp_bounds.specs.Schedule.{HasSchedule}
-use Rattle.tp_bounds.specs.Held.{held}
 use Rattle.tp_net.specs.Moments.{AreExact}
 use Rattle.tp_net.specs.Arcs.{AreArcs}
 use Rattle.tp_net.specs.Kept.{IsKept}
 use Rattle.tp_bounds.proofs.HeldMaps.{held_removed}
 use Rattle.tp_net.proofs.KeptMoments.{kept_possible}
 use Rattle.tp_net.proofs.Removals.{start_removed, kept_removed}
+use Rattle.tp_net.proofs.Inside.{setting_in}
 use Rattle.tp_net.proofs.scratch.ScratchNetNet.remove.Goals as goal
 
 pub solve-requires-clause-start : goal.solve-requires-clause-start
 solve-requires-clause-start c =
-    let s : Setting = record { horizon = c.self.inside.horizon; clock = c.self.inside.clock; bounds = held c.self.inside.bounds.entries; fixed = c.self.inside.fixed.items; lags = c.self.inside.lags.items; proposed = None } in
+    let s : Setting = setting_in c.self.inside in
     let k : IsKept s c.self.inside.names.items c.self.inside.arcs.items c.self.inside.low.items c.self.inside.high.items = c.self.invariant in
     let a : AreArcs (without_bound s c.args.id.0) c.in_ok-names.names.items c.in_ok-names.arcs.items = c.in_ok-names.ensures s (simp (c.deref.ensures.value, c.deref-2.ensures.value) k.listed) in
     simp (c.deref-3.ensures.value, c.deref-4.ensures.value)
@@ -21,7 +21,7 @@ solve-requires-clause-start c =
 
 pub invariant_of-self : goal.invariant_of-self
 invariant_of-self c =
-    let s : Setting = record { horizon = c.self.inside.horizon; clock = c.self.inside.clock; bounds = held c.self.inside.bounds.entries; fixed = c.self.inside.fixed.items; lags = c.self.inside.lags.items; proposed = None } in
+    let s : Setting = setting_in c.self.inside in
     let k : IsKept s c.self.inside.names.items c.self.inside.arcs.items c.self.inside.low.items c.self.inside.high.items = c.self.invariant in
     let a : AreArcs (without_bound s c.args.id.0) c.in_ok-names.names.items c.in_ok-names.arcs.items = c.in_ok-names.ensures s (simp (c.deref.ensures.value, c.deref-2.ensures.value) k.listed) in
     let exact : AreExact c.in_ok-names.arcs.items c.in_ok-low.low.items c.in_ok-low.high.items = simp c.deref-3.ensures.value at c.in_ok-low.ensures.exact in
@@ -34,7 +34,7 @@ returns-clause-ok c = rw (held_removed c.self.inside.bounds c.remove-bound.new.s
 
 pub returns-clause-possible : goal.returns-clause-possible
 returns-clause-possible c =
-    let s : Setting = record { horizon = c.self.inside.horizon; clock = c.self.inside.clock; bounds = held c.self.inside.bounds.entries; fixed = c.self.inside.fixed.items; lags = c.self.inside.lags.items; proposed = None } in
+    let s : Setting = setting_in c.self.inside in
     let k : IsKept s c.self.inside.names.items c.self.inside.arcs.items c.self.inside.low.items c.self.inside.high.items = c.self.invariant in
     let a : AreArcs (without_bound s c.args.id.0) c.in_ok-names.names.items c.in_ok-names.arcs.items = c.in_ok-names.ensures s (simp (c.deref.ensures.value, c.deref-2.ensures.value) k.listed) in
     let exact : AreExact c.in_ok-names.arcs.items c.in_ok-low.low.items c.in_ok-low.high.items = simp c.deref-3.ensures.value at c.in_ok-low.ensures.exact in
