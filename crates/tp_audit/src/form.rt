@@ -12,7 +12,7 @@ use std::alloc::{AllocError, Global};
 use tp_bounds::MOST_LAG;
 use tp_exec::Command;
 use tp_journal::{begins_with, is_text_of_command, read_edge};
-use tp_script::{next_word, read_command, read_event, read_moment, read_number};
+use tp_script::{next_word, read_command, read_event, read_head_line, read_moment, read_number};
 
 /// A question that was put.
 #[derive(Clone, Copy, Debug, PartialEq, Eq)]
@@ -118,24 +118,8 @@ pub(crate) fn read_version(line: &[u8]) -> Option<u8>
 pub(crate) fn read_network(line: &[u8]) -> Option<(u16, u32)>
     ensures { result ≡ network_of line.now }
 {
-    if !is_neat(line) {
-        return None;
-    }
-    let (name, rest) = next_word(line);
-    let (events, rest) = next_word(rest);
-    let (horizon, rest) = next_word(rest);
-    let (more, _) = next_word(rest);
-    if name != b"network".as_slice()
-        || events.is_empty()
-        || horizon.is_empty()
-        || !more.is_empty()
-    {
-        return None;
-    }
-    let events = read_number(events)?;
-    let horizon = read_number(horizon)?;
-    if events <= 1_024 && horizon <= 1_000_000_000 {
-        Some((events as u16, horizon as u32))
+    if is_neat(line) {
+        read_head_line(line)
     } else {
         None
     }
