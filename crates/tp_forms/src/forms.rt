@@ -9,7 +9,7 @@ use tp_reach::met;
 
 /// A conjunct that is no literal, and whether it is to be true or false.
 #[derive(Clone, Copy)]
-pub struct Part<'t> {
+pub struct Conjunct<'t> {
     cond: &'t Cond,
     positive: bool,
 }
@@ -78,7 +78,7 @@ pub struct Forms<'t> {
     pub atoms: Places,
     pub fluents: Places,
     pub lists: Vec<u32>,
-    parts: Vec<Part<'t>>,
+    parts: Vec<Conjunct<'t>>,
     pub deeds: Vec<Deed<'t>>,
     pub actions: Vec<Action>,
     pub conjuncts: Vec<Form>,
@@ -437,7 +437,7 @@ impl<'t> Forms<'t> {
             Cond::And(cs) if positive => self.push_parts_of(cs, positive),
             Cond::Or(cs) if !positive => self.push_parts_of(cs, positive),
             _ => {
-                self.parts.push(Part { cond, positive })?;
+                self.parts.push(Conjunct { cond, positive })?;
                 self.push_atoms(cond)
             }
         }

@@ -10,8 +10,8 @@ use Rattle.std.proofs.lemmas.Str.Ascii.{IsAscii-from_all, IsAscii-cons}
 use Rattle.std.proofs.lemmas.List.{at_drop_more, at_drop_all, take_rest}
 use Rattle.std.proofs.lemmas.List.Elements.{recursion_from_All}
 use Rattle.tp_happen.specs.PlanMarks.{Mark, word, sign, kind, is_blank, is_letter, begins_blank, begins_word, letter, longer, marks}
-use Rattle.tp_happen.specs.declared.marks.Kind.{Kind}
-use Rattle.tp_happen.specs.declared.marks.Kind.TheVariants.{Blank, Semicolon, Letter, Alone}
+use Rattle.tp_happen.specs.declared.marks.ByteKind.{ByteKind}
+use Rattle.tp_happen.specs.declared.marks.ByteKind.TheVariants.{Blank, Semicolon, Letter, Alone}
 
 -- text that is ASCII has no fault
 pub utf8_text : {T E : Type 0} (P : T → Type 0) (Q : E → Type 0) (bytes : List ℕ) (r : Result T E) → IsAscii bytes → MatchResult r P (λ e. (¬ (IsUtf8 bytes)) × Q e) → IsOk r
@@ -19,7 +19,7 @@ utf8_text P Q bytes (Ok s) ascii h = refl
 utf8_text P Q bytes (Err e) ascii h = absurd (h.0 (IsUtf8-from_ascii bytes ascii))
 
 -- a byte before others, by its kind
-abbrev pub by_kind : Kind → ℕ → List ℕ → List Mark
+abbrev pub by_kind : ByteKind → ℕ → List ℕ → List Mark
 by_kind k b bs = elim k as (λ w. List Mark) [
   | Blank ↦ marks bs
   | Semicolon ↦ []
@@ -27,9 +27,9 @@ by_kind k b bs = elim k as (λ w. List Mark) [
   | Alone ↦ sign b ∷ marks bs
 ]
 
-pub mark_step : (b : ℕ) (bs : List ℕ) (k : Kind) → kind b ≡ k → marks (b ∷ bs) ≡ by_kind k b bs
+pub mark_step : (b : ℕ) (bs : List ℕ) (k : ByteKind) → kind b ≡ k → marks (b ∷ bs) ≡ by_kind k b bs
 unfolding marks
-mark_step b bs k e = ap (λ (v : Kind). by_kind v b bs) e
+mark_step b bs k e = ap (λ (v : ByteKind). by_kind v b bs) e
 
 pub no_marks : (bs : List ℕ) → length bs < 1 → marks bs ≡ []
 unfolding marks
@@ -43,7 +43,7 @@ blank_passed line n lt is = at_drop_more marks line n 0 lt ∙ mark_step (get_or
 pub all_passed : (line : List ℕ) (n : ℕ) → length line ≤ n → marks (drop n line) ≡ marks []
 all_passed line n le = at_drop_all marks line n le
 
-pub begins_other : (line : List ℕ) (n : ℕ) (k : Kind) → n < length line → kind (get_or line n 0) ≡ k → (k ≡ Blank → ⊥) → begins_blank (drop n line) ≡ false
+pub begins_other : (line : List ℕ) (n : ℕ) (k : ByteKind) → n < length line → kind (get_or line n 0) ≡ k → (k ≡ Blank → ⊥) → begins_blank (drop n line) ≡ false
 begins_other line n Blank lt is ne = absurd (ne refl)
 begins_other line n Semicolon lt is ne = at_drop_more begins_blank line n 0 lt ∙ ap is_blank is
 begins_other line n Letter lt is ne = at_drop_more begins_blank line n 0 lt ∙ ap is_blank is
@@ -71,7 +71,7 @@ front_word b bs n is letters ends =
     ∙ run_is_word b (take n bs) (drop n bs) (is, recursion_from_All (λ c. kind c ≡ Letter) (take n bs) letters) ends
 
 -- What a line begins with, by the kind of its first byte. The rest is as a pattern takes it.
-pub none_before : (line : List ℕ) (k : Kind) → 1 ≤ length line → kind (get_or line 0 0) ≡ k → (k ≡ Blank) ⊎ (k ≡ Semicolon) → begins_blank line ≡ false → marks line ≡ []
+pub none_before : (line : List ℕ) (k : ByteKind) → 1 ≤ length line → kind (get_or line 0 0) ≡ k → (k ≡ Blank) ⊎ (k ≡ Semicolon) → begins_blank line ≡ false → marks line ≡ []
 none_before [] k le is which not_blank = absurd (let no : ⊥ = omega arith in no)
 none_before (b ∷ bs) k le is (inl e) not_blank = let no : true ≡ false = sym (ap is_blank (is ∙ e)) ∙ not_blank in absurd (let none : ⊥ = cc in none)
 none_before (b ∷ bs) k le is (inr e) not_blank = mark_step b bs Semicolon (is ∙ e)

@@ -15,7 +15,7 @@ use Rattle.tp_text.specs.declared.number.Scale.TheVariants.{One, Ten, Hundred, T
 use Rattle.tp_text.proofs.OnNumbers.{own}
 use Rattle.tp_text.proofs.OnTimes.{exact_some, digit_is, ticks_is}
 use Rattle.tp_ground.specs.declared.task.ActionId.{ActionId}
-use Rattle.tp_happen.specs.declared.marks.Kind.TheVariants.{Blank, Letter, Alone}
+use Rattle.tp_happen.specs.declared.marks.ByteKind.TheVariants.{Blank, Letter, Alone}
 use Rattle.tp_happen.specs.declared.plans.Step.{Step}
 use Rattle.tp_happen.specs.declared.reading.Wrong.TheVariants as wrong
 use Rattle.tp_happen.specs.PlanMarks.{word, sign, kind, is_letter, begins_word, is_bare, marks}

@@ -1,9 +1,9 @@
 -- The marks of a line of a plan text: its words and its signs in order.
 use Rattle.std.specs.Prelude.{ℕ, List, [], ◌∷◌, Bool, true, false, ◌==◌, ◌&&◌, ◌||◌, nat_le, if◌then◌else◌, Option, Some, None}
-use Rattle.tp_happen.specs.declared.marks.Kind.{Kind}
-use Rattle.tp_happen.specs.declared.marks.Kind.TheVariants.{Blank, Semicolon, Letter, Alone}
-use Rattle.tp_happen.specs.declared.marks.Mark as shown
-use Rattle.tp_happen.specs.declared.marks.Mark.TheVariants as shapes
+use Rattle.tp_happen.specs.declared.marks.ByteKind.{ByteKind}
+use Rattle.tp_happen.specs.declared.marks.ByteKind.TheVariants.{Blank, Semicolon, Letter, Alone}
+use Rattle.tp_happen.specs.declared.marks.Token as shown
+use Rattle.tp_happen.specs.declared.marks.Token.TheVariants as shapes
 
 -- a word, or a byte that stands alone
 pub data Mark : Type 0 where
@@ -15,7 +15,7 @@ abbrev pub is_sign : ℕ → Bool
 is_sign b = b == 58 || (b == 40 || (b == 41 || (b == 91 || b == 93)))
 
 -- space, tab, LF, VT, FF, CR; ';'; the rest from '!' to '~' but the signs; every other byte
-unfoldable pub kind : ℕ → Kind
+unfoldable pub kind : ℕ → ByteKind
 kind b =
     if b == 32 || (nat_le 9 b && nat_le b 13) then Blank
     else (if b == 59 then Semicolon
@@ -23,11 +23,11 @@ kind b =
     else (if nat_le 33 b && nat_le b 126 then Letter
     else Alone)))
 
-abbrev pub is_letter : Kind → Bool
+abbrev pub is_letter : ByteKind → Bool
 is_letter Letter = true
 is_letter _ = false
 
-abbrev pub is_blank : Kind → Bool
+abbrev pub is_blank : ByteKind → Bool
 is_blank Blank = true
 is_blank _ = false
 
@@ -61,7 +61,7 @@ marks (b ∷ bs) = elim (kind b) [
 ]
 
 -- what a mark of the code is
-abbrev pub seen : shown.Mark → Mark
+abbrev pub seen : shown.Token → Mark
 seen (shapes.Word w) = word w.now
 seen (shapes.Sign b) = sign b
 

@@ -5,7 +5,7 @@ ghost use Rattle.std.specs.List.{list_all};
 ghost use Rattle.tp_happen.specs.PlanMarks.{marks};
 ghost use Rattle.tp_happen.specs.PlanForms.{form_view, head_of, words_of, bracket_of, end_of, form_of, is_inner, is_name, are_names, is_duration, is_well_formed, FormsAreWritten};
 
-use crate::marks::{Mark, is_bare, next_mark, take_sign, take_word};
+use crate::marks::{Token, is_bare, next_mark, take_sign, take_word};
 use std::alloc::{AllocError, Global};
 use tp_text::has_time_form;
 
@@ -39,8 +39,8 @@ fn read_words<'a>(
     let mut rest = line;
     'words: while let Some((mark, after)) = next_mark(rest) {
         match mark {
-            Mark::Word(word) => words.push(word)?,
-            Mark::Sign(sign) => {
+            Token::Word(word) => words.push(word)?,
+            Token::Sign(sign) => {
                 if sign == b')' {
                     return Ok(Some((words, after)));
                 }

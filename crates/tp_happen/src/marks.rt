@@ -8,16 +8,16 @@ use std::str::from_utf8;
 
 /// What a byte is.
 #[derive(Clone, Copy, Debug, PartialEq, Eq)]
-pub(crate) enum Kind {
+pub(crate) enum ByteKind {
     Blank,
     Semicolon,
     Letter,
     Alone,
 }
 
-/// A word, or a byte that stands alone.
+/// A mark of a line: a word, or a byte that stands alone.
 #[derive(Clone, Copy, Debug)]
-pub(crate) enum Mark<'a> {
+pub(crate) enum Token<'a> {
     Word(&'a str),
     Sign(u8),
 }
@@ -29,30 +29,30 @@ fn is_sign(b: u8) -> bool
 }
 
 #[tactic(auto, unfolding(crate::specs::PlanMarks::kind))]
-fn kind_of(b: u8) -> Kind
+fn kind_of(b: u8) -> ByteKind
     ensures { result ≡ kind b }
 {
     if b == b' ' || (9 <= b && b <= 13) {
-        Kind::Blank
+        ByteKind::Blank
     } else if b == b';' {
-        Kind::Semicolon
+        ByteKind::Semicolon
     } else if is_sign(b) {
-        Kind::Alone
+        ByteKind::Alone
     } else if 33 <= b && b <= 126 {
-        Kind::Letter
+        ByteKind::Letter
     } else {
-        Kind::Alone
+        ByteKind::Alone
     }
 }
 
 // How many letters stand at the front.
 fn letter_len(line: &[u8]) -> usize
     ensures in_range { result ≤ length line.now }
-    ensures letters { All (λ b. kind b ≡ Kind.Letter) (take result line.now) }
+    ensures letters { All (λ b. kind b ≡ ByteKind.Letter) (take result line.now) }
     ensures longest { begins_word (drop result line.now) ≡ false }
 {
     for (n, b) in line.iter().enumerate() {
-        if kind_of(*b) != Kind::Letter {
+        if kind_of(*b) != ByteKind::Letter {
             return n;
         }
     }
@@ -66,7 +66,7 @@ fn after_blanks(line: &[u8]) -> &[u8]
     ensures shorter { length result.now ≤ length line.now }
 {
     for (n, b) in line.iter().enumerate() {
-        if kind_of(*b) != Kind::Blank {
+        if kind_of(*b) != ByteKind::Blank {
             return &line[n..];
         }
     }
@@ -82,7 +82,7 @@ fn ascii_text(bytes: &[u8]) -> &str
 }
 
 /// The first mark of a line, and what follows it.
-pub(crate) fn next_mark(line: &[u8]) -> Option<(Mark<'_>, &[u8])>
+pub(crate) fn next_mark(line: &[u8]) -> Option<(Token<'_>, &[u8])>
     ensures mark { MatchOption result
         (marks line.now ≡ []) (λ r. marks line.now ≡ seen r.0 ∷ marks r.1.now) }
     ensures shorter { IfSome result (λ r. length r.1.now < length line.now) }
@@ -92,12 +92,12 @@ pub(crate) fn next_mark(line: &[u8]) -> Option<(Mark<'_>, &[u8])>
         return None;
     };
     match kind_of(*first) {
-        Kind::Blank | Kind::Semicolon => None,
-        Kind::Letter => {
+        ByteKind::Blank | ByteKind::Semicolon => None,
+        ByteKind::Letter => {
             let (word, after) = front.split_at(1 + letter_len(rest));
-            Some((Mark::Word(ascii_text(word)), after))
+            Some((Token::Word(ascii_text(word)), after))
         }
-        Kind::Alone => Some((Mark::Sign(*first), rest)),
+        ByteKind::Alone => Some((Token::Sign(*first), rest)),
     }
 }
 
@@ -117,8 +117,8 @@ pub(crate) fn take_word(line: &[u8]) -> Option<(&str, &[u8])>
 {
     let (mark, rest) = next_mark(line)?;
     match mark {
-        Mark::Word(word) => Some((word, rest)),
-        Mark::Sign(_) => None,
+        Token::Word(word) => Some((word, rest)),
+        Token::Sign(_) => None,
     }
 }
 
@@ -128,7 +128,7 @@ pub(crate) fn take_sign(line: &[u8], wanted: u8) -> Option<&[u8]>
 {
     let (mark, rest) = next_mark(line)?;
     match mark {
-        Mark::Word(_) => None,
-        Mark::Sign(found) => { if found == wanted { Some(rest) } else { None } }
+        Token::Word(_) => None,
+        Token::Sign(found) => { if found == wanted { Some(rest) } else { None } }
     }
 }

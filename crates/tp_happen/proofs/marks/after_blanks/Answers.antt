@@ -1,6 +1,6 @@
 use Rattle.std.proofs.Common.{◌≡◌, sym, ◌∙◌, rules}
 use Rattle.tp_happen.proofs.OnMarks.{blank_passed}
-use Rattle.tp_happen.specs.declared.marks.Kind.TheVariants.{Blank}
+use Rattle.tp_happen.specs.declared.marks.ByteKind.TheVariants.{Blank}
 use Rattle.tp_happen.proofs.marks.after_blanks.Goals as goal
 
 pub loop-n-preserved : goal.loop-n-preserved

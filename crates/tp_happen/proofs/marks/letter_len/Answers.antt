@@ -1,7 +1,7 @@
 use Rattle.std.proofs.Common.{◌≡◌, sym, ◌∙◌, rules}
 use Rattle.std.proofs.lemmas.List.Elements.{All-more}
 use Rattle.tp_happen.specs.PlanMarks.{kind}
-use Rattle.tp_happen.specs.declared.marks.Kind.TheVariants.{Letter}
+use Rattle.tp_happen.specs.declared.marks.ByteKind.TheVariants.{Letter}
 use Rattle.tp_happen.proofs.marks.letter_len.Goals as goal
 
 pub loop-n-preserved : goal.loop-n-preserved
