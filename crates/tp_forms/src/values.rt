@@ -2,9 +2,7 @@
 
 use crate::fault::SeekFault;
 use crate::own::{Own, Places, place_in};
-use tp_ground::{Comparison, Cond, Expr};
-
-const LIMIT: i64 = 1_000_000_000_000_000;
+use tp_ground::{Comparison, Cond, Expr, GREATEST_NUMBER};
 
 /// The state at hand, with the places of atoms and fluents.
 #[derive(Clone, Copy)]
@@ -27,7 +25,7 @@ impl Sight<'_> {
 // A number that was worked out, None where it passed 64 bits.
 fn ranged(number: Option<i64>) -> Result<Option<i64>, SeekFault> {
     match number {
-        Some(n) if n <= LIMIT && n >= -LIMIT => Ok(Some(n)),
+        Some(n) if n.unsigned_abs() <= GREATEST_NUMBER => Ok(Some(n)),
         _ => Err(SeekFault::Range),
     }
 }

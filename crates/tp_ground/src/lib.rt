@@ -33,5 +33,5 @@ pub use laws::{
     actions_are_readable, schedules_are_valid, unreachable_has_no_plan, valid_without_fault,
 };
 pub use numbering::Numbering;
-pub use numbers::has_great_number;
+pub use numbers::{GREATEST_NUMBER, has_great_number};
 pub use task::{ActionId, AtomId, FluentId, Task};

@@ -17,12 +17,13 @@ use tp_syntax::{
     Timed,
 };
 
-const LIMIT: u64 = 1_000_000_000_000_000;
+/// The greatest magnitude of a number, 10^15.
+pub const GREATEST_NUMBER: u64 = 1_000_000_000_000_000;
 
 fn is_great(number: i64) -> bool
     ensures { result ≡ is_great number }
 {
-    number.unsigned_abs() > LIMIT
+    number.unsigned_abs() > GREATEST_NUMBER
 }
 
 fn expression_is_great(expr: &Expr) -> bool

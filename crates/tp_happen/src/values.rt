@@ -7,14 +7,12 @@ ghost use Rattle.tp_happen.specs.Stored.{state_of};
 
 use crate::State;
 use thiserror::Error;
-use tp_ground::{Expr, FluentId};
+use tp_ground::{Expr, FluentId, GREATEST_NUMBER};
 
 /// A number passed 10^15 in absolute value. Nothing else stops a value from being worked out.
 #[derive(Clone, Copy, Debug, PartialEq, Eq, Error)]
 #[error("a number passed 10^15")]
 pub struct Range;
-
-const LIMIT: i64 = 1_000_000_000_000_000;
 
 /// A value, unless it passes 10^15.
 pub(crate) fn small(x: Option<i64>) -> Result<Option<i64>, Range>
@@ -23,7 +21,7 @@ pub(crate) fn small(x: Option<i64>) -> Result<Option<i64>, Range>
 {
     match x {
         Some(n) => {
-            if n > LIMIT || n < -LIMIT {
+            if n.unsigned_abs() > GREATEST_NUMBER {
                 Err(Range)
             } else {
                 Ok(x)
