@@ -56,12 +56,12 @@ pub struct Deed<'t> {
     timed: bool,
 }
 
-/// An action by its first event, which its end follows; with its invariant where it lasts. One that can never start has
-/// no events: its first is past all.
+/// An action by its first event, which its end follows; with the number of its invariant where it lasts. One that can
+/// never start has no events: its first is past all.
 #[derive(Clone, Copy)]
 pub struct Action {
     pub first: u32,
-    pub invariant: Option<Form>,
+    pub invariant: Option<u32>,
     pub timed: bool,
 }
 
@@ -81,6 +81,7 @@ pub struct Forms<'t> {
     parts: Vec<Conjunct<'t>>,
     pub deeds: Vec<Deed<'t>>,
     pub actions: Vec<Action>,
+    pub invariants: Vec<Form>,
     pub conjuncts: Vec<Form>,
 }
 
@@ -223,6 +224,7 @@ impl<'t> Forms<'t> {
             parts: Vec::new(alloc),
             deeds: Vec::new(alloc),
             actions: Vec::new(alloc),
+            invariants: Vec::new(alloc),
             conjuncts: Vec::new(alloc),
         };
         forms.add_actions(alloc, task, &startable)?;
@@ -277,12 +279,20 @@ impl<'t> Forms<'t> {
             Body::Durative(start, end, invariant) => {
                 self.add_event(alloc, start)?;
                 self.add_event(alloc, end)?;
-                action.invariant = Some(self.add_form(invariant)?);
+                action.invariant = Some(self.add_invariant(invariant)?);
                 action.timed = is_timed(start) || is_timed(end);
             }
         }
         self.actions.push(action)?;
         Ok(())
+    }
+
+    // The number of an invariant, which is one more form.
+    fn add_invariant(&mut self, invariant: &'t Cond) -> Result<u32, AllocError> {
+        let number = small(self.invariants.len());
+        let form = self.add_form(invariant)?;
+        self.invariants.push(form)?;
+        Ok(number)
     }
 
     // The elements that lists have from a place on.

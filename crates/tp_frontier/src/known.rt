@@ -44,7 +44,8 @@ impl<'t> Known<'t> {
     }
 
     pub fn invariant_of(&self, action: u32) -> Option<Form> {
-        self.action(action)?.invariant
+        let number = self.action(action)?.invariant?;
+        self.forms.invariants.get(number as usize).copied()
     }
 
     pub fn units(&self, ticks: u32) -> Option<i64> {
