@@ -6,7 +6,6 @@ use Rattle.tp_bounds.specs.Changes.{with_bound}
 use Rattle.tp_bounds.specs.Schedule.{HasSchedule}
 use Rattle.tp_net.specs.Moments.{IsAdded, CycleBeginsWith, AreExact}
 use Rattle.tp_net.specs.Arcs.{arc_of, name_at}
-use Rattle.tp_net.specs.Kept.{IsKept}
 use Rattle.tp_net.proofs.KeptMoments.{kept_small_low, kept_small_high, kept_weights, kept_among, cycle_named, refused_add, kept_added, kept_possible}
 use Rattle.tp_net.proofs.Inside.{setting_in}
 use Rattle.tp_net.proofs.scratch.ScratchNetNet.add.Goals as goal
@@ -33,7 +32,7 @@ named-requires c =
 pub returns-in_ok-reason-in-Refused-clause-exact : goal.returns-in_ok-reason-in-Refused-clause-exact
 returns-in_ok-reason-in-Refused-clause-exact c =
     let s : Setting = setting_in c.self.inside in
-    let k : IsKept s c.self.inside.names.items c.self.inside.arcs.items c.self.inside.low.items c.self.inside.high.items = c.self.invariant in
+    let k = c.self.invariant in
     let h0 = subst (λ r. IsAdded c.deref.result.now c.arc-new.result (length c.deref-2.result.now) r) c.in-Refused.is c.in_ok-cycle.ensures in
     let h : CycleBeginsWith (c.self.inside.arcs.items ++ arc_of c.args.bound ∷ []) (length c.self.inside.arcs.items) c.in-Refused.cycle.items = simp (c.deref.ensures.value, c.arc-new.ensures) at h0 in
     let is : c.in_ok-reason-in-Refused.reason.edges.items ≡ map (name_at (c.self.inside.names.items ++ New ∷ [])) c.in-Refused.cycle.items =
@@ -45,7 +44,7 @@ returns-in_ok-reason-in-Refused-clause-exact c =
 pub invariant_of-self-in-Both : goal.invariant_of-self-in-Both
 invariant_of-self-in-Both c =
     let s : Setting = setting_in c.self.inside in
-    let k : IsKept s c.self.inside.names.items c.self.inside.arcs.items c.self.inside.low.items c.self.inside.high.items = c.self.invariant in
+    let k = c.self.invariant in
     let h0 = subst (λ r. IsAdded c.deref.result.now c.arc-new.result (length c.deref-2.result.now) r) c.in-Both.is c.in_ok-cycle.ensures in
     let exact : AreExact (c.self.inside.arcs.items ++ arc_of c.args.bound ∷ []) c.in-Both.low.items c.in-Both.high.items = simp (c.deref.ensures.value, c.arc-new.ensures) at h0.1 in
     let len : length c.in-Both.low.items ≡ length c.self.inside.low.items = h0.0 ∙ ap (λ (xs : List ℕ). length xs) c.deref-2.ensures.value in
@@ -58,7 +57,7 @@ invariant_of-self-in-Both c =
 pub returns-in_ok-enter-in-Both-clause-exact : goal.returns-in_ok-enter-in-Both-clause-exact
 returns-in_ok-enter-in-Both-clause-exact c =
     let s : Setting = setting_in c.self.inside in
-    let k : IsKept s c.self.inside.names.items c.self.inside.arcs.items c.self.inside.low.items c.self.inside.high.items = c.self.invariant in
+    let k = c.self.invariant in
     let h0 = subst (λ r. IsAdded c.deref.result.now c.arc-new.result (length c.deref-2.result.now) r) c.in-Both.is c.in_ok-cycle.ensures in
     let exact : AreExact (c.self.inside.arcs.items ++ arc_of c.args.bound ∷ []) c.in-Both.low.items c.in-Both.high.items = simp (c.deref.ensures.value, c.arc-new.ensures) at h0.1 in
     let len : length c.in-Both.low.items ≡ length c.self.inside.low.items = h0.0 ∙ ap (λ (xs : List ℕ). length xs) c.deref-2.ensures.value in

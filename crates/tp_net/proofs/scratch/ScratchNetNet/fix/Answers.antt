@@ -9,7 +9,6 @@ use Rattle.tp_bounds.specs.Schedule.{HasSchedule}
 use Rattle.tp_net.specs.declared.slacks.Arc.{Arc}
 use Rattle.tp_net.specs.Moments.{AreExact}
 use Rattle.tp_net.specs.Arcs.{AreNamesPast, AreArcsPast, NamesCycle, arc_of}
-use Rattle.tp_net.specs.Kept.{IsKept}
 use Rattle.tp_net.proofs.Additions.{read_here}
 use Rattle.tp_net.proofs.KeptMoments.{kept_possible, contrary_after, contrary_before}
 use Rattle.tp_net.proofs.Fixes.{refused_fix, past_low, past_high, start_fixed, kept_fixed}
@@ -19,7 +18,7 @@ use Rattle.tp_net.proofs.scratch.ScratchNetNet.fix.Goals as goal
 pub refutation-requires : goal.refutation-requires
 refutation-requires c =
     let s : Setting = setting_in c.self.inside in
-    let k : IsKept s c.self.inside.names.items c.self.inside.arcs.items c.self.inside.low.items c.self.inside.high.items = c.self.invariant in
+    let k = c.self.invariant in
     let lt : c.args.e < length c.self.inside.fixed.items = subst (λ (t : Setting). c.args.e < event_count t) (sym c.self.view_is) c.requires.event in
     let free : fixed_at s c.args.e ≡ None = subst (λ (t : Setting). fixed_at t c.args.e ≡ None) (sym c.self.view_is) c.requires.free in
     let floor : floor_of s c.args.e ≤ c.args.moment = subst (λ t. floor_of t c.args.e ≤ c.args.moment) (sym c.self.view_is) c.requires.floor in
@@ -32,7 +31,7 @@ refutation-requires c =
 pub returns-then-index-at-clause-exact : goal.returns-then-index-at-clause-exact
 returns-then-index-at-clause-exact c =
     let s : Setting = setting_in c.self.inside in
-    let k : IsKept s c.self.inside.names.items c.self.inside.arcs.items c.self.inside.low.items c.self.inside.high.items = c.self.invariant in
+    let k = c.self.invariant in
     let lt : c.args.e < length c.self.inside.fixed.items = subst (λ (t : Setting). c.args.e < event_count t) (sym c.self.view_is) c.requires.event in
     let free : fixed_at s c.args.e ≡ None = subst (λ (t : Setting). fixed_at t c.args.e ≡ None) (sym c.self.view_is) c.requires.free in
     let floor : floor_of s c.args.e ≤ c.args.moment = subst (λ t. floor_of t c.args.e ≤ c.args.moment) (sym c.self.view_is) c.requires.floor in
@@ -46,7 +45,7 @@ returns-then-index-at-clause-exact c =
 pub refutation-requires-then-at-index : goal.refutation-requires-then-at-index
 refutation-requires-then-at-index c =
     let s : Setting = setting_in c.self.inside in
-    let k : IsKept s c.self.inside.names.items c.self.inside.arcs.items c.self.inside.low.items c.self.inside.high.items = c.self.invariant in
+    let k = c.self.invariant in
     let lt : c.args.e < length c.self.inside.fixed.items = subst (λ (t : Setting). c.args.e < event_count t) (sym c.self.view_is) c.requires.event in
     let free : fixed_at s c.args.e ≡ None = subst (λ (t : Setting). fixed_at t c.args.e ≡ None) (sym c.self.view_is) c.requires.free in
     let floor : floor_of s c.args.e ≤ c.args.moment = subst (λ t. floor_of t c.args.e ≤ c.args.moment) (sym c.self.view_is) c.requires.floor in
@@ -59,7 +58,7 @@ refutation-requires-then-at-index c =
 pub returns-then-at-index-clause-exact : goal.returns-then-at-index-clause-exact
 returns-then-at-index-clause-exact c =
     let s : Setting = setting_in c.self.inside in
-    let k : IsKept s c.self.inside.names.items c.self.inside.arcs.items c.self.inside.low.items c.self.inside.high.items = c.self.invariant in
+    let k = c.self.invariant in
     let lt : c.args.e < length c.self.inside.fixed.items = subst (λ (t : Setting). c.args.e < event_count t) (sym c.self.view_is) c.requires.event in
     let free : fixed_at s c.args.e ≡ None = subst (λ (t : Setting). fixed_at t c.args.e ≡ None) (sym c.self.view_is) c.requires.free in
     let floor : floor_of s c.args.e ≤ c.args.moment = subst (λ t. floor_of t c.args.e ≤ c.args.moment) (sym c.self.view_is) c.requires.floor in
@@ -73,7 +72,7 @@ returns-then-at-index-clause-exact c =
 pub solve-requires-clause-start : goal.solve-requires-clause-start
 solve-requires-clause-start c =
     let s : Setting = setting_in c.self.inside in
-    let k : IsKept s c.self.inside.names.items c.self.inside.arcs.items c.self.inside.low.items c.self.inside.high.items = c.self.invariant in
+    let k = c.self.invariant in
     let lt : c.args.e < length c.self.inside.fixed.items = subst (λ (t : Setting). c.args.e < event_count t) (sym c.self.view_is) c.requires.event in
     let free : fixed_at s c.args.e ≡ None = subst (λ (t : Setting). fixed_at t c.args.e ≡ None) (sym c.self.view_is) c.requires.free in
     let floor : floor_of s c.args.e ≤ c.args.moment = subst (λ t. floor_of t c.args.e ≤ c.args.moment) (sym c.self.view_is) c.requires.floor in
@@ -94,7 +93,7 @@ solve-requires-clause-start c =
 pub invariant_of-self : goal.invariant_of-self
 invariant_of-self c =
     let s : Setting = setting_in c.self.inside in
-    let k : IsKept s c.self.inside.names.items c.self.inside.arcs.items c.self.inside.low.items c.self.inside.high.items = c.self.invariant in
+    let k = c.self.invariant in
     let lt : c.args.e < length c.self.inside.fixed.items = subst (λ (t : Setting). c.args.e < event_count t) (sym c.self.view_is) c.requires.event in
     let free : fixed_at s c.args.e ≡ None = subst (λ (t : Setting). fixed_at t c.args.e ≡ None) (sym c.self.view_is) c.requires.free in
     let floor : floor_of s c.args.e ≤ c.args.moment = subst (λ t. floor_of t c.args.e ≤ c.args.moment) (sym c.self.view_is) c.requires.floor in
@@ -110,7 +109,7 @@ invariant_of-self c =
 pub returns-clause-exact : goal.returns-clause-exact
 returns-clause-exact c =
     let s : Setting = setting_in c.self.inside in
-    let k : IsKept s c.self.inside.names.items c.self.inside.arcs.items c.self.inside.low.items c.self.inside.high.items = c.self.invariant in
+    let k = c.self.invariant in
     let lt : c.args.e < length c.self.inside.fixed.items = subst (λ (t : Setting). c.args.e < event_count t) (sym c.self.view_is) c.requires.event in
     let free : fixed_at s c.args.e ≡ None = subst (λ (t : Setting). fixed_at t c.args.e ≡ None) (sym c.self.view_is) c.requires.free in
     let floor : floor_of s c.args.e ≤ c.args.moment = subst (λ t. floor_of t c.args.e ≤ c.args.moment) (sym c.self.view_is) c.requires.floor in

@@ -6,7 +6,6 @@ use Rattle.tp_bounds.specs.Reasons.{at_least}
 use Rattle.tp_bounds.specs.Schedule.{HasSchedule}
 use Rattle.tp_net.specs.Moments.{AreExact}
 use Rattle.tp_net.specs.Arcs.{floor_at, AreRaised, AllWait, CannotWait, NamesCycle, arc_of}
-use Rattle.tp_net.specs.Kept.{IsKept}
 use Rattle.tp_net.proofs.KeptMoments.{kept_possible}
 use Rattle.tp_net.proofs.Raises.{at_same, contrary_raise, refused_raise, start_raised, kept_raised}
 use Rattle.tp_net.proofs.Inside.{setting_in}
@@ -20,7 +19,7 @@ returns-then-now-self-clause-exact c =
 pub refutation-requires : goal.refutation-requires
 refutation-requires c =
     let s : Setting = setting_in c.self.inside in
-    let k : IsKept s c.self.inside.names.items c.self.inside.arcs.items c.self.inside.low.items c.self.inside.high.items = c.self.invariant in
+    let k = c.self.invariant in
     let soon : c.args.now ≤ c.self.inside.horizon = subst (λ (t : Setting). c.args.now ≤ t.horizon) (sym c.self.view_is) c.requires.in_time in
     let late : CannotWait c.self.inside.fixed.items c.self.inside.high.items c.self.inside.lags.items c.args.now c.in-Some.e = simp (c.deref.ensures.value, c.deref-2.ensures.value, c.deref-3.ensures.value) at c.in-Some.ensures in
     simp (c.deref-in-Some-2.ensures.value, c.deref-in-Some-3.ensures.value, c.deref-in-Some-4.ensures.value, c.start_arc-new.ensures, c.floor.ensures, c.deref-in-Some.ensures.value)
@@ -29,7 +28,7 @@ refutation-requires c =
 pub returns-in-Some-clause-exact : goal.returns-in-Some-clause-exact
 returns-in-Some-clause-exact c =
     let s : Setting = setting_in c.self.inside in
-    let k : IsKept s c.self.inside.names.items c.self.inside.arcs.items c.self.inside.low.items c.self.inside.high.items = c.self.invariant in
+    let k = c.self.invariant in
     let late : CannotWait c.self.inside.fixed.items c.self.inside.high.items c.self.inside.lags.items c.args.now c.in-Some.e = simp (c.deref.ensures.value, c.deref-2.ensures.value, c.deref-3.ensures.value) at c.in-Some.ensures in
     let forward : c.self.inside.clock ≤ c.args.now = subst (λ (t : Setting). t.clock ≤ c.args.now) (sym c.self.view_is) c.requires.forward in
     let h : NamesCycle c.self.inside.names.items c.self.inside.arcs.items (Now c.in-Some.e) (arc_of (at_least c.in-Some.e (floor_at c.args.now c.self.inside.lags.items c.in-Some.e))) c.in_ok-reason.reason.edges.items =
@@ -39,7 +38,7 @@ returns-in-Some-clause-exact c =
 pub solve-requires-clause-start : goal.solve-requires-clause-start
 solve-requires-clause-start c =
     let s : Setting = setting_in c.self.inside in
-    let k : IsKept s c.self.inside.names.items c.self.inside.arcs.items c.self.inside.low.items c.self.inside.high.items = c.self.invariant in
+    let k = c.self.invariant in
     let soon : c.args.now ≤ c.self.inside.horizon = subst (λ (t : Setting). c.args.now ≤ t.horizon) (sym c.self.view_is) c.requires.in_time in
     let r : AreRaised c.args.now c.self.inside.lags.items c.self.inside.names.items c.self.inside.arcs.items c.in_ok-arcs.arcs.items =
     simp (c.deref-4.ensures.value, c.deref-5.ensures.value, c.deref-6.ensures.value) at c.in_ok-arcs.ensures in
@@ -50,7 +49,7 @@ solve-requires-clause-start c =
 pub invariant_of-self : goal.invariant_of-self
 invariant_of-self c =
     let s : Setting = setting_in c.self.inside in
-    let k : IsKept s c.self.inside.names.items c.self.inside.arcs.items c.self.inside.low.items c.self.inside.high.items = c.self.invariant in
+    let k = c.self.invariant in
     let soon : c.args.now ≤ c.self.inside.horizon = subst (λ (t : Setting). c.args.now ≤ t.horizon) (sym c.self.view_is) c.requires.in_time in
     let r : AreRaised c.args.now c.self.inside.lags.items c.self.inside.names.items c.self.inside.arcs.items c.in_ok-arcs.arcs.items =
     simp (c.deref-4.ensures.value, c.deref-5.ensures.value, c.deref-6.ensures.value) at c.in_ok-arcs.ensures in
@@ -61,7 +60,7 @@ invariant_of-self c =
 pub returns-clause-exact : goal.returns-clause-exact
 returns-clause-exact c =
     let s : Setting = setting_in c.self.inside in
-    let k : IsKept s c.self.inside.names.items c.self.inside.arcs.items c.self.inside.low.items c.self.inside.high.items = c.self.invariant in
+    let k = c.self.invariant in
     let soon : c.args.now ≤ c.self.inside.horizon = subst (λ (t : Setting). c.args.now ≤ t.horizon) (sym c.self.view_is) c.requires.in_time in
     let r : AreRaised c.args.now c.self.inside.lags.items c.self.inside.names.items c.self.inside.arcs.items c.in_ok-arcs.arcs.items =
     simp (c.deref-4.ensures.value, c.deref-5.ensures.value, c.deref-6.ensures.value) at c.in_ok-arcs.ensures in

@@ -4,7 +4,6 @@ use Rattle.tp_bounds.specs.Changes.{without_bound}
 use Rattle.tp_bounds.specs.Schedule.{HasSchedule}
 use Rattle.tp_net.specs.Moments.{AreExact}
 use Rattle.tp_net.specs.Arcs.{AreArcs}
-use Rattle.tp_net.specs.Kept.{IsKept}
 use Rattle.tp_bounds.proofs.HeldMaps.{held_removed}
 use Rattle.tp_net.proofs.KeptMoments.{kept_possible}
 use Rattle.tp_net.proofs.Removals.{start_removed, kept_removed}
@@ -14,7 +13,7 @@ use Rattle.tp_net.proofs.scratch.ScratchNetNet.remove.Goals as goal
 pub solve-requires-clause-start : goal.solve-requires-clause-start
 solve-requires-clause-start c =
     let s : Setting = setting_in c.self.inside in
-    let k : IsKept s c.self.inside.names.items c.self.inside.arcs.items c.self.inside.low.items c.self.inside.high.items = c.self.invariant in
+    let k = c.self.invariant in
     let a : AreArcs (without_bound s c.args.id.0) c.in_ok-names.names.items c.in_ok-names.arcs.items = c.in_ok-names.ensures s (simp (c.deref.ensures.value, c.deref-2.ensures.value) k.listed) in
     simp (c.deref-3.ensures.value, c.deref-4.ensures.value)
     (start_removed s c.self.inside.names.items c.self.inside.arcs.items c.self.inside.low.items c.self.inside.high.items c.args.id.0 c.in_ok-names.names.items c.in_ok-names.arcs.items (c.from.result + 1) k a (omega (arith, c.from.ensures)))
@@ -22,7 +21,7 @@ solve-requires-clause-start c =
 pub invariant_of-self : goal.invariant_of-self
 invariant_of-self c =
     let s : Setting = setting_in c.self.inside in
-    let k : IsKept s c.self.inside.names.items c.self.inside.arcs.items c.self.inside.low.items c.self.inside.high.items = c.self.invariant in
+    let k = c.self.invariant in
     let a : AreArcs (without_bound s c.args.id.0) c.in_ok-names.names.items c.in_ok-names.arcs.items = c.in_ok-names.ensures s (simp (c.deref.ensures.value, c.deref-2.ensures.value) k.listed) in
     let exact : AreExact c.in_ok-names.arcs.items c.in_ok-low.low.items c.in_ok-low.high.items = simp c.deref-3.ensures.value at c.in_ok-low.ensures.exact in
     let len : length c.in_ok-low.low.items ≡ length c.self.inside.low.items = c.in_ok-low.ensures.len ∙ ap (λ (xs : List ℕ). length xs) c.deref-4.ensures.value in
@@ -35,7 +34,7 @@ returns-clause-ok c = rw (held_removed c.self.inside.bounds c.remove-bound.new.s
 pub returns-clause-possible : goal.returns-clause-possible
 returns-clause-possible c =
     let s : Setting = setting_in c.self.inside in
-    let k : IsKept s c.self.inside.names.items c.self.inside.arcs.items c.self.inside.low.items c.self.inside.high.items = c.self.invariant in
+    let k = c.self.invariant in
     let a : AreArcs (without_bound s c.args.id.0) c.in_ok-names.names.items c.in_ok-names.arcs.items = c.in_ok-names.ensures s (simp (c.deref.ensures.value, c.deref-2.ensures.value) k.listed) in
     let exact : AreExact c.in_ok-names.arcs.items c.in_ok-low.low.items c.in_ok-low.high.items = simp c.deref-3.ensures.value at c.in_ok-low.ensures.exact in
     let len : length c.in_ok-low.low.items ≡ length c.self.inside.low.items = c.in_ok-low.ensures.len ∙ ap (λ (xs : List ℕ). length xs) c.deref-4.ensures.value in
