@@ -10,6 +10,7 @@
 //! - `writes`: the effects of events, written one after another
 //! - `happening`: all of it together, `apply`
 //! - `plans`: plans and their steps
+//! - `marks`, `forms`, `labels`, `reading`, `printing`: plans as texts
 #![tactic(auto)]
 
 mod clashes;
@@ -28,7 +29,6 @@ mod plans;
 mod printing;
 mod reading;
 mod states;
-mod texts;
 mod values;
 mod writes;
 
@@ -40,8 +40,7 @@ pub use happening::{ApplyFault, apply};
 pub use interfere::{interferes, uses_duration, writes_into};
 pub use lending::event;
 pub use plans::{Plan, Step};
-pub use printing::{plans_are_read, task_plans_are_read};
-pub use reading::PlanFault;
+pub use printing::{plans_are_read, print_plan, task_plans_are_read};
+pub use reading::{PlanFault, read_plan};
 pub use states::State;
-pub use texts::{print_plan, read_plan};
 pub use values::{Range, value};

@@ -4,12 +4,13 @@ ghost use Rattle.std.specs.Prelude.{◌≡◌, ◌++◌, true};
 ghost use Rattle.tp_device.specs.Bytes.{Writes, failures_after};
 ghost use Rattle.tp_happen.specs.TaskPlans.{TaskPlansAreRead};
 ghost use Rattle.tp_happen.specs.PlanPrints.{digit, decimals, time_text, space_before, words_text, end_text, step_text, plan_text, PlansAreRead};
+ghost use Rattle.tp_happen.specs.TaskLabels.{labelled};
 
-use crate::labels::Labels;
-use crate::plans::Step;
+use crate::labels::is_durative;
+use crate::plans::{Plan, Step};
 use itoa::Buffer;
 use tp_device::{Failed, Sink, push_all};
-use tp_ground::{ActionId, actions_are_readable};
+use tp_ground::{ActionId, Task, actions_are_readable};
 use tp_text::Scale;
 
 fn digit(n: u32) -> u8
@@ -73,13 +74,13 @@ fn space_before(place: usize) -> &'static [u8]
 }
 
 // An action's words, with one space between.
-fn write_words<W: Sink, T: Labels>(writer: &mut W, task: &T, action: ActionId) -> Result<(), Failed>
+fn write_words<W: Sink>(writer: &mut W, task: &Task, action: ActionId) -> Result<(), Failed>
     ensures bytes { Writes (W.held writer.old)
-        (W.held writer.new) (words_text ((T.labelled task.now).words action)) result }
+        (W.held writer.new) (words_text ((labelled task.now).words action)) result }
     ensures cause { W.failures writer.new ≡ failures_after (W.failures writer.old) result }
 {
     let mut place = 0usize;
-    'words: while let Some(word) = task.word(action, place) {
+    'words: while let Some(word) = task.action_word(action, place) {
         write_word(writer, space_before(place), word)?;
         place += 1;
     }
@@ -114,44 +115,49 @@ fn write_end<W: Sink>(
 }
 
 // The words of a step's action, and its duration.
-fn write_action<W: Sink, T: Labels>(writer: &mut W, task: &T, step: Step) -> Result<(), Failed>
+fn write_action<W: Sink>(writer: &mut W, task: &Task, step: Step) -> Result<(), Failed>
     ensures bytes { Writes (W.held writer.old) (W.held writer.new) (words_text
-        ((T.labelled task.now).words step.action) ++ end_text (T.labelled task.now).scale
-        ((T.labelled task.now).is_durative step.action) step.duration) result }
+        ((labelled task.now).words step.action) ++ end_text (labelled task.now).scale
+        ((labelled task.now).is_durative step.action) step.duration) result }
     ensures cause { W.failures writer.new ≡ failures_after (W.failures writer.old) result }
 {
     write_words(writer, task, step.action)?;
     write_end(
         writer,
-        task.scale(),
-        task.is_durative(step.action),
+        task.scale,
+        is_durative(task, step.action),
         step.duration,
     )
 }
 
-fn write_step<W: Sink, T: Labels>(writer: &mut W, task: &T, step: Step) -> Result<(), Failed>
+fn write_step<W: Sink>(writer: &mut W, task: &Task, step: Step) -> Result<(), Failed>
     ensures bytes { Writes
-        (W.held writer.old) (W.held writer.new) (step_text (T.labelled task.now) step) result }
+        (W.held writer.old) (W.held writer.new) (step_text (labelled task.now) step) result }
     ensures cause { W.failures writer.new ≡ failures_after (W.failures writer.old) result }
 {
-    write_time_before(writer, task.scale(), step.tick, b": (")?;
+    write_time_before(writer, task.scale, step.tick, b": (")?;
     write_action(writer, task, step)
 }
 
-/// Writes the steps of a plan, a line for each.
-pub(crate) fn write_steps<W: Sink, T: Labels>(
-    steps: &[Step],
-    task: &T,
-    writer: &mut W,
-) -> Result<(), Failed>
+// The steps of a plan, a line for each.
+fn write_steps<W: Sink>(steps: &[Step], task: &Task, writer: &mut W) -> Result<(), Failed>
     ensures bytes { Writes
-        (W.held writer.old) (W.held writer.new) (plan_text (T.labelled task.now) steps.now) result }
+        (W.held writer.old) (W.held writer.new) (plan_text (labelled task.now) steps.now) result }
     ensures cause { W.failures writer.new ≡ failures_after (W.failures writer.old) result }
 {
     for step in steps {
         write_step(writer, task, *step)?;
     }
     Ok(())
+}
+
+/// Writes a plan of a task, a line for each step. It takes no memory. Where the writer fails, it has taken some first part.
+pub fn print_plan<W: Sink>(plan: &Plan, task: &Task, writer: &mut W) -> Result<(), Failed>
+    ensures bytes { Writes
+        (W.held writer.old) (W.held writer.new) (plan_text (labelled task.now) plan.now) result }
+    ensures cause { W.failures writer.new ≡ failures_after (W.failures writer.old) result }
+{
+    write_steps(plan.steps(), task, writer)
 }
 
 /// What is written for steps spells them, where the words of each action are names in lower case, by which it is found.

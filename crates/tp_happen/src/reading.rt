@@ -6,14 +6,15 @@ ghost use Rattle.tp_happen.specs.Steps.{IsPlan};
 ghost use Rattle.tp_happen.specs.PlanMarks.{marks};
 ghost use Rattle.tp_happen.specs.PlanForms.{form_view};
 ghost use Rattle.tp_happen.specs.PlanTexts.{lines_of, timed, lasting, form_step, step_of, fault_at, LinesSpell, refusal, LinesAreRefused, is_known, AreKnown, SpellsPlan, IsAccepted, IsRefused};
+ghost use Rattle.tp_happen.specs.TaskLabels.{labelled};
 
 use crate::forms::{Form, is_well_formed, read_form};
-use crate::labels::Labels;
+use crate::labels::{action_of, horizon, is_durative};
 use crate::marks::is_bare;
 use crate::plans::{Plan, Step};
 use std::alloc::{AllocError, Global};
 use thiserror::Error;
-use tp_ground::ActionId;
+use tp_ground::{ActionId, Task};
 use tp_text::{Scale, read_ticks};
 
 /// The most steps of a plan.
@@ -136,30 +137,26 @@ fn lasting(
 }
 
 // The step that a form spells.
-fn form_step<T: Labels>(task: &T, form: &Form<'_>) -> Result<Step, Wrong>
-    ensures value { result ≡ form_step (T.labelled task.now) (form_view form.now) }
+fn form_step(task: &Task, form: &Form<'_>) -> Result<Step, Wrong>
+    ensures value { result ≡ form_step (labelled task.now) (form_view form.now) }
     ensures ends { IfOk result (λ s. s.tick + s.duration ≤ 1000000000) }
-    ensures known { IfOk result (λ s. is_known (T.labelled task.now) s ≡ true) }
+    ensures known { IfOk result (λ s. is_known (labelled task.now) s ≡ true) }
 {
     if !is_well_formed(form) {
         return Err(Wrong::Form);
     }
-    let Some(action) = task.action(form.words.as_slice()) else {
+    let Some(action) = action_of(task, form.words.as_slice()) else {
         return Err(Wrong::Action);
     };
-    let is_durative = task.is_durative(action);
-    lasting(task.scale(), task.horizon(), form, action, is_durative)
+    let lasts = is_durative(task, action);
+    lasting(task.scale, horizon(task), form, action, lasts)
 }
 
 // The step that a line spells.
-fn read_step<T: Labels>(
-    alloc: Global,
-    task: &T,
-    line: &[u8],
-) -> Result<Result<Step, Wrong>, AllocError>
-    ensures value { IfOk result (λ r. r ≡ step_of (T.labelled task.now) line.now) }
+fn read_step(alloc: Global, task: &Task, line: &[u8]) -> Result<Result<Step, Wrong>, AllocError>
+    ensures value { IfOk result (λ r. r ≡ step_of (labelled task.now) line.now) }
     ensures ends { IfOk result (λ r. IfOk r (λ s. s.tick + s.duration ≤ 1000000000)) }
-    ensures known { IfOk result (λ r. IfOk r (λ s. is_known (T.labelled task.now) s ≡ true)) }
+    ensures known { IfOk result (λ r. IfOk r (λ s. is_known (labelled task.now) s ≡ true)) }
 {
     match read_form(alloc, line)? {
         None => Ok(Err(Wrong::Form)),
@@ -168,13 +165,13 @@ fn read_step<T: Labels>(
 }
 
 // The steps that lines spell.
-fn read_steps<T: Labels>(alloc: Global, task: &T, text: &[u8]) -> Result<Vec<Step>, PlanFault>
+fn read_steps(alloc: Global, task: &Task, text: &[u8]) -> Result<Vec<Step>, PlanFault>
     ensures spelled { IfOk result
-        (λ v. LinesSpell (T.labelled task.now) (lines_of text.now) v.items) }
+        (λ v. LinesSpell (labelled task.now) (lines_of text.now) v.items) }
     ensures plan { IfOk result (λ v. IsPlan v.items) }
-    ensures known { IfOk result (λ v. AreKnown (T.labelled task.now) v.items) }
-    ensures accepted { OnOk result (refusal (T.labelled task.now) (lines_of text.now) ≡ None) }
-    ensures refused { IfErr result (LinesAreRefused (T.labelled task.now) (lines_of text.now)) }
+    ensures known { IfOk result (λ v. AreKnown (labelled task.now) v.items) }
+    ensures accepted { OnOk result (refusal (labelled task.now) (lines_of text.now) ≡ None) }
+    ensures refused { IfErr result (LinesAreRefused (labelled task.now) (lines_of text.now)) }
 {
     let mut steps = Vec::new(alloc);
     let mut rest = text;
@@ -197,12 +194,12 @@ fn read_steps<T: Labels>(alloc: Global, task: &T, text: &[u8]) -> Result<Vec<Ste
     Ok(steps)
 }
 
-/// The plan that a text spells.
-pub(crate) fn plan_of<T: Labels>(alloc: Global, text: &str, task: &T) -> Result<Plan, PlanFault>
-    ensures spelled { IfOk result (λ p. SpellsPlan (T.labelled task.now) text.now p) }
-    ensures known { IfOk result (λ p. AreKnown (T.labelled task.now) p) }
-    ensures accepted { OnOk result (IsAccepted (T.labelled task.now) text.now) }
-    ensures refused { IfErr result (IsRefused (T.labelled task.now) text.now) }
+/// The plan of a task that a text spells.
+pub fn read_plan(alloc: Global, text: &str, task: &Task) -> Result<Plan, PlanFault>
+    ensures spelled { IfOk result (λ p. SpellsPlan (labelled task.now) text.now p) }
+    ensures known { IfOk result (λ p. AreKnown (labelled task.now) p) }
+    ensures accepted { OnOk result (IsAccepted (labelled task.now) text.now) }
+    ensures refused { IfErr result (IsRefused (labelled task.now) text.now) }
 {
     let lowered = text.to_ascii_lowercase(alloc)?;
     let steps = read_steps(alloc, task, lowered.as_bytes())?;
