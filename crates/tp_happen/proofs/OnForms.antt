@@ -1,8 +1,10 @@
 -- Lemmas on the forms of lines.
 use Rattle.std.proofs.Common.{◌≡◌, ℕ, ◌≤◌, Bool, true, false, ◌&&◌, cond, eqb, List, [], ◌∷◌, ◌++◌, length, map, refl, sym, ap, ◌∙◌, append_assoc, append-nil, arith, Option, Some, None, Bor}
 use Rattle.std.specs.List.{list_all}
+use Rattle.tp_ground.specs.Terms.{is_name}
+use Rattle.tp_ground.specs.Readable.{are_names}
 use Rattle.tp_happen.specs.PlanMarks.{Mark, word, sign}
-use Rattle.tp_happen.specs.PlanForms.{with_word, words_of, is_name, are_names}
+use Rattle.tp_happen.specs.PlanForms.{with_word, words_of}
 
 -- words before those that follow
 abbrev pub with_words : List (List ℕ) → Option (List (List ℕ) × List Mark) → Option (List (List ℕ) × List Mark)

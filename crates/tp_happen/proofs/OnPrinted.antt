@@ -14,12 +14,14 @@ use Rattle.tp_text.specs.declared.number.Scale.{Scale}
 use Rattle.tp_text.specs.declared.number.Scale.TheVariants.{One, Ten, Hundred, Thousand}
 use Rattle.tp_text.proofs.OnNumbers.{own}
 use Rattle.tp_text.proofs.OnTimes.{exact_some, digit_is, ticks_is}
+use Rattle.tp_ground.specs.Terms.{is_inner, is_name}
+use Rattle.tp_ground.specs.Readable.{are_names}
 use Rattle.tp_ground.specs.declared.task.ActionId.{ActionId}
 use Rattle.tp_happen.specs.declared.marks.ByteKind.TheVariants.{Blank, Letter, Alone}
 use Rattle.tp_happen.specs.declared.plans.Step.{Step}
 use Rattle.tp_happen.specs.declared.reading.Wrong.TheVariants as wrong
 use Rattle.tp_happen.specs.PlanMarks.{word, sign, kind, is_letter, begins_word, is_bare, marks}
-use Rattle.tp_happen.specs.PlanForms.{Form, written, bracketed, form_of, is_inner, is_name, are_names, is_well_formed}
+use Rattle.tp_happen.specs.PlanForms.{Form, written, bracketed, form_of, is_well_formed}
 use Rattle.tp_happen.specs.PlanTexts.{Labelled, lines_of, full_lines, timed, lasting, acting, formed, step_of}
 use Rattle.tp_happen.specs.PlanPrints.{digit, decimals, time_text, words_text, end_text, step_text, plan_text, IsReadable, PlansAreRead}
 use Rattle.tp_happen.proofs.OnMarks.{mark_step, run_is_word}

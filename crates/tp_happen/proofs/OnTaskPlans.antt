@@ -1,37 +1,21 @@
 -- Steps of a task whose actions are told by their words are readable, and so what is written for them spells them.
-use Rattle.std.proofs.Common.{◌≡◌, ℕ, ◌+◌, ◌<◌, ◌≤◌, Bool, true, false, ◌&&◌, ◌||◌, List, [], ◌∷◌, length, min, refl, ap, ap₂, ◌∙◌, arith, Some, option_map}
+use Rattle.std.proofs.Common.{◌≡◌, ℕ, ◌+◌, ◌<◌, ◌≤◌, Bool, true, false, ◌&&◌, ◌||◌, List, [], ◌∷◌, length, min, refl, ap, arith, Some, option_map}
 use Rattle.std.specs.Prelude.{nat_lt, ◌==◌}
 use Rattle.std.specs.List.{AllByRecursion, list_all, position_from}
 use Rattle.std.proofs.lemmas.Bool.Decides.{nat_tests}
-use Rattle.tp_ground.specs.Terms as terms
 use Rattle.tp_ground.specs.Words.{Words, same_words}
 use Rattle.tp_ground.specs.Tables.{words_at}
-use Rattle.tp_ground.specs.Readable as readable
-use Rattle.tp_ground.specs.Readable.{AreReadable}
+use Rattle.tp_ground.specs.Readable.{are_names, AreReadable}
 use Rattle.tp_ground.specs.declared.task.ActionId.{ActionId}
 use Rattle.tp_ground.specs.declared.task.Task.{Task}
 use Rattle.tp_happen.specs.declared.plans.Step.{Step}
-use Rattle.tp_happen.specs.PlanForms.{is_name, are_names}
 use Rattle.tp_happen.specs.PlanTexts.{Labelled, SpellsPlan, is_known, AreKnown}
 use Rattle.tp_happen.specs.PlanPrints.{plan_text, IsReadable, PlansAreRead}
 use Rattle.tp_happen.specs.TaskLabels.{action_of, labelled}
 use Rattle.tp_happen.specs.TaskPlans.{EndInTime}
 
--- a name of the grammar is a name of a plan text
-same_form : (w : List ℕ) → is_name w ≡ terms.is_name w
-same_form [] = refl
-same_form (b ∷ bs) = refl
-
-same_forms : (ws : Words) → list_all is_name ws ≡ list_all terms.is_name ws
-same_forms [] = refl
-same_forms (w ∷ ws) = ap₂ (λ (a b : Bool). a && b) (same_form w) (same_forms ws)
-
-same_names : (ws : Words) → are_names ws ≡ readable.are_names ws
-same_names [] = refl
-same_names (w ∷ ws) = same_forms (w ∷ ws)
-
 -- an action that is found by its words is the one of these words
-action_is : (actions : List Words) (ws : Words) (a : ActionId) → readable.are_names ws ≡ true → position_from (same_words ws) 0 actions ≡ Some a.0 → action_of actions ws ≡ Some a
+action_is : (actions : List Words) (ws : Words) (a : ActionId) → are_names ws ≡ true → position_from (same_words ws) 0 actions ≡ Some a.0 → action_of actions ws ≡ Some a
 action_is actions [] a named found = absurd (let no : ⊥ = cc in no)
 action_is actions (w ∷ ws) a named found = ap (option_map (λ n. let i : ActionId = record { 0 = n } in i)) found
 
@@ -63,7 +47,7 @@ module _ (t : Task) (told : AreReadable t.numbering.actions) (all : length t.act
       let known : Known (labelled t) s = known_from (labelled t) s h in
       let below : s.action.0 < length t.numbering.actions = omega (arith, known.below, all) in
       record {
-        names = same_names (words_at t.numbering.actions s.action.0) ∙ told.names s.action.0 below;
+        names = told.names s.action.0 below;
         lower = told.lower s.action.0 below;
         action = action_is t.numbering.actions (words_at t.numbering.actions s.action.0) s.action (told.names s.action.0 below) (told.found s.action.0 below);
         instant = known.instant;

@@ -1,9 +1,8 @@
 -- The form of a line of a plan text: TIME `:` `(` NAME ARG .. `)`, with or without `[` DURATION `]`.
-use Rattle.std.specs.Prelude.{◌≡◌, ℕ, List, [], ◌∷◌, ◌++◌, map, Bool, true, false, ◌==◌, ◌&&◌, ◌||◌, if◌then◌else◌, Option, Some, None, option_map}
+use Rattle.std.specs.Prelude.{◌≡◌, ℕ, List, [], ◌∷◌, ◌++◌, map, Bool, true, false, ◌==◌, ◌&&◌, if◌then◌else◌, Option, Some, None, option_map}
 use Rattle.std.specs.Option.{option_and_then}
-use Rattle.std.specs.List.{list_all}
-use Rattle.std.specs.Char.{is_ascii_alphabetic, is_ascii_alphanumeric}
 use Rattle.tp_text.specs.Numbers.{has_time_form}
+use Rattle.tp_ground.specs.Readable.{are_names}
 use Rattle.tp_happen.specs.PlanMarks.{Mark, word, sign, is_bare, word_first, sign_first}
 use Rattle.tp_happen.specs.declared.forms.Form as shown
 
@@ -62,19 +61,6 @@ form_of ms =
     option_and_then (λ (h : List ℕ × List Mark).
     option_and_then (λ (w : List (List ℕ) × List Mark). option_map (λ (d : Option (List ℕ)).
     record { time = h.0; words = w.0; duration = d }) (end_of w.1)) (words_of h.1)) (head_of ms)
-
--- a letter, and then letters, digits, '-' and '_'
-abbrev pub is_inner : ℕ → Bool
-is_inner b = is_ascii_alphanumeric b || (b == 45 || b == 95)
-
-abbrev pub is_name : List ℕ → Bool
-is_name [] = false
-is_name (b ∷ bs) = is_ascii_alphabetic b && list_all is_inner bs
-
--- one name or more
-abbrev pub are_names : List (List ℕ) → Bool
-are_names [] = false
-are_names (w ∷ ws) = list_all is_name (w ∷ ws)
 
 abbrev pub is_duration : Option (List ℕ) → Bool
 is_duration None = true

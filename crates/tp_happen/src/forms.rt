@@ -2,8 +2,10 @@
 
 ghost use Rattle.std.specs.Prelude.{◌≡◌, map, IfOk, option_map};
 ghost use Rattle.std.specs.List.{list_all};
+ghost use Rattle.tp_ground.specs.Terms.{is_inner, is_name};
+ghost use Rattle.tp_ground.specs.Readable.{are_names};
 ghost use Rattle.tp_happen.specs.PlanMarks.{marks};
-ghost use Rattle.tp_happen.specs.PlanForms.{form_view, head_of, words_of, bracket_of, end_of, form_of, is_inner, is_name, are_names, is_duration, is_well_formed, FormsAreWritten};
+ghost use Rattle.tp_happen.specs.PlanForms.{form_view, head_of, words_of, bracket_of, end_of, form_of, is_duration, is_well_formed, FormsAreWritten};
 
 use crate::marks::{Token, is_bare, next_mark, take_sign, take_word};
 use std::alloc::{AllocError, Global};
