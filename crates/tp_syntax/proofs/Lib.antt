@@ -1,5 +1,7 @@
 pub mod OnActions
+pub mod OnKeyed
 pub mod OnSections
+pub mod OnProblemSections
 pub mod OnReadings
 pub mod OnDomains
 pub mod OnAtoms

@@ -1,16 +1,12 @@
--- The parts of a problem, by what their trees are.
+-- What a problem says of its first state, by what the trees are.
 use Rattle.std.proofs.Common.{◌≡◌, ℕ, List, None, refl}
 use Rattle.tp_text.specs.Shapes.{leaf, node, Shapes, no_shapes, shape}
 use Rattle.tp_text.specs.Trees.{shape_of}
 use Rattle.tp_text.specs.declared.tree.Tree.{Tree}
 use Rattle.tp_ast.specs.Terms.{shapes}
 use Rattle.tp_ast.specs.Symbols.{Symbols}
-use Rattle.tp_ast.specs.Problems.{initial_list, initial_at, initial_of, section_at, sections_of}
+use Rattle.tp_ast.specs.Problems.{initial_list, initial_at, initial_of}
 use Rattle.tp_ast.proofs.Loops.{IsEach}
-
-pub each_section : IsEach (λ (t : Tree). section_at (shape_of t)) (λ ts. sections_of (shapes ts))
-unfolding sections_of
-each_section = record { none = refl; more = λ x xs. refl }
 
 module _ (σ : Symbols) where
   pub each_initial : IsEach (λ (t : Tree). initial_at σ (shape_of t)) (λ ts. initial_of σ (shapes ts))

@@ -1,4 +1,5 @@
 pub mod Fields
+pub mod KeyedParts
 pub mod SectionViews
 pub mod Refusals
 pub mod Limits

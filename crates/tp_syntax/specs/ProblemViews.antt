@@ -1,7 +1,8 @@
 -- What a section of a problem shows.
 use Rattle.tp_ast.specs.Terms.{shapes}
 use Rattle.tp_ast.specs.Problems as problems
-use Rattle.tp_syntax.specs.declared.problem_parts.Part.{Part}
+use Rattle.tp_ast.specs.declared.words.ProblemSection.{ProblemSection}
+use Rattle.tp_syntax.specs.declared.keyed.Keyed.{Keyed}
 
-abbrev pub part_view : Part → problems.Part
-part_view p = record { section = p.section; body = shapes p.body.now }
+abbrev pub part_view : Keyed ProblemSection → problems.Part
+part_view p = record { section = p.kind; body = shapes p.body.now }

@@ -1,9 +1,8 @@
 -- A domain's sections as they are read.
-use Rattle.std.specs.Prelude.{◌≡◌, List, map, Bool, true, false, not, Option, Some, None, option_map, Result, Ok, Err}
-use Rattle.tp_text.specs.Shapes.{Shape, leaf, node, Shapes, no_shapes, shape}
+use Rattle.std.specs.Prelude.{◌≡◌, List, map, Bool, true, false, not, Option, Some, None, Result, Ok, Err}
+use Rattle.tp_text.specs.Shapes.{Shapes}
 use Rattle.tp_ast.specs.Gives.{◌>>=◌, provided, with_front, Fails}
 use Rattle.tp_ast.specs.declared.fault.SyntaxFault.{SyntaxFault}
-use Rattle.tp_ast.specs.Words.{section_of}
 use Rattle.tp_ast.specs.Terms.{shapes}
 use Rattle.tp_ast.specs.Symbols.{Parent, Declared, Form, Symbols}
 use Rattle.tp_ast.specs.TypedLists.{has_twice}
@@ -11,20 +10,10 @@ use Rattle.tp_ast.specs.Actions.{Action}
 use Rattle.tp_ast.specs.Domains.{Part, sections_of, each_once, actions_in}
 use Rattle.tp_ast.specs.declared.words.Section.{Section}
 use Rattle.tp_ast.specs.declared.words.Section.TheVariants as sections
-use Rattle.tp_syntax.specs.declared.sections.SectionBody.{SectionBody}
+use Rattle.tp_syntax.specs.declared.keyed.Keyed.{Keyed}
 
-abbrev pub part_view : SectionBody → Part
-part_view s = record { section = s.section; body = shapes s.body.now }
-
-abbrev pub part_with : Shapes → Section → Part
-part_with body k = record { section = k; body = body }
-
--- a list that begins with a section's word
-unfoldable pub part_at : Shape → Option Part
-part_at (leaf w) = None
-part_at (node no_shapes) = None
-part_at (node (shape (node ss) body)) = None
-part_at (node (shape (leaf w) body)) = option_map (part_with body) (section_of w)
+abbrev pub part_view : Keyed Section → Part
+part_view p = record { section = p.kind; body = shapes p.body.now }
 
 -- each but the actions at most once
 abbrev pub checked_sections : Shapes → Option (List Part)

@@ -17,8 +17,9 @@ ghost use Rattle.tp_ast.specs.Gives.{Gives};
 ghost use Rattle.tp_ast.specs.declared.words.Section.TheVariants as sections;
 
 use crate::action_reader::read_action;
+use crate::keyed::Keyed;
 use crate::known::with_signatures;
-use crate::sections::{SectionBody, find_section, read_sections};
+use crate::sections::{find_section, read_sections};
 use std::alloc::Global;
 use tp_ast::action::Action;
 use tp_ast::domain::Domain;
@@ -52,12 +53,12 @@ fn add_action(
     alloc: Global,
     actions: &mut Vec<Action>,
     symbols: &Symbols,
-    part: &SectionBody,
+    part: &Keyed<Section>,
 ) -> Result<(), SyntaxFault>
     ensures { Adds (map action_view actions.old.items) (map action_view actions.new.items) result
-        (action_at (symbols_view symbols.now) part.now.section (shapes part.now.body.now)) }
+        (action_at (symbols_view symbols.now) part.now.kind (shapes part.now.body.now)) }
 {
-    let Some(lasts) = action_kind(part.section) else {
+    let Some(lasts) = action_kind(part.kind) else {
         return Ok(());
     };
     actions.push(read_action(alloc, lasts, part.body, symbols, part.at)?)?;
@@ -67,7 +68,7 @@ fn add_action(
 fn actions_in(
     alloc: Global,
     symbols: &Symbols,
-    parts: &[SectionBody],
+    parts: &[Keyed<Section>],
 ) -> Result<Vec<Action>, SyntaxFault>
     ensures { Gives (λ v. map action_view v.items) result
         (actions_in (symbols_view symbols.now) (map part_view parts.now)) }
@@ -80,10 +81,10 @@ fn actions_in(
 }
 
 // Where the action of a number has its name.
-fn action_place(parts: &[SectionBody], number: usize) -> u32 {
+fn action_place(parts: &[Keyed<Section>], number: usize) -> u32 {
     let mut left = number;
     for part in parts {
-        if action_kind(part.section).is_some() {
+        if action_kind(part.kind).is_some() {
             if left == 0 {
                 return part.body.first().map_or(part.at, |name| place(name));
             }
@@ -97,7 +98,7 @@ fn action_place(parts: &[SectionBody], number: usize) -> u32 {
 fn actions_once(
     alloc: Global,
     symbols: &Symbols,
-    parts: &[SectionBody],
+    parts: &[Keyed<Section>],
 ) -> Result<Vec<Action>, SyntaxFault>
     ensures { Gives (λ v. map action_view v.items) result
         (actions_once (symbols_view symbols.now) (map part_view parts.now)) }
@@ -109,7 +110,7 @@ fn actions_once(
     Ok(actions)
 }
 
-fn requirements(alloc: Global, parts: &[SectionBody]) -> Result<Vec<String>, SyntaxFault>
+fn requirements(alloc: Global, parts: &[Keyed<Section>]) -> Result<Vec<String>, SyntaxFault>
     ensures { Gives (λ v. map string_bytes v.items) result
         (requirements_in (section sections.Requirements (map part_view parts.now))) }
 {
@@ -117,7 +118,7 @@ fn requirements(alloc: Global, parts: &[SectionBody]) -> Result<Vec<String>, Syn
     requirements_in(alloc, part.body, part.at)
 }
 
-fn types(alloc: Global, parts: &[SectionBody]) -> Result<Vec<TypeName>, SyntaxFault>
+fn types(alloc: Global, parts: &[Keyed<Section>]) -> Result<Vec<TypeName>, SyntaxFault>
     ensures { Gives (λ v. map parent_view v.items) result
         (types_in (section sections.Types (map part_view parts.now))) }
 {
@@ -125,7 +126,11 @@ fn types(alloc: Global, parts: &[SectionBody]) -> Result<Vec<TypeName>, SyntaxFa
     types_in(alloc, part.body, part.at)
 }
 
-fn constants(alloc: Global, types: &Types, parts: &[SectionBody]) -> Result<Vec<Typed>, SyntaxFault>
+fn constants(
+    alloc: Global,
+    types: &Types,
+    parts: &[Keyed<Section>],
+) -> Result<Vec<Typed>, SyntaxFault>
     ensures { Gives (λ v. map typed_view v.items) result
         (objects_in (types_view types.now) (section sections.Constants (map part_view parts.now))) }
 {
@@ -136,7 +141,7 @@ fn constants(alloc: Global, types: &Types, parts: &[SectionBody]) -> Result<Vec<
 fn predicates(
     alloc: Global,
     types: &Types,
-    parts: &[SectionBody],
+    parts: &[Keyed<Section>],
 ) -> Result<Vec<Signature>, SyntaxFault>
     ensures { Gives (λ v. map form_view v.items) result (predicates_in
         (types_view types.now) (section sections.Predicates (map part_view parts.now))) }
@@ -148,7 +153,7 @@ fn predicates(
 fn functions(
     alloc: Global,
     types: &Types,
-    parts: &[SectionBody],
+    parts: &[Keyed<Section>],
 ) -> Result<Vec<Signature>, SyntaxFault>
     ensures { Gives (λ v. map form_view v.items) result (functions_in
         (types_view types.now) (section sections.Functions (map part_view parts.now))) }
@@ -164,7 +169,7 @@ fn actions_over<'d>(
     constants: &'d [Typed],
     predicates: &'d [Signature],
     functions: &'d [Signature],
-    parts: &[SectionBody],
+    parts: &[Keyed<Section>],
 ) -> Result<Vec<Action>, SyntaxFault>
     ensures { Gives (λ v. map action_view v.items) result
         (actions_once (domain_symbols (types_view types.entry) (map typed_view constants.now)
@@ -176,7 +181,7 @@ fn actions_over<'d>(
     actions_once(alloc, &symbols, parts)
 }
 
-fn domain_with(alloc: Global, name: String, parts: &[SectionBody]) -> Result<Domain, SyntaxFault>
+fn domain_with(alloc: Global, name: String, parts: &[Keyed<Section>]) -> Result<Domain, SyntaxFault>
     ensures { Gives domain_view result (domain_with (string_bytes name) (map part_view parts.now)) }
 {
     let requirements = requirements(alloc, parts)?;

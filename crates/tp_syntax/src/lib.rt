@@ -6,9 +6,10 @@ mod clash;
 mod domain_reader;
 mod fields;
 mod initial;
+mod keyed;
 mod known;
 mod problem;
-mod problem_parts;
+mod problem_sections;
 mod sections;
 
 pub use domain_reader::read_domain;

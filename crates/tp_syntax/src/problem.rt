@@ -18,8 +18,9 @@ ghost use Rattle.tp_ast.specs.declared.words.ProblemSection.TheVariants as secti
 
 use crate::clash::first_clash;
 use crate::initial::initial_of;
+use crate::keyed::Keyed;
 use crate::known::with_signatures;
-use crate::problem_parts::{Part, body_of, find_section, once_each};
+use crate::problem_sections::{find_section, once_each};
 use std::alloc::{AllocError, Global};
 use tp_ast::cond::Cond;
 use tp_ast::domain::Domain;
@@ -37,14 +38,6 @@ use tp_text::{Tree, read_tree};
 use tp_types::lookup::Lookup;
 use tp_types::once::second_mention;
 use tp_types::types::Types;
-
-// Where the section of a kind begins.
-fn start_of(kind: ProblemSection, parts: &[Part], at: u32) -> u32 {
-    match find_section(kind, parts) {
-        Some(part) => part.start,
-        None => at,
-    }
-}
 
 #[tactic(auto, unfolding(tp_ast::specs::Problems::goal_in))]
 fn goal_in(alloc: Global, symbols: &Symbols, trees: &[Tree], at: u32) -> Result<Cond, SyntaxFault>
@@ -117,25 +110,28 @@ fn entry_place(trees: &[Tree], number: usize, at: u32) -> u32 {
 fn initial_in(
     alloc: Global,
     symbols: &Symbols,
-    parts: &[Part],
+    parts: &[Keyed<ProblemSection>],
     at: u32,
 ) -> Result<Vec<Initial>, SyntaxFault>
     ensures { Gives (λ v. map initial_view v.items) result
         (initial_of (symbols_view symbols.now) (section sections.Init (map part_view parts.now))) }
 {
-    let entries = body_of(ProblemSection::Init, parts);
-    let entries_at = start_of(ProblemSection::Init, parts, at);
-    initial_of(alloc, symbols, entries, entries_at)
+    let entries = find_section(ProblemSection::Init, parts, at);
+    initial_of(alloc, symbols, entries.body, entries.at)
 }
 
 // What is to hold, by the sections of the problem at `at`.
-fn goal_of(alloc: Global, symbols: &Symbols, parts: &[Part], at: u32) -> Result<Cond, SyntaxFault>
+fn goal_of(
+    alloc: Global,
+    symbols: &Symbols,
+    parts: &[Keyed<ProblemSection>],
+    at: u32,
+) -> Result<Cond, SyntaxFault>
     ensures { Gives cond_view result
         (goal_in (symbols_view symbols.now) (section sections.Goal (map part_view parts.now))) }
 {
-    let goals = body_of(ProblemSection::Goal, parts);
-    let goals_at = start_of(ProblemSection::Goal, parts, at);
-    goal_in(alloc, symbols, goals, goals_at)
+    let goals = find_section(ProblemSection::Goal, parts, at);
+    goal_in(alloc, symbols, goals.body, goals.at)
 }
 
 // What holds at first, and what is to hold. The problem is at `at`.
@@ -143,7 +139,7 @@ fn goal_of(alloc: Global, symbols: &Symbols, parts: &[Part], at: u32) -> Result<
 fn stated(
     alloc: Global,
     symbols: &Symbols,
-    parts: &[Part],
+    parts: &[Keyed<ProblemSection>],
     at: u32,
 ) -> Result<(Vec<Initial>, Cond), SyntaxFault>
     ensures { Gives (λ r. (map initial_view r.0.items, cond_view r.1)) result
@@ -152,8 +148,8 @@ fn stated(
     let initial = initial_in(alloc, symbols, parts, at)?;
     let goal = goal_of(alloc, symbols, parts, at)?;
     if let Some(number) = first_clash(alloc, &initial)? {
-        let entries = body_of(ProblemSection::Init, parts);
-        return Err(SyntaxFault::Twice(entry_place(entries, number, at)));
+        let entries = find_section(ProblemSection::Init, parts, at);
+        return Err(SyntaxFault::Twice(entry_place(entries.body, number, at)));
     }
     Ok((initial, goal))
 }
@@ -184,7 +180,7 @@ fn stated_of(
     alloc: Global,
     domain: &Domain,
     objects: &[Typed],
-    parts: &[Part],
+    parts: &[Keyed<ProblemSection>],
     at: u32,
 ) -> Result<(Vec<Initial>, Cond), SyntaxFault>
     ensures { Gives (λ r. (map initial_view r.0.items, cond_view r.1)) result (stated (symbols_with
@@ -199,18 +195,16 @@ fn problem_with(
     alloc: Global,
     domain: &Domain,
     name: String,
-    parts: &[Part],
+    parts: &[Keyed<ProblemSection>],
     at: u32,
 ) -> Result<Problem, SyntaxFault>
     ensures { Gives problem_view result
         (problem_with (domain_view domain.now) (string_bytes name) (map part_view parts.now)) }
 {
-    let words = body_of(ProblemSection::Requirements, parts);
-    let words_at = start_of(ProblemSection::Requirements, parts, at);
-    let _words = requirements_in(alloc, words, words_at)?;
-    let listed = body_of(ProblemSection::Objects, parts);
-    let listed_at = start_of(ProblemSection::Objects, parts, at);
-    let objects = new_objects(alloc, domain, listed, listed_at)?;
+    let words = find_section(ProblemSection::Requirements, parts, at);
+    let _words = requirements_in(alloc, words.body, words.at)?;
+    let listed = find_section(ProblemSection::Objects, parts, at);
+    let objects = new_objects(alloc, domain, listed.body, listed.at)?;
     let (initial, goal) = stated_of(alloc, domain, &objects, parts, at)?;
     Ok(Problem {
         name,
