@@ -27,18 +27,18 @@ abbrev pub first : {K : Type 0} → (K → ℕ) → K → List (K × Shapes) →
 first number k [] = None
 first number k (p ∷ ps) = if number p.0 == number k then Some p.1 else first number k ps
 
--- each at most once, but those that may stand there again
+-- no two of a kind, unless it may repeat
 abbrev pub each_once : {K : Type 0} → (K → ℕ) → (K → Bool) → List (K × Shapes) → Bool
-each_once number again [] = true
-each_once number again (p ∷ ps) =
-    (again p.0 || not (is_some (first number p.0 ps))) && each_once number again ps
+each_once number may_repeat [] = true
+each_once number may_repeat (p ∷ ps) =
+    (may_repeat p.0 || not (is_some (first number p.0 ps))) && each_once number may_repeat ps
 
 abbrev pub once_each : {K : Type 0} → (List ℕ → Option K) → (K → ℕ) → (K → Bool) → Shapes
     → Option (List (K × Shapes))
-once_each kind_of number again ss =
-    parts_of kind_of ss >>= λ ps. provided (each_once number again ps) ps
+once_each kind_of number may_repeat ss =
+    parts_of kind_of ss >>= λ ps. provided (each_once number may_repeat ps) ps
 
--- nothing, where no section is
+-- what stands behind the word, nothing if the section is missing
 abbrev pub or_nothing : Option Shapes → Shapes
 or_nothing None = no_shapes
 or_nothing (Some ss) = ss

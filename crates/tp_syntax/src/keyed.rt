@@ -12,9 +12,9 @@ use std::alloc::Global;
 use tp_ast::fault::SyntaxFault;
 use tp_text::{Token, Tree};
 
-/// The kinds of a text's sections.
+/// A kind of section, and the word that a section of the kind begins with.
 pub trait SectionWord: Copy {
-    /// The kind whose word it is.
+    /// The kind that a word stands for.
     ghost kind_of: { List ℕ → Option Self };
 
     ghost number: { Self → ℕ };
@@ -24,14 +24,14 @@ pub trait SectionWord: Copy {
     fn kind_of(word: &str) -> Option<Self>
         ensures { result ≡ kind_of word.now };
 
-    /// What is wrong with the list at `at` that begins with the word of no kind.
+    /// What is wrong with the list at `at` that begins with this word of no kind.
     fn fault(word: &Token, at: u32) -> SyntaxFault;
 
-    /// Another for each kind.
+    /// Each kind has its own.
     fn number(self) -> u8
         ensures { result ≡ number self };
 
-    /// Whether a text may have two sections of the kind.
+    /// Whether more than one section of the kind may stand in a text.
     fn may_repeat(self) -> bool
         ensures { result ≡ may_repeat self };
 }
@@ -135,7 +135,7 @@ pub fn find_or_empty<'t, 'a, K: SectionWord>(
     }
 }
 
-// The second section of a kind that a text may have once.
+// The second section of a kind that may stand in a text once.
 fn repeated<'p, 't, 'a, K: SectionWord>(
     parts: &'p [Keyed<'t, 'a, K>],
 ) -> Option<&'p Keyed<'t, 'a, K>>
@@ -154,7 +154,7 @@ fn repeated<'p, 't, 'a, K: SectionWord>(
     None
 }
 
-/// The sections in the list at `at`, each at most once unless its kind may stand there again.
+/// The sections in the list at `at`, no two of a kind unless it may repeat.
 pub fn read_parts<'t, 'a, K: SectionWord>(
     alloc: Global,
     trees: &'t [Tree<'a>],
