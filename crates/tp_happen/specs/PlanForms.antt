@@ -1,5 +1,5 @@
 -- The form of a line of a plan text: TIME `:` `(` NAME ARG .. `)`, with or without `[` DURATION `]`.
-use Rattle.std.specs.Prelude.{◌≡◌, ℕ, List, [], ◌∷◌, ◌++◌, map, Bool, true, false, ◌==◌, ◌&&◌, if◌then◌else◌, Option, Some, None, option_map}
+use Rattle.std.specs.Prelude.{◌≡◌, ℕ, List, [], ◌∷◌, ◌++◌, map, Bool, true, ◌==◌, ◌&&◌, if◌then◌else◌, Option, Some, None, option_map}
 use Rattle.std.specs.Option.{option_and_then}
 use Rattle.tp_text.specs.Numbers.{has_time_form}
 use Rattle.tp_ground.specs.Readable.{are_names}
