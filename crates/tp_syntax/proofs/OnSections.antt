@@ -1,5 +1,5 @@
 -- The sections of a domain, by their kinds.
-use Rattle.std.proofs.Common.{◌≡◌, ℕ, List, [], ◌∷◌, map, Bool, ◌&&◌, ◌||◌, not, ◌==◌, Option, Some, None, option_map, refl, ap, ◌∙◌}
+use Rattle.std.proofs.Common.{◌≡◌, List, [], ◌∷◌, map, ◌&&◌, ◌||◌, not, ◌==◌, Option, Some, None, option_map, refl, ap, ◌∙◌}
 use Rattle.std.specs.Option.{is_some}
 use Rattle.tp_text.specs.Shapes.{Shape, leaf, node, Shapes, no_shapes, shape}
 use Rattle.tp_ast.specs.Gives.{◌>>=◌, provided}

@@ -1,8 +1,7 @@
-use Rattle.std.proofs.Common.{map, List, ap, ◌∙◌}
+use Rattle.std.proofs.Common.{map, ap, ◌∙◌}
 use Rattle.std.proofs.lemmas.List.{map-append}
 use Rattle.std.proofs.lemmas.Result.{err_from_is_err_and}
 use Rattle.tp_syntax.specs.KeyedParts.{part_seen}
-use Rattle.tp_syntax.specs.declared.keyed.Keyed.{Keyed}
 use Rattle.tp_ast.proofs.Loops.{goes_on, fails, ends}
 use Rattle.tp_syntax.proofs.OnKeyed.{each_part}
 use Rattle.tp_syntax.proofs.keyed.parts_of.Goals as goal
