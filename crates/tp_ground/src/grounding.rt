@@ -50,7 +50,6 @@ fn push_names(
     ensures fluents { numbering.new.fluents ≡ numbering.old.fluents }
     ensures most { numbering.new.most ≡ numbering.old.most }
 {
-    numbering.make_room(rows.count)?;
     for place in 0..rows.count {
         rows.turn_to(place);
         let words = with_first(alloc, action.name.as_str(), &rows.row)?;

@@ -72,7 +72,7 @@ fn stands_near(names: &IndexSet<String>, near: &[usize], place: usize, name: &st
 {
     let number = *near.get(place)?;
     match names.get_index(number) {
-        Some(known) if known.as_str() == name => Some(number),
+        Some(known) if name == known.as_str() => Some(number),
         _ => None,
     }
 }
@@ -280,13 +280,6 @@ impl Numbering {
         let place = self.placed_fluent(words)?;
         self.guesses.keep(words, place);
         Ok(place)
-    }
-
-    /// Makes room for so many more actions.
-    pub fn make_room(&mut self, count: usize) -> Result<(), AllocError>
-        ensures { self.new ≡ self.old }
-    {
-        self.actions.reserve(count)
     }
 
     /// Numbers one more action, which mostly has names in common with the one before it.
