@@ -6,4 +6,4 @@ use Rattle.tp_ground.proofs.numbering.stands_near.Goals as goal
 pub returns-in-Some : goal.returns-in-Some
 returns-in-Some c =
     stored_name string_bytes c.args.names.now.keys c.in_ok-number.field-0.now c.args.name.now
-    (c.in-Some.known.now, (sym c.in-Some.ensures.key, ap (bytes_eq c.args.name.now) (sym c.as_str.ensures.value) ∙ sym c.eq.ensures ∙ c.if-eq.true))
+    (c.in-Some.known.now, sym c.in-Some.ensures.key, ap (bytes_eq c.args.name.now) (sym c.as_str.ensures.value) ∙ sym c.eq.ensures ∙ c.if-eq.true)
