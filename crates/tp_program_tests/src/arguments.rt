@@ -1,47 +1,55 @@
 //! Calls for help, and words that are refused.
 
-use super::devices::{Outcome, WIDE, run, whole};
 use std::alloc::Global;
+use tp_program_trials::{Outcome, WIDE, run};
+use tp_small_devices::whole;
 
 /// Words that are refused, and what is said of them.
-const REFUSED: [(&[&str], &str); 20] = [
-    (&["split"], "error: unrecognized subcommand 'split'"),
-    (&["plan", "d"], "<PROBLEM>"),
-    (&["audit"], "<LOG>"),
-    (&["Bare"], "error: unrecognized subcommand 'Bare'"),
-    (&["bare", "bare"], "error: unexpected argument 'bare' found"),
+type Row = (&'static str, &'static str);
+
+const REFUSED: [Row; 20] = [
+    ("split", "error: unrecognized subcommand 'split'"),
+    ("plan d", "<PROBLEM>"),
+    ("audit", "<LOG>"),
+    ("Bare", "error: unrecognized subcommand 'Bare'"),
+    ("bare bare", "error: unexpected argument 'bare' found"),
     (
-        &["--journal", "log"],
+        "--journal log",
         "error: unexpected argument '--journal' found",
     ),
-    (&["bare", "--journal"], "--journal <FILE>"),
+    ("bare --journal", "--journal <FILE>"),
     (
-        &["bare", "--journal", "a", "--journal", "b"],
+        "bare --journal a --journal b",
         "cannot be used multiple times",
     ),
-    (&["check", "d", "p"], "<PLAN>"),
-    (&["net", "d", "p"], "<PLAN>"),
-    (&["run", "d", "p"], "<PLAN>"),
-    (&["audit", "log", "d"], ""),
-    (&["audit", "log", "d", "p"], ""),
-    (&["audit", "log", "--scale", "7"], ""),
+    ("check d p", "<PLAN>"),
+    ("net d p", "<PLAN>"),
+    ("run d p", "<PLAN>"),
+    ("audit log d", ""),
+    ("audit log d p", ""),
+    ("audit log --scale 7", ""),
+    ("audit log d p l o", "error: unexpected argument 'o' found"),
+    ("run d p l --journal", "--journal <FILE>"),
     (
-        &["audit", "log", "d", "p", "l", "o"],
-        "error: unexpected argument 'o' found",
-    ),
-    (&["run", "d", "p", "l", "--journal"], "--journal <FILE>"),
-    (
-        &["net", "d", "p", "l", "--journal", "log"],
+        "net d p l --journal log",
         "error: unexpected argument '--journal' found",
     ),
-    (
-        &["check", "d", "p", "l", "o"],
-        "error: unexpected argument 'o' found",
-    ),
-    (&[""], "error: "),
-    (&["help", "split"], "error: "),
+    ("check d p l o", "error: unexpected argument 'o' found"),
+    ("''", "error: "),
+    ("help split", "error: "),
 ];
 
+/// Options of `check` that no call may have.
+const OTHERS: [Row; 6] = [
+    ("check d p l --scale 0", ""),
+    ("check d p l --scale 7", ""),
+    ("check d p l --scale 1001", ""),
+    ("check d p l --horizon 1000000001", ""),
+    ("check d p l --horizon -1", ""),
+    ("check d p l --budget 5", ""),
+];
+
+/// What stands in the version and in the help of the program and of its commands.
 const VERSION: &[&str] = &["tempo rattle-kit-", " logic "];
 
 const PROGRAM: &[&str] = &["Usage: tempo", "bare", "Examples:", "Exit status: 0 yes"];
@@ -90,35 +98,6 @@ const AUDIT: &[&str] = &[
     "Examples:",
 ];
 
-/// Calls for help or for the version, and what stands in it.
-const HELP: [(&[&str], &[&str]); 15] = [
-    (&["--version"], VERSION),
-    (&["-V"], VERSION),
-    (&["--help"], PROGRAM),
-    (&["-h"], PROGRAM),
-    (&["help"], PROGRAM),
-    (&["bare", "--help"], BARE),
-    (&["help", "bare"], BARE),
-    (&["check", "--help"], CHECK),
-    (&["help", "check"], CHECK),
-    (&["net", "--help"], NET),
-    (&["help", "net"], NET),
-    (&["run", "--help"], RUN),
-    (&["help", "run"], RUN),
-    (&["audit", "--help"], AUDIT),
-    (&["help", "audit"], AUDIT),
-];
-
-/// Options of `check` that no call may have.
-const OTHERS: [(&str, &str); 6] = [
-    ("--scale", "0"),
-    ("--scale", "7"),
-    ("--scale", "1001"),
-    ("--horizon", "1000000001"),
-    ("--horizon", "-1"),
-    ("--budget", "5"),
-];
-
 /// Whether a fault line refuses the words, and that stands in what is said of them below.
 fn says(faults: &[u8], why: &str) -> bool {
     let faults = str::from_utf8(faults).unwrap_or("");
@@ -137,11 +116,14 @@ fn refuses(outcome: &Outcome, why: &str) -> bool {
 }
 
 /// Whether a run of the words is refused so.
-fn is_refused(alloc: Global, words: &[&str], why: &str) -> bool {
-    match run(alloc, words, &[], whole("network 1 5\n"), WIDE) {
-        Some(outcome) => refuses(&outcome, why),
-        None => false,
-    }
+fn is_refused(alloc: Global, words: &str, why: &str) -> bool {
+    let outcome = run(alloc, words, &[], whole("network 1 5\n"), WIDE);
+    refuses(&outcome, why)
+}
+
+/// The place of the first words that are not refused so.
+fn first_taken(alloc: Global, rows: &[Row]) -> Option<usize> {
+    rows.iter().position(|row| !is_refused(alloc, row.0, row.1))
 }
 
 /// Whether help was written, and all of that stands in it.
@@ -155,31 +137,34 @@ fn tells(outcome: &Outcome, texts: &[&str]) -> bool {
 }
 
 /// Whether the words call for a help in which all of that stands.
-fn helps(alloc: Global, words: &[&str], texts: &[&str]) -> bool {
-    match run(alloc, words, &[], whole(""), WIDE) {
-        Some(outcome) => tells(&outcome, texts),
-        None => false,
-    }
+fn helps(alloc: Global, words: &str, texts: &[&str]) -> bool {
+    let outcome = run(alloc, words, &[], whole(""), WIDE);
+    tells(&outcome, texts)
+}
+
+/// Whether both do.
+fn both_help(alloc: Global, words: &str, others: &str, texts: &[&str]) -> bool {
+    helps(alloc, words, texts) && helps(alloc, others, texts)
 }
 
 #[test]
 fn words_that_are_no_command_are_refused(rt: HostRuntime) {
-    for (words, why) in REFUSED {
-        assert!(rt; is_refused(rt.alloc(), words, why), "{why}");
-    }
+    assert_eq!(rt; first_taken(rt.alloc(), &REFUSED), None);
 }
 
 #[test]
 fn help_goes_to_the_output(rt: HostRuntime) {
-    for (words, texts) in HELP {
-        assert!(rt; helps(rt.alloc(), words, texts));
-    }
+    assert!(rt; both_help(rt.alloc(), "--version", "-V", VERSION));
+    assert!(rt; both_help(rt.alloc(), "--help", "-h", PROGRAM));
+    assert!(rt; helps(rt.alloc(), "help", PROGRAM));
+    assert!(rt; both_help(rt.alloc(), "bare --help", "help bare", BARE));
+    assert!(rt; both_help(rt.alloc(), "check --help", "help check", CHECK));
+    assert!(rt; both_help(rt.alloc(), "net --help", "help net", NET));
+    assert!(rt; both_help(rt.alloc(), "run --help", "help run", RUN));
+    assert!(rt; both_help(rt.alloc(), "audit --help", "help audit", AUDIT));
 }
 
 #[test]
 fn other_scales_and_horizons_are_refused(rt: HostRuntime) {
-    for (option, value) in OTHERS {
-        let words = ["check", "d", "p", "l", option, value];
-        assert!(rt; is_refused(rt.alloc(), &words, ""), "{option} {value}");
-    }
+    assert_eq!(rt; first_taken(rt.alloc(), &OTHERS), None);
 }

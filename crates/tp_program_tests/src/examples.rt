@@ -1,6 +1,8 @@
 //! Worked examples: commands and their answers.
 
-use super::devices::shows;
+use std::alloc::Global;
+use tp_program_trials::{Room, Told, WIDE, gives};
+use tp_small_devices::{Feed, whole};
 
 /// Commands, and the answers that they get.
 struct Example {
@@ -341,6 +343,27 @@ const EXAMPLES: [Example; 17] = [
             report 62 bare 0! 59!\n",
     },
 ];
+
+/// Whether the commands are answered so, read and written in pieces of so many bytes.
+fn shows_in_pieces(alloc: Global, commands: &str, answers: &str, most: usize) -> bool {
+    let input = Feed {
+        most,
+        ..whole(commands)
+    };
+    let room = Room { most, ..WIDE };
+    let told = Told {
+        answers: answers.as_bytes(),
+        faults: b"",
+        status: 0,
+    };
+    gives(alloc, "bare", &[], input, room, told)
+}
+
+/// Whether the commands are answered so, read and written in one piece and byte by byte.
+pub fn shows(alloc: Global, commands: &str, answers: &str) -> bool {
+    shows_in_pieces(alloc, commands, answers, usize::MAX)
+        && shows_in_pieces(alloc, commands, answers, 1)
+}
 
 #[test]
 fn each_example_gets_its_answers(rt: HostRuntime) {

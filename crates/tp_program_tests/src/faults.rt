@@ -1,11 +1,9 @@
 //! Runs that come to a fault, and texts at the edges of a line.
 
-use super::devices::{Feed, Page, Room, Told, WIDE, gives, shows, whole};
+use super::examples::shows;
 use std::alloc::{AllocError, Global};
-use std::io;
-use std::io::{ErrorKind, Write};
-use tp_program::run_streams;
-use tp_small_devices::Desk;
+use tp_program_trials::{Room, Told, WIDE, gives};
+use tp_small_devices::{Feed, whole};
 
 const COMMANDS: &str = "network 2 100\nadd o 0 10\nadd 0 o -3\nwindow 0\nwindow 1\n";
 
@@ -27,8 +25,10 @@ const HEADS: [&str; 12] = [
     "window 0\n",
 ];
 
-/// Lines with so many blanks before that, and their answers.
-const LINES: [(usize, &str, &str); 5] = [
+/// A line with so many blanks before that, and its answers.
+type Line = (usize, &'static str, &'static str);
+
+const LINES: [Line; 5] = [
     (248, "window 0", "window 0 5\n"),
     (249, "window 0", "refused line\n"),
     (249, "window 0\nwindow 0", "refused line\nwindow 0 5\n"),
@@ -62,7 +62,7 @@ fn has_no_head(alloc: Global, commands: &str) -> bool {
         faults: b"fault script 5 head\n",
         status: 2,
     };
-    gives(alloc, &["bare"], &[], whole(commands), WIDE, told)
+    gives(alloc, "bare", &[], whole(commands), WIDE, told)
 }
 
 #[test]
@@ -72,14 +72,17 @@ fn no_words_stand_for_bare(rt: HostRuntime) {
         faults: b"",
         status: 0,
     };
-    assert!(rt; gives(rt.alloc(), &[], &[], whole(COMMANDS), WIDE, told));
+    assert!(rt; gives(rt.alloc(), "", &[], whole(COMMANDS), WIDE, told));
+}
+
+/// The place of the first line that is a head.
+fn first_head(alloc: Global, lines: &[&str]) -> Option<usize> {
+    lines.iter().position(|line| !has_no_head(alloc, line))
 }
 
 #[test]
 fn a_first_line_that_is_no_head_is_refused(rt: HostRuntime) {
-    for head in HEADS {
-        assert!(rt; has_no_head(rt.alloc(), head), "{head}");
-    }
+    assert_eq!(rt; first_head(rt.alloc(), &HEADS), None);
 }
 
 /// A lag of no event, a second one of an event, and one out of range.
@@ -130,12 +133,17 @@ fn shows_behind(alloc: Global, count: usize, after: &str, answers: &str) -> bool
     }
 }
 
+/// The place of the first line that is not answered so.
+fn first_other(alloc: Global, lines: &[Line]) -> Option<usize> {
+    lines
+        .iter()
+        .position(|line| !shows_behind(alloc, line.0, line.1, line.2))
+}
+
 #[test]
 fn lines_of_256_bytes_and_more(rt: HostRuntime) {
     assert!(rt; is_no_head_before(rt.alloc(), 246));
-    for (count, after, answers) in LINES {
-        assert!(rt; shows_behind(rt.alloc(), count, after, answers), "{count}");
-    }
+    assert_eq!(rt; first_other(rt.alloc(), &LINES), None);
 }
 
 /// Whether so many bytes are answered where the reader fails behind the first ones.
@@ -150,7 +158,7 @@ fn answers_up_to(alloc: Global, most: usize, count: usize, answered: usize) -> b
         faults: b"fault script 1 read\n",
         status: 3,
     };
-    gives(alloc, &["bare"], &[], input, WIDE, told)
+    gives(alloc, "bare", &[], input, WIDE, told)
 }
 
 #[test]
@@ -166,14 +174,18 @@ fn after_a_failed_read_the_lines_before_it_are_answered(rt: HostRuntime) {
 /// Whether so many bytes are written to a page with that room. Where memory may have been refused to a command, and its answer cut
 /// short, it is asked for once more.
 fn writes_up_to(alloc: Global, most: usize, calls: usize, written: usize) -> bool {
-    let room = Room { most, calls };
+    let room = Room {
+        most,
+        calls,
+        ..WIDE
+    };
     let told = Told {
         answers: &ANSWERS[..written.min(ANSWERS.len())],
         faults: b"fault script 2 write\n",
         status: 3,
     };
-    gives(alloc, &["bare"], &[], whole(COMMANDS), room, told)
-        || gives(alloc, &["bare"], &[], whole(COMMANDS), room, told)
+    gives(alloc, "bare", &[], whole(COMMANDS), room, told)
+        || gives(alloc, "bare", &[], whole(COMMANDS), room, told)
 }
 
 #[test]
@@ -188,41 +200,31 @@ fn after_a_failed_write_a_first_part_of_the_answers_is_written(rt: HostRuntime) 
 
 #[test]
 fn a_writer_that_is_never_needed_does_not_fail(rt: HostRuntime) {
-    let room = Room { most: 1, calls: 0 };
+    let room = Room {
+        most: 1,
+        calls: 0,
+        ..WIDE
+    };
     let told = Told {
         answers: b"",
         faults: b"",
         status: 0,
     };
     let input = whole("network 1 5\n\n \t\n");
-    assert!(rt; gives(rt.alloc(), &["bare"], &[], input, room, told));
+    assert!(rt; gives(rt.alloc(), "bare", &[], input, room, told));
 }
 
 /// A writer that takes all bytes and keeps them back, and in the end can't hand them on.
-#[derive(Drop)]
-struct Withholding;
-
-impl Write for Withholding {
-    fn write(&mut self, buf: &[u8]) -> io::Result<usize> {
-        Ok(buf.len())
-    }
-
-    fn flush(&mut self) -> io::Result<()> {
-        Err(io::Error::from(ErrorKind::BrokenPipe))
-    }
-}
-
-/// Whether a run whose answers are kept back is told as a failed write.
-fn tells_what_is_kept_back(alloc: Global) -> bool {
-    let mut files = Desk::new(alloc, &[], None);
-    let mut faults = Page::new(alloc, WIDE);
-    let input = whole(COMMANDS);
-    let status = run_streams(alloc, &[], &mut files, input, Withholding, &mut faults).status;
-    faults.text.as_slice() == b"fault script 2 write\n".as_slice() && status == 3
-}
-
 #[test]
 fn what_is_not_handed_on_in_the_end_is_a_failed_write(rt: HostRuntime) {
-    // A run that memory was refused in is made once more.
-    assert!(rt; tells_what_is_kept_back(rt.alloc()) || tells_what_is_kept_back(rt.alloc()));
+    let room = Room {
+        withholds: true,
+        ..WIDE
+    };
+    let told = Told {
+        answers: ANSWERS,
+        faults: b"fault script 2 write\n",
+        status: 3,
+    };
+    assert!(rt; gives(rt.alloc(), "", &[], whole(COMMANDS), room, told));
 }

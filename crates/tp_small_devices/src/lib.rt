@@ -1,14 +1,45 @@
-//! Files in memory, for tests.
+//! Files and readers in memory, for tests.
 #![tactic(auto)]
 
 ghost use Rattle.std.specs.Prelude.{◌≡◌, [], None, Some, find, if◌then◌else◌, option_map};
 ghost use Rattle.std.specs.Str.{bytes_eq};
 
 use std::alloc::Global;
-use std::io::Read;
+use std::io;
+use std::io::{ErrorKind, Read};
 use tp_device::{Failed, Sink, Source};
 use tp_files::Files;
 use tp_logs::Logs;
+
+/// Bytes that come at most so many a call. Behind them is the end, or where it is broken an error.
+#[derive(Clone, Copy)]
+pub struct Feed<'a> {
+    pub bytes: &'a [u8],
+    pub most: usize,
+    pub broken: bool,
+}
+
+impl<'a> Read for Feed<'a> {
+    fn read(&mut self, buf: &mut [u8]) -> io::Result<usize> {
+        let count = self.bytes.len().min(buf.len()).min(self.most);
+        if count == 0 && self.broken {
+            return Err(io::Error::from(ErrorKind::Other));
+        }
+        let (first, rest) = self.bytes.split_at(count);
+        buf[..count].copy_from_slice(first);
+        self.bytes = rest;
+        Ok(count)
+    }
+}
+
+/// All of the text in one piece.
+pub fn whole(text: &str) -> Feed<'_> {
+    Feed {
+        bytes: text.as_bytes(),
+        most: usize::MAX,
+        broken: false,
+    }
+}
 
 /// What is left of a file in memory.
 #[derive(Drop)]

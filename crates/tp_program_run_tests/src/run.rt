@@ -1,7 +1,8 @@
 //! Runs of plans in files, worked by hand.
 
-use super::devices::{Feed, Room, Told, WIDE, gives, run, whole};
 use std::alloc::Global;
+use tp_program_trials::{Room, Told, WIDE, gives, gives_after, told_by};
+use tp_small_devices::{Feed, whole};
 use tp_small_worlds::{CHARGE, EMPTY_TANK, LINE, TANK, TOGGLE, TOGGLED, UNCHARGED, UNSET};
 
 /// A domain and a problem, a plan of theirs, the commands of the input, what is written, and the exit status.
@@ -15,7 +16,7 @@ struct Row {
     status: u8,
 }
 
-const RUN: &[&str] = &["run", "domain", "problem", "plan", "--horizon", "100"];
+const RUN: &str = "run domain problem plan --horizon 100";
 
 const WATCH: &str = "0: (watch) [5]\n2: (give)\n3: (drop)\n";
 
@@ -161,20 +162,6 @@ const REFUSED_RESTS: [Rest; 4] = [
     ),
 ];
 
-/// What is written to the output, or for input that is refused beside it.
-fn told_by(text: &[u8], status: u8) -> Told<'_> {
-    let (answers, faults): (&[u8], &[u8]) = if status == 2 {
-        (b"", text)
-    } else {
-        (text, b"")
-    };
-    Told {
-        answers,
-        faults,
-        status,
-    }
-}
-
 /// A rest, and those commands.
 fn resting(rest: &Rest) -> Row {
     Row {
@@ -261,7 +248,11 @@ fn comes_to(alloc: Global, input: Feed<'_>, room: Room, count: usize, faults: &[
 /// Whether a writer that takes a byte a call fails after each number of calls, up to the last byte of the plan.
 fn is_cut(alloc: Global) -> bool {
     (0..ANSWERS.len()).all(|calls| {
-        let room = Room { most: 1, calls };
+        let room = Room {
+            most: 1,
+            calls,
+            ..WIDE
+        };
         comes_to(
             alloc,
             whole(COMMANDS),
@@ -308,16 +299,13 @@ fn lacks(alloc: Global, first: usize, opened: u64, faults: &[u8]) -> bool {
         status: 3,
     };
     let files = files_of_a_rest();
-    match run(alloc, RUN, &files[..first.min(3)], whole(COMMANDS), WIDE) {
-        Some(outcome) => outcome.opened == opened && outcome.is(told),
-        None => false,
-    }
+    let first = &files[..first.min(3)];
+    gives_after(alloc, RUN, first, whole(COMMANDS), opened, told)
 }
 
 #[test]
 fn files_that_are_not_there(rt: HostRuntime) {
-    let alloc = rt.alloc();
-    assert!(rt; lacks(alloc, 0, 1, b"fault file 1 read domain\n"));
-    assert!(rt; lacks(alloc, 1, 2, b"fault file 1 read problem\n"));
-    assert!(rt; lacks(alloc, 2, 3, b"fault file 1 read plan\n"));
+    assert!(rt; lacks(rt.alloc(), 0, 1, b"fault file 1 read domain\n"));
+    assert!(rt; lacks(rt.alloc(), 1, 2, b"fault file 1 read problem\n"));
+    assert!(rt; lacks(rt.alloc(), 2, 3, b"fault file 1 read plan\n"));
 }

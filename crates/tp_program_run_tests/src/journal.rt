@@ -1,9 +1,10 @@
 //! Journals that commands on a network of bounds alone leave in a file, worked by hand, and their audits.
 
-use super::devices::{Feed, Kept, Room, Told, WIDE, gives, logs, whole};
 use std::alloc::Global;
+use tp_program_trials::{Kept, Room, Told, WIDE, gives, logs};
+use tp_small_devices::{Feed, whole};
 
-const WORDS: &[&str] = &["bare", "--journal", "night.log"];
+const WORDS: &str = "bare --journal night.log";
 
 const COMMANDS: &str =
     "network 2 100\nadd o 0 10\nadd 0 o -3\n\nwindow 0\nwindow  01 \nadd 0 o -11\nwindo 0\nadd o 1 7";
@@ -83,38 +84,38 @@ const ROWS: [Row; 8] = [
     ),
 ];
 
-/// Whether commands leave that journal, and come to that.
-fn leaves(alloc: Global, row: Row, input: Feed<'_>) -> bool {
-    let (_, room, journal, answers, faults, status) = row;
+/// Whether commands that come so many bytes a call leave that journal, and come to that.
+fn leaves(alloc: Global, row: &Row, most: usize) -> bool {
+    let input = Feed {
+        most,
+        ..whole(row.0)
+    };
     let told = Told {
-        answers: answers.as_bytes(),
-        faults: faults.as_bytes(),
-        status,
+        answers: row.3.as_bytes(),
+        faults: row.4.as_bytes(),
+        status: row.5,
     };
     let kept = Kept {
-        room,
-        journal,
+        room: row.1,
+        journal: row.2,
         told,
     };
     logs(alloc, WORDS, &[], input, WIDE, kept)
 }
 
+/// The place of the first row that commands which come so many bytes a call do not come to.
+fn first_wrong(alloc: Global, most: usize) -> Option<usize> {
+    ROWS.iter().position(|row| !leaves(alloc, row, most))
+}
+
 #[test]
 fn journals_are_kept_in_a_file(rt: HostRuntime) {
-    for row in ROWS {
-        assert!(rt; leaves(rt.alloc(), row, whole(row.0)));
-    }
+    assert_eq!(rt; first_wrong(rt.alloc(), usize::MAX), None);
 }
 
 #[test]
 fn journals_of_commands_that_come_byte_by_byte(rt: HostRuntime) {
-    for row in ROWS {
-        let input = Feed {
-            most: 1,
-            ..whole(row.0)
-        };
-        assert!(rt; leaves(rt.alloc(), row, input));
-    }
+    assert_eq!(rt; first_wrong(rt.alloc(), 1), None);
 }
 
 /// Whether the audit of a journal has so many pairs.
@@ -125,14 +126,7 @@ fn is_audited(alloc: Global, journal: &str, answer: &str) -> bool {
         status: 0,
     };
     let stored = [("night.log", journal.as_bytes())];
-    gives(
-        alloc,
-        &["audit", "night.log"],
-        &stored,
-        whole(""),
-        WIDE,
-        told,
-    )
+    gives(alloc, "audit night.log", &stored, whole(""), WIDE, told)
 }
 
 #[test]
@@ -172,10 +166,7 @@ fn unwritten(alloc: Global) -> bool {
         journal: Some("journal 2\nnetwork 1 5\nbare\n> advance 1\n< ok\n> advance 2\n< ok\n"),
         told,
     };
-    let room = Room {
-        most: usize::MAX,
-        calls: 1,
-    };
+    let room = Room { calls: 1, ..WIDE };
     logs(alloc, WORDS, &[], whole(TWO), room, kept)
 }
 

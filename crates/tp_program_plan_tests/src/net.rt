@@ -1,8 +1,9 @@
 //! Networks of plans in files, worked by hand.
 
-use super::devices::{Outcome, Told, WIDE, gives, run, whole};
 use std::alloc::{AllocError, Global};
 use std::fmt::Write;
+use tp_program_trials::{Outcome, WIDE, gives, run, told_by};
+use tp_small_devices::whole;
 use tp_small_worlds::{
     CHARGE, EMPTY_TANK, LINE, MATCH, MATCHES, TANK, TOGGLE, TOGGLED, UNCHARGED, UNSET,
 };
@@ -13,14 +14,14 @@ struct Row {
     domain: &'static str,
     problem: &'static str,
     plan: &'static str,
-    words: &'static [&'static str],
+    words: &'static str,
     text: &'static [u8],
     status: u8,
 }
 
-const NET: &[&str] = &["net", "domain", "problem", "plan"];
+const NET: &str = "net domain problem plan";
 
-const NET_UP_TO_100: &[&str] = &["net", "domain", "problem", "plan", "--horizon", "100"];
+const NET_UP_TO_100: &str = "net domain problem plan --horizon 100";
 
 const NETWORKS: [Row; 6] = [
     Row {
@@ -115,20 +116,6 @@ const OTHERS: [Row; 4] = [
     },
 ];
 
-/// What is written to the output, or for input that is refused beside it.
-fn told_by(text: &[u8], status: u8) -> Told<'_> {
-    let (answers, faults): (&[u8], &[u8]) = if status == 2 {
-        (b"", text)
-    } else {
-        (text, b"")
-    };
-    Told {
-        answers,
-        faults,
-        status,
-    }
-}
-
 /// Whether a row comes to what it tells.
 fn is_right(alloc: Global, row: &Row) -> bool {
     let files: [(&str, &[u8]); 3] = [
@@ -170,12 +157,16 @@ fn sets(alloc: Global, count: usize) -> Result<String, AllocError> {
     Ok(text)
 }
 
-/// What the network of so many steps that all interfere comes to. Where memory is refused, it is asked for once more.
-fn network_of_sets(alloc: Global, count: usize) -> Option<Outcome> {
-    let plan = match sets(alloc, count) {
-        Ok(text) => text,
-        Err(_) => sets(alloc, count).ok()?,
-    };
+/// The same. Where memory is refused, it is asked for once more.
+fn sets_again(alloc: Global, count: usize) -> Result<String, AllocError> {
+    match sets(alloc, count) {
+        Ok(text) => Ok(text),
+        Err(_) => sets(alloc, count),
+    }
+}
+
+/// What the network of a plan of steps that all interfere comes to.
+fn network_of(alloc: Global, plan: &str) -> Outcome {
     let files: [(&str, &[u8]); 3] = [
         ("domain", LINE.as_bytes()),
         ("problem", UNSET.as_bytes()),
@@ -186,17 +177,20 @@ fn network_of_sets(alloc: Global, count: usize) -> Option<Outcome> {
 
 /// Whether so many steps that all interfere have a network.
 fn have_a_network(alloc: Global, count: usize) -> bool {
-    match network_of_sets(alloc, count) {
-        Some(outcome) => outcome.status == 0 && outcome.answers.ends_with(b" -1\n"),
-        None => false,
+    match sets_again(alloc, count) {
+        Ok(plan) => {
+            let outcome = network_of(alloc, plan.as_str());
+            outcome.status == 0 && outcome.answers.ends_with(b" -1\n")
+        }
+        Err(_) => false,
     }
 }
 
 /// Whether so many steps that all interfere have too many bounds.
 fn have_too_many_bounds(alloc: Global, count: usize) -> bool {
-    match network_of_sets(alloc, count) {
-        Some(outcome) => outcome.is(told_by(b"fault net 2 too-many\n", 2)),
-        None => false,
+    match sets_again(alloc, count) {
+        Ok(plan) => network_of(alloc, plan.as_str()).is(told_by(b"fault net 2 too-many\n", 2)),
+        Err(_) => false,
     }
 }
 

@@ -1,8 +1,10 @@
 //! Audits of journals in files, worked by hand.
 
-use super::devices::{Told, WIDE, gives, whole};
+use std::alloc::Global;
+use tp_program_trials::{Told, WIDE, gives};
+use tp_small_devices::whole;
 
-const AUDIT: &[&str] = &["audit", "night.log"];
+const AUDIT: &str = "audit night.log";
 
 /// Seven pairs of a network of bounds alone.
 const NIGHT: &str =
@@ -55,17 +57,25 @@ const ROWS: [Row; 8] = [
     ),
 ];
 
+/// Whether the audit of a journal comes to that.
+fn is_audited(alloc: Global, row: &Row) -> bool {
+    let told = Told {
+        answers: row.1.as_bytes(),
+        faults: row.2.as_bytes(),
+        status: row.3,
+    };
+    let stored = [("night.log", row.0.as_bytes())];
+    gives(alloc, AUDIT, &stored, whole(""), WIDE, told)
+}
+
+/// The place of the first journal whose audit does not come to that.
+fn first_wrong(alloc: Global, rows: &[Row]) -> Option<usize> {
+    rows.iter().position(|row| !is_audited(alloc, row))
+}
+
 #[test]
 fn journals_in_files_are_audited(rt: HostRuntime) {
-    for (journal, answers, faults, status) in ROWS {
-        let told = Told {
-            answers: answers.as_bytes(),
-            faults: faults.as_bytes(),
-            status,
-        };
-        let stored = [("night.log", journal.as_bytes())];
-        assert!(rt; gives(rt.alloc(), AUDIT, &stored, whole(""), WIDE, told));
-    }
+    assert_eq!(rt; first_wrong(rt.alloc(), &ROWS), None);
 }
 
 #[test]
