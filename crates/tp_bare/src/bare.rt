@@ -11,10 +11,7 @@ use tp_bounds::Limits;
 use tp_device::{Sink, Source};
 use tp_files::{OUT_OF_ORDER, REFUSED, complain};
 use tp_repair::RepairNet;
-use tp_script::{Executive, Lines, ServeFault, Served, read_head, read_lags, serve};
-
-/// The most bytes of a command line.
-const LONGEST: usize = 256;
+use tp_script::{Executive, LONGEST_LINE, Lines, ServeFault, Served, read_head, read_lags, serve};
 
 /// Why the commands on a network were not answered to their end.
 #[derive(Clone, Copy)]
@@ -113,7 +110,7 @@ fn bare<I: Source + Drop, O: Sink>(
         (BareStops (I.left input) (O.held output.old) (O.held output.new)) }
     ensures told { O.failures output.new ≡ bare_failures (O.failures output.old) result }
 {
-    let mut lines = Lines::new(alloc, input, LONGEST)?;
+    let mut lines = Lines::new(alloc, input, LONGEST_LINE)?;
     let (events, horizon) = read_head(&mut lines)?;
     answer(alloc, &mut lines, events, horizon, output)
 }

@@ -8,10 +8,7 @@ use std::alloc::Global;
 use tp_bare::{BareFault, begin};
 use tp_device::{Sink, Source};
 use tp_journal::{JournalFault, journal};
-use tp_script::{Lines, ServeFault, Served, read_head};
-
-/// The most bytes of a command line.
-const LONGEST: usize = 256;
+use tp_script::{LONGEST_LINE, Lines, ServeFault, Served, read_head};
 
 impl From<ServeFault> for JournalStop {
     ghost use Rattle.std.specs.Prelude.{◌≡◌};
@@ -76,7 +73,7 @@ pub(crate) fn log_bare<I: Source + Drop, O: Sink, L: Sink>(
     ensures told { O.failures output.new ≡ output_failures (O.failures output.old) result }
     ensures log { L.failures log.new ≡ log_failures (L.failures log.old) result }
 {
-    let mut lines = Lines::new(alloc, input, LONGEST)?;
+    let mut lines = Lines::new(alloc, input, LONGEST_LINE)?;
     let (events, horizon) = read_head(&mut lines)?;
     answer(alloc, &mut lines, events, horizon, output, log)
 }

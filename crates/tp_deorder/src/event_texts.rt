@@ -42,7 +42,7 @@ fn put_text(
 }
 
 /// Whether an action of a task has a start and an end.
-fn has_two(task: &Task, action: ActionId) -> Option<bool>
+pub fn has_two(task: &Task, action: ActionId) -> Option<bool>
     ensures { result ≡ option_map spec.has_two (slice_get task.now.actions.items action.0) }
 {
     let body = task.actions.get(action.0 as usize)?;

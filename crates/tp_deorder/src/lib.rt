@@ -30,6 +30,7 @@ mod steps;
 mod walk;
 
 pub use deordering::deorder;
+pub use event_texts::has_two;
 use std::alloc::AllocError;
 use thiserror::Error;
 

@@ -22,7 +22,7 @@ use tp_deorder::tp_validate::ValidPlan;
 use tp_net::Net;
 
 /// The greatest weight of a bound, either way, in ticks.
-const GREATEST_WEIGHT: i64 = 2_000_000_000;
+pub const GREATEST_WEIGHT: i64 = 2_000_000_000;
 
 /// A network that takes commands. A call that is refused changes nothing.
 #[derive(Drop)]
@@ -337,7 +337,7 @@ fn moments_of<N: Net>(alloc: Global, net: &N) -> Result<Vec<(u32, bool)>, AllocE
 }
 
 /// Whether a point is the origin or one of that many events.
-fn is_point(point: Point, count: u16) -> bool
+pub fn is_point(point: Point, count: u16) -> bool
     ensures { result ≡ is_point_of count point }
 {
     match point {

@@ -12,7 +12,6 @@ ghost use Rattle.tp_deorder.specs.tp_happen.declared.plans.Step.{Step};
 ghost use Rattle.tp_deorder.specs.tp_validate.OfTask.{IsValidPlan};
 ghost use Rattle.tp_deorder.specs.tp_validate.Verdict.{IsSound};
 ghost use Rattle.tp_deorder.specs.Answers.{IsPlanNetOf};
-ghost use Rattle.tp_deorder.specs.EventTexts as spec;
 ghost use Rattle.tp_deorder.specs.RunPlans.{moved_step, count_or_none, run_steps};
 ghost use Rattle.tp_exec.specs.declared.command.Answer.{Answer};
 ghost use Rattle.tp_exec.specs.declared.command.Command.{Command};
@@ -24,7 +23,8 @@ ghost use Rattle.tp_exec.specs.OwnBounds.{IsDone, dispatched_at, TellsMoments};
 ghost use Rattle.tp_exec.specs.FromPlan.{CameFrom, TellsSteps};
 
 use std::alloc::{AllocError, Global};
-use tp_deorder::tp_ground::{ActionId, Body, Task};
+use tp_deorder::has_two;
+use tp_deorder::tp_ground::Task;
 use tp_deorder::tp_happen::{Plan, Step};
 use tp_deorder::tp_validate::ValidPlan;
 use tp_net::Net;
@@ -54,14 +54,6 @@ fn moment_of(moments: &[u32], event: usize) -> u32
         Some(moment) => *moment,
         None => 0,
     }
-}
-
-/// Whether an action of a task has a start and an end.
-fn has_two(task: &Task, action: ActionId) -> Option<bool>
-    ensures { result ≡ option_map spec.has_two (slice_get task.now.actions.items action.0) }
-{
-    let body = task.actions.get(action.0 as usize)?;
-    Some(matches!(body, Body::Durative(_, _, _)))
 }
 
 /// Adds a step at the moment of its first event, as long as to its last one, and tells the number of the next step's first

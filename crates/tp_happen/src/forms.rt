@@ -2,13 +2,14 @@
 
 ghost use Rattle.std.specs.Prelude.{◌≡◌, map, IfOk, option_map};
 ghost use Rattle.std.specs.List.{list_all};
-ghost use Rattle.tp_ground.specs.Terms.{is_inner, is_name};
+ghost use Rattle.tp_ground.specs.Terms.{is_name};
 ghost use Rattle.tp_ground.specs.Readable.{are_names};
 ghost use Rattle.tp_happen.specs.PlanMarks.{marks};
 ghost use Rattle.tp_happen.specs.PlanForms.{form_view, head_of, words_of, bracket_of, end_of, form_of, is_duration, is_well_formed, FormsAreWritten};
 
 use crate::marks::{Token, is_bare, next_mark, take_sign, take_word};
 use std::alloc::{AllocError, Global};
+use tp_names::term::is_name;
 use tp_text::has_time_form;
 
 /// What stands on a line: `TIME: (WORD ..)`, and `[DURATION]` or not.
@@ -97,21 +98,6 @@ pub(crate) fn read_form<'a>(alloc: Global, line: &'a [u8]) -> Result<Option<Form
         words,
         duration,
     }))
-}
-
-fn all_inner(bytes: &[u8]) -> bool
-    ensures { result ≡ list_all is_inner bytes.now }
-{
-    bytes.iter().all(|b| b.is_ascii_alphanumeric() || (*b == b'-' || *b == b'_'))
-}
-
-fn is_name(word: &[u8]) -> bool
-    ensures { result ≡ is_name word.now }
-{
-    match word {
-        [] => false,
-        [first, rest @ ..] => first.is_ascii_alphabetic() && all_inner(rest),
-    }
 }
 
 fn all_names(words: &[&str]) -> bool

@@ -2,24 +2,11 @@
 
 ghost use Rattle.std.specs.Prelude.{◌≡◌, Bool};
 ghost use Rattle.tp_bounds.specs.Setting.{event_count};
-ghost use Rattle.tp_exec.specs.Step.{first_refusal, is_point_of, is_in_range, may_want_memory};
+ghost use Rattle.tp_exec.specs.Step.{first_refusal, is_in_range, may_want_memory};
 
-use tp_bounds::{Bound, BoundId, Point};
-use tp_exec::{Command, Executive, Refusal};
+use tp_bounds::{Bound, BoundId};
+use tp_exec::{Command, Executive, GREATEST_WEIGHT, Refusal, is_point};
 use tp_net::Net;
-
-/// The greatest weight of a bound, either way, in ticks.
-const GREATEST_WEIGHT: i64 = 2_000_000_000;
-
-/// Whether a point is the origin or one of that many events.
-fn is_point(point: Point, count: u16) -> bool
-    ensures { result ≡ is_point_of count point }
-{
-    match point {
-        Point::Origin => true,
-        Point::Event(e) => e < count,
-    }
-}
 
 /// Whether a weight is in range.
 fn is_light(w: i64) -> bool

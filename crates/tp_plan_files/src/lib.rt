@@ -4,12 +4,11 @@
 //! - `plan_words`: the names of the files, and how the plan's time is measured
 //! - `judging`: the task, and the verdict on the plan
 //! - `judge_lines`: the lines of faults of texts, tasks and plans
-//! - `verdict_lines`, `lines`: the line of a verdict
+//! - `verdict_lines`: the line of a verdict
 #![tactic(auto)]
 
 mod judge_lines;
 mod judging;
-mod lines;
 mod plan_words;
 mod verdict_lines;
 

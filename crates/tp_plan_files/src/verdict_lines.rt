@@ -4,23 +4,23 @@ ghost use Rattle.std.specs.Prelude.{◌≡◌, ◌+◌, ◌≤◌, ◌++◌, cod
 ghost use Rattle.tp_device.specs.Bytes.{Writes, failures_after};
 ghost use Rattle.tp_plan_files.specs.VerdictLines.{invalid_line, verdict_line, why_text};
 
-use crate::lines::Line;
 use tp_device::{Failed, Sink, push_all};
+use tp_short_text::Text;
 use tp_validate::{Fault, Verdict};
 
 /// A word, and the number of an event or of a step.
-fn numbered(word: &[u8], n: u16) -> Line
+fn numbered(word: &[u8], n: u16) -> Text
     requires { length word.now ≤ 12 }
     ensures text { result ≡ word.now ++ decimal n }
     ensures short { length result ≤ length word.now + 10 }
 {
-    let mut line = Line::new(word);
+    let mut line = Text::new(word);
     line.put_number(u32::from(n));
     line
 }
 
 /// Why a plan is not valid.
-fn why_line(why: Fault) -> Line
+fn why_line(why: Fault) -> Text
     ensures text { result ≡ why_text why }
     ensures short { length result ≤ 33 }
 {
@@ -36,7 +36,7 @@ fn why_line(why: Fault) -> Line
         }
         Fault::OverAll(step) => numbered(b"over-all ", step),
         Fault::Duration(step) => numbered(b"duration ", step),
-        Fault::Goal => Line::new(b"goal"),
+        Fault::Goal => Text::new(b"goal"),
     }
 }
 
@@ -45,7 +45,7 @@ pub fn write_invalid<W: Sink>(writer: &mut W, tick: u32, why: Fault) -> Result<(
     ensures bytes { Writes (W.held writer.old) (W.held writer.new) (invalid_line tick why) result }
     ensures cause { W.failures writer.new ≡ failures_after (W.failures writer.old) result }
 {
-    let mut line = Line::new(b"invalid ");
+    let mut line = Text::new(b"invalid ");
     line.put_number(tick);
     line.put(b" ");
     line.put(why_line(why).as_slice());

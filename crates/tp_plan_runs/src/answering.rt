@@ -17,10 +17,7 @@ use tp_bounds::PlanNet;
 use tp_device::{Sink, Source};
 use tp_exec::Executive;
 use tp_repair::RepairNet;
-use tp_script::{Lines, serve};
-
-/// The most bytes of a command line.
-const LONGEST: usize = 256;
+use tp_script::{LONGEST_LINE, Lines, serve};
 
 /// Answers the commands of the lines behind the lags, and hands the executive on.
 fn answer_lines<I: Source, O: Sink>(
@@ -67,6 +64,6 @@ pub(crate) fn answer<I: Source + Drop, O: Sink>(
         (greatest_limits network.now.horizon) network.now → CameFrom t steps e) }
     ensures told { O.failures output.new ≡ bare_failures (O.failures output.old) result }
 {
-    let mut lines = Lines::new(alloc, input, LONGEST)?;
+    let mut lines = Lines::new(alloc, input, LONGEST_LINE)?;
     answer_lines(alloc, &mut lines, network, output)
 }

@@ -17,10 +17,7 @@ use tp_exec::Executive;
 use tp_journal::journal;
 use tp_plan_runs::start;
 use tp_repair::RepairNet;
-use tp_script::Lines;
-
-/// The most bytes of a command line.
-const LONGEST: usize = 256;
+use tp_script::{LONGEST_LINE, Lines};
 
 /// Answers the commands of the lines behind the lags, writes their journal to the log, and hands the executive on.
 fn log_lines<I: Source, O: Sink, L: Sink>(
@@ -69,6 +66,6 @@ pub(crate) fn log_run<I: Source + Drop, O: Sink, L: Sink>(
         (greatest_limits network.now.horizon) network.now → CameFrom t steps e) }
     ensures told { O.failures output.new ≡ output_failures (O.failures output.old) result }
 {
-    let mut lines = Lines::new(alloc, input, LONGEST)?;
+    let mut lines = Lines::new(alloc, input, LONGEST_LINE)?;
     log_lines(alloc, &mut lines, network, output, log)
 }

@@ -6,10 +6,11 @@ ghost use Rattle.tp_exec.specs.declared.command.Answer.TheVariants.{Refused, Rep
 ghost use Rattle.tp_exec.specs.declared.refusal.Refusal.TheVariants.{Conflict};
 ghost use Rattle.tp_script.specs.Transcript.{edge_text, kind_text, moment_text, line_of};
 
-use crate::short_text::{Text, write_numbered, write_two_numbers};
+use crate::numbered::{write_numbered, write_two_numbers};
 use tp_bounds::{Edge, Reason};
 use tp_device::{Failed, Sink, push_all};
 use tp_exec::{Answer, Kind, Refusal, Report};
+use tp_short_text::Text;
 
 /// The word of a kind.
 fn kind_word(kind: Kind) -> &'static [u8]

@@ -1,18 +1,20 @@
-//! A short line that is put together before it is written.
+//! Short texts that are put together before they are written.
+#![tactic(auto)]
 
 ghost use Rattle.std.specs.Prelude.{◌≡◌, ℕ, ◌+◌, ◌≤◌, List, ◌++◌, length, take, decimal};
+ghost use Rattle.std.specs.Fmt.{signed_decimal};
 
 use itoa::Buffer;
 use std::marker::Model;
 
 /// At most 64 bytes. Nothing here takes memory.
 #[derive(Drop)]
-pub struct Line {
+pub struct Text {
     bytes: [u8; 64],
     len: usize,
 }
 
-impl Model for Line {
+impl Model for Text {
     ghost Value = { List ℕ };
 
     ghost view = { λ t. take t.len t.bytes };
@@ -20,15 +22,15 @@ impl Model for Line {
     ghost invariant = { λ t. t.len ≤ 64 };
 }
 
-impl Line {
-    /// A line that begins so.
-    pub fn new(first: &[u8]) -> Line
+impl Text {
+    /// A text of its own.
+    pub fn new(first: &[u8]) -> Text
         requires { length first.now ≤ 64 }
         ensures { result ≡ first.now }
     {
         let mut bytes = [0; 64];
         bytes[..first.len()].copy_from_slice(first);
-        Line {
+        Text {
             bytes,
             len: first.len(),
         }
@@ -49,6 +51,16 @@ impl Line {
         requires { length self.old + 10 ≤ 64 }
         ensures text { self.new ≡ self.old ++ decimal n }
         ensures short { length self.new ≤ length self.old + 10 }
+    {
+        let mut buffer = Buffer::new();
+        self.put(buffer.format(n).as_bytes());
+    }
+
+    /// Puts a signed number at the end.
+    pub fn put_signed(&mut self, n: i64)
+        requires { length self.old + 20 ≤ 64 }
+        ensures text { self.new ≡ self.old ++ signed_decimal n }
+        ensures short { length self.new ≤ length self.old + 20 }
     {
         let mut buffer = Buffer::new();
         self.put(buffer.format(n).as_bytes());
