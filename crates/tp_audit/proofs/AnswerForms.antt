@@ -39,7 +39,7 @@ use Rattle.tp_journal.proofs.EdgeTexts.{fits_reason, edge_back, edge_word, gap_n
 use Rattle.tp_audit.specs.declared.form.Asked.TheVariants.{Nothing, Told}
 use Rattle.tp_audit.specs.declared.form.LastByte.{LastByte}
 use Rattle.tp_audit.specs.declared.form.LastByte.TheVariants.{Other}
-use Rattle.tp_audit.specs.Form.{mark_after, is_moment_word, is_edge_word, is_kind_word, is_answer_from, is_reply, has_command, one_command, question_of}
+use Rattle.tp_audit.specs.Form.{last_after, is_moment_word, is_edge_word, is_kind_word, is_answer_from, is_reply, has_command, one_command, question_of}
 use Rattle.tp_audit.proofs.NeatTexts.{Tidy, AllTidy, tidy_neat, tidy_join, tidy_all, tidy_number, number_behind, letter_behind}
 
 reply_of : (text : List ℕ) → Tidy text → is_answer_from (words_of text) ≡ true → is_reply (codes "< " ++ text) ≡ true
@@ -52,7 +52,7 @@ number_word n small = ap words_of (sym (append-nil (decimal n))) ∙ decimal_the
 
 named_form : (n : ℕ) → n < 2 ^ 32 → is_reply (codes "< " ++ answer_text (Named (record { 0 = n }))) ≡ true
 named_form n small =
-    reply_of (codes "bound " ++ decimal n) (tidy_join (codes "bound") (decimal n) (record { mark = Other; reads = refl; ends = refl }) (tidy_number n (omega arith)))
+    reply_of (codes "bound " ++ decimal n) (tidy_join (codes "bound") (decimal n) (record { last = Other; reads = refl; ends = refl }) (tidy_number n (omega arith)))
     (ap is_answer_from (word_then 98 (codes "ound") (32 ∷ decimal n) refl (refl, (refl, (refl, (refl, tt)))) refl ∙ ap (λ (ws : List (List ℕ)). codes "bound" ∷ ws) (number_word n (omega arith)))
     ∙ rw (moment_back n (omega arith)) refl)
 
@@ -66,24 +66,24 @@ window_form : (a b : ℕ) → a ≤ 1_000_000_000 → b ≤ 1_000_000_000 → is
 window_form a b p q =
     ap (λ (xs : List ℕ). is_reply (codes "< " ++ xs)) (window_same a b)
     ∙ reply_of (codes "window " ++ (decimal a ++ 32 ∷ decimal b))
-    (tidy_join (codes "window") (decimal a ++ 32 ∷ decimal b) (record { mark = Other; reads = refl; ends = refl }) (tidy_join (decimal a) (decimal b) (tidy_number a (omega arith)) (tidy_number b (omega arith))))
+    (tidy_join (codes "window") (decimal a ++ 32 ∷ decimal b) (record { last = Other; reads = refl; ends = refl }) (tidy_join (decimal a) (decimal b) (tidy_number a (omega arith)) (tidy_number b (omega arith))))
     (ap is_answer_from (word_then 119 (codes "indow") (32 ∷ (decimal a ++ 32 ∷ decimal b)) refl (refl, (refl, (refl, (refl, (refl, tt))))) refl ∙ ap (λ (ws : List (List ℕ)). codes "window" ∷ ws) (two_words a b (omega arith) (omega arith)))
     ∙ rw (moment_back a (omega arith), moment_back b (omega arith)) refl)
 
 -- ---- edges
 
-letter_plus : (mark : LastByte) → mark_after mark 43 ≡ Some Other
-letter_plus mark = refl
+letter_plus : (last : LastByte) → last_after last 43 ≡ Some Other
+letter_plus last = refl
 
-letter_minus : (mark : LastByte) → mark_after mark 45 ≡ Some Other
-letter_minus mark = refl
+letter_minus : (last : LastByte) → last_after last 45 ≡ Some Other
+letter_minus last = refl
 
-letter_bang : (mark : LastByte) → mark_after mark 33 ≡ Some Other
-letter_bang mark = refl
+letter_bang : (last : LastByte) → last_after last 33 ≡ Some Other
+letter_bang last = refl
 
 edge_tidy : (e : Edge) → Fits_edge e → Tidy (edge_text e)
 edge_tidy (Own id) fit = number_behind id.0 (codes "b") (omega arith) refl
-edge_tidy New fit = record { mark = Other; reads = refl; ends = refl }
+edge_tidy New fit = record { last = Other; reads = refl; ends = refl }
 edge_tidy (PastHigh e) fit = letter_behind (codes "past" ++ decimal e) 43 letter_plus (number_behind e (codes "past") (omega arith) refl)
 edge_tidy (PastLow e) fit = letter_behind (codes "past" ++ decimal e) 45 letter_minus (number_behind e (codes "past") (omega arith) refl)
 edge_tidy (Now e) fit = number_behind e (codes "now") (omega arith) refl
@@ -111,8 +111,8 @@ conflict_words es =
 conflict_form : (P : Edge → Type 0) (reason : Reason) → BeginsWith P reason.edges.items → Fit_edges reason.edges.items → is_reply (codes "< " ++ answer_text (Refused (Conflict reason))) ≡ true
 conflict_form P reason first fit =
     reply_of (codes "refused " ++ (codes "conflict" ++ flat_map (λ e. 32 ∷ edge_text e) reason.edges.items))
-    (tidy_join (codes "refused") (codes "conflict" ++ flat_map (λ e. 32 ∷ edge_text e) reason.edges.items) (record { mark = Other; reads = refl; ends = refl })
-    (tidy_all edge_text (codes "conflict") reason.edges.items (record { mark = Other; reads = refl; ends = refl }) (edges_tidy reason.edges.items fit)))
+    (tidy_join (codes "refused") (codes "conflict" ++ flat_map (λ e. 32 ∷ edge_text e) reason.edges.items) (record { last = Other; reads = refl; ends = refl })
+    (tidy_all edge_text (codes "conflict") reason.edges.items (record { last = Other; reads = refl; ends = refl }) (edges_tidy reason.edges.items fit)))
     (ap is_answer_from (conflict_words reason.edges.items) ∙ rw (some_words P reason.edges.items first fit, edges_form reason.edges.items fit) refl)
 
 -- ---- the moments of a report
@@ -208,9 +208,9 @@ kind_form Kept = refl
 kind_form Altered = refl
 
 kind_tidy : (k : Kind) → Tidy (kind_text k)
-kind_tidy Bare = record { mark = Other; reads = refl; ends = refl }
-kind_tidy Kept = record { mark = Other; reads = refl; ends = refl }
-kind_tidy Altered = record { mark = Other; reads = refl; ends = refl }
+kind_tidy Bare = record { last = Other; reads = refl; ends = refl }
+kind_tidy Kept = record { last = Other; reads = refl; ends = refl }
+kind_tidy Altered = record { last = Other; reads = refl; ends = refl }
 
 report_same : (r : Report) → answer_text (Reported r) ≡ codes "report " ++ (decimal r.now ++ 32 ∷ (kind_text r.kind ++ flat_map moment_text r.moments.items))
 report_same r =
@@ -228,7 +228,7 @@ report_form : (r : Report) → r.now ≤ 1_000_000_000 → AreSoon r.moments.ite
 report_form r le all =
     ap (λ (xs : List ℕ). is_reply (codes "< " ++ xs)) (report_same r)
     ∙ reply_of (codes "report " ++ (decimal r.now ++ 32 ∷ (kind_text r.kind ++ flat_map moment_text r.moments.items)))
-    (tidy_join (codes "report") (decimal r.now ++ 32 ∷ (kind_text r.kind ++ flat_map moment_text r.moments.items)) (record { mark = Other; reads = refl; ends = refl })
+    (tidy_join (codes "report") (decimal r.now ++ 32 ∷ (kind_text r.kind ++ flat_map moment_text r.moments.items)) (record { last = Other; reads = refl; ends = refl })
     (tidy_join (decimal r.now) (kind_text r.kind ++ flat_map moment_text r.moments.items) (tidy_number r.now (omega arith)) (tidy_all moment_word (kind_text r.kind) r.moments.items (kind_tidy r.kind) (moments_tidy r.moments.items all))))
     (ap is_answer_from (report_words r.now r.kind (flat_map moment_text r.moments.items) (omega arith) (gap_moments r.moments.items))
     ∙ rw (moment_back r.now (omega arith), kind_form r.kind, moments_form r.moments.items all) refl)

@@ -74,7 +74,7 @@ head_told e h p q =
 network_told : (e h : ℕ) → e ≤ 1_024 → h ≤ 1_000_000_000 → network_of (codes "network " ++ (decimal e ++ 32 ∷ decimal h)) ≡ Some (e, h)
 network_told e h p q =
     ap (λ t. cond t (serving.head_of (codes "network " ++ (decimal e ++ 32 ∷ decimal h))) None)
-    (tidy_neat (codes "network " ++ (decimal e ++ 32 ∷ decimal h)) (tidy_join (codes "network") (decimal e ++ 32 ∷ decimal h) (record { mark = Other; reads = refl; ends = refl }) (two_tidy e h (omega arith) (omega arith))))
+    (tidy_neat (codes "network " ++ (decimal e ++ 32 ∷ decimal h)) (tidy_join (codes "network") (decimal e ++ 32 ∷ decimal h) (record { last = Other; reads = refl; ends = refl }) (two_tidy e h (omega arith) (omega arith))))
     ∙ (ap head_from (network_words e h (omega arith) (omega arith)) ∙ head_told e h p q)
 
 network_goes : (v e h : ℕ) → e ≤ 1_024 → h ≤ 1_000_000_000 → next_place (Network v) (codes "network " ++ decimal e ++ codes " " ++ decimal h) ≡ Some (Kind v e)
@@ -89,7 +89,7 @@ own_words k p =
 own_told : (k : ℕ) → k ≤ 65_535 → own_count_of (codes "own " ++ decimal k) ≡ Some k
 own_told k p =
     ap (λ t. cond t (own_count_from (words_of (codes "own " ++ decimal k))) None)
-    (tidy_neat (codes "own " ++ decimal k) (tidy_join (codes "own") (decimal k) (record { mark = Other; reads = refl; ends = refl }) (tidy_number k (omega arith))))
+    (tidy_neat (codes "own " ++ decimal k) (tidy_join (codes "own") (decimal k) (record { last = Other; reads = refl; ends = refl }) (tidy_number k (omega arith))))
     ∙ (ap own_count_from (own_words k (omega arith)) ∙ event_back k p)
 
 kind_goes : (v e k : ℕ) → k ≤ 65_535 → next_place (Kind v e) (codes "own " ++ decimal k) ≡ Some (own_place v e 0 k)
@@ -111,7 +111,7 @@ unfolding own_text
 own_same id b = ap (λ (xs : List ℕ). codes "bound " ++ xs) (append_assoc (decimal id) (codes " ") (bound_text b) ∙ ap (λ (xs : List ℕ). decimal id ++ 32 ∷ xs) (bound_same b))
 
 point_tidy : (p : Point) → IsWritablePoint p → Tidy (point_text p)
-point_tidy Origin fit = record { mark = Other; reads = refl; ends = refl }
+point_tidy Origin fit = record { last = Other; reads = refl; ends = refl }
 point_tidy (Event e) fit = tidy_number e (omega arith)
 
 weight_tidy : (z : ℤ) → IsWritableWeight z → Tidy (signed_decimal z)
@@ -144,7 +144,7 @@ own_words_are id b le fit =
 own_tidy : (id : ℕ) (b : Bound) → id ≤ 65_535 → IsWritable b → Tidy (own_text id b)
 unfolding own_text
 own_tidy id b le fit =
-    tidy_join (codes "bound") (decimal id ++ 32 ∷ (point_text b.from ++ 32 ∷ (point_text b.to ++ 32 ∷ signed_decimal b.w))) (record { mark = Other; reads = refl; ends = refl })
+    tidy_join (codes "bound") (decimal id ++ 32 ∷ (point_text b.from ++ 32 ∷ (point_text b.to ++ 32 ∷ signed_decimal b.w))) (record { last = Other; reads = refl; ends = refl })
     (tidy_join (decimal id) (point_text b.from ++ 32 ∷ (point_text b.to ++ 32 ∷ signed_decimal b.w)) (tidy_number id (omega arith))
     (tidy_join (point_text b.from) (point_text b.to ++ 32 ∷ signed_decimal b.w) (point_tidy b.from fit.0)
     (tidy_join (point_text b.to) (signed_decimal b.w) (point_tidy b.to fit.1) (weight_tidy b.w fit.2))))
@@ -238,7 +238,7 @@ lag_words a b p q =
 lag_told : (a b : ℕ) → a ≤ 65_535 → b ≤ 1_000_000_000 → lag_of (codes "lag " ++ (decimal a ++ 32 ∷ decimal b)) ≡ Some (a, b)
 lag_told a b p q =
     ap (λ t. cond t (lag_from (words_of (codes "lag " ++ (decimal a ++ 32 ∷ decimal b)))) None)
-    (tidy_neat (codes "lag " ++ (decimal a ++ 32 ∷ decimal b)) (tidy_join (codes "lag") (decimal a ++ 32 ∷ decimal b) (record { mark = Other; reads = refl; ends = refl }) (two_tidy a b (omega arith) (omega arith))))
+    (tidy_neat (codes "lag " ++ (decimal a ++ 32 ∷ decimal b)) (tidy_join (codes "lag") (decimal a ++ 32 ∷ decimal b) (record { last = Other; reads = refl; ends = refl }) (two_tidy a b (omega arith) (omega arith))))
     ∙ (ap lag_from (lag_words a b (omega arith) (omega arith)) ∙ rw (event_back a p, moment_back b (omega arith)) refl)
 
 may_come : (events least a b : ℕ) → least ≤ a → a < events → 0 < b → b ≤ 1_000_000_000 → may_lag events least (a, b) ≡ true

@@ -33,15 +33,15 @@ space_after Zero = Some Gap
 space_after Digit = Some Gap
 space_after Other = Some Gap
 
-abbrev pub mark_after : LastByte → ℕ → Option LastByte
-mark_after mark b =
-    if nat_eq b 32 then space_after mark else (if nat_eq b 9 || nat_eq b 13 then None else
-    (if is_digit b then digit_after mark b else Some Other))
+abbrev pub last_after : LastByte → ℕ → Option LastByte
+last_after last b =
+    if nat_eq b 32 then space_after last else (if nat_eq b 9 || nat_eq b 13 then None else
+    (if is_digit b then digit_after last b else Some Other))
 
 -- the last byte of a text, if each byte of it may follow the one before
-abbrev pub marks_of : LastByte → List ℕ → Option LastByte
-marks_of mark [] = Some mark
-marks_of mark (b ∷ bs) = option_and_then (λ next. marks_of next bs) (mark_after mark b)
+abbrev pub last_of : LastByte → List ℕ → Option LastByte
+last_of last [] = Some last
+last_of last (b ∷ bs) = option_and_then (λ next. last_of next bs) (last_after last b)
 
 abbrev pub ends_word : Option LastByte → Bool
 ends_word None = false
@@ -52,7 +52,7 @@ ends_word (Some Other) = true
 
 -- the text is words with one space between, and no number in it has a leading zero
 abbrev pub is_neat : List ℕ → Bool
-is_neat text = ends_word (marks_of Gap text)
+is_neat text = ends_word (last_of Gap text)
 
 -- ---- the lines of a head
 

@@ -6,7 +6,7 @@ ghost use Rattle.std.specs.Option.{option_and_then};
 ghost use Rattle.tp_script.specs.Words.{words_of};
 ghost use Rattle.tp_script.specs.Commands.{moment_of, point_of, weight_of, list_is_empty};
 ghost use Rattle.tp_journal.specs.Edges.{begins};
-ghost use Rattle.tp_audit.specs.Form.{mark_after, is_neat, version_of, network_of, own_count_of, is_number, are_ends, is_own_line, lag_of, has_command, is_moment_word, is_edge_word, is_refusal_word, is_kind_word, is_moment_alone, is_window_from, is_kind_and, is_report_from, is_refusal_from, is_answer_from, is_reply, own_place, may_lag, lag_place, kind_place, one_command, question_of, head_place};
+ghost use Rattle.tp_audit.specs.Form.{last_after, is_neat, version_of, network_of, own_count_of, is_number, are_ends, is_own_line, lag_of, has_command, is_moment_word, is_edge_word, is_refusal_word, is_kind_word, is_moment_alone, is_window_from, is_kind_and, is_report_from, is_refusal_from, is_answer_from, is_reply, own_place, may_lag, lag_place, kind_place, one_command, question_of, head_place};
 
 use std::alloc::{AllocError, Global};
 use tp_bounds::MOST_LAG;
@@ -59,11 +59,11 @@ enum LastByte {
 
 /// What the next byte is, if it may follow: a space follows no space and no blank is another byte,
 /// and no digit follows a zero with which a number begins.
-fn mark_after(mark: LastByte, b: u8) -> Option<LastByte>
-    ensures { result ≡ mark_after mark b }
+fn last_after(last: LastByte, b: u8) -> Option<LastByte>
+    ensures { result ≡ last_after last b }
 {
     if b == b' ' {
-        return match mark {
+        return match last {
             LastByte::Gap => None,
             _ => Some(LastByte::Gap),
         };
@@ -74,7 +74,7 @@ fn mark_after(mark: LastByte, b: u8) -> Option<LastByte>
     if b < b'0' || b'9' < b {
         return Some(LastByte::Other);
     }
-    match mark {
+    match last {
         LastByte::Zero => None,
         LastByte::Digit => Some(LastByte::Digit),
         _ => {
@@ -91,14 +91,14 @@ fn mark_after(mark: LastByte, b: u8) -> Option<LastByte>
 fn is_neat(text: &[u8]) -> bool
     ensures { result ≡ is_neat text.now }
 {
-    let mut mark = LastByte::Gap;
+    let mut last = LastByte::Gap;
     for b in text {
-        let Some(next) = mark_after(mark, *b) else {
+        let Some(next) = last_after(last, *b) else {
             return false;
         };
-        mark = next;
+        last = next;
     }
-    !matches!(mark, LastByte::Gap)
+    !matches!(last, LastByte::Gap)
 }
 
 /// The version that line 1 names.
