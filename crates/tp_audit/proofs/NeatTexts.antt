@@ -7,26 +7,26 @@ use Rattle.std.proofs.lemmas.Bool.Decides.{nat_tests}
 use Rattle.tp_script.specs.Words.{is_digit}
 use Rattle.tp_audit.specs.declared.form.LastByte.{LastByte}
 use Rattle.tp_audit.specs.declared.form.LastByte.TheVariants.{Gap, Zero, Digit, Other}
-use Rattle.tp_audit.specs.Form.{digit_after, last_after, last_of, ends_word, is_neat}
+use Rattle.tp_audit.specs.Form.{digit_after, last_after, last_byte_of, ends_word, is_neat}
 
 -- the text is words with one space between, and ends with one
 pub record Tidy (xs : List ℕ) : Type 0 where
   pub last : LastByte
-  pub reads : last_of Gap xs ≡ Some last
+  pub reads : last_byte_of Gap xs ≡ Some last
   pub ends : ends_word (Some last) ≡ true
 
 pub tidy_neat : (xs : List ℕ) → Tidy xs → is_neat xs ≡ true
 tidy_neat xs t = ap ends_word t.reads ∙ t.ends
 
-pub last_more : (last : LastByte) (xs ys : List ℕ) → last_of last (xs ++ ys) ≡ option_and_then (λ k. last_of k ys) (last_of last xs)
+pub last_more : (last : LastByte) (xs ys : List ℕ) → last_byte_of last (xs ++ ys) ≡ option_and_then (λ k. last_byte_of k ys) (last_byte_of last xs)
 last_more last [] ys = refl
 last_more last (x ∷ xs) ys = by_next (last_after last x) (λ next. last_more next xs ys)
   where
-    by_next : (o : Option LastByte) → ((next : LastByte) → last_of next (xs ++ ys) ≡ option_and_then (λ k. last_of k ys) (last_of next xs)) → option_and_then (λ next. last_of next (xs ++ ys)) o ≡ option_and_then (λ k. last_of k ys) (option_and_then (λ next. last_of next xs) o)
+    by_next : (o : Option LastByte) → ((next : LastByte) → last_byte_of next (xs ++ ys) ≡ option_and_then (λ k. last_byte_of k ys) (last_byte_of next xs)) → option_and_then (λ next. last_byte_of next (xs ++ ys)) o ≡ option_and_then (λ k. last_byte_of k ys) (option_and_then (λ next. last_byte_of next xs) o)
     by_next None h = refl
     by_next (Some next) h = h next
 
-space_ends : (last : LastByte) (ys : List ℕ) → ends_word (Some last) ≡ true → last_of last (32 ∷ ys) ≡ last_of Gap ys
+space_ends : (last : LastByte) (ys : List ℕ) → ends_word (Some last) ≡ true → last_byte_of last (32 ∷ ys) ≡ last_byte_of Gap ys
 space_ends Gap ys h = absurd (let f : ⊥ = cc in f)
 space_ends Zero ys h = refl
 space_ends Digit ys h = refl
@@ -38,7 +38,7 @@ pub tidy_join : (xs ys : List ℕ) → Tidy xs → Tidy ys → Tidy (xs ++ 32 �
 tidy_join xs ys t u =
     record {
       last = u.last;
-      reads = last_more Gap xs (32 ∷ ys) ∙ (ap (option_and_then (λ k. last_of k (32 ∷ ys))) t.reads ∙ (space_ends t.last ys t.ends ∙ u.reads));
+      reads = last_more Gap xs (32 ∷ ys) ∙ (ap (option_and_then (λ k. last_byte_of k (32 ∷ ys))) t.reads ∙ (space_ends t.last ys t.ends ∙ u.reads));
       ends = u.ends;
     }
 
@@ -75,7 +75,7 @@ first_digit (suc d) =
     rw (a, b) refl
 
 abbrev Reads : ℕ → List ℕ → Type 0
-Reads n ds = (last_of Gap ds ≡ Some (number_last n)) × (last_of Other ds ≡ Some (number_last n))
+Reads n ds = (last_byte_of Gap ds ≡ Some (number_last n)) × (last_byte_of Other ds ≡ Some (number_last n))
 
 one_digit : (n : ℕ) → n < 10 → Reads n ((48 + n) ∷ [])
 one_digit n lt =
@@ -84,10 +84,10 @@ one_digit n lt =
 longer : (n : ℕ) → 0 < n → number_last n ≡ Digit
 longer n lt = let a : nat_eq n 0 ≡ false = grind (arith, nat_tests) in rw a refl
 
-digit_more : (last : LastByte) (n d : ℕ) (ds : List ℕ) → 0 < n → d < 10 → last_of last ds ≡ Some (number_last n) → last_of last (ds ++ (48 + d) ∷ []) ≡ Some Digit
+digit_more : (last : LastByte) (n d : ℕ) (ds : List ℕ) → 0 < n → d < 10 → last_byte_of last ds ≡ Some (number_last n) → last_byte_of last (ds ++ (48 + d) ∷ []) ≡ Some Digit
 digit_more last n d ds some lt h =
     last_more last ds ((48 + d) ∷ [])
-    ∙ (ap (option_and_then (λ k. last_of k ((48 + d) ∷ []))) (h ∙ ap Some (longer n some))
+    ∙ (ap (option_and_then (λ k. last_byte_of k ((48 + d) ∷ []))) (h ∙ ap Some (longer n some))
     ∙ ap (option_and_then (λ k. Some k)) (digit_last Digit d lt))
 
 more_digits : (n : ℕ) (ds : List ℕ) → 10 ≤ n → Reads (n / 10) ds → Reads n (ds ++ (48 + n % 10) ∷ [])
@@ -103,11 +103,11 @@ pub tidy_number : (n : ℕ) → n < 2 ^ 64 → Tidy (decimal n)
 tidy_number n small = record { last = number_last n; reads = (digits_read n small).0; ends = ends_by (nat_eq n 0) }
 
 -- a number behind letters
-pub number_behind : (n : ℕ) (xs : List ℕ) → n < 2 ^ 64 → last_of Gap xs ≡ Some Other → Tidy (xs ++ decimal n)
+pub number_behind : (n : ℕ) (xs : List ℕ) → n < 2 ^ 64 → last_byte_of Gap xs ≡ Some Other → Tidy (xs ++ decimal n)
 number_behind n xs small is =
     record {
       last = number_last n;
-      reads = last_more Gap xs (decimal n) ∙ (ap (option_and_then (λ k. last_of k (decimal n))) is ∙ (digits_read n small).1);
+      reads = last_more Gap xs (decimal n) ∙ (ap (option_and_then (λ k. last_byte_of k (decimal n))) is ∙ (digits_read n small).1);
       ends = ends_by (nat_eq n 0);
     }
 
@@ -116,6 +116,6 @@ pub letter_behind : (xs : List ℕ) (b : ℕ) → ((last : LastByte) → last_af
 letter_behind xs b is t =
     record {
       last = Other;
-      reads = last_more Gap xs (b ∷ []) ∙ (ap (option_and_then (λ k. last_of k (b ∷ []))) t.reads ∙ ap (option_and_then (λ k. Some k)) (is t.last));
+      reads = last_more Gap xs (b ∷ []) ∙ (ap (option_and_then (λ k. last_byte_of k (b ∷ []))) t.reads ∙ ap (option_and_then (λ k. Some k)) (is t.last));
       ends = refl;
     }

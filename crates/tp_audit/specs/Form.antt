@@ -39,9 +39,9 @@ last_after last b =
     (if is_digit b then digit_after last b else Some Other))
 
 -- the last byte of a text, if each byte of it may follow the one before
-abbrev pub last_of : LastByte → List ℕ → Option LastByte
-last_of last [] = Some last
-last_of last (b ∷ bs) = option_and_then (λ next. last_of next bs) (last_after last b)
+abbrev pub last_byte_of : LastByte → List ℕ → Option LastByte
+last_byte_of last [] = Some last
+last_byte_of last (b ∷ bs) = option_and_then (λ next. last_byte_of next bs) (last_after last b)
 
 abbrev pub ends_word : Option LastByte → Bool
 ends_word None = false
@@ -52,7 +52,7 @@ ends_word (Some Other) = true
 
 -- the text is words with one space between, and no number in it has a leading zero
 abbrev pub is_neat : List ℕ → Bool
-is_neat text = ends_word (last_of Gap text)
+is_neat text = ends_word (last_byte_of Gap text)
 
 -- ---- the lines of a head
 
