@@ -8,9 +8,16 @@ use std::test::Fail;
 use tp_ground::{Body, Comparison, Cond, Expr, Limit, Task};
 use tp_happen::{Range, State, compares, holds, rule_defined, value};
 
-/// A condition on the fluent without a value, and its negation.
+/// A condition on the fluent without a value.
+fn undefined(alloc: Global) -> Result<Cond, AllocError> {
+    let fluent = Box::new(alloc, Expr::Fluent(2)).map_err(AllocError::from)?;
+    let three = Box::new(alloc, Expr::Number(3)).map_err(AllocError::from)?;
+    Ok(Cond::Compare(Comparison::AtMost, fluent, three))
+}
+
+/// That condition and its negation.
 fn undefined_fail(alloc: Global, state: &State) -> Result<bool, AllocError> {
-    let undefined = Cond::Compare(Comparison::AtMost, Expr::Fluent(2), Expr::Number(3));
+    let undefined = undefined(alloc)?;
     let fails = holds(state, &undefined) == Ok(false);
     let negated = Cond::Not(Box::new(alloc, undefined).map_err(AllocError::from)?);
     Ok(fails && holds(state, &negated) == Ok(false))
