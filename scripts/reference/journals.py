@@ -91,7 +91,7 @@ class Machine:
         return found
 
     def spread(self, edges, back=False):
-        """How far each point is from the origin at most, or with `back` to it; or a circle of edges below 0."""
+        """How far each point is from the origin at most, or with `back` to it; or a negative cycle of edges."""
         far, by = {ORIGIN: 0}, {}
         rows = [(name, *((b, a) if back else (a, b)), w) for name, (a, b, w) in edges.items()]
         for _ in range(self.events + 2):
@@ -103,13 +103,13 @@ class Machine:
                 return far, None
         for _ in range(self.events + 2):
             moved = by[moved][1]
-        circle, at = [], moved
+        cycle, at = [], moved
         while True:
             name, at = by[at]
-            circle.append(name)
+            cycle.append(name)
             if at == moved:
                 break
-        return None, circle if back else circle[::-1]
+        return None, cycle if back else cycle[::-1]
 
     def would(self, command):
         """The setting that would be, as arguments of `edges`, and the edges that the command brings."""
@@ -124,7 +124,7 @@ class Machine:
         return {}, set()
 
     def refusal(self, command):
-        """The first refusal that applies, but for those for want of memory and for a conflict."""
+        """The first refusal that applies, but for out of memory and a conflict."""
         name, *words = command
         if name == "add" and any(p != ORIGIN and p >= self.events for p in words[:2]):
             return "event"
@@ -151,14 +151,14 @@ class Machine:
         setting, brought = self.would(command)
         if not setting:
             return None
-        circle = self.spread(self.edges(**setting))[1]
-        if circle is None:
+        cycle = self.spread(self.edges(**setting))[1]
+        if cycle is None:
             return None
-        begin = next(at for at, name in enumerate(circle) if name in brought)
-        return circle[begin:] + circle[:begin]
+        begin = next(at for at, name in enumerate(cycle) if name in brought)
+        return cycle[begin:] + cycle[:begin]
 
     def is_reason(self, command, reason):
-        """Whether these edges are a circle below 0 of the setting that would be, begin with one that is brought, and pass no point twice."""
+        """Whether these edges are a negative cycle of the setting that would be, begin with one that is brought, and pass no point twice."""
         setting, brought = self.would(command)
         edges = self.edges(**setting)
         if not setting or not reason or reason[0] not in brought or any(name not in edges for name in reason):

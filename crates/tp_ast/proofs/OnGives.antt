@@ -4,7 +4,7 @@ use Rattle.tp_ast.specs.Gives.{◌>>=◌, Fails, Gives, IsKept, with_front}
 use Rattle.tp_ast.specs.declared.fault.SyntaxFault.{SyntaxFault}
 use Rattle.tp_ast.specs.declared.fault.SyntaxFault.TheVariants as faults
 
--- a fault that is not for want of memory says that nothing is spelled
+-- a fault other than out of memory says that nothing is spelled
 pub fails_with : {A : Type 0} (e : SyntaxFault) (o : Option A) → o ≡ None → Fails e o
 fails_with faults.Memory o h = tt
 fails_with (faults.Text t) o h = h

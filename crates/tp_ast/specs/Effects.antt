@@ -1,4 +1,4 @@
--- Effects, timed conditions and effects, and rules of durations.
+-- Effects, timed conditions and effects, and duration constraints.
 use Rattle.std.specs.Prelude.{ℕ, List, [], ◌∷◌, Bool, true, false, codes, Option, Some, None, option_map}
 use Rattle.tp_text.specs.Shapes.{Shape, leaf, node, Shapes, no_shapes, shape}
 use Rattle.tp_ast.specs.Gives.{◌>>=◌, provided}
@@ -63,7 +63,7 @@ Effect = Joined SimpleEffect
 abbrev pub effect_of : Symbols → Bool → List Declared → Shape → Option Effect
 effect_of σ duration scope s = joined_of σ.types (simple_effect_of σ duration) scope s
 
--- what stands at its moments
+-- something with its time specifier
 pub record Timed (A : Type 0) : Type 0 where
   pub specifier : TimeSpecifier
   pub what : A

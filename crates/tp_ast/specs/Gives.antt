@@ -11,12 +11,12 @@ None >>= f = None
 abbrev pub provided : {A : Type 0} → Bool → A → Option A
 provided b x = if b then Some x else None
 
--- a refusal for want of memory says nothing
+-- out of memory says nothing
 abbrev pub Fails : {Y : Type 0} → SyntaxFault → Option Y → Type 0
 Fails faults.Memory read = Unit {0}
 Fails _ read = read ≡ None
 
--- want of memory stays what it is
+-- out of memory stays what it is
 abbrev pub IsKept : SyntaxFault → SyntaxFault → Type 0
 IsKept faults.Memory e = e ≡ faults.Memory
 IsKept _ e = Unit {0}

@@ -11,12 +11,12 @@ use Rattle.tp_ast.specs.declared.fault.SyntaxFault.TheVariants as faults
 abbrev pub SpellsNone : {Y : Type 0} → (Shape → Option Y) → List ℕ → Type 0
 SpellsNone {Y} meaning text = (s : Shape) (y : Y) → Spells text s → meaning s ≡ Some y → ⊥
 
--- a text that is no tree; want of memory is a fault of its own
+-- a text that is no tree; out of memory is a fault of its own
 abbrev pub IsNoText : List ℕ → TextFault → Type 0
 IsNoText text text_faults.Memory = ⊥
 IsNoText text f = IsRefused text f
 
--- Want of memory says nothing. Other faults than those of texts come only where no meaning is spelled.
+-- Out of memory says nothing. Other faults than those of texts come only where no meaning is spelled.
 abbrev pub IsRefusedAs : {Y : Type 0} → (Shape → Option Y) → List ℕ → SyntaxFault → Type 0
 IsRefusedAs meaning text faults.Memory = Unit {0}
 IsRefusedAs meaning text (faults.Text f) = IsNoText text f

@@ -64,7 +64,7 @@ joint_of w =
     else (if is_word (codes "forall") w then joints.TheVariants.Forall
     else joints.TheVariants.One)
 
--- of a rule of durations
+-- of a duration constraint
 unfoldable pub rule_form_of : List ℕ → rule_forms.RuleForm
 rule_form_of w =
     if is_word (codes "and") w then rule_forms.TheVariants.And

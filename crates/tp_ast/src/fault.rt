@@ -17,7 +17,7 @@ pub enum LeftOutPart {
     ScaleDown,
     /// A number with a fraction, or one that does not fit.
     Number,
-    /// `at end` in a rule of durations.
+    /// `at end` in a duration constraint.
     AtEndDuration,
     /// `?duration` in a condition.
     DurationInCondition,

@@ -1,4 +1,4 @@
-//! Conditions and effects at the moments of a durative action.
+//! Conditions and effects at the time specifiers of a durative action.
 
 use crate::cond::Cond;
 use crate::effect::Effect;

@@ -52,7 +52,7 @@ pub enum Joint {
     One,
 }
 
-/// Of rules of durations.
+/// Of duration constraints.
 #[derive(Clone, Copy, Debug, PartialEq, Eq)]
 pub enum RuleForm {
     And,
@@ -70,7 +70,7 @@ pub enum Comparison {
     More,
 }
 
-/// How a fluent gets its new value.
+/// The assignment operator of a numeric effect.
 #[derive(Clone, Copy, Debug, PartialEq, Eq)]
 pub enum Writing {
     Assign,

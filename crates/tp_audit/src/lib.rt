@@ -1,10 +1,10 @@
 //! The audit of journals, and the reading of their heads.
 //!
 //! - `form`: which lines may stand where in a journal, whatever executive it is of.
-//! - `faults`: what audits answer.
-//! - `auditing`: the audit of a whole journal.
-//! - `laws`: what holds of what a journal writes.
 //! - `telling`: the head of a journal, as its lines tell it.
+//! - `auditing`: the audit of a whole journal.
+//! - `faults`: what audits answer.
+//! - `laws`: what holds of what a journal writes.
 #![tactic(auto)]
 
 mod auditing;

@@ -158,7 +158,7 @@ impl Limits {
         self.actions
     }
 
-    /// The most states that a search expands.
+    /// The most nodes that a search expands.
     pub fn expansions(&self) -> u32
         ensures { result ≡ self.now.expansions }
     {

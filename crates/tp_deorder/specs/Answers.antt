@@ -19,7 +19,7 @@ use Rattle.tp_deorder.specs.declared.DeorderFault.TheVariants.{Memory, TooMany}
 use Rattle.tp_deorder.specs.EventTexts.{event_lines}
 use Rattle.tp_deorder.specs.Inequalities.{event_count_of, bound_count}
 
--- a fact of the fault, if it is not want of memory
+-- a fact of the fault, if it is not out of memory
 abbrev pub OnTooMany : DeorderFault → Type 0 → Type 0
 OnTooMany Memory P = Unit {0}
 OnTooMany TooMany P = P

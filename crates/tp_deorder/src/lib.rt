@@ -1,7 +1,7 @@
 //! Deordering: the network of all schedules of a validated plan.
 //!
 //! - `walk`: how many ticks each step may take, by the states that the plan's run goes through
-//! - `spans`: how many ticks a duration rule allows in a state
+//! - `spans`: how many ticks a duration constraint allows in a state
 //! - `orders`: bounds that keep the order of interfering events
 //! - `invariants`: bounds that keep what writes into an invariant in its place
 //! - `steps`: bounds that keep the steps' lengths and their invariants

@@ -54,7 +54,7 @@ fn networks_of_the_small_worlds(rt: HostRuntime) -> Result<(), Fail> {
              bound 0 1 0 -1\nbound 1 2 0 0\nbound 2 1 2 0\nbound 3 3 0 0\nbound 4 1 3 0\n\
              bound 5 3 2 0\nbound 6 2 3 0\n",
         ),
-        // An effect that mentions the duration keeps it; another leaves what the rule allows.
+        // An effect that mentions the duration keeps it; another leaves what the duration constraint allows.
         (
             CHARGES,
             "0: (charge) [4]",

@@ -39,7 +39,7 @@ fn narrowed(allowed: Allowed, how: Comparison, ticks: i64) -> Allowed {
     }
 }
 
-// What a rule allows, None where one of its values is missing.
+// What a duration constraint allows, None where one of its values is missing.
 fn allowed_by(
     forms: &Forms<'_>,
     own: &Own,
@@ -72,7 +72,7 @@ fn rounded(ticks: u32, unit: u32) -> u32 {
     }
 }
 
-/// The least lawful duration of a rule, in ticks; a multiple of the unit where it is to be one. None where there is none,
+/// The least lawful duration, in ticks; a multiple of the unit where it is to be one. None where there is none,
 /// or only past 32 bits.
 pub fn least_duration(
     forms: &Forms<'_>,

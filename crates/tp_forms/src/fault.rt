@@ -3,7 +3,7 @@
 use std::alloc::AllocError;
 use thiserror::Error;
 
-/// Want of memory, or a number past 10^15 in absolute value.
+/// Out of memory, or a number past 10^15 in absolute value.
 #[derive(Clone, Copy, Debug, PartialEq, Eq, Error)]
 pub enum SeekFault {
     #[error("out of memory")]

@@ -42,8 +42,8 @@ impl Form {
     }
 }
 
-/// An event. `reads` are the fluents of its condition, right sides and duration rule; `needs` those of its right sides
-/// and rule, and those that it changes by what they were.
+/// An event. `reads` are the fluents of its condition, right sides and duration constraint; `needs` those of its right
+/// sides and duration constraint, and those that it changes by what they were.
 #[derive(Clone, Copy)]
 pub struct Deed<'t> {
     pub event: &'t GroundEvent,
@@ -327,7 +327,7 @@ impl<'t> Forms<'t> {
         Ok(())
     }
 
-    // The fluents of right sides and rule, behind those of the condition.
+    // The fluents of right sides and duration constraint, behind those of the condition.
     fn add_reads(&mut self, event: &GroundEvent, at: u32) -> Result<Span, AllocError> {
         for w in &event.writes {
             self.push_fluents(&w.value)?;
@@ -338,7 +338,7 @@ impl<'t> Forms<'t> {
         Ok(self.since(at))
     }
 
-    // The fluents that are changed by what they were, behind those of right sides and rule.
+    // The fluents that are changed by what they were, behind those of right sides and duration constraint.
     fn add_needs(&mut self, event: &GroundEvent, condition: Span) -> Result<Span, AllocError> {
         for w in &event.writes {
             if changes(w.change) {
@@ -547,7 +547,7 @@ impl<'t> Forms<'t> {
         Ok(true)
     }
 
-    /// Whether all that an event's effects and rule read has a value.
+    /// Whether all that an event's effects and duration constraint read has a value.
     pub fn is_defined(&self, own: &Own, deed: &Deed<'_>, units: Option<i64>) -> bool {
         (units.is_some() || !deed.timed)
             && self

@@ -7,7 +7,7 @@
 //! - `marks`: what the events of a tick mention, change, read and write
 //! - `effects`: what an event does
 //! - `durations`: the least lawful duration
-//! - `fault`: want of memory, or a number out of range
+//! - `fault`: out of memory, or a number out of range
 #![tactic(auto)]
 
 mod durations;

@@ -1,4 +1,4 @@
--- Parts and rules: those of a list, one after another.
+-- Parts and duration constraints: those of a list, one after another.
 use Rattle.std.proofs.Common.{◌≡◌, List, [], ◌∷◌, ◌++◌, map, Bool, true, if◌then◌else◌, Vec, Box, Global, refl, sym, ap, ◌∙◌, rules}
 use Rattle.std.specs.List.{flat_map}
 use Rattle.std.proofs.lemmas.List.Concat.{flat_map-cons}

@@ -20,7 +20,7 @@ use Rattle.tp_ground.proofs.Run.{moved, Moves, moved_trace, moved_run, same_atom
 use Rattle.tp_ground.proofs.Numbered.{in_left, in_right, rising_from, one_number, when_of, ticks_of, ticks_kept, retimed_events}
 use Rattle.std.proofs.lemmas.Bool.Decides.{nat_tests}
 
--- a rule that reads the same holds for the same durations
+-- a duration constraint that reads the same holds for the same durations
 lawful_same : (scale : ℕ) (s s' : State) (ls : List Limit) (n : ℕ) → SameNumbers s s' (flat_map (λ l. fluents_of l.value) ls) → IsLawful scale s ls n → IsLawful scale s' ls n
 lawful_same scale s s' ls n h k = record { tick = k.tick; rule_holds = go ls h k.rule_holds }
   where

@@ -216,6 +216,6 @@ module _ (scale : ℕ) (initial : State) (es : List Placed) (trace : ℕ → Sta
   pub same_number : (f u m : ℕ) → ((x : Placed) → In x es → has (fluents_written x.timed.event) f ≡ true → (old x < u → when x < m) × (when x < m → old x < u)) → (trace u).number f ≡ (new m).number f
   same_number f u m g = same_value (numbers_of f) old when u m _ _ (ordered_numbers f) g (old_number f u) ((known m).1 f)
 
-  -- an event's duration rule is read as before
+  -- an event's duration constraint is read as before
   pub rule_as_before : (e : Placed) → In e es → SameNumbers (trace (old e)) (new (when e)) (flat_map (λ l. fluents_of l.value) e.timed.event.rule.items)
   rule_as_before e i = found_rule e i (known (when e))

@@ -21,7 +21,7 @@ is_additive ScaleUp = false
 is_additive Increase = true
 is_additive Decrease = true
 
--- The fluents that an event's condition, right sides and duration rule mention.
+-- The fluents that an event's condition, right sides and duration constraint mention.
 abbrev pub fluents_read : GroundEvent → List ℕ
 fluents_read e =
     fluents_in e.condition ++ flat_map (λ w. fluents_of w.value) e.writes.items

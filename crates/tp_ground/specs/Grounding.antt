@@ -60,7 +60,7 @@ pub record IsTask (limits : RunLimits) (scale : Scale) (d : Domain) (p : Problem
   pub initial_numbers :
       t.initial_numbers.items ≡ map (initial_value (map initial_in p.initial)) t.numbering.fluents
 
--- Why a problem has no task within the limits. Want of memory says nothing.
+-- Why a problem has no task within the limits. Out of memory says nothing.
 abbrev pub HasNoTask : RunLimits → Domain → Problem → GroundFault → Type 0
 HasNoTask limits d p faults.Memory = Unit {0}
 HasNoTask limits d p (faults.TooMany kinds.Objects) = 65_535 < length (d.constants ++ p.objects)

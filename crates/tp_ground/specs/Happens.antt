@@ -74,7 +74,8 @@ is_assign ScaleUp = false
 is_assign Increase = false
 is_assign Decrease = false
 
--- The right sides, the duration rule and the fluents that `increase`, `decrease` and `scale-up` change have values.
+-- The right sides, the duration constraint and the fluents that `increase`, `decrease` and `scale-up` change have
+-- values.
 abbrev pub is_defined : ℕ → State → Timed → Bool
 is_defined scale s t =
     list_all (λ w. is_some (value s (units scale t.ticks) w.value)

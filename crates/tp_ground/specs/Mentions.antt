@@ -62,7 +62,7 @@ abbrev pub of_each : {X : Type 0} → (X → Mentions) → List X → Mentions
 of_each of [] = nothing
 of_each of (x ∷ xs) = of x then of_each of xs
 
--- Of an event: its condition, its simple effects in their order, and for a start the rule.
+-- Of an event: its condition, its simple effects in their order, and for a start the duration constraint.
 abbrev pub of_instant : Universe → Env → Condition → Effect → Mentions
 of_instant u env c e =
     of_condition (condition_in u env c) then of_each of_simple_effect (simple_effects_in u env e)

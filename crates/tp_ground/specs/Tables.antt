@@ -35,7 +35,7 @@ with_actions t actions =
 abbrev pub words_at : List Words → ℕ → Words
 words_at ws i = slice_index_or ws i []
 
--- Why these atoms and fluents cannot all be numbered: there are more than so many. Want of memory says nothing.
+-- Why these atoms and fluents cannot all be numbered: there are more than so many. Out of memory says nothing.
 abbrev pub CannotNumber : ℕ → List Words → List Words → GroundFault → Type 0
 CannotNumber most atoms fluents faults.Memory = Unit {0}
 CannotNumber most atoms fluents (faults.TooMany kinds.Atoms) = most < length atoms

@@ -65,7 +65,7 @@ events plan = events_from 0 plan
 abbrev pub at : ℕ → List Placed → List Timed
 at m es = map (λ e. e.timed) (filter (λ e. e.moment == m) es)
 
--- A duration is lawful: it is at least a tick, and each comparison of the rule holds for it.
+-- A duration is lawful: it is at least a tick, and each comparison of the duration constraint holds for it.
 pub record IsLawful (scale : ℕ) (s : State) (rule : List Limit) (ticks : ℕ) : Type 0 where
   pub tick : 1 ≤ ticks
   pub rule_holds :

@@ -27,7 +27,8 @@ states scale initial es (suc m) =
       number = number_after scale (states scale initial es m) (at m es);
     }
 
--- A step's rule has values and its duration isn't lawful; an invariant that runs past a moment doesn't hold after it.
+-- A step's duration constraint has values and its duration isn't lawful; an invariant that runs past a moment doesn't
+-- hold after it.
 abbrev pub is_unlawful : ℕ → State → ℕ → Body → Bool
 is_unlawful scale s ticks (Instant e) = false
 is_unlawful scale s ticks (Durative start end invariant) =

@@ -68,7 +68,7 @@ pub record GroundLimit : Type 0 where
   pub how : Comparison
   pub value : GroundExpression
 
--- what is asked and what is done at one moment; a start has its action's rule of durations
+-- what is asked and what is done at one moment; a start has its action's duration constraint
 pub record GroundHappening : Type 0 where
   pub condition : GroundCondition
   pub adds : List Words
@@ -198,7 +198,7 @@ written (adds w ∷ os) = written os
 written (deletes w ∷ os) = written os
 written (writes w ∷ os) = w ∷ written os
 
--- ---- conditions and effects of a durative action, at one of its marks
+-- ---- conditions and effects of a durative action, at one time specifier
 
 abbrev pub mark_number : TimeSpecifier → ℕ
 mark_number AtStart = 0
@@ -224,7 +224,7 @@ condition_at u m env c = all_of (conditions_from (conjuncts_at u m env c))
 abbrev pub simple_effects_at : Universe → TimeSpecifier → Env → Joined (Timed Effect) → List GroundEffect
 simple_effects_at u m env e = parts_in u (simple_effects_part u m) env e
 
--- ---- rules of durations
+-- ---- duration constraints
 
 abbrev mutual
   pub limits_in : Env → Rule → List GroundLimit

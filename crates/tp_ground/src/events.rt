@@ -32,7 +32,7 @@ pub enum Cond {
     Or(Vec<Cond>),
 }
 
-/// What a write does to its fluent.
+/// The assignment operator of a numeric effect.
 #[derive(Clone, Copy)]
 pub enum Change {
     Assign,
@@ -49,7 +49,7 @@ pub struct NumericEffect {
     pub value: Expr,
 }
 
-/// One comparison of a duration rule.
+/// One comparison of a duration constraint.
 #[derive(Drop)]
 pub struct Limit {
     pub how: Comparison,
@@ -63,7 +63,7 @@ pub struct GroundEvent {
     pub adds: Vec<u32>,
     pub deletes: Vec<u32>,
     pub writes: Vec<NumericEffect>,
-    /// For a start, the action's duration rule, else empty.
+    /// For a start, the action's duration constraint, else empty.
     pub rule: Vec<Limit>,
 }
 

@@ -6,7 +6,7 @@ ghost use Rattle.tp_ground.specs.declared.fault.GroundFault.TheVariants.{Memory}
 use std::alloc::{AllocError, AllocFailed};
 use thiserror::Error;
 
-/// Of what there is too much.
+/// The kind of thing of which a problem has more than the limits allow.
 #[derive(Clone, Copy, Debug, PartialEq, Eq)]
 pub enum TooManyKind {
     Objects,
@@ -15,7 +15,7 @@ pub enum TooManyKind {
     Actions,
 }
 
-/// What keeps a problem from being written out.
+/// What keeps a problem from being grounded.
 #[derive(Clone, Copy, Debug, PartialEq, Eq, Error)]
 pub enum GroundFault {
     /// Out of memory.

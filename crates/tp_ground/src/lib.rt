@@ -3,7 +3,7 @@
 //! - `events`, `task`: conditions, expressions, effects, events and tasks as data; `laws`: what holds of their plans
 //! - `objects`, `universe`, `noting`, `rows`: the objects, what variables may stand for, and their bindings
 //! - `lookup`, `guesses`, `numbering`: names, atoms and fluents by number
-//! - `environment`, `lowering`: conditions, expressions, effects and bodies under a binding
+//! - `environment`, `lowering`: conditions, expressions, effects and bodies grounded under a binding
 //! - `numbers`, `beginning`, `grounding`, `grounder`: numbers past the limit, the initial state, all ground actions, the task
 //! - `fault`: why a problem has none
 #![tactic(auto)]

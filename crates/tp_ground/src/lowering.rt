@@ -1,4 +1,5 @@
-//! Conditions, expressions, effects and bodies over numbers, written out over the objects.
+//! The grounding of conditions, expressions, effects and bodies: quantifiers expanded over the objects, atoms and
+//! fluents by number.
 
 mod bodies;
 mod conditions;

@@ -21,14 +21,14 @@ product_small s d w Decrease = true
 abbrev pub effect_small : State → Option ℤ → NumericEffect → Bool
 effect_small s d w = values_small s d w.value && product_small s d w w.change
 
--- those of all effects of an event, and those of its duration rule
+-- those of all effects of an event, and those of its duration constraint
 abbrev pub effects_small : ℕ → State → Timed → Bool
 effects_small scale s t = list_all (effect_small s (units scale t.ticks)) t.event.writes.items
 
 abbrev pub rule_small : State → Timed → Bool
 rule_small s t = list_all (λ l. values_small s None l.value) t.event.rule.items
 
--- the expressions of an event: those of its condition, of its effects and of its duration rule
+-- the expressions of an event: those of its condition, of its effects and of its duration constraint
 abbrev pub event_small : ℕ → State → Timed → Bool
 event_small scale s t = all_small s t.event.condition && (effects_small scale s t && rule_small s t)
 

@@ -99,7 +99,7 @@ refusal_from task n count (l ∷ ls) =
 abbrev pub refusal : Labelled → List (List ℕ) → Option PlanFault
 refusal task ls = refusal_from task 1 0 ls
 
--- A fault is the first refusal of lines, unless it is want of memory.
+-- A fault is the first refusal of lines, unless it is out of memory.
 abbrev pub LinesAreRefused : Labelled → List (List ℕ) → PlanFault → Type 0
 LinesAreRefused task ls Memory = Unit {0}
 LinesAreRefused task ls fault = refusal task ls ≡ Some fault
@@ -119,7 +119,7 @@ is_known task s = nat_lt s.action.0 task.count && (task.is_durative s.action || 
 abbrev pub AreKnown : Labelled → List Step → Type 0
 AreKnown task steps = list_all (is_known task) steps ≡ true
 
--- A fault is the first refusal of a text, unless it is want of memory. A text that is read has none.
+-- A fault is the first refusal of a text, unless it is out of memory. A text that is read has none.
 abbrev pub IsRefused : Labelled → List ℕ → PlanFault → Type 0
 IsRefused task text fault = LinesAreRefused task (lines_in text) fault
 

@@ -6,7 +6,7 @@ use Rattle.tp_ground.specs.Happens.{Timed}
 use Rattle.tp_happen.specs.Small.{values_small, all_small}
 use Rattle.tp_happen.specs.Bounded.{rule_small}
 
--- its right sides and its duration rule
+-- its right sides and its duration constraint
 abbrev pub terms_small : ℕ → State → Timed → Bool
 terms_small scale s t =
     list_all (λ w. values_small s (units scale t.ticks) w.value) t.event.writes.items

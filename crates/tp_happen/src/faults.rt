@@ -75,7 +75,7 @@ fn effects_defined(
     Ok(all)
 }
 
-/// Whether each expression of a duration rule has a value.
+/// Whether each expression of a duration constraint has a value.
 pub fn rule_defined(state: &State, rule: &[Limit]) -> Result<bool, Range>
     ensures ok { IfOk result
         (λ r. r ≡ list_all (λ l. is_some (spec.value (state_of state.now) None l.value)) rule.now) }

@@ -131,7 +131,7 @@ fn condition_or_effects_read(event: &GroundEvent, fluent: u32) -> bool
     mentions_fluent(&event.condition, fluent) || effects_read(event, fluent)
 }
 
-/// Whether an event reads a fluent in its condition, right sides or duration rule.
+/// Whether an event reads a fluent in its condition, right sides or duration constraint.
 #[tactic(auto, using(crate::proofs::Meets::has_append))]
 fn reads(event: &GroundEvent, fluent: u32) -> bool
     ensures { result ≡ has (fluents_read event.now) fluent }

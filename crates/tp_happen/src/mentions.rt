@@ -104,7 +104,7 @@ fn push_limits(rule: &[Limit], into: &mut Vec<u32>) -> Result<(), AllocError>
     Ok(())
 }
 
-/// Appends the fluents that an event reads in its condition, right sides or duration rule.
+/// Appends the fluents that an event reads in its condition, right sides or duration constraint.
 pub(crate) fn push_read(event: &GroundEvent, into: &mut Vec<u32>) -> Result<(), AllocError>
     ensures { OnOk result (into.new.items ≡ into.old.items ++ fluents_read event.now) }
 {

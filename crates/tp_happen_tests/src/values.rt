@@ -1,4 +1,4 @@
-//! What expressions, conditions, comparisons and duration rules are worth.
+//! What expressions, conditions, comparisons and duration constraints are worth.
 
 use crate::counters::COUNTERS;
 use crate::worlds::{TANKS, task_of};
@@ -88,7 +88,7 @@ fn comparisons(rt: HostRuntime) {
     }
 }
 
-/// The rule of `hold` has values; one on a fluent without a value has none.
+/// The duration constraint of `hold` has values; one on a fluent without a value has none.
 fn rules_have_values(task: &Task, state: &State) -> Result<bool, Fail> {
     let unknown = [Limit {
         how: Comparison::Equal,

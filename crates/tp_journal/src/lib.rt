@@ -1,11 +1,12 @@
-//! Journals of executives, and their audit.
+//! Journals of executives: how they are written, and whether an answer is one that may stand there.
 //!
+//! - `writing`: lines of commands answered, with their journal.
+//! - `faults`: what ends that early.
 //! - `refusals`: the first refusal that applies to a command, without the command.
 //! - `edges`: the edges of a reason, read from its words.
 //! - `reasons`: whether edges are a reason against a command, at one walk.
 //! - `page`: bytes that are written to be compared.
 //! - `judging`: whether an answer is one that the machine allows.
-//! - `writing`: lines of commands answered, with their journal.
 #![tactic(auto)]
 
 mod edges;

@@ -17,11 +17,11 @@ const ALTERED: &[u8] =
 const CUT: &[u8] =
     b"journal 1\nnetwork 2 100\nbare\n> add o 0 10\n< bound 0\n> add 0 o -3\n< bound 1\n> window 0\n< window 3 10\n> window 1\n< window 0 100\n> add 0 o -11\n< refused conflict new b0\n> window 0\n< window 3 10\n> add o 1 7\n";
 
-/// The same with an answer for want of memory to a window, which takes none.
+/// The same with the answer out of memory to a window, which takes none.
 const WINDOW_IN_NEED: &[u8] =
     b"journal 1\nnetwork 2 100\nbare\n> add o 0 10\n< bound 0\n> add 0 o -3\n< bound 1\n> window 0\n< refused memory\n> window 1\n< window 0 100\n> add 0 o -11\n< refused conflict new b0\n> window 0\n< window 3 10\n> add o 1 7\n< bound 2\n";
 
-/// The same with an answer for want of memory to a bound that would have narrowed the window behind it.
+/// The same with the answer out of memory to a bound that would have narrowed the window behind it.
 const BOUND_IN_NEED: &[u8] =
     b"journal 1\nnetwork 2 100\nbare\n> add o 0 10\n< bound 0\n> add 0 o -3\n< refused memory\n> window 0\n< window 3 10\n> window 1\n< window 0 100\n> add 0 o -11\n< refused conflict new b0\n> window 0\n< window 3 10\n> add o 1 7\n< bound 2\n";
 

@@ -1,4 +1,4 @@
--- Why the files of a plan gave no verdict. Want of memory, and files that can't be read, are told of nothing.
+-- Why the files of a plan gave no verdict. Out of memory, and files that can't be read, are told of nothing.
 use Rattle.std.specs.Prelude.{ℕ, List, Option}
 use Rattle.tp_bounds.specs.RunLimits.{greatest_limits}
 use Rattle.tp_ast.specs.Problems.{IsRefusedProblem}

@@ -1,4 +1,5 @@
--- The lines of faults of texts, tasks and plans, and their exit statuses: 3 for want of memory or of a device, and else 2.
+-- The lines of faults of texts, tasks and plans, and their exit statuses: 3 where memory or a device is wanting, and
+-- else 2.
 use Rattle.std.specs.Prelude.{ℕ, List, codes}
 use Rattle.tp_text.specs.declared.fault.TextFault.{TextFault}
 use Rattle.tp_text.specs.declared.fault.TextFault.TheVariants as text_fault

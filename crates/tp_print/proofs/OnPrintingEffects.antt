@@ -152,7 +152,7 @@ module _ (σ : Symbols) (duration : Bool) (scope : List Declared) where
 pub effect_again : (σ : Symbols) (duration : Bool) (scope : List Declared) (s : Shape) (e : Effect) → effect_of σ duration scope s ≡ Some e → JoinedAgain σ.types (simple_effect_of σ duration) simple_effect_shape scope e
 effect_again σ duration scope s e h = joined_again σ.types (simple_effect_of σ duration) simple_effect_shape (simple_effect_is σ duration) scope s e h
 
--- ---- at moments
+-- ---- at time specifiers
 
 joint_mark : (m : TimeSpecifier) → joint_of (mark_word m) ≡ One
 unfolding joint_of is_word

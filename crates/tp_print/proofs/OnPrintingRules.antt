@@ -1,4 +1,4 @@
--- Rules of durations that were read are read again from what is printed.
+-- Duration constraints that were read are read again from what is printed.
 use Rattle.std.proofs.Common.{◌≡◌, ℕ, List, [], ◌∷◌, Bool, true, false, Option, Some, None, option_map, codes, refl, sym, ap, ◌∙◌, subst, ◌⊎◌, inl, inr}
 use Rattle.std.specs.List.{AllByRecursion}
 use Rattle.tp_text.specs.Shapes.{Shape, leaf, node, Shapes, no_shapes, shape}
@@ -32,7 +32,7 @@ form_limit comparisons.Equal = refl
 form_limit comparisons.AtLeast = refl
 form_limit comparisons.More = refl
 
--- a comparison that a rule may have
+-- a comparison that a duration constraint may have
 abbrev IsLimit : Comparison → Type 0
 IsLimit op = duration_comparison (comparison_head op) ≡ Some op
 

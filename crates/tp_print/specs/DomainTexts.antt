@@ -35,7 +35,7 @@ item_text d = d.name ++ codes " - " ++ shape_text (types_shape d.types)
 abbrev pub operands_text : Shape → Shape → List ℕ
 operands_text s t = 32 ∷ (shape_text s ++ 32 ∷ (shape_text t ++ 41 ∷ []))
 
--- a moment's words behind '('
+-- a time specifier's words behind '('
 abbrev pub moment_text : TimeSpecifier → List ℕ
 moment_text m = 40 ∷ (mark_word m ++ 32 ∷ (moment_word m ++ 32 ∷ []))
 

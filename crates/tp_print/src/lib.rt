@@ -1,4 +1,7 @@
 //! Prints domains.
+//!
+//! - `print_parts`: names, terms, expressions, conditions, effects, duration constraints
+//! - `print`: domains
 #![tactic(auto)]
 
 pub mod print;

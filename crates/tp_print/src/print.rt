@@ -20,7 +20,7 @@ use tp_ast::timed::{TimedCond, TimedEffect};
 use tp_ast::types::TypeName;
 use tp_device::{Failed, Sink};
 
-// A condition and an effect at their moments, each behind its word.
+// Conditions and effects at their time specifiers, each behind its word.
 fn print_moments<W: Sink>(
     writer: &mut W,
     condition: &TimedCond,

@@ -1,4 +1,5 @@
-//! The spellings of what stands in a domain: names, terms, expressions, conditions, effects, rules. Nothing here takes memory.
+//! The spellings of what stands in a domain: names, terms, expressions, conditions, effects, duration constraints.
+//! Nothing here takes memory.
 
 ghost use Rattle.std.specs.Prelude.{◌≡◌, [], ◌∷◌, ◌++◌, map, string_bytes, OnOk};
 ghost use Rattle.std.specs.Fmt.{signed_decimal};
@@ -231,7 +232,7 @@ fn print_comparison<W: Sink>(
     print_operands(writer, a, b)
 }
 
-// Two objects that are one.
+// The condition that two terms are the same object.
 fn print_same<W: Sink>(writer: &mut W, a: &Term, b: &Term) -> Result<(), Failed>
     ensures bytes { OnOk result (Took (W.held writer.old) (W.held writer.new)
         (shape_text (condition_shape (same (term_view a.now) (term_view b.now))))) }
@@ -431,7 +432,7 @@ impl Printed for SimpleEffect {
     }
 }
 
-// A moment's words behind '(', with a space after each.
+// A time specifier's words behind '(', with a space after each.
 fn moment_words(specifier: TimeSpecifier) -> &'static [u8]
     ensures { result.now ≡ moment_text specifier }
 {
@@ -470,7 +471,7 @@ impl Printed for Timed<Effect> {
     }
 }
 
-// Rules, each after a space.
+// Duration constraints, each after a space.
 #[cycle(print_rule)]
 fn print_rules<W: Sink>(writer: &mut W, rules: &[DurationRule]) -> Result<(), Failed>
     ensures bytes { OnOk result (Took (W.held writer.old)

@@ -561,7 +561,7 @@ ends_from words files left input inside a held start first contents status outpu
     (subst (λ o. Ends words files left o first contents status output now) is
     (subst (λ f. Ends words files left inside f contents status output now) begin h)))
 
--- nothing was done for want of memory
+-- nothing was done, since memory ran out
 pub ends_lost : {W : Type 0} (words : List (List ℕ)) (files : CallFiles) (input held first : Option (List ℕ)) (contents : W → Option (List ℕ)) (status : ℕ) (output : Option W) (now : Option (List ℕ)) → status ≡ 3 → output ≡ None → TellsSome first now → Ends words files input held first contents status output now
 ends_lost words files input held first contents status output now three none told =
     record {

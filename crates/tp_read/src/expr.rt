@@ -183,7 +183,7 @@ pub fn outside_conditions(fault: SyntaxFault) -> SyntaxFault
     }
 }
 
-/// As `read_expr`, in an effect or in a rule of durations.
+/// As `read_expr`, in an effect or in a duration constraint.
 pub fn read_value(
     alloc: Global,
     tree: &Tree,

@@ -1,4 +1,4 @@
-//! Rules of durations.
+//! Duration constraints.
 
 ghost use Rattle.std.specs.Prelude.{◌≡◌, map};
 ghost use Rattle.tp_text.specs.Trees.{shape_of};
@@ -75,7 +75,7 @@ fn limited(
     Ok(DurationRule::Limit(comparison, value))
 }
 
-// The rule after the word 'at': 'start', and one more, which is kept alone.
+// A duration constraint behind the word `at`: `start`, and one more, which is kept alone.
 #[cycle(rule)]
 fn read_start(
     alloc: Global,
@@ -102,7 +102,7 @@ fn read_start(
     read_rule(alloc, tree, symbols, scope, at)
 }
 
-// What is wrong with a moment that is not the start.
+// What is wrong with the word behind `at`, where it is not `start`.
 fn moment_fault(moment: &Tree, at: u32) -> SyntaxFault {
     match moment {
         Tree::Word(token) if is_word(token.text, "end") => {
@@ -130,7 +130,7 @@ fn read_rules(
     Ok(rules)
 }
 
-/// The rule that a member of the list at `at` spells.
+/// The duration constraint that a member of the list at `at` spells.
 #[cycle(rule)]
 pub fn read_rule(
     alloc: Global,

@@ -1,4 +1,4 @@
-//! Conditions and effects at the moments of a durative action.
+//! Conditions and effects at the time specifiers of a durative action.
 
 ghost use Rattle.std.specs.Prelude.{◌≡◌, map, option_map};
 ghost use Rattle.tp_text.specs.Trees.{shape_of};

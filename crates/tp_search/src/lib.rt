@@ -1,4 +1,4 @@
-//! Search for plans, by rising number of goal conjuncts that are missing, up to a budget of expansions.
+//! Search for plans, by rising number of goal conjuncts that are missing, up to a budget of expanded nodes.
 //!
 //! - `found`: what a search answers
 //! - `seeking`: nodes taken from a frontier and expanded, `search`

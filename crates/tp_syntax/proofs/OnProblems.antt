@@ -1,4 +1,4 @@
--- What a problem says of its first state, by what the trees are.
+-- What a problem says of its initial state, by what the trees are.
 use Rattle.std.proofs.Common.{◌≡◌, ℕ, List, None, refl}
 use Rattle.tp_text.specs.Shapes.{leaf, node, Shapes, no_shapes, shape}
 use Rattle.tp_text.specs.Trees.{shape_of}

@@ -30,6 +30,6 @@ abbrev pub checked_fields : Bool → Shapes → Option (List actions.Field)
 checked_fields lasts ss =
     fields_of ss >>= λ fs. provided (each_once fs && are_fields_of lasts fs) fs
 
--- the rule, which may not be missing
+-- the duration constraint, which may not be missing
 abbrev pub duration_field : Symbols → List Declared → List actions.Field → Option Rule
 duration_field σ vs fs = field keys.Duration fs >>= rule_of σ vs

@@ -89,7 +89,7 @@ fn effect(
     }
 }
 
-// The fault of a missing rule is at the action.
+// The fault of a missing duration constraint is at the action.
 fn duration(
     alloc: Global,
     symbols: &Symbols,

@@ -1,4 +1,4 @@
-//! Whether what a problem says of its first state agrees with itself.
+//! Whether what a problem says of its initial state agrees with itself.
 
 ghost use Rattle.std.specs.Prelude.{◌≡◌, ◌||◌, map, IfOk, OnOk, not};
 ghost use Rattle.std.specs.Option.{is_some};

@@ -1,4 +1,4 @@
-//! What a problem says of its first state.
+//! What a problem says of its initial state.
 
 ghost use Rattle.std.specs.Prelude.{◌≡◌, map, option_map, false, [], IfOk, not};
 ghost use Rattle.std.specs.Option.{is_some};

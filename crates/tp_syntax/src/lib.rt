@@ -1,4 +1,12 @@
 //! Domains and problems of planning texts.
+//!
+//! - `keyed`: lists that begin with a word of their kind, in any order
+//! - `sections`, `problem_sections`: the sections of a domain and of a problem
+//! - `fields`, `action_reader`: the fields of an action; actions
+//! - `known`: what actions and a problem may name
+//! - `domain_reader`: domains
+//! - `initial`, `clash`: what a problem says of its initial state, and whether that agrees with itself
+//! - `problem`: problems
 #![tactic(auto)]
 
 mod action_reader;

@@ -1,4 +1,4 @@
--- A duration whose rule has values is unlawful if it is no tick or breaks the rule.
+-- A duration whose constraint has values is unlawful if it is no tick or breaks the constraint.
 use Rattle.std.proofs.Common.{◌≡◌, ℕ, true, not, ◌&&◌, nat_le, None, is_some, ap}
 use Rattle.std.specs.List.{list_all}
 use Rattle.tp_ground.specs.declared.events.GroundEvent.{GroundEvent}

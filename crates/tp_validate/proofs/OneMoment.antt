@@ -41,7 +41,7 @@ module _ (scale : ℕ) (s : State) (m : ℕ) (ps : List Planned) (es : List Plac
       ∙ (happens scale s m es o rest new h
       ∙ ap (λ q. fault_or fault.OverAll q None) (ap (λ (z : State). position_from (λ (p : Planned). is_broken z m p p.body) 0 ps) (sym (is_after new h)) ∙ sym e))
 
--- a duration rule that passes the limit is one of its start's expressions
+-- a duration constraint that passes the limit is one of its start's expressions
 module _ (scale : ℕ) (s : State) (m : ℕ) where
   abbrev passes : List Placed → Type 0
   passes es = list_all (event_small scale s) (at m es) ≡ false

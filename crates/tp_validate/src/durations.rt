@@ -54,7 +54,7 @@ fn limits_hold(state: &State, ticks: u32, rule: &[Limit]) -> Result<bool, Range>
     Ok(true)
 }
 
-// Whether so many ticks are at least one, and keep the rule.
+// Whether so many ticks are at least one, and keep the duration constraint.
 fn is_lawful(state: &State, ticks: u32, rule: &[Limit]) -> Result<bool, Range>
     ensures ok { IfOk result (λ r. r ≡ (nat_le 1 ticks
         && list_all (limit_holds state.now.scale (state_of state.now) ticks) rule.now)) }
@@ -65,7 +65,7 @@ fn is_lawful(state: &State, ticks: u32, rule: &[Limit]) -> Result<bool, Range>
     Ok(1 <= ticks && holds)
 }
 
-// Whether the rule has values, and the ticks are none or break it.
+// Whether the duration constraint has values, and the ticks are none or break it.
 fn is_unlawful(state: &State, ticks: u32, body: &Body) -> Result<bool, Range>
     ensures ok { IfOk result
         (λ r. r ≡ verdict.is_unlawful state.now.scale (state_of state.now) ticks body.now) }

@@ -1,4 +1,4 @@
-//! Effects, and the parts of a durative action at its marks.
+//! Effects, and the parts of a durative action at its time specifiers.
 
 ghost use Rattle.std.specs.Prelude.{◌≡◌, ◌∷◌, [], map};
 ghost use Rattle.tp_syntax.specs.Terms.{atom_view};

@@ -1,4 +1,4 @@
-//! Rules of durations.
+//! Duration constraints.
 
 ghost use Rattle.std.specs.Prelude.{◌≡◌, map};
 ghost use Rattle.std.specs.List.{flat_map};
@@ -36,7 +36,7 @@ fn all_limits(
     Ok(lowered)
 }
 
-/// The comparisons of a rule.
+/// The comparisons of a duration constraint.
 #[cycle(limits)]
 pub fn limits(
     alloc: Global,
