@@ -120,7 +120,8 @@ fn effect_at(
     at: u32,
 ) -> Result<Effect, SyntaxFault>
     ensures { Gives effect_view result
-        (effect_at (symbols_view symbols.now) (scope_view scope.now) specifier (shape_of tree.now)) }
+        (effect_at (symbols_view symbols.now) (scope_view scope.now) specifier
+        (shape_of tree.now)) }
 {
     match specifier {
         TimeSpecifier::OverAll => Err(SyntaxFault::Shape(at)),

@@ -91,7 +91,8 @@ fn condition_at(
     condition: &TimedCond,
 ) -> Result<Cond, GroundFault>
     ensures { Lowers named_condition numbering.old result numbering.new (condition_at
-        (universe_view universe.now) specifier (env_view env.now) (timed_condition_view condition.now))
+        (universe_view universe.now) specifier (env_view env.now)
+        (timed_condition_view condition.now))
         (of_condition (condition_at (universe_view universe.now) specifier
         (env_view env.now) (timed_condition_view condition.now))) }
 {

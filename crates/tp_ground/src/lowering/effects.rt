@@ -53,9 +53,10 @@ fn write(
     atom: &Atom,
     value: &Expr,
 ) -> Result<NumberedEffect, GroundFault>
-    ensures { Lowers named_simple_effect numbering.old result numbering.new (simple_effect_in (env_view env.now)
-        (writes writing (atom_view atom.now) (expr_view value.now))) (of_simple_effect (simple_effect_in
-        (env_view env.now) (writes writing (atom_view atom.now) (expr_view value.now)))) }
+    ensures { Lowers named_simple_effect numbering.old result numbering.new (simple_effect_in
+        (env_view env.now) (writes writing (atom_view atom.now) (expr_view value.now)))
+        (of_simple_effect (simple_effect_in (env_view env.now)
+        (writes writing (atom_view atom.now) (expr_view value.now)))) }
 {
     let fluent = fluent(alloc, env, numbering, atom)?;
     let value = expression(alloc, env, numbering, value)?;
@@ -74,7 +75,8 @@ fn simple_effect(
 ) -> Result<NumberedEffect, GroundFault>
     ensures { Lowers named_simple_effect numbering.old result numbering.new
         (simple_effect_in (env_view env.now) (simple_effect_view simple_effect.now))
-        (of_simple_effect (simple_effect_in (env_view env.now) (simple_effect_view simple_effect.now))) }
+        (of_simple_effect
+        (simple_effect_in (env_view env.now) (simple_effect_view simple_effect.now))) }
 {
     match simple_effect {
         SimpleEffect::Add(added) => {

@@ -50,8 +50,9 @@ pub trait Lowerable: Drop {
         numbering: &mut Numbering,
     ) -> Result<Vec<Self::Lowered>, GroundFault>
         ensures { Lowers (λ t v. map (named t) v.items) numbering.old result numbering.new (written
-            (universe_view universe.now) specifier (env_view env.now) (seen self.now)) (of_each mentions
-            (written (universe_view universe.now) specifier (env_view env.now) (seen self.now))) };
+            (universe_view universe.now) specifier (env_view env.now) (seen self.now))
+            (of_each mentions (written
+            (universe_view universe.now) specifier (env_view env.now) (seen self.now))) };
 }
 
 #[cycle(joined)]
@@ -65,9 +66,11 @@ fn all_parts<P: Lowerable>(
 ) -> Result<Vec<P::Lowered>, GroundFault>
     ensures { Lowers (λ t v. map (P.named t) v.items) numbering.old result numbering.new
         (flat_map (λ p. parts_in (universe_view universe.now) (P.written
-        (universe_view universe.now) specifier) (env_view env.now) (joined_view P.seen p)) parts.now)
+        (universe_view universe.now) specifier) (env_view env.now)
+        (joined_view P.seen p)) parts.now)
         (of_each P.mentions (flat_map (λ p. parts_in (universe_view universe.now) (P.written
-        (universe_view universe.now) specifier) (env_view env.now) (joined_view P.seen p)) parts.now)) }
+        (universe_view universe.now) specifier) (env_view env.now)
+        (joined_view P.seen p)) parts.now)) }
 {
     let mut lowered = Vec::new(alloc);
     for part in parts {
