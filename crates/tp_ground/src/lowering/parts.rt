@@ -38,7 +38,8 @@ pub trait Lowerable: Drop {
     ghost mentions: { Written → Mentions };
 
     /// What is written out at a specifier.
-    ghost written: { bindings.Universe → specifiers.TimeSpecifier → bindings.Env → Seen → List Written };
+    ghost written: { bindings.Universe → specifiers.TimeSpecifier → bindings.Env
+        → Seen → List Written };
 
     /// What it is at a specifier.
     fn lower(
