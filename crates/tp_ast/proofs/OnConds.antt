@@ -7,12 +7,12 @@ use Rattle.tp_ast.specs.Gives.{◌>>=◌}
 use Rattle.tp_ast.specs.Terms.{shapes}
 use Rattle.tp_ast.specs.Symbols.{Declared, Symbols}
 use Rattle.tp_ast.proofs.Loops.{IsEach}
-use Rattle.tp_ast.specs.Words.{head_of}
+use Rattle.tp_ast.specs.Words.{cond_word_of}
 use Rattle.tp_ast.specs.TypedLists.{parameters_at}
 use Rattle.tp_ast.specs.Conditions.{Condition, all_of, no_conditions, conditions, kind_of, combined, bound, simple, condition_of, conditions_of, bound_condition, only_condition}
 use Rattle.tp_ast.specs.CondViews.{cond_view}
 use Rattle.tp_ast.specs.declared.cond.Cond.{Cond, the_lemmas}
-use Rattle.tp_ast.specs.declared.words.Head.{Head}
+use Rattle.tp_ast.specs.declared.words.CondWord.{CondWord}
 use Rattle.tp_ast.specs.declared.words.CondKind.{CondKind}
 use Rattle.tp_ast.specs.declared.words.CondKind.TheVariants.{Joined, Bound, Simple}
 use Rattle.tp_ast.proofs.OnLists.{peel}
@@ -40,25 +40,25 @@ module _ (σ : Symbols) (scope : List Declared) where
   unfolding condition_of
   at_list ss rest = refl
 
-  by_kind : (w : List ℕ) (rest : Shapes) (k : CondKind) → kind_of (head_of w) ≡ k → condition_of σ scope (node (shape (leaf w) rest)) ≡ elim k as (λ v. Option Condition) [ Joined ↦ conditions_of σ scope rest >>= combined (head_of w) | Bound ↦ bound_condition σ scope (head_of w) rest | Simple ↦ simple σ scope (head_of w) w rest ]
+  by_kind : (w : List ℕ) (rest : Shapes) (k : CondKind) → kind_of (cond_word_of w) ≡ k → condition_of σ scope (node (shape (leaf w) rest)) ≡ elim k as (λ v. Option Condition) [ Joined ↦ conditions_of σ scope rest >>= combined (cond_word_of w) | Bound ↦ bound_condition σ scope (cond_word_of w) rest | Simple ↦ simple σ scope (cond_word_of w) w rest ]
   unfolding condition_of
-  by_kind w rest k e = ap (λ (v : CondKind). elim v as (λ u. Option Condition) [ Joined ↦ conditions_of σ scope rest >>= combined (head_of w) | Bound ↦ bound_condition σ scope (head_of w) rest | Simple ↦ simple σ scope (head_of w) w rest ]) e
+  by_kind w rest k e = ap (λ (v : CondKind). elim v as (λ u. Option Condition) [ Joined ↦ conditions_of σ scope rest >>= combined (cond_word_of w) | Bound ↦ bound_condition σ scope (cond_word_of w) rest | Simple ↦ simple σ scope (cond_word_of w) w rest ]) e
 
-  pub at_joined : (w : List ℕ) (rest : Shapes) (h : Head) (k : CondKind) → h ≡ head_of w → k ≡ kind_of h → k ≡ Joined → condition_of σ scope (node (shape (leaf w) rest)) ≡ (conditions_of σ scope rest >>= combined h)
-  at_joined w rest h k is kind joined = by_kind w rest Joined (ap kind_of (sym is) ∙ sym kind ∙ joined) ∙ ap (λ (g : Head). conditions_of σ scope rest >>= combined g) (sym is)
+  pub at_joined : (w : List ℕ) (rest : Shapes) (h : CondWord) (k : CondKind) → h ≡ cond_word_of w → k ≡ kind_of h → k ≡ Joined → condition_of σ scope (node (shape (leaf w) rest)) ≡ (conditions_of σ scope rest >>= combined h)
+  at_joined w rest h k is kind joined = by_kind w rest Joined (ap kind_of (sym is) ∙ sym kind ∙ joined) ∙ ap (λ (g : CondWord). conditions_of σ scope rest >>= combined g) (sym is)
 
-  pub at_bound : (w : List ℕ) (rest : Shapes) (h : Head) (k : CondKind) → h ≡ head_of w → k ≡ kind_of h → k ≡ Bound → condition_of σ scope (node (shape (leaf w) rest)) ≡ bound_condition σ scope h rest
-  at_bound w rest h k is kind joined = by_kind w rest Bound (ap kind_of (sym is) ∙ sym kind ∙ joined) ∙ ap (λ (g : Head). bound_condition σ scope g rest) (sym is)
+  pub at_bound : (w : List ℕ) (rest : Shapes) (h : CondWord) (k : CondKind) → h ≡ cond_word_of w → k ≡ kind_of h → k ≡ Bound → condition_of σ scope (node (shape (leaf w) rest)) ≡ bound_condition σ scope h rest
+  at_bound w rest h k is kind joined = by_kind w rest Bound (ap kind_of (sym is) ∙ sym kind ∙ joined) ∙ ap (λ (g : CondWord). bound_condition σ scope g rest) (sym is)
 
-  pub at_simple : (w : List ℕ) (rest : Shapes) (h : Head) (k : CondKind) → h ≡ head_of w → k ≡ kind_of h → k ≡ Simple → condition_of σ scope (node (shape (leaf w) rest)) ≡ simple σ scope h w rest
-  at_simple w rest h k is kind joined = by_kind w rest Simple (ap kind_of (sym is) ∙ sym kind ∙ joined) ∙ ap (λ (g : Head). simple σ scope g w rest) (sym is)
+  pub at_simple : (w : List ℕ) (rest : Shapes) (h : CondWord) (k : CondKind) → h ≡ cond_word_of w → k ≡ kind_of h → k ≡ Simple → condition_of σ scope (node (shape (leaf w) rest)) ≡ simple σ scope h w rest
+  at_simple w rest h k is kind joined = by_kind w rest Simple (ap kind_of (sym is) ∙ sym kind ∙ joined) ∙ ap (λ (g : CondWord). simple σ scope g w rest) (sym is)
 
-  pub bound_none : (h : Head) (xs : List Tree) → length xs < 1 → bound_condition σ scope h (shapes xs) ≡ None
+  pub bound_none : (h : CondWord) (xs : List Tree) → length xs < 1 → bound_condition σ scope h (shapes xs) ≡ None
   unfolding condition_of
   bound_none h [] lt = refl
   bound_none h (x ∷ xs) lt = absurd (omega arith)
 
-  pub bound_first : (h : Head) (xs : List Tree) (list : Tree) → 1 ≤ length xs → list ≡ get_or xs 0 list → bound_condition σ scope h (shapes xs) ≡ (parameters_at σ.types (shape_of list) >>= λ vs. option_map (bound h vs) (only_condition σ (vs ++ scope) (shapes (take (length xs - 1) (drop 1 xs)))))
+  pub bound_first : (h : CondWord) (xs : List Tree) (list : Tree) → 1 ≤ length xs → list ≡ get_or xs 0 list → bound_condition σ scope h (shapes xs) ≡ (parameters_at σ.types (shape_of list) >>= λ vs. option_map (bound h vs) (only_condition σ (vs ++ scope) (shapes (take (length xs - 1) (drop 1 xs)))))
   unfolding condition_of
   bound_first h xs list le is = ap (bound_condition σ scope h) (peel xs list le is)
 

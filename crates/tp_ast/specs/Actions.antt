@@ -10,7 +10,7 @@ use Rattle.tp_ast.specs.Words.{key_of}
 use Rattle.tp_ast.specs.TypedLists.{parameters_at}
 use Rattle.tp_ast.specs.Conditions.{Condition, all_of, no_conditions, condition_of}
 use Rattle.tp_ast.specs.Parts.{Joined, all_parts, no_parts}
-use Rattle.tp_ast.specs.Effects.{Effect, effect_of, Timed, timed_condition_of, timed_effect_of, Rule, rule_of}
+use Rattle.tp_ast.specs.Effects.{Effect, effect_of, Timed, timed_condition_of, timed_effect_of, Constraint, constraint_of}
 use Rattle.tp_ast.specs.declared.words.Key.{Key}
 use Rattle.tp_ast.specs.declared.words.Key.TheVariants.{Parameters, Precondition, Duration}
 use Rattle.tp_ast.specs.declared.words.Key.TheVariants as keys
@@ -56,7 +56,7 @@ or_missing missing read (Some s) = read s
 
 pub data Body : Type 0 where
   instant : Condition → Effect → Body
-  durative : Rule → Joined (Timed Condition) → Joined (Timed Effect) → Body
+  durative : Constraint → Joined (Timed Condition) → Joined (Timed Effect) → Body
 
 pub record Action : Type 0 where
   pub name : Name
@@ -69,7 +69,7 @@ body_of σ false vs fs =
     or_missing (all_parts no_parts) (effect_of σ false vs) (field keys.Effect fs) >>= λ e.
     Some (instant c e)
 body_of σ true vs fs =
-    (field Duration fs >>= rule_of σ vs) >>= λ r.
+    (field Duration fs >>= constraint_of σ vs) >>= λ r.
     or_missing (all_parts no_parts) (timed_condition_of σ vs) (field keys.Condition fs) >>= λ c.
     or_missing (all_parts no_parts) (timed_effect_of σ vs) (field keys.Effect fs) >>= λ e.
     Some (durative r c e)

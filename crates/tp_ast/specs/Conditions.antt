@@ -5,14 +5,14 @@ use Rattle.tp_text.specs.Shapes.{Shape, leaf, node, Shapes, no_shapes, shape}
 use Rattle.tp_ast.specs.Gives.{◌>>=◌, provided}
 use Rattle.tp_ast.specs.Terms.{Argument, Fact, is_name, is_variable, terms_of}
 use Rattle.tp_ast.specs.Symbols.{Declared, argument_types, Symbols, atom_in}
-use Rattle.tp_ast.specs.Words.{head_of, comparison}
+use Rattle.tp_ast.specs.Words.{cond_word_of, comparison}
 use Rattle.tp_ast.specs.Expressions.{Expression, expressions_of}
 use Rattle.tp_ast.specs.TypedLists.{parameters_at}
 use Rattle.tp_ast.specs.declared.words.Comparison.{Comparison}
 use Rattle.tp_ast.specs.declared.words.CondKind.{CondKind}
 use Rattle.tp_ast.specs.declared.words.CondKind.TheVariants.{Joined, Bound, Simple}
-use Rattle.tp_ast.specs.declared.words.Head.{Head}
-use Rattle.tp_ast.specs.declared.words.Head.TheVariants.{And, Or, Not, Imply, Forall, Exists, Equal, Less, AtMost, AtLeast, More, Other}
+use Rattle.tp_ast.specs.declared.words.CondWord.{CondWord}
+use Rattle.tp_ast.specs.declared.words.CondWord.TheVariants.{And, Or, Not, Imply, Forall, Exists, Equal, Less, AtMost, AtLeast, Greater, Other}
 
 mutual
   pub data Condition : Type 0 where
@@ -35,7 +35,7 @@ conditions [] = no_conditions
 conditions (c ∷ cs) = condition c (conditions cs)
 
 -- what stands after the word: conditions, variables and a condition, or neither
-abbrev pub kind_of : Head → CondKind
+abbrev pub kind_of : CondWord → CondKind
 kind_of And = Joined
 kind_of Or = Joined
 kind_of Not = Joined
@@ -61,14 +61,14 @@ implied (c ∷ []) = None
 implied (c ∷ d ∷ []) = Some (implies c d)
 implied (c ∷ d ∷ e ∷ cs) = None
 
-unfoldable pub combined : Head → List Condition → Option Condition
+unfoldable pub combined : CondWord → List Condition → Option Condition
 combined And cs = Some (all_of (conditions cs))
 combined Or cs = Some (any_of (conditions cs))
 combined Not cs = negated cs
 combined Imply cs = implied cs
 combined _ cs = None
 
-abbrev pub bound : Head → List Declared → Condition → Condition
+abbrev pub bound : CondWord → List Declared → Condition → Condition
 bound Exists vs c = for_some vs c
 bound _ vs c = for_all vs c
 
@@ -87,25 +87,25 @@ equated σ scope (a ∷ b ∷ []) =
     && is_some (argument_types σ.objects scope b)) (same a b)
 equated σ scope _ = None
 
-abbrev pub related : Head → List Expression → Option Condition
+abbrev pub related : CondWord → List Expression → Option Condition
 related h (x ∷ y ∷ []) = option_map (λ op. compared op x y) (comparison h)
 related h _ = None
 
 abbrev pub equality : Symbols → List Declared → Shapes → Option Condition
 equality σ scope rest = terms_of rest >>= equated σ scope
 
-abbrev pub relation : Symbols → List Declared → Head → Shapes → Option Condition
+abbrev pub relation : Symbols → List Declared → CondWord → Shapes → Option Condition
 relation σ scope h rest =
     expressions_of σ (record { scope = scope; duration = false }) rest >>= related h
 
 -- a condition that has none inside
-unfoldable pub simple : Symbols → List Declared → Head → List ℕ → Shapes → Option Condition
+unfoldable pub simple : Symbols → List Declared → CondWord → List ℕ → Shapes → Option Condition
 simple σ scope Equal w rest =
     if are_terms rest then equality σ scope rest else relation σ scope Equal rest
 simple σ scope Less w rest = relation σ scope Less rest
 simple σ scope AtMost w rest = relation σ scope AtMost rest
 simple σ scope AtLeast w rest = relation σ scope AtLeast rest
-simple σ scope More w rest = relation σ scope More rest
+simple σ scope Greater w rest = relation σ scope Greater rest
 simple σ scope Other w rest = option_map fact (atom_in σ σ.predicates scope w rest)
 simple σ scope _ w rest = None
 
@@ -118,14 +118,14 @@ unfoldable mutual
   pub list_condition : Symbols → List Declared → Shapes → Option Condition
   list_condition σ scope no_shapes = Some (all_of no_conditions)
   list_condition σ scope (shape (node ss) rest) = None
-  list_condition σ scope (shape (leaf w) rest) = elim (kind_of (head_of w)) [
-    | Joined ↦ conditions_of σ scope rest >>= combined (head_of w)
-    | Bound ↦ bound_condition σ scope (head_of w) rest
-    | Simple ↦ simple σ scope (head_of w) w rest
+  list_condition σ scope (shape (leaf w) rest) = elim (kind_of (cond_word_of w)) [
+    | Joined ↦ conditions_of σ scope rest >>= combined (cond_word_of w)
+    | Bound ↦ bound_condition σ scope (cond_word_of w) rest
+    | Simple ↦ simple σ scope (cond_word_of w) w rest
   ]
 
   -- (VARS) C
-  pub bound_condition : Symbols → List Declared → Head → Shapes → Option Condition
+  pub bound_condition : Symbols → List Declared → CondWord → Shapes → Option Condition
   bound_condition σ scope h no_shapes = None
   bound_condition σ scope h (shape vars rest) =
       parameters_at σ.types vars >>= λ vs.

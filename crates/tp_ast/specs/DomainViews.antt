@@ -1,9 +1,9 @@
 -- What an `Action`, a `Domain` and a `Problem` show.
 use Rattle.std.specs.Prelude.{map, string_bytes}
 use Rattle.tp_ast.specs.Terms.{atom_view}
-use Rattle.tp_ast.specs.Symbols.{typed_view, parent_view, form_view}
+use Rattle.tp_ast.specs.Symbols.{typed_view, parent_view, signature_view}
 use Rattle.tp_ast.specs.CondViews.{cond_view}
-use Rattle.tp_ast.specs.RuleViews.{rule_view}
+use Rattle.tp_ast.specs.ConstraintViews.{constraint_view}
 use Rattle.tp_ast.specs.EffectViews.{effect_view, timed_condition_view, timed_effect_view}
 use Rattle.tp_ast.specs.Actions as actions
 use Rattle.tp_ast.specs.Actions.{instant, durative}
@@ -20,7 +20,7 @@ use Rattle.tp_ast.specs.declared.problem.Problem.{Problem}
 
 abbrev pub body_view : Body → actions.Body
 body_view (Instant c e) = instant (cond_view c) (effect_view e)
-body_view (Durative r c e) = durative (rule_view r) (timed_condition_view c) (timed_effect_view e)
+body_view (Durative r c e) = durative (constraint_view r) (timed_condition_view c) (timed_effect_view e)
 
 abbrev pub action_view : Action → actions.Action
 action_view a =
@@ -36,8 +36,8 @@ domain_view d = record {
   requirements = map string_bytes d.requirements.items;
   types = map parent_view d.types.items;
   constants = map typed_view d.constants.items;
-  predicates = map form_view d.predicates.items;
-  functions = map form_view d.functions.items;
+  predicates = map signature_view d.predicates.items;
+  functions = map signature_view d.functions.items;
   actions = map action_view d.actions.items;
 }
 

@@ -7,7 +7,7 @@ use Rattle.tp_ast.specs.Gives.{◌>>=◌, provided}
 use Rattle.tp_ast.specs.Words.{is_word, lower, section_of}
 use Rattle.tp_ast.specs.Terms.{name_of}
 use Rattle.tp_ast.specs.Lists.{both, first_of}
-use Rattle.tp_ast.specs.Symbols.{Name, Declared, Parent, Form, at_or_below, Symbols}
+use Rattle.tp_ast.specs.Symbols.{Name, Declared, Parent, SignatureView, at_or_below, Symbols}
 use Rattle.tp_ast.specs.TypedLists.{is_dash, typed_list, parameters_of, has_twice, are_declared}
 use Rattle.tp_ast.specs.Actions.{Action, action_of}
 use Rattle.tp_ast.specs.declared.words.Items.TheVariants.{Names}
@@ -19,8 +19,8 @@ pub record Domain : Type 0 where
   pub requirements : List Name
   pub types : List Parent
   pub constants : List Declared
-  pub predicates : List Form
-  pub functions : List Form
+  pub predicates : List SignatureView
+  pub functions : List SignatureView
   pub actions : List Action
 
 -- ---- types
@@ -79,44 +79,44 @@ unfoldable pub objects_in : List Parent → Shapes → Option (List Declared)
 objects_in types ss = typed_list Names ss >>= λ ds. provided (are_declared types ds) ds
 
 -- (NAME VARS)
-unfoldable pub form_at : List Parent → Shape → Option Form
-form_at types (node (shape (leaf w) vars)) =
+unfoldable pub signature_at : List Parent → Shape → Option SignatureView
+signature_at types (node (shape (leaf w) vars)) =
     name_of w >>= λ n.
     option_map (λ vs. record { name = n; parameters = vs }) (parameters_of types vars)
-form_at types _ = None
+signature_at types _ = None
 
-unfoldable pub forms_of : List Parent → Shapes → Option (List Form)
-forms_of types no_shapes = Some []
-forms_of types (shape s ss) = form_at types s >>= λ f. option_map (λ fs. f ∷ fs) (forms_of types ss)
+unfoldable pub signatures_of : List Parent → Shapes → Option (List SignatureView)
+signatures_of types no_shapes = Some []
+signatures_of types (shape s ss) = signature_at types s >>= λ f. option_map (λ fs. f ∷ fs) (signatures_of types ss)
 
 abbrev pub is_number : Shape → Bool
 is_number (leaf w) = is_word (codes "number") w
 is_number (node ss) = false
 
--- forms, of which runs may end in '- number'
+-- signatures, of which runs may end in '- number'
 unfoldable mutual
-  pub numeric_forms : List Parent → Bool → Shapes → Option (List Form)
-  numeric_forms types may_end no_shapes = Some []
-  numeric_forms types may_end (shape s ss) = elim (may_end && is_dash s) [
+  pub numeric_signatures : List Parent → Bool → Shapes → Option (List SignatureView)
+  numeric_signatures types may_end no_shapes = Some []
+  numeric_signatures types may_end (shape s ss) = elim (may_end && is_dash s) [
     | true ↦ after_number types ss
-    | false ↦ form_at types s >>= λ f. option_map (λ fs. f ∷ fs) (numeric_forms types true ss)
+    | false ↦ signature_at types s >>= λ f. option_map (λ fs. f ∷ fs) (numeric_signatures types true ss)
   ]
 
-  pub after_number : List Parent → Shapes → Option (List Form)
+  pub after_number : List Parent → Shapes → Option (List SignatureView)
   after_number types no_shapes = None
   after_number types (shape s ss) =
-      elim (is_number s) [ true ↦ numeric_forms types false ss | false ↦ None ]
+      elim (is_number s) [ true ↦ numeric_signatures types false ss | false ↦ None ]
 
-abbrev pub named_once : List Form → Option (List Form)
+abbrev pub named_once : List SignatureView → Option (List SignatureView)
 named_once fs = provided (not (has_twice (map (λ f. f.name) fs))) fs
 
 -- ---- sections
 
-pub record Part : Type 0 where
+pub record SectionBody : Type 0 where
   pub section : Section
   pub body : Shapes
 
-unfoldable pub sections_of : Shapes → Option (List Part)
+unfoldable pub sections_of : Shapes → Option (List SectionBody)
 sections_of no_shapes = Some []
 sections_of (shape (node (shape (leaf w) body)) rest) =
     section_of w >>= λ k.
@@ -132,11 +132,11 @@ section_number sections.Functions = 4
 section_number sections.Action = 5
 section_number sections.DurativeAction = 6
 
-abbrev pub is_section : Section → Part → Bool
+abbrev pub is_section : Section → SectionBody → Bool
 is_section k p = section_number p.section == section_number k
 
 -- what stands in a section, nothing if it is missing
-abbrev pub section : Section → List Part → Shapes
+abbrev pub section : Section → List SectionBody → Shapes
 section k [] = no_shapes
 section k (p ∷ ps) = if is_section k p then p.body else section k ps
 
@@ -146,7 +146,7 @@ is_action sections.DurativeAction = true
 is_action _ = false
 
 -- each but the actions at most once
-abbrev pub each_once : List Part → Bool
+abbrev pub each_once : List SectionBody → Bool
 each_once [] = true
 each_once (p ∷ ps) =
     (is_action p.section || not (list_any (is_section p.section) ps)) && each_once ps
@@ -156,20 +156,20 @@ action_at σ sections.Action body = option_map (λ a. a ∷ []) (action_of σ fa
 action_at σ sections.DurativeAction body = option_map (λ a. a ∷ []) (action_of σ true body)
 action_at σ _ body = Some []
 
-unfoldable pub actions_in : Symbols → List Part → Option (List Action)
+unfoldable pub actions_in : Symbols → List SectionBody → Option (List Action)
 actions_in σ [] = Some []
 actions_in σ (p ∷ ps) =
     action_at σ p.section p.body >>= λ front. option_map (λ more. front ++ more) (actions_in σ ps)
 
 -- ---- the domain
 
-unfoldable pub domain_with : Name → List Part → Option Domain
+unfoldable pub domain_with : Name → List SectionBody → Option Domain
 domain_with n ps =
     requirements_in (section sections.Requirements ps) >>= λ requirements.
     types_in (section sections.Types ps) >>= λ types.
     objects_in types (section sections.Constants ps) >>= λ constants.
-    (forms_of types (section sections.Predicates ps) >>= named_once) >>= λ predicates.
-    (numeric_forms types false (section sections.Functions ps) >>= named_once) >>= λ functions.
+    (signatures_of types (section sections.Predicates ps) >>= named_once) >>= λ predicates.
+    (numeric_signatures types false (section sections.Functions ps) >>= named_once) >>= λ functions.
     actions_in (record {
       types = types;
       objects = constants;

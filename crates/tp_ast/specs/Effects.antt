@@ -2,10 +2,10 @@
 use Rattle.std.specs.Prelude.{ℕ, List, [], ◌∷◌, Bool, true, false, codes, Option, Some, None, option_map}
 use Rattle.tp_text.specs.Shapes.{Shape, leaf, node, Shapes, no_shapes, shape}
 use Rattle.tp_ast.specs.Gives.{◌>>=◌, provided}
-use Rattle.tp_ast.specs.Words.{is_word, effect_word_of, specifier_of, head_of, rule_form_of, duration_comparison}
+use Rattle.tp_ast.specs.Words.{is_word, effect_word_of, specifier_of, cond_word_of, constraint_form_of, duration_comparison}
 use Rattle.tp_ast.specs.Lists.{only, both}
 use Rattle.tp_ast.specs.Terms.{Fact}
-use Rattle.tp_ast.specs.Symbols.{Declared, Form, Symbols, atom_in}
+use Rattle.tp_ast.specs.Symbols.{Declared, SignatureView, Symbols, atom_in}
 use Rattle.tp_ast.specs.Expressions.{Expression, Terms, terms_for, expression_of}
 use Rattle.tp_ast.specs.Conditions.{Condition, condition_of}
 use Rattle.tp_ast.specs.Parts.{Joined, joined_of}
@@ -14,7 +14,7 @@ use Rattle.tp_ast.specs.declared.words.Writing.{Writing}
 use Rattle.tp_ast.specs.declared.words.Writing.TheVariants as writings
 use Rattle.tp_ast.specs.declared.words.TimeSpecifier.{TimeSpecifier}
 use Rattle.tp_ast.specs.declared.words.TimeSpecifier.TheVariants.{AtStart, OverAll, AtEnd}
-use Rattle.tp_ast.specs.declared.words.RuleForm.TheVariants.{And, At, Limit}
+use Rattle.tp_ast.specs.declared.words.ConstraintForm.TheVariants.{And, At, Limit}
 use Rattle.tp_ast.specs.declared.words.EffectWord.{EffectWord}
 use Rattle.tp_ast.specs.declared.words.EffectWord.TheVariants.{Not, Assign, Increase, Decrease, ScaleUp, ScaleDown, When, Other}
 
@@ -24,7 +24,7 @@ pub data SimpleEffect : Type 0 where
   writes : Writing → Fact → Expression → SimpleEffect
 
 -- (NAME TERM ..) as a tree
-unfoldable pub atom_at : Symbols → List Form → List Declared → Shape → Option Fact
+unfoldable pub atom_at : Symbols → List SignatureView → List Declared → Shape → Option Fact
 atom_at σ forms scope (leaf w) = None
 atom_at σ forms scope (node no_shapes) = None
 atom_at σ forms scope (node (shape (node ss) rest)) = None
@@ -97,28 +97,28 @@ abbrev pub timed_effect_of : Symbols → List Declared → Shape → Option (Joi
 timed_effect_of σ scope s = joined_of σ.types (λ within. specified (effect_at σ within)) scope s
 
 mutual
-  pub data Rule : Type 0 where
-    all_rules : Rules → Rule
-    rule : Comparison → Expression → Rule
+  pub data Constraint : Type 0 where
+    all_constraints : Constraints → Constraint
+    constraint : Comparison → Expression → Constraint
 
-  pub data Rules : Type 0 where
-    no_rules : Rules
-    more_rules : Rule → Rules → Rules
+  pub data Constraints : Type 0 where
+    no_constraints : Constraints
+    more_constraints : Constraint → Constraints → Constraints
 
-abbrev pub rules_in : List Rule → Rules
-rules_in [] = no_rules
-rules_in (r ∷ rs) = more_rules r (rules_in rs)
+abbrev pub constraints_in : List Constraint → Constraints
+constraints_in [] = no_constraints
+constraints_in (r ∷ rs) = more_constraints r (constraints_in rs)
 
 unfoldable pub is_duration : Shape → Bool
 is_duration (leaf d) = is_word (codes "?duration") d
 is_duration (node ss) = false
 
 -- ?duration X
-unfoldable pub limited : Symbols → List Declared → List ℕ → Shapes → Option Rule
+unfoldable pub limited : Symbols → List Declared → List ℕ → Shapes → Option Constraint
 limited σ scope w rest =
-    duration_comparison (head_of w) >>= λ op.
+    duration_comparison (cond_word_of w) >>= λ op.
     both rest >>= λ p. provided (is_duration p.0) p.1 >>= λ x.
-    option_map (rule op) (expression_of σ (terms_for scope false) x)
+    option_map (constraint op) (expression_of σ (terms_for scope false) x)
 
 unfoldable pub is_start : Shape → Bool
 is_start (leaf v) = is_word (codes "start") v
@@ -126,31 +126,31 @@ is_start (node ss) = false
 
 -- R
 unfoldable mutual
-  pub rule_of : Symbols → List Declared → Shape → Option Rule
-  rule_of σ scope (leaf w) = None
-  rule_of σ scope (node ss) = list_rule σ scope ss
+  pub constraint_of : Symbols → List Declared → Shape → Option Constraint
+  constraint_of σ scope (leaf w) = None
+  constraint_of σ scope (node ss) = list_constraint σ scope ss
 
-  pub list_rule : Symbols → List Declared → Shapes → Option Rule
-  list_rule σ scope no_shapes = Some (all_rules no_rules)
-  list_rule σ scope (shape (node ss) rest) = None
-  list_rule σ scope (shape (leaf w) rest) = elim (rule_form_of w) [
-    | And ↦ option_map (λ rs. all_rules (rules_in rs)) (rules_of σ scope rest)
-    | At ↦ start_rule σ scope rest
+  pub list_constraint : Symbols → List Declared → Shapes → Option Constraint
+  list_constraint σ scope no_shapes = Some (all_constraints no_constraints)
+  list_constraint σ scope (shape (node ss) rest) = None
+  list_constraint σ scope (shape (leaf w) rest) = elim (constraint_form_of w) [
+    | And ↦ option_map (λ rs. all_constraints (constraints_in rs)) (constraints_of σ scope rest)
+    | At ↦ start_constraint σ scope rest
     | Limit ↦ limited σ scope w rest
   ]
 
   -- 'at start' is not kept
-  pub start_rule : Symbols → List Declared → Shapes → Option Rule
-  start_rule σ scope no_shapes = None
-  start_rule σ scope (shape s rest) =
-      elim (is_start s) [ true ↦ only_rule σ scope rest | false ↦ None ]
+  pub start_constraint : Symbols → List Declared → Shapes → Option Constraint
+  start_constraint σ scope no_shapes = None
+  start_constraint σ scope (shape s rest) =
+      elim (is_start s) [ true ↦ only_constraint σ scope rest | false ↦ None ]
 
-  pub only_rule : Symbols → List Declared → Shapes → Option Rule
-  only_rule σ scope no_shapes = None
-  only_rule σ scope (shape s no_shapes) = rule_of σ scope s
-  only_rule σ scope (shape s (shape t ss)) = None
+  pub only_constraint : Symbols → List Declared → Shapes → Option Constraint
+  only_constraint σ scope no_shapes = None
+  only_constraint σ scope (shape s no_shapes) = constraint_of σ scope s
+  only_constraint σ scope (shape s (shape t ss)) = None
 
-  pub rules_of : Symbols → List Declared → Shapes → Option (List Rule)
-  rules_of σ scope no_shapes = Some []
-  rules_of σ scope (shape s ss) =
-      rule_of σ scope s >>= λ r. option_map (λ rs. r ∷ rs) (rules_of σ scope ss)
+  pub constraints_of : Symbols → List Declared → Shapes → Option (List Constraint)
+  constraints_of σ scope no_shapes = Some []
+  constraints_of σ scope (shape s ss) =
+      constraint_of σ scope s >>= λ r. option_map (λ rs. r ∷ rs) (constraints_of σ scope ss)

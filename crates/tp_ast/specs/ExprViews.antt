@@ -8,7 +8,7 @@ abbrev pub expr_step : Expr-F Expression → Expression
 expr_step (Expr-F.Number n) = number n
 expr_step (Expr-F.Fluent a) = fluent (atom_view a)
 expr_step (Expr-F.Sum a b) = sum a.value b.value
-expr_step (Expr-F.Negative a) = negative a.value
+expr_step (Expr-F.Negated a) = negative a.value
 expr_step (Expr-F.Difference a b) = difference a.value b.value
 expr_step (Expr-F.Product a b) = product a.value b.value
 expr_step Expr-F.Duration = the_duration

@@ -16,5 +16,5 @@ pub mod ExprViews
 pub mod CondViews
 pub mod PartViews
 pub mod EffectViews
-pub mod RuleViews
+pub mod ConstraintViews
 pub mod DomainViews

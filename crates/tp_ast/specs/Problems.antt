@@ -93,17 +93,17 @@ no_clash (i ∷ rest) = not (list_any (clash i) rest) && no_clash rest
 
 -- ---- sections, each at most once
 
-pub record Part : Type 0 where
+pub record ProblemSectionBody : Type 0 where
   pub section : ProblemSection
   pub body : Shapes
 
 -- (:NAME ..)
-unfoldable pub section_at : Shape → Option Part
+unfoldable pub section_at : Shape → Option ProblemSectionBody
 section_at (node (shape (leaf w) body)) =
     option_map (λ k. record { section = k; body = body }) (problem_section_of w)
 section_at _ = None
 
-unfoldable pub sections_of : Shapes → Option (List Part)
+unfoldable pub sections_of : Shapes → Option (List ProblemSectionBody)
 sections_of no_shapes = Some []
 sections_of (shape s ss) = section_at s >>= λ p. option_map (λ ps. p ∷ ps) (sections_of ss)
 
@@ -115,14 +115,14 @@ section_number sections.Goal = 3
 section_number sections.Metric = 4
 section_number sections.Length = 5
 
-abbrev pub is_section : ProblemSection → Part → Bool
+abbrev pub is_section : ProblemSection → ProblemSectionBody → Bool
 is_section k p = section_number p.section == section_number k
 
-abbrev pub section : ProblemSection → List Part → Shapes
+abbrev pub section : ProblemSection → List ProblemSectionBody → Shapes
 section k [] = no_shapes
 section k (p ∷ ps) = if is_section k p then p.body else section k ps
 
-abbrev pub each_once : List Part → Bool
+abbrev pub each_once : List ProblemSectionBody → Bool
 each_once [] = true
 each_once (p ∷ ps) = not (list_any (is_section p.section) ps) && each_once ps
 
@@ -137,7 +137,7 @@ new_objects d ss =
     provided (not (has_twice (map (λ o. o.name) (d.constants ++ objects)))) objects
 
 -- what holds at first, and what is to hold
-unfoldable pub stated : Symbols → List Part → Option (List Initial × Condition)
+unfoldable pub stated : Symbols → List ProblemSectionBody → Option (List Initial × Condition)
 stated σ ps =
     initial_of σ (section sections.Init ps) >>= λ initial.
     goal_in σ (section sections.Goal ps) >>= λ goal.
@@ -147,7 +147,7 @@ abbrev pub problem_from : Name → List Declared → List Initial × Condition �
 problem_from n objects said =
     record { name = n; objects = objects; initial = said.0; goal = said.1 }
 
-unfoldable pub problem_with : Domain → Name → List Part → Option Problem
+unfoldable pub problem_with : Domain → Name → List ProblemSectionBody → Option Problem
 problem_with d n ps =
     requirements_in (section sections.Requirements ps) >>= λ words.
     new_objects d (section sections.Objects ps) >>= λ objects.
@@ -159,7 +159,7 @@ own_name d head of =
     named (codes "problem") head >>= λ n.
     named (codes ":domain") of >>= λ m. provided (bytes_eq m d.name) n
 
-unfoldable pub once_each : Shapes → Option (List Part)
+unfoldable pub once_each : Shapes → Option (List ProblemSectionBody)
 once_each ss = sections_of ss >>= λ ps. provided (each_once ps) ps
 
 -- (define (problem NAME) (:domain NAME) SECTION ..)

@@ -21,7 +21,7 @@ pub record Parent : Type 0 where
   pub name : Name
   pub parent : Name
 
-pub record Form : Type 0 where
+pub record SignatureView : Type 0 where
   pub name : Name
   pub parameters : List Declared
 
@@ -31,8 +31,8 @@ typed_view t = record { name = string_bytes t.name; types = map string_bytes t.t
 abbrev pub parent_view : TypeName → Parent
 parent_view t = record { name = string_bytes t.name; parent = string_bytes t.parent.value }
 
-abbrev pub form_view : Signature → Form
-form_view s = record { name = string_bytes s.name; parameters = map typed_view s.parameters.items }
+abbrev pub signature_view : Signature → SignatureView
+signature_view s = record { name = string_bytes s.name; parameters = map typed_view s.parameters.items }
 
 -- the types under a name, from the first declaration that has it
 abbrev pub types_of : Name → List Declared → Option (List Name)
@@ -80,16 +80,16 @@ arguments_fit ds objects scope (a ∷ more) [] = false
 pub record Symbols : Type 0 where
   pub types : List Parent
   pub objects : List Declared
-  pub predicates : List Form
-  pub functions : List Form
+  pub predicates : List SignatureView
+  pub functions : List SignatureView
 
-abbrev pub form_of : Name → List Form → Option Form
-form_of n [] = None
-form_of n (f ∷ fs) = if bytes_eq f.name n then Some f else form_of n fs
+abbrev pub signature_of : Name → List SignatureView → Option SignatureView
+signature_of n [] = None
+signature_of n (f ∷ fs) = if bytes_eq f.name n then Some f else signature_of n fs
 
 -- (NAME TERM ..), the name one of these, with arguments that fit
-unfoldable pub atom_in : Symbols → List Form → List Declared → List ℕ → Shapes → Option Fact
-atom_in σ forms scope w rest =
-    name_of w >>= λ n. form_of n forms >>= λ f. terms_of rest >>= λ ts.
+unfoldable pub atom_in : Symbols → List SignatureView → List Declared → List ℕ → Shapes → Option Fact
+atom_in σ signatures scope w rest =
+    name_of w >>= λ n. signature_of n signatures >>= λ f. terms_of rest >>= λ ts.
     provided (arguments_fit σ.types σ.objects scope ts f.parameters)
     (record { name = n; arguments = ts })

@@ -2,11 +2,11 @@
 use Rattle.std.specs.Prelude.{◌≡◌, ℕ, List, map, Bool, codes, if◌then◌else◌, Option, Some, None}
 use Rattle.std.specs.Char.{to_ascii_lowercase}
 use Rattle.std.specs.Str.{bytes_eq}
-use Rattle.tp_ast.specs.declared.words.Head as heads
+use Rattle.tp_ast.specs.declared.words.CondWord as cond_words
 use Rattle.tp_ast.specs.declared.words.Operator as operators
 use Rattle.tp_ast.specs.declared.words.EffectWord as effect_words
 use Rattle.tp_ast.specs.declared.words.Joint as joints
-use Rattle.tp_ast.specs.declared.words.RuleForm as rule_forms
+use Rattle.tp_ast.specs.declared.words.ConstraintForm as constraint_forms
 use Rattle.tp_ast.specs.declared.words.Comparison as comparisons
 use Rattle.tp_ast.specs.declared.words.TimeSpecifier as specifiers
 use Rattle.tp_ast.specs.declared.words.Key as keys
@@ -23,21 +23,21 @@ IsLower w = lower w ≡ w
 unfoldable pub is_word : List ℕ → List ℕ → Bool
 is_word name w = bytes_eq (lower w) name
 
-unfoldable pub head_of : List ℕ → heads.Head
-head_of w =
-    if is_word (codes "and") w then heads.TheVariants.And
-    else (if is_word (codes "or") w then heads.TheVariants.Or
-    else (if is_word (codes "not") w then heads.TheVariants.Not
-    else (if is_word (codes "imply") w then heads.TheVariants.Imply
-    else (if is_word (codes "forall") w then heads.TheVariants.Forall
-    else (if is_word (codes "exists") w then heads.TheVariants.Exists
-    else (if is_word (codes "=") w then heads.TheVariants.Equal
-    else (if is_word (codes "<") w then heads.TheVariants.Less
-    else (if is_word (codes "<=") w then heads.TheVariants.AtMost
-    else (if is_word (codes ">=") w then heads.TheVariants.AtLeast
-    else (if is_word (codes ">") w then heads.TheVariants.More
-    else (if is_word (codes "preference") w then heads.TheVariants.Preference
-    else heads.TheVariants.Other)))))))))))
+unfoldable pub cond_word_of : List ℕ → cond_words.CondWord
+cond_word_of w =
+    if is_word (codes "and") w then cond_words.TheVariants.And
+    else (if is_word (codes "or") w then cond_words.TheVariants.Or
+    else (if is_word (codes "not") w then cond_words.TheVariants.Not
+    else (if is_word (codes "imply") w then cond_words.TheVariants.Imply
+    else (if is_word (codes "forall") w then cond_words.TheVariants.Forall
+    else (if is_word (codes "exists") w then cond_words.TheVariants.Exists
+    else (if is_word (codes "=") w then cond_words.TheVariants.Equal
+    else (if is_word (codes "<") w then cond_words.TheVariants.Less
+    else (if is_word (codes "<=") w then cond_words.TheVariants.AtMost
+    else (if is_word (codes ">=") w then cond_words.TheVariants.AtLeast
+    else (if is_word (codes ">") w then cond_words.TheVariants.Greater
+    else (if is_word (codes "preference") w then cond_words.TheVariants.Preference
+    else cond_words.TheVariants.Other)))))))))))
 
 unfoldable pub operator_of : List ℕ → operators.Operator
 operator_of w =
@@ -65,26 +65,26 @@ joint_of w =
     else joints.TheVariants.One)
 
 -- of a duration constraint
-unfoldable pub rule_form_of : List ℕ → rule_forms.RuleForm
-rule_form_of w =
-    if is_word (codes "and") w then rule_forms.TheVariants.And
-    else (if is_word (codes "at") w then rule_forms.TheVariants.At
-    else rule_forms.TheVariants.Limit)
+unfoldable pub constraint_form_of : List ℕ → constraint_forms.ConstraintForm
+constraint_form_of w =
+    if is_word (codes "and") w then constraint_forms.TheVariants.And
+    else (if is_word (codes "at") w then constraint_forms.TheVariants.At
+    else constraint_forms.TheVariants.Limit)
 
 -- (OP X X)
-abbrev pub comparison : heads.Head → Option comparisons.Comparison
-comparison heads.TheVariants.Less = Some comparisons.TheVariants.Less
-comparison heads.TheVariants.AtMost = Some comparisons.TheVariants.AtMost
-comparison heads.TheVariants.Equal = Some comparisons.TheVariants.Equal
-comparison heads.TheVariants.AtLeast = Some comparisons.TheVariants.AtLeast
-comparison heads.TheVariants.More = Some comparisons.TheVariants.More
+abbrev pub comparison : cond_words.CondWord → Option comparisons.Comparison
+comparison cond_words.TheVariants.Less = Some comparisons.TheVariants.Less
+comparison cond_words.TheVariants.AtMost = Some comparisons.TheVariants.AtMost
+comparison cond_words.TheVariants.Equal = Some comparisons.TheVariants.Equal
+comparison cond_words.TheVariants.AtLeast = Some comparisons.TheVariants.AtLeast
+comparison cond_words.TheVariants.Greater = Some comparisons.TheVariants.Greater
 comparison _ = None
 
 -- (OP ?duration X)
-abbrev pub duration_comparison : heads.Head → Option comparisons.Comparison
-duration_comparison heads.TheVariants.AtMost = Some comparisons.TheVariants.AtMost
-duration_comparison heads.TheVariants.Equal = Some comparisons.TheVariants.Equal
-duration_comparison heads.TheVariants.AtLeast = Some comparisons.TheVariants.AtLeast
+abbrev pub duration_comparison : cond_words.CondWord → Option comparisons.Comparison
+duration_comparison cond_words.TheVariants.AtMost = Some comparisons.TheVariants.AtMost
+duration_comparison cond_words.TheVariants.Equal = Some comparisons.TheVariants.Equal
+duration_comparison cond_words.TheVariants.AtLeast = Some comparisons.TheVariants.AtLeast
 duration_comparison _ = None
 
 -- 'at start', 'over all', 'at end'

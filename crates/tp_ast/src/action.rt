@@ -1,8 +1,8 @@
 //! Actions.
 
 use crate::cond::Cond;
+use crate::constraint::DurationConstraint;
 use crate::effect::Effect;
-use crate::rule::DurationRule;
 use crate::symbols::Typed;
 use crate::timed::{TimedCond, TimedEffect};
 
@@ -16,7 +16,7 @@ pub enum Body {
     },
     /// It has a start, an end and the time between them.
     Durative {
-        duration: DurationRule,
+        duration: DurationConstraint,
         condition: TimedCond,
         effect: TimedEffect,
     },

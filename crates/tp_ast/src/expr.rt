@@ -8,7 +8,7 @@ pub enum Expr {
     Number(i64),
     Fluent(Atom),
     Sum(Box<Expr>, Box<Expr>),
-    Negative(Box<Expr>),
+    Negated(Box<Expr>),
     Difference(Box<Expr>, Box<Expr>),
     Product(Box<Expr>, Box<Expr>),
     Duration,

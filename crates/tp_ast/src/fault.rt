@@ -45,8 +45,8 @@ pub enum SyntaxFault {
     /// The text is no tree.
     #[error("the text is not one list")]
     Text(TextFault),
-    /// The list there has the wrong form.
-    #[error("the list at {0} has the wrong form")]
+    /// The list there has the wrong signature.
+    #[error("the list at {0} has the wrong signature")]
     Shape(u32),
     /// The name there is not declared.
     #[error("the name at {0} is not declared")]

@@ -1,11 +1,11 @@
 //! The words that forms begin with.
 
 ghost use Rattle.std.specs.Prelude.{◌≡◌, codes};
-ghost use Rattle.tp_ast.specs.Words.{is_word, IsLower, operator_of, head_of, effect_word_of, joint_of, rule_form_of, specifier_of, key_of, section_of, problem_section_of};
+ghost use Rattle.tp_ast.specs.Words.{is_word, IsLower, operator_of, cond_word_of, effect_word_of, joint_of, constraint_form_of, specifier_of, key_of, section_of, problem_section_of};
 
 /// Of conditions.
 #[derive(Clone, Copy, Debug, PartialEq, Eq)]
-pub enum Head {
+pub enum CondWord {
     And,
     Or,
     Not,
@@ -16,7 +16,7 @@ pub enum Head {
     Less,
     AtMost,
     AtLeast,
-    More,
+    Greater,
     Preference,
     Other,
 }
@@ -54,7 +54,7 @@ pub enum Joint {
 
 /// Of duration constraints.
 #[derive(Clone, Copy, Debug, PartialEq, Eq)]
-pub enum RuleForm {
+pub enum ConstraintForm {
     And,
     At,
     Limit,
@@ -67,7 +67,7 @@ pub enum Comparison {
     AtMost,
     Equal,
     AtLeast,
-    More,
+    Greater,
 }
 
 /// The assignment operator of a numeric effect.
@@ -160,36 +160,36 @@ pub fn operator_of(word: &str) -> Operator
     }
 }
 
-#[tactic(auto, unfolding(crate::specs::Words::head_of))]
-pub fn head_of(word: &str) -> Head
-    ensures { result ≡ head_of word.now }
+#[tactic(auto, unfolding(crate::specs::Words::cond_word_of))]
+pub fn cond_word_of(word: &str) -> CondWord
+    ensures { result ≡ cond_word_of word.now }
 {
     if is_word(word, "and") {
-        Head::And
+        CondWord::And
     } else if is_word(word, "or") {
-        Head::Or
+        CondWord::Or
     } else if is_word(word, "not") {
-        Head::Not
+        CondWord::Not
     } else if is_word(word, "imply") {
-        Head::Imply
+        CondWord::Imply
     } else if is_word(word, "forall") {
-        Head::Forall
+        CondWord::Forall
     } else if is_word(word, "exists") {
-        Head::Exists
+        CondWord::Exists
     } else if is_word(word, "=") {
-        Head::Equal
+        CondWord::Equal
     } else if is_word(word, "<") {
-        Head::Less
+        CondWord::Less
     } else if is_word(word, "<=") {
-        Head::AtMost
+        CondWord::AtMost
     } else if is_word(word, ">=") {
-        Head::AtLeast
+        CondWord::AtLeast
     } else if is_word(word, ">") {
-        Head::More
+        CondWord::Greater
     } else if is_word(word, "preference") {
-        Head::Preference
+        CondWord::Preference
     } else {
-        Head::Other
+        CondWord::Other
     }
 }
 
@@ -229,16 +229,16 @@ pub fn joint_of(word: &str) -> Joint
     }
 }
 
-#[tactic(auto, unfolding(crate::specs::Words::rule_form_of))]
-pub fn rule_form_of(word: &str) -> RuleForm
-    ensures { result ≡ rule_form_of word.now }
+#[tactic(auto, unfolding(crate::specs::Words::constraint_form_of))]
+pub fn constraint_form_of(word: &str) -> ConstraintForm
+    ensures { result ≡ constraint_form_of word.now }
 {
     if is_word(word, "and") {
-        RuleForm::And
+        ConstraintForm::And
     } else if is_word(word, "at") {
-        RuleForm::At
+        ConstraintForm::At
     } else {
-        RuleForm::Limit
+        ConstraintForm::Limit
     }
 }
 

@@ -14,17 +14,17 @@ use Rattle.tp_bounds.specs.Reasons.{BeginsWith}
 use Rattle.tp_bounds.specs.Setting.{Setting, event_count, fixed_at, floor_of}
 use Rattle.tp_bounds.specs.Schedule.{IsSchedule}
 use Rattle.tp_bounds.specs.Lawful.{IsLawful}
-use Rattle.tp_exec.specs.declared.command.Command.{Command}
-use Rattle.tp_exec.specs.declared.command.Command.TheVariants.{Advance, Add, Withdraw, Window, Dispatch, Happened, Report as Tell}
-use Rattle.tp_exec.specs.declared.command.Kind.{Kind}
-use Rattle.tp_exec.specs.declared.command.Kind.TheVariants.{Bare, Kept, Altered}
-use Rattle.tp_exec.specs.declared.command.Answer.{Answer}
-use Rattle.tp_exec.specs.declared.command.Answer.TheVariants.{Accepted, Named, Told as Shown, Reported, Refused}
-use Rattle.tp_exec.specs.declared.command.Report.{Report}
-use Rattle.tp_exec.specs.declared.refusal.Refusal.{Refusal}
-use Rattle.tp_exec.specs.declared.refusal.Refusal.TheVariants.{NoEvent, Done, NoBound, Weight, Back, Moment, Full, Spent, Memory, Conflict}
-use Rattle.tp_exec.specs.Machine.{Machine}
-use Rattle.tp_exec.specs.Step.{Step, Decides, Refuses, Tells, AreMoments, first_refusal, is_point_of, is_in_range, brings}
+use Rattle.tp_machine.specs.declared.command.Command.{Command}
+use Rattle.tp_machine.specs.declared.command.Command.TheVariants.{Advance, Add, Withdraw, Window, Dispatch, Happened, Report as Tell}
+use Rattle.tp_machine.specs.declared.command.Kind.{Kind}
+use Rattle.tp_machine.specs.declared.command.Kind.TheVariants.{Bare, Kept, Altered}
+use Rattle.tp_machine.specs.declared.command.Answer.{Answer}
+use Rattle.tp_machine.specs.declared.command.Answer.TheVariants.{Accepted, Named, Told as Shown, Reported, Refused}
+use Rattle.tp_machine.specs.declared.command.Report.{Report}
+use Rattle.tp_machine.specs.declared.refusal.Refusal.{Refusal}
+use Rattle.tp_machine.specs.declared.refusal.Refusal.TheVariants.{NoEvent, Done, NoBound, Weight, Back, Moment, Full, Spent, Memory, Conflict}
+use Rattle.tp_machine.specs.Machine.{Machine}
+use Rattle.tp_machine.specs.Step.{Step, Decides, Refuses, Tells, AreMoments, first_refusal, is_point_of, is_in_range, brings}
 use Rattle.tp_script.specs.Words.{words_of}
 use Rattle.tp_script.specs.Commands.{list_is_empty}
 use Rattle.tp_script.specs.Transcript.{answer_text, edge_text, kind_text, moment_text}

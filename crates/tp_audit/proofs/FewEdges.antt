@@ -15,17 +15,17 @@ use Rattle.tp_bounds.specs.Lawful.{IsLawful}
 use Rattle.tp_bounds.specs.Reasons.{IsReason, AreBounds, BeginApart, bound_of, at_most, at_least, is_open}
 use Rattle.tp_bounds.proofs.Chains.{from_map, from_cond, opened}
 use Rattle.tp_bounds.proofs.LawfulChanges.{lawful_asking, lawful_taken}
-use Rattle.tp_exec.specs.declared.command.Command.{Command}
-use Rattle.tp_exec.specs.declared.command.Command.TheVariants.{Advance, Add, Withdraw, Window, Dispatch, Happened, Report as Tell}
-use Rattle.tp_exec.specs.Machine.{Machine}
-use Rattle.tp_exec.specs.Step.{first_refusal, asked}
-use Rattle.tp_journal.specs.Reasons.{place_of}
+use Rattle.tp_machine.specs.declared.command.Command.{Command}
+use Rattle.tp_machine.specs.declared.command.Command.TheVariants.{Advance, Add, Withdraw, Window, Dispatch, Happened, Report as Tell}
+use Rattle.tp_machine.specs.Machine.{Machine}
+use Rattle.tp_machine.specs.Step.{first_refusal, asked}
+use Rattle.tp_net.specs.Arcs.{number_of}
 use Rattle.tp_audit.specs.Laws.{IsWithin}
 use Rattle.tp_audit.proofs.PairForms.{suits_there, advanced, dispatched, happened}
 
 -- ---- different points have different places
 
-same_place : (p q : Point) → place_of p ≡ place_of q → p ≡ q
+same_place : (p q : Point) → number_of p ≡ number_of q → p ≡ q
 same_place Origin Origin h = refl
 same_place Origin (Event e) h = absurd (let f : ⊥ = omega arith in f)
 same_place (Event e) Origin h = absurd (let f : ⊥ = omega arith in f)
@@ -33,15 +33,15 @@ same_place (Event e) (Event k) h = let f : e ≡ k = omega arith in ap (λ n. Ev
 
 abbrev places : List Bound → List ℕ
 places [] = []
-places (b ∷ bs) = place_of b.from ∷ places bs
+places (b ∷ bs) = number_of b.from ∷ places bs
 
 as_many : (bs : List Bound) → length (places bs) ≡ length bs
 as_many [] = refl
 as_many (b ∷ bs) = ap suc (as_many bs)
 
-other_places : (p : Point) (bs : List Bound) → AllByRecursion (λ c. p ≢ c.from) bs → AllByRecursion (λ n. nat_eq (place_of p) n ≡ false) (places bs)
+other_places : (p : Point) (bs : List Bound) → AllByRecursion (λ c. p ≢ c.from) bs → AllByRecursion (λ n. nat_eq (number_of p) n ≡ false) (places bs)
 other_places p [] h = tt
-other_places p (b ∷ bs) h = (ne_eqb (place_of p) (place_of b.from) (λ same. h.0 (same_place p b.from same)), other_places p bs h.1)
+other_places p (b ∷ bs) h = (ne_eqb (number_of p) (number_of b.from) (λ same. h.0 (same_place p b.from same)), other_places p bs h.1)
 
 distinct : (bs : List Bound) → BeginApart bs → IsDistinct nat_eq (places bs)
 unfolding IsDistinct
@@ -50,7 +50,7 @@ distinct (b ∷ bs) h = (other_places b.from bs h.0, distinct bs h.1)
 
 -- ---- there are as many places as points
 
-place_below : (s : Setting) (p : Point) → HasPoint s p → place_of p < event_count s + 1
+place_below : (s : Setting) (p : Point) → HasPoint s p → number_of p < event_count s + 1
 place_below s Origin h = omega arith
 place_below s (Event e) h = let lt : e < event_count s = h in omega arith
 
@@ -65,8 +65,8 @@ either false b h = inr h
 all_below : (s : Setting) (bs : List Bound) → Begin s bs → (q : ℕ) → list_any (nat_eq q) (places bs) ≡ true → q < event_count s + 1
 all_below s [] h q is = absurd (let f : ⊥ = cc in f)
 all_below s (b ∷ bs) h q is =
-    elim (either (nat_eq q (place_of b.from)) (list_any (nat_eq q) (places bs)) is) [
-      | inl here ↦ let same : q ≡ place_of b.from = grind (arith, nat_tests, here) in omega (arith, same, place_below s b.from h.0)
+    elim (either (nat_eq q (number_of b.from)) (list_any (nat_eq q) (places bs)) is) [
+      | inl here ↦ let same : q ≡ number_of b.from = grind (arith, nat_tests, here) in omega (arith, same, place_below s b.from h.0)
       | inr there ↦ all_below s bs h.1 q there
     ]
 

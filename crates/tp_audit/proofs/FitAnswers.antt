@@ -1,15 +1,15 @@
 -- The numbers of each answer of the machine are in range.
 use Rattle.std.proofs.Common.{◌≡◌, ℕ, ◌^◌, ◌<◌, ◌≤◌, length, Option, Some, None, MatchOption, refl, sym, subst, arith}
 use Rattle.tp_bounds.specs.Setting.{event_count}
-use Rattle.tp_exec.specs.declared.command.Command.{Command}
-use Rattle.tp_exec.specs.declared.command.Command.TheVariants.{Advance, Add, Withdraw, Window, Dispatch, Happened, Report as Tell}
-use Rattle.tp_exec.specs.declared.command.Answer.{Answer}
-use Rattle.tp_exec.specs.declared.command.Answer.TheVariants.{Accepted, Named, Told as Shown, Reported, Refused}
-use Rattle.tp_exec.specs.declared.command.Report.{Report}
-use Rattle.tp_exec.specs.declared.refusal.Refusal.{Refusal}
-use Rattle.tp_exec.specs.declared.refusal.Refusal.TheVariants.{NoEvent, Done, NoBound, Weight, Back, Moment, Full, Spent, Memory, Conflict}
-use Rattle.tp_exec.specs.Machine.{Machine}
-use Rattle.tp_exec.specs.Step.{Step, Decides, Refuses, Tells, first_refusal}
+use Rattle.tp_machine.specs.declared.command.Command.{Command}
+use Rattle.tp_machine.specs.declared.command.Command.TheVariants.{Advance, Add, Withdraw, Window, Dispatch, Happened, Report as Tell}
+use Rattle.tp_machine.specs.declared.command.Answer.{Answer}
+use Rattle.tp_machine.specs.declared.command.Answer.TheVariants.{Accepted, Named, Told as Shown, Reported, Refused}
+use Rattle.tp_machine.specs.declared.command.Report.{Report}
+use Rattle.tp_machine.specs.declared.refusal.Refusal.{Refusal}
+use Rattle.tp_machine.specs.declared.refusal.Refusal.TheVariants.{NoEvent, Done, NoBound, Weight, Back, Moment, Full, Spent, Memory, Conflict}
+use Rattle.tp_machine.specs.Machine.{Machine}
+use Rattle.tp_machine.specs.Step.{Step, Decides, Refuses, Tells, first_refusal}
 use Rattle.tp_journal.specs.Edges.{Fit_edges}
 use Rattle.tp_journal.proofs.EdgeTexts.{fits_reason}
 use Rattle.tp_audit.specs.Laws.{IsWithin}

@@ -10,14 +10,14 @@ use Rattle.tp_bounds.specs.declared.Point.{Point}
 use Rattle.tp_bounds.specs.declared.Point.TheVariants.{Origin, Event}
 use Rattle.tp_bounds.specs.declared.Edge.{Edge}
 use Rattle.tp_bounds.specs.declared.Edge.TheVariants.{Own, New, PastHigh, PastLow, Now, End}
-use Rattle.tp_exec.specs.declared.command.Command.{Command}
-use Rattle.tp_exec.specs.declared.command.Command.TheVariants.{Advance, Add, Withdraw, Window, Dispatch, Happened, Report as Tell}
-use Rattle.tp_exec.specs.declared.command.Kind.{Kind}
-use Rattle.tp_exec.specs.declared.command.Kind.TheVariants.{Bare, Kept, Altered}
-use Rattle.tp_exec.specs.declared.command.Answer.{Answer}
-use Rattle.tp_exec.specs.declared.command.Answer.TheVariants.{Accepted, Named, Told as Shown, Reported, Refused}
-use Rattle.tp_exec.specs.declared.refusal.Refusal.TheVariants.{NoEvent, Done, NoBound, Weight, Back, Moment, Full, Spent, Memory, Conflict}
-use Rattle.tp_exec.specs.Machine.{Machine}
+use Rattle.tp_machine.specs.declared.command.Command.{Command}
+use Rattle.tp_machine.specs.declared.command.Command.TheVariants.{Advance, Add, Withdraw, Window, Dispatch, Happened, Report as Tell}
+use Rattle.tp_machine.specs.declared.command.Kind.{Kind}
+use Rattle.tp_machine.specs.declared.command.Kind.TheVariants.{Bare, Kept, Altered}
+use Rattle.tp_machine.specs.declared.command.Answer.{Answer}
+use Rattle.tp_machine.specs.declared.command.Answer.TheVariants.{Accepted, Named, Told as Shown, Reported, Refused}
+use Rattle.tp_machine.specs.declared.refusal.Refusal.TheVariants.{NoEvent, Done, NoBound, Weight, Back, Moment, Full, Spent, Memory, Conflict}
+use Rattle.tp_machine.specs.Machine.{Machine}
 use Rattle.tp_script.specs.Transcript.{answer_text, edge_text, kind_text, moment_text}
 use Rattle.tp_script.specs.Written.{point_text, bound_text, command_text}
 use Rattle.tp_script.proofs.ReadBack.{FitsCommand, fits_spelled}

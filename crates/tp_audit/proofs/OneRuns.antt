@@ -2,12 +2,12 @@
 use Rattle.std.proofs.Common.{◌≡◌, ◌⊎◌, inl, inr, ℕ, true, false, List, [], ◌∷◌, ◌++◌, Option, Some, None, MatchOption, refl, ap, sym, subst, ◌∙◌, flat_map, append_assoc, codes, decimal}
 use Rattle.std.proofs.lemmas.List.{append_cancel_left}
 use Rattle.std.proofs.lemmas.List.Elements.{All-nil, All-cons, All-append}
-use Rattle.tp_exec.specs.declared.command.Command.{Command}
-use Rattle.tp_exec.specs.declared.command.Answer.{Answer}
-use Rattle.tp_exec.specs.declared.command.Answer.TheVariants.{Accepted, Named, Told as Shown, Reported, Refused}
-use Rattle.tp_exec.specs.declared.refusal.Refusal.{Refusal}
-use Rattle.tp_exec.specs.Machine.{Machine}
-use Rattle.tp_exec.specs.Step.{Step, Decides, first_refusal, accepted}
+use Rattle.tp_machine.specs.declared.command.Command.{Command}
+use Rattle.tp_machine.specs.declared.command.Answer.{Answer}
+use Rattle.tp_machine.specs.declared.command.Answer.TheVariants.{Accepted, Named, Told as Shown, Reported, Refused}
+use Rattle.tp_machine.specs.declared.refusal.Refusal.{Refusal}
+use Rattle.tp_machine.specs.Machine.{Machine}
+use Rattle.tp_machine.specs.Step.{Step, Decides, first_refusal, accepted}
 use Rattle.tp_script.specs.Reading.{Free}
 use Rattle.tp_script.specs.Transcript.{answer_text}
 use Rattle.tp_journal.specs.Edges.{begins}

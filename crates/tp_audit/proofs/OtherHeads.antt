@@ -4,7 +4,7 @@ use Rattle.std.specs.List.{All}
 use Rattle.std.specs.Option.{option_map, option_and_then}
 use Rattle.std.proofs.lemmas.List.Elements.{All-head}
 use Rattle.tp_bounds.specs.Setting.{event_count}
-use Rattle.tp_exec.specs.Machine.{Machine}
+use Rattle.tp_machine.specs.Machine.{Machine}
 use Rattle.tp_script.specs.Reading.{Free}
 use Rattle.tp_journal.specs.Journal.{Entry, IsHead, Runs, head_of, head_lines, question_line, answer_line, pair_lines, journal_lines, text_of}
 use Rattle.tp_audit.specs.declared.form.Asked.{Asked}

@@ -11,14 +11,14 @@ use Rattle.tp_bounds.specs.declared.Point.TheVariants.{Origin, Event}
 use Rattle.tp_bounds.specs.Setting.{Setting, event_count, fixed_at, floor_of, HasPoint, IsInRange}
 use Rattle.tp_bounds.specs.Lawful.{IsLawful, Suits}
 use Rattle.tp_bounds.proofs.LawfulChanges.{lawful_put, lawful_taken, lawful_raised, lawful_fixed}
-use Rattle.tp_exec.specs.declared.command.Command.{Command}
-use Rattle.tp_exec.specs.declared.command.Command.TheVariants.{Advance, Add, Withdraw, Window, Dispatch, Happened, Report as Tell}
-use Rattle.tp_exec.specs.declared.command.Answer.{Answer}
-use Rattle.tp_exec.specs.declared.command.Answer.TheVariants.{Accepted, Named, Told as Shown, Reported, Refused}
-use Rattle.tp_exec.specs.declared.refusal.Refusal.{Refusal}
-use Rattle.tp_exec.specs.declared.refusal.Refusal.TheVariants.{NoEvent, Done, Weight, Back, Moment, Full, Spent}
-use Rattle.tp_exec.specs.Machine.{Machine}
-use Rattle.tp_exec.specs.Step.{Step, Decides, first_refusal, accepted, is_point_of, is_in_range}
+use Rattle.tp_machine.specs.declared.command.Command.{Command}
+use Rattle.tp_machine.specs.declared.command.Command.TheVariants.{Advance, Add, Withdraw, Window, Dispatch, Happened, Report as Tell}
+use Rattle.tp_machine.specs.declared.command.Answer.{Answer}
+use Rattle.tp_machine.specs.declared.command.Answer.TheVariants.{Accepted, Named, Told as Shown, Reported, Refused}
+use Rattle.tp_machine.specs.declared.refusal.Refusal.{Refusal}
+use Rattle.tp_machine.specs.declared.refusal.Refusal.TheVariants.{NoEvent, Done, Weight, Back, Moment, Full, Spent}
+use Rattle.tp_machine.specs.Machine.{Machine}
+use Rattle.tp_machine.specs.Step.{Step, Decides, first_refusal, accepted, is_point_of, is_in_range}
 use Rattle.tp_script.specs.Written.{IsSpelled}
 use Rattle.tp_journal.specs.Journal.{Entry, question_line, answer_line, pair_lines, Has, Runs}
 use Rattle.tp_journal.specs.Sound.{IsSound}

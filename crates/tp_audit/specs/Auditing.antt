@@ -2,8 +2,8 @@
 use Rattle.std.specs.Prelude.{◌≡◌, ◌≢◌, ◌⊎◌, ℕ, ◌+◌, ◌≤◌, ◌<◌, true, false, List, [], ◌∷◌, ◌++◌, length, drop, Option, Some, None, IfSome, Result, Ok, Err, codes}
 use Rattle.std.specs.List.{All}
 use Rattle.std.specs.Io.KnownBytes.{Consumes, IsAtEnd}
-use Rattle.tp_exec.specs.declared.command.Kind.TheVariants.{Bare}
-use Rattle.tp_exec.specs.Machine.{Machine}
+use Rattle.tp_machine.specs.declared.command.Kind.TheVariants.{Bare}
+use Rattle.tp_machine.specs.Machine.{Machine}
 use Rattle.tp_script.specs.Pending.{Reading}
 use Rattle.tp_script.specs.Reading.{Free, HasMore, TakesPart}
 use Rattle.tp_journal.specs.Journal.{Entry, IsHead, head_of, head_lines, question_line, answer_line, Runs, IsJournal, IsJournalText, text_of, longest_line}

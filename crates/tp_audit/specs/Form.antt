@@ -3,8 +3,8 @@ use Rattle.std.specs.Prelude.{ℕ, ◌+◌, Bool, true, false, not, ◌&&◌, �
 use Rattle.std.specs.Option.{option_and_then, option_map}
 use Rattle.std.specs.List.{list_all}
 use Rattle.std.specs.Str.{bytes_eq}
-use Rattle.tp_exec.specs.declared.command.Command.{Command}
-use Rattle.tp_exec.specs.declared.command.Command.TheVariants.{Advance, Add, Withdraw, Window, Dispatch, Happened, Report}
+use Rattle.tp_machine.specs.declared.command.Command.{Command}
+use Rattle.tp_machine.specs.declared.command.Command.TheVariants.{Advance, Add, Withdraw, Window, Dispatch, Happened, Report}
 use Rattle.tp_script.specs.Words.{words_of, is_digit}
 use Rattle.tp_script.specs.Commands.{event_of, moment_of, point_of, weight_of, pair_spelled, list_is_empty, command_of}
 use Rattle.tp_script.specs.Serving.{head_of}

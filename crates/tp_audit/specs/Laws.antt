@@ -3,10 +3,10 @@ use Rattle.std.specs.Prelude.{◌≡◌, ℕ, ◌+◌, ◌<◌, ◌≤◌, ◌^�
 use Rattle.std.specs.List.{All}
 use Rattle.tp_bounds.specs.Lawful.{IsLawful}
 use Rattle.tp_bounds.specs.RunLimits.{AreLimits}
-use Rattle.tp_exec.specs.declared.command.Command.{Command}
-use Rattle.tp_exec.specs.declared.command.Answer.{Answer}
-use Rattle.tp_exec.specs.Machine.{Machine}
-use Rattle.tp_exec.specs.Step.{Step}
+use Rattle.tp_machine.specs.declared.command.Command.{Command}
+use Rattle.tp_machine.specs.declared.command.Answer.{Answer}
+use Rattle.tp_machine.specs.Machine.{Machine}
+use Rattle.tp_machine.specs.Step.{Step}
 use Rattle.tp_script.specs.Transcript.{answer_text}
 use Rattle.tp_script.specs.Written.{IsSpelled}
 use Rattle.tp_journal.specs.Journal.{Head, IsHead, head_of, head_lines, Entry, question_line, answer_line, pair_lines, Has, Runs, journal_lines, text_of, longest_line}

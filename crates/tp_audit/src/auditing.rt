@@ -13,8 +13,8 @@ use crate::faults::{AuditFault, Audited};
 use crate::form::{Asked, Place, head_place, is_reply, read_question, read_version};
 use std::alloc::Global;
 use tp_device::Source;
-use tp_exec::{Executive, Kind};
 use tp_journal::{Finding, begins_with, head_text, judge};
+use tp_machine::{Executive, Kind};
 use tp_net::Net;
 use tp_script::{LineFault, Lines, Next};
 
@@ -330,7 +330,8 @@ fn take_reply<N: Net, R: Source>(
 ) -> Result<(), AuditFault>
     requires longest { lines.old.longest ≡ 16_384 }
     requires sound { IsSound executive.old }
-    ensures replies { TakesReply executive.old executive.new lines.old lines.new asked number result }
+    ensures replies { TakesReply executive.old executive.new lines.old lines.new asked number
+        result }
     ensures sound { IsSound executive.new }
     ensures limits { SameLimits lines.old lines.new }
     ensures read { lines.new.failures ≡ audit_failures lines.old.failures result }

@@ -10,8 +10,8 @@ ghost use Rattle.tp_audit.specs.Form.{last_after, is_neat, version_of, network_o
 
 use std::alloc::{AllocError, Global};
 use tp_bounds::MOST_LAG;
-use tp_exec::Command;
 use tp_journal::{begins_with, is_text_of_command, read_edge};
+use tp_machine::Command;
 use tp_script::{next_word, read_command, read_event, read_head_line, read_moment, read_number};
 
 /// A question that was put.

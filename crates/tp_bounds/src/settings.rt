@@ -211,7 +211,7 @@ impl Setting {
 }
 
 /// The bound by which an event happens no later than a moment.
-fn at_most(e: u16, moment: u32) -> Bound
+pub fn at_most(e: u16, moment: u32) -> Bound
     ensures { result ≡ at_most e moment }
 {
     Bound {
@@ -222,7 +222,7 @@ fn at_most(e: u16, moment: u32) -> Bound
 }
 
 /// The bound by which an event happens no earlier than a moment.
-fn at_least(e: u16, moment: u32) -> Bound
+pub fn at_least(e: u16, moment: u32) -> Bound
     ensures { result ≡ at_least e moment }
 {
     Bound {

@@ -100,26 +100,26 @@ module _ (horizon : ℕ) where
         let b = all_grows (narrowed_by horizon now l.how (of_limit l)) ls in
         omega (arith, ints, a, b)
 
-    pub lawful_among : (rule : List Limit) (n : ℕ) → n ≤ horizon → IsLawful scale s rule n → IsAmong (lawful_ticks horizon scale s rule) n
-    lawful_among rule n l h = all_keeps _ rule n (record { low = omega (arith, ints, h.tick); high = omega (arith, ints) }) h.rule_holds
+    pub lawful_among : (constraint : List Limit) (n : ℕ) → n ≤ horizon → IsLawful scale s constraint n → IsAmong (lawful_ticks horizon scale s constraint) n
+    lawful_among constraint n l h = all_keeps _ constraint n (record { low = omega (arith, ints, h.tick); high = omega (arith, ints) }) h.constraint_holds
 
-    pub among_lawful : (rule : List Limit) (n : ℕ) → n ≤ horizon → IsAmong (lawful_ticks horizon scale s rule) n → IsLawful scale s rule n
-    among_lawful rule n l i = let r = all_gives _ rule n l i in record { tick = omega (arith, ints, r.0.low); rule_holds = r.1 }
+    pub among_lawful : (constraint : List Limit) (n : ℕ) → n ≤ horizon → IsAmong (lawful_ticks horizon scale s constraint) n → IsLawful scale s constraint n
+    among_lawful constraint n l i = let r = all_gives _ constraint n l i in record { tick = omega (arith, ints, r.0.low); constraint_holds = r.1 }
 
-    pub lawful_least : (rule : List Limit) → pos 1 ≤ℤ (lawful_ticks horizon scale s rule).least
-    lawful_least rule = all_grows _ rule
+    pub lawful_least : (constraint : List Limit) → pos 1 ≤ℤ (lawful_ticks horizon scale s constraint).least
+    lawful_least constraint = all_grows _ constraint
 
-    pub kept_least : (rule : List Limit) (duration : ℕ) (b : Bool) → pos 0 ≤ℤ (cond b (record { least = pos duration; most = pos duration }) (lawful_ticks horizon scale s rule)).least
-    kept_least rule duration true = omega (arith, ints)
-    kept_least rule duration false = omega (arith, ints, lawful_least rule)
+    pub kept_least : (constraint : List Limit) (duration : ℕ) (b : Bool) → pos 0 ≤ℤ (cond b (record { least = pos duration; most = pos duration }) (lawful_ticks horizon scale s constraint)).least
+    kept_least constraint duration true = omega (arith, ints)
+    kept_least constraint duration false = omega (arith, ints, lawful_least constraint)
 
-    matched : (rule : List Limit) (duration n : ℕ) (b : Bool) → n ≤ horizon → MatchBool b (n ≡ duration) (IsLawful scale s rule n) → IsAmong (cond b (record { least = pos duration; most = pos duration }) (lawful_ticks horizon scale s rule)) n
-    matched rule duration n true l h = record { low = omega (arith, ints); high = omega (arith, ints) }
-    matched rule duration n false l h = lawful_among rule n l h
+    matched : (constraint : List Limit) (duration n : ℕ) (b : Bool) → n ≤ horizon → MatchBool b (n ≡ duration) (IsLawful scale s constraint n) → IsAmong (cond b (record { least = pos duration; most = pos duration }) (lawful_ticks horizon scale s constraint)) n
+    matched constraint duration n true l h = record { low = omega (arith, ints); high = omega (arith, ints) }
+    matched constraint duration n false l h = lawful_among constraint n l h
 
-    unmatched : (rule : List Limit) (duration n : ℕ) (b : Bool) → n ≤ horizon → IsAmong (cond b (record { least = pos duration; most = pos duration }) (lawful_ticks horizon scale s rule)) n → MatchBool b (n ≡ duration) (IsLawful scale s rule n)
-    unmatched rule duration n true l i = omega (arith, ints, i.low, i.high)
-    unmatched rule duration n false l i = among_lawful rule n l i
+    unmatched : (constraint : List Limit) (duration n : ℕ) (b : Bool) → n ≤ horizon → IsAmong (cond b (record { least = pos duration; most = pos duration }) (lawful_ticks horizon scale s constraint)) n → MatchBool b (n ≡ duration) (IsLawful scale s constraint n)
+    unmatched constraint duration n true l i = omega (arith, ints, i.low, i.high)
+    unmatched constraint duration n false l i = among_lawful constraint n l i
 
     -- the bounds of a step's length
     length_met : (t : ℕ → ℕ) (k : ℕ) (w : Ticks) (n : ℕ) → t (k + 1) ≡ t k + n → IsAmong w n → MeetsEach t (length_bounds horizon k w)
@@ -146,10 +146,10 @@ module _ (horizon : ℕ) where
 
     pub keeps_length : (t : ℕ → ℕ) (k duration : ℕ) (start end : GroundEvent) → t (k + 1) ≤ horizon → KeepsDuration scale s duration start end (t k) (t (k + 1)) → MeetsEach t (length_bounds horizon k (kept_ticks horizon scale s duration start end))
     keeps_length t k duration start end l h =
-        length_met t k _ h.ticks h.apart (matched start.rule.items duration h.ticks (uses_duration start || uses_duration end) (omega (arith, h.apart)) h.lawful)
+        length_met t k _ h.ticks h.apart (matched start.constraint.items duration h.ticks (uses_duration start || uses_duration end) (omega (arith, h.apart)) h.lawful)
 
     pub length_keeps : (t : ℕ → ℕ) (k duration : ℕ) (start end : GroundEvent) → t k ≤ horizon → t (k + 1) ≤ horizon → MeetsEach t (length_bounds horizon k (kept_ticks horizon scale s duration start end)) → KeepsDuration scale s duration start end (t k) (t (k + 1))
     length_keeps t k duration start end f l h =
         let b = uses_duration start || uses_duration end in
-        let r = met_length t k (kept_ticks horizon scale s duration start end) f l (kept_least start.rule.items duration b) h in
-        record { ticks = r.0; apart = r.1; lawful = unmatched start.rule.items duration r.0 b r.2 r.3 }
+        let r = met_length t k (kept_ticks horizon scale s duration start end) f l (kept_least start.constraint.items duration b) h in
+        record { ticks = r.0; apart = r.1; lawful = unmatched start.constraint.items duration r.0 b r.2 r.3 }

@@ -87,9 +87,9 @@ module _ (n : ℕ) where
         top : (w : Ticks) (d : ℕ) → IsAmong w d → d ≤ horizon → (b : Bool) → b ≡ true → int_lt w.most (pos horizon) ≡ b → IsInRange w.most
         top w d i m b e q = let x : int_lt w.most (pos horizon) ≡ true = q ∙ e in record { not_low = omega (arith, ints, i.high); not_high = grind (arith, ints) }
 
-    among : (s : State) (d : ℕ) (rule : List Limit) (b : Bool) → d ≤ horizon → IsLawful scale s rule d → IsAmong (cond b (record { least = pos d; most = pos d }) (lawful_ticks horizon scale s rule)) d
-    among s d rule true l m = record { low = omega (arith, ints); high = omega (arith, ints) }
-    among s d rule false l m = lawful_among horizon scale s rule d l m
+    among : (s : State) (d : ℕ) (constraint : List Limit) (b : Bool) → d ≤ horizon → IsLawful scale s constraint d → IsAmong (cond b (record { least = pos d; most = pos d }) (lawful_ticks horizon scale s constraint)) d
+    among s d constraint true l m = record { low = omega (arith, ints); high = omega (arith, ints) }
+    among s d constraint false l m = lawful_among horizon scale s constraint d l m
 
     module _ (es : List Placed) (f : (e : Placed) → In e es → e.number < n) where
       body_suit : (k : ℕ) (p : Planned) (b : Body) → k + count_of b ≤ n → ((e : Placed) → In e (events_of k p b) → e.moment ≤ horizon) → BodyHolds scale trace p.moment p.duration b → AllByRecursion P (body_bounds horizon scale (trace p.moment) es k p b)
@@ -100,7 +100,7 @@ module _ (n : ℕ) where
           let d : p.duration ≤ horizon = omega (arith, u) in
           let w = kept_ticks horizon scale (trace p.moment) p.duration x y in
           all_append P (length_bounds horizon k w) _
-          (length_suit k w p.duration o d (among (trace p.moment) p.duration x.rule.items (uses_duration x || uses_duration y) d v.lawful) (kept_least horizon scale (trace p.moment) x.rule.items p.duration (uses_duration x || uses_duration y)))
+          (length_suit k w p.duration o d (among (trace p.moment) p.duration x.constraint.items (uses_duration x || uses_duration y) d v.lawful) (kept_least horizon scale (trace p.moment) x.constraint.items p.duration (uses_duration x || uses_duration y)))
           (invariant_suit es f k p.moment (p.moment + p.duration) c o)
 
       steps_suit : (k : ℕ) (ps : List Planned) → k + event_count_of ps ≤ n → ((e : Placed) → In e (events_from k ps) → e.moment ≤ horizon) → AllByRecursion (λ (p : Planned). BodyHolds scale trace p.moment p.duration p.body) ps → AllByRecursion P (steps_bounds horizon scale trace es k ps)

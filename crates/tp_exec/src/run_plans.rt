@@ -13,20 +13,21 @@ ghost use Rattle.tp_deorder.specs.tp_validate.OfTask.{IsValidPlan};
 ghost use Rattle.tp_deorder.specs.tp_validate.Verdict.{IsSound};
 ghost use Rattle.tp_deorder.specs.Answers.{IsPlanNetOf};
 ghost use Rattle.tp_deorder.specs.RunPlans.{moved_step, count_or_none, run_steps};
-ghost use Rattle.tp_exec.specs.declared.command.Answer.{Answer};
-ghost use Rattle.tp_exec.specs.declared.command.Command.{Command};
-ghost use Rattle.tp_exec.specs.declared.command.Kind.TheVariants.{Kept};
-ghost use Rattle.tp_exec.specs.Machine.{Machine, IsFresh, plan_machine};
-ghost use Rattle.tp_exec.specs.Step as machine;
-ghost use Rattle.tp_exec.specs.Run.{Run};
-ghost use Rattle.tp_exec.specs.OwnBounds.{IsDone, dispatched_at, TellsMoments};
-ghost use Rattle.tp_exec.specs.FromPlan.{CameFrom, TellsSteps};
+ghost use Rattle.tp_machine.specs.declared.command.Answer.{Answer};
+ghost use Rattle.tp_machine.specs.declared.command.Command.{Command};
+ghost use Rattle.tp_machine.specs.declared.command.Kind.TheVariants.{Kept};
+ghost use Rattle.tp_machine.specs.Machine.{Machine, IsFresh, plan_machine};
+ghost use Rattle.tp_machine.specs.Step as machine;
+ghost use Rattle.tp_machine.specs.Run.{Run};
+ghost use Rattle.tp_machine.specs.OwnBounds.{IsDone, dispatched_at, TellsMoments};
+ghost use Rattle.tp_exec.specs.FromPlan.{CameFrom, TellsSteps, TellsPlan};
 
 use std::alloc::{AllocError, Global};
 use tp_deorder::has_two;
 use tp_deorder::tp_ground::Task;
 use tp_deorder::tp_happen::{Plan, Step};
 use tp_deorder::tp_validate::ValidPlan;
+use tp_machine::{Executive, Kind};
 use tp_net::Net;
 
 /// The moments at which the events were dispatched, if all were.
@@ -116,11 +117,7 @@ fn moved(
 }
 
 /// The plan of a run, if every event was dispatched.
-pub(crate) fn plan_at<N: Net>(
-    alloc: Global,
-    net: &N,
-    plan: &ValidPlan<'_>,
-) -> Result<Option<Plan>, AllocError>
+fn plan_at<N: Net>(alloc: Global, net: &N, plan: &ValidPlan<'_>) -> Result<Option<Plan>, AllocError>
     ensures steps { IfOk result (TellsSteps plan.now.task plan.now.steps (N.seen net.now)) }
     ensures possible { HasSchedule (N.seen net.now) }
     ensures lawful { IsLawful (N.seen net.now) }
@@ -132,6 +129,25 @@ pub(crate) fn plan_at<N: Net>(
     };
     let steps = moved(alloc, task, plan.plan().steps(), &moments)?;
     Ok(Some(Plan::new(steps)))
+}
+
+/// The plan of the run, where the network came from a validated plan: that plan's steps, each at the moment of its first
+/// event and as long as to its last one. It is valid, and so it reaches the goal. There is none until every event is
+/// dispatched, and none once a bound of the plan was withdrawn.
+///
+/// It costs one look at each event and each step.
+pub fn run_plan<N: Net>(
+    executive: &Executive<N>,
+    plan: &ValidPlan<'_>,
+) -> Result<Option<Plan>, AllocError>
+    requires { CameFrom plan.now.task plan.now.steps executive.now }
+    ensures { IfOk result (TellsPlan plan.now.task plan.now.steps executive.now) }
+{
+    match executive.kind() {
+        Kind::Bare => Ok(None),
+        Kind::Kept => plan_at(executive.alloc(), executive.net(), plan),
+        Kind::Altered => Ok(None),
+    }
 }
 
 /// What an executive over the network of a plan begins with came from that plan.

@@ -1,8 +1,8 @@
 //! The least lawful duration of an action.
 
-use crate::fault::SeekFault;
+use crate::fault::SearchFault;
 use crate::forms::Forms;
-use crate::own::Own;
+use crate::state::SearchState;
 use tp_ground::{Comparison, Limit};
 use tp_text::Scale;
 
@@ -42,16 +42,16 @@ fn narrowed(allowed: Allowed, how: Comparison, ticks: i64) -> Allowed {
 // What a duration constraint allows, None where one of its values is missing.
 fn allowed_by(
     forms: &Forms<'_>,
-    own: &Own,
-    rule: &[Limit],
+    state: &SearchState,
+    constraint: &[Limit],
     unit: u32,
-) -> Result<Option<Allowed>, SeekFault> {
+) -> Result<Option<Allowed>, SearchFault> {
     let mut all = Allowed {
         least: 1,
         greatest: i64::MAX,
     };
-    for limit in rule {
-        let Some(units) = forms.limit(own, &limit.value)? else {
+    for limit in constraint {
+        let Some(units) = forms.limit(state, &limit.value)? else {
             return Ok(None);
         };
         all = narrowed(all, limit.how, units.saturating_mul(i64::from(unit)));
@@ -76,19 +76,23 @@ fn rounded(ticks: u32, unit: u32) -> u32 {
 /// or only past 32 bits.
 pub fn least_duration(
     forms: &Forms<'_>,
-    own: &Own,
-    rule: &[Limit],
+    state: &SearchState,
+    constraint: &[Limit],
     scale: Scale,
-    timed: bool,
-) -> Result<Option<u32>, SeekFault> {
+    uses_duration: bool,
+) -> Result<Option<u32>, SearchFault> {
     let unit = scale.ticks();
-    let Some(all) = allowed_by(forms, own, rule, unit)? else {
+    let Some(all) = allowed_by(forms, state, constraint, unit)? else {
         return Ok(None);
     };
     let Ok(least) = u32::try_from(all.least) else {
         return Ok(None);
     };
-    let ticks = if timed { rounded(least, unit) } else { least };
+    let ticks = if uses_duration {
+        rounded(least, unit)
+    } else {
+        least
+    };
     if i64::from(ticks) <= all.greatest {
         Ok(Some(ticks))
     } else {

@@ -1,8 +1,8 @@
 //! What events do to the state at hand.
 
-use crate::fault::SeekFault;
-use crate::forms::{Deed, Forms};
-use crate::own::{Own, place_in};
+use crate::fault::SearchFault;
+use crate::forms::{EventForm, Forms};
+use crate::state::{SearchState, place_in};
 use crate::values::{difference, product, sum};
 use std::alloc::AllocError;
 use tp_ground::{Change, NumericEffect};
@@ -10,14 +10,14 @@ use tp_ground::{Change, NumericEffect};
 // The values of right sides in the state before them; `None` stands where one is missing.
 fn right_sides(
     forms: &Forms<'_>,
-    own: &Own,
-    deed: &Deed<'_>,
+    state: &SearchState,
+    event_form: &EventForm<'_>,
     units: Option<i64>,
     into: &mut Vec<Option<i64>>,
-) -> Result<(), SeekFault> {
+) -> Result<(), SearchFault> {
     into.clear();
-    for w in &deed.event.writes {
-        let right = forms.value(own, units, &w.value)?;
+    for w in &event_form.event.writes {
+        let right = forms.value(state, units, &w.value)?;
         push_value(into, right)?;
     }
     Ok(())
@@ -32,7 +32,7 @@ fn written(
     now: Option<i64>,
     effect: &NumericEffect,
     right: Option<i64>,
-) -> Result<Option<i64>, SeekFault> {
+) -> Result<Option<i64>, SearchFault> {
     match effect.change {
         Change::Assign => Ok(right),
         Change::ScaleUp => product(now, right),
@@ -43,32 +43,32 @@ fn written(
 
 fn write_one(
     forms: &Forms<'_>,
-    own: &mut Own,
+    state: &mut SearchState,
     effect: &NumericEffect,
     right: Option<i64>,
-) -> Result<(), SeekFault> {
+) -> Result<(), SearchFault> {
     let place = place_in(&forms.fluents.places, effect.fluent);
-    if let Some(number) = written(own.number(place), effect, right)? {
-        own.write(place, number)?;
+    if let Some(number) = written(state.number(place), effect, right)? {
+        state.write(place, number)?;
     }
     Ok(())
 }
 
 fn write_all(
     forms: &Forms<'_>,
-    own: &mut Own,
-    deed: &Deed<'_>,
+    state: &mut SearchState,
+    event_form: &EventForm<'_>,
     rights: &[Option<i64>],
-) -> Result<(), SeekFault> {
-    for (effect, right) in deed.event.writes.iter().zip(rights) {
-        write_one(forms, own, effect, *right)?;
+) -> Result<(), SearchFault> {
+    for (effect, right) in event_form.event.writes.iter().zip(rights) {
+        write_one(forms, state, effect, *right)?;
     }
     Ok(())
 }
 
-fn set_all(own: &mut Own, places: &[u32], truth: bool) -> Result<(), AllocError> {
+fn set_all(state: &mut SearchState, places: &[u32], truth: bool) -> Result<(), AllocError> {
     for place in places {
-        own.set(*place, truth)?;
+        state.set(*place, truth)?;
     }
     Ok(())
 }
@@ -77,16 +77,16 @@ fn set_all(own: &mut Own, places: &[u32], truth: bool) -> Result<(), AllocError>
 /// values of its right sides.
 pub fn carry_out(
     forms: &Forms<'_>,
-    own: &mut Own,
-    deed: &Deed<'_>,
+    state: &mut SearchState,
+    event_form: &EventForm<'_>,
     units: Option<i64>,
     into: &mut Vec<Option<i64>>,
-) -> Result<(), SeekFault> {
-    if !deed.event.writes.is_empty() {
-        right_sides(forms, own, deed, units, into)?;
-        write_all(forms, own, deed, into)?;
+) -> Result<(), SearchFault> {
+    if !event_form.event.writes.is_empty() {
+        right_sides(forms, state, event_form, units, into)?;
+        write_all(forms, state, event_form, into)?;
     }
-    set_all(own, forms.list(deed.deletes), false)?;
-    set_all(own, forms.list(deed.adds), true)?;
+    set_all(state, forms.list(event_form.deletes), false)?;
+    set_all(state, forms.list(event_form.adds), true)?;
     Ok(())
 }

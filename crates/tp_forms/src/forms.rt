@@ -1,9 +1,10 @@
 //! A task as the search reads it: conditions by their literals, events and actions as spans of lists of places.
 
-use crate::fault::SeekFault;
-use crate::own::{Own, Places, Span, part, place_in, places_of, small};
+use crate::fault::SearchFault;
+use crate::state::{Places, SearchState, Span, part, place_in, places_of, small};
 use crate::values::{Sight, judged, value};
 use std::alloc::{AllocError, Global};
+use tp_ground::truth::uses_duration;
 use tp_ground::{Body, Change, Cond, Expr, GroundEvent, NumericEffect, Task};
 use tp_reach::met;
 
@@ -17,7 +18,7 @@ pub struct Conjunct<'t> {
 /// A condition: the atoms that have to be true, those that have to be false, and those of the other conjuncts, in this
 /// order; the fluents of the other conjuncts; and these.
 #[derive(Clone, Copy)]
-pub struct Form {
+pub struct CondForm {
     pub atoms: Span,
     pub holding: u32,
     pub lacking: u32,
@@ -25,7 +26,7 @@ pub struct Form {
     parts: Span,
 }
 
-impl Form {
+impl CondForm {
     /// The atoms that have to be true.
     pub fn wanted(self) -> Span {
         Span {
@@ -45,15 +46,15 @@ impl Form {
 /// An event. `reads` are the fluents of its condition, right sides and duration constraint; `needs` those of its right
 /// sides and duration constraint, and those that it changes by what they were.
 #[derive(Clone, Copy)]
-pub struct Deed<'t> {
+pub struct EventForm<'t> {
     pub event: &'t GroundEvent,
-    pub condition: Form,
+    pub condition: CondForm,
     pub adds: Span,
     pub deletes: Span,
     pub reads: Span,
     pub needs: Span,
     pub mixes: bool,
-    timed: bool,
+    uses_duration: bool,
 }
 
 /// An action by its first event, which its end follows; with the number of its invariant where it lasts. One that can
@@ -62,14 +63,14 @@ pub struct Deed<'t> {
 pub struct Action {
     pub first: u32,
     pub invariant: Option<u32>,
-    pub timed: bool,
+    pub uses_duration: bool,
 }
 
 // What stands for an action that can never start.
 const NEVER: Action = Action {
     first: u32::MAX,
     invariant: None,
-    timed: false,
+    uses_duration: false,
 };
 
 /// A task as the search reads it.
@@ -79,10 +80,10 @@ pub struct Forms<'t> {
     pub fluents: Places,
     pub lists: Vec<u32>,
     parts: Vec<Conjunct<'t>>,
-    pub deeds: Vec<Deed<'t>>,
+    pub event_forms: Vec<EventForm<'t>>,
     pub actions: Vec<Action>,
-    pub invariants: Vec<Form>,
-    pub conjuncts: Vec<Form>,
+    pub invariants: Vec<CondForm>,
+    pub conjuncts: Vec<CondForm>,
 }
 
 fn mark(marks: &mut [bool], number: u32) {
@@ -162,21 +163,6 @@ fn changes(change: Change) -> bool {
     }
 }
 
-fn mentions_duration(expr: &Expr) -> bool {
-    match expr {
-        Expr::Duration => true,
-        Expr::Number(_) | Expr::Fluent(_) => false,
-        Expr::Negated(x) => mentions_duration(x),
-        Expr::Sum(x, y) | Expr::Difference(x, y) | Expr::Product(x, y) => {
-            mentions_duration(x) || mentions_duration(y)
-        }
-    }
-}
-
-fn is_timed(event: &GroundEvent) -> bool {
-    event.writes.iter().any(|w| mentions_duration(&w.value))
-}
-
 // The fluents that writes set, or all that they write, by rising number.
 fn written(alloc: Global, writes: &[NumericEffect], sets: bool) -> Result<Vec<u32>, AllocError> {
     let mut fluents = Vec::new(alloc);
@@ -222,7 +208,7 @@ impl<'t> Forms<'t> {
             fluents,
             lists: Vec::new(alloc),
             parts: Vec::new(alloc),
-            deeds: Vec::new(alloc),
+            event_forms: Vec::new(alloc),
             actions: Vec::new(alloc),
             invariants: Vec::new(alloc),
             conjuncts: Vec::new(alloc),
@@ -268,11 +254,11 @@ impl<'t> Forms<'t> {
     }
 
     fn add_body(&mut self, alloc: Global, body: &'t Body) -> Result<(), AllocError> {
-        let first = small(self.deeds.len());
+        let first = small(self.event_forms.len());
         let mut action = Action {
             first,
             invariant: None,
-            timed: false,
+            uses_duration: false,
         };
         match body {
             Body::Instant(only) => self.add_event(alloc, only)?,
@@ -280,7 +266,7 @@ impl<'t> Forms<'t> {
                 self.add_event(alloc, start)?;
                 self.add_event(alloc, end)?;
                 action.invariant = Some(self.add_invariant(invariant)?);
-                action.timed = is_timed(start) || is_timed(end);
+                action.uses_duration = uses_duration(start) || uses_duration(end);
             }
         }
         self.actions.push(action)?;
@@ -314,7 +300,7 @@ impl<'t> Forms<'t> {
         let adds = self.add_atoms(&event.adds)?;
         let deletes = self.add_atoms(&event.deletes)?;
         let mixes = mixes(alloc, &event.writes)?;
-        self.deeds.push(Deed {
+        self.event_forms.push(EventForm {
             event,
             condition,
             adds,
@@ -322,7 +308,7 @@ impl<'t> Forms<'t> {
             reads,
             needs,
             mixes,
-            timed: is_timed(event),
+            uses_duration: uses_duration(event),
         })?;
         Ok(())
     }
@@ -332,7 +318,7 @@ impl<'t> Forms<'t> {
         for w in &event.writes {
             self.push_fluents(&w.value)?;
         }
-        for limit in &event.rule {
+        for limit in &event.constraint {
             self.push_fluents(&limit.value)?;
         }
         Ok(self.since(at))
@@ -381,7 +367,7 @@ impl<'t> Forms<'t> {
     }
 
     /// The lists of a condition.
-    fn add_form(&mut self, cond: &'t Cond) -> Result<Form, AllocError> {
+    fn add_form(&mut self, cond: &'t Cond) -> Result<CondForm, AllocError> {
         let at = self.here();
         self.push_literals(cond, true, true)?;
         let holding = self.since(at).count;
@@ -390,7 +376,7 @@ impl<'t> Forms<'t> {
         let parts = self.add_parts(cond)?;
         let atoms = self.since(at);
         let fluents = self.add_compared(parts)?;
-        Ok(Form {
+        Ok(CondForm {
             atoms,
             holding,
             lacking,
@@ -517,30 +503,30 @@ impl<'t> Forms<'t> {
     }
 
     /// The state at hand, as conditions and expressions read it.
-    pub fn sight<'a>(&'a self, own: &'a Own) -> Sight<'a> {
+    pub fn sight<'a>(&'a self, state: &'a SearchState) -> Sight<'a> {
         Sight {
-            own,
+            state,
             atoms: &self.atoms,
             fluents: &self.fluents,
         }
     }
 
     /// Whether a condition holds: its literals first.
-    pub fn holds(&self, own: &Own, form: Form) -> Result<bool, SeekFault> {
-        if !self.literals_hold(own, form) {
+    pub fn holds(&self, state: &SearchState, form: CondForm) -> Result<bool, SearchFault> {
+        if !self.literals_hold(state, form) {
             return Ok(false);
         }
-        self.parts_hold(own, form.parts)
+        self.parts_hold(state, form.parts)
     }
 
-    fn literals_hold(&self, own: &Own, form: Form) -> bool {
-        self.list(form.wanted()).iter().all(|a| own.has(*a))
-            && !self.list(form.unwanted()).iter().any(|a| own.has(*a))
+    fn literals_hold(&self, state: &SearchState, form: CondForm) -> bool {
+        self.list(form.wanted()).iter().all(|a| state.has(*a))
+            && !self.list(form.unwanted()).iter().any(|a| state.has(*a))
     }
 
-    fn parts_hold(&self, own: &Own, parts: Span) -> Result<bool, SeekFault> {
+    fn parts_hold(&self, state: &SearchState, parts: Span) -> Result<bool, SearchFault> {
         for p in part(&self.parts, parts) {
-            if judged(self.sight(own), p.cond)? != Some(p.positive) {
+            if judged(self.sight(state), p.cond)? != Some(p.positive) {
                 return Ok(false);
             }
         }
@@ -548,26 +534,31 @@ impl<'t> Forms<'t> {
     }
 
     /// Whether all that an event's effects and duration constraint read has a value.
-    pub fn is_defined(&self, own: &Own, deed: &Deed<'_>, units: Option<i64>) -> bool {
-        (units.is_some() || !deed.timed)
+    pub fn is_defined(
+        &self,
+        state: &SearchState,
+        event_form: &EventForm<'_>,
+        units: Option<i64>,
+    ) -> bool {
+        (units.is_some() || !event_form.uses_duration)
             && self
-                .list(deed.needs)
+                .list(event_form.needs)
                 .iter()
-                .all(|f| own.number(*f).is_some())
+                .all(|f| state.number(*f).is_some())
     }
 
     /// The number of an expression for a duration in units, None where it has none.
     pub fn value(
         &self,
-        own: &Own,
+        state: &SearchState,
         units: Option<i64>,
         expr: &Expr,
-    ) -> Result<Option<i64>, SeekFault> {
-        value(self.sight(own), units, expr)
+    ) -> Result<Option<i64>, SearchFault> {
+        value(self.sight(state), units, expr)
     }
 
     /// The number of an action's duration limit, None where it has none.
-    pub fn limit(&self, own: &Own, expr: &Expr) -> Result<Option<i64>, SeekFault> {
-        value(self.sight(own), None, expr)
+    pub fn limit(&self, state: &SearchState, expr: &Expr) -> Result<Option<i64>, SearchFault> {
+        value(self.sight(state), None, expr)
     }
 }

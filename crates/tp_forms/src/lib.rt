@@ -1,6 +1,6 @@
 //! A task as a search for plans reads it: what each event needs and does, by lists of places in a state of a bit an atom.
 //!
-//! - `own`: the state at hand, a bit an atom
+//! - `state`: the state at hand, a bit an atom
 //! - `values`: expressions and conditions in it
 //! - `forms`: a task by lists of places
 //! - `index`: the actions that wait for an atom, the conjuncts that an action touches
@@ -16,13 +16,13 @@ mod fault;
 mod forms;
 mod index;
 mod marks;
-mod own;
+mod state;
 mod values;
 
 pub use durations::{least_duration, units_of};
 pub use effects::carry_out;
-pub use fault::SeekFault;
-pub use forms::{Action, Deed, Form, Forms};
+pub use fault::SearchFault;
+pub use forms::{Action, CondForm, EventForm, Forms};
 pub use index::{Lists, Waiting, touched, waiting_for};
 pub use marks::Marks;
-pub use own::{Own, Places, Span, part, small};
+pub use state::{Places, SearchState, Span, part, small};

@@ -1,8 +1,8 @@
 //! What the events of one tick mention, change, read and write, so that one more event is seen to interfere with them in
 //! the time of what it mentions itself.
 
-use crate::forms::{Deed, Forms};
-use crate::own::place_in;
+use crate::forms::{EventForm, Forms};
+use crate::state::place_in;
 use std::alloc::{AllocError, Global};
 use tp_ground::{Change, NumericEffect};
 
@@ -55,36 +55,36 @@ impl Marks {
     }
 
     /// Marks what an event does.
-    pub fn put(&mut self, forms: &Forms<'_>, deed: &Deed<'_>) {
-        self.put_atoms(forms, deed);
-        self.put_fluents(forms, deed);
+    pub fn put(&mut self, forms: &Forms<'_>, event_form: &EventForm<'_>) {
+        self.put_atoms(forms, event_form);
+        self.put_fluents(forms, event_form);
     }
 
-    fn put_atoms(&mut self, forms: &Forms<'_>, deed: &Deed<'_>) {
-        for a in forms.list(deed.condition.atoms) {
+    fn put_atoms(&mut self, forms: &Forms<'_>, event_form: &EventForm<'_>) {
+        for a in forms.list(event_form.condition.atoms) {
             if let Some(at) = self.atoms.get_mut(*a as usize) {
                 at.mentioned = true;
             }
         }
-        for a in forms.list(deed.adds) {
+        for a in forms.list(event_form.adds) {
             if let Some(at) = self.atoms.get_mut(*a as usize) {
                 at.added = true;
             }
         }
-        for a in forms.list(deed.deletes) {
+        for a in forms.list(event_form.deletes) {
             if let Some(at) = self.atoms.get_mut(*a as usize) {
                 at.deleted = true;
             }
         }
     }
 
-    fn put_fluents(&mut self, forms: &Forms<'_>, deed: &Deed<'_>) {
-        for f in forms.list(deed.reads) {
+    fn put_fluents(&mut self, forms: &Forms<'_>, event_form: &EventForm<'_>) {
+        for f in forms.list(event_form.reads) {
             if let Some(at) = self.fluents.get_mut(*f as usize) {
                 at.read = true;
             }
         }
-        for w in &deed.event.writes {
+        for w in &event_form.event.writes {
             if let Some(at) = self.fluents.get_mut(place_of(forms, w)) {
                 if is_sum(w) {
                     at.summed = true;
@@ -96,14 +96,14 @@ impl Marks {
     }
 
     /// Takes away all marks on what an event mentions, changes, reads and writes.
-    pub fn wipe(&mut self, forms: &Forms<'_>, deed: &Deed<'_>) {
-        self.wipe_atoms(forms.list(deed.condition.atoms));
-        self.wipe_atoms(forms.list(deed.adds));
-        self.wipe_atoms(forms.list(deed.deletes));
-        for f in forms.list(deed.reads) {
+    pub fn wipe(&mut self, forms: &Forms<'_>, event_form: &EventForm<'_>) {
+        self.wipe_atoms(forms.list(event_form.condition.atoms));
+        self.wipe_atoms(forms.list(event_form.adds));
+        self.wipe_atoms(forms.list(event_form.deletes));
+        for f in forms.list(event_form.reads) {
             self.wipe_fluent(*f as usize);
         }
-        for w in &deed.event.writes {
+        for w in &event_form.event.writes {
             self.wipe_fluent(place_of(forms, w));
         }
     }
@@ -156,22 +156,23 @@ impl Marks {
     }
 
     /// Whether an event interferes with one of those marked.
-    pub fn interferes(&self, forms: &Forms<'_>, deed: &Deed<'_>) -> bool {
-        self.atoms_meet(forms, deed) || self.fluents_meet(forms, deed)
+    pub fn interferes(&self, forms: &Forms<'_>, event_form: &EventForm<'_>) -> bool {
+        self.atoms_meet(forms, event_form) || self.fluents_meet(forms, event_form)
     }
 
-    fn atoms_meet(&self, forms: &Forms<'_>, deed: &Deed<'_>) -> bool {
-        let adds = forms.list(deed.adds);
-        let deletes = forms.list(deed.deletes);
-        let mentioned = forms.list(deed.condition.atoms);
+    fn atoms_meet(&self, forms: &Forms<'_>, event_form: &EventForm<'_>) -> bool {
+        let adds = forms.list(event_form.adds);
+        let deletes = forms.list(event_form.deletes);
+        let mentioned = forms.list(event_form.condition.atoms);
         adds.iter().any(|a| self.is_mentioned_or_deleted(*a))
             || deletes.iter().any(|a| self.is_mentioned_or_added(*a))
             || mentioned.iter().any(|a| self.is_changed(*a))
     }
 
-    fn fluents_meet(&self, forms: &Forms<'_>, deed: &Deed<'_>) -> bool {
-        let reads = forms.list(deed.reads);
-        reads.iter().any(|f| self.is_written(*f)) || self.writes_meet(forms, &deed.event.writes)
+    fn fluents_meet(&self, forms: &Forms<'_>, event_form: &EventForm<'_>) -> bool {
+        let reads = forms.list(event_form.reads);
+        reads.iter().any(|f| self.is_written(*f))
+            || self.writes_meet(forms, &event_form.event.writes)
     }
 
     fn writes_meet(&self, forms: &Forms<'_>, writes: &[NumericEffect]) -> bool {

@@ -1,43 +1,44 @@
 //! What expressions are worth in the state at hand, and whether conditions hold there.
 
-use crate::fault::SeekFault;
-use crate::own::{Own, Places, place_in};
-use tp_ground::{Comparison, Cond, Expr, GREATEST_NUMBER};
+use crate::fault::SearchFault;
+use crate::state::{Places, SearchState, place_in};
+use tp_ground::truth::{and, compared, not, or};
+use tp_ground::{Cond, Expr, GREATEST_NUMBER};
 
 /// The state at hand, with the places of atoms and fluents.
 #[derive(Clone, Copy)]
 pub struct Sight<'a> {
-    pub own: &'a Own,
+    pub state: &'a SearchState,
     pub atoms: &'a Places,
     pub fluents: &'a Places,
 }
 
 impl Sight<'_> {
     fn truth(self, atom: u32) -> bool {
-        self.own.has(place_in(&self.atoms.places, atom))
+        self.state.has(place_in(&self.atoms.places, atom))
     }
 
     fn number(self, fluent: u32) -> Option<i64> {
-        self.own.number(place_in(&self.fluents.places, fluent))
+        self.state.number(place_in(&self.fluents.places, fluent))
     }
 }
 
 // A number that was worked out, None where it passed 64 bits.
-fn ranged(number: Option<i64>) -> Result<Option<i64>, SeekFault> {
+fn ranged(number: Option<i64>) -> Result<Option<i64>, SearchFault> {
     match number {
         Some(n) if n.unsigned_abs() <= GREATEST_NUMBER => Ok(Some(n)),
-        _ => Err(SeekFault::Range),
+        _ => Err(SearchFault::Range),
     }
 }
 
-fn ranged_if_any(number: Option<i64>) -> Result<Option<i64>, SeekFault> {
+fn ranged_if_any(number: Option<i64>) -> Result<Option<i64>, SearchFault> {
     match number {
         Some(n) => ranged(Some(n)),
         None => Ok(None),
     }
 }
 
-fn negated(x: Option<i64>) -> Result<Option<i64>, SeekFault> {
+fn negated(x: Option<i64>) -> Result<Option<i64>, SearchFault> {
     match x {
         Some(a) => ranged(0i64.checked_sub(a)),
         None => Ok(None),
@@ -45,7 +46,7 @@ fn negated(x: Option<i64>) -> Result<Option<i64>, SeekFault> {
 }
 
 /// The sum of two numbers, if both are there.
-pub fn sum(x: Option<i64>, y: Option<i64>) -> Result<Option<i64>, SeekFault> {
+pub fn sum(x: Option<i64>, y: Option<i64>) -> Result<Option<i64>, SearchFault> {
     match (x, y) {
         (Some(a), Some(b)) => ranged(a.checked_add(b)),
         _ => Ok(None),
@@ -53,7 +54,7 @@ pub fn sum(x: Option<i64>, y: Option<i64>) -> Result<Option<i64>, SeekFault> {
 }
 
 /// The difference of two numbers, if both are there.
-pub fn difference(x: Option<i64>, y: Option<i64>) -> Result<Option<i64>, SeekFault> {
+pub fn difference(x: Option<i64>, y: Option<i64>) -> Result<Option<i64>, SearchFault> {
     match (x, y) {
         (Some(a), Some(b)) => ranged(a.checked_sub(b)),
         _ => Ok(None),
@@ -61,7 +62,7 @@ pub fn difference(x: Option<i64>, y: Option<i64>) -> Result<Option<i64>, SeekFau
 }
 
 /// The product of two numbers, if both are there.
-pub fn product(x: Option<i64>, y: Option<i64>) -> Result<Option<i64>, SeekFault> {
+pub fn product(x: Option<i64>, y: Option<i64>) -> Result<Option<i64>, SearchFault> {
     match (x, y) {
         (Some(a), Some(b)) => ranged(a.checked_mul(b)),
         _ => Ok(None),
@@ -69,7 +70,11 @@ pub fn product(x: Option<i64>, y: Option<i64>) -> Result<Option<i64>, SeekFault>
 }
 
 /// The value of an expression, for a duration in units.
-pub fn value(sight: Sight<'_>, units: Option<i64>, expr: &Expr) -> Result<Option<i64>, SeekFault> {
+pub fn value(
+    sight: Sight<'_>,
+    units: Option<i64>,
+    expr: &Expr,
+) -> Result<Option<i64>, SearchFault> {
     match expr {
         Expr::Number(n) => ranged(Some(*n)),
         Expr::Fluent(f) => ranged_if_any(sight.number(*f)),
@@ -81,46 +86,8 @@ pub fn value(sight: Sight<'_>, units: Option<i64>, expr: &Expr) -> Result<Option
     }
 }
 
-fn compares(how: Comparison, x: i64, y: i64) -> bool {
-    match how {
-        Comparison::Less => x < y,
-        Comparison::AtMost => x <= y,
-        Comparison::Equal => x == y,
-        Comparison::AtLeast => x >= y,
-        Comparison::Greater => x > y,
-    }
-}
-
-fn compared(how: Comparison, x: Option<i64>, y: Option<i64>) -> Option<bool> {
-    match (x, y) {
-        (Some(a), Some(b)) => Some(compares(how, a, b)),
-        _ => None,
-    }
-}
-
-fn opposite(x: Option<bool>) -> Option<bool> {
-    match x {
-        Some(b) => Some(!b),
-        None => None,
-    }
-}
-
-fn and(x: Option<bool>, y: Option<bool>) -> Option<bool> {
-    match (x, y) {
-        (Some(a), Some(b)) => Some(a && b),
-        _ => None,
-    }
-}
-
-fn or(x: Option<bool>, y: Option<bool>) -> Option<bool> {
-    match (x, y) {
-        (Some(a), Some(b)) => Some(a || b),
-        _ => None,
-    }
-}
-
 /// The truth of a condition, None where it mentions a fluent without a number.
-pub fn judged(sight: Sight<'_>, cond: &Cond) -> Result<Option<bool>, SeekFault> {
+pub fn judged(sight: Sight<'_>, cond: &Cond) -> Result<Option<bool>, SearchFault> {
     match cond {
         Cond::Atom(a) => Ok(Some(sight.truth(*a))),
         Cond::Compare(how, x, y) => {
@@ -128,7 +95,7 @@ pub fn judged(sight: Sight<'_>, cond: &Cond) -> Result<Option<bool>, SeekFault> 
             let b = value(sight, None, y)?;
             Ok(compared(*how, a, b))
         }
-        Cond::Not(c) => Ok(opposite(judged(sight, c)?)),
+        Cond::Not(c) => Ok(not(judged(sight, c)?)),
         Cond::And(cs) => {
             let mut all = Some(true);
             for c in cs {

@@ -3,7 +3,7 @@
 use crate::known::{Known, push_copy};
 use crate::store::{Running, Start};
 use std::alloc::{AllocError, Global};
-use tp_forms::{Deed, Marks, Own, SeekFault, carry_out};
+use tp_forms::{EventForm, Marks, SearchFault, SearchState, carry_out};
 
 /// The node at hand: the steps that run past its tick, the events of its tick, which conjuncts its state meets, as far as
 /// they were looked at, how many it lacks, and the state's number once it is kept.
@@ -15,7 +15,7 @@ pub struct Current {
     pub met: Vec<Option<bool>>,
     pub lacking: usize,
     pub values: Vec<Option<i64>>,
-    pub state: Option<u32>,
+    pub kept: Option<u32>,
 }
 
 impl Current {
@@ -29,7 +29,7 @@ impl Current {
             met,
             lacking: 0,
             values: Vec::new(alloc),
-            state: None,
+            kept: None,
         })
     }
 
@@ -37,17 +37,20 @@ impl Current {
     fn take_run(
         &mut self,
         known: &Known<'_>,
-        own: &mut Own,
+        state: &mut SearchState,
         run: Running,
-    ) -> Result<(), SeekFault> {
+    ) -> Result<(), SearchFault> {
         if run.left > 0 {
             push_copy(&mut self.running, run)?;
             return Ok(());
         }
-        if let (Some(action), Some(deed)) = (known.action(run.action), known.end_of(run.action)) {
+        if let (Some(action), Some(event_form)) = (
+            known.action(run.action),
+            known.end_of(run.action),
+        ) {
             push_copy(&mut self.events, action.first.saturating_add(1))?;
             let units = known.units(run.duration);
-            carry_out(&known.forms, own, deed, units, &mut self.values)?;
+            carry_out(&known.forms, state, event_form, units, &mut self.values)?;
         }
         Ok(())
     }
@@ -55,16 +58,16 @@ impl Current {
     fn take_start(
         &mut self,
         known: &Known<'_>,
-        own: &mut Own,
+        state: &mut SearchState,
         start: Start,
-    ) -> Result<(), SeekFault> {
-        if let (Some(action), Some(deed)) = (
+    ) -> Result<(), SearchFault> {
+        if let (Some(action), Some(event_form)) = (
             known.action(start.action),
             known.first_of(start.action),
         ) {
             push_copy(&mut self.events, action.first)?;
             let units = known.units(start.duration);
-            carry_out(&known.forms, own, deed, units, &mut self.values)?;
+            carry_out(&known.forms, state, event_form, units, &mut self.values)?;
             if action.invariant.is_some() {
                 push_copy(&mut self.running, running_from(start))?;
             }
@@ -75,21 +78,25 @@ impl Current {
     pub fn take_runs(
         &mut self,
         known: &Known<'_>,
-        own: &mut Own,
+        state: &mut SearchState,
         runs: &[Running],
-    ) -> Result<(), SeekFault> {
+    ) -> Result<(), SearchFault> {
         self.running.clear();
         self.events.clear();
         for run in runs {
-            self.take_run(known, own, *run)?;
+            self.take_run(known, state, *run)?;
         }
         Ok(())
     }
 
-    pub fn take_starts(&mut self, known: &Known<'_>, own: &mut Own) -> Result<(), SeekFault> {
+    pub fn take_starts(
+        &mut self,
+        known: &Known<'_>,
+        state: &mut SearchState,
+    ) -> Result<(), SearchFault> {
         for place in 0..self.chain.len() {
             if let Some(start) = self.chain.get(place).copied() {
-                self.take_start(known, own, start)?;
+                self.take_start(known, state, start)?;
             }
         }
         Ok(())
@@ -107,11 +114,11 @@ impl Current {
     fn look_at(
         &mut self,
         known: &Known<'_>,
-        own: &Own,
+        state: &SearchState,
         conjuncts: &[u32],
-    ) -> Result<(), SeekFault> {
+    ) -> Result<(), SearchFault> {
         for conjunct in conjuncts {
-            self.look_at_one(known, own, *conjunct)?;
+            self.look_at_one(known, state, *conjunct)?;
         }
         Ok(())
     }
@@ -119,12 +126,12 @@ impl Current {
     fn look_at_one(
         &mut self,
         known: &Known<'_>,
-        own: &Own,
+        state: &SearchState,
         conjunct: u32,
-    ) -> Result<(), SeekFault> {
+    ) -> Result<(), SearchFault> {
         if let Some(met) = self.met.get_mut(conjunct as usize) {
             if met.is_none() {
-                *met = Some(known.conjunct_holds(own, conjunct)?);
+                *met = Some(known.conjunct_holds(state, conjunct)?);
             }
         }
         Ok(())
@@ -141,12 +148,12 @@ impl Current {
     fn lacking_after(
         &self,
         known: &Known<'_>,
-        own: &Own,
+        state: &SearchState,
         changed: &[u32],
-    ) -> Result<usize, SeekFault> {
+    ) -> Result<usize, SearchFault> {
         let mut count = self.lacking;
         for conjunct in changed {
-            let now = known.conjunct_holds(own, *conjunct)?;
+            let now = known.conjunct_holds(state, *conjunct)?;
             let before = self.is_met(*conjunct);
             if now && !before {
                 count = count.saturating_sub(1);
@@ -161,19 +168,19 @@ impl Current {
     pub fn lacking_with(
         &mut self,
         known: &Known<'_>,
-        own: &mut Own,
-        deed: &Deed<'_>,
+        state: &mut SearchState,
+        event_form: &EventForm<'_>,
         start: Start,
-    ) -> Result<usize, SeekFault> {
+    ) -> Result<usize, SearchFault> {
         let changed = known.touched.of(start.action);
-        if changed.is_empty() && deed.event.writes.is_empty() {
+        if changed.is_empty() && event_form.event.writes.is_empty() {
             return Ok(self.lacking);
         }
-        self.look_at(known, own, changed)?;
+        self.look_at(known, state, changed)?;
         let units = known.units(start.duration);
-        carry_out(&known.forms, own, deed, units, &mut self.values)?;
-        let lacking = self.lacking_after(known, own, changed)?;
-        own.undo();
+        carry_out(&known.forms, state, event_form, units, &mut self.values)?;
+        let lacking = self.lacking_after(known, state, changed)?;
+        state.undo();
         Ok(lacking)
     }
 
@@ -190,10 +197,14 @@ impl Current {
     }
 
     // Whether the invariants of all running steps hold in the state at hand.
-    pub fn invariants_hold(&self, known: &Known<'_>, own: &Own) -> Result<bool, SeekFault> {
+    pub fn invariants_hold(
+        &self,
+        known: &Known<'_>,
+        state: &SearchState,
+    ) -> Result<bool, SearchFault> {
         for run in &self.running {
             if let Some(form) = known.invariant_of(run.action) {
-                if !known.forms.holds(own, form)? {
+                if !known.forms.holds(state, form)? {
                     return Ok(false);
                 }
             }
@@ -227,16 +238,16 @@ fn running_from(start: Start) -> Running {
 pub fn lacking_with(
     known: &Known<'_>,
     marks: &Marks,
-    own: &mut Own,
+    state: &mut SearchState,
     current: &mut Current,
     start: Start,
-) -> Result<Option<usize>, SeekFault> {
-    let Some(deed) = known.first_of(start.action) else {
+) -> Result<Option<usize>, SearchFault> {
+    let Some(event_form) = known.first_of(start.action) else {
         return Ok(None);
     };
-    if !current.events.is_empty() && marks.interferes(&known.forms, deed) {
+    if !current.events.is_empty() && marks.interferes(&known.forms, event_form) {
         return Ok(None);
     }
-    let lacking = current.lacking_with(known, own, deed, start)?;
+    let lacking = current.lacking_with(known, state, event_form, start)?;
     Ok(Some(lacking))
 }

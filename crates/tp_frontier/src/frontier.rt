@@ -6,11 +6,11 @@ ghost use Rattle.tp_frontier.specs.Waiting.{AreEmpty, IsTaken, GoesOn};
 use crate::current::{Current, lacking_with};
 use crate::known::{Known, carry_out_ends, ends_are_apart, mark_events, wipe_ends};
 use crate::queues::Queues;
-use crate::store::{Choice, Chosen, MOST_STEPS, Moment, Node, Running, Store};
+use crate::store::{Choice, Chosen, Moment, Node, Running, Store};
 use std::alloc::{AllocError, Global};
 use std::marker::Model;
-use tp_forms::{Forms, Marks, Own, SeekFault, Span};
-use tp_ground::Task;
+use tp_forms::{Forms, Marks, SearchFault, SearchState, Span};
+use tp_ground::{MOST_STEPS, Task};
 
 /// The nodes of a search, seen as those that still wait: a queue for each number of goal conjuncts that they lack, each in
 /// the order in which they were made.
@@ -21,7 +21,7 @@ pub struct Frontier<'t> {
     store: Store,
     queues: Queues,
     marks: Marks,
-    own: Own,
+    state: SearchState,
     current: Current,
     taken: Option<(u32, usize)>,
 }
@@ -43,11 +43,11 @@ fn root() -> Node {
     }
 }
 
-fn first_moment(state: u32) -> Moment {
+fn first_moment(kept: u32) -> Moment {
     Moment {
         hash: 0,
         tick: 0,
-        state,
+        kept,
         running: Span { at: 0, count: 0 },
         starts: None,
     }
@@ -68,14 +68,18 @@ impl<'t> Frontier<'t> {
         task: &'t Task,
         reach: &[bool],
         horizon: u32,
-    ) -> Result<Self, SeekFault> {
+    ) -> Result<Self, SearchFault> {
         let forms = Forms::new(alloc, task, reach)?;
-        let own = Own::initial(alloc, task, &forms.atoms, &forms.fluents)?;
-        let known = Known::new(alloc, task, forms, &own, horizon)?;
-        Frontier::from_known(alloc, known, own)
+        let state = SearchState::initial(alloc, task, &forms.atoms, &forms.fluents)?;
+        let known = Known::new(alloc, task, forms, &state, horizon)?;
+        Frontier::from_known(alloc, known, state)
     }
 
-    fn from_known(alloc: Global, known: Known<'t>, own: Own) -> Result<Self, SeekFault> {
+    fn from_known(
+        alloc: Global,
+        known: Known<'t>,
+        state: SearchState,
+    ) -> Result<Self, SearchFault> {
         let forms = &known.forms;
         let marks = Marks::new(alloc, forms.atoms.places.len(), forms.fluents.places.len())?;
         let queues = Queues::new(alloc, forms.conjuncts.len())?;
@@ -87,7 +91,7 @@ impl<'t> Frontier<'t> {
             store,
             queues,
             marks,
-            own,
+            state,
             current,
             taken: None,
         };
@@ -95,10 +99,10 @@ impl<'t> Frontier<'t> {
         Ok(frontier)
     }
 
-    fn make_root(&mut self) -> Result<(), SeekFault> {
-        let state = self.store.pack(&self.own)?;
-        self.store.add_moment(first_moment(state))?;
-        let lacking = self.known.lacking(&self.own)?;
+    fn make_root(&mut self) -> Result<(), SearchFault> {
+        let kept = self.store.pack(&self.state)?;
+        self.store.add_moment(first_moment(kept))?;
+        let lacking = self.known.lacking(&self.state)?;
         self.make(root(), lacking)?;
         Ok(())
     }
@@ -150,7 +154,7 @@ impl<'t> Frontier<'t> {
 
     /// Makes the children of a node.
     #[tactic(auto, using(crate::proofs::Waiting::goes_on_same, crate::proofs::Waiting::goes_on_further))]
-    pub fn expand(&mut self, number: u32) -> Result<(), SeekFault>
+    pub fn expand(&mut self, number: u32) -> Result<(), SearchFault>
         ensures { GoesOn self.old self.new }
     {
         if let Some(node) = self.store.node(number) {
@@ -162,29 +166,29 @@ impl<'t> Frontier<'t> {
     }
 
     // Makes a node the one at hand: its own state, its events, its running steps.
-    fn load(&mut self, number: u32, node: Node) -> Result<(), SeekFault>
+    fn load(&mut self, number: u32, node: Node) -> Result<(), SearchFault>
         ensures { self.new ≡ self.old }
     {
         let Some(moment) = self.store.moment(node.moment) else {
             return Ok(());
         };
-        self.store.unpack(moment.state, &mut self.own);
+        self.store.unpack(moment.kept, &mut self.state);
         if moment.starts.is_none() {
             self.find_starts(node.moment, moment.tick)?;
         }
         self.store.push_chain(number, &mut self.current.chain)?;
         let runs = self.store.runs(moment.running);
-        self.current.take_runs(&self.known, &mut self.own, runs)?;
-        self.current.take_starts(&self.known, &mut self.own)?;
-        self.own.keep();
-        self.current.state = None;
+        self.current.take_runs(&self.known, &mut self.state, runs)?;
+        self.current.take_starts(&self.known, &mut self.state)?;
+        self.state.keep();
+        self.current.kept = None;
         Ok(())
     }
 
-    fn find_starts(&mut self, moment: u32, tick: u32) -> Result<(), SeekFault>
+    fn find_starts(&mut self, moment: u32, tick: u32) -> Result<(), SearchFault>
         ensures { self.new ≡ self.old }
     {
-        let starts = self.known.starts_at(self.alloc, &self.own, tick)?;
+        let starts = self.known.starts_at(self.alloc, &self.state, tick)?;
         self.store.add_starts(moment, &starts)?;
         Ok(())
     }
@@ -196,22 +200,22 @@ impl<'t> Frontier<'t> {
     }
 
     // How many conjuncts the state at hand, a node's own, lacks; known of the node taken last.
-    fn lacking_at(&self, number: u32) -> Result<usize, SeekFault> {
+    fn lacking_at(&self, number: u32) -> Result<usize, SearchFault> {
         match self.taken {
             Some((node, lacking)) if node == number => Ok(lacking),
-            _ => self.known.lacking(&self.own),
+            _ => self.known.lacking(&self.state),
         }
     }
 
     // The children that choose one more start at the node's tick.
     #[tactic(auto, using(crate::proofs::Waiting::goes_on_same, crate::proofs::Waiting::goes_on_further))]
-    fn make_starts(&mut self, number: u32, node: Node) -> Result<(), SeekFault>
+    fn make_starts(&mut self, number: u32, node: Node) -> Result<(), SearchFault>
         ensures { GoesOn self.old self.new }
     {
         let Some((first, end)) = self.starts_after(node) else {
             return Ok(());
         };
-        if u32::from(node.steps) >= MOST_STEPS || first >= end {
+        if usize::from(node.steps) >= MOST_STEPS || first >= end {
             return Ok(());
         }
         let lacking = self.lacking_at(number)?;
@@ -225,7 +229,7 @@ impl<'t> Frontier<'t> {
     }
 
     #[tactic(auto, using(crate::proofs::Waiting::goes_on_same))]
-    fn make_start(&mut self, number: u32, node: Node, choice: u32) -> Result<(), SeekFault>
+    fn make_start(&mut self, number: u32, node: Node, choice: u32) -> Result<(), SearchFault>
         ensures { GoesOn self.old self.new }
     {
         let Some(start) = self.store.start(choice) else {
@@ -234,7 +238,7 @@ impl<'t> Frontier<'t> {
         let lacking = lacking_with(
             &self.known,
             &self.marks,
-            &mut self.own,
+            &mut self.state,
             &mut self.current,
             start,
         )?;
@@ -264,10 +268,10 @@ impl<'t> Frontier<'t> {
 
     // The children that wait.
     #[tactic(auto, using(crate::proofs::Waiting::goes_on_same, crate::proofs::Waiting::goes_on_further))]
-    fn make_waits(&mut self, number: u32, node: Node) -> Result<(), SeekFault>
+    fn make_waits(&mut self, number: u32, node: Node) -> Result<(), SearchFault>
         ensures { GoesOn self.old self.new }
     {
-        if !self.current.invariants_hold(&self.known, &self.own)? {
+        if !self.current.invariants_hold(&self.known, &self.state)? {
             return Ok(());
         }
         let least = self.current.least_left();
@@ -284,7 +288,7 @@ impl<'t> Frontier<'t> {
     }
 
     #[tactic(auto, using(crate::proofs::Waiting::goes_on_same))]
-    fn make_wait(&mut self, number: u32, node: Node, ticks: u32) -> Result<(), SeekFault>
+    fn make_wait(&mut self, number: u32, node: Node, ticks: u32) -> Result<(), SearchFault>
         ensures { GoesOn self.old self.new }
     {
         let Some(moment) = self.store.moment(node.moment) else {
@@ -305,11 +309,11 @@ impl<'t> Frontier<'t> {
         node: Node,
         tick: u32,
         runs: &[Running],
-    ) -> Result<(), SeekFault>
+    ) -> Result<(), SearchFault>
         ensures { GoesOn self.old self.new }
     {
-        let hash = self.store.hash_of(&self.own, runs);
-        if self.store.is_known(hash, &self.own, runs) || !self.ends_can_happen(runs)? {
+        let hash = self.store.hash_of(&self.state, runs);
+        if self.store.is_known(hash, &self.state, runs) || !self.ends_can_happen(runs)? {
             return Ok(());
         }
         let moment = self.add_moment(hash, tick, runs)?;
@@ -328,23 +332,23 @@ impl<'t> Frontier<'t> {
     fn packed(&mut self) -> Result<u32, AllocError>
         ensures { self.new ≡ self.old }
     {
-        if let Some(state) = self.current.state {
-            return Ok(state);
+        if let Some(kept) = self.current.kept {
+            return Ok(kept);
         }
-        let state = self.store.pack(&self.own)?;
-        self.current.state = Some(state);
-        Ok(state)
+        let kept = self.store.pack(&self.state)?;
+        self.current.kept = Some(kept);
+        Ok(kept)
     }
 
     fn add_moment(&mut self, hash: u64, tick: u32, runs: &[Running]) -> Result<u32, AllocError>
         ensures { self.new ≡ self.old }
     {
-        let state = self.packed()?;
+        let kept = self.packed()?;
         let running = self.store.add_runs(runs)?;
         let moment = self.store.add_moment(Moment {
             hash,
             tick,
-            state,
+            kept,
             running,
             starts: None,
         })?;
@@ -352,22 +356,22 @@ impl<'t> Frontier<'t> {
         Ok(moment)
     }
 
-    fn lacking_after_ends(&mut self, runs: &[Running]) -> Result<usize, SeekFault>
+    fn lacking_after_ends(&mut self, runs: &[Running]) -> Result<usize, SearchFault>
         ensures { self.new ≡ self.old }
     {
         let values = &mut self.current.values;
-        carry_out_ends(&self.known, &mut self.own, runs, values)?;
-        let lacking = self.known.lacking(&self.own)?;
-        self.own.undo();
+        carry_out_ends(&self.known, &mut self.state, runs, values)?;
+        let lacking = self.known.lacking(&self.state)?;
+        self.state.undo();
         Ok(lacking)
     }
 
     // Whether the ends that are due can happen in the state at hand.
-    fn ends_can_happen(&mut self, runs: &[Running]) -> Result<bool, SeekFault>
+    fn ends_can_happen(&mut self, runs: &[Running]) -> Result<bool, SearchFault>
         ensures { self.new ≡ self.old }
     {
         for run in runs {
-            if run.left == 0 && !self.known.end_can_happen(&self.own, *run)? {
+            if run.left == 0 && !self.known.end_can_happen(&self.state, *run)? {
                 return Ok(false);
             }
         }

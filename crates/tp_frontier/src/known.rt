@@ -3,8 +3,8 @@
 use crate::store::{Running, Start};
 use std::alloc::{AllocError, Global};
 use tp_forms::{
-    Action, Deed, Form, Forms, Lists, Marks, Own, SeekFault, Waiting, carry_out, least_duration,
-    touched, units_of, waiting_for,
+    Action, CondForm, EventForm, Forms, Lists, Marks, SearchFault, SearchState, Waiting, carry_out,
+    least_duration, touched, units_of, waiting_for,
 };
 use tp_ground::Task;
 use tp_text::Scale;
@@ -20,20 +20,20 @@ pub struct Known<'t> {
 }
 
 impl<'t> Known<'t> {
-    pub fn deed(&self, number: u32) -> Option<&Deed<'t>> {
-        self.forms.deeds.get(number as usize)
+    pub fn event_form(&self, number: u32) -> Option<&EventForm<'t>> {
+        self.forms.event_forms.get(number as usize)
     }
 
     pub fn action(&self, number: u32) -> Option<&Action> {
         self.forms.actions.get(number as usize)
     }
 
-    pub fn first_of(&self, action: u32) -> Option<&Deed<'t>> {
-        self.deed(self.action(action)?.first)
+    pub fn first_of(&self, action: u32) -> Option<&EventForm<'t>> {
+        self.event_form(self.action(action)?.first)
     }
 
-    pub fn end_of(&self, action: u32) -> Option<&Deed<'t>> {
-        self.deed(self.action(action)?.first.saturating_add(1))
+    pub fn end_of(&self, action: u32) -> Option<&EventForm<'t>> {
+        self.event_form(self.action(action)?.first.saturating_add(1))
     }
 
     pub fn lasts(&self, action: u32) -> bool {
@@ -43,7 +43,7 @@ impl<'t> Known<'t> {
         }
     }
 
-    pub fn invariant_of(&self, action: u32) -> Option<Form> {
+    pub fn invariant_of(&self, action: u32) -> Option<CondForm> {
         let number = self.action(action)?.invariant?;
         self.forms.invariants.get(number as usize).copied()
     }
@@ -55,30 +55,43 @@ impl<'t> Known<'t> {
     // The duration with which an action can start, 0 for an instantaneous one.
     fn duration_of(
         &self,
-        own: &Own,
+        state: &SearchState,
         action: &Action,
-        deed: &Deed<'_>,
-    ) -> Result<Option<u32>, SeekFault> {
+        event_form: &EventForm<'_>,
+    ) -> Result<Option<u32>, SearchFault> {
         if action.invariant.is_some() {
-            least_duration(&self.forms, own, &deed.event.rule, self.scale, action.timed)
+            least_duration(
+                &self.forms,
+                state,
+                &event_form.event.constraint,
+                self.scale,
+                action.uses_duration,
+            )
         } else {
             Ok(Some(0))
         }
     }
 
     // The duration with which an action can start at a tick, in the state before that tick's happening.
-    fn start_of(&self, own: &Own, action: &Action, tick: u32) -> Result<Option<u32>, SeekFault> {
-        let Some(deed) = self.deed(action.first) else {
+    fn start_of(
+        &self,
+        state: &SearchState,
+        action: &Action,
+        tick: u32,
+    ) -> Result<Option<u32>, SearchFault> {
+        let Some(event_form) = self.event_form(action.first) else {
             return Ok(None);
         };
-        if !self.forms.holds(own, deed.condition)? {
+        if !self.forms.holds(state, event_form.condition)? {
             return Ok(None);
         }
-        let Some(duration) = self.duration_of(own, action, deed)? else {
+        let Some(duration) = self.duration_of(state, action, event_form)? else {
             return Ok(None);
         };
         if tick.saturating_add(duration) <= self.horizon
-            && self.forms.is_defined(own, deed, self.units(duration))
+            && self
+                .forms
+                .is_defined(state, event_form, self.units(duration))
         {
             Ok(Some(duration))
         } else {
@@ -88,13 +101,13 @@ impl<'t> Known<'t> {
 
     fn push_start(
         &self,
-        own: &Own,
+        state: &SearchState,
         number: u32,
         tick: u32,
         into: &mut Vec<Start>,
-    ) -> Result<(), SeekFault> {
+    ) -> Result<(), SearchFault> {
         if let Some(action) = self.action(number) {
-            if let Some(duration) = self.start_of(own, action, tick)? {
+            if let Some(duration) = self.start_of(state, action, tick)? {
                 push_copy(
                     into,
                     Start {
@@ -109,13 +122,13 @@ impl<'t> Known<'t> {
 
     fn push_starts(
         &self,
-        own: &Own,
+        state: &SearchState,
         numbers: &[u32],
         tick: u32,
         into: &mut Vec<Start>,
-    ) -> Result<(), SeekFault> {
+    ) -> Result<(), SearchFault> {
         for number in numbers {
-            self.push_start(own, *number, tick, into)?;
+            self.push_start(state, *number, tick, into)?;
         }
         Ok(())
     }
@@ -123,28 +136,33 @@ impl<'t> Known<'t> {
     // What waits for the atoms of a word that are true.
     fn push_word(
         &self,
-        own: &Own,
+        state: &SearchState,
         first: u32,
         word: u64,
         tick: u32,
         into: &mut Vec<Start>,
-    ) -> Result<(), SeekFault> {
+    ) -> Result<(), SearchFault> {
         let mut bits = word;
         for _ in 0..word.count_ones() {
             let place = first.saturating_add(bits.trailing_zeros());
             bits &= bits.wrapping_sub(1);
-            self.push_starts(own, self.waiting.lists.of(place), tick, into)?;
+            self.push_starts(state, self.waiting.lists.of(place), tick, into)?;
         }
         Ok(())
     }
 
     // What can start at a tick, in the state before that tick's happening, by rising number.
-    pub fn starts_at(&self, alloc: Global, own: &Own, tick: u32) -> Result<Vec<Start>, SeekFault> {
+    pub fn starts_at(
+        &self,
+        alloc: Global,
+        state: &SearchState,
+        tick: u32,
+    ) -> Result<Vec<Start>, SearchFault> {
         let mut starts = Vec::new(alloc);
-        self.push_starts(own, &self.waiting.always, tick, &mut starts)?;
+        self.push_starts(state, &self.waiting.always, tick, &mut starts)?;
         let mut first: u32 = 0;
-        for word in own.words(self.width()) {
-            self.push_word(own, first, *word, tick, &mut starts)?;
+        for word in state.words(self.width()) {
+            self.push_word(state, first, *word, tick, &mut starts)?;
             first = first.saturating_add(64);
         }
         starts.sort_unstable();
@@ -156,30 +174,34 @@ impl<'t> Known<'t> {
     }
 
     // Whether an end can happen in a state.
-    pub fn end_can_happen(&self, own: &Own, run: Running) -> Result<bool, SeekFault> {
-        let Some(deed) = self.end_of(run.action) else {
+    pub fn end_can_happen(&self, state: &SearchState, run: Running) -> Result<bool, SearchFault> {
+        let Some(event_form) = self.end_of(run.action) else {
             return Ok(false);
         };
-        if deed.mixes || !self.forms.is_defined(own, deed, self.units(run.duration)) {
+        if event_form.mixes
+            || !self
+                .forms
+                .is_defined(state, event_form, self.units(run.duration))
+        {
             return Ok(false);
         }
-        self.forms.holds(own, deed.condition)
+        self.forms.holds(state, event_form.condition)
     }
 
     // How many conjuncts of the goal the state lacks.
-    pub fn lacking(&self, own: &Own) -> Result<usize, SeekFault> {
+    pub fn lacking(&self, state: &SearchState) -> Result<usize, SearchFault> {
         let mut count: usize = 0;
         for form in &self.forms.conjuncts {
-            if !self.forms.holds(own, *form)? {
+            if !self.forms.holds(state, *form)? {
                 count = count.saturating_add(1);
             }
         }
         Ok(count)
     }
 
-    pub fn conjunct_holds(&self, own: &Own, number: u32) -> Result<bool, SeekFault> {
+    pub fn conjunct_holds(&self, state: &SearchState, number: u32) -> Result<bool, SearchFault> {
         match self.forms.conjuncts.get(number as usize) {
-            Some(form) => self.forms.holds(own, *form),
+            Some(form) => self.forms.holds(state, *form),
             None => Ok(true),
         }
     }
@@ -196,10 +218,10 @@ impl<'t> Known<'t> {
         alloc: Global,
         task: &'t Task,
         forms: Forms<'t>,
-        own: &Own,
+        state: &SearchState,
         horizon: u32,
     ) -> Result<Self, AllocError> {
-        let waiting = waiting_for(alloc, &forms, own)?;
+        let waiting = waiting_for(alloc, &forms, state)?;
         let touched = touched(alloc, &forms)?;
         Ok(Known {
             scale: task.scale,
@@ -214,11 +236,11 @@ impl<'t> Known<'t> {
 /// Puts the marks of events, or wipes them.
 pub fn mark_events(known: &Known<'_>, marks: &mut Marks, events: &[u32], put: bool) {
     for event in events {
-        if let Some(deed) = known.deed(*event) {
+        if let Some(event_form) = known.event_form(*event) {
             if put {
-                marks.put(&known.forms, deed);
+                marks.put(&known.forms, event_form);
             } else {
-                marks.wipe(&known.forms, deed);
+                marks.wipe(&known.forms, event_form);
             }
         }
     }
@@ -226,13 +248,13 @@ pub fn mark_events(known: &Known<'_>, marks: &mut Marks, events: &[u32], put: bo
 
 fn carry_out_end(
     known: &Known<'_>,
-    own: &mut Own,
+    state: &mut SearchState,
     run: Running,
     values: &mut Vec<Option<i64>>,
-) -> Result<(), SeekFault> {
-    if let Some(deed) = known.end_of(run.action) {
+) -> Result<(), SearchFault> {
+    if let Some(event_form) = known.end_of(run.action) {
         let units = known.units(run.duration);
-        carry_out(&known.forms, own, deed, units, values)?;
+        carry_out(&known.forms, state, event_form, units, values)?;
     }
     Ok(())
 }
@@ -240,13 +262,13 @@ fn carry_out_end(
 /// Carries out the ends that are due.
 pub fn carry_out_ends(
     known: &Known<'_>,
-    own: &mut Own,
+    state: &mut SearchState,
     runs: &[Running],
     values: &mut Vec<Option<i64>>,
-) -> Result<(), SeekFault> {
+) -> Result<(), SearchFault> {
     for run in runs {
         if run.left == 0 {
-            carry_out_end(known, own, *run, values)?;
+            carry_out_end(known, state, *run, values)?;
         }
     }
     Ok(())
@@ -266,9 +288,9 @@ pub fn ends_are_apart(known: &Known<'_>, marks: &mut Marks, runs: &[Running]) ->
 // Puts the marks of an end, and tells whether it interferes with none that was there.
 fn put_end(known: &Known<'_>, marks: &mut Marks, run: Running) -> bool {
     match known.end_of(run.action) {
-        Some(deed) => {
-            let free = !marks.interferes(&known.forms, deed);
-            marks.put(&known.forms, deed);
+        Some(event_form) => {
+            let free = !marks.interferes(&known.forms, event_form);
+            marks.put(&known.forms, event_form);
             free
         }
         None => true,
@@ -279,8 +301,8 @@ fn put_end(known: &Known<'_>, marks: &mut Marks, run: Running) -> bool {
 pub fn wipe_ends(known: &Known<'_>, marks: &mut Marks, runs: &[Running]) {
     for run in runs {
         if run.left == 0 {
-            if let Some(deed) = known.end_of(run.action) {
-                marks.wipe(&known.forms, deed);
+            if let Some(event_form) = known.end_of(run.action) {
+                marks.wipe(&known.forms, event_form);
             }
         }
     }

@@ -2,11 +2,8 @@
 //! happening, the steps that run, and what can start there.
 
 use std::alloc::{AllocError, Global};
-use tp_forms::{Own, Span, part, small};
-use tp_ground::ActionId;
-
-/// The most steps of a plan.
-pub const MOST_STEPS: u32 = 512;
+use tp_forms::{SearchState, Span, part, small};
+use tp_ground::{ActionId, MOST_STEPS};
 
 /// A step that runs: its action, its duration, and how many of its ticks are left, 0 where its end is due.
 #[derive(Clone, Copy, Debug, PartialEq, Eq, PartialOrd, Ord)]
@@ -36,7 +33,7 @@ pub struct Chosen {
 pub struct Moment {
     pub hash: u64,
     pub tick: u32,
-    pub state: u32,
+    pub kept: u32,
     pub running: Span,
     pub starts: Option<Span>,
 }
@@ -115,34 +112,34 @@ impl Store {
     }
 
     /// Keeps what changes of the state at hand, and tells its number.
-    pub fn pack(&mut self, own: &Own) -> Result<u32, AllocError> {
+    pub fn pack(&mut self, state: &SearchState) -> Result<u32, AllocError> {
         let number = self.states;
-        self.words.extend_from_slice(own.words(self.width))?;
-        self.numbers.extend_from_slice(own.numbers(self.depth))?;
+        self.words.extend_from_slice(state.words(self.width))?;
+        self.numbers.extend_from_slice(state.numbers(self.depth))?;
         self.states = self.states.saturating_add(1);
         Ok(number)
     }
 
     /// Makes a state that was kept the one at hand.
-    pub fn unpack(&self, state: u32, own: &mut Own) {
-        own.load(
-            block(&self.words, state, self.width),
-            block(&self.numbers, state, self.depth),
+    pub fn unpack(&self, kept: u32, state: &mut SearchState) {
+        state.load(
+            block(&self.words, kept, self.width),
+            block(&self.numbers, kept, self.depth),
         );
     }
 
-    fn is_state(&self, state: u32, own: &Own) -> bool {
-        block(&self.words, state, self.width) == own.words(self.width)
-            && block(&self.numbers, state, self.depth) == own.numbers(self.depth)
+    fn is_state(&self, kept: u32, state: &SearchState) -> bool {
+        block(&self.words, kept, self.width) == state.words(self.width)
+            && block(&self.numbers, kept, self.depth) == state.numbers(self.depth)
     }
 
     /// A hash of the state at hand and of steps that run.
-    pub fn hash_of(&self, own: &Own, runs: &[Running]) -> u64 {
+    pub fn hash_of(&self, state: &SearchState, runs: &[Running]) -> u64 {
         let mut hash = 0;
-        for word in own.words(self.width) {
+        for word in state.words(self.width) {
             hash = mixed(hash, *word);
         }
-        for number in own.numbers(self.depth) {
+        for number in state.numbers(self.depth) {
             hash = mixed(hash, number.cast_unsigned());
         }
         for run in runs {
@@ -209,11 +206,11 @@ impl Store {
     }
 
     /// Whether an earlier wait has the state at hand and these steps that run.
-    pub fn is_known(&self, hash: u64, own: &Own, runs: &[Running]) -> bool {
+    pub fn is_known(&self, hash: u64, state: &SearchState, runs: &[Running]) -> bool {
         let mut at = place_of(hash, self.table.len());
         for _ in 0..self.table.len() {
             match self.moment_at(at) {
-                Some(moment) if self.is_same(&moment, hash, own, runs) => return true,
+                Some(moment) if self.is_same(&moment, hash, state, runs) => return true,
                 Some(_) => at = self.next_place(at),
                 None => return false,
             }
@@ -221,8 +218,10 @@ impl Store {
         false
     }
 
-    fn is_same(&self, moment: &Moment, hash: u64, own: &Own, runs: &[Running]) -> bool {
-        moment.hash == hash && self.runs(moment.running) == runs && self.is_state(moment.state, own)
+    fn is_same(&self, moment: &Moment, hash: u64, state: &SearchState, runs: &[Running]) -> bool {
+        moment.hash == hash
+            && self.runs(moment.running) == runs
+            && self.is_state(moment.kept, state)
     }
 
     fn next_place(&self, at: usize) -> usize {

@@ -6,7 +6,7 @@ use Rattle.std.proofs.Math.IntN.{+ℤ_idr, +ℤ_assoc}
 use Rattle.tp_ground.specs.declared.events.NumericEffect.{NumericEffect}
 use Rattle.tp_ground.specs.State.{State, units}
 use Rattle.tp_ground.specs.Event.{has, fluents_set, fluents_written, is_additive}
-use Rattle.tp_ground.specs.Happens.{Timed, value_set, set_in, added_in, set_by, added_by, plus, atom_after, number_after}
+use Rattle.tp_ground.specs.Happens.{EventOfStep, value_set, set_in, added_in, set_by, added_by, plus, atom_after, number_after}
 use Rattle.tp_ground.specs.Valid.{Placed}
 use Rattle.tp_ground.specs.Bounds.{In}
 use Rattle.tp_ground.proofs.Lists.{total_same}
@@ -87,7 +87,7 @@ number_register scale initial trace es f =
 pub atom_step : (initial : State) (es : List Placed) (a : ℕ) (when : Placed → ℕ) (ticks : Placed → ℕ) (m : ℕ) (s s' : State) → s'.atom a ≡ atom_after s (picked (λ e. when e == m) ticks es) a → IsAt (atom_register initial es a) when m (s.atom a) → IsAt (atom_register initial es a) when (m + 1) (s'.atom a)
 atom_step initial es a when ticks m s s' h k = ⊎_elim added (λ none. ⊎_elim (deleted none) (kept none) (cases_Bool (list_any (λ t. has t.event.deletes.items a) now))) (cases_Bool (list_any (λ t. has t.event.adds.items a) now))
   where
-    now : List Timed
+    now : List EventOfStep
     now = picked (λ e. when e == m) ticks es
 
     r : Register Placed Bool
@@ -123,7 +123,7 @@ atom_step initial es a when ticks m s s' h k = ⊎_elim added (λ none. ⊎_elim
 pub number_step : (scale : ℕ) (initial : State) (trace : ℕ → State) (es : List Placed) (f : ℕ) (when : Placed → ℕ) (ticks : Placed → ℕ) (m : ℕ) (s s' : State) → s'.number f ≡ number_after scale s (picked (λ e. when e == m) ticks es) f → ((e : Placed) → In e es → when e ≡ m → ((x : Option ℤ) → set_in s (units scale (ticks e)) e.timed.event.writes.items f x ≡ set_in (trace e.moment) (units scale e.timed.ticks) e.timed.event.writes.items f x) × (added_in s (units scale (ticks e)) e.timed.event.writes.items f ≡ added_in (trace e.moment) (units scale e.timed.ticks) e.timed.event.writes.items f)) → IsAt (number_register scale initial trace es f) when m (s.number f) → IsAt (number_register scale initial trace es f) when (m + 1) (s'.number f)
 number_step scale initial trace es f when ticks m s s' h same k = ⊎_elim set kept (set_picked (λ e. when e == m) ticks scale s f other es)
   where
-    now : List Timed
+    now : List EventOfStep
     now = picked (λ e. when e == m) ticks es
 
     r : Register Placed (Option ℤ)

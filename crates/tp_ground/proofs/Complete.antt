@@ -8,7 +8,7 @@ use Rattle.tp_ground.specs.declared.events.Cond.{Cond}
 use Rattle.tp_ground.specs.declared.events.Limit.{Limit}
 use Rattle.tp_ground.specs.State.{State, both, value, holds, compares_values}
 use Rattle.tp_ground.specs.Event.{mixes}
-use Rattle.tp_ground.specs.Happens.{Timed, is_defined, apart, atom_after, number_after}
+use Rattle.tp_ground.specs.Happens.{EventOfStep, is_defined, apart, atom_after, number_after}
 use Rattle.tp_ground.specs.Valid.{Planned, Placed, events, at, BodyHolds, IsRun, IsValidRun}
 use Rattle.tp_ground.specs.Bounds.{In}
 use Rattle.tp_ground.specs.Verdict as fault
@@ -51,16 +51,16 @@ module _ (scale : ℕ) (initial : State) (goal : Cond) (plan : List Planned) (v 
   abbrev s : ℕ → State
   s = states scale initial es
 
-  picked_holds : (P : Timed → Type 0) (m : ℕ) → AllByRecursion P (at m es) → (e : Placed) → In e es → (e.moment == m) ≡ true → P e.timed
+  picked_holds : (P : EventOfStep → Type 0) (m : ℕ) → AllByRecursion P (at m es) → (e : Placed) → In e es → (e.moment == m) ≡ true → P e.timed
   picked_holds P m h e i q = all_picked_at (λ x. x.moment == m) (λ x. x.timed.ticks) P es h e i q
 
-  rule_from : (before : State) (ticks : ℕ) (ls : List Limit) → AllByRecursion (λ (l : Limit). compares_values l.how (Some (pos ticks)) (both ◌*ℤ◌ (Some (pos scale)) (value before None l.value)) ≡ true) ls → list_all (λ (l : Limit). compares_values l.how (Some (pos ticks)) (both ◌*ℤ◌ (Some (pos scale)) (value before None l.value))) ls ≡ true
-  rule_from before ticks [] h = refl
-  rule_from before ticks (l ∷ ls) h = and_from _ _ h.0 (rule_from before ticks ls h.1)
+  constraint_from : (before : State) (ticks : ℕ) (ls : List Limit) → AllByRecursion (λ (l : Limit). compares_values l.how (Some (pos ticks)) (both ◌*ℤ◌ (Some (pos scale)) (value before None l.value)) ≡ true) ls → list_all (λ (l : Limit). compares_values l.how (Some (pos ticks)) (both ◌*ℤ◌ (Some (pos scale)) (value before None l.value))) ls ≡ true
+  constraint_from before ticks [] h = refl
+  constraint_from before ticks (l ∷ ls) h = and_from _ _ h.0 (constraint_from before ticks ls h.1)
 
   lawful : (p : Planned) (b : Body) → BodyHolds scale s p.moment p.duration b → is_unlawful scale (s p.moment) p.duration b ≡ false
   lawful p (Instant x) h = refl
-  lawful p (Durative x y c) h = and_right _ _ (not_from_true _ (and_from (nat_le 1 p.duration) _ (le-leb 1 p.duration h.lawful.tick) (rule_from (s p.moment) p.duration x.rule.items h.lawful.rule_holds)))
+  lawful p (Durative x y c) h = and_right _ _ (not_from_true _ (and_from (nat_le 1 p.duration) _ (le-leb 1 p.duration h.lawful.tick) (constraint_from (s p.moment) p.duration x.constraint.items h.lawful.constraint_holds)))
 
   unbroken : (m : ℕ) (p : Planned) (b : Body) → BodyHolds scale s p.moment p.duration b → is_broken (s (suc m)) m p b ≡ false
   unbroken m p (Instant x) h = refl

@@ -73,6 +73,6 @@ module _ (s s' : State) (d d' : Option ℤ) where
       (ap₂ (λ v b. is_some v && (is_assign w.change || b)) (heads w ws h k) (g w.fluent (or_left (w.fluent == w.fluent) _ (eq-eqb w.fluent w.fluent refl))))
       (writes_defined_same ws (λ f i. h f (has_right (fluents_of w.value) _ f i)) (λ f i. g f (or_right (w.fluent == f) _ i)) (tails w ws k))
 
-pub rule_defined_same : (s s' : State) (ls : List Limit) → SameNumbers s s' (flat_map (λ l. fluents_of l.value) ls) → list_all (λ (l : Limit). is_some (value s None l.value)) ls ≡ list_all (λ (l : Limit). is_some (value s' None l.value)) ls
-rule_defined_same s s' [] h = refl
-rule_defined_same s s' (l ∷ ls) h = ap₂ ◌&&◌ (ap is_some (value_same s s' None None l.value (λ f i. h f (has_left (fluents_of l.value) _ f i)) (inl refl))) (rule_defined_same s s' ls (λ f i. h f (has_right (fluents_of l.value) _ f i)))
+pub constraint_defined_same : (s s' : State) (ls : List Limit) → SameNumbers s s' (flat_map (λ l. fluents_of l.value) ls) → list_all (λ (l : Limit). is_some (value s None l.value)) ls ≡ list_all (λ (l : Limit). is_some (value s' None l.value)) ls
+constraint_defined_same s s' [] h = refl
+constraint_defined_same s s' (l ∷ ls) h = ap₂ ◌&&◌ (ap is_some (value_same s s' None None l.value (λ f i. h f (has_left (fluents_of l.value) _ f i)) (inl refl))) (constraint_defined_same s s' ls (λ f i. h f (has_right (fluents_of l.value) _ f i)))

@@ -1,9 +1,9 @@
 -- Events and bodies of what was numbered one after another.
 use Rattle.std.proofs.Common.{◌≡◌, List, [], map, Result, IsErrAnd, Vec, Global, refl, sym, ap, subst, ◌∙◌}
-use Rattle.tp_syntax.specs.RuleViews.{rule_view}
+use Rattle.tp_syntax.specs.ConstraintViews.{constraint_view}
 use Rattle.tp_syntax.specs.EffectViews.{timed_condition_view, timed_effect_view}
 use Rattle.tp_syntax.specs.DomainViews.{body_view}
-use Rattle.tp_ast.specs.declared.rule.DurationRule.{DurationRule}
+use Rattle.tp_ast.specs.declared.constraint.DurationConstraint.{DurationConstraint}
 use Rattle.tp_ast.specs.declared.joined.Joined.{Joined}
 use Rattle.tp_ast.specs.declared.timed.Timed.{Timed}
 use Rattle.tp_ast.specs.declared.effect.SimpleEffect.{SimpleEffect}
@@ -44,8 +44,8 @@ module _ (a : Tables) (m n k : Mentions) (f : GroundFault) where
 abbrev named_pair : Tables → Cond × Vec NumberedEffect Global → GroundCondition × List GroundEffect
 named_pair t p = (named_condition t p.0, map (named_simple_effect t) p.1.items)
 
-abbrev with_rule : GroundCondition × List GroundEffect → List GroundLimit → GroundHappening
-with_rule p ls = happening p.0 p.1 ls
+abbrev with_constraint : GroundCondition × List GroundEffect → List GroundLimit → GroundHappening
+with_constraint p ls = happening p.0 p.1 ls
 
 abbrev pub Assembled : GroundEvent → Cond → List NumberedEffect → List Limit → Type 0
 Assembled e c os ls = (t : Tables) → named_event t e ≡ happening (named_condition t c) (map (named_simple_effect t) os) (map (named_limit t) ls)
@@ -55,10 +55,10 @@ module _ (a b d : Tables) (c : Cond) (os : Vec NumberedEffect Global) (e : Groun
   pair_lowered = lowered_both (λ (p : GroundCondition) (q : List GroundEffect). (p, q)) (c, os) (λ t. refl) l k
 
   pub start_lowered : (w : Tables) (ls : Vec Limit Global) (limits : List GroundLimit) → AllLowered named_limit of_limit d w ls limits → Assembled e c os.items ls.items → IsLowered named_event a w e (happening cond outs limits) (of_condition cond then of_each of_simple_effect outs then of_each of_limit limits)
-  start_lowered w ls limits g h = lowered_both with_rule e (λ t. h t) pair_lowered g
+  start_lowered w ls limits g h = lowered_both with_constraint e (λ t. h t) pair_lowered g
 
   pub plain_lowered : (ls : List Limit) → ls ≡ [] → Assembled e c os.items ls → IsLowered named_event a d e (happening cond outs []) (of_condition cond then of_each of_simple_effect outs)
-  plain_lowered ls none h = lowered_as (λ (p : GroundCondition × List GroundEffect). with_rule p []) e (λ t. h t ∙ ap (λ (zs : List Limit). happening (named_condition t c) (map (named_simple_effect t) os.items) (map (named_limit t) zs)) none) pair_lowered
+  plain_lowered ls none h = lowered_as (λ (p : GroundCondition × List GroundEffect). with_constraint p []) e (λ t. h t ∙ ap (λ (zs : List Limit). happening (named_condition t c) (map (named_simple_effect t) os.items) (map (named_limit t) zs)) none) pair_lowered
 
 -- a start and an end, one after the other
 module _ (a b c : Tables) (start end : GroundHappening) (m n : Mentions) where
@@ -75,15 +75,15 @@ pub instant_lowered : (a b : Tables) (e : GroundEvent) (h : GroundHappening) (m 
 instant_lowered a b e h m l = lowered_as instant (Instant e) (λ t. refl) l
 
 -- a durative action, its ends and its invariant numbered one after another
-module _ (u : Universe) (env : Env) (x : syntax.Body) (r : DurationRule) (c : Joined (Timed syntax_conds.Cond)) (f : Joined (Timed (Joined SimpleEffect))) (is : x ≡ bodies.Durative r c f) where
+module _ (u : Universe) (env : Env) (x : syntax.Body) (r : DurationConstraint) (c : Joined (Timed syntax_conds.Cond)) (f : Joined (Timed (Joined SimpleEffect))) (is : x ≡ bodies.Durative r c f) where
   abbrev of_ends : Mentions
-  of_ends = of_start u env (rule_view r) (timed_condition_view c) (timed_effect_view f) then of_end u env (timed_condition_view c) (timed_effect_view f)
+  of_ends = of_start u env (constraint_view r) (timed_condition_view c) (timed_effect_view f) then of_end u env (timed_condition_view c) (timed_effect_view f)
 
   abbrev of_between : Mentions
   of_between = of_condition (condition_at u OverAll env (timed_condition_view c))
 
   abbrev both_ends : GroundHappening × GroundHappening
-  both_ends = (start_in u env (rule_view r) (timed_condition_view c) (timed_effect_view f), end_in u env (timed_condition_view c) (timed_effect_view f))
+  both_ends = (start_in u env (constraint_view r) (timed_condition_view c) (timed_effect_view f), end_in u env (timed_condition_view c) (timed_effect_view f))
 
   stopped : (a b : Tables) (res : Result Body GroundFault) (e : GroundFault) → IsErrAnd res (λ g. g ≡ e) → Overflows a (of_ends then of_between) e → Lowers named_body a res b (body_in u env (body_view x)) (of_body u env (body_view x))
   stopped a b res e err h = failed named_body a b (body_in u env (body_view x)) (of_body u env (body_view x)) res e err (subst (λ y. Overflows a (of_body u env (body_view y)) e) (sym is) h)

@@ -21,8 +21,8 @@ module _ (env : Env) (x : syntax.Expr) where
   pub at_Fluent : (a : Atom) → x ≡ syntax.Fluent a → expression_in env (expr_view x) ≡ fluent (words_in env (atom_view a))
   at_Fluent a is = ap (λ y. expression_in env (expr_view y)) is ∙ search (rules, syntax.the_lemmas)
 
-  pub at_Negative : (a : Box syntax.Expr Global) → x ≡ syntax.Negative a → expression_in env (expr_view x) ≡ negative (expression_in env (expr_view a.value))
-  at_Negative a is = ap (λ y. expression_in env (expr_view y)) is ∙ search (rules, syntax.the_lemmas)
+  pub at_Negated : (a : Box syntax.Expr Global) → x ≡ syntax.Negated a → expression_in env (expr_view x) ≡ negative (expression_in env (expr_view a.value))
+  at_Negated a is = ap (λ y. expression_in env (expr_view y)) is ∙ search (rules, syntax.the_lemmas)
 
   pub at_Sum : (a b : Box syntax.Expr Global) → x ≡ syntax.Sum a b → expression_in env (expr_view x) ≡ sum (expression_in env (expr_view a.value)) (expression_in env (expr_view b.value))
   at_Sum a b is = ap (λ y. expression_in env (expr_view y)) is ∙ search (rules, syntax.the_lemmas)

@@ -1,4 +1,4 @@
--- Parts and duration constraints: those of a list, one after another.
+-- Parts and duration rules: those of a list, one after another.
 use Rattle.std.proofs.Common.{◌≡◌, List, [], ◌∷◌, ◌++◌, map, Bool, true, if◌then◌else◌, Vec, Box, Global, refl, sym, ap, ◌∙◌, rules}
 use Rattle.std.specs.List.{flat_map}
 use Rattle.std.proofs.lemmas.List.Concat.{flat_map-cons}
@@ -6,16 +6,16 @@ use Rattle.tp_syntax.specs.Symbols.{Name, Declared, typed_view}
 use Rattle.tp_syntax.specs.Parts as specs
 use Rattle.tp_syntax.specs.Parts.{all_parts, for_each, parts}
 use Rattle.tp_syntax.specs.PartViews.{joined_view}
-use Rattle.tp_syntax.specs.Effects.{all_rules, rule, rules_in}
+use Rattle.tp_syntax.specs.Effects.{all_constraints, constraint, constraints_in}
 use Rattle.tp_syntax.specs.ExprViews.{expr_view}
-use Rattle.tp_syntax.specs.RuleViews.{rule_view}
+use Rattle.tp_syntax.specs.ConstraintViews.{constraint_view}
 use Rattle.tp_ast.specs.declared.words.Comparison.{Comparison}
 use Rattle.tp_ast.specs.declared.expr.Expr.{Expr}
 use Rattle.tp_ast.specs.declared.symbols.Typed.{Typed}
 use Rattle.tp_ast.specs.declared.joined.Joined as joins
 use Rattle.tp_ast.specs.declared.joined.Joined.{Joined}
-use Rattle.tp_ast.specs.declared.rule.DurationRule as the_rules
-use Rattle.tp_ast.specs.declared.rule.DurationRule.{DurationRule}
+use Rattle.tp_ast.specs.declared.constraint.DurationConstraint as the_constraints
+use Rattle.tp_ast.specs.declared.constraint.DurationConstraint.{DurationConstraint}
 use Rattle.tp_ground.specs.Bindings.{Universe, Env, bound}
 use Rattle.tp_ground.specs.Written.{parts_in, all_parts_in, inner, limits_in, all_limits_in, comparison_of, expression_in}
 
@@ -53,22 +53,22 @@ part_under u read seen vs env p b = parts_in u read (bound vs b ++ env) (joined_
 abbrev pub part_in : {A B C : Type 0} → Universe → (Env → B → List C) → (A → B) → Joined A → Env → List C
 part_in u read seen p env = parts_in u read env (joined_view seen p)
 
-module _ (env : Env) (x : DurationRule) where
-  rule_And : (v : Vec DurationRule Global) → rule_view (the_rules.And v) ≡ all_rules (rules_in (map rule_view v.items))
-  rule_And v = search (rules, the_rules.the_lemmas)
+module _ (env : Env) (x : DurationConstraint) where
+  constraint_And : (v : Vec DurationConstraint Global) → constraint_view (the_constraints.And v) ≡ all_constraints (constraints_in (map constraint_view v.items))
+  constraint_And v = search (rules, the_constraints.the_lemmas)
 
-  rule_Limit : (op : Comparison) (y : Expr) → rule_view (the_rules.Limit op y) ≡ rule op (expr_view y)
-  rule_Limit op y = search (rules, the_rules.the_lemmas)
+  constraint_Limit : (op : Comparison) (y : Expr) → constraint_view (the_constraints.Limit op y) ≡ constraint op (expr_view y)
+  constraint_Limit op y = search (rules, the_constraints.the_lemmas)
 
-  each_rule : (rs : List DurationRule) → all_limits_in env (rules_in (map rule_view rs)) ≡ flat_map (λ r. limits_in env (rule_view r)) rs
-  each_rule [] = refl
-  each_rule (r ∷ rs) = ap (λ ls. limits_in env (rule_view r) ++ ls) (each_rule rs) ∙ sym (flat_map-cons (λ r. limits_in env (rule_view r)) r rs)
+  each_constraint : (rs : List DurationConstraint) → all_limits_in env (constraints_in (map constraint_view rs)) ≡ flat_map (λ r. limits_in env (constraint_view r)) rs
+  each_constraint [] = refl
+  each_constraint (r ∷ rs) = ap (λ ls. limits_in env (constraint_view r) ++ ls) (each_constraint rs) ∙ sym (flat_map-cons (λ r. limits_in env (constraint_view r)) r rs)
 
-  pub limits_of : (v : Vec DurationRule Global) (rs : List DurationRule) → x ≡ the_rules.And v → rs ≡ v.items → limits_in env (rule_view x) ≡ flat_map (λ r. limits_in env (rule_view r)) rs
-  limits_of v rs is items = ap (λ y. limits_in env (rule_view y)) is ∙ ap (limits_in env) (rule_And v) ∙ each_rule v.items ∙ ap (flat_map (λ r. limits_in env (rule_view r))) (sym items)
+  pub limits_of : (v : Vec DurationConstraint Global) (rs : List DurationConstraint) → x ≡ the_constraints.And v → rs ≡ v.items → limits_in env (constraint_view x) ≡ flat_map (λ r. limits_in env (constraint_view r)) rs
+  limits_of v rs is items = ap (λ y. limits_in env (constraint_view y)) is ∙ ap (limits_in env) (constraint_And v) ∙ each_constraint v.items ∙ ap (flat_map (λ r. limits_in env (constraint_view r))) (sym items)
 
-  pub limit_of : (op : Comparison) (y : Expr) → x ≡ the_rules.Limit op y → limits_in env (rule_view x) ≡ record { how = comparison_of op; value = expression_in env (expr_view y) } ∷ []
-  limit_of op y is = ap (λ z. limits_in env (rule_view z)) is ∙ ap (limits_in env) (rule_Limit op y)
+  pub limit_of : (op : Comparison) (y : Expr) → x ≡ the_constraints.Limit op y → limits_in env (constraint_view x) ≡ record { how = comparison_of op; value = expression_in env (expr_view y) } ∷ []
+  limit_of op y is = ap (λ z. limits_in env (constraint_view z)) is ∙ ap (limits_in env) (constraint_Limit op y)
 
 -- what stands at its specifier
 pub specified : {C : Type 0} (b : Bool) (xs : List C) → b ≡ true → (if b then xs else []) ≡ xs

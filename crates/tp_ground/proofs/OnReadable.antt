@@ -93,7 +93,7 @@ lower_words (n ∷ w) h = (h.0.lower, lower_words w h.1)
 all_names : (w : Words) → AreOwn w → list_all is_name w ≡ true
 unfolding AreOwn
 all_names [] h = refl
-all_names (n ∷ w) h = and_from (is_name n) (list_all is_name w) h.0.form (all_names w h.1)
+all_names (n ∷ w) h = and_from (is_name n) (list_all is_name w) h.0.signature (all_names w h.1)
 
 -- a label has a name
 record IsOwnLabel (w : Words) : Type 0 where

@@ -11,11 +11,11 @@ use Rattle.tp_ast.specs.Gives.{◌>>=◌, provided}
 use Rattle.tp_ast.specs.Lists.{first_of}
 use Rattle.tp_ast.specs.Words.{lower, is_word}
 use Rattle.tp_ast.specs.Terms.{is_name, is_inner, name_of}
-use Rattle.tp_ast.specs.Symbols.{Name, Declared, Parent, Form, Symbols}
+use Rattle.tp_ast.specs.Symbols.{Name, Declared, Parent, SignatureView, Symbols}
 use Rattle.tp_ast.specs.TypedLists.{is_dash, begins_dash, item_at, type_at, Typing, joined, unless, typing_of, after_dash, run_of, typed_list, are_declared, has_twice, parameters_at}
 use Rattle.tp_ast.specs.Actions.{Action, Body, field, fields_of, each_once, is_field_of, or_missing, body_of, action_of}
 use Rattle.tp_ast.specs.Domains as domains
-use Rattle.tp_ast.specs.Domains.{Domain, requirements_in, types_in, objects_in, forms_of, named_once, numeric_forms, action_at, actions_in, section, domain_with, domain_of, named, sections_of, defined}
+use Rattle.tp_ast.specs.Domains.{Domain, requirements_in, types_in, objects_in, signatures_of, named_once, numeric_signatures, action_at, actions_in, section, domain_with, domain_of, named, sections_of, defined}
 use Rattle.tp_ast.specs.Problems as problems
 use Rattle.tp_ast.specs.Problems.{Problem, Initial, problem_from, new_objects, stated, symbols_with, problem_with, problem_of, own_name, once_each}
 use Rattle.tp_ast.specs.declared.words.Key.TheVariants.{Parameters}
@@ -81,7 +81,7 @@ name_read : (w n : List ℕ) → name_of w ≡ Some n → IsOwnName n
 unfolding name_of
 name_read w n h =
     let p = provided_some (is_name w) (lower w) n h in
-    subst IsOwnName p.1 (record { form = lower_name w p.0; lower = lower_lower w })
+    subst IsOwnName p.1 (record { signature = lower_name w p.0; lower = lower_lower w })
 
 item_read : (s : Shape) (n : Name) → item_at Names s ≡ Some n → IsOwnName n
 unfolding item_at
@@ -186,7 +186,7 @@ both_own : (xs ys : List Action) → HaveOwn xs → HaveOwn ys → HaveOwn (xs +
 unfolding HaveOwn
 both_own xs ys h k = subst (AllByRecursion IsOwnName) (sym (map-append (λ a. a.name) xs ys)) (all_append IsOwnName (map (λ a. a.name) xs) (map (λ a. a.name) ys) h k)
 
-actions_read : (σ : Symbols) (ps : List domains.Part) (as_ : List Action) → actions_in σ ps ≡ Some as_ → HaveOwn as_
+actions_read : (σ : Symbols) (ps : List domains.SectionBody) (as_ : List Action) → actions_in σ ps ≡ Some as_ → HaveOwn as_
 unfolding actions_in
 actions_read σ [] as_ h = none_read as_ h
 actions_read σ (p ∷ ps) as_ h =
@@ -202,39 +202,39 @@ record Owns (d : Domain) : Type 0 where
   pub actions : HaveOwn d.actions
   pub once : has_twice (map (λ a. a.name) d.actions) ≡ false
 
-domain_made : Name → List Name → List Parent → List Declared → List Form → List Form → List Action → Domain
+domain_made : Name → List Name → List Parent → List Declared → List SignatureView → List SignatureView → List Action → Domain
 domain_made n r t c p f as_ = record { name = n; requirements = r; types = t; constants = c; predicates = p; functions = f; actions = as_ }
 
-symbols_of : List Parent → List Declared → List Form → List Form → Symbols
+symbols_of : List Parent → List Declared → List SignatureView → List SignatureView → Symbols
 symbols_of t c p f = record { types = t; objects = c; predicates = p; functions = f }
 
-after_functions : Name → List domains.Part → List Name → List Parent → List Declared → List Form → List Form → Option Domain
+after_functions : Name → List domains.SectionBody → List Name → List Parent → List Declared → List SignatureView → List SignatureView → Option Domain
 after_functions n ps r t c p f = actions_in (symbols_of t c p f) ps >>= λ as_. provided (not (has_twice (map (λ a. a.name) as_))) (domain_made n r t c p f as_)
 
-after_predicates : Name → List domains.Part → List Name → List Parent → List Declared → List Form → Option Domain
-after_predicates n ps r t c p = (numeric_forms t false (section sections.Functions ps) >>= named_once) >>= after_functions n ps r t c p
+after_predicates : Name → List domains.SectionBody → List Name → List Parent → List Declared → List SignatureView → Option Domain
+after_predicates n ps r t c p = (numeric_signatures t false (section sections.Functions ps) >>= named_once) >>= after_functions n ps r t c p
 
-after_constants : Name → List domains.Part → List Name → List Parent → List Declared → Option Domain
-after_constants n ps r t c = (forms_of t (section sections.Predicates ps) >>= named_once) >>= after_predicates n ps r t c
+after_constants : Name → List domains.SectionBody → List Name → List Parent → List Declared → Option Domain
+after_constants n ps r t c = (signatures_of t (section sections.Predicates ps) >>= named_once) >>= after_predicates n ps r t c
 
-after_types : Name → List domains.Part → List Name → List Parent → Option Domain
+after_types : Name → List domains.SectionBody → List Name → List Parent → Option Domain
 after_types n ps r t = objects_in t (section sections.Constants ps) >>= after_constants n ps r t
 
-after_requirements : Name → List domains.Part → List Name → Option Domain
+after_requirements : Name → List domains.SectionBody → List Name → Option Domain
 after_requirements n ps r = types_in (section sections.Types ps) >>= after_types n ps r
 
-in_order : (n : Name) (ps : List domains.Part) → domain_with n ps ≡ (requirements_in (section sections.Requirements ps) >>= after_requirements n ps)
+in_order : (n : Name) (ps : List domains.SectionBody) → domain_with n ps ≡ (requirements_in (section sections.Requirements ps) >>= after_requirements n ps)
 unfolding domain_with after_requirements after_types after_constants after_predicates after_functions symbols_of domain_made
 in_order n ps = refl
 
-parts_read : (n : Name) (ps : List domains.Part) (d : Domain) → domain_with n ps ≡ Some d → Owns d
+parts_read : (n : Name) (ps : List domains.SectionBody) (d : Domain) → domain_with n ps ≡ Some d → Owns d
 unfolding after_requirements after_types after_constants after_predicates after_functions AreOwn HaveOwn domain_made
 parts_read n ps d h =
     let r = bind_some (requirements_in (section sections.Requirements ps)) (after_requirements n ps) d (sym (in_order n ps) ∙ h) in
     let t = bind_some (types_in (section sections.Types ps)) (after_types n ps r.0) d r.2 in
     let c = bind_some (objects_in t.0 (section sections.Constants ps)) (after_constants n ps r.0 t.0) d t.2 in
-    let p = bind_some (forms_of t.0 (section sections.Predicates ps) >>= named_once) (after_predicates n ps r.0 t.0 c.0) d c.2 in
-    let f = bind_some (numeric_forms t.0 false (section sections.Functions ps) >>= named_once) (after_functions n ps r.0 t.0 c.0 p.0) d p.2 in
+    let p = bind_some (signatures_of t.0 (section sections.Predicates ps) >>= named_once) (after_predicates n ps r.0 t.0 c.0) d c.2 in
+    let f = bind_some (numeric_signatures t.0 false (section sections.Functions ps) >>= named_once) (after_functions n ps r.0 t.0 c.0 p.0) d p.2 in
     let a = bind_some (actions_in (symbols_of t.0 c.0 p.0 f.0) ps) (λ as_. provided (not (has_twice (map (λ a. a.name) as_))) (domain_made n r.0 t.0 c.0 p.0 f.0 as_)) d f.2 in
     let once = provided_some (not (has_twice (map (λ a. a.name) a.0))) (domain_made n r.0 t.0 c.0 p.0 f.0 a.0) d a.2 in
     subst Owns once.1 (record {
@@ -270,7 +270,7 @@ new_read d ss os h =
     subst (λ (os : List Declared). AreOwn os × (has_twice (map (λ o. o.name) (d.constants ++ os)) ≡ false)) p.1
     (objects_read d.types ss b.0 b.1, not_true (has_twice (map (λ o. o.name) (d.constants ++ b.0))) p.0)
 
-sections_read : (d : Domain) (n : Name) (ps : List problems.Part) (p : Problem) → problem_with d n ps ≡ Some p → OwnsObjects d p
+sections_read : (d : Domain) (n : Name) (ps : List problems.ProblemSectionBody) (p : Problem) → problem_with d n ps ≡ Some p → OwnsObjects d p
 unfolding problem_with
 sections_read d n ps p h =
     let r = bind_some (requirements_in (problems.section problem_sections.Requirements ps)) (λ words. new_objects d (problems.section problem_sections.Objects ps) >>= λ objects. option_map (problem_from n objects) (stated (symbols_with d objects) ps)) p h in

@@ -6,16 +6,16 @@ use Rattle.std.proofs.Math.IntN.{+ℤ_idl}
 use Rattle.tp_ground.specs.declared.events.GroundEvent.{GroundEvent}
 use Rattle.tp_ground.specs.State.{State, units}
 use Rattle.tp_ground.specs.Event.{has, interferes, disturbs, fluents_set}
-use Rattle.tp_ground.specs.Happens.{Timed, set_in, added_in, set_by, added_by, apart}
+use Rattle.tp_ground.specs.Happens.{EventOfStep, set_in, added_in, set_by, added_by, apart}
 use Rattle.tp_ground.specs.Valid.{Placed}
 use Rattle.tp_ground.specs.Bounds.{In}
 use Rattle.tp_ground.proofs.Lists.{total}
 
 -- an event with these ticks; the events that pass, with their ticks
-abbrev pub timed_by : (Placed → ℕ) → Placed → Timed
+abbrev pub timed_by : (Placed → ℕ) → Placed → EventOfStep
 timed_by ticks e = record { event = e.timed.event; ticks = ticks e }
 
-abbrev pub picked : (Placed → Bool) → (Placed → ℕ) → List Placed → List Timed
+abbrev pub picked : (Placed → Bool) → (Placed → ℕ) → List Placed → List EventOfStep
 picked pick ticks es = map (timed_by ticks) (filter pick es)
 
 -- the numbers rise
@@ -38,7 +38,7 @@ module _ (pick : Placed → Bool) (ticks : Placed → ℕ) where
   at_head x e w p q = absurd (both_ways (pick x) (subst (λ y. pick y ≡ true) w p) q)
 
   -- what holds of each event that is picked
-  pub all_picked_at : (P : Timed → Type 0) (es : List Placed) → AllByRecursion P (picked pick ticks es) → (e : Placed) → In e es → pick e ≡ true → P (timed_by ticks e)
+  pub all_picked_at : (P : EventOfStep → Type 0) (es : List Placed) → AllByRecursion P (picked pick ticks es) → (e : Placed) → In e es → pick e ≡ true → P (timed_by ticks e)
   all_picked_at P [] h e i p = absurd i
   all_picked_at P (x ∷ es) h e (inl w) p = let h' : AllByRecursion P (timed_by ticks x ∷ picked pick ticks es) = subst (AllByRecursion P) (picked_yes x es (subst (λ y. pick y ≡ true) w p)) h in subst (λ y. P (timed_by ticks y)) (sym w) h'.0
   all_picked_at P (x ∷ es) h e (inr j) p =
@@ -47,7 +47,7 @@ module _ (pick : Placed → Bool) (ticks : Placed → ℕ) where
       (λ q. all_picked_at P es (subst (AllByRecursion P) (picked_no x es q) h) e j p)
       (cases_Bool (pick x))
 
-  pub all_picked_from : (P : Timed → Type 0) (es : List Placed) → ((e : Placed) → In e es → pick e ≡ true → P (timed_by ticks e)) → AllByRecursion P (picked pick ticks es)
+  pub all_picked_from : (P : EventOfStep → Type 0) (es : List Placed) → ((e : Placed) → In e es → pick e ≡ true → P (timed_by ticks e)) → AllByRecursion P (picked pick ticks es)
   all_picked_from P [] f = tt
   all_picked_from P (x ∷ es) f =
       ⊎_elim
@@ -124,13 +124,13 @@ interferes_sym a b = or_comm (disturbs a b) (disturbs b a)
     or_comm false false = refl
 
 module _ (pick : Placed → Bool) (ticks : Placed → ℕ) where
-  pub each_apart : (x : Placed) (es : List Placed) → list_all (λ (u : Timed). not (interferes x.timed.event u.event)) (picked pick ticks es) ≡ true → (e : Placed) → In e es → pick e ≡ true → interferes x.timed.event e.timed.event ≡ false
+  pub each_apart : (x : Placed) (es : List Placed) → list_all (λ (u : EventOfStep). not (interferes x.timed.event u.event)) (picked pick ticks es) ≡ true → (e : Placed) → In e es → pick e ≡ true → interferes x.timed.event e.timed.event ≡ false
   each_apart x [] h e i p = absurd i
-  each_apart x (y ∷ es) h e (inl w) p = subst (λ (z : Placed). interferes x.timed.event z.timed.event ≡ false) (sym w) (not-true _ (and_parts (not (interferes x.timed.event y.timed.event)) _ (subst (λ ts. list_all (λ (u : Timed). not (interferes x.timed.event u.event)) ts ≡ true) (picked_yes pick ticks y es (subst (λ z. pick z ≡ true) w p)) h)).0)
+  each_apart x (y ∷ es) h e (inl w) p = subst (λ (z : Placed). interferes x.timed.event z.timed.event ≡ false) (sym w) (not-true _ (and_parts (not (interferes x.timed.event y.timed.event)) _ (subst (λ ts. list_all (λ (u : EventOfStep). not (interferes x.timed.event u.event)) ts ≡ true) (picked_yes pick ticks y es (subst (λ z. pick z ≡ true) w p)) h)).0)
   each_apart x (y ∷ es) h e (inr j) p =
       ⊎_elim
-      (λ r. each_apart x es (and_parts (not (interferes x.timed.event y.timed.event)) _ (subst (λ ts. list_all (λ (u : Timed). not (interferes x.timed.event u.event)) ts ≡ true) (picked_yes pick ticks y es r) h)).1 e j p)
-      (λ r. each_apart x es (subst (λ ts. list_all (λ (u : Timed). not (interferes x.timed.event u.event)) ts ≡ true) (picked_no pick ticks y es r) h) e j p)
+      (λ r. each_apart x es (and_parts (not (interferes x.timed.event y.timed.event)) _ (subst (λ ts. list_all (λ (u : EventOfStep). not (interferes x.timed.event u.event)) ts ≡ true) (picked_yes pick ticks y es r) h)).1 e j p)
+      (λ r. each_apart x es (subst (λ ts. list_all (λ (u : EventOfStep). not (interferes x.timed.event u.event)) ts ≡ true) (picked_no pick ticks y es r) h) e j p)
       (cases_Bool (pick y))
 
   pub apart_at : (es : List Placed) → apart (picked pick ticks es) ≡ true → (a b : Placed) → In a es → In b es → pick a ≡ true → pick b ≡ true → a.number ≢ b.number → interferes a.timed.event b.timed.event ≡ false
@@ -144,12 +144,12 @@ module _ (pick : Placed → Bool) (ticks : Placed → ℕ) where
       (λ r. apart_at es (subst (λ ts. apart ts ≡ true) (picked_no pick ticks x es r) h) a b i j p q n)
       (cases_Bool (pick x))
 
-  pub each_from : (x : Placed) (es : List Placed) → ((e : Placed) → In e es → pick e ≡ true → interferes x.timed.event e.timed.event ≡ false) → list_all (λ (u : Timed). not (interferes x.timed.event u.event)) (picked pick ticks es) ≡ true
+  pub each_from : (x : Placed) (es : List Placed) → ((e : Placed) → In e es → pick e ≡ true → interferes x.timed.event e.timed.event ≡ false) → list_all (λ (u : EventOfStep). not (interferes x.timed.event u.event)) (picked pick ticks es) ≡ true
   each_from x [] f = refl
   each_from x (y ∷ es) f =
       ⊎_elim
-      (λ r. subst (λ ts. list_all (λ (u : Timed). not (interferes x.timed.event u.event)) ts ≡ true) (sym (picked_yes pick ticks y es r)) (and_from (not (interferes x.timed.event y.timed.event)) _ (not_from_false _ (f y (inl refl) r)) (each_from x es (λ e i. f e (inr i)))))
-      (λ r. subst (λ ts. list_all (λ (u : Timed). not (interferes x.timed.event u.event)) ts ≡ true) (sym (picked_no pick ticks y es r)) (each_from x es (λ e i. f e (inr i))))
+      (λ r. subst (λ ts. list_all (λ (u : EventOfStep). not (interferes x.timed.event u.event)) ts ≡ true) (sym (picked_yes pick ticks y es r)) (and_from (not (interferes x.timed.event y.timed.event)) _ (not_from_false _ (f y (inl refl) r)) (each_from x es (λ e i. f e (inr i)))))
+      (λ r. subst (λ ts. list_all (λ (u : EventOfStep). not (interferes x.timed.event u.event)) ts ≡ true) (sym (picked_no pick ticks y es r)) (each_from x es (λ e i. f e (inr i))))
       (cases_Bool (pick y))
 
   pub apart_from : (es : List Placed) → Rising es → ((a b : Placed) → In a es → In b es → pick a ≡ true → pick b ≡ true → a.number < b.number → interferes a.timed.event b.timed.event ≡ false) → apart (picked pick ticks es) ≡ true

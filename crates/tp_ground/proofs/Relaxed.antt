@@ -7,7 +7,7 @@ use Rattle.tp_ground.specs.declared.events.Cond.TheVariants.{Atom, Compare, Not'
 use Rattle.tp_ground.specs.declared.events.GroundEvent.{GroundEvent}
 use Rattle.tp_ground.specs.State.{State, truth, all_true, some_true, has_values, holds}
 use Rattle.tp_ground.specs.Event.{has}
-use Rattle.tp_ground.specs.Happens.{Timed}
+use Rattle.tp_ground.specs.Happens.{EventOfStep}
 use Rattle.tp_ground.specs.Valid.{Planned, Placed, events, at, IsValidRun}
 use Rattle.tp_ground.specs.Bounds.{In}
 use Rattle.tp_ground.specs.Reach.{met, each_met, some_met, IsClosed}
@@ -48,7 +48,7 @@ module _ (s : State) (reach : ℕ → Bool) (sub : (a : ℕ) → s.atom a ≡ tr
     each_false (more_of-Cond c cs) h = let p = or_parts (truth s c) (some_true s cs) h in and_from (met reach false c) _ (when_false c p.0) (each_false cs p.1)
 
 module _ (scale : ℕ) (initial : State) (goal : Cond) (plan : List Planned) (trace : ℕ → State) (v : IsValidRun scale initial goal plan trace) (acts : List GroundEvent) (own : (e : Placed) → In e (events plan) → In e.timed.event acts) (reach : ℕ → Bool) (closed : IsClosed initial acts reach) where
-  added : (m a : ℕ) → ((b : ℕ) → (trace m).atom b ≡ true → reach b ≡ true) → list_any (λ (t : Timed). has t.event.adds.items a) (at m (events plan)) ≡ true → reach a ≡ true
+  added : (m a : ℕ) → ((b : ℕ) → (trace m).atom b ≡ true → reach b ≡ true) → list_any (λ (t : EventOfStep). has t.event.adds.items a) (at m (events plan)) ≡ true → reach a ≡ true
   added m a sub p =
       let (e, i, q, w) = any_picked (λ e. e.moment == m) (λ e. e.timed.ticks) (λ ev. has ev.adds.items a) (events plan) p in
       let h : holds (trace m) e.timed.event.condition ≡ true = all_picked_at (λ x. x.moment == m) (λ x. x.timed.ticks) (λ t. holds (trace m) t.event.condition ≡ true) (events plan) (v.run.next m).conditions e i q in
@@ -59,7 +59,7 @@ module _ (scale : ℕ) (initial : State) (goal : Cond) (plan : List Planned) (tr
   stays zero a h = closed.has_initial a (sym (ap (λ (s : State). s.atom a) v.run.first) ∙ h)
   stays (suc m) a h =
       let h' : (trace (m + 1)).atom a ≡ true = subst (λ k. (trace k).atom a ≡ true) (sym (add-one m)) h in
-      ⊎_elim (added m a (stays m)) (λ e. stays m a (and_parts ((trace m).atom a) _ e).0) (or_cases (list_any (λ (t : Timed). has t.event.adds.items a) (at m (events plan))) ((trace m).atom a && not (list_any (λ (t : Timed). has t.event.deletes.items a) (at m (events plan)))) (sym ((v.run.next m).atoms a) ∙ h'))
+      ⊎_elim (added m a (stays m)) (λ e. stays m a (and_parts ((trace m).atom a) _ e).0) (or_cases (list_any (λ (t : EventOfStep). has t.event.adds.items a) (at m (events plan))) ((trace m).atom a && not (list_any (λ (t : EventOfStep). has t.event.deletes.items a) (at m (events plan)))) (sym ((v.run.next m).atoms a) ∙ h'))
 
   behind : (es : List Placed) → (u : ℕ) × ((e : Placed) → In e es → e.moment < u)
   behind [] = (0, λ e i. absurd i)

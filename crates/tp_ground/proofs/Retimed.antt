@@ -16,13 +16,13 @@ use Rattle.tp_ground.proofs.Same.{SameNumbers, has_left, has_right, meets_at, va
 use Rattle.tp_ground.proofs.Register.{Agrees}
 use Rattle.tp_ground.proofs.Picked.{both_ways, apart_at}
 use Rattle.tp_ground.proofs.Effects.{swapped}
-use Rattle.tp_ground.proofs.Run.{moved, Moves, moved_trace, moved_run, same_atom, same_number, rule_as_before}
+use Rattle.tp_ground.proofs.Run.{moved, Moves, moved_trace, moved_run, same_atom, same_number, constraint_as_before}
 use Rattle.tp_ground.proofs.Numbered.{in_left, in_right, rising_from, one_number, when_of, ticks_of, ticks_kept, retimed_events}
 use Rattle.std.proofs.lemmas.Bool.Decides.{nat_tests}
 
 -- a duration constraint that reads the same holds for the same durations
 lawful_same : (scale : ℕ) (s s' : State) (ls : List Limit) (n : ℕ) → SameNumbers s s' (flat_map (λ l. fluents_of l.value) ls) → IsLawful scale s ls n → IsLawful scale s' ls n
-lawful_same scale s s' ls n h k = record { tick = k.tick; rule_holds = go ls h k.rule_holds }
+lawful_same scale s s' ls n h k = record { tick = k.tick; constraint_holds = go ls h k.constraint_holds }
   where
     go : (ls : List Limit) → SameNumbers s s' (flat_map (λ l. fluents_of l.value) ls) → AllByRecursion (λ (l : Limit). compares_values l.how (Some (pos n)) (both ◌*ℤ◌ (Some (pos scale)) (value s None l.value)) ≡ true) ls → AllByRecursion (λ (l : Limit). compares_values l.how (Some (pos n)) (both ◌*ℤ◌ (Some (pos scale)) (value s' None l.value)) ≡ true) ls
     go [] h k = tt
@@ -81,17 +81,17 @@ module _ (scale : ℕ) (initial : State) (goal : Cond) (plan : List Planned) (tr
     abbrev last : Placed
     last = record { number = k + 1; first = k; last = k + 1; moment = p.moment + p.duration; timed = record { event = end; ticks = p.duration } }
 
-    lawful_new : IsLawful scale (new (t k)) start.rule.items (t (k + 1) - t k)
-    lawful_new = lawful_same scale (trace p.moment) (new (t k)) start.rule.items (t (k + 1) - t k) (rule_as_before scale initial es trace (when_of t) (ticks_of t) moves first (sub first (inl refl))) (⊎_elim fixed free (cases_Bool (uses_duration start || uses_duration end)))
+    lawful_new : IsLawful scale (new (t k)) start.constraint.items (t (k + 1) - t k)
+    lawful_new = lawful_same scale (trace p.moment) (new (t k)) start.constraint.items (t (k + 1) - t k) (constraint_as_before scale initial es trace (when_of t) (ticks_of t) moves first (sub first (inl refl))) (⊎_elim fixed free (cases_Bool (uses_duration start || uses_duration end)))
       where
         length_is : kept.duration.ticks ≡ t (k + 1) - t k
         length_is = omega (arith, kept.duration.apart)
 
-        fixed : (uses_duration start || uses_duration end) ≡ true → IsLawful scale (trace p.moment) start.rule.items (t (k + 1) - t k)
-        fixed u = subst (IsLawful scale (trace p.moment) start.rule.items) (sym (MatchBool-at_true _ _ u kept.duration.lawful) ∙ length_is) held.lawful
+        fixed : (uses_duration start || uses_duration end) ≡ true → IsLawful scale (trace p.moment) start.constraint.items (t (k + 1) - t k)
+        fixed u = subst (IsLawful scale (trace p.moment) start.constraint.items) (sym (MatchBool-at_true _ _ u kept.duration.lawful) ∙ length_is) held.lawful
 
-        free : (uses_duration start || uses_duration end) ≡ false → IsLawful scale (trace p.moment) start.rule.items (t (k + 1) - t k)
-        free u = subst (IsLawful scale (trace p.moment) start.rule.items) length_is (MatchBool-at_false _ _ u kept.duration.lawful)
+        free : (uses_duration start || uses_duration end) ≡ false → IsLawful scale (trace p.moment) start.constraint.items (t (k + 1) - t k)
+        free u = subst (IsLawful scale (trace p.moment) start.constraint.items) length_is (MatchBool-at_false _ _ u kept.duration.lawful)
 
     -- an event between start and end that writes into the invariant and has come by m
     abbrev inner : ℕ → Placed → Bool

@@ -4,14 +4,14 @@ use Rattle.std.specs.List.{flat_map, AllByRecursion}
 use Rattle.std.proofs.lemmas.Bool.{cases_Bool, false_from_ne_true}
 use Rattle.tp_ground.specs.State.{State, units, holds, fluents_in, fluents_of, atoms_in}
 use Rattle.tp_ground.specs.Event.{has, interferes, fluents_read, fluents_set, fluents_written, mixes}
-use Rattle.tp_ground.specs.Happens.{Timed, set_in, added_in, plus, is_defined, atom_after, number_after, Happens}
+use Rattle.tp_ground.specs.Happens.{EventOfStep, set_in, added_in, plus, is_defined, atom_after, number_after, Happens}
 use Rattle.tp_ground.specs.Valid.{Placed, at, IsRun}
 use Rattle.tp_ground.specs.Bounds.{In, uses_duration}
 use Rattle.tp_ground.proofs.Same.{SameAtoms, SameNumbers, SameDuration, has_left, has_right, has_parts, holds_same}
 use Rattle.tp_ground.proofs.Register.{Register, IsAt, Agrees, Ordered, SamePutsBefore, at_start, same_value, same_base}
 use Rattle.tp_ground.proofs.Picked.{both_ways, picked, timed_by, Rising, all_picked_at, all_picked_from, apart_from}
 use Rattle.tp_ground.proofs.Bridge.{atom_register, number_register, atom_step, number_step}
-use Rattle.tp_ground.proofs.Effects.{touches_condition, adds_deleted, writes_read, sets_written, swapped, set_same, added_same, writes_defined_same, rule_defined_same}
+use Rattle.tp_ground.proofs.Effects.{touches_condition, adds_deleted, writes_read, sets_written, swapped, set_same, added_same, writes_defined_same, constraint_defined_same}
 
 -- an event at another moment, with other ticks
 abbrev pub moved : (Placed → ℕ) → (Placed → ℕ) → Placed → Placed
@@ -170,10 +170,10 @@ module _ (scale : ℕ) (initial : State) (es : List Placed) (trace : ℕ → Sta
   found_condition : (e : Placed) → In e es → Known (when e) → SameNumbers (trace (old e)) (new (when e)) (fluents_in e.timed.event.condition)
   found_condition e i k f p = found_read e i k f (has_left (fluents_in e.timed.event.condition ++ flat_map (λ w. fluents_of w.value) e.timed.event.writes.items) _ f (has_left (fluents_in e.timed.event.condition) _ f p))
 
-  found_rule : (e : Placed) → In e es → Known (when e) → SameNumbers (trace (old e)) (new (when e)) (flat_map (λ l. fluents_of l.value) e.timed.event.rule.items)
-  found_rule e i k f p = found_read e i k f (has_right (fluents_in e.timed.event.condition ++ flat_map (λ w. fluents_of w.value) e.timed.event.writes.items) _ f p)
+  found_constraint : (e : Placed) → In e es → Known (when e) → SameNumbers (trace (old e)) (new (when e)) (flat_map (λ l. fluents_of l.value) e.timed.event.constraint.items)
+  found_constraint e i k f p = found_read e i k f (has_right (fluents_in e.timed.event.condition ++ flat_map (λ w. fluents_of w.value) e.timed.event.writes.items) _ f p)
 
-  old_holds : (P : ℕ → Timed → Type 0) → ((m : ℕ) → AllByRecursion (P m) (at m es)) → (e : Placed) → In e es → P (old e) e.timed
+  old_holds : (P : ℕ → EventOfStep → Type 0) → ((m : ℕ) → AllByRecursion (P m) (at m es)) → (e : Placed) → In e es → P (old e) e.timed
   old_holds P f e i = all_picked_at (λ x. old x == old e) (λ x. x.timed.ticks) (P (old e)) es (f (old e)) e i (eq-eqb (old e) (old e) refl)
 
   still_holds : (e : Placed) → In e es → holds (new (when e)) e.timed.event.condition ≡ true
@@ -183,7 +183,7 @@ module _ (scale : ℕ) (initial : State) (es : List Placed) (trace : ℕ → Sta
   still_defined e i =
       sym (ap₂ ◌&&◌
       (writes_defined_same (trace (old e)) (new (when e)) (units scale e.timed.ticks) (units scale (ticks e)) e.timed.event.writes.items (found_rights e i (known (when e))) (found_defined e i (known (when e))) (same_units e i))
-      (rule_defined_same (trace (old e)) (new (when e)) e.timed.event.rule.items (found_rule e i (known (when e)))))
+      (constraint_defined_same (trace (old e)) (new (when e)) e.timed.event.constraint.items (found_constraint e i (known (when e)))))
       ∙ old_holds (λ m t. is_defined scale (trace m) t ≡ true) (λ m. (h.run.next m).definedness) e i
 
   apart_still : (m : ℕ) (a b : Placed) → In a es → In b es → (when a == m) ≡ true → (when b == m) ≡ true → a.number < b.number → interferes a.timed.event b.timed.event ≡ false
@@ -217,5 +217,5 @@ module _ (scale : ℕ) (initial : State) (es : List Placed) (trace : ℕ → Sta
   same_number f u m g = same_value (numbers_of f) old when u m _ _ (ordered_numbers f) g (old_number f u) ((known m).1 f)
 
   -- an event's duration constraint is read as before
-  pub rule_as_before : (e : Placed) → In e es → SameNumbers (trace (old e)) (new (when e)) (flat_map (λ l. fluents_of l.value) e.timed.event.rule.items)
-  rule_as_before e i = found_rule e i (known (when e))
+  pub constraint_as_before : (e : Placed) → In e es → SameNumbers (trace (old e)) (new (when e)) (flat_map (λ l. fluents_of l.value) e.timed.event.constraint.items)
+  constraint_as_before e i = found_constraint e i (known (when e))

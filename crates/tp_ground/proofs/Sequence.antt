@@ -8,7 +8,7 @@ use Rattle.tp_ground.specs.declared.events.Change.TheVariants.{Assign, ScaleUp, 
 use Rattle.tp_ground.specs.declared.events.NumericEffect.{NumericEffect}
 use Rattle.tp_ground.specs.State.{State, both, value, units}
 use Rattle.tp_ground.specs.Event.{has, interferes, is_additive, fluents_set, fluents_written, mixes_in, mixes}
-use Rattle.tp_ground.specs.Happens.{Timed, value_set, amount, set_in, added_in, set_by, added_by, plus, is_assign, is_defined, apart, atom_after, number_after}
+use Rattle.tp_ground.specs.Happens.{EventOfStep, value_set, amount, set_in, added_in, set_by, added_by, plus, is_assign, is_defined, apart, atom_after, number_after}
 use Rattle.tp_ground.specs.InOrder.{after_write, after_writes, after_events, after_deletes, after_adds}
 use Rattle.tp_ground.proofs.Bridge.{plus_zero, plus_sum}
 use Rattle.tp_ground.proofs.Effects.{set_fluents, sets_written, set_here, set_there}
@@ -109,50 +109,50 @@ after_add s d (w ∷ ws) f now n h =
     rest = false_from_ne_true _ (λ z. both_ways _ (set_there w ws f z) n)
 
 -- events that are apart from one that sets the fluent leave it
-quiet : (scale : ℕ) (s : State) (t : Timed) (ts : List Timed) (f : ℕ) (now : Option ℤ) → has (fluents_set t.event) f ≡ true → list_all (λ (u : Timed). not (interferes t.event u.event)) ts ≡ true → (after_events scale s ts f now ≡ now)
+quiet : (scale : ℕ) (s : State) (t : EventOfStep) (ts : List EventOfStep) (f : ℕ) (now : Option ℤ) → has (fluents_set t.event) f ≡ true → list_all (λ (u : EventOfStep). not (interferes t.event u.event)) ts ≡ true → (after_events scale s ts f now ≡ now)
 quiet scale s t [] f now h a = refl
 quiet scale s t (u ∷ ts) f now h a =
     let p = and_parts (not (interferes t.event u.event)) _ a in
     let n : has (fluents_written u.event) f ≡ false = false_from_ne_true _ (λ z. both_ways _ (sets_written t.event u.event f h z) (not-true _ p.0)) in
     ap (after_events scale s ts f) (after_none s (units scale u.ticks) u.event.writes.items f now n) ∙ quiet scale s t ts f now h p.1
 
-pub events_in_order : (scale : ℕ) (s : State) (ts : List Timed) (f : ℕ) (now : Option ℤ) → apart ts ≡ true → AllByRecursion (λ t. mixes t.event ≡ false) ts → AllByRecursion (λ t. is_defined scale s t ≡ true) ts → after_events scale s ts f now ≡ set_by scale s ts f (plus (added_by scale s ts f) now)
+pub events_in_order : (scale : ℕ) (s : State) (ts : List EventOfStep) (f : ℕ) (now : Option ℤ) → apart ts ≡ true → AllByRecursion (λ t. mixes t.event ≡ false) ts → AllByRecursion (λ t. is_defined scale s t ≡ true) ts → after_events scale s ts f now ≡ set_by scale s ts f (plus (added_by scale s ts f) now)
 events_in_order scale s [] f now a m d = sym (plus_zero now)
 events_in_order scale s (t ∷ ts) f now a m d =
     ⊎_elim
     (λ h. quiet scale s t ts f _ h p.0 ∙ (after_set s (units scale t.ticks) t.event.writes.items f now _ m.0 h ∙ sym (cond-true (has (fluents_set t.event) f) _ _ h)))
     (λ h.
-    ap (after_events scale s ts f) (after_add s (units scale t.ticks) t.event.writes.items f now h (and_parts _ (list_all (λ l. is_some (value s None l.value)) t.event.rule.items) d.0).0)
+    ap (after_events scale s ts f) (after_add s (units scale t.ticks) t.event.writes.items f now h (and_parts _ (list_all (λ l. is_some (value s None l.value)) t.event.constraint.items) d.0).0)
     ∙ (events_in_order scale s ts f _ p.1 m.1 d.1
     ∙ (ap (set_by scale s ts f) (sym (plus_sum (added_in s (units scale t.ticks) t.event.writes.items f) (added_by scale s ts f) now)) ∙ sym (cond-false (has (fluents_set t.event) f) _ _ h))))
     (cases_Bool (has (fluents_set t.event) f))
   where
-    p : (list_all (λ (u : Timed). not (interferes t.event u.event)) ts ≡ true) × (apart ts ≡ true)
-    p = and_parts (list_all (λ (u : Timed). not (interferes t.event u.event)) ts) (apart ts) a
+    p : (list_all (λ (u : EventOfStep). not (interferes t.event u.event)) ts ≡ true) × (apart ts ≡ true)
+    p = and_parts (list_all (λ (u : EventOfStep). not (interferes t.event u.event)) ts) (apart ts) a
 
 -- so one write after another is the happening
-pub in_order : (scale : ℕ) (s : State) (ts : List Timed) (f : ℕ) → apart ts ≡ true → AllByRecursion (λ t. mixes t.event ≡ false) ts → AllByRecursion (λ t. is_defined scale s t ≡ true) ts → after_events scale s ts f (s.number f) ≡ number_after scale s ts f
+pub in_order : (scale : ℕ) (s : State) (ts : List EventOfStep) (f : ℕ) → apart ts ≡ true → AllByRecursion (λ t. mixes t.event ≡ false) ts → AllByRecursion (λ t. is_defined scale s t ≡ true) ts → after_events scale s ts f (s.number f) ≡ number_after scale s ts f
 in_order scale s ts f a m d = events_in_order scale s ts f (s.number f) a m d
 
 -- the deletes and then the adds are the happening's
-after_deletes_is : (ts : List Timed) (a : ℕ) (now : Bool) → after_deletes ts a now ≡ (now && not (list_any (λ (t : Timed). has t.event.deletes.items a) ts))
+after_deletes_is : (ts : List EventOfStep) (a : ℕ) (now : Bool) → after_deletes ts a now ≡ (now && not (list_any (λ (t : EventOfStep). has t.event.deletes.items a) ts))
 after_deletes_is [] a true = refl
 after_deletes_is [] a false = refl
-after_deletes_is (t ∷ ts) a now = after_deletes_is ts a _ ∙ go (has t.event.deletes.items a) (list_any (λ (t : Timed). has t.event.deletes.items a) ts) now
+after_deletes_is (t ∷ ts) a now = after_deletes_is ts a _ ∙ go (has t.event.deletes.items a) (list_any (λ (t : EventOfStep). has t.event.deletes.items a) ts) now
   where
     go : (b c now : Bool) → (cond b false now && not c) ≡ (now && not (b || c))
     go true c true = refl
     go true c false = refl
     go false c now = refl
 
-after_adds_is : (ts : List Timed) (a : ℕ) (now : Bool) → after_adds ts a now ≡ (list_any (λ (t : Timed). has t.event.adds.items a) ts || now)
+after_adds_is : (ts : List EventOfStep) (a : ℕ) (now : Bool) → after_adds ts a now ≡ (list_any (λ (t : EventOfStep). has t.event.adds.items a) ts || now)
 after_adds_is [] a now = refl
-after_adds_is (t ∷ ts) a now = after_adds_is ts a _ ∙ go (has t.event.adds.items a) (list_any (λ (t : Timed). has t.event.adds.items a) ts)
+after_adds_is (t ∷ ts) a now = after_adds_is ts a _ ∙ go (has t.event.adds.items a) (list_any (λ (t : EventOfStep). has t.event.adds.items a) ts)
   where
     go : (b c : Bool) → (c || cond b true now) ≡ ((b || c) || now)
     go true true = refl
     go true false = refl
     go false c = refl
 
-pub atoms_in_order : (s : State) (ts : List Timed) (a : ℕ) → after_adds ts a (after_deletes ts a (s.atom a)) ≡ atom_after s ts a
-atoms_in_order s ts a = after_adds_is ts a _ ∙ ap (λ b. list_any (λ (t : Timed). has t.event.adds.items a) ts || b) (after_deletes_is ts a (s.atom a))
+pub atoms_in_order : (s : State) (ts : List EventOfStep) (a : ℕ) → after_adds ts a (after_deletes ts a (s.atom a)) ≡ atom_after s ts a
+atoms_in_order s ts a = after_adds_is ts a _ ∙ ap (λ b. list_any (λ (t : EventOfStep). has t.event.adds.items a) ts || b) (after_deletes_is ts a (s.atom a))

@@ -134,19 +134,19 @@ module _ (scale : ℕ) (initial : State) (goal : Cond) (plan : List Planned) (cl
         };
       }
 
-  rule_of : (before : State) (ticks : ℕ) (ls : List Limit) → list_all (λ (l : Limit). compares_values l.how (Some (pos ticks)) (both ◌*ℤ◌ (Some (pos scale)) (value before None l.value))) ls ≡ true → AllByRecursion (λ (l : Limit). compares_values l.how (Some (pos ticks)) (both ◌*ℤ◌ (Some (pos scale)) (value before None l.value)) ≡ true) ls
-  rule_of before ticks [] h = tt
-  rule_of before ticks (l ∷ ls) h = let p = and_parts (compares_values l.how (Some (pos ticks)) (both ◌*ℤ◌ (Some (pos scale)) (value before None l.value))) _ h in (p.0, rule_of before ticks ls p.1)
+  constraint_of : (before : State) (ticks : ℕ) (ls : List Limit) → list_all (λ (l : Limit). compares_values l.how (Some (pos ticks)) (both ◌*ℤ◌ (Some (pos scale)) (value before None l.value))) ls ≡ true → AllByRecursion (λ (l : Limit). compares_values l.how (Some (pos ticks)) (both ◌*ℤ◌ (Some (pos scale)) (value before None l.value)) ≡ true) ls
+  constraint_of before ticks [] h = tt
+  constraint_of before ticks (l ∷ ls) h = let p = and_parts (compares_values l.how (Some (pos ticks)) (both ◌*ℤ◌ (Some (pos scale)) (value before None l.value))) _ h in (p.0, constraint_of before ticks ls p.1)
 
   body_holds : (k : ℕ) (p : Planned) (b : Body) → is_unlawful scale (s p.moment) p.duration b ≡ false → ((m : ℕ) → is_broken (s (suc m)) m p b ≡ false) → ((e : Placed) → In e (events_of k p b) → In e es) → BodyHolds scale s p.moment p.duration b
   body_holds k p (Instant x) u v sub = tt
   body_holds k p (Durative x y c) u v sub =
       let start : Placed = record { number = k; first = k; last = k + 1; moment = p.moment; timed = record { event = x; ticks = p.duration } } in
-      let d = and_parts _ (list_all (λ (l : Limit). is_some (value (s p.moment) None l.value)) x.rule.items) ((parts p.moment).defined start (sub start (inl refl)) (eq-eqb p.moment p.moment refl)) in
-      let ok = not-false _ (at_it (list_all (λ (l : Limit). is_some (value (s p.moment) None l.value)) x.rule.items) _ u d.1) in
+      let d = and_parts _ (list_all (λ (l : Limit). is_some (value (s p.moment) None l.value)) x.constraint.items) ((parts p.moment).defined start (sub start (inl refl)) (eq-eqb p.moment p.moment refl)) in
+      let ok = not-false _ (at_it (list_all (λ (l : Limit). is_some (value (s p.moment) None l.value)) x.constraint.items) _ u d.1) in
       let q = and_parts (nat_le 1 p.duration) _ ok in
       record {
-        lawful = record { tick = leb-true 1 p.duration q.0; rule_holds = rule_of (s p.moment) p.duration x.rule.items q.1 };
+        lawful = record { tick = leb-true 1 p.duration q.0; constraint_holds = constraint_of (s p.moment) p.duration x.constraint.items q.1 };
         invariant_holds = λ m l h. subst (λ n. holds (s n) c ≡ true) (sym (add-one m)) (not-false _ (at_it (nat_lt m (p.moment + p.duration)) _ (at_it (nat_le p.moment m) _ (v m) (le-leb p.moment m l)) (lt-ltb m (p.moment + p.duration) h)));
       }
 

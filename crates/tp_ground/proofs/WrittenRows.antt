@@ -37,7 +37,7 @@ light = about (codes "light") []
 
 abbrev light_match : actions.Body
 light_match = actions.durative
-    (effects.rule comparisons.Equal (expressions.number (pos 8)))
+    (effects.constraint comparisons.Equal (expressions.number (pos 8)))
     (all_parts (part (one (record { specifier = AtStart; what = conditions.fact unused })) no_parts))
     (all_parts
     (part (one (record { specifier = AtStart; what = one (effects.deletes unused) }))
@@ -57,9 +57,9 @@ pub written_out : body_in universe env light_match ≡ durative
       adds = (codes "light" ∷ []) ∷ [];
       deletes = (codes "unused" ∷ codes "m1" ∷ []) ∷ [];
       writes = [];
-      rule = record { how = Equal; value = number (pos 8) } ∷ [];
+      constraint = record { how = Equal; value = number (pos 8) } ∷ [];
     })
-    (record { condition = always; adds = []; deletes = (codes "light" ∷ []) ∷ []; writes = []; rule = [] })
+    (record { condition = always; adds = []; deletes = (codes "light" ∷ []) ∷ []; writes = []; constraint = [] })
     always
 written_out = refl
 

@@ -31,7 +31,7 @@ pub record KeepsDuration (scale : ℕ) (before : State) (duration : ℕ) (start 
   pub apart : to ≡ from + ticks
   pub lawful :
       MatchBool (uses_duration start || uses_duration end)
-      (ticks ≡ duration) (IsLawful scale before start.rule.items ticks)
+      (ticks ≡ duration) (IsLawful scale before start.constraint.items ticks)
 
 -- An event other than the step's own, that writes into its invariant.
 pub record Touches (e : Placed) (first : ℕ) (invariant : Cond) : Type 0 where

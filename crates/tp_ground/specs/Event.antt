@@ -25,7 +25,7 @@ is_additive Decrease = true
 abbrev pub fluents_read : GroundEvent → List ℕ
 fluents_read e =
     fluents_in e.condition ++ flat_map (λ w. fluents_of w.value) e.writes.items
-    ++ flat_map (λ l. fluents_of l.value) e.rule.items
+    ++ flat_map (λ l. fluents_of l.value) e.constraint.items
 
 -- The fluents that it writes, and those that it sets.
 abbrev pub fluents_written : GroundEvent → List ℕ

@@ -7,7 +7,7 @@ use Rattle.tp_syntax.specs.Conditions as conditions
 use Rattle.tp_syntax.specs.Conditions.{Condition, Conditions}
 use Rattle.tp_syntax.specs.Parts.{Joined, Parts, all_parts, for_each, one, no_parts, part}
 use Rattle.tp_syntax.specs.Effects as effects
-use Rattle.tp_syntax.specs.Effects.{SimpleEffect, Effect, Timed, Rule, Rules, all_rules, no_rules, more_rules}
+use Rattle.tp_syntax.specs.Effects.{SimpleEffect, Effect, Timed, Constraint, Constraints, all_constraints, no_constraints, more_constraints}
 use Rattle.tp_syntax.specs.Actions as actions
 use Rattle.tp_syntax.specs.Domains.{Domain}
 use Rattle.tp_syntax.specs.Problems as problems
@@ -63,18 +63,18 @@ abbrev pub great_timed : {A : Type 0} → (A → Bool) → Timed A → Bool
 great_timed great t = great t.what
 
 abbrev mutual
-  pub great_rule : Rule → Bool
-  great_rule (all_rules rs) = great_rules rs
-  great_rule (effects.rule how x) = great_expression x
+  pub great_constraint : Constraint → Bool
+  great_constraint (all_constraints rs) = great_constraints rs
+  great_constraint (effects.constraint how x) = great_expression x
 
-  pub great_rules : Rules → Bool
-  great_rules no_rules = false
-  great_rules (more_rules r rs) = great_rule r || great_rules rs
+  pub great_constraints : Constraints → Bool
+  great_constraints no_constraints = false
+  great_constraints (more_constraints r rs) = great_constraint r || great_constraints rs
 
 abbrev pub great_body : actions.Body → Bool
 great_body (actions.instant c e) = great_condition c || great_effect e
 great_body (actions.durative r c e) =
-    great_rule r
+    great_constraint r
     || (great_part (great_timed great_condition) c || great_part (great_timed great_effect) e)
 
 abbrev pub great_initial : Initial → Bool

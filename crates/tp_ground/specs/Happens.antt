@@ -9,7 +9,7 @@ use Rattle.tp_ground.specs.State.{State, both, value, units, holds}
 use Rattle.tp_ground.specs.Event.{has, is_additive, fluents_set, interferes, mixes}
 
 -- An event with the ticks of its step.
-pub record Timed : Type 0 where
+pub record EventOfStep : Type 0 where
   pub event : GroundEvent
   pub ticks : ℕ
 
@@ -43,13 +43,13 @@ added_in s duration (w ∷ ws) f =
     +ℤ added_in s duration ws f
 
 -- The same for the events of a happening.
-abbrev pub set_by : ℕ → State → List Timed → ℕ → Option ℤ → Option ℤ
+abbrev pub set_by : ℕ → State → List EventOfStep → ℕ → Option ℤ → Option ℤ
 set_by scale s [] f other = other
 set_by scale s (t ∷ ts) f other =
     if has (fluents_set t.event) f then set_in s (units scale t.ticks) t.event.writes.items f other
     else set_by scale s ts f other
 
-abbrev pub added_by : ℕ → State → List Timed → ℕ → ℤ
+abbrev pub added_by : ℕ → State → List EventOfStep → ℕ → ℤ
 added_by scale s [] f = pos 0
 added_by scale s (t ∷ ts) f =
     added_in s (units scale t.ticks) t.event.writes.items f +ℤ added_by scale s ts f
@@ -60,12 +60,12 @@ plus x None = None
 
 -- The state after a happening: an atom is true if some event adds it, or if it was true and none deletes it;
 -- a fluent has the value set, or its old value plus the sum of all increases less all decreases.
-abbrev pub atom_after : State → List Timed → ℕ → Bool
+abbrev pub atom_after : State → List EventOfStep → ℕ → Bool
 atom_after s ts a =
     list_any (λ t. has t.event.adds.items a) ts
     || (s.atom a && not (list_any (λ t. has t.event.deletes.items a) ts))
 
-abbrev pub number_after : ℕ → State → List Timed → ℕ → Option ℤ
+abbrev pub number_after : ℕ → State → List EventOfStep → ℕ → Option ℤ
 number_after scale s ts f = set_by scale s ts f (plus (added_by scale s ts f) (s.number f))
 
 abbrev pub is_assign : Change → Bool
@@ -76,19 +76,19 @@ is_assign Decrease = false
 
 -- The right sides, the duration constraint and the fluents that `increase`, `decrease` and `scale-up` change have
 -- values.
-abbrev pub is_defined : ℕ → State → Timed → Bool
+abbrev pub is_defined : ℕ → State → EventOfStep → Bool
 is_defined scale s t =
     list_all (λ w. is_some (value s (units scale t.ticks) w.value)
     && (is_assign w.change || is_some (s.number w.fluent))) t.event.writes.items
-    && list_all (λ l. is_some (value s None l.value)) t.event.rule.items
+    && list_all (λ l. is_some (value s None l.value)) t.event.constraint.items
 
 -- no event of a list interferes with another
-abbrev pub apart : List Timed → Bool
+abbrev pub apart : List EventOfStep → Bool
 apart [] = true
 apart (t ∷ ts) = list_all (λ u. not (interferes t.event u.event)) ts && apart ts
 
 -- The events can happen in a state, and lead to the other.
-pub record Happens (scale : ℕ) (old : State) (ts : List Timed) (new : State) : Type 0 where
+pub record Happens (scale : ℕ) (old : State) (ts : List EventOfStep) (new : State) : Type 0 where
   pub conditions : AllByRecursion (λ t. holds old t.event.condition ≡ true) ts
   pub definedness : AllByRecursion (λ t. is_defined scale old t ≡ true) ts
   pub unmixed : AllByRecursion (λ t. mixes t.event ≡ false) ts

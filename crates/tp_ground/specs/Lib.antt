@@ -1,4 +1,5 @@
 pub mod State
+pub mod Truth
 pub mod Event
 pub mod Happens
 pub mod Valid

@@ -25,7 +25,7 @@ pub record IsLowered {X Y : Type 0} (named : Tables → X → Y) (old new : Tabl
   pub notes : Notes old new m
   pub says : (later : Tables) → Extends new later → named later x ≡ y
 
--- More is mentioned than may be numbered. Out of memory says nothing.
+-- Greater is mentioned than may be numbered. Out of memory says nothing.
 abbrev pub Overflows : Tables → Mentions → GroundFault → Type 0
 Overflows old m e =
     CannotNumber old.most (with_all old.atoms m.atoms) (with_all old.fluents m.fluents) e

@@ -2,7 +2,7 @@
 use Rattle.std.specs.Prelude.{List, [], ◌∷◌, ◌++◌}
 use Rattle.tp_syntax.specs.Conditions.{Condition}
 use Rattle.tp_syntax.specs.Parts.{Joined}
-use Rattle.tp_syntax.specs.Effects.{Effect, Timed, Rule}
+use Rattle.tp_syntax.specs.Effects.{Effect, Timed, Constraint}
 use Rattle.tp_syntax.specs.Actions as actions
 use Rattle.tp_ast.specs.declared.words.TimeSpecifier.TheVariants.{AtStart, OverAll, AtEnd}
 use Rattle.tp_ground.specs.Words.{Words}
@@ -68,7 +68,7 @@ of_instant u env c e =
     of_condition (condition_in u env c) then of_each of_simple_effect (simple_effects_in u env e)
 
 abbrev pub of_start :
-    Universe → Env → Rule → Joined (Timed Condition) → Joined (Timed Effect) → Mentions
+    Universe → Env → Constraint → Joined (Timed Condition) → Joined (Timed Effect) → Mentions
 of_start u env r c e =
     of_condition (condition_at u AtStart env c)
     then of_each of_simple_effect (simple_effects_at u AtStart env e) then of_each of_limit (limits_in env r)

@@ -9,7 +9,7 @@ use Rattle.tp_ast.specs.Problems.{Problem}
 
 -- a name in lower case
 pub record IsOwnName (n : List ℕ) : Type 0 where
-  pub form : is_name n ≡ true
+  pub signature : is_name n ≡ true
   pub lower : IsLower n
 
 -- The actions' names and the objects' are names in lower case. No two actions have the same name, and no two objects.

@@ -52,7 +52,7 @@ named_event t e = record {
   adds = map (words_at t.atoms) e.adds.items;
   deletes = map (words_at t.atoms) e.deletes.items;
   writes = map (named_write t) e.writes.items;
-  rule = map (named_limit t) e.rule.items;
+  constraint = map (named_limit t) e.constraint.items;
 }
 
 abbrev pub named_body : Tables → Body → GroundBody

@@ -7,7 +7,7 @@ use Rattle.tp_ground.specs.declared.events.Cond.{Cond}
 use Rattle.tp_ground.specs.declared.events.Body.{Body}
 use Rattle.tp_ground.specs.declared.events.Body.TheVariants.{Instant, Durative}
 use Rattle.tp_ground.specs.State.{State, both, value, holds, compares_values}
-use Rattle.tp_ground.specs.Happens.{Timed, Happens}
+use Rattle.tp_ground.specs.Happens.{EventOfStep, Happens}
 
 -- A step of a plan, with what its action does.
 pub record Planned : Type 0 where
@@ -21,7 +21,7 @@ pub record Placed : Type 0 where
   pub first : ℕ
   pub last : ℕ
   pub moment : ℕ
-  pub timed : Timed
+  pub timed : EventOfStep
 
 -- The events of a step, numbered from k: its one event, or its start and its end.
 abbrev pub events_of : ℕ → Planned → Body → List Placed
@@ -62,20 +62,20 @@ abbrev pub events : List Planned → List Placed
 events plan = events_from 0 plan
 
 -- the events at a moment
-abbrev pub at : ℕ → List Placed → List Timed
+abbrev pub at : ℕ → List Placed → List EventOfStep
 at m es = map (λ e. e.timed) (filter (λ e. e.moment == m) es)
 
 -- A duration is lawful: it is at least a tick, and each comparison of the duration constraint holds for it.
-pub record IsLawful (scale : ℕ) (s : State) (rule : List Limit) (ticks : ℕ) : Type 0 where
+pub record IsLawful (scale : ℕ) (s : State) (constraint : List Limit) (ticks : ℕ) : Type 0 where
   pub tick : 1 ≤ ticks
-  pub rule_holds :
+  pub constraint_holds :
       AllByRecursion (λ l. compares_values l.how
-      (Some (pos ticks)) (both ◌*ℤ◌ (Some (pos scale)) (value s None l.value)) ≡ true) rule
+      (Some (pos ticks)) (both ◌*ℤ◌ (Some (pos scale)) (value s None l.value)) ≡ true) constraint
 
 -- A step's duration is lawful before its start, and its invariant holds after each moment from its start to before its end.
 pub record StepHolds (scale : ℕ) (trace : ℕ → State) (moment duration : ℕ) (start : GroundEvent)
     (invariant : Cond) : Type 0 where
-  pub lawful : IsLawful scale (trace moment) start.rule.items duration
+  pub lawful : IsLawful scale (trace moment) start.constraint.items duration
   pub invariant_holds :
       (m : ℕ) → moment ≤ m → m < moment + duration → holds (trace (m + 1)) invariant ≡ true
 

@@ -32,9 +32,9 @@ states scale initial es (suc m) =
 abbrev pub is_unlawful : ℕ → State → ℕ → Body → Bool
 is_unlawful scale s ticks (Instant e) = false
 is_unlawful scale s ticks (Durative start end invariant) =
-    list_all (λ l. is_some (value s None l.value)) start.rule.items
+    list_all (λ l. is_some (value s None l.value)) start.constraint.items
     && not (nat_le 1 ticks && list_all (λ l. compares_values l.how
-    (Some (pos ticks)) (both ◌*ℤ◌ (Some (pos scale)) (value s None l.value))) start.rule.items)
+    (Some (pos ticks)) (both ◌*ℤ◌ (Some (pos scale)) (value s None l.value))) start.constraint.items)
 
 abbrev pub is_broken : State → ℕ → Planned → Body → Bool
 is_broken after m p (Instant e) = false

@@ -11,7 +11,7 @@ use Rattle.tp_syntax.specs.Conditions as conditions
 use Rattle.tp_syntax.specs.Conditions.{Condition, Conditions}
 use Rattle.tp_syntax.specs.Parts.{Joined, Parts, all_parts, for_each, one, no_parts, part}
 use Rattle.tp_syntax.specs.Effects as effects
-use Rattle.tp_syntax.specs.Effects.{SimpleEffect, Effect, Timed, Rule, Rules, all_rules, no_rules, more_rules}
+use Rattle.tp_syntax.specs.Effects.{SimpleEffect, Effect, Timed, Constraint, Constraints, all_constraints, no_constraints, more_constraints}
 use Rattle.tp_syntax.specs.Actions as actions
 use Rattle.tp_ast.specs.declared.words.Comparison as syntax
 use Rattle.tp_ast.specs.declared.words.Comparison.TheVariants as comparisons
@@ -74,7 +74,7 @@ pub record GroundHappening : Type 0 where
   pub adds : List Words
   pub deletes : List Words
   pub writes : List GroundWrite
-  pub rule : List GroundLimit
+  pub constraint : List GroundLimit
 
 -- one event, or a start, an end and what holds between them
 pub data GroundBody : Type 0 where
@@ -103,7 +103,7 @@ comparison_of comparisons.Less = Less
 comparison_of comparisons.AtMost = AtMost
 comparison_of comparisons.Equal = Equal
 comparison_of comparisons.AtLeast = AtLeast
-comparison_of comparisons.More = Greater
+comparison_of comparisons.Greater = Greater
 
 -- ---- conditions
 
@@ -200,13 +200,13 @@ written (writes w ∷ os) = w ∷ written os
 
 -- ---- conditions and effects of a durative action, at one time specifier
 
-abbrev pub mark_number : TimeSpecifier → ℕ
-mark_number AtStart = 0
-mark_number OverAll = 1
-mark_number AtEnd = 2
+abbrev pub specifier_number : TimeSpecifier → ℕ
+specifier_number AtStart = 0
+specifier_number OverAll = 1
+specifier_number AtEnd = 2
 
 abbrev pub is_specifier : TimeSpecifier → TimeSpecifier → Bool
-is_specifier m n = mark_number m == mark_number n
+is_specifier m n = specifier_number m == specifier_number n
 
 -- what one part gives there: nothing at another specifier
 abbrev pub condition_part : Universe → TimeSpecifier → Env → Timed Condition → List GroundCondition
@@ -227,26 +227,26 @@ simple_effects_at u m env e = parts_in u (simple_effects_part u m) env e
 -- ---- duration constraints
 
 abbrev mutual
-  pub limits_in : Env → Rule → List GroundLimit
-  limits_in env (all_rules rs) = all_limits_in env rs
-  limits_in env (effects.rule how x) =
+  pub limits_in : Env → Constraint → List GroundLimit
+  limits_in env (all_constraints rs) = all_limits_in env rs
+  limits_in env (effects.constraint how x) =
       record { how = comparison_of how; value = expression_in env x } ∷ []
 
-  pub all_limits_in : Env → Rules → List GroundLimit
-  all_limits_in env no_rules = []
-  all_limits_in env (more_rules r rs) = limits_in env r ++ all_limits_in env rs
+  pub all_limits_in : Env → Constraints → List GroundLimit
+  all_limits_in env no_constraints = []
+  all_limits_in env (more_constraints r rs) = limits_in env r ++ all_limits_in env rs
 
 -- ---- actions
 
 abbrev pub happening : GroundCondition → List GroundEffect → List GroundLimit → GroundHappening
 happening c os ls =
-    record { condition = c; adds = added os; deletes = deleted os; writes = written os; rule = ls }
+    record { condition = c; adds = added os; deletes = deleted os; writes = written os; constraint = ls }
 
 abbrev pub instant_in : Universe → Env → Condition → Effect → GroundHappening
 instant_in u env c e = happening (condition_in u env c) (simple_effects_in u env e) []
 
 abbrev pub start_in :
-    Universe → Env → Rule → Joined (Timed Condition) → Joined (Timed Effect) → GroundHappening
+    Universe → Env → Constraint → Joined (Timed Condition) → Joined (Timed Effect) → GroundHappening
 start_in u env r c e =
     happening (condition_at u AtStart env c) (simple_effects_at u AtStart env e) (limits_in env r)
 

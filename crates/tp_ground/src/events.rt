@@ -64,7 +64,7 @@ pub struct GroundEvent {
     pub deletes: Vec<u32>,
     pub writes: Vec<NumericEffect>,
     /// For a start, the action's duration constraint, else empty.
-    pub rule: Vec<Limit>,
+    pub constraint: Vec<Limit>,
 }
 
 /// What an action does: one event, or a start and an end with an invariant between them.

@@ -1,6 +1,7 @@
 //! Ground tasks of the planner, and how they are made.
 //!
 //! - `events`, `task`: conditions, expressions, effects, events and tasks as data; `laws`: what holds of their plans
+//! - `truth`: whether parts of a condition hold, where they have a truth; whether effects mention the duration
 //! - `objects`, `universe`, `noting`, `rows`: the objects, what variables may stand for, and their bindings
 //! - `lookup`, `guesses`, `numbering`: names, atoms and fluents by number
 //! - `environment`, `lowering`: conditions, expressions, effects and bodies grounded under a binding
@@ -24,6 +25,7 @@ mod numbers;
 mod objects;
 mod rows;
 mod task;
+pub mod truth;
 mod universe;
 
 pub use events::{Body, Change, Comparison, Cond, Expr, GroundEvent, Limit, NumericEffect};
@@ -35,3 +37,5 @@ pub use laws::{
 pub use numbering::Numbering;
 pub use numbers::{GREATEST_NUMBER, has_great_number};
 pub use task::{ActionId, AtomId, FluentId, Task};
+pub use tp_bounds::MOST_STEPS;
+pub use tp_syntax::is_name;

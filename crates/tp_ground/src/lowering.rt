@@ -3,10 +3,10 @@
 
 mod bodies;
 mod conditions;
+mod constraints;
 mod effects;
 mod expressions;
 mod parts;
-mod rules;
 
 pub use bodies::body;
 pub use conditions::{atom, condition};

@@ -6,15 +6,15 @@ ghost use Rattle.tp_syntax.specs.ExprViews.{expr_view};
 ghost use Rattle.tp_syntax.specs.CondViews.{cond_view};
 ghost use Rattle.tp_syntax.specs.PartViews.{joined_view};
 ghost use Rattle.tp_syntax.specs.EffectViews.{simple_effect_view, effect_view, timed_view, timed_condition_view, timed_effect_view};
-ghost use Rattle.tp_syntax.specs.RuleViews.{rule_view};
+ghost use Rattle.tp_syntax.specs.ConstraintViews.{constraint_view};
 ghost use Rattle.tp_syntax.specs.DomainViews.{body_view, action_view, initial_view, domain_view, problem_view};
 ghost use Rattle.tp_syntax.specs.Conditions.{Condition};
 ghost use Rattle.tp_syntax.specs.Effects;
-ghost use Rattle.tp_ground.specs.Great.{is_great, great_expression, great_condition, great_part, great_simple_effect, great_effect, great_timed, great_rule, great_body, great_initial, has_great_number};
+ghost use Rattle.tp_ground.specs.Great.{is_great, great_expression, great_condition, great_part, great_simple_effect, great_effect, great_timed, great_constraint, great_body, great_initial, has_great_number};
 
 use tp_syntax::{
-    Action, Body, Cond, Domain, DurationRule, Effect, Expr, Initial, Joined, Problem, SimpleEffect,
-    Timed,
+    Action, Body, Cond, Domain, DurationConstraint, Effect, Expr, Initial, Joined, Problem,
+    SimpleEffect, Timed,
 };
 
 /// The greatest magnitude of a number, 10^15.
@@ -32,7 +32,7 @@ fn expression_is_great(expr: &Expr) -> bool
     match expr {
         Expr::Number(number) => is_great(*number),
         Expr::Fluent(_) | Expr::Duration => false,
-        Expr::Negative(a) => expression_is_great(a),
+        Expr::Negated(a) => expression_is_great(a),
         Expr::Sum(a, b) | Expr::Difference(a, b) | Expr::Product(a, b) => {
             expression_is_great(a) || expression_is_great(b)
         }
@@ -143,25 +143,25 @@ impl Numbers for Timed<Effect> {
     }
 }
 
-#[cycle(rule_is_great)]
-fn some_rule_is_great(rules: &[DurationRule]) -> bool
-    ensures { result ≡ list_any (λ r. great_rule (rule_view r)) rules.now }
+#[cycle(constraint_is_great)]
+fn some_constraint_is_great(constraints: &[DurationConstraint]) -> bool
+    ensures { result ≡ list_any (λ r. great_constraint (constraint_view r)) constraints.now }
 {
-    for rule in rules {
-        if rule_is_great(rule) {
+    for constraint in constraints {
+        if constraint_is_great(constraint) {
             return true;
         }
     }
     false
 }
 
-#[cycle(rule_is_great)]
-fn rule_is_great(rule: &DurationRule) -> bool
-    ensures { result ≡ great_rule (rule_view rule.now) }
+#[cycle(constraint_is_great)]
+fn constraint_is_great(constraint: &DurationConstraint) -> bool
+    ensures { result ≡ great_constraint (constraint_view constraint.now) }
 {
-    match rule {
-        DurationRule::And(rules) => some_rule_is_great(rules),
-        DurationRule::Limit(_, value) => expression_is_great(value),
+    match constraint {
+        DurationConstraint::And(constraints) => some_constraint_is_great(constraints),
+        DurationConstraint::Limit(_, value) => expression_is_great(value),
     }
 }
 
@@ -177,7 +177,7 @@ fn body_is_great(body: &Body) -> bool
             duration,
             condition,
             effect,
-        } => rule_is_great(duration) || (part_is_great(condition) || part_is_great(effect)),
+        } => constraint_is_great(duration) || (part_is_great(condition) || part_is_great(effect)),
     }
 }
 

@@ -4,7 +4,7 @@ use Rattle.std.specs.List.{position_from}
 use Rattle.tp_happen.specs.declared.meetings.Meeting.TheVariants.{ChangedAndAsked, AddedAndDeleted, WrittenAndRead, SetAndWritten}
 use Rattle.tp_ground.specs.declared.events.GroundEvent.{GroundEvent}
 use Rattle.tp_ground.specs.Event.{meets, interferes}
-use Rattle.tp_ground.specs.Happens.{Timed}
+use Rattle.tp_ground.specs.Happens.{EventOfStep}
 use Rattle.tp_happen.specs.Fault.{pair_or, first_pair}
 use Rattle.tp_happen.specs.Meetings.{done, met, meet, pair_by, earlier, sooner}
 use Rattle.tp_happen.proofs.Positions.{pos_same, pos_or}
@@ -19,9 +19,9 @@ begins_or i (Some j) rest h = let m : i ≤ i = omega arith in m
 begins_or i None None h = tt
 begins_or i None (Some p) h = omega (arith, h)
 
-begins : (test : GroundEvent → GroundEvent → Bool) (i : ℕ) (ts : List Timed) → BeginsAt i (pair_by test i ts)
+begins : (test : GroundEvent → GroundEvent → Bool) (i : ℕ) (ts : List EventOfStep) → BeginsAt i (pair_by test i ts)
 begins test i [] = tt
-begins test i (t ∷ ts) = begins_or i (position_from (λ (u : Timed). test t.event u.event) (i + 1) ts) (pair_by test (i + 1) ts) (begins test (i + 1) ts)
+begins test i (t ∷ ts) = begins_or i (position_from (λ (u : EventOfStep). test t.event u.event) (i + 1) ts) (pair_by test (i + 1) ts) (begins test (i + 1) ts)
 
 before_behind : (i j a b : ℕ) → i + 1 ≤ a → (nat_lt i a || ((i == a) && nat_le j b)) ≡ true
 before_behind i j a b h = grind arith
@@ -60,19 +60,19 @@ join i None (Some k) c d hc hd = sooner_right i k c hc
 join i None None c d hc hd = refl
 
 -- the first pair by either test is the sooner of both
-pub pair_either : (p q : GroundEvent → GroundEvent → Bool) (i : ℕ) (ts : List Timed) → pair_by (λ a b. p a b || q a b) i ts ≡ sooner (pair_by p i ts) (pair_by q i ts)
+pub pair_either : (p q : GroundEvent → GroundEvent → Bool) (i : ℕ) (ts : List EventOfStep) → pair_by (λ a b. p a b || q a b) i ts ≡ sooner (pair_by p i ts) (pair_by q i ts)
 pair_either p q i [] = refl
 pair_either p q i (t ∷ ts) =
-    ap₂ (pair_or i) (pos_or (λ (u : Timed). p t.event u.event) (λ (u : Timed). q t.event u.event) (i + 1) ts) (pair_either p q (i + 1) ts)
-    ∙ join i (position_from (λ (u : Timed). p t.event u.event) (i + 1) ts) (position_from (λ (u : Timed). q t.event u.event) (i + 1) ts) (pair_by p (i + 1) ts) (pair_by q (i + 1) ts) (begins p (i + 1) ts) (begins q (i + 1) ts)
+    ap₂ (pair_or i) (pos_or (λ (u : EventOfStep). p t.event u.event) (λ (u : EventOfStep). q t.event u.event) (i + 1) ts) (pair_either p q (i + 1) ts)
+    ∙ join i (position_from (λ (u : EventOfStep). p t.event u.event) (i + 1) ts) (position_from (λ (u : EventOfStep). q t.event u.event) (i + 1) ts) (pair_by p (i + 1) ts) (pair_by q (i + 1) ts) (begins p (i + 1) ts) (begins q (i + 1) ts)
 
-pair_same : (p q : GroundEvent → GroundEvent → Bool) (i : ℕ) (ts : List Timed) → ((a b : GroundEvent) → p a b ≡ q a b) → pair_by p i ts ≡ pair_by q i ts
+pair_same : (p q : GroundEvent → GroundEvent → Bool) (i : ℕ) (ts : List EventOfStep) → ((a b : GroundEvent) → p a b ≡ q a b) → pair_by p i ts ≡ pair_by q i ts
 pair_same p q i [] h = refl
-pair_same p q i (t ∷ ts) h = ap₂ (pair_or i) (pos_same (λ (u : Timed). p t.event u.event) (λ (u : Timed). q t.event u.event) (i + 1) ts (λ u. h t.event u.event)) (pair_same p q (i + 1) ts h)
+pair_same p q i (t ∷ ts) h = ap₂ (pair_or i) (pos_same (λ (u : EventOfStep). p t.event u.event) (λ (u : EventOfStep). q t.event u.event) (i + 1) ts (λ u. h t.event u.event)) (pair_same p q (i + 1) ts h)
 
-first_is : (i : ℕ) (ts : List Timed) → pair_by interferes i ts ≡ first_pair i ts
+first_is : (i : ℕ) (ts : List EventOfStep) → pair_by interferes i ts ≡ first_pair i ts
 first_is i [] = refl
-first_is i (t ∷ ts) = ap (pair_or i (position_from (λ (u : Timed). interferes t.event u.event) (i + 1) ts)) (first_is (i + 1) ts)
+first_is i (t ∷ ts) = ap (pair_or i (position_from (λ (u : EventOfStep). interferes t.event u.event) (i + 1) ts)) (first_is (i + 1) ts)
 
 regroup : (a b c d e f g h : Bool) → ((a || e) || ((b || f) || ((c || g) || (d || h)))) ≡ ((a || (b || (c || d))) || (e || (f || (g || h))))
 regroup true b c d e f g h = refl
@@ -96,7 +96,7 @@ ways a b =
     (meets (done ChangedAndAsked b) (met ChangedAndAsked a)) (meets (done AddedAndDeleted b) (met AddedAndDeleted a)) (meets (done WrittenAndRead b) (met WrittenAndRead a)) (meets (done SetAndWritten b) (met SetAndWritten a))
 
 -- the first pair that interferes is the soonest of those that meet in some way
-pub first_of_ways : (ts : List Timed) → sooner (pair_by (meet ChangedAndAsked) 0 ts) (sooner (pair_by (meet AddedAndDeleted) 0 ts) (sooner (pair_by (meet WrittenAndRead) 0 ts) (pair_by (meet SetAndWritten) 0 ts))) ≡ first_pair 0 ts
+pub first_of_ways : (ts : List EventOfStep) → sooner (pair_by (meet ChangedAndAsked) 0 ts) (sooner (pair_by (meet AddedAndDeleted) 0 ts) (sooner (pair_by (meet WrittenAndRead) 0 ts) (pair_by (meet SetAndWritten) 0 ts))) ≡ first_pair 0 ts
 first_of_ways ts =
     sym (pair_either (meet ChangedAndAsked) (λ a b. meet AddedAndDeleted a b || (meet WrittenAndRead a b || meet SetAndWritten a b)) 0 ts
     ∙ ap (sooner (pair_by (meet ChangedAndAsked) 0 ts))

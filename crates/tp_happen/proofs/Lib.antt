@@ -6,13 +6,13 @@ pub mod Times
 pub mod Limits
 pub mod Answered
 pub mod Lent
-pub mod OnMarks
+pub mod OnLexemes
 pub mod OnForms
 pub mod OnPlans
 pub mod OnPrints
 pub mod OnPrinted
 pub mod OnWritten
-pub mod OnTaskLabels
+pub mod OnTaskWords
 pub mod OnClashes
 pub mod Compared
 pub mod Positions

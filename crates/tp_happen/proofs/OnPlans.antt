@@ -7,8 +7,8 @@ use Rattle.std.proofs.lemmas.List.Elements.{recursion_from_All}
 use Rattle.tp_happen.specs.declared.plans.Step.{Step}
 use Rattle.tp_happen.specs.declared.reading.Wrong.{Wrong}
 use Rattle.tp_happen.specs.declared.reading.Wrong.TheVariants as wrong
-use Rattle.tp_happen.specs.PlanMarks.{marks, is_bare}
-use Rattle.tp_happen.specs.PlanTexts.{Labelled, before_lines, lines_of, full_lines, step_of, LinesSpell, refusal, refusal_from, fault_or, fault_at, LinesAreRefused}
+use Rattle.tp_happen.specs.PlanLexemes.{lexemes, is_bare}
+use Rattle.tp_happen.specs.PlanTexts.{ReadableTask, before_lines, lines_of, full_lines, step_of, LinesSpell, refusal, refusal_from, fault_or, fault_at, LinesAreRefused}
 use Rattle.tp_happen.specs.declared.reading.PlanFault.TheVariants.{TooMany}
 
 -- a line that ends at an LF
@@ -34,16 +34,16 @@ line_whole [] n lt le free = absurd (let no : ⊥ = omega arith in no)
 line_whole (b ∷ w) n lt le free =
     line_all b w (recursion_from_All (λ b. b ≡ 10 → ⊥) (b ∷ w) (subst (λ t. All (λ b. b ≡ 10 → ⊥) t) (take_all n (b ∷ w) le) free))
 
--- A line before others, by whether it has a mark.
-full_step : (l : List ℕ) (ls : List (List ℕ)) (t : Bool) → is_bare (marks l) ≡ t → full_lines (l ∷ ls) ≡ cond t (full_lines ls) (l ∷ full_lines ls)
+-- A line before others, by whether it has a lexeme.
+full_step : (l : List ℕ) (ls : List (List ℕ)) (t : Bool) → is_bare (lexemes l) ≡ t → full_lines (l ∷ ls) ≡ cond t (full_lines ls) (l ∷ full_lines ls)
 full_step l ls t e = ap (λ v. cond v (full_lines ls) (l ∷ full_lines ls)) e
 
-module _ (task : Labelled) where
-  refusal_step : (n k : ℕ) (l : List ℕ) (ls : List (List ℕ)) (t : Bool) → is_bare (marks l) ≡ t → refusal_from task n k (l ∷ ls) ≡ cond t (refusal_from task (n + 1) k ls) (cond (nat_le 512 k) (Some TooMany) (fault_or n (step_of task l) (refusal_from task (n + 1) (k + 1) ls)))
+module _ (task : ReadableTask) where
+  refusal_step : (n k : ℕ) (l : List ℕ) (ls : List (List ℕ)) (t : Bool) → is_bare (lexemes l) ≡ t → refusal_from task n k (l ∷ ls) ≡ cond t (refusal_from task (n + 1) k ls) (cond (nat_le 512 k) (Some TooMany) (fault_or n (step_of task l) (refusal_from task (n + 1) (k + 1) ls)))
   refusal_step n k l ls t e = ap (λ v. cond v (refusal_from task (n + 1) k ls) (cond (nat_le 512 k) (Some TooMany) (fault_or n (step_of task l) (refusal_from task (n + 1) (k + 1) ls)))) e
 
   -- a line that is not empty, by whether 512 stand before it
-  full_refusal : (n k : ℕ) (l : List ℕ) (ls : List (List ℕ)) (t : Bool) → is_bare (marks l) ≡ false → nat_le 512 k ≡ t → refusal_from task n k (l ∷ ls) ≡ cond t (Some TooMany) (fault_or n (step_of task l) (refusal_from task (n + 1) (k + 1) ls))
+  full_refusal : (n k : ℕ) (l : List ℕ) (ls : List (List ℕ)) (t : Bool) → is_bare (lexemes l) ≡ false → nat_le 512 k ≡ t → refusal_from task n k (l ∷ ls) ≡ cond t (Some TooMany) (fault_or n (step_of task l) (refusal_from task (n + 1) (k + 1) ls))
   full_refusal n k l ls t full e =
       refusal_step n k l ls false full ∙ ap (λ v. cond v (Some TooMany) (fault_or n (step_of task l) (refusal_from task (n + 1) (k + 1) ls))) e
 
@@ -55,7 +55,7 @@ module _ (task : Labelled) where
   pub none_read : (all : List (List ℕ)) → HasRead all all [] 0
   none_read all = record { spelled = refl; left = refl }
 
-  pub bare_read : (all rest ls : List (List ℕ)) (l : List ℕ) (steps : List Step) (n : ℕ) → HasRead all rest steps n → rest ≡ l ∷ ls → is_bare (marks l) ≡ true → HasRead all ls steps (n + 1)
+  pub bare_read : (all rest ls : List (List ℕ)) (l : List ℕ) (steps : List Step) (n : ℕ) → HasRead all rest steps n → rest ≡ l ∷ ls → is_bare (lexemes l) ≡ true → HasRead all ls steps (n + 1)
   bare_read all rest ls l steps n h is bare =
       record {
         spelled = h.spelled ∙ ap (λ fs. map Ok steps ++ map (step_of task) fs) (ap full_lines is ∙ full_step l ls true bare);
@@ -63,11 +63,11 @@ module _ (task : Labelled) where
       }
 
   -- a line that is not empty, where fewer than 512 stand before it
-  room_left : (all rest ls : List (List ℕ)) (l : List ℕ) (steps : List Step) (n : ℕ) → HasRead all rest steps n → rest ≡ l ∷ ls → is_bare (marks l) ≡ false → length steps < 512 → refusal task all ≡ fault_or (n + 1) (step_of task l) (refusal_from task (n + 1 + 1) (length steps + 1) ls)
+  room_left : (all rest ls : List (List ℕ)) (l : List ℕ) (steps : List Step) (n : ℕ) → HasRead all rest steps n → rest ≡ l ∷ ls → is_bare (lexemes l) ≡ false → length steps < 512 → refusal task all ≡ fault_or (n + 1) (step_of task l) (refusal_from task (n + 1 + 1) (length steps + 1) ls)
   room_left all rest ls l steps n h is full room =
       h.left ∙ ap (refusal_from task (n + 1) (length steps)) is ∙ full_refusal (n + 1) (length steps) l ls false full (lt-leb 512 (length steps) room)
 
-  pub step_read : (all rest ls : List (List ℕ)) (l : List ℕ) (steps : List Step) (s : Step) (n : ℕ) → HasRead all rest steps n → rest ≡ l ∷ ls → is_bare (marks l) ≡ false → length steps < 512 → Ok s ≡ step_of task l → HasRead all ls (steps ++ s ∷ []) (n + 1)
+  pub step_read : (all rest ls : List (List ℕ)) (l : List ℕ) (steps : List Step) (s : Step) (n : ℕ) → HasRead all rest steps n → rest ≡ l ∷ ls → is_bare (lexemes l) ≡ false → length steps < 512 → Ok s ≡ step_of task l → HasRead all ls (steps ++ s ∷ []) (n + 1)
   step_read all rest ls l steps s n h is full room step =
       record {
         spelled =
@@ -95,12 +95,12 @@ module _ (task : Labelled) where
   refused_at all n wrong.Ticks h = h
   refused_at all n wrong.Horizon h = h
 
-  pub wrong_read : (all rest ls : List (List ℕ)) (l : List ℕ) (steps : List Step) (w : Wrong) (n : ℕ) → HasRead all rest steps n → rest ≡ l ∷ ls → is_bare (marks l) ≡ false → length steps < 512 → Err w ≡ step_of task l → LinesAreRefused task all (fault_at (n + 1) w)
+  pub wrong_read : (all rest ls : List (List ℕ)) (l : List ℕ) (steps : List Step) (w : Wrong) (n : ℕ) → HasRead all rest steps n → rest ≡ l ∷ ls → is_bare (lexemes l) ≡ false → length steps < 512 → Err w ≡ step_of task l → LinesAreRefused task all (fault_at (n + 1) w)
   wrong_read all rest ls l steps w n h is full room step =
       refused_at all (n + 1) w
       (room_left all rest ls l steps n h is full room ∙ ap (λ r. fault_or (n + 1) r (refusal_from task (n + 1 + 1) (length steps + 1) ls)) (sym step))
 
-  pub too_many_read : (all rest ls : List (List ℕ)) (l : List ℕ) (steps : List Step) (n : ℕ) → HasRead all rest steps n → rest ≡ l ∷ ls → is_bare (marks l) ≡ false → length steps ≡ 512 → refusal task all ≡ Some TooMany
+  pub too_many_read : (all rest ls : List (List ℕ)) (l : List ℕ) (steps : List Step) (n : ℕ) → HasRead all rest steps n → rest ≡ l ∷ ls → is_bare (lexemes l) ≡ false → length steps ≡ 512 → refusal task all ≡ Some TooMany
   too_many_read all rest ls l steps n h is full many =
       h.left
       ∙ ap (refusal_from task (n + 1) (length steps)) is

@@ -17,14 +17,14 @@ use Rattle.tp_text.proofs.OnTimes.{exact_some, digit_is, ticks_is}
 use Rattle.tp_ground.specs.Terms.{is_inner, is_name}
 use Rattle.tp_ground.specs.Readable.{are_names}
 use Rattle.tp_ground.specs.declared.task.ActionId.{ActionId}
-use Rattle.tp_happen.specs.declared.marks.ByteKind.TheVariants.{Blank, Letter, Alone}
+use Rattle.tp_happen.specs.declared.tokens.ByteKind.TheVariants.{Blank, Letter, Alone}
 use Rattle.tp_happen.specs.declared.plans.Step.{Step}
 use Rattle.tp_happen.specs.declared.reading.Wrong.TheVariants as wrong
-use Rattle.tp_happen.specs.PlanMarks.{word, sign, kind, is_letter, begins_word, is_bare, marks}
+use Rattle.tp_happen.specs.PlanLexemes.{word, sign, kind, is_letter, begins_word, is_bare, lexemes}
 use Rattle.tp_happen.specs.PlanForms.{Form, written, bracketed, form_of, is_well_formed}
-use Rattle.tp_happen.specs.PlanTexts.{Labelled, lines_of, full_lines, timed, lasting, acting, formed, step_of}
+use Rattle.tp_happen.specs.PlanTexts.{ReadableTask, lines_of, full_lines, timed, lasting, acting, formed, step_of}
 use Rattle.tp_happen.specs.PlanPrints.{digit, decimals, time_text, words_text, end_text, step_text, plan_text, IsReadable, PlansAreRead}
-use Rattle.tp_happen.proofs.OnMarks.{mark_step, run_is_word}
+use Rattle.tp_happen.proofs.OnLexemes.{lexeme_step, run_is_word}
 use Rattle.tp_happen.proofs.OnPlans.{line_cut}
 use Rattle.tp_happen.proofs.OnWritten.{form_read}
 
@@ -272,7 +272,7 @@ plain_lower : (w : List ℕ) → AllByRecursion Plain w → map to_ascii_lowerca
 plain_lower [] h = refl
 plain_lower (b ∷ bs) h = ap (λ c. c ∷ map to_ascii_lowercase bs) h.0.lower ∙ ap (λ t. b ∷ t) (plain_lower bs h.1)
 
--- ---- marks
+-- ---- lexemes
 
 kind_blank : kind 32 ≡ Blank
 unfolding kind
@@ -298,19 +298,19 @@ kind_close : kind 93 ≡ Alone
 unfolding kind
 kind_close = refl
 
-no_mark : marks [] ≡ []
-unfolding marks
-no_mark = refl
+no_lexeme : lexemes [] ≡ []
+unfolding lexemes
+no_lexeme = refl
 
-whole_word : (w rest : List ℕ) → 0 < length w → AllByRecursion (λ c. kind c ≡ Letter) w → begins_word rest ≡ false → marks (w ++ rest) ≡ word w ∷ marks rest
+whole_word : (w rest : List ℕ) → 0 < length w → AllByRecursion (λ c. kind c ≡ Letter) w → begins_word rest ≡ false → lexemes (w ++ rest) ≡ word w ∷ lexemes rest
 whole_word [] rest lt letters ends = absurd (let no : ⊥ = omega arith in no)
 whole_word (b ∷ w) rest lt letters ends = run_is_word b w rest letters ends
 
-blank_before : (bs : List ℕ) → marks (32 ∷ bs) ≡ marks bs
-blank_before bs = mark_step 32 bs Blank kind_blank
+blank_before : (bs : List ℕ) → lexemes (32 ∷ bs) ≡ lexemes bs
+blank_before bs = lexeme_step 32 bs Blank kind_blank
 
-sign_before : (b : ℕ) (bs : List ℕ) → kind b ≡ Alone → marks (b ∷ bs) ≡ sign b ∷ marks bs
-sign_before b bs is = mark_step b bs Alone is
+sign_before : (b : ℕ) (bs : List ℕ) → kind b ≡ Alone → lexemes (b ∷ bs) ≡ sign b ∷ lexemes bs
+sign_before b bs is = lexeme_step b bs Alone is
 
 abbrev spaced : List ℕ → List ℕ
 spaced v = 32 ∷ v
@@ -320,23 +320,23 @@ spaced_ends : (ws : List (List ℕ)) (rest : List ℕ) → begins_word rest ≡ 
 spaced_ends [] rest ends = ends
 spaced_ends (v ∷ vs) rest ends = ap is_letter kind_blank
 
-word_marks : (w : List ℕ) (tail rest : List ℕ) → is_name w ≡ true → begins_word (tail ++ rest) ≡ false → marks ((w ++ tail) ++ rest) ≡ word w ∷ marks (tail ++ rest)
-word_marks w tail rest name ends = ap marks (append_assoc w tail rest) ∙ whole_word w (tail ++ rest) (name_some w name) (name_letters w name) ends
+word_lexemes : (w : List ℕ) (tail rest : List ℕ) → is_name w ≡ true → begins_word (tail ++ rest) ≡ false → lexemes ((w ++ tail) ++ rest) ≡ word w ∷ lexemes (tail ++ rest)
+word_lexemes w tail rest name ends = ap lexemes (append_assoc w tail rest) ∙ whole_word w (tail ++ rest) (name_some w name) (name_letters w name) ends
 
-spaced_marks : (ws : List (List ℕ)) (rest : List ℕ) → list_all is_name ws ≡ true → begins_word rest ≡ false → marks (flat_map spaced ws ++ rest) ≡ map word ws ++ marks rest
-spaced_marks [] rest names ends = refl
-spaced_marks (v ∷ vs) rest names ends =
+spaced_lexemes : (ws : List (List ℕ)) (rest : List ℕ) → list_all is_name ws ≡ true → begins_word rest ≡ false → lexemes (flat_map spaced ws ++ rest) ≡ map word ws ++ lexemes rest
+spaced_lexemes [] rest names ends = refl
+spaced_lexemes (v ∷ vs) rest names ends =
     let p = and_parts (is_name v) (list_all is_name vs) names in
     blank_before ((v ++ flat_map spaced vs) ++ rest)
-    ∙ word_marks v (flat_map spaced vs) rest p.0 (spaced_ends vs rest ends)
-    ∙ ap (λ ms. word v ∷ ms) (spaced_marks vs rest p.1 ends)
+    ∙ word_lexemes v (flat_map spaced vs) rest p.0 (spaced_ends vs rest ends)
+    ∙ ap (λ ms. word v ∷ ms) (spaced_lexemes vs rest p.1 ends)
 
-words_marks : (ws : List (List ℕ)) (rest : List ℕ) → are_names ws ≡ true → begins_word rest ≡ false → marks (words_text ws ++ rest) ≡ map word ws ++ marks rest
-words_marks [] rest names ends = refl
-words_marks (v ∷ vs) rest names ends =
+words_lexemes : (ws : List (List ℕ)) (rest : List ℕ) → are_names ws ≡ true → begins_word rest ≡ false → lexemes (words_text ws ++ rest) ≡ map word ws ++ lexemes rest
+words_lexemes [] rest names ends = refl
+words_lexemes (v ∷ vs) rest names ends =
     let p = and_parts (is_name v) (list_all is_name vs) names in
-    word_marks v (flat_map spaced vs) rest p.0 (spaced_ends vs rest ends)
-    ∙ ap (λ ms. word v ∷ ms) (spaced_marks vs rest p.1 ends)
+    word_lexemes v (flat_map spaced vs) rest p.0 (spaced_ends vs rest ends)
+    ∙ ap (λ ms. word v ∷ ms) (spaced_lexemes vs rest p.1 ends)
 
 -- ---- lines
 
@@ -349,10 +349,10 @@ abbrev end_line : Scale → Bool → ℕ → List ℕ
 end_line scale true d = codes ") [" ++ (time_text scale d ++ 93 ∷ [])
 end_line scale false d = 41 ∷ []
 
-abbrev line_text : Labelled → Step → List ℕ
+abbrev line_text : ReadableTask → Step → List ℕ
 line_text task s = (time_text task.scale s.tick ++ codes ": (") ++ (words_text (task.words s.action) ++ end_line task.scale (task.is_durative s.action) s.duration)
 
-abbrev form_text : Labelled → Step → Form
+abbrev form_text : ReadableTask → Step → Form
 form_text task s = record { time = time_text task.scale s.tick; words = task.words s.action; duration = duration_of task.scale (task.is_durative s.action) s.duration }
 
 end_split : (scale : Scale) (t : Bool) (d : ℕ) → end_text scale t d ≡ end_line scale t d ++ 10 ∷ []
@@ -361,7 +361,7 @@ end_split scale true d =
     ap (λ x. codes ") [" ++ x) (sym (append_assoc (time_text scale d) (93 ∷ []) (10 ∷ [])))
     ∙ sym (append_assoc (codes ") [") (time_text scale d ++ 93 ∷ []) (10 ∷ []))
 
-step_split : (task : Labelled) (s : Step) → step_text task s ≡ line_text task s ++ 10 ∷ []
+step_split : (task : ReadableTask) (s : Step) → step_text task s ≡ line_text task s ++ 10 ∷ []
 step_split task s =
     let a = time_text task.scale s.tick ++ codes ": (" in
     let w = words_text (task.words s.action) in
@@ -370,7 +370,7 @@ step_split task s =
     ∙ ap (λ x. a ++ x) (sym (append_assoc w e (10 ∷ [])))
     ∙ sym (append_assoc a (w ++ e) (10 ∷ []))
 
-time_word : (scale : Scale) (n : ℕ) (rest : List ℕ) → n < 2 ^ 32 → begins_word rest ≡ false → marks (time_text scale n ++ rest) ≡ word (time_text scale n) ∷ marks rest
+time_word : (scale : Scale) (n : ℕ) (rest : List ℕ) → n < 2 ^ 32 → begins_word rest ≡ false → lexemes (time_text scale n ++ rest) ≡ word (time_text scale n) ∷ lexemes rest
 time_word scale n rest lt ends =
     let some : 0 < length (time_text scale n) = simp length-append (omega (arith, whole_some scale n lt)) in
     whole_word (time_text scale n) rest some (all_weaker Timely (λ c. kind c ≡ Letter) (λ c t. t.letter) (time_text scale n) (time_timely scale n lt)) ends
@@ -379,21 +379,21 @@ end_begins : (scale : Scale) (t : Bool) (d : ℕ) → begins_word (end_line scal
 end_begins scale true d = ap is_letter kind_right
 end_begins scale false d = ap is_letter kind_right
 
-end_marks : (scale : Scale) (t : Bool) (d : ℕ) → d < 2 ^ 32 → marks (end_line scale t d) ≡ sign 41 ∷ bracketed (duration_of scale t d)
-end_marks scale false d lt = sign_before 41 [] kind_right ∙ ap (λ ms. sign 41 ∷ ms) no_mark
-end_marks scale true d lt =
+end_lexemes : (scale : Scale) (t : Bool) (d : ℕ) → d < 2 ^ 32 → lexemes (end_line scale t d) ≡ sign 41 ∷ bracketed (duration_of scale t d)
+end_lexemes scale false d lt = sign_before 41 [] kind_right ∙ ap (λ ms. sign 41 ∷ ms) no_lexeme
+end_lexemes scale true d lt =
     sign_before 41 (32 ∷ 91 ∷ (time_text scale d ++ 93 ∷ [])) kind_right
     ∙ ap (λ ms. sign 41 ∷ ms)
     (blank_before (91 ∷ (time_text scale d ++ 93 ∷ []))
     ∙ sign_before 91 (time_text scale d ++ 93 ∷ []) kind_open
     ∙ ap (λ ms. sign 91 ∷ ms)
     (time_word scale d (93 ∷ []) lt (ap is_letter kind_close)
-    ∙ ap (λ ms. word (time_text scale d) ∷ ms) (sign_before 93 [] kind_close ∙ ap (λ ms. sign 93 ∷ ms) no_mark)))
+    ∙ ap (λ ms. word (time_text scale d) ∷ ms) (sign_before 93 [] kind_close ∙ ap (λ ms. sign 93 ∷ ms) no_lexeme)))
 
-line_marks : (task : Labelled) (s : Step) → are_names (task.words s.action) ≡ true → s.tick < 2 ^ 32 → s.duration < 2 ^ 32 → marks (line_text task s) ≡ written (form_text task s)
-line_marks task s names tick duration =
+line_lexemes : (task : ReadableTask) (s : Step) → are_names (task.words s.action) ≡ true → s.tick < 2 ^ 32 → s.duration < 2 ^ 32 → lexemes (line_text task s) ≡ written (form_text task s)
+line_lexemes task s names tick duration =
     let x = words_text (task.words s.action) ++ end_line task.scale (task.is_durative s.action) s.duration in
-    ap marks (append_assoc (time_text task.scale s.tick) (codes ": (") x)
+    ap lexemes (append_assoc (time_text task.scale s.tick) (codes ": (") x)
     ∙ time_word task.scale s.tick (58 ∷ 32 ∷ 40 ∷ x) tick (ap is_letter kind_colon)
     ∙ ap (λ ms. word (time_text task.scale s.tick) ∷ ms)
     (sign_before 58 (32 ∷ 40 ∷ x) kind_colon
@@ -401,12 +401,12 @@ line_marks task s names tick duration =
     (blank_before (40 ∷ x)
     ∙ sign_before 40 x kind_left
     ∙ ap (λ ms. sign 40 ∷ ms)
-    (words_marks (task.words s.action) (end_line task.scale (task.is_durative s.action) s.duration) names (end_begins task.scale (task.is_durative s.action) s.duration)
-    ∙ ap (λ ms. map word (task.words s.action) ++ ms) (end_marks task.scale (task.is_durative s.action) s.duration duration))))
+    (words_lexemes (task.words s.action) (end_line task.scale (task.is_durative s.action) s.duration) names (end_begins task.scale (task.is_durative s.action) s.duration)
+    ∙ ap (λ ms. map word (task.words s.action) ++ ms) (end_lexemes task.scale (task.is_durative s.action) s.duration duration))))
 
 -- ---- steps
 
-well_formed : (task : Labelled) (s : Step) → are_names (task.words s.action) ≡ true → s.tick < 2 ^ 32 → s.duration < 2 ^ 32 → (t : Bool) → is_well_formed (record { time = time_text task.scale s.tick; words = task.words s.action; duration = duration_of task.scale t s.duration }) ≡ true
+well_formed : (task : ReadableTask) (s : Step) → are_names (task.words s.action) ≡ true → s.tick < 2 ^ 32 → s.duration < 2 ^ 32 → (t : Bool) → is_well_formed (record { time = time_text task.scale s.tick; words = task.words s.action; duration = duration_of task.scale t s.duration }) ≡ true
 well_formed task s names tick duration true =
     ap (λ b. b && (are_names (task.words s.action) && has_time_form (time_text task.scale s.duration))) (time_form task.scale s.tick tick)
     ∙ ap (λ b. b && has_time_form (time_text task.scale s.duration)) names
@@ -420,7 +420,7 @@ timed_ok horizon t d a le =
     let test : nat_le (t + d) horizon ≡ true = grind (arith, nat_tests) in
     ap (λ b. cond b (Ok (record { tick = t; action = a; duration = d })) (Err wrong.Horizon)) test
 
-lasting_ok : (task : Labelled) (s : Step) (f : Form) (t : Bool) → (t ≡ false → s.duration ≡ 0) → s.tick + s.duration ≤ task.horizon → s.tick < 2 ^ 32 → s.duration < 2 ^ 32 → f.time ≡ time_text task.scale s.tick → lasting (scale_ticks task.scale) task.horizon f s.action t (duration_of task.scale t s.duration) ≡ Ok s
+lasting_ok : (task : ReadableTask) (s : Step) (f : Form) (t : Bool) → (t ≡ false → s.duration ≡ 0) → s.tick + s.duration ≤ task.horizon → s.tick < 2 ^ 32 → s.duration < 2 ^ 32 → f.time ≡ time_text task.scale s.tick → lasting (scale_ticks task.scale) task.horizon f s.action t (duration_of task.scale t s.duration) ≡ Ok s
 lasting_ok task s f true instant ends tick duration time =
     ap (λ w. timed task.horizon s.action (ticks_of (scale_ticks task.scale) w) (ticks_of (scale_ticks task.scale) (time_text task.scale s.duration))) time
     ∙ ap (λ o. timed task.horizon s.action o (ticks_of (scale_ticks task.scale) (time_text task.scale s.duration))) (time_read task.scale s.tick tick)
@@ -433,17 +433,17 @@ lasting_ok task s f false instant ends tick duration time =
     ∙ ap (λ d. timed task.horizon s.action (Some s.tick) (Some d)) (sym none)
     ∙ timed_ok task.horizon s.tick s.duration s.action ends
 
-module _ (task : Labelled) (s : Step) (limit : task.horizon ≤ 1000000000) (h : IsReadable task s) where
+module _ (task : ReadableTask) (s : Step) (limit : task.horizon ≤ 1000000000) (h : IsReadable task s) where
   tick_fits : s.tick < 2 ^ 32
   tick_fits = omega (arith, h.ends)
 
   duration_fits : s.duration < 2 ^ 32
   duration_fits = omega (arith, h.ends)
 
-  marked : marks (line_text task s) ≡ written (form_text task s)
-  marked = line_marks task s h.names tick_fits duration_fits
+  marked : lexemes (line_text task s) ≡ written (form_text task s)
+  marked = line_lexemes task s h.names tick_fits duration_fits
 
-  line_full : is_bare (marks (line_text task s)) ≡ false
+  line_full : is_bare (lexemes (line_text task s)) ≡ false
   line_full = ap is_bare marked
 
   line_read : step_of task (line_text task s) ≡ Ok s
@@ -493,13 +493,13 @@ end_plain scale true d lt = (
   ),
 )
 
-line_plain : (task : Labelled) (s : Step) → task.horizon ≤ 1000000000 → IsReadable task s → AllByRecursion Plain (line_text task s)
+line_plain : (task : ReadableTask) (s : Step) → task.horizon ≤ 1000000000 → IsReadable task s → AllByRecursion Plain (line_text task s)
 line_plain task s limit h =
     all_append Plain (time_text task.scale s.tick ++ codes ": (") (words_text (task.words s.action) ++ end_line task.scale (task.is_durative s.action) s.duration)
     (all_append Plain (time_text task.scale s.tick) (codes ": (") (time_plain task.scale s.tick (tick_fits task s limit h)) (other_plain 58 (omega arith) (omega arith), (other_plain 32 (omega arith) (omega arith), (other_plain 40 (omega arith) (omega arith), tt))))
     (all_append Plain (words_text (task.words s.action)) (end_line task.scale (task.is_durative s.action) s.duration) (words_plain (task.words s.action) h.names h.lower) (end_plain task.scale (task.is_durative s.action) s.duration (duration_fits task s limit h)))
 
-module _ (task : Labelled) (limit : task.horizon ≤ 1000000000) where
+module _ (task : ReadableTask) (limit : task.horizon ≤ 1000000000) where
   lower_plan : (steps : List Step) → AllByRecursion (IsReadable task) steps → map to_ascii_lowercase (plan_text task steps) ≡ plan_text task steps
   lower_plan [] all = refl
   lower_plan (s ∷ steps) all =

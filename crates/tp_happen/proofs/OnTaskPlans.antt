@@ -9,9 +9,9 @@ use Rattle.tp_ground.specs.Readable.{are_names, AreReadable}
 use Rattle.tp_ground.specs.declared.task.ActionId.{ActionId}
 use Rattle.tp_ground.specs.declared.task.Task.{Task}
 use Rattle.tp_happen.specs.declared.plans.Step.{Step}
-use Rattle.tp_happen.specs.PlanTexts.{Labelled, SpellsPlan, is_known, AreKnown}
+use Rattle.tp_happen.specs.PlanTexts.{ReadableTask, SpellsPlan, is_known, AreKnown}
 use Rattle.tp_happen.specs.PlanPrints.{plan_text, IsReadable, PlansAreRead}
-use Rattle.tp_happen.specs.TaskLabels.{action_of, labelled}
+use Rattle.tp_happen.specs.TaskWords.{action_of, readable}
 use Rattle.tp_happen.specs.TaskPlans.{EndInTime}
 
 -- an action that is found by its words is the one of these words
@@ -19,7 +19,7 @@ action_is : (actions : List Words) (ws : Words) (a : ActionId) → are_names ws 
 action_is actions [] a named found = absurd (let no : ⊥ = cc in no)
 action_is actions (w ∷ ws) a named found = ap (option_map (λ n. let i : ActionId = record { 0 = n } in i)) found
 
-record Known (t : Labelled) (s : Step) : Type 0 where
+record Known (t : ReadableTask) (s : Step) : Type 0 where
   pub below : s.action.0 < t.count
   pub instant : t.is_durative s.action ≡ false → s.duration ≡ 0
 
@@ -29,7 +29,7 @@ below_from true false true m n d lt is all = (grind (arith, nat_tests), λ no. g
 below_from true false false m n d lt is all = absurd (let wrong : ⊥ = cc in wrong)
 below_from false b c m n d lt is all = absurd (let wrong : ⊥ = cc in wrong)
 
-known_from : (t : Labelled) (s : Step) → is_known t s ≡ true → Known t s
+known_from : (t : ReadableTask) (s : Step) → is_known t s ≡ true → Known t s
 known_from t s h =
     let both = below_from (nat_lt s.action.0 t.count) (t.is_durative s.action) (s.duration == 0) s.action.0 t.count s.duration refl refl h in
     record { below = both.0; instant = both.1 }
@@ -42,9 +42,9 @@ min_below : (a b : ℕ) → min a b ≤ b
 min_below a b = omega arith
 
 module _ (t : Task) (told : AreReadable t.numbering.actions) (all : length t.actions.items ≡ length t.numbering.actions) where
-  readable_step : (s : Step) → is_known (labelled t) s ≡ true → s.tick + s.duration ≤ (labelled t).horizon → IsReadable (labelled t) s
+  readable_step : (s : Step) → is_known (readable t) s ≡ true → s.tick + s.duration ≤ (readable t).horizon → IsReadable (readable t) s
   readable_step s h ends =
-      let known : Known (labelled t) s = known_from (labelled t) s h in
+      let known : Known (readable t) s = known_from (readable t) s h in
       let below : s.action.0 < length t.numbering.actions = omega (arith, known.below, all) in
       record {
         names = told.names s.action.0 below;
@@ -54,11 +54,11 @@ module _ (t : Task) (told : AreReadable t.numbering.actions) (all : length t.act
         ends = ends;
       }
 
-  readable_steps : (steps : List Step) → AreKnown (labelled t) steps → EndInTime t steps → AllByRecursion (IsReadable (labelled t)) steps
+  readable_steps : (steps : List Step) → AreKnown (readable t) steps → EndInTime t steps → AllByRecursion (IsReadable (readable t)) steps
   readable_steps [] h ends = tt
   readable_steps (s ∷ steps) h ends =
-      let both = and_parts (is_known (labelled t) s) (list_all (is_known (labelled t)) steps) h in
+      let both = and_parts (is_known (readable t) s) (list_all (is_known (readable t)) steps) h in
       (readable_step s both.0 ends.0, readable_steps steps both.1 ends.1)
 
-  pub task_plans_read : PlansAreRead → (steps : List Step) → AreKnown (labelled t) steps → EndInTime t steps → SpellsPlan (labelled t) (plan_text (labelled t) steps) steps
-  task_plans_read read steps h ends = read (labelled t) steps (min_below t.limits.horizon 1000000000) (readable_steps steps h ends)
+  pub task_plans_read : PlansAreRead → (steps : List Step) → AreKnown (readable t) steps → EndInTime t steps → SpellsPlan (readable t) (plan_text (readable t) steps) steps
+  task_plans_read read steps h ends = read (readable t) steps (min_below t.limits.horizon 1000000000) (readable_steps steps h ends)

@@ -3,12 +3,12 @@ use Rattle.std.proofs.Common.{◌≡◌, ℕ, ◌+◌, ◌<◌, List, Option, le
 use Rattle.std.specs.List.{position_from}
 use Rattle.tp_ground.specs.declared.events.GroundEvent.{GroundEvent}
 use Rattle.tp_ground.specs.Event.{interferes}
-use Rattle.tp_ground.specs.Happens.{Timed}
+use Rattle.tp_ground.specs.Happens.{EventOfStep}
 use Rattle.tp_happen.specs.Fault.{first_pair, pair_or}
 
-module _ (ts : List Timed) (i : ℕ) (t : Timed) (l : i < length ts) (is : t ≡ get_or ts i t) (e : GroundEvent) (event : e ≡ t.event) (r : Option ℕ) (found : r ≡ position_from (λ (u : Timed). interferes e u.event) (i + 1) (drop (i + 1) ts)) where
+module _ (ts : List EventOfStep) (i : ℕ) (t : EventOfStep) (l : i < length ts) (is : t ≡ get_or ts i t) (e : GroundEvent) (event : e ≡ t.event) (r : Option ℕ) (found : r ≡ position_from (λ (u : EventOfStep). interferes e u.event) (i + 1) (drop (i + 1) ts)) where
   pub pair_step : first_pair i (drop i ts) ≡ pair_or i r (first_pair (i + 1) (drop (i + 1) ts))
   pair_step =
       ap (first_pair i) (drop-cons ts i t l)
-      ∙ (ap₂ (λ (x : Timed) k. pair_or i (position_from (λ (u : Timed). interferes x.event u.event) (i + 1) (drop k ts)) (first_pair (i + 1) (drop k ts))) (sym is) (sym (add-one i))
-      ∙ ap (λ z. pair_or i z (first_pair (i + 1) (drop (i + 1) ts))) (ap (λ z. position_from (λ (u : Timed). interferes z u.event) (i + 1) (drop (i + 1) ts)) (sym event) ∙ sym found))
+      ∙ (ap₂ (λ (x : EventOfStep) k. pair_or i (position_from (λ (u : EventOfStep). interferes x.event u.event) (i + 1) (drop k ts)) (first_pair (i + 1) (drop k ts))) (sym is) (sym (add-one i))
+      ∙ ap (λ z. pair_or i z (first_pair (i + 1) (drop (i + 1) ts))) (ap (λ z. position_from (λ (u : EventOfStep). interferes z u.event) (i + 1) (drop (i + 1) ts)) (sym event) ∙ sym found))

@@ -4,7 +4,8 @@ use mathlib.Core.Former.{Count}
 use Rattle.tp_ground.specs.declared.events.Cond.{Cond, And, And', Or, Row_of-Cond, end_of-Cond, more_of-Cond, items-the_row-Cond, items_hidden-the_row-Cond-0}
 use Rattle.tp_ground.specs.State.{State, truth, all_true, some_true, has_values, have_values}
 use Rattle.tp_happen.specs.Small.{all_small, rows_small}
-use Rattle.tp_happen.specs.Judged.{judgement, judged_all, judged_any, and_both, or_both, each_small}
+use Rattle.tp_ground.specs.Truth.{and_both, or_both}
+use Rattle.tp_happen.specs.Judged.{judgement, judged_all, judged_any, each_small}
 
 abbrev pub row_of : Cond → (n : Count) × Row_of-Cond n
 row_of (And' _ row) = (_, row)

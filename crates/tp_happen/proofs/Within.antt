@@ -6,7 +6,7 @@ use Rattle.tp_ground.specs.declared.events.NumericEffect.{NumericEffect}
 use Rattle.tp_ground.specs.declared.events.GroundEvent.{GroundEvent}
 use Rattle.tp_ground.specs.Event.{is_additive}
 use Rattle.tp_ground.specs.Fits.{event_fits}
-use Rattle.tp_ground.specs.Happens.{Timed}
+use Rattle.tp_ground.specs.Happens.{EventOfStep}
 use Rattle.tp_happen.specs.declared.meetings.Meeting.{Meeting}
 use Rattle.tp_happen.specs.declared.meetings.Meeting.TheVariants.{ChangedAndAsked, AddedAndDeleted, WrittenAndRead, SetAndWritten}
 use Rattle.tp_happen.specs.Stored.{Stored, fits_in}
@@ -48,20 +48,20 @@ fitting atoms fluents e h =
 
 module _ (s : Stored) where
   each : (way : Meeting) (room : ℕ) → ((e : GroundEvent) → Fitting (length s.atoms) (length s.numbers) e → list_all (λ x. nat_lt x room) (done way e) ≡ true)
-      → (ts : List Timed) → list_all (fits_in s) ts ≡ true → done_within way room ts ≡ true
+      → (ts : List EventOfStep) → list_all (fits_in s) ts ≡ true → done_within way room ts ≡ true
   each way room one [] h = refl
   each way room one (t ∷ ts) h =
       let p = and_parts (fits_in s t) (list_all (fits_in s) ts) h in
       and_from (list_all (λ x. nat_lt x room) (done way t.event)) (done_within way room ts) (one t.event (fitting (length s.atoms) (length s.numbers) t.event p.0)) (each way room one ts p.1)
 
-  pub changed_within : (ts : List Timed) → list_all (fits_in s) ts ≡ true → done_within ChangedAndAsked (length s.atoms) ts ≡ true
+  pub changed_within : (ts : List EventOfStep) → list_all (fits_in s) ts ≡ true → done_within ChangedAndAsked (length s.atoms) ts ≡ true
   changed_within ts h = each ChangedAndAsked (length s.atoms) (λ e f. all_joined (length s.atoms) e.adds.items e.deletes.items f.adds f.deletes) ts h
 
-  pub added_within : (ts : List Timed) → list_all (fits_in s) ts ≡ true → done_within AddedAndDeleted (length s.atoms) ts ≡ true
+  pub added_within : (ts : List EventOfStep) → list_all (fits_in s) ts ≡ true → done_within AddedAndDeleted (length s.atoms) ts ≡ true
   added_within ts h = each AddedAndDeleted (length s.atoms) (λ e f. f.adds) ts h
 
-  pub written_within : (ts : List Timed) → list_all (fits_in s) ts ≡ true → done_within WrittenAndRead (length s.numbers) ts ≡ true
+  pub written_within : (ts : List EventOfStep) → list_all (fits_in s) ts ≡ true → done_within WrittenAndRead (length s.numbers) ts ≡ true
   written_within ts h = each WrittenAndRead (length s.numbers) (λ e f. all_written (length s.numbers) e.writes.items f.writes) ts h
 
-  pub set_within : (ts : List Timed) → list_all (fits_in s) ts ≡ true → done_within SetAndWritten (length s.numbers) ts ≡ true
+  pub set_within : (ts : List EventOfStep) → list_all (fits_in s) ts ≡ true → done_within SetAndWritten (length s.numbers) ts ≡ true
   set_within ts h = each SetAndWritten (length s.numbers) (λ e f. all_written (length s.numbers) (filter (λ w. not (is_additive w.change)) e.writes.items) (all_kept (length s.numbers) (λ w. not (is_additive w.change)) e.writes.items f.writes)) ts h

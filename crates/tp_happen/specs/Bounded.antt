@@ -5,7 +5,7 @@ use Rattle.tp_ground.specs.declared.events.Change.{Change}
 use Rattle.tp_ground.specs.declared.events.Change.TheVariants.{Assign, ScaleUp, Increase, Decrease}
 use Rattle.tp_ground.specs.declared.events.NumericEffect.{NumericEffect}
 use Rattle.tp_ground.specs.State.{State, both, value, units}
-use Rattle.tp_ground.specs.Happens.{Timed}
+use Rattle.tp_ground.specs.Happens.{EventOfStep}
 use Rattle.tp_ground.specs.InOrder.{after_write, after_writes}
 use Rattle.tp_happen.specs.Small.{is_small, values_small, all_small}
 
@@ -22,15 +22,15 @@ abbrev pub effect_small : State → Option ℤ → NumericEffect → Bool
 effect_small s d w = values_small s d w.value && product_small s d w w.change
 
 -- those of all effects of an event, and those of its duration constraint
-abbrev pub effects_small : ℕ → State → Timed → Bool
+abbrev pub effects_small : ℕ → State → EventOfStep → Bool
 effects_small scale s t = list_all (effect_small s (units scale t.ticks)) t.event.writes.items
 
-abbrev pub rule_small : State → Timed → Bool
-rule_small s t = list_all (λ l. values_small s None l.value) t.event.rule.items
+abbrev pub constraint_small : State → EventOfStep → Bool
+constraint_small s t = list_all (λ l. values_small s None l.value) t.event.constraint.items
 
 -- the expressions of an event: those of its condition, of its effects and of its duration constraint
-abbrev pub event_small : ℕ → State → Timed → Bool
-event_small scale s t = all_small s t.event.condition && (effects_small scale s t && rule_small s t)
+abbrev pub event_small : ℕ → State → EventOfStep → Bool
+event_small scale s t = all_small s t.event.condition && (effects_small scale s t && constraint_small s t)
 
 -- what a fluent has before an additive write, and the sum that the write makes of it
 abbrev pub sum_small : State → Option ℤ → NumericEffect → Change → Option ℤ → Bool
@@ -47,19 +47,19 @@ sums_small s d (w ∷ ws) f now =
     && sums_small s d ws f (after_write s d w w.change now) else sums_small s d ws f now
 
 -- the same for the events of a happening, in the order in which they are listed
-abbrev pub all_sums_small : ℕ → State → List Timed → ℕ → Option ℤ → Bool
+abbrev pub all_sums_small : ℕ → State → List EventOfStep → ℕ → Option ℤ → Bool
 all_sums_small scale s [] f now = true
 all_sums_small scale s (t ∷ ts) f now =
     sums_small s (units scale t.ticks) t.event.writes.items f now && all_sums_small scale s ts f
     (after_writes s (units scale t.ticks) t.event.writes.items f now)
 
 -- No expression of the events and no partial sum of a fluent's writes, from its old value on, passes the limit.
-pub record StaysSmall (scale : ℕ) (s : State) (ts : List Timed) : Type 0 where
+pub record StaysSmall (scale : ℕ) (s : State) (ts : List EventOfStep) : Type 0 where
   pub expressions : list_all (event_small scale s) ts ≡ true
   pub sums : (f : ℕ) → all_sums_small scale s ts f (s.number f) ≡ true
 
 -- One of them does.
-abbrev pub Passes : ℕ → State → List Timed → Type 0
+abbrev pub Passes : ℕ → State → List EventOfStep → Type 0
 Passes scale s ts =
     (list_all (event_small scale s) ts ≡ false)
     ⊎ ((f : ℕ) × (all_sums_small scale s ts f (s.number f) ≡ false))

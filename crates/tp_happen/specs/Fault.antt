@@ -3,7 +3,7 @@ use Rattle.std.specs.Prelude.{◌≡◌, ℕ, ◌+◌, not, List, [], ◌∷◌,
 use Rattle.std.specs.List.{position_from}
 use Rattle.tp_ground.specs.State as spec
 use Rattle.tp_ground.specs.Event.{interferes, mixes}
-use Rattle.tp_ground.specs.Happens.{Timed, is_defined, Happens}
+use Rattle.tp_ground.specs.Happens.{EventOfStep, is_defined, Happens}
 use Rattle.tp_happen.specs.Stored.{Stored, state_of}
 use Rattle.tp_happen.specs.declared.faults.Why.{Why}
 use Rattle.tp_happen.specs.declared.faults.Why.TheVariants.{Condition, Undefined, Clash, Interferes}
@@ -17,11 +17,11 @@ pair_or i (Some j) other = Some (i, j)
 pair_or i None other = other
 
 -- the first two events that interfere, of a list that is numbered from i
-abbrev pub first_pair : ℕ → List Timed → Option (ℕ × ℕ)
+abbrev pub first_pair : ℕ → List EventOfStep → Option (ℕ × ℕ)
 first_pair i [] = None
 first_pair i (t ∷ ts) =
     pair_or i
-    (position_from (λ (u : Timed). interferes t.event u.event) (i + 1) ts) (first_pair (i + 1) ts)
+    (position_from (λ (u : EventOfStep). interferes t.event u.event) (i + 1) ts) (first_pair (i + 1) ts)
 
 abbrev pub named : Why → Option ℕ → Option (ℕ × Why)
 named why (Some i) = Some (i, why)
@@ -36,16 +36,16 @@ or_fault (Some f) other = Some f
 or_fault None other = other
 
 -- An undefined value, then a condition, a clash, an interference; each by the lowest number.
-abbrev pub fault_of : ℕ → spec.State → List Timed → Option (ℕ × Why)
+abbrev pub fault_of : ℕ → spec.State → List EventOfStep → Option (ℕ × Why)
 fault_of scale s ts =
     or_fault (named Undefined (position_from (λ t. not (is_defined scale s t)) 0 ts))
     (or_fault (named Condition
-    (position_from (λ (t : Timed). not (spec.holds s t.event.condition)) 0 ts))
-    (or_fault (named Clash (position_from (λ (t : Timed). mixes t.event) 0 ts))
+    (position_from (λ (t : EventOfStep). not (spec.holds s t.event.condition)) 0 ts))
+    (or_fault (named Clash (position_from (λ (t : EventOfStep). mixes t.event) 0 ts))
     (named_pair (first_pair 0 ts))))
 
 -- What `apply` answers: the state after the happening, or the first fault.
-abbrev pub Applies : Stored → List Timed → Outcome → Type 0
+abbrev pub Applies : Stored → List EventOfStep → Outcome → Type 0
 Applies old ts (Next new) = Happens old.scale (state_of old) ts (state_of new)
 Applies old ts (Fails i why) = fault_of old.scale (state_of old) ts ≡ Some (i, why)
 

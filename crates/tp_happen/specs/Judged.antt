@@ -1,25 +1,13 @@
 -- A condition's truth where all its fluents have values, else nothing.
-use Rattle.std.specs.Prelude.{Bool, true, false, ◌&&◌, ◌||◌, if◌then◌else◌, List, [], ◌∷◌, Option, Some, None}
-use Rattle.std.specs.Prelude.{ℤ}
+use Rattle.std.specs.Prelude.{Bool, true, false, if◌then◌else◌, List, [], ◌∷◌, Option, Some, None}
 use Rattle.std.specs.List.{list_all}
 use Rattle.tp_ground.specs.declared.events.Cond.{Cond}
-use Rattle.tp_ground.specs.declared.events.Comparison.{Comparison}
-use Rattle.tp_ground.specs.State.{State, compares, truth, has_values}
+use Rattle.tp_ground.specs.State.{State, truth, has_values}
+use Rattle.tp_ground.specs.Truth.{and_both, or_both}
 use Rattle.tp_happen.specs.Small.{all_small}
 
 abbrev pub judgement : State → Cond → Option Bool
 judgement s c = if has_values s c then Some (truth s c) else None
-
--- of several: nothing where one has none
-abbrev pub and_both : Option Bool → Option Bool → Option Bool
-and_both (Some a) (Some b) = Some (a && b)
-and_both (Some a) None = None
-and_both None b = None
-
-abbrev pub or_both : Option Bool → Option Bool → Option Bool
-or_both (Some a) (Some b) = Some (a || b)
-or_both (Some a) None = None
-or_both None b = None
 
 abbrev pub judged_all : State → List Cond → Option Bool
 judged_all s [] = Some true
@@ -31,8 +19,3 @@ judged_any s (c ∷ cs) = or_both (judgement s c) (judged_any s cs)
 
 abbrev pub each_small : State → List Cond → Bool
 each_small s cs = list_all (λ c. all_small s c) cs
-
-abbrev pub compared_values : Comparison → Option ℤ → Option ℤ → Option Bool
-compared_values how (Some x) (Some y) = Some (compares how x y)
-compared_values how (Some x) None = None
-compared_values how None y = None

@@ -7,10 +7,10 @@ pub mod Terms
 pub mod Fault
 pub mod Parts
 pub mod Steps
-pub mod PlanMarks
+pub mod PlanLexemes
 pub mod PlanForms
 pub mod PlanTexts
 pub mod PlanPrints
-pub mod TaskLabels
+pub mod TaskWords
 pub mod Meetings
 pub mod TaskPlans

@@ -6,7 +6,7 @@ use Rattle.tp_happen.specs.declared.meetings.Meeting.{Meeting}
 use Rattle.tp_happen.specs.declared.meetings.Meeting.TheVariants.{ChangedAndAsked, AddedAndDeleted, WrittenAndRead, SetAndWritten}
 use Rattle.tp_ground.specs.State.{atoms_in}
 use Rattle.tp_ground.specs.Event.{meets, fluents_read, fluents_written, fluents_set}
-use Rattle.tp_ground.specs.Happens.{Timed}
+use Rattle.tp_ground.specs.Happens.{EventOfStep}
 use Rattle.tp_happen.specs.Fault.{pair_or}
 
 -- what one event does, and what the other
@@ -27,11 +27,11 @@ abbrev pub meet : Meeting → GroundEvent → GroundEvent → Bool
 meet way a b = meets (done way a) (met way b) || meets (done way b) (met way a)
 
 -- the first two events of a list, numbered from i, that a test takes
-abbrev pub pair_by : (GroundEvent → GroundEvent → Bool) → ℕ → List Timed → Option (ℕ × ℕ)
+abbrev pub pair_by : (GroundEvent → GroundEvent → Bool) → ℕ → List EventOfStep → Option (ℕ × ℕ)
 pair_by test i [] = None
 pair_by test i (t ∷ ts) =
     pair_or i
-    (position_from (λ (u : Timed). test t.event u.event) (i + 1) ts) (pair_by test (i + 1) ts)
+    (position_from (λ (u : EventOfStep). test t.event u.event) (i + 1) ts) (pair_by test (i + 1) ts)
 
 -- the lesser of two numbers, where there are two
 abbrev pub earlier : Option ℕ → Option ℕ → Option ℕ
@@ -54,6 +54,6 @@ sooner (Some p) None = Some p
 sooner None q = q
 
 -- what the events do is about so many numbers
-abbrev pub done_within : Meeting → ℕ → List Timed → Bool
+abbrev pub done_within : Meeting → ℕ → List EventOfStep → Bool
 done_within way room ts =
-    list_all (λ (t : Timed). list_all (λ x. nat_lt x room) (done way t.event)) ts
+    list_all (λ (t : EventOfStep). list_all (λ x. nat_lt x room) (done way t.event)) ts

@@ -7,7 +7,7 @@ use Rattle.tp_text.specs.declared.number.Scale.{Scale}
 use Rattle.tp_text.specs.declared.number.Scale.TheVariants.{One, Ten, Hundred, Thousand}
 use Rattle.tp_ground.specs.Readable.{are_names}
 use Rattle.tp_happen.specs.declared.plans.Step.{Step}
-use Rattle.tp_happen.specs.PlanTexts.{Labelled, SpellsPlan}
+use Rattle.tp_happen.specs.PlanTexts.{ReadableTask, SpellsPlan}
 
 -- the last digit of a number
 abbrev pub digit : ℕ → ℕ
@@ -40,16 +40,16 @@ end_text scale true d = codes ") [" ++ (time_text scale d ++ 93 ∷ 10 ∷ [])
 end_text scale false d = 41 ∷ 10 ∷ []
 
 -- TIME: (NAME ARG ..) [DURATION]
-abbrev pub step_text : Labelled → Step → List ℕ
+abbrev pub step_text : ReadableTask → Step → List ℕ
 step_text task s =
     (time_text task.scale s.tick ++ codes ": (") ++ (words_text (task.words s.action)
     ++ end_text task.scale (task.is_durative s.action) s.duration)
 
-abbrev pub plan_text : Labelled → List Step → List ℕ
+abbrev pub plan_text : ReadableTask → List Step → List ℕ
 plan_text task steps = flat_map (step_text task) steps
 
 -- A step of the task that ends within its horizon. Its action's words are names in lower case, and the action is the one of these words.
-pub record IsReadable (task : Labelled) (s : Step) : Type 0 where
+pub record IsReadable (task : ReadableTask) (s : Step) : Type 0 where
   pub names : are_names (task.words s.action) ≡ true
   pub lower : AllByRecursion (λ w. map to_ascii_lowercase w ≡ w) (task.words s.action)
   pub action : task.action (task.words s.action) ≡ Some s.action
@@ -59,5 +59,5 @@ pub record IsReadable (task : Labelled) (s : Step) : Type 0 where
 -- what is written for steps of a task spells them
 abbrev pub PlansAreRead : Type 0
 PlansAreRead =
-    (task : Labelled) (steps : List Step) → task.horizon ≤ 1000000000
+    (task : ReadableTask) (steps : List Step) → task.horizon ≤ 1000000000
     → AllByRecursion (IsReadable task) steps → SpellsPlan task (plan_text task steps) steps

@@ -11,12 +11,12 @@ use Rattle.tp_happen.specs.declared.reading.Wrong.{Wrong}
 use Rattle.tp_happen.specs.declared.reading.Wrong.TheVariants as wrong
 use Rattle.tp_happen.specs.declared.reading.PlanFault.{PlanFault}
 use Rattle.tp_happen.specs.declared.reading.PlanFault.TheVariants.{Memory, Line, NoAction, NotTicks, TooMany, NoDuration, Horizon}
-use Rattle.tp_happen.specs.PlanMarks.{marks, is_bare}
+use Rattle.tp_happen.specs.PlanLexemes.{lexemes, is_bare}
 use Rattle.tp_happen.specs.PlanForms.{Form, form_of, is_well_formed}
 
 -- What plan texts need of a task: its scale and horizon, how many ground actions it has, the one of some words, whether an
 -- action is durative, and its words.
-pub record Labelled : Type 0 where
+pub record ReadableTask : Type 0 where
   pub scale : Scale
   pub horizon : ℕ
   pub count : ℕ
@@ -34,10 +34,10 @@ abbrev pub lines_of : List ℕ → List (List ℕ)
 lines_of [] = []
 lines_of (b ∷ bs) = if b == 10 then [] ∷ lines_of bs else before_lines b (lines_of bs)
 
--- lines that have a mark
+-- lines that have a lexeme
 abbrev pub full_lines : List (List ℕ) → List (List ℕ)
 full_lines [] = []
-full_lines (l ∷ ls) = if is_bare (marks l) then full_lines ls else l ∷ full_lines ls
+full_lines (l ∷ ls) = if is_bare (lexemes l) then full_lines ls else l ∷ full_lines ls
 
 -- The step of an action that starts at a time and lasts some time, if these are ticks and it ends within the horizon.
 abbrev pub timed : ℕ → ActionId → Option ℕ → Option ℕ → Result Step Wrong
@@ -53,25 +53,25 @@ lasting scale horizon f a true None = Err wrong.Duration
 lasting scale horizon f a true (Some d) = timed horizon a (ticks_of scale f.time) (ticks_of scale d)
 lasting scale horizon f a false d = timed horizon a (ticks_of scale f.time) (Some 0)
 
-abbrev pub acting : Labelled → Form → Option ActionId → Result Step Wrong
+abbrev pub acting : ReadableTask → Form → Option ActionId → Result Step Wrong
 acting task f None = Err wrong.Action
 acting task f (Some a) =
     lasting (scale_ticks task.scale) task.horizon f a (task.is_durative a) f.duration
 
 -- the step that a form spells, or what is wrong with it
-abbrev pub form_step : Labelled → Form → Result Step Wrong
+abbrev pub form_step : ReadableTask → Form → Result Step Wrong
 form_step task f = if is_well_formed f then acting task f (task.action f.words) else Err wrong.Form
 
-abbrev pub formed : Labelled → Option Form → Result Step Wrong
+abbrev pub formed : ReadableTask → Option Form → Result Step Wrong
 formed task None = Err wrong.Form
 formed task (Some f) = form_step task f
 
 -- the step that a line spells, or what is wrong with it
-abbrev pub step_of : Labelled → List ℕ → Result Step Wrong
-step_of task line = formed task (form_of (marks line))
+abbrev pub step_of : ReadableTask → List ℕ → Result Step Wrong
+step_of task line = formed task (form_of (lexemes line))
 
 -- lines that are not empty spell these steps, one each, in order
-abbrev pub LinesSpell : Labelled → List (List ℕ) → List Step → Type 0
+abbrev pub LinesSpell : ReadableTask → List (List ℕ) → List Step → Type 0
 LinesSpell task ls steps = map (step_of task) (full_lines ls) ≡ map Ok steps
 
 -- what is said of a line at fault
@@ -88,19 +88,19 @@ fault_or n (Err w) others = Some (fault_at n w)
 
 -- The first refusal of lines that are numbered from n and stand behind so many that are not empty: a line at fault is refused for its
 -- fault, and the 513th that is not empty is one too many, whatever it holds.
-abbrev pub refusal_from : Labelled → ℕ → ℕ → List (List ℕ) → Option PlanFault
+abbrev pub refusal_from : ReadableTask → ℕ → ℕ → List (List ℕ) → Option PlanFault
 refusal_from task n count [] = None
 refusal_from task n count (l ∷ ls) =
-    if is_bare (marks l) then refusal_from task (n + 1) count ls
+    if is_bare (lexemes l) then refusal_from task (n + 1) count ls
     else (if nat_le 512 count then Some TooMany
     else fault_or n (step_of task l) (refusal_from task (n + 1) (count + 1) ls))
 
 -- The first refusal of lines, numbered from 1.
-abbrev pub refusal : Labelled → List (List ℕ) → Option PlanFault
+abbrev pub refusal : ReadableTask → List (List ℕ) → Option PlanFault
 refusal task ls = refusal_from task 1 0 ls
 
 -- A fault is the first refusal of lines, unless it is out of memory.
-abbrev pub LinesAreRefused : Labelled → List (List ℕ) → PlanFault → Type 0
+abbrev pub LinesAreRefused : ReadableTask → List (List ℕ) → PlanFault → Type 0
 LinesAreRefused task ls Memory = Unit {0}
 LinesAreRefused task ls fault = refusal task ls ≡ Some fault
 
@@ -109,19 +109,19 @@ abbrev pub lines_in : List ℕ → List (List ℕ)
 lines_in text = lines_of (map to_ascii_lowercase text)
 
 -- A text spells the steps of a plan.
-abbrev pub SpellsPlan : Labelled → List ℕ → List Step → Type 0
+abbrev pub SpellsPlan : ReadableTask → List ℕ → List Step → Type 0
 SpellsPlan task text steps = LinesSpell task (lines_in text) steps
 
 -- a step's action is the task's, and if it is instantaneous the step lasts no tick
-abbrev pub is_known : Labelled → Step → Bool
+abbrev pub is_known : ReadableTask → Step → Bool
 is_known task s = nat_lt s.action.0 task.count && (task.is_durative s.action || s.duration == 0)
 
-abbrev pub AreKnown : Labelled → List Step → Type 0
+abbrev pub AreKnown : ReadableTask → List Step → Type 0
 AreKnown task steps = list_all (is_known task) steps ≡ true
 
 -- A fault is the first refusal of a text, unless it is out of memory. A text that is read has none.
-abbrev pub IsRefused : Labelled → List ℕ → PlanFault → Type 0
+abbrev pub IsRefused : ReadableTask → List ℕ → PlanFault → Type 0
 IsRefused task text fault = LinesAreRefused task (lines_in text) fault
 
-abbrev pub IsAccepted : Labelled → List ℕ → Type 0
+abbrev pub IsAccepted : ReadableTask → List ℕ → Type 0
 IsAccepted task text = refusal task (lines_in text) ≡ None

@@ -1,7 +1,7 @@
 -- A state as it is stored: the scale of the task's time, the truth of each atom and the number of each fluent.
 use Rattle.std.specs.Prelude.{◌≡◌, ℕ, Bool, false, List, length, Option, None, ℤ, slice_index_or}
 use Rattle.tp_ground.specs.State as spec
-use Rattle.tp_ground.specs.Happens.{Timed}
+use Rattle.tp_ground.specs.Happens.{EventOfStep}
 use Rattle.tp_ground.specs.Fits.{event_fits}
 use Rattle.tp_ground.specs.declared.task.Task.{Task}
 use Rattle.tp_text.specs.Scales.{scale_ticks}
@@ -20,7 +20,7 @@ state_of s =
     }
 
 -- the atoms and fluents that an event changes are the state's
-abbrev pub fits_in : Stored → Timed → Bool
+abbrev pub fits_in : Stored → EventOfStep → Bool
 fits_in s t = event_fits (length s.atoms) (length s.numbers) t.event
 
 -- the state in which a task begins

@@ -10,11 +10,11 @@ use Rattle.tp_ground.specs.declared.task.Task.{Task}
 use Rattle.tp_happen.specs.declared.plans.Step.{Step}
 use Rattle.tp_happen.specs.PlanTexts.{SpellsPlan, AreKnown}
 use Rattle.tp_happen.specs.PlanPrints.{plan_text}
-use Rattle.tp_happen.specs.TaskLabels.{labelled}
+use Rattle.tp_happen.specs.TaskWords.{readable}
 
 -- each step ends by the task's horizon
 abbrev pub EndInTime : Task → List Step → Type 0
-EndInTime t steps = AllByRecursion (λ (s : Step). s.tick + s.duration ≤ (labelled t).horizon) steps
+EndInTime t steps = AllByRecursion (λ (s : Step). s.tick + s.duration ≤ (readable t).horizon) steps
 
 -- The task of a problem that is spelled by texts: what is written for steps of it that end by its horizon spells them.
 abbrev pub TaskPlansAreRead : Type 0
@@ -24,6 +24,6 @@ TaskPlansAreRead =
     → SpellsDomain text d
     → SpellsProblem d other p
     → IsTask limits scale d p t
-    → AreKnown (labelled t) steps
+    → AreKnown (readable t) steps
     → EndInTime t steps
-    → SpellsPlan (labelled t) (plan_text (labelled t) steps) steps
+    → SpellsPlan (readable t) (plan_text (readable t) steps) steps

@@ -4,11 +4,12 @@ ghost use Rattle.std.specs.Prelude.{◌≡◌, true, false, IfOk, OnOk, OnErr, n
 ghost use Rattle.std.specs.Option.{option_map};
 ghost use Rattle.tp_ground.specs.State as spec;
 ghost use Rattle.tp_happen.specs.Small.{all_small};
-ghost use Rattle.tp_happen.specs.Judged.{judgement, and_both, or_both, compared_values};
+ghost use Rattle.tp_happen.specs.Judged.{judgement};
 ghost use Rattle.tp_happen.specs.Stored.{state_of};
 
 use crate::{Range, State, value};
-use tp_ground::{AtomId, Comparison, Cond};
+use tp_ground::truth::{and, compared, not, or};
+use tp_ground::{AtomId, Cond};
 
 /// Whether a condition holds. `Range` where a part of an expression passes 10^15.
 pub fn holds(state: &State, cond: &Cond) -> Result<bool, Range>
@@ -49,54 +50,5 @@ fn judged(state: &State, cond: &Cond) -> Result<Option<bool>, Range>
             }
             Ok(any)
         }
-    }
-}
-
-fn not(x: Option<bool>) -> Option<bool>
-    ensures { result ≡ option_map (λ b. not b) x }
-{
-    match x {
-        Some(b) => Some(!b),
-        None => None,
-    }
-}
-
-fn and(x: Option<bool>, y: Option<bool>) -> Option<bool>
-    ensures { result ≡ and_both x y }
-{
-    match (x, y) {
-        (Some(a), Some(b)) => Some(a && b),
-        _ => None,
-    }
-}
-
-fn or(x: Option<bool>, y: Option<bool>) -> Option<bool>
-    ensures { result ≡ or_both x y }
-{
-    match (x, y) {
-        (Some(a), Some(b)) => Some(a || b),
-        _ => None,
-    }
-}
-
-fn compared(how: Comparison, x: Option<i64>, y: Option<i64>) -> Option<bool>
-    ensures { result ≡ compared_values how x y }
-{
-    match (x, y) {
-        (Some(a), Some(b)) => Some(compares(how, a, b)),
-        _ => None,
-    }
-}
-
-/// Whether two numbers compare so.
-pub fn compares(how: Comparison, x: i64, y: i64) -> bool
-    ensures { result ≡ spec.compares how x y }
-{
-    match how {
-        Comparison::Less => x < y,
-        Comparison::AtMost => x <= y,
-        Comparison::Equal => x == y,
-        Comparison::AtLeast => x >= y,
-        Comparison::Greater => x > y,
     }
 }

@@ -48,11 +48,11 @@ pub struct EventRef<'t> {
 }
 
 impl<'t> Model for EventRef<'t> {
-    ghost use Rattle.tp_ground.specs.Happens.{Timed};
+    ghost use Rattle.tp_ground.specs.Happens.{EventOfStep};
     ghost use Rattle.tp_ground.specs.contracts.GroundEvent as ground_event;
     ghost use Rattle.std.specs.Coded.{codes};
 
-    ghost Value = { Timed };
+    ghost Value = { EventOfStep };
 
     ghost coded = { Prim.hlevel (codes, ground_event.the_row.coded) };
 

@@ -76,16 +76,17 @@ fn effects_defined(
 }
 
 /// Whether each expression of a duration constraint has a value.
-pub fn rule_defined(state: &State, rule: &[Limit]) -> Result<bool, Range>
+pub fn constraint_defined(state: &State, constraint: &[Limit]) -> Result<bool, Range>
     ensures ok { IfOk result
-        (λ r. r ≡ list_all (λ l. is_some (spec.value (state_of state.now) None l.value)) rule.now) }
+        (λ r. r ≡ list_all
+        (λ l. is_some (spec.value (state_of state.now) None l.value)) constraint.now) }
     ensures small { OnOk result
-        (list_all (λ l. values_small (state_of state.now) None l.value) rule.now ≡ true) }
+        (list_all (λ l. values_small (state_of state.now) None l.value) constraint.now ≡ true) }
     ensures err { OnErr result
-        (list_all (λ l. values_small (state_of state.now) None l.value) rule.now ≡ false) }
+        (list_all (λ l. values_small (state_of state.now) None l.value) constraint.now ≡ false) }
 {
     let mut all = true;
-    for limit in rule {
+    for limit in constraint {
         let defined = value(state, None, &limit.value)?.is_some();
         all = all && defined;
     }
@@ -102,8 +103,8 @@ pub(crate) fn is_defined(state: &State, event: &EventRef<'_>) -> Result<bool, Ra
         (terms_small state.now.scale (state_of state.now) event.now ≡ false) }
 {
     let effects = effects_defined(state, state.duration(event.ticks()), &event.body().writes)?;
-    let rule = rule_defined(state, &event.body().rule)?;
-    Ok(effects && rule)
+    let constraint = constraint_defined(state, &event.body().constraint)?;
+    Ok(effects && constraint)
 }
 
 /// The first event that reads what has no value.

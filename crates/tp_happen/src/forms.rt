@@ -4,12 +4,12 @@ ghost use Rattle.std.specs.Prelude.{◌≡◌, map, IfOk, option_map};
 ghost use Rattle.std.specs.List.{list_all};
 ghost use Rattle.tp_ground.specs.Terms.{is_name};
 ghost use Rattle.tp_ground.specs.Readable.{are_names};
-ghost use Rattle.tp_happen.specs.PlanMarks.{marks};
+ghost use Rattle.tp_happen.specs.PlanLexemes.{lexemes};
 ghost use Rattle.tp_happen.specs.PlanForms.{form_view, head_of, words_of, bracket_of, end_of, form_of, is_duration, is_well_formed, FormsAreWritten};
 
-use crate::marks::{Token, is_bare, next_mark, take_sign, take_word};
+use crate::tokens::{Token, is_bare, next_token, take_sign, take_word};
 use std::alloc::{AllocError, Global};
-use tp_names::term::is_name;
+use tp_ground::is_name;
 use tp_text::has_time_form;
 
 /// What stands on a line: `TIME: (WORD ..)`, and `[DURATION]` or not.
@@ -22,7 +22,7 @@ pub(crate) struct Form<'a> {
 
 // A time, ':' and '(', and what follows.
 fn read_head(line: &[u8]) -> Option<(&str, &[u8])>
-    ensures { option_map (λ r. (r.0.now, marks r.1.now)) result ≡ head_of (marks line.now) }
+    ensures { option_map (λ r. (r.0.now, lexemes r.1.now)) result ≡ head_of (lexemes line.now) }
 {
     let (time, after) = take_word(line)?;
     let behind = take_sign(after, b':')?;
@@ -35,13 +35,13 @@ fn read_words<'a>(
     alloc: Global,
     line: &'a [u8],
 ) -> Result<Option<(Vec<&'a str>, &'a [u8])>, AllocError>
-    ensures { IfOk result (λ r. option_map (λ p. (map (λ w. w.now) p.0.items, marks p.1.now)) r
-        ≡ words_of (marks line.now)) }
+    ensures { IfOk result (λ r. option_map (λ p. (map (λ w. w.now) p.0.items, lexemes p.1.now)) r
+        ≡ words_of (lexemes line.now)) }
 {
     let mut words = Vec::new(alloc);
     let mut rest = line;
-    'words: while let Some((mark, after)) = next_mark(rest) {
-        match mark {
+    'words: while let Some((lexeme, after)) = next_token(rest) {
+        match lexeme {
             Token::Word(word) => words.push(word)?,
             Token::Sign(sign) => {
                 if sign == b')' {
@@ -57,7 +57,7 @@ fn read_words<'a>(
 
 // A word in brackets, with nothing behind them.
 fn read_bracket(line: &[u8]) -> Option<&str>
-    ensures { option_map (λ d. d.now) result ≡ bracket_of (marks line.now) }
+    ensures { option_map (λ d. d.now) result ≡ bracket_of (lexemes line.now) }
 {
     let inside = take_sign(line, b'[')?;
     let (duration, after) = take_word(inside)?;
@@ -71,7 +71,7 @@ fn read_bracket(line: &[u8]) -> Option<&str>
 
 // Nothing, or a word in brackets with nothing behind them.
 fn read_end(line: &[u8]) -> Option<Option<&str>>
-    ensures { option_map (λ d. option_map (λ t. t.now) d) result ≡ end_of (marks line.now) }
+    ensures { option_map (λ d. option_map (λ t. t.now) d) result ≡ end_of (lexemes line.now) }
 {
     if is_bare(line) {
         return Some(None);
@@ -82,7 +82,7 @@ fn read_end(line: &[u8]) -> Option<Option<&str>>
 
 /// The form of a line, if it has one.
 pub(crate) fn read_form<'a>(alloc: Global, line: &'a [u8]) -> Result<Option<Form<'a>>, AllocError>
-    ensures { IfOk result (λ r. option_map form_view r ≡ form_of (marks line.now)) }
+    ensures { IfOk result (λ r. option_map form_view r ≡ form_of (lexemes line.now)) }
 {
     let Some((time, inside)) = read_head(line) else {
         return Ok(None);
@@ -131,7 +131,7 @@ pub(crate) fn is_well_formed(form: &Form<'_>) -> bool
     has_time_form(form.time) && (are_names(form.words.as_slice()) && is_duration(form.duration))
 }
 
-/// A line has a form exactly if its marks are those that the form writes.
+/// A line has a form exactly if its lexemes are those that the form writes.
 pub fn forms_are_written()
     ensures { FormsAreWritten }
 {}

@@ -2,13 +2,13 @@
 
 ghost use Rattle.std.specs.Prelude.{◌≡◌, ◌==◌, ◌&&◌, ◌||◌, ◌++◌, not};
 ghost use Rattle.std.specs.List.{list_any, flat_map};
-ghost use Rattle.tp_ground.specs.State.{atoms_in, fluents_in, fluents_of, mentions_duration};
+ghost use Rattle.tp_ground.specs.State.{atoms_in, fluents_in, fluents_of};
 ghost use Rattle.tp_ground.specs.Bounds as bounds;
 ghost use Rattle.tp_ground.specs.Event as spec;
 ghost use Rattle.tp_ground.specs.Event.{has, meets, fluents_read, fluents_written, fluents_set};
 
 use crate::Event;
-use tp_ground::{Change, Cond, Expr, GroundEvent, Limit, NumericEffect};
+use tp_ground::{Change, Cond, Expr, GroundEvent, Limit, NumericEffect, truth};
 
 /// Whether a condition mentions an atom.
 #[cycle(mentions_atom)]
@@ -99,10 +99,10 @@ fn some_effect_reads(effects: &[NumericEffect], fluent: u32) -> bool
     effects.iter().any(|w| mentions(&w.value, fluent))
 }
 
-fn some_limit_reads(rule: &[Limit], fluent: u32) -> bool
-    ensures { result ≡ list_any (λ l. has (fluents_of l.value) fluent) rule.now }
+fn some_limit_reads(constraint: &[Limit], fluent: u32) -> bool
+    ensures { result ≡ list_any (λ l. has (fluents_of l.value) fluent) constraint.now }
 {
-    rule.iter().any(|l| mentions(&l.value, fluent))
+    constraint.iter().any(|l| mentions(&l.value, fluent))
 }
 
 fn some_effect_writes(effects: &[NumericEffect], fluent: u32) -> bool
@@ -117,10 +117,10 @@ fn effects_read(event: &GroundEvent, fluent: u32) -> bool
     some_effect_reads(&event.writes, fluent)
 }
 
-fn rule_reads(event: &GroundEvent, fluent: u32) -> bool
-    ensures { result ≡ has (flat_map (λ l. fluents_of l.value) event.now.rule.items) fluent }
+fn constraint_reads(event: &GroundEvent, fluent: u32) -> bool
+    ensures { result ≡ has (flat_map (λ l. fluents_of l.value) event.now.constraint.items) fluent }
 {
-    some_limit_reads(&event.rule, fluent)
+    some_limit_reads(&event.constraint, fluent)
 }
 
 #[tactic(auto, using(crate::proofs::Meets::has_append))]
@@ -136,7 +136,7 @@ fn condition_or_effects_read(event: &GroundEvent, fluent: u32) -> bool
 fn reads(event: &GroundEvent, fluent: u32) -> bool
     ensures { result ≡ has (fluents_read event.now) fluent }
 {
-    condition_or_effects_read(event, fluent) || rule_reads(event, fluent)
+    condition_or_effects_read(event, fluent) || constraint_reads(event, fluent)
 }
 
 fn writes(event: &GroundEvent, fluent: u32) -> bool
@@ -255,29 +255,9 @@ pub fn writes_into(event: &Event<'_>, cond: &Cond) -> bool
     changes_atoms(event.body, cond) || changes_fluents(event.body, cond)
 }
 
-/// Whether an expression mentions the duration.
-fn mentions_duration(expr: &Expr) -> bool
-    ensures { result ≡ mentions_duration expr.now }
-{
-    match expr {
-        Expr::Duration => true,
-        Expr::Number(_) | Expr::Fluent(_) => false,
-        Expr::Negated(x) => mentions_duration(x),
-        Expr::Sum(x, y) | Expr::Difference(x, y) | Expr::Product(x, y) => {
-            mentions_duration(x) || mentions_duration(y)
-        }
-    }
-}
-
-fn some_mentions_duration(effects: &[NumericEffect]) -> bool
-    ensures { result ≡ list_any (λ w. mentions_duration w.value) effects.now }
-{
-    effects.iter().any(|w| mentions_duration(&w.value))
-}
-
 /// Whether an effect of an event mentions the duration.
 pub fn uses_duration(event: &Event<'_>) -> bool
     ensures { result ≡ bounds.uses_duration event.now }
 {
-    some_mentions_duration(&event.body.writes)
+    truth::uses_duration(event.body)
 }

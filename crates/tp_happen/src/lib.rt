@@ -10,7 +10,7 @@
 //! - `writes`: the effects of events, written one after another
 //! - `happening`: all of it together, `apply`
 //! - `plans`: plans and their steps
-//! - `marks`, `forms`, `labels`, `reading`, `printing`: plans as texts
+//! - `tokens`, `forms`, `task_words`, `reading`, `printing`: plans as texts
 #![tactic(auto)]
 
 mod clashes;
@@ -20,21 +20,21 @@ mod faults;
 mod forms;
 mod happening;
 mod interfere;
-mod labels;
 mod lending;
-mod marks;
 mod meetings;
 mod mentions;
 mod plans;
 mod printing;
 mod reading;
 mod states;
+mod task_words;
+mod tokens;
 mod values;
 mod writes;
 
-pub use conditions::{compares, holds};
+pub use conditions::holds;
 pub use events::{Event, EventRef, Part};
-pub use faults::{Outcome, Why, rule_defined};
+pub use faults::{Outcome, Why, constraint_defined};
 pub use forms::forms_are_written;
 pub use happening::{ApplyFault, apply};
 pub use interfere::{interferes, uses_duration, writes_into};
@@ -43,4 +43,5 @@ pub use plans::{Plan, Step};
 pub use printing::{plans_are_read, print_plan, task_plans_are_read};
 pub use reading::{PlanFault, read_plan};
 pub use states::State;
+pub use tp_ground::truth::compares;
 pub use values::{Range, value};

@@ -94,11 +94,11 @@ fn push_values(effects: &[NumericEffect], into: &mut Vec<u32>) -> Result<(), All
     Ok(())
 }
 
-fn push_limits(rule: &[Limit], into: &mut Vec<u32>) -> Result<(), AllocError>
+fn push_limits(constraint: &[Limit], into: &mut Vec<u32>) -> Result<(), AllocError>
     ensures { OnOk result
-        (into.new.items ≡ into.old.items ++ flat_map (λ l. fluents_of l.value) rule.now) }
+        (into.new.items ≡ into.old.items ++ flat_map (λ l. fluents_of l.value) constraint.now) }
 {
-    for limit in rule {
+    for limit in constraint {
         push_fluents(&limit.value, into)?;
     }
     Ok(())
@@ -110,7 +110,7 @@ pub(crate) fn push_read(event: &GroundEvent, into: &mut Vec<u32>) -> Result<(), 
 {
     push_fluents_in(&event.condition, into)?;
     push_values(&event.writes, into)?;
-    push_limits(&event.rule, into)
+    push_limits(&event.constraint, into)
 }
 
 /// Appends the fluents that effects write.

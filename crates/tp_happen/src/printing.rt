@@ -4,10 +4,10 @@ ghost use Rattle.std.specs.Prelude.{◌≡◌, ◌++◌, true};
 ghost use Rattle.tp_device.specs.Bytes.{Writes, failures_after};
 ghost use Rattle.tp_happen.specs.TaskPlans.{TaskPlansAreRead};
 ghost use Rattle.tp_happen.specs.PlanPrints.{digit, decimals, time_text, space_before, words_text, end_text, step_text, plan_text, PlansAreRead};
-ghost use Rattle.tp_happen.specs.TaskLabels.{labelled};
+ghost use Rattle.tp_happen.specs.TaskWords.{readable};
 
-use crate::labels::is_durative;
 use crate::plans::{Plan, Step};
+use crate::task_words::is_durative;
 use itoa::Buffer;
 use tp_device::{Failed, Sink, push_all};
 use tp_ground::{ActionId, Task, actions_are_readable};
@@ -76,7 +76,7 @@ fn space_before(place: usize) -> &'static [u8]
 // An action's words, with one space between.
 fn write_words<W: Sink>(writer: &mut W, task: &Task, action: ActionId) -> Result<(), Failed>
     ensures bytes { Writes (W.held writer.old)
-        (W.held writer.new) (words_text ((labelled task.now).words action)) result }
+        (W.held writer.new) (words_text ((readable task.now).words action)) result }
     ensures cause { W.failures writer.new ≡ failures_after (W.failures writer.old) result }
 {
     let mut place = 0usize;
@@ -117,8 +117,8 @@ fn write_end<W: Sink>(
 // The words of a step's action, and its duration.
 fn write_action<W: Sink>(writer: &mut W, task: &Task, step: Step) -> Result<(), Failed>
     ensures bytes { Writes (W.held writer.old) (W.held writer.new) (words_text
-        ((labelled task.now).words step.action) ++ end_text (labelled task.now).scale
-        ((labelled task.now).is_durative step.action) step.duration) result }
+        ((readable task.now).words step.action) ++ end_text (readable task.now).scale
+        ((readable task.now).is_durative step.action) step.duration) result }
     ensures cause { W.failures writer.new ≡ failures_after (W.failures writer.old) result }
 {
     write_words(writer, task, step.action)?;
@@ -132,7 +132,7 @@ fn write_action<W: Sink>(writer: &mut W, task: &Task, step: Step) -> Result<(), 
 
 fn write_step<W: Sink>(writer: &mut W, task: &Task, step: Step) -> Result<(), Failed>
     ensures bytes { Writes
-        (W.held writer.old) (W.held writer.new) (step_text (labelled task.now) step) result }
+        (W.held writer.old) (W.held writer.new) (step_text (readable task.now) step) result }
     ensures cause { W.failures writer.new ≡ failures_after (W.failures writer.old) result }
 {
     write_time_before(writer, task.scale, step.tick, b": (")?;
@@ -142,7 +142,7 @@ fn write_step<W: Sink>(writer: &mut W, task: &Task, step: Step) -> Result<(), Fa
 // The steps of a plan, a line for each.
 fn write_steps<W: Sink>(steps: &[Step], task: &Task, writer: &mut W) -> Result<(), Failed>
     ensures bytes { Writes
-        (W.held writer.old) (W.held writer.new) (plan_text (labelled task.now) steps.now) result }
+        (W.held writer.old) (W.held writer.new) (plan_text (readable task.now) steps.now) result }
     ensures cause { W.failures writer.new ≡ failures_after (W.failures writer.old) result }
 {
     for step in steps {
@@ -154,7 +154,7 @@ fn write_steps<W: Sink>(steps: &[Step], task: &Task, writer: &mut W) -> Result<(
 /// Writes a plan of a task, a line for each step. It takes no memory. Where the writer fails, it has taken some first part.
 pub fn print_plan<W: Sink>(plan: &Plan, task: &Task, writer: &mut W) -> Result<(), Failed>
     ensures bytes { Writes
-        (W.held writer.old) (W.held writer.new) (plan_text (labelled task.now) plan.now) result }
+        (W.held writer.old) (W.held writer.new) (plan_text (readable task.now) plan.now) result }
     ensures cause { W.failures writer.new ≡ failures_after (W.failures writer.old) result }
 {
     write_steps(plan.steps(), task, writer)

@@ -3,22 +3,20 @@
 ghost use Rattle.std.specs.Prelude.{◌≡◌, ◌∷◌, ◌<◌, ◌≤◌, ◌+◌, ◌==◌, ◌||◌, true, length, None, Some, IfOk, IfErr, OnOk, option_map};
 ghost use Rattle.tp_text.specs.Scales.{scale_ticks};
 ghost use Rattle.tp_happen.specs.Steps.{IsPlan};
-ghost use Rattle.tp_happen.specs.PlanMarks.{marks};
+ghost use Rattle.tp_happen.specs.PlanLexemes.{lexemes};
 ghost use Rattle.tp_happen.specs.PlanForms.{form_view};
 ghost use Rattle.tp_happen.specs.PlanTexts.{lines_of, timed, lasting, form_step, step_of, fault_at, LinesSpell, refusal, LinesAreRefused, is_known, AreKnown, SpellsPlan, IsAccepted, IsRefused};
-ghost use Rattle.tp_happen.specs.TaskLabels.{labelled};
+ghost use Rattle.tp_happen.specs.TaskWords.{readable};
 
 use crate::forms::{Form, is_well_formed, read_form};
-use crate::labels::{action_of, horizon, is_durative};
-use crate::marks::is_bare;
 use crate::plans::{Plan, Step};
+use crate::task_words::{action_of, horizon, is_durative};
+use crate::tokens::is_bare;
 use std::alloc::{AllocError, Global};
 use thiserror::Error;
+use tp_bounds::MOST_STEPS;
 use tp_ground::{ActionId, Task};
 use tp_text::{Scale, read_ticks};
-
-/// The most steps of a plan.
-const MOST_STEPS: usize = 512;
 
 /// Why a text is refused as a plan. Lines are numbered from 1.
 #[derive(Clone, Copy, Debug, PartialEq, Eq, Error)]
@@ -138,9 +136,9 @@ fn lasting(
 
 // The step that a form spells.
 fn form_step(task: &Task, form: &Form<'_>) -> Result<Step, Wrong>
-    ensures value { result ≡ form_step (labelled task.now) (form_view form.now) }
+    ensures value { result ≡ form_step (readable task.now) (form_view form.now) }
     ensures ends { IfOk result (λ s. s.tick + s.duration ≤ 1000000000) }
-    ensures known { IfOk result (λ s. is_known (labelled task.now) s ≡ true) }
+    ensures known { IfOk result (λ s. is_known (readable task.now) s ≡ true) }
 {
     if !is_well_formed(form) {
         return Err(Wrong::Form);
@@ -154,9 +152,9 @@ fn form_step(task: &Task, form: &Form<'_>) -> Result<Step, Wrong>
 
 // The step that a line spells.
 fn read_step(alloc: Global, task: &Task, line: &[u8]) -> Result<Result<Step, Wrong>, AllocError>
-    ensures value { IfOk result (λ r. r ≡ step_of (labelled task.now) line.now) }
+    ensures value { IfOk result (λ r. r ≡ step_of (readable task.now) line.now) }
     ensures ends { IfOk result (λ r. IfOk r (λ s. s.tick + s.duration ≤ 1000000000)) }
-    ensures known { IfOk result (λ r. IfOk r (λ s. is_known (labelled task.now) s ≡ true)) }
+    ensures known { IfOk result (λ r. IfOk r (λ s. is_known (readable task.now) s ≡ true)) }
 {
     match read_form(alloc, line)? {
         None => Ok(Err(Wrong::Form)),
@@ -167,11 +165,11 @@ fn read_step(alloc: Global, task: &Task, line: &[u8]) -> Result<Result<Step, Wro
 // The steps that lines spell.
 fn read_steps(alloc: Global, task: &Task, text: &[u8]) -> Result<Vec<Step>, PlanFault>
     ensures spelled { IfOk result
-        (λ v. LinesSpell (labelled task.now) (lines_of text.now) v.items) }
+        (λ v. LinesSpell (readable task.now) (lines_of text.now) v.items) }
     ensures plan { IfOk result (λ v. IsPlan v.items) }
-    ensures known { IfOk result (λ v. AreKnown (labelled task.now) v.items) }
-    ensures accepted { OnOk result (refusal (labelled task.now) (lines_of text.now) ≡ None) }
-    ensures refused { IfErr result (LinesAreRefused (labelled task.now) (lines_of text.now)) }
+    ensures known { IfOk result (λ v. AreKnown (readable task.now) v.items) }
+    ensures accepted { OnOk result (refusal (readable task.now) (lines_of text.now) ≡ None) }
+    ensures refused { IfErr result (LinesAreRefused (readable task.now) (lines_of text.now)) }
 {
     let mut steps = Vec::new(alloc);
     let mut rest = text;
@@ -196,10 +194,10 @@ fn read_steps(alloc: Global, task: &Task, text: &[u8]) -> Result<Vec<Step>, Plan
 
 /// The plan of a task that a text spells.
 pub fn read_plan(alloc: Global, text: &str, task: &Task) -> Result<Plan, PlanFault>
-    ensures spelled { IfOk result (λ p. SpellsPlan (labelled task.now) text.now p) }
-    ensures known { IfOk result (λ p. AreKnown (labelled task.now) p) }
-    ensures accepted { OnOk result (IsAccepted (labelled task.now) text.now) }
-    ensures refused { IfErr result (IsRefused (labelled task.now) text.now) }
+    ensures spelled { IfOk result (λ p. SpellsPlan (readable task.now) text.now p) }
+    ensures known { IfOk result (λ p. AreKnown (readable task.now) p) }
+    ensures accepted { OnOk result (IsAccepted (readable task.now) text.now) }
+    ensures refused { IfErr result (IsRefused (readable task.now) text.now) }
 {
     let lowered = text.to_ascii_lowercase(alloc)?;
     let steps = read_steps(alloc, task, lowered.as_bytes())?;

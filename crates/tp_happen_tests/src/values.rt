@@ -6,7 +6,7 @@ use std::alloc::{AllocError, Global};
 use std::process::Abort;
 use std::test::Fail;
 use tp_ground::{Body, Comparison, Cond, Expr, Limit, Task};
-use tp_happen::{Range, State, compares, holds, rule_defined, value};
+use tp_happen::{Range, State, compares, constraint_defined, holds, value};
 
 /// A condition on the fluent without a value.
 fn undefined(alloc: Global) -> Result<Cond, AllocError> {
@@ -89,29 +89,33 @@ fn comparisons(rt: HostRuntime) {
 }
 
 /// The duration constraint of `hold` has values; one on a fluent without a value has none.
-fn rules_have_values(task: &Task, state: &State) -> Result<bool, Fail> {
+fn constraints_have_values(task: &Task, state: &State) -> Result<bool, Fail> {
     let unknown = [Limit {
         how: Comparison::Equal,
         value: Expr::Fluent(1),
     }];
     match task.actions.get(2).ok_or("no such action")? {
         Body::Durative(start, _, _) => Ok(
-            rule_defined(state, &start.rule) == Ok(true)
-                && rule_defined(state, &unknown) == Ok(false),
+            constraint_defined(state, &start.constraint) == Ok(true)
+                && constraint_defined(state, &unknown) == Ok(false),
         ),
         Body::Instant(_) => Ok(false),
     }
 }
 
-fn rules_have_values_at_first(rt: &impl Abort, alloc: Global, task: &Task) -> Result<(), Fail> {
+fn constraints_have_values_at_first(
+    rt: &impl Abort,
+    alloc: Global,
+    task: &Task,
+) -> Result<(), Fail> {
     let state = State::initial(alloc, task)?;
-    let have = rules_have_values(task, &state)?;
+    let have = constraints_have_values(task, &state)?;
     assert!(rt; have);
     Ok(())
 }
 
 #[test]
-fn duration_rules_want_values(rt: HostRuntime) -> Result<(), Fail> {
+fn duration_constraints_want_values(rt: HostRuntime) -> Result<(), Fail> {
     let task = task_of(rt.alloc(), TANKS)?;
-    rules_have_values_at_first(&rt, rt.alloc(), &task)
+    constraints_have_values_at_first(&rt, rt.alloc(), &task)
 }

@@ -6,17 +6,17 @@ use Rattle.std.specs.Option.{option_map, option_and_then}
 use Rattle.std.specs.FinMap.{get}
 use Rattle.tp_bounds.specs.declared.Bound.{Bound}
 use Rattle.tp_bounds.proofs.Chains.{from_map, from_cond, opened}
-use Rattle.tp_exec.proofs.Ready.{unused_removed}
-use Rattle.tp_exec.specs.declared.command.Command.TheVariants.{Advance, Add, Withdraw, Window, Dispatch, Happened, Report}
+use Rattle.tp_machine.proofs.Ready.{unused_removed}
+use Rattle.tp_machine.specs.declared.command.Command.TheVariants.{Advance, Add, Withdraw, Window, Dispatch, Happened, Report}
 use Rattle.tp_bounds.specs.declared.Edge.{Edge}
 use Rattle.tp_bounds.specs.declared.Edge.TheVariants.{Own, New, PastHigh, PastLow, Now, End}
 use Rattle.tp_bounds.specs.Setting.{Setting, event_count, fixed_at, floor_of}
 use Rattle.tp_bounds.specs.Reasons.{IsReason, AreBounds, bound_of, at_most, at_least, is_open}
-use Rattle.tp_exec.specs.declared.command.Command.{Command}
-use Rattle.tp_exec.specs.Machine.{Machine}
+use Rattle.tp_machine.specs.declared.command.Command.{Command}
+use Rattle.tp_machine.specs.Machine.{Machine}
 use Rattle.tp_journal.specs.Sound.{IsSound}
 use Rattle.tp_script.proofs.SpellLemmas.{Gap, word_then, solid_more, decimal_solid, moment_back, event_back}
-use Rattle.tp_exec.specs.Step.{asked}
+use Rattle.tp_machine.specs.Step.{asked}
 use Rattle.tp_script.specs.Words.{words_of}
 use Rattle.tp_script.specs.Transcript.{edge_text}
 use Rattle.tp_journal.specs.Edges.{Fits_edge, Fit_edges, edge_of, edges_of, front_of, last_of}

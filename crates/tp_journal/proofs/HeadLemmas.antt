@@ -12,9 +12,9 @@ use Rattle.tp_bounds.specs.declared.Point.{Point}
 use Rattle.tp_bounds.specs.declared.Point.TheVariants.{Origin, Event}
 use Rattle.tp_bounds.specs.Setting.{Setting, event_count, lag_of, HasPoint, IsInRange}
 use Rattle.tp_bounds.specs.Lawful.{IsLawful, Suits}
-use Rattle.tp_exec.specs.declared.command.Kind.{Kind}
-use Rattle.tp_exec.specs.declared.command.Kind.TheVariants.{Bare, Kept, Altered}
-use Rattle.tp_exec.specs.Machine.{Machine}
+use Rattle.tp_machine.specs.declared.command.Kind.{Kind}
+use Rattle.tp_machine.specs.declared.command.Kind.TheVariants.{Bare, Kept, Altered}
+use Rattle.tp_machine.specs.Machine.{Machine}
 use Rattle.tp_journal.specs.Journal.{IsHead, IsVersion, IsWritable, IsWritablePoint, IsWritableWeight, AreLags, head_of, lags_of, lags_from, own_of, own_by, bounds_from, before_bounds}
 use Rattle.tp_journal.specs.Writing.{IsNewExecutive, AllAreInForce}
 use Rattle.tp_journal.proofs.WriteLemmas.{own_count, new_in_force}

@@ -8,14 +8,14 @@ use Rattle.tp_bounds.specs.declared.Point.TheVariants.{Origin, Event}
 use Rattle.tp_bounds.specs.declared.Bound.{Bound}
 use Rattle.tp_bounds.specs.declared.Edge.{Edge}
 use Rattle.tp_bounds.specs.Reasons.{BeginApart}
-use Rattle.tp_journal.specs.Reasons.{place_of}
+use Rattle.tp_net.specs.Arcs.{number_of}
 
 -- the marks are those of the points at which the bounds begin, as far as they have a place
 pub record Marked (marks : List Bool) (bs : List Bound) : Type 0 where
-  pub unmarked : (p : Point) → place_of p < length marks → get_or marks (place_of p) false ≡ false → AllByRecursion (λ b. p ≢ b.from) bs
-  pub marked : (p : Point) → get_or marks (place_of p) false ≡ true → AllByRecursion (λ b. p ≢ b.from) bs → ⊥
+  pub unmarked : (p : Point) → number_of p < length marks → get_or marks (number_of p) false ≡ false → AllByRecursion (λ b. p ≢ b.from) bs
+  pub marked : (p : Point) → get_or marks (number_of p) false ≡ true → AllByRecursion (λ b. p ≢ b.from) bs → ⊥
 
-same_place : (p q : Point) → place_of p ≡ place_of q → p ≡ q
+same_place : (p q : Point) → number_of p ≡ number_of q → p ≡ q
 same_place Origin Origin h = refl
 same_place Origin (Event e) h = absurd (let f : ⊥ = omega arith in f)
 same_place (Event e) Origin h = absurd (let f : ⊥ = omega arith in f)
@@ -23,33 +23,33 @@ same_place (Event e) (Event k) h = let f : e ≡ k = omega arith in ap (λ n. Ev
 
 pub marked_none : (marks : List Bool) → ((k : ℕ) → get_or marks k false ≡ false) → Marked marks []
 marked_none marks none =
-    record { unmarked = λ p lt is. tt; marked = λ p is all. (let f : true ≡ false = sym is ∙ none (place_of p) in let g : ⊥ = cc in g) }
+    record { unmarked = λ p lt is. tt; marked = λ p is all. (let f : true ≡ false = sym is ∙ none (number_of p) in let g : ⊥ = cc in g) }
 
-pub marked_more : (marks : List Bool) (bs : List Bound) (b : Bound) → place_of b.from < length marks → Marked marks bs → Marked (set marks (place_of b.from) true) (b ∷ bs)
+pub marked_more : (marks : List Bool) (bs : List Bound) (b : Bound) → number_of b.from < length marks → Marked marks bs → Marked (set marks (number_of b.from) true) (b ∷ bs)
 marked_more marks bs b there h =
     record {
       unmarked = λ p lt is. (
-          elim (cases_eq (place_of p) (place_of b.from)) [
+          elim (cases_eq (number_of p) (number_of b.from)) [
             | inl same ↦
-                let one : get_or (set marks (place_of b.from) true) (place_of b.from) false ≡ true = get_or-set_same marks (place_of b.from) true false there in
-                let f : true ≡ false = sym one ∙ (ap (λ k. get_or (set marks (place_of b.from) true) k false) (sym same) ∙ is) in
+                let one : get_or (set marks (number_of b.from) true) (number_of b.from) false ≡ true = get_or-set_same marks (number_of b.from) true false there in
+                let f : true ≡ false = sym one ∙ (ap (λ k. get_or (set marks (number_of b.from) true) k false) (sym same) ∙ is) in
                 absurd (let g : ⊥ = cc in g)
             | inr ne ↦ (
-              λ e. ne (ap place_of e),
-              h.unmarked p (omega (arith, lt, length-set marks (place_of b.from) true)) (sym (get_or-set_other marks (place_of b.from) (place_of p) true false ne) ∙ is),
+              λ e. ne (ap number_of e),
+              h.unmarked p (omega (arith, lt, length-set marks (number_of b.from) true)) (sym (get_or-set_other marks (number_of b.from) (number_of p) true false ne) ∙ is),
             )
           ]);
       marked = λ p is all. (
-          elim (cases_eq (place_of p) (place_of b.from)) [
+          elim (cases_eq (number_of p) (number_of b.from)) [
             | inl same ↦ all.0 (same_place p b.from same)
-            | inr ne ↦ h.marked p (sym (get_or-set_other marks (place_of b.from) (place_of p) true false ne) ∙ is) all.1
+            | inr ne ↦ h.marked p (sym (get_or-set_other marks (number_of b.from) (number_of p) true false ne) ∙ is) all.1
           ]);
     }
 
-pub marked_far : (marks : List Bool) (bs : List Bound) (b : Bound) → length marks ≤ place_of b.from → Marked marks bs → Marked marks (b ∷ bs)
+pub marked_far : (marks : List Bool) (bs : List Bound) (b : Bound) → length marks ≤ number_of b.from → Marked marks bs → Marked marks (b ∷ bs)
 marked_far marks bs b far h =
     record {
-      unmarked = λ p lt is. (λ e. absurd (let same : place_of p ≡ place_of b.from = ap place_of e in let f : ⊥ = omega (arith, same) in f), h.unmarked p lt is);
+      unmarked = λ p lt is. (λ e. absurd (let same : number_of p ≡ number_of b.from = ap number_of e in let f : ⊥ = omega (arith, same) in f), h.unmarked p lt is);
       marked = λ p is all. h.marked p is all.1;
     }
 

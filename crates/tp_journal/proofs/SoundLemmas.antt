@@ -6,15 +6,15 @@ use Rattle.tp_bounds.specs.Setting.{Setting}
 use Rattle.tp_bounds.specs.Changes.{with_bound}
 use Rattle.tp_bounds.specs.OwnBounds.{with_bounds}
 use Rattle.tp_bounds.specs.RunLimits.{RunLimits}
-use Rattle.tp_exec.specs.Machine.{Machine, IsFresh, new_machine, plan_machine}
-use Rattle.tp_exec.specs.declared.command.Command.{Command}
-use Rattle.tp_exec.specs.declared.command.Command.TheVariants.{Advance, Add, Withdraw, Window, Dispatch, Happened, Report as Tell}
-use Rattle.tp_exec.specs.declared.command.Answer.{Answer}
-use Rattle.tp_exec.specs.declared.command.Answer.TheVariants.{Accepted, Named, Told, Reported, Refused}
-use Rattle.tp_exec.specs.declared.refusal.Refusal.{Refusal}
-use Rattle.tp_exec.specs.Step.{Step, Decides, first_refusal, accepted}
-use Rattle.tp_exec.proofs.Ready.{unused_added, unused_removed}
-use Rattle.tp_exec.proofs.OwnBounds.{unused_behind}
+use Rattle.tp_machine.specs.Machine.{Machine, IsFresh, new_machine, plan_machine}
+use Rattle.tp_machine.specs.declared.command.Command.{Command}
+use Rattle.tp_machine.specs.declared.command.Command.TheVariants.{Advance, Add, Withdraw, Window, Dispatch, Happened, Report as Tell}
+use Rattle.tp_machine.specs.declared.command.Answer.{Answer}
+use Rattle.tp_machine.specs.declared.command.Answer.TheVariants.{Accepted, Named, Told, Reported, Refused}
+use Rattle.tp_machine.specs.declared.refusal.Refusal.{Refusal}
+use Rattle.tp_machine.specs.Step.{Step, Decides, first_refusal, accepted}
+use Rattle.tp_machine.proofs.Ready.{unused_added, unused_removed}
+use Rattle.tp_machine.proofs.OwnBounds.{unused_behind}
 use Rattle.tp_journal.specs.Sound.{IsSound}
 use Rattle.tp_journal.specs.Writing.{IsNewExecutive}
 

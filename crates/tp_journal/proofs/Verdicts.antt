@@ -5,14 +5,14 @@ use Rattle.tp_bounds.specs.declared.BoundId.{BoundId}
 use Rattle.tp_bounds.specs.declared.Bound.{Bound}
 use Rattle.tp_bounds.specs.Schedule.{IsWindow, HasSchedule}
 use Rattle.tp_bounds.specs.Setting.{event_count, fixed_at}
-use Rattle.tp_exec.specs.declared.command.Command.{Command}
-use Rattle.tp_exec.specs.declared.command.Kind.{Kind}
-use Rattle.tp_exec.specs.declared.command.Command.TheVariants.{Advance, Add, Withdraw, Window, Dispatch, Happened, Report as Tell}
-use Rattle.tp_exec.specs.declared.command.Answer.{Answer}
-use Rattle.tp_exec.specs.declared.command.Answer.TheVariants.{Accepted, Named, Told, Reported, Refused}
-use Rattle.tp_exec.specs.declared.command.Report.{Report}
-use Rattle.tp_exec.specs.declared.refusal.Refusal.{Refusal}
-use Rattle.tp_exec.specs.declared.refusal.Refusal.TheVariants.{NoEvent, Done, NoBound, Weight, Back, Moment, Full, Spent, Memory, Conflict}
+use Rattle.tp_machine.specs.declared.command.Command.{Command}
+use Rattle.tp_machine.specs.declared.command.Kind.{Kind}
+use Rattle.tp_machine.specs.declared.command.Command.TheVariants.{Advance, Add, Withdraw, Window, Dispatch, Happened, Report as Tell}
+use Rattle.tp_machine.specs.declared.command.Answer.{Answer}
+use Rattle.tp_machine.specs.declared.command.Answer.TheVariants.{Accepted, Named, Told, Reported, Refused}
+use Rattle.tp_machine.specs.declared.command.Report.{Report}
+use Rattle.tp_machine.specs.declared.refusal.Refusal.{Refusal}
+use Rattle.tp_machine.specs.declared.refusal.Refusal.TheVariants.{NoEvent, Done, NoBound, Weight, Back, Moment, Full, Spent, Memory, Conflict}
 use Rattle.tp_bounds.specs.declared.Edge.{Edge}
 use Rattle.tp_bounds.specs.declared.Reason.{Reason}
 use Rattle.tp_bounds.specs.Reasons.{IsReason, BeginsWith}
@@ -23,9 +23,9 @@ use Rattle.tp_script.specs.Words.{words_of}
 use Rattle.tp_journal.specs.Edges.{edges_of}
 use Rattle.tp_journal.specs.Reasons.{may_conflict}
 use Rattle.tp_journal.proofs.EdgeTexts.{edges_back, fits_reason}
-use Rattle.tp_exec.specs.Machine.{Machine}
+use Rattle.tp_machine.specs.Machine.{Machine}
 use Rattle.tp_journal.specs.Sound.{IsSound}
-use Rattle.tp_exec.specs.Step.{Step, Decides, Refuses, Tells, IsReport, AreMoments, first_refusal, accepted, may_want_memory, asked, brings}
+use Rattle.tp_machine.specs.Step.{Step, Decides, Refuses, Tells, IsReport, AreMoments, first_refusal, accepted, may_want_memory, asked, brings}
 use Rattle.tp_script.specs.Transcript.{answer_text, edge_text, kind_text, moment_text}
 use Rattle.tp_journal.specs.Allowed.{Allows, IsAllowed, IsJudged, verdict_of}
 use Rattle.tp_journal.specs.Edges.{begins}

@@ -8,11 +8,11 @@ use Rattle.std.specs.Io.KnownBytes.{Appends}
 use Rattle.tp_device.specs.Bytes.{AppendsPart, Writes, failures_after}
 use Rattle.tp_device.specs.declared.Failed.{Failed}
 use Rattle.tp_device.proofs.Parts.{appends_more, appends_none, appends_is, part_after}
-use Rattle.tp_exec.specs.Machine.{Machine}
-use Rattle.tp_exec.specs.declared.command.Command.{Command}
-use Rattle.tp_exec.specs.declared.command.Command.TheVariants.{Advance, Add, Withdraw, Window, Dispatch, Happened, Report}
-use Rattle.tp_exec.specs.declared.command.Answer.{Answer}
-use Rattle.tp_exec.specs.Step.{Step}
+use Rattle.tp_machine.specs.Machine.{Machine}
+use Rattle.tp_machine.specs.declared.command.Command.{Command}
+use Rattle.tp_machine.specs.declared.command.Command.TheVariants.{Advance, Add, Withdraw, Window, Dispatch, Happened, Report}
+use Rattle.tp_machine.specs.declared.command.Answer.{Answer}
+use Rattle.tp_machine.specs.Step.{Step}
 use Rattle.tp_script.specs.Pending.{Reading}
 use Rattle.tp_script.specs.Reading.{TakesWhole}
 use Rattle.tp_script.specs.Words.{words_of, words_from}
@@ -23,7 +23,7 @@ use Rattle.std.specs.Ordering.{nat_cmp}
 use Rattle.std.specs.FinMap.{FinMap, get}
 use Rattle.tp_bounds.specs.declared.Bound.{Bound}
 use Rattle.tp_bounds.specs.Setting.{event_count}
-use Rattle.tp_exec.proofs.OwnBounds.{own_there}
+use Rattle.tp_machine.proofs.OwnBounds.{own_there}
 use Rattle.tp_script.specs.Serving.{commands_of}
 use Rattle.tp_script.proofs.LineLemmas.{consumes_more, consumes_same}
 use Rattle.tp_script.proofs.ServeLemmas.{command_words, in_order, in_order_none, at_true, free_none, appends_end, goes_none, goes_more, split_more, transcript_more}

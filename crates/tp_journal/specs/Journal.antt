@@ -8,13 +8,13 @@ use Rattle.tp_bounds.specs.declared.Bound.{Bound}
 use Rattle.tp_bounds.specs.declared.Point.{Point}
 use Rattle.tp_bounds.specs.declared.Point.TheVariants.{Origin, Event}
 use Rattle.tp_bounds.specs.Setting.{event_count}
-use Rattle.tp_exec.specs.declared.command.Kind.{Kind}
-use Rattle.tp_exec.specs.declared.command.Kind.TheVariants.{Bare, Kept, Altered}
-use Rattle.tp_exec.specs.declared.command.Command.{Command}
-use Rattle.tp_exec.specs.declared.command.Command.TheVariants.{Advance, Add, Withdraw, Window, Dispatch, Happened, Report}
-use Rattle.tp_exec.specs.declared.command.Answer.{Answer}
-use Rattle.tp_exec.specs.Machine.{Machine}
-use Rattle.tp_exec.specs.Step.{Step}
+use Rattle.tp_machine.specs.declared.command.Kind.{Kind}
+use Rattle.tp_machine.specs.declared.command.Kind.TheVariants.{Bare, Kept, Altered}
+use Rattle.tp_machine.specs.declared.command.Command.{Command}
+use Rattle.tp_machine.specs.declared.command.Command.TheVariants.{Advance, Add, Withdraw, Window, Dispatch, Happened, Report}
+use Rattle.tp_machine.specs.declared.command.Answer.{Answer}
+use Rattle.tp_machine.specs.Machine.{Machine}
+use Rattle.tp_machine.specs.Step.{Step}
 use Rattle.tp_script.specs.Transcript.{answer_text}
 use Rattle.tp_script.specs.Written.{command_text, bound_text, IsSpelled}
 

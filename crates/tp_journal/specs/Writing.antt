@@ -5,11 +5,11 @@ use Rattle.std.specs.Io.KnownBytes.{Appends, Consumes, IsAtEnd}
 use Rattle.tp_device.specs.Bytes.{AppendsPart}
 use Rattle.tp_bounds.specs.declared.Bound.{Bound}
 use Rattle.tp_bounds.specs.Setting.{Setting}
-use Rattle.tp_exec.specs.Machine.{Machine, IsFresh, new_machine, plan_machine}
-use Rattle.tp_exec.specs.declared.command.Answer.{Answer}
-use Rattle.tp_exec.specs.declared.command.Kind.TheVariants.{Bare}
-use Rattle.tp_exec.specs.declared.command.Command.{Command}
-use Rattle.tp_exec.specs.Step.{Step}
+use Rattle.tp_machine.specs.Machine.{Machine, IsFresh, new_machine, plan_machine}
+use Rattle.tp_machine.specs.declared.command.Answer.{Answer}
+use Rattle.tp_machine.specs.declared.command.Kind.TheVariants.{Bare}
+use Rattle.tp_machine.specs.declared.command.Command.{Command}
+use Rattle.tp_machine.specs.Step.{Step}
 use Rattle.tp_script.specs.Words.{words_of}
 use Rattle.tp_script.specs.Commands.{command_of, list_is_empty}
 use Rattle.tp_script.specs.Transcript.{line_of, refused_line, Transcript}

@@ -1,9 +1,9 @@
 //! Whether an answer is one that the machine allows.
 
 ghost use Rattle.std.specs.Prelude.{◌≡◌, ◌↔◌, IsTrue, ℕ, List, ◌++◌, true, false, Some, None, drop, codes};
-ghost use Rattle.tp_exec.specs.declared.command.Answer.TheVariants.{Refused};
-ghost use Rattle.tp_exec.specs.declared.refusal.Refusal.TheVariants.{Memory};
-ghost use Rattle.tp_exec.specs.Step.{first_refusal};
+ghost use Rattle.tp_machine.specs.declared.command.Answer.TheVariants.{Refused};
+ghost use Rattle.tp_machine.specs.declared.refusal.Refusal.TheVariants.{Memory};
+ghost use Rattle.tp_machine.specs.Step.{first_refusal};
 ghost use Rattle.tp_journal.specs.Allowed.{IsJudged, verdict_of};
 ghost use Rattle.tp_journal.specs.Edges.{begins, edges_of};
 ghost use Rattle.tp_journal.specs.Sound.{IsSound};
@@ -15,7 +15,7 @@ use crate::reasons::{begins_with_brought, can_conflict, is_reason};
 use crate::refusals::{may_grow, refused_first};
 use std::alloc::{AllocError, Global};
 use tp_bounds::Reason;
-use tp_exec::{Answer, Command, Executive, Refusal, perform};
+use tp_machine::{Answer, Command, Executive, Refusal, perform};
 use tp_net::Net;
 
 /// What is found of an answer.

@@ -7,13 +7,14 @@ ghost use Rattle.tp_bounds.specs.declared.Point.{Point};
 ghost use Rattle.tp_bounds.specs.Setting.{fixed_at, event_count, floor_of};
 ghost use Rattle.tp_bounds.specs.Reasons.{at_most, at_least, is_open, bound_of, BeginApart, weight_of, IsReason, BeginsWith};
 ghost use Rattle.tp_bounds.specs.Certificates.{bounds_of, IsChain, IsClosedChain};
-ghost use Rattle.tp_exec.specs.Step.{asked, brings};
-ghost use Rattle.tp_journal.specs.Reasons.{may_conflict, place_of, Marks};
+ghost use Rattle.tp_machine.specs.Step.{asked, brings};
+ghost use Rattle.tp_journal.specs.Reasons.{may_conflict, Marks};
 ghost use Rattle.tp_journal.specs.Sound.{IsSound};
 
-use tp_bounds::{Bound, BoundId, Edge, Point};
-use tp_exec::{Command, Executive};
+use tp_bounds::{Bound, BoundId, Edge, Point, at_least, at_most};
+use tp_machine::{Command, Executive};
 use tp_net::Net;
+use tp_net::edges::number;
 
 /// Whether a command can be answered Conflict.
 pub(crate) fn can_conflict(command: Command) -> bool
@@ -113,28 +114,6 @@ fn floor_then<N: Net>(executive: &Executive<N>, command: Command, e: u16) -> u32
     clock_then(executive, command).saturating_sub(executive.net().lag(e))
 }
 
-/// The bound by which an event happens no later than a moment.
-fn at_most(e: u16, moment: u32) -> Bound
-    ensures { result ≡ at_most e moment }
-{
-    Bound {
-        from: Point::Origin,
-        to: Point::Event(e),
-        w: i64::from(moment),
-    }
-}
-
-/// The bound by which an event happens no earlier than a moment.
-fn at_least(e: u16, moment: u32) -> Bound
-    ensures { result ≡ at_least e moment }
-{
-    Bound {
-        from: Point::Event(e),
-        to: Point::Origin,
-        w: -i64::from(moment),
-    }
-}
-
 /// The bound that an edge would stand for, if there would be such an edge.
 fn edge_then<N: Net>(executive: &Executive<N>, command: Command, edge: Edge) -> Option<Bound>
     requires conflict { may_conflict command ≡ true }
@@ -220,16 +199,6 @@ fn none_begins<N: Net>(
     true
 }
 
-/// The place of a point among marks: the origin's is the first.
-fn place(point: Point) -> usize
-    ensures { result ≡ place_of point }
-{
-    match point {
-        Point::Origin => 0,
-        Point::Event(e) => usize::from(e) + 1,
-    }
-}
-
 /// No mark, for as many points as a network has at the most.
 fn no_marks() -> [bool; 1_025]
     ensures { (k : ℕ) → slice_index_or result k false ≡ false }
@@ -241,7 +210,7 @@ fn no_marks() -> [bool; 1_025]
 fn mark(marks: &mut [bool], point: Point) -> Option<bool>
     ensures { Marks marks.old marks.new point result }
 {
-    let place = place(point);
+    let place = number(point);
     if marks.len() <= place {
         return None;
     }

@@ -2,10 +2,10 @@
 
 ghost use Rattle.std.specs.Prelude.{◌≡◌, Bool};
 ghost use Rattle.tp_bounds.specs.Setting.{event_count};
-ghost use Rattle.tp_exec.specs.Step.{first_refusal, is_in_range, may_want_memory};
+ghost use Rattle.tp_machine.specs.Step.{first_refusal, is_in_range, may_want_memory};
 
 use tp_bounds::{Bound, BoundId};
-use tp_exec::{Command, Executive, GREATEST_WEIGHT, Refusal, is_point};
+use tp_machine::{Command, Executive, GREATEST_WEIGHT, Refusal, is_point};
 use tp_net::Net;
 
 /// Whether a weight is in range.

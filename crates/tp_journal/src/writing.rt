@@ -12,7 +12,7 @@ ghost use Rattle.tp_journal.specs.Writing.{HeadIsOne, IsNewExecutive, AllAreInFo
 use crate::faults::JournalFault;
 use tp_bounds::BoundId;
 use tp_device::{Failed, Sink, Source, push_all};
-use tp_exec::{Answer, Command, Executive, Kind, perform};
+use tp_machine::{Answer, Command, Executive, Kind, perform};
 use tp_net::Net;
 use tp_script::{
     LineFault, Lines, Next, Served, next_word, read_command, write_answer, write_bound,

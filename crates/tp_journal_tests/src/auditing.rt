@@ -8,7 +8,7 @@ use std::sync::ledger::{Blank, Ledger};
 use tp_audit::{AuditFault, JournalHead, audit, journal_head};
 use tp_bounds::Limits;
 use tp_device::FromRead;
-use tp_exec::Executive;
+use tp_machine::Executive;
 use tp_net::{Net, ScratchNet};
 use tp_script::{Lines, ServeFault};
 

@@ -5,8 +5,8 @@ ghost use Rattle.tp_journal.specs.Sound.{IsSound};
 
 use std::alloc::{AllocError, Global};
 use tp_bounds::Limits;
-use tp_exec::Executive;
 use tp_journal::{Finding, judge};
+use tp_machine::Executive;
 use tp_net::ScratchNet;
 use tp_script::read_command;
 

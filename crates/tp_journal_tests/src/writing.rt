@@ -8,8 +8,8 @@ use std::marker::Brand;
 use std::sync::ledger::{Blank, Ledger};
 use tp_bounds::Limits;
 use tp_device::{FromRead, ToWrite};
-use tp_exec::Executive;
 use tp_journal::{JournalFault, journal};
+use tp_machine::Executive;
 use tp_net::ScratchNet;
 use tp_script::{Lines, ServeFault, Served, read_head, read_lags};
 

@@ -8,7 +8,7 @@ use Rattle.std.proofs.lemmas.List.{length-replicate}
 use Rattle.tp_bounds.specs.Setting.{Setting, event_count}
 use Rattle.tp_net.specs.NewNet.{new_setting}
 use Rattle.tp_bounds.specs.RunLimits.{RunLimits}
-use Rattle.tp_exec.specs.Machine.{Machine}
+use Rattle.tp_machine.specs.Machine.{Machine}
 use Rattle.tp_files.specs.FaultLines.{Tells}
 use Rattle.tp_audit.specs.Telling.{IsHeadTold}
 use Rattle.tp_audit.specs.declared.faults.JournalHead.{JournalHead}

@@ -1,7 +1,7 @@
 -- What the audit of a journal in a file finds, against an executive.
 use Rattle.std.specs.Prelude.{◌≡◌, ℕ, ◌+◌, List, ◌++◌, Option, Bool, true, false, Result, Ok, Err, IfSome, codes, decimal}
 use Rattle.std.specs.Io.KnownBytes.{Appends}
-use Rattle.tp_exec.specs.Machine.{Machine}
+use Rattle.tp_machine.specs.Machine.{Machine}
 use Rattle.tp_script.specs.Pending.{Reading}
 use Rattle.tp_journal.specs.Journal.{IsJournalText}
 use Rattle.tp_audit.specs.Auditing.{BreaksLine, DisallowsAt, HasOtherHead}

@@ -5,7 +5,7 @@ use Rattle.std.specs.Io.KnownBytes.{Appends}
 use Rattle.tp_device.specs.Bytes.{AppendsPart}
 use Rattle.tp_bounds.specs.Setting.{Setting}
 use Rattle.tp_bounds.specs.Changes.{with_lag}
-use Rattle.tp_exec.specs.Machine.{Machine}
+use Rattle.tp_machine.specs.Machine.{Machine}
 use Rattle.tp_files.specs.FaultLines.{Tells}
 use Rattle.tp_audit.specs.Auditing.{HasOtherHead}
 use Rattle.tp_audit.specs.Telling.{IsHeadTold}

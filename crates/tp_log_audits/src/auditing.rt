@@ -9,8 +9,8 @@ use crate::audit_lines::AuditStop;
 use std::alloc::Global;
 use tp_audit::{AuditFault, JournalHead, audit, journal_head};
 use tp_device::Source;
-use tp_exec::Executive;
 use tp_files::Files;
+use tp_machine::Executive;
 use tp_repair::RepairNet;
 use tp_script::Lines;
 

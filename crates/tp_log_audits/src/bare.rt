@@ -2,7 +2,7 @@
 
 ghost use Rattle.std.specs.Prelude.{◌≡◌, ◌≢◌, ◌≤◌, ℕ, List, [], IsTrue, ◌↔◌, IfOk, IfErr};
 ghost use Rattle.std.specs.List.{All};
-ghost use Rattle.tp_exec.specs.Machine.{IsFresh};
+ghost use Rattle.tp_machine.specs.Machine.{IsFresh};
 ghost use Rattle.tp_files.specs.FaultLines.{TellsFault};
 ghost use Rattle.tp_journal.specs.Writing.{IsNewExecutive};
 ghost use Rattle.tp_bounds.specs.Setting.{event_count};
@@ -16,8 +16,8 @@ use std::alloc::{AllocError, Global};
 use tp_audit::JournalHead;
 use tp_bounds::{Limits, MOST_EVENTS, MOST_HORIZON, MOST_LAG};
 use tp_device::Sink;
-use tp_exec::Executive;
 use tp_files::{Files, OUT_OF_ORDER, REFUSED, complain};
+use tp_machine::Executive;
 use tp_net::Net;
 use tp_repair::RepairNet;
 

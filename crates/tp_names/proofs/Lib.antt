@@ -2,6 +2,6 @@ pub mod OnTerms
 pub mod OnNames
 pub mod OnSymbols
 pub mod OnTypedLists
-pub mod OnForms
+pub mod OnSignatures
 pub mod OnTypes
 pub mod OnDeclared

@@ -1,6 +1,6 @@
 use Rattle.std.proofs.Common.{◌≡◌, List, [], ◌∷◌, ◌++◌, map, Bool, true, false, cond, Option, Some, None, option_map, string_bytes, Bor, refl, sym, ap, ◌∙◌, rules}
 use Rattle.std.specs.Str.{bytes_eq}
-use Rattle.tp_ast.specs.Symbols.{Name, Declared, typed_view, form_view, types_of, form_of}
+use Rattle.tp_ast.specs.Symbols.{Name, Declared, typed_view, signature_view, types_of, signature_of}
 use Rattle.tp_names.specs.SymbolViews.{scope_view}
 use Rattle.tp_types.specs.Tables.{item_of}
 use Rattle.tp_ast.specs.declared.symbols.Signature.{Signature}
@@ -42,8 +42,8 @@ types_of_found n (d ∷ ds) =
     let found = item_of (λ (e : Typed). string_bytes e.name) n ds in
     ap (cond (bytes_eq (string_bytes d.name) n) (Some (view d))) (types_of_found n ds) ∙ sym (seen view (bytes_eq (string_bytes d.name) n) d found)
 
-pub form_found : (n : Name) (fs : List Signature) → form_of n (map form_view fs) ≡ option_map form_view (item_of (λ (f : Signature). string_bytes f.name) n fs)
-form_found n [] = refl
-form_found n (f ∷ fs) =
+pub signature_found : (n : Name) (fs : List Signature) → signature_of n (map signature_view fs) ≡ option_map signature_view (item_of (λ (f : Signature). string_bytes f.name) n fs)
+signature_found n [] = refl
+signature_found n (f ∷ fs) =
     let found = item_of (λ (g : Signature). string_bytes g.name) n fs in
-    ap (cond (bytes_eq (string_bytes f.name) n) (Some (form_view f))) (form_found n fs) ∙ sym (seen form_view (bytes_eq (string_bytes f.name) n) f found)
+    ap (cond (bytes_eq (string_bytes f.name) n) (Some (signature_view f))) (signature_found n fs) ∙ sym (seen signature_view (bytes_eq (string_bytes f.name) n) f found)

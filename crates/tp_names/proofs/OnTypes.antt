@@ -11,7 +11,7 @@ use Rattle.tp_types.specs.NameSets.{insert_key}
 use Rattle.tp_ast.specs.Symbols.{Name, Parent, parent_view}
 use Rattle.tp_ast.specs.declared.types.TypeName.{TypeName}
 use Rattle.tp_ast.specs.Domains.{object, is_object, mentioned, with_mentioned, no_cycle, types_from}
-use Rattle.tp_names.specs.FormViews.{Knows, names_in, to_mention}
+use Rattle.tp_names.specs.SignatureViews.{Knows, names_in, to_mention}
 
 abbrev same_text : Bor (List ℕ) → Bor (List ℕ) → Bool
 same_text x y = bytes_eq x.now y.now

@@ -1,3 +1,3 @@
 pub mod VariableTables
-pub mod FormViews
+pub mod SignatureViews
 pub mod SymbolViews

@@ -1,6 +1,6 @@
 -- What may be named, and the variables in scope, as lists.
 use Rattle.std.specs.Prelude.{List, [], ◌++◌, map}
-use Rattle.tp_ast.specs.Symbols.{Declared, Symbols, typed_view, form_view}
+use Rattle.tp_ast.specs.Symbols.{Declared, Symbols, typed_view, signature_view}
 use Rattle.tp_types.specs.TypeViews.{types_view}
 use Rattle.tp_names.specs.declared.symbols.Symbols as declared
 use Rattle.tp_names.specs.declared.symbols.Scope.{Scope, fold-Scope}
@@ -20,6 +20,6 @@ symbols_view s =
       types = types_view s.types;
       objects = map typed_view s.constants ++ map typed_view
           s.objects;
-      predicates = map form_view s.predicates;
-      functions = map form_view s.functions;
+      predicates = map signature_view s.predicates;
+      functions = map signature_view s.functions;
     }

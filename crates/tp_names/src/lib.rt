@@ -1,14 +1,14 @@
 //! Reads names, typed lists and declarations, and finds what a name means.
 //!
 //! - `head`, `lists`: what stands at the head of a text, and lists of a known length
-//! - `type_reader`, `typed`, `forms`: types, typed lists, predicates and functions, as they are declared
+//! - `type_reader`, `typed`, `signatures`: types, typed lists, predicates and functions, as they are declared
 //! - `symbols`, `variables`: what was declared, found by its name
 //! - `term`: names, terms and atoms that speak of it
 #![tactic(auto)]
 
-pub mod forms;
 pub mod head;
 pub mod lists;
+pub mod signatures;
 pub mod symbols;
 pub mod term;
 pub mod type_reader;

@@ -3,7 +3,7 @@
 ghost use Rattle.std.specs.Prelude.{◌≡◌, map, option_map, string_bytes, IfOk};
 ghost use Rattle.std.specs.Option.{is_some};
 ghost use Rattle.tp_ast.specs.Terms.{term_view, shapes, atom_view};
-ghost use Rattle.tp_ast.specs.Symbols.{typed_view, types_of, form_view, form_of, argument_types, argument_fits, arguments_fit, atom_in};
+ghost use Rattle.tp_ast.specs.Symbols.{typed_view, types_of, signature_view, signature_of, argument_types, argument_fits, arguments_fit, atom_in};
 ghost use Rattle.tp_names.specs.SymbolViews.{scope_view, symbols_view};
 ghost use Rattle.tp_ast.specs.Gives.{Gives};
 
@@ -70,11 +70,11 @@ pub struct Symbols<'a> {
     pub functions: Lookup<'a, Signature>,
 }
 
-fn form_of<'a>(name: &str, forms: &Lookup<'a, Signature>) -> Option<&'a Signature>
-    ensures { option_map (λ f. form_view f.now) result
-        ≡ form_of name.now (map form_view forms.now) }
+fn signature_of<'a>(name: &str, signatures: &Lookup<'a, Signature>) -> Option<&'a Signature>
+    ensures { option_map (λ f. signature_view f.now) result
+        ≡ signature_of name.now (map signature_view signatures.now) }
 {
-    forms.find(name)
+    signatures.find(name)
 }
 
 // The types of an object that is declared.
@@ -169,21 +169,22 @@ fn arguments_fault(
 pub fn atom_in(
     alloc: Global,
     symbols: &Symbols,
-    forms: &Lookup<Signature>,
+    signatures: &Lookup<Signature>,
     scope: &Scope,
     word: &Token,
     args: &[Tree],
     at: u32,
 ) -> Result<Atom, SyntaxFault>
     ensures { Gives atom_view result (atom_in (symbols_view symbols.now)
-        (map form_view forms.now) (scope_view scope.now) word.now.text.now (shapes args.now)) }
+        (map signature_view signatures.now) (scope_view scope.now) word.now.text.now
+        (shapes args.now)) }
 {
     let name = name_of(alloc, word.text, at)?;
-    let Some(form) = form_of(name.as_str(), forms) else {
+    let Some(signature) = signature_of(name.as_str(), signatures) else {
         return Err(SyntaxFault::Unknown(word.span.start));
     };
     let terms = terms_of(alloc, args, at)?;
-    if !arguments_fit(alloc, symbols, scope, &terms, &form.parameters)? {
+    if !arguments_fit(alloc, symbols, scope, &terms, &signature.parameters)? {
         return Err(arguments_fault(symbols, scope, &terms, args, at));
     }
     Ok(Atom { name, terms })

@@ -4,7 +4,7 @@ ghost use Rattle.std.specs.Prelude.{◌≡◌, ◌∷◌, ◌||◌, map, filter,
 ghost use Rattle.std.specs.List.{list_all, list_any};
 ghost use Rattle.std.specs.Str.{bytes_eq};
 ghost use Rattle.tp_ast.specs.Domains.{object, above, type_below, is_object, mentioned, with_mentioned, no_cycle, types_from, types_in};
-ghost use Rattle.tp_names.specs.FormViews.{Knows, to_mention};
+ghost use Rattle.tp_names.specs.SignatureViews.{Knows, to_mention};
 ghost use Rattle.tp_ast.specs.Symbols.{Parent, parent_view, typed_view};
 ghost use Rattle.tp_ast.specs.Terms.{shapes};
 ghost use Rattle.tp_ast.specs.Gives.{Gives};

@@ -51,7 +51,7 @@ impl Model for ScratchNet {
 }
 
 /// The greatest moments of the origin and of events that nothing keeps from the horizon.
-fn tops(alloc: Global, events: u16, horizon: u32) -> Result<Vec<u64>, AllocError>
+pub fn tops(alloc: Global, events: u16, horizon: u32) -> Result<Vec<u64>, AllocError>
     ensures { IfOk result (λ r. r.items ≡ 0 ∷ replicate events horizon) }
 {
     let all = vec![in alloc; u64::from(horizon); events as usize]?;
@@ -62,7 +62,7 @@ fn tops(alloc: Global, events: u16, horizon: u32) -> Result<Vec<u64>, AllocError
 }
 
 /// An event that is not dispatched and can't wait until the floor that it has at the moment, if there is one.
-fn late(fixed: &[Option<u32>], high: &[u64], lags: &[u32], now: u32) -> Option<u16>
+pub fn late(fixed: &[Option<u32>], high: &[u64], lags: &[u32], now: u32) -> Option<u16>
     requires events { length fixed.now ≤ 1024 }
     requires points { length high.now ≡ suc (length fixed.now) }
     ensures { MatchOption result

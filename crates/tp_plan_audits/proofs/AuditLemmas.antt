@@ -12,7 +12,7 @@ use Rattle.tp_validate.specs.Answers.{IsVerdict}
 use Rattle.tp_validate.specs.declared.verdicts.Verdict.{Verdict}
 use Rattle.tp_validate.specs.declared.verdicts.Verdict.TheVariants.{Valid, Invalid}
 use Rattle.tp_deorder.specs.Answers.{IsPlanNetOf}
-use Rattle.tp_exec.specs.Machine.{Machine}
+use Rattle.tp_machine.specs.Machine.{Machine}
 use Rattle.tp_files.specs.FaultLines.{Tells}
 use Rattle.tp_audit.specs.Telling.{IsHeadTold}
 use Rattle.tp_audit.specs.declared.faults.JournalHead.{JournalHead}

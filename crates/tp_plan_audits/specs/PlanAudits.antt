@@ -9,7 +9,7 @@ use Rattle.tp_ground.specs.declared.task.Task.{Task}
 use Rattle.tp_happen.specs.declared.plans.Step.{Step}
 use Rattle.tp_validate.specs.OfTask.{plan_of}
 use Rattle.tp_deorder.specs.Answers.{IsPlanNetOf, OnTooMany, PassesLimits}
-use Rattle.tp_exec.specs.Machine.{Machine}
+use Rattle.tp_machine.specs.Machine.{Machine}
 use Rattle.tp_files.specs.FaultLines.{Tells}
 use Rattle.tp_bare.specs.Bare.{first_setting}
 use Rattle.tp_audit.specs.Auditing.{HasOtherHead}

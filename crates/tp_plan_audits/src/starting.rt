@@ -7,8 +7,8 @@ ghost use Rattle.tp_plan_audits.specs.PlanAudits.{LagsFit, audit_machine};
 use std::alloc::{AllocError, Global};
 use tp_audit::JournalHead;
 use tp_bounds::{Limits, PlanNet};
-use tp_exec::Executive;
 use tp_log_audits::{lags_fit, set_lags};
+use tp_machine::Executive;
 use tp_repair::RepairNet;
 
 /// Whether the lags that the head of a journal tells are of events of a plan's network, and in range.

@@ -6,7 +6,7 @@ use Rattle.tp_syntax.specs.Refusals.{IsRefusedDomain}
 use Rattle.tp_ast.specs.Problems.{IsRefusedProblem}
 use Rattle.tp_ground.specs.declared.task.Task.{Task}
 use Rattle.tp_happen.specs.PlanTexts.{IsRefused, SpellsPlan}
-use Rattle.tp_happen.specs.TaskLabels.{labelled}
+use Rattle.tp_happen.specs.TaskWords.{readable}
 use Rattle.tp_happen.specs.declared.plans.Step.{Step}
 use Rattle.tp_files.specs.Texts.{HasFault}
 use Rattle.tp_plan_files.specs.Causes.{Explains}
@@ -48,7 +48,7 @@ pub plan_over : (a b : List ℕ → Option (List ℕ)) (w : PlanWords) (task : T
 plan_over a b w task steps same is =
     record {
       of_task = task_over a b w task same is.of_task;
-      plan_in = in_over a b w.plan.now (λ text. SpellsPlan (labelled task) text steps) same is.plan_in;
+      plan_in = in_over a b w.plan.now (λ text. SpellsPlan (readable task) text steps) same is.plan_in;
     }
 
 pub explains_over : (a b : List ℕ → Option (List ℕ)) (w : PlanWords) (fault : JudgeFault) → Same a b → Explains a w fault → Explains b w fault
@@ -68,6 +68,6 @@ explains_over a b w (faults.Task fault) same h = (
   h.4,
 )
 explains_over a b w (faults.PlanFile fault) same h = subst (λ held. HasFault held fault) (same w.plan.now) h
-explains_over a b w (faults.Plan fault) same h = (h.0, task_over a b w h.0 same h.1, in_over a b w.plan.now (λ text. IsRefused (labelled h.0) text fault) same h.2)
+explains_over a b w (faults.Plan fault) same h = (h.0, task_over a b w h.0 same h.1, in_over a b w.plan.now (λ text. IsRefused (readable h.0) text fault) same h.2)
 explains_over a b w faults.Memory same h = tt
 explains_over a b w faults.Range same h = (h.0, h.1, plan_over a b w h.0 h.1 same h.2, h.3)

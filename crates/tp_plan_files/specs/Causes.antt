@@ -8,7 +8,7 @@ use Rattle.tp_syntax.specs.Refusals.{IsRefusedDomain}
 use Rattle.tp_ground.specs.Grounding.{HasNoTask}
 use Rattle.tp_ground.specs.declared.task.Task as task
 use Rattle.tp_happen.specs.PlanTexts.{IsRefused}
-use Rattle.tp_happen.specs.TaskLabels.{labelled}
+use Rattle.tp_happen.specs.TaskWords.{readable}
 use Rattle.tp_happen.specs.declared.plans.Step.{Step}
 use Rattle.tp_validate.specs.Verdict.{PassesIn}
 use Rattle.tp_files.specs.Texts.{HasFault}
@@ -34,7 +34,7 @@ Explains held w (faults.Task fault) =
 Explains held w (faults.PlanFile fault) = HasFault (held w.plan.now) fault
 Explains held w (faults.Plan fault) =
     (t : task.Task) × IsNamedTask held w t
-    × IsIn (held w.plan.now) (λ text. IsRefused (labelled t) text fault)
+    × IsIn (held w.plan.now) (λ text. IsRefused (readable t) text fault)
 Explains held w faults.Memory = Unit {0}
 Explains held w faults.Range =
     (t : task.Task) × (steps : List Step) × IsNamedPlan held w t steps × PassesIn t steps

@@ -6,7 +6,7 @@ use Rattle.tp_syntax.specs.Problems.{Problem, SpellsProblem}
 use Rattle.tp_ground.specs.Grounding.{IsTask}
 use Rattle.tp_ground.specs.declared.task.Task.{Task}
 use Rattle.tp_happen.specs.PlanTexts.{SpellsPlan}
-use Rattle.tp_happen.specs.TaskLabels.{labelled}
+use Rattle.tp_happen.specs.TaskWords.{readable}
 use Rattle.tp_happen.specs.declared.plans.Step.{Step}
 use Rattle.tp_files.specs.Texts.{HoldsText}
 use Rattle.tp_plan_files.specs.declared.plan_words.PlanWords.{PlanWords}
@@ -35,4 +35,4 @@ pub record IsNamedTask (held : List ℕ → Option (List ℕ)) (w : PlanWords)
 pub record IsNamedPlan (held : List ℕ → Option (List ℕ)) (w : PlanWords) (task : Task)
     (steps : List Step) : Type 0 where
   pub of_task : IsNamedTask held w task
-  pub plan_in : IsIn (held w.plan.now) (λ text. SpellsPlan (labelled task) text steps)
+  pub plan_in : IsIn (held w.plan.now) (λ text. SpellsPlan (readable task) text steps)

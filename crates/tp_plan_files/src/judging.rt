@@ -5,7 +5,7 @@ ghost use Rattle.tp_syntax.specs.DomainViews.{domain_view, problem_view};
 ghost use Rattle.tp_syntax.specs.Domains.{SpellsDomain};
 ghost use Rattle.tp_syntax.specs.Problems.{SpellsProblem};
 ghost use Rattle.tp_happen.specs.PlanTexts.{SpellsPlan};
-ghost use Rattle.tp_happen.specs.TaskLabels.{labelled};
+ghost use Rattle.tp_happen.specs.TaskWords.{readable};
 ghost use Rattle.tp_happen.specs.declared.plans.Step.{Step};
 ghost use Rattle.tp_validate.specs.Answers.{IsVerdict};
 ghost use Rattle.tp_validate.specs.OfTask.{IsOfTask};
@@ -140,7 +140,7 @@ fn plan_in<N: Files>(
     task: &Task,
 ) -> Result<Plan, JudgeFault>
     ensures spelled { IfOk result (λ p. IsIn (N.held files.old words.entry.plan.now) (λ text.
-        SpellsPlan (labelled task.now) text p)) }
+        SpellsPlan (readable task.now) text p)) }
     ensures of_task { IfOk result (IsOfTask task.now) }
     ensures cause { IsNamedTask (N.held files.old) words.entry task.now
         → IfErr result (Explains (N.held files.old) words.entry) }

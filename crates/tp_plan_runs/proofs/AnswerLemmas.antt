@@ -5,12 +5,12 @@ use Rattle.std.specs.Io.KnownBytes.{Consumes, IsAtEnd}
 use Rattle.tp_device.proofs.Parts.{appends_none}
 use Rattle.tp_bounds.specs.Setting.{Setting}
 use Rattle.tp_bounds.specs.declared.plan_nets.PlanNet.{PlanNet}
-use Rattle.tp_exec.specs.Machine.{Machine}
-use Rattle.tp_exec.specs.OwnBounds.{KeepsTo}
-use Rattle.tp_exec.specs.Step.{Step}
-use Rattle.tp_exec.specs.declared.command.Answer.{Answer}
-use Rattle.tp_exec.specs.declared.command.Command.{Command}
-use Rattle.tp_exec.proofs.Keeping.{step_keeps}
+use Rattle.tp_machine.specs.Machine.{Machine}
+use Rattle.tp_machine.specs.OwnBounds.{KeepsTo}
+use Rattle.tp_machine.specs.Step.{Step}
+use Rattle.tp_machine.specs.declared.command.Answer.{Answer}
+use Rattle.tp_machine.specs.declared.command.Command.{Command}
+use Rattle.tp_machine.proofs.Keeping.{step_keeps}
 use Rattle.tp_script.specs.Pending.{Reading}
 use Rattle.tp_script.specs.Reading.{EndsLine, Free, HasMore}
 use Rattle.tp_script.specs.Commands.{command_of, list_is_empty}

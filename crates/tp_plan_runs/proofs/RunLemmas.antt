@@ -12,7 +12,7 @@ use Rattle.tp_validate.specs.OfTask.{IsValidPlan}
 use Rattle.tp_validate.specs.declared.verdicts.Verdict.{Verdict}
 use Rattle.tp_validate.specs.declared.verdicts.Verdict.TheVariants.{Valid, Invalid}
 use Rattle.tp_deorder.specs.Answers.{IsPlanNetOf}
-use Rattle.tp_exec.specs.Machine.{Machine}
+use Rattle.tp_machine.specs.Machine.{Machine}
 use Rattle.tp_script.specs.declared.serving.ServeFault.TheVariants as serving
 use Rattle.tp_files.specs.FaultLines.{Tells}
 use Rattle.tp_files.proofs.FaultLemmas.{whole_part}

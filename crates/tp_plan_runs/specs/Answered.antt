@@ -4,7 +4,7 @@ use Rattle.std.specs.Io.KnownBytes.{Appends}
 use Rattle.tp_device.specs.Bytes.{AppendsPart}
 use Rattle.tp_bounds.specs.Setting.{Setting}
 use Rattle.tp_bounds.specs.declared.plan_nets.PlanNet.{PlanNet}
-use Rattle.tp_exec.specs.Machine.{Machine}
+use Rattle.tp_machine.specs.Machine.{Machine}
 use Rattle.tp_script.specs.Transcript.{lines_of, Transcript}
 use Rattle.tp_script.specs.Reading.{Free}
 use Rattle.tp_script.specs.Lags.{lag_spelled, MaySet, SetsLags}

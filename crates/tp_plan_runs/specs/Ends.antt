@@ -10,7 +10,7 @@ use Rattle.tp_validate.specs.declared.verdicts.Verdict.{Verdict}
 use Rattle.tp_validate.specs.declared.verdicts.Verdict.TheVariants.{Valid, Invalid}
 use Rattle.tp_deorder.specs.Answers.{OnTooMany, PassesLimits}
 use Rattle.tp_exec.specs.FromPlan.{IsPlanOfRun, TellsPlan}
-use Rattle.tp_exec.specs.Machine.{Machine}
+use Rattle.tp_machine.specs.Machine.{Machine}
 use Rattle.tp_bare.specs.declared.bare.BareFault.TheVariants as bare
 use Rattle.tp_plan_files.specs.VerdictLines.{invalid_line}
 use Rattle.tp_plan_runs.specs.Runs.{EndsEarly, EndsInNone, EndsInPart, EndsInPlan, run_lines}

@@ -5,12 +5,12 @@ use Rattle.tp_bounds.specs.RunLimits.{greatest_limits}
 use Rattle.tp_bounds.specs.declared.plan_nets.PlanNet.{PlanNet}
 use Rattle.tp_ground.specs.declared.task.Task.{Task}
 use Rattle.tp_happen.specs.PlanPrints.{plan_text}
-use Rattle.tp_happen.specs.TaskLabels.{labelled}
+use Rattle.tp_happen.specs.TaskWords.{readable}
 use Rattle.tp_happen.specs.declared.plans.Step.{Step}
 use Rattle.tp_validate.specs.OfTask.{IsValidPlan, plan_of}
 use Rattle.tp_deorder.specs.Answers.{IsPlanNetOf, OnTooMany, PassesLimits}
 use Rattle.tp_exec.specs.FromPlan.{IsPlanOfRun, TellsPlan}
-use Rattle.tp_exec.specs.Machine.{Machine}
+use Rattle.tp_machine.specs.Machine.{Machine}
 use Rattle.tp_files.specs.FaultLines.{Tells}
 use Rattle.tp_bare.specs.declared.bare.BareFault.{BareFault}
 use Rattle.tp_plan_files.specs.Causes.{Explains}
@@ -24,7 +24,7 @@ use Rattle.tp_plan_runs.specs.declared.run_lines.RunStop.TheVariants.{Judging, N
 
 -- the lines of the plan of a run
 abbrev pub run_lines : Task → List Step → List ℕ
-run_lines task steps = codes "plan\n" ++ plan_text (labelled task) steps
+run_lines task steps = codes "plan\n" ++ plan_text (readable task) steps
 
 -- All lines were answered on the network of a plan, and behind the answers stands the plan of the run: the steps of the plan at the moments
 -- of the run. It is valid, so it reaches the goal.

@@ -3,7 +3,7 @@ use Rattle.std.specs.Prelude.{◌≡◌, ℕ, List, length, Option, Result, Ok, 
 use Rattle.tp_bounds.specs.RunLimits.{greatest_limits}
 use Rattle.tp_bounds.specs.Setting.{Setting}
 use Rattle.tp_bounds.specs.declared.plan_nets.PlanNet.{PlanNet}
-use Rattle.tp_exec.specs.Machine.{IsFresh, Machine, plan_machine}
+use Rattle.tp_machine.specs.Machine.{IsFresh, Machine, plan_machine}
 use Rattle.tp_script.specs.Pending.{Reading}
 use Rattle.tp_script.specs.Lags.{ReadsLags}
 use Rattle.tp_script.specs.Serving.{Serves}

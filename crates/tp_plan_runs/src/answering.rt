@@ -15,7 +15,7 @@ use std::alloc::Global;
 use tp_bare::BareFault;
 use tp_bounds::PlanNet;
 use tp_device::{Sink, Source};
-use tp_exec::Executive;
+use tp_machine::Executive;
 use tp_repair::RepairNet;
 use tp_script::{LONGEST_LINE, Lines, serve};
 

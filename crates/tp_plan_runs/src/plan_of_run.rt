@@ -12,9 +12,10 @@ ghost use Rattle.tp_plan_runs.specs.Runs.{run_lines};
 use crate::run_lines::RunStop;
 use tp_bare::BareFault;
 use tp_device::{Failed, Sink, push_all};
-use tp_exec::Executive;
+use tp_exec::run_plan;
 use tp_ground::Task;
 use tp_happen::{Plan, print_plan};
+use tp_machine::Executive;
 use tp_repair::RepairNet;
 use tp_validate::ValidPlan;
 
@@ -45,7 +46,7 @@ pub fn tell_run<O: Sink>(
         (O.held output.old) (O.held output.new)) }
     ensures failures { O.failures output.new ≡ run_failures (O.failures output.old) result }
 {
-    match executive.run_plan(plan) {
+    match run_plan(executive, plan) {
         Ok(None) => Ok(false),
         Ok(Some(run)) => match write_lines(&run, plan.task(), output) {
             Ok(()) => Ok(true),

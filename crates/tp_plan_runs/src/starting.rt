@@ -7,7 +7,7 @@ ghost use Rattle.tp_ground.specs.declared.task.Task.{Task};
 ghost use Rattle.tp_happen.specs.declared.plans.Step.{Step};
 ghost use Rattle.tp_deorder.specs.Answers.{IsPlanNetOf};
 ghost use Rattle.tp_exec.specs.FromPlan.{CameFrom};
-ghost use Rattle.tp_exec.specs.Machine.{IsFresh, plan_machine};
+ghost use Rattle.tp_machine.specs.Machine.{IsFresh, plan_machine};
 ghost use Rattle.tp_bare.specs.Bare.{bare_failures};
 ghost use Rattle.tp_plan_runs.specs.Starts.{BeginsRun, IsNewRun};
 
@@ -15,7 +15,7 @@ use std::alloc::{AllocError, Global};
 use tp_bare::BareFault;
 use tp_bounds::{Limits, PlanNet};
 use tp_device::Source;
-use tp_exec::Executive;
+use tp_machine::Executive;
 use tp_repair::RepairNet;
 use tp_script::{Lines, read_lags};
 

@@ -3,7 +3,7 @@ use Rattle.std.proofs.Common.{◌≡◌, ℕ, ◌≤◌, List, Option, Bool, tru
 use Rattle.tp_ground.specs.declared.task.Task.{Task}
 use Rattle.tp_happen.specs.PlanPrints.{PlansAreRead, plan_text}
 use Rattle.tp_happen.specs.PlanTexts.{SpellsPlan}
-use Rattle.tp_happen.specs.TaskLabels.{labelled}
+use Rattle.tp_happen.specs.TaskWords.{readable}
 use Rattle.tp_validate.specs.OfTask.{IsOfTask}
 use Rattle.tp_search.specs.Answers.{IsAnswer}
 use Rattle.tp_search.specs.declared.found.Found.{Found}
@@ -22,14 +22,14 @@ abbrev pub Says : Task → ℕ → ℕ → Found → Bool → Type 0
 Says task budget horizon found true = IsPlanText task horizon (found_text found)
 Says task budget horizon found false = IsNoPlanLine task budget (found_text found)
 
-module _ (read : PlansAreRead) (readable : ActionsAreReadable) (held : List ℕ → Option (List ℕ)) (w : SearchWords) (task : Task) (within : w.horizon ≤ 1000000000) (named : IsNamedTask held (task_words w) task) where
+module _ (read : PlansAreRead) (can_be_read : ActionsAreReadable) (held : List ℕ → Option (List ℕ)) (w : SearchWords) (task : Task) (within : w.horizon ≤ 1000000000) (named : IsNamedTask held (task_words w) task) where
   says : (found : Found) → IsAnswer task w.budget w.horizon found → IsFoundOfTask found → Says task w.budget w.horizon found (is_plan found)
   says (Plan plan) answer of_task =
       let are : IsOfTask task plan.steps = subst (λ (t : Task). IsOfTask t plan.steps) answer.task of_task.1 in
-      let is : plan_text (labelled plan.task) plan.steps ≡ plan_text (labelled task) plan.steps = ap (λ (t : Task). plan_text (labelled t) plan.steps) answer.task in
-      let spells : SpellsPlan (labelled task) (plan_text (labelled plan.task) plan.steps) plan.steps =
-      subst (λ (text : List ℕ). SpellsPlan (labelled task) text plan.steps) (sym is)
-      (plan_read read readable held (task_words w) task within named plan.steps are answer.within) in
+      let is : plan_text (readable plan.task) plan.steps ≡ plan_text (readable task) plan.steps = ap (λ (t : Task). plan_text (readable t) plan.steps) answer.task in
+      let spells : SpellsPlan (readable task) (plan_text (readable plan.task) plan.steps) plan.steps =
+      subst (λ (text : List ℕ). SpellsPlan (readable task) text plan.steps) (sym is)
+      (plan_read read can_be_read held (task_words w) task within named plan.steps are answer.within) in
       record {
         steps = plan.steps;
         of_task = are;
@@ -37,7 +37,7 @@ module _ (read : PlansAreRead) (readable : ActionsAreReadable) (held : List ℕ 
         within = answer.within;
         is = is;
         spells = spells;
-        accepted = plan_accepted (labelled task) (plan_text (labelled plan.task) plan.steps) plan.steps spells of_task.0.few;
+        accepted = plan_accepted (readable task) (plan_text (readable plan.task) plan.steps) plan.steps spells of_task.0.few;
       }
   says Unreachable answer of_task = inl (answer, refl)
   says Exhausted answer of_task = inr (inl (answer, refl))

@@ -16,10 +16,10 @@ use Rattle.tp_ground.specs.Tables.{words_at}
 use Rattle.tp_ground.specs.Words.{Words, same_words}
 use Rattle.tp_ground.specs.declared.task.Task.{Task}
 use Rattle.tp_happen.specs.PlanPrints.{IsReadable, PlansAreRead, plan_text}
-use Rattle.tp_happen.specs.PlanMarks.{is_bare, marks}
-use Rattle.tp_happen.specs.PlanTexts.{IsAccepted, Labelled, LinesSpell, SpellsPlan, fault_or, full_lines, lines_in, refusal_from, step_of}
+use Rattle.tp_happen.specs.PlanLexemes.{is_bare, lexemes}
+use Rattle.tp_happen.specs.PlanTexts.{IsAccepted, ReadableTask, LinesSpell, SpellsPlan, fault_or, full_lines, lines_in, refusal_from, step_of}
 use Rattle.tp_happen.specs.declared.reading.PlanFault.TheVariants.{TooMany}
-use Rattle.tp_happen.specs.TaskLabels.{action_of, labelled}
+use Rattle.tp_happen.specs.TaskWords.{action_of, readable}
 use Rattle.tp_happen.specs.declared.plans.Step.{Step}
 use Rattle.tp_validate.specs.OfTask.{IsOfTask, is_step_of}
 use Rattle.tp_search.specs.Plans.{EndsBy, ends_by}
@@ -45,22 +45,22 @@ below a b h = grind (arith, nat_tests)
 at_most : (a b : ℕ) → nat_le a b ≡ true → a ≤ b
 at_most a b h = grind (arith, nat_tests)
 
-module _ (task : Task) (horizon : ℕ) (readable : AreReadable task.numbering.actions) (same : length task.actions.items ≡ length task.numbering.actions) (limit : task.limits.horizon ≡ horizon) (within : horizon ≤ 1000000000) where
-  step_read : (s : Step) → is_step_of task s ≡ true → ends_by horizon s ≡ true → IsReadable (labelled task) s
+module _ (task : Task) (horizon : ℕ) (can_be_read : AreReadable task.numbering.actions) (same : length task.actions.items ≡ length task.numbering.actions) (limit : task.limits.horizon ≡ horizon) (within : horizon ≤ 1000000000) where
+  step_read : (s : Step) → is_step_of task s ≡ true → ends_by horizon s ≡ true → IsReadable (readable task) s
   step_read s is ends =
       let parts = and_parts (nat_lt s.action.0 (length task.actions.items)) _ is in
       let here : s.action.0 < length task.numbering.actions = subst (λ n. s.action.0 < n) same (below s.action.0 (length task.actions.items) parts.0) in
       let by : s.tick + s.duration ≤ horizon = at_most (s.tick + s.duration) horizon ends in
-      let names = readable.names s.action.0 here in
+      let names = can_be_read.names s.action.0 here in
       record {
         names = names;
-        lower = readable.lower s.action.0 here;
-        action = action_is task.numbering.actions (words_at task.numbering.actions s.action.0) s.action.0 names (readable.found s.action.0 here);
+        lower = can_be_read.lower s.action.0 here;
+        action = action_is task.numbering.actions (words_at task.numbering.actions s.action.0) s.action.0 names (can_be_read.found s.action.0 here);
         instant = λ short. lasts_none _ s.duration parts.1 short;
         ends = omega arith;
       }
 
-  steps_read : (steps : List Step) → IsOfTask task steps → EndsBy horizon steps → AllByRecursion (IsReadable (labelled task)) steps
+  steps_read : (steps : List Step) → IsOfTask task steps → EndsBy horizon steps → AllByRecursion (IsReadable (readable task)) steps
   steps_read [] are ends = tt
   steps_read (s ∷ steps) are ends =
       let a = and_parts (is_step_of task s) (list_all (is_step_of task) steps) are in
@@ -78,7 +78,7 @@ as_many limits scale d p task is =
 
 -- ---- lines that spell steps, at most 512, are not refused
 
-module _ (task : Labelled) (line : List ℕ) (lines : List (List ℕ)) (later : (n count : ℕ) (steps : List Step) → LinesSpell task lines steps → count + length steps ≤ 512 → refusal_from task n count lines ≡ None) where
+module _ (task : ReadableTask) (line : List ℕ) (lines : List (List ℕ)) (later : (n count : ℕ) (steps : List Step) → LinesSpell task lines steps → count + length steps ≤ 512 → refusal_from task n count lines ≡ None) where
   full_line : (n count : ℕ) (steps : List Step) → step_of task line ∷ map (step_of task) (full_lines lines) ≡ map Ok steps → count + length steps ≤ 512 → cond (nat_le 512 count) (Some TooMany) (fault_or n (step_of task line) (refusal_from task (n + 1) (count + 1) lines)) ≡ None
   full_line n count [] spells few = absurd (let no : ⊥ = cc in no)
   full_line n count (s ∷ steps) spells few =
@@ -93,18 +93,18 @@ module _ (task : Labelled) (line : List ℕ) (lines : List (List ℕ)) (later : 
   one_line true n count steps spells few = later (n + 1) count steps spells few
   one_line false n count steps spells few = full_line n count steps spells few
 
-none_refused : (task : Labelled) (lines : List (List ℕ)) (n count : ℕ) (steps : List Step) → LinesSpell task lines steps → count + length steps ≤ 512 → refusal_from task n count lines ≡ None
+none_refused : (task : ReadableTask) (lines : List (List ℕ)) (n count : ℕ) (steps : List Step) → LinesSpell task lines steps → count + length steps ≤ 512 → refusal_from task n count lines ≡ None
 none_refused task [] n count steps spells few = refl
-none_refused task (l ∷ ls) n count steps spells few = one_line task l ls (none_refused task ls) (is_bare (marks l)) n count steps spells few
+none_refused task (l ∷ ls) n count steps spells few = one_line task l ls (none_refused task ls) (is_bare (lexemes l)) n count steps spells few
 
-pub plan_accepted : (task : Labelled) (text : List ℕ) (steps : List Step) → SpellsPlan task text steps → length steps ≤ 512 → IsAccepted task text
+pub plan_accepted : (task : ReadableTask) (text : List ℕ) (steps : List Step) → SpellsPlan task text steps → length steps ≤ 512 → IsAccepted task text
 plan_accepted task text steps spells few = none_refused task (lines_in text) 1 0 steps spells (omega arith)
 
 -- the plan of a task that words name, which ends by their horizon
-pub plan_read : PlansAreRead → ActionsAreReadable → (held : List ℕ → Option (List ℕ)) (w : PlanWords) (task : Task) → w.horizon ≤ 1000000000 → IsNamedTask held w task → (steps : List Step) → IsOfTask task steps → EndsBy w.horizon steps → SpellsPlan (labelled task) (plan_text (labelled task) steps) steps
-plan_read read readable held w task within named steps are ends =
-    read (labelled task) steps (omega arith)
+pub plan_read : PlansAreRead → ActionsAreReadable → (held : List ℕ → Option (List ℕ)) (w : PlanWords) (task : Task) → w.horizon ≤ 1000000000 → IsNamedTask held w task → (steps : List Step) → IsOfTask task steps → EndsBy w.horizon steps → SpellsPlan (readable task) (plan_text (readable task) steps) steps
+plan_read read can_be_read held w task within named steps are ends =
+    read (readable task) steps (omega arith)
     (steps_read task w.horizon
-    (readable named.domain_in.0 named.problem_in.0 named.domain named.problem (greatest_limits w.horizon) w.scale task named.domain_in.2 named.problem_in.2 named.task_of)
+    (can_be_read named.domain_in.0 named.problem_in.0 named.domain named.problem (greatest_limits w.horizon) w.scale task named.domain_in.2 named.problem_in.2 named.task_of)
     (as_many (greatest_limits w.horizon) w.scale named.domain named.problem task named.task_of)
     (ap (λ (l : RunLimits). l.horizon) named.task_of.same_limits) within steps are ends)

@@ -4,7 +4,7 @@ use Rattle.tp_ground.specs.declared.task.Task.{Task}
 use Rattle.tp_happen.specs.PlanPrints.{plan_text}
 use Rattle.tp_happen.specs.PlanTexts.{IsAccepted, SpellsPlan}
 use Rattle.tp_happen.specs.Steps.{IsPlan}
-use Rattle.tp_happen.specs.TaskLabels.{labelled}
+use Rattle.tp_happen.specs.TaskWords.{readable}
 use Rattle.tp_happen.specs.declared.plans.Step.{Step}
 use Rattle.tp_validate.specs.OfTask.{IsOfTask, IsValidPlan}
 use Rattle.tp_search.specs.Plans.{EndsBy}
@@ -17,7 +17,7 @@ abbrev pub spent_line : ℕ → List ℕ
 spent_line n = codes "spent " ++ (decimal n ++ codes "\n")
 
 abbrev pub found_text : Found → List ℕ
-found_text (Plan plan) = plan_text (labelled plan.task) plan.steps
+found_text (Plan plan) = plan_text (readable plan.task) plan.steps
 found_text Unreachable = codes "unreachable\n"
 found_text Exhausted = codes "exhausted\n"
 found_text (Spent n) = spent_line n
@@ -41,9 +41,9 @@ pub record IsPlanText (task : Task) (horizon : ℕ) (text : List ℕ) : Type 0 w
   pub of_task : IsOfTask task steps
   pub valid : IsValidPlan task steps
   pub within : EndsBy horizon steps
-  pub is : text ≡ plan_text (labelled task) steps
-  pub spells : SpellsPlan (labelled task) text steps
-  pub accepted : IsAccepted (labelled task) text
+  pub is : text ≡ plan_text (readable task) steps
+  pub spells : SpellsPlan (readable task) text steps
+  pub accepted : IsAccepted (readable task) text
 
 -- The line says why no plan was found, and it is so.
 abbrev pub IsNoPlanLine : Task → ℕ → List ℕ → Type 0

@@ -4,7 +4,7 @@ ghost use Rattle.std.specs.Prelude.{◌≡◌, ◌++◌, codes, decimal};
 ghost use Rattle.tp_device.specs.Bytes.{Writes, failures_after};
 ghost use Rattle.tp_happen.specs.PlanPrints.{plan_text};
 ghost use Rattle.tp_happen.specs.Steps.{IsPlan};
-ghost use Rattle.tp_happen.specs.TaskLabels.{labelled};
+ghost use Rattle.tp_happen.specs.TaskWords.{readable};
 ghost use Rattle.tp_validate.specs.OfTask.{IsOfTask};
 ghost use Rattle.tp_plan_search.specs.FoundText.{IsFoundOfTask, found_text, spent_line};
 
@@ -36,7 +36,7 @@ fn write_spent<W: Sink>(writer: &mut W, expanded: u32) -> Result<(), Failed>
 /// Writes the steps of a validated plan, a line for each.
 fn write_plan<W: Sink>(writer: &mut W, plan: &ValidPlan<'_>) -> Result<(), Failed>
     ensures bytes { Writes (W.held writer.old) (W.held writer.new)
-        (plan_text (labelled plan.now.task) plan.now.steps) result }
+        (plan_text (readable plan.now.task) plan.now.steps) result }
     ensures cause { W.failures writer.new ≡ failures_after (W.failures writer.old) result }
     ensures plan { IsPlan plan.now.steps }
     ensures of_task { IsOfTask plan.now.task plan.now.steps }

@@ -6,9 +6,9 @@ pub mod OnPrintingExprs
 pub mod OnPrintingConds
 pub mod OnPrintingParts
 pub mod OnPrintingEffects
-pub mod OnPrintingRules
+pub mod OnPrintingConstraints
 pub mod OnPrintingActions
 pub mod OnPrintingTypes
-pub mod OnPrintingForms
+pub mod OnPrintingSignatures
 pub mod OnPrintingDomains
 pub mod OnPrintingTexts

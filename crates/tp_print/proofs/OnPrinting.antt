@@ -12,11 +12,11 @@ use Rattle.tp_ast.specs.Symbols.{typed_view}
 use Rattle.tp_ast.specs.Parts.{parts}
 use Rattle.tp_ast.specs.PartViews.{joined_view}
 use Rattle.tp_ast.specs.CondViews.{cond_view}
-use Rattle.tp_ast.specs.RuleViews.{rule_view}
+use Rattle.tp_ast.specs.ConstraintViews.{constraint_view}
 use Rattle.tp_ast.specs.EffectViews.{effect_view, timed_condition_view, timed_effect_view}
 use Rattle.tp_ast.specs.DomainViews.{body_view}
 use Rattle.tp_ast.specs.Domains.{Domain}
-use Rattle.tp_print.specs.Printing.{headed, one_shape, two_shapes, name_shapes, field_before, condition_shape, effect_shape, rule_shape, moment_shapes, body_shapes, typed_shapes, type_shapes, form_shapes, joined_shape, part_shapes, action_shapes, section_before, section_shapes, name_shape}
+use Rattle.tp_print.specs.Printing.{headed, one_shape, two_shapes, name_shapes, field_before, condition_shape, effect_shape, constraint_shape, timed_shapes, body_shapes, typed_shapes, type_shapes, signature_shapes, joined_shape, part_shapes, action_shapes, section_before, section_shapes, name_shape}
 use Rattle.tp_print.specs.DomainTexts.{Took, lines_text, section_line, declarations_text, domain_text}
 use Rattle.tp_ast.specs.declared.joined.Joined as joineds
 use Rattle.tp_ast.specs.declared.joined.Joined.{Joined}
@@ -24,7 +24,7 @@ use Rattle.tp_ast.specs.declared.symbols.Typed.{Typed}
 use Rattle.tp_ast.specs.declared.cond.Cond.{Cond}
 use Rattle.tp_ast.specs.declared.effect.SimpleEffect.{SimpleEffect}
 use Rattle.tp_ast.specs.declared.timed.Timed.{Timed}
-use Rattle.tp_ast.specs.declared.rule.DurationRule.{DurationRule}
+use Rattle.tp_ast.specs.declared.constraint.DurationConstraint.{DurationConstraint}
 use Rattle.tp_ast.specs.declared.action.Body.{Body}
 use Rattle.tp_ast.specs.declared.action.Body.TheVariants.{Instant, Durative}
 use Rattle.tp_ast.proofs.OnParts.{and_view, forall_view}
@@ -99,8 +99,8 @@ lines_sections d =
     let r = section_line (codes ":requirements") (name_shapes d.requirements) in
     let t = section_line (codes ":types") (type_shapes d.types) in
     let c = section_line (codes ":constants") (typed_shapes d.constants) in
-    let p = section_line (codes ":predicates") (form_shapes d.predicates) in
-    let f = section_line (codes ":functions") (form_shapes d.functions) in
+    let p = section_line (codes ":predicates") (signature_shapes d.predicates) in
+    let f = section_line (codes ":functions") (signature_shapes d.functions) in
     let a = lines_text (action_shapes d.actions) in
     lines_before (codes ":requirements") (name_shapes d.requirements) _
     ∙ ap (λ (l : List ℕ). r ++ l) (
@@ -108,8 +108,8 @@ lines_sections d =
     ∙ ap (λ (l : List ℕ). t ++ l) (
     lines_before (codes ":constants") (typed_shapes d.constants) _
     ∙ ap (λ (l : List ℕ). c ++ l) (
-    lines_before (codes ":predicates") (form_shapes d.predicates) _
-    ∙ ap (λ (l : List ℕ). p ++ l) (lines_before (codes ":functions") (form_shapes d.functions) _)
+    lines_before (codes ":predicates") (signature_shapes d.predicates) _
+    ∙ ap (λ (l : List ℕ). p ++ l) (lines_before (codes ":functions") (signature_shapes d.functions) _)
     )
     )
     )
@@ -144,7 +144,7 @@ instant_text b c e is =
     ap (λ (l : List ℕ). codes " :precondition " ++ (shape_text (condition_shape (cond_view c)) ++ (codes " :effect " ++ l))) (sym (append-nil (shape_text (effect_shape (effect_view e)))))
     ∙ ap (λ (d : Body). more_text (body_shapes (body_view d))) (sym is)
 
-pub durative_text : (b : Body) (r : DurationRule) (c : Joined (Timed Cond)) (e : Joined (Timed (Joined SimpleEffect))) → b ≡ Durative r c e → codes " :duration " ++ (shape_text (rule_shape (rule_view r)) ++ more_text (moment_shapes (timed_condition_view c) (timed_effect_view e))) ≡ more_text (body_shapes (body_view b))
+pub durative_text : (b : Body) (r : DurationConstraint) (c : Joined (Timed Cond)) (e : Joined (Timed (Joined SimpleEffect))) → b ≡ Durative r c e → codes " :duration " ++ (shape_text (constraint_shape (constraint_view r)) ++ more_text (timed_shapes (timed_condition_view c) (timed_effect_view e))) ≡ more_text (body_shapes (body_view b))
 durative_text b r c e is = ap (λ (d : Body). more_text (body_shapes (body_view d))) (sym is)
 
 pub action_text : (w n f : List ℕ) → (40 ∷ (w ++ 32 ∷ [])) ++ (n ++ (f ++ 41 ∷ 10 ∷ [])) ≡ (40 ∷ ((w ++ 32 ∷ (n ++ f)) ++ 41 ∷ [])) ++ 10 ∷ []

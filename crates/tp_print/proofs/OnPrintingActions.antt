@@ -10,9 +10,9 @@ use Rattle.tp_ast.specs.Symbols.{Name, Declared, Parent, Symbols}
 use Rattle.tp_ast.specs.TypedLists.{typing_of, typed_list, parameters_of, parameters_at}
 use Rattle.tp_ast.specs.Conditions.{Condition, all_of, no_conditions, condition_of}
 use Rattle.tp_ast.specs.Parts.{Joined, all_parts, no_parts}
-use Rattle.tp_ast.specs.Effects.{simple_effect_of, specified, effect_at, Effect, effect_of, Timed, timed_condition_of, timed_effect_of, rule_of}
+use Rattle.tp_ast.specs.Effects.{simple_effect_of, specified, effect_at, Effect, effect_of, Timed, timed_condition_of, timed_effect_of, constraint_of}
 use Rattle.tp_ast.specs.Actions.{Field, fields_of, field, each_once, is_field_of, or_missing, Body, instant, durative, Action, body_of, action_of}
-use Rattle.tp_print.specs.Printing.{field_before, typed_shapes, condition_shape, joined_shape, simple_effect_shape, effect_shape, timed_shape, rule_shape, field_shapes, action_shape}
+use Rattle.tp_print.specs.Printing.{field_before, typed_shapes, condition_shape, joined_shape, simple_effect_shape, effect_shape, timed_shape, constraint_shape, field_shapes, action_shape}
 use Rattle.tp_ast.specs.declared.words.Key.TheVariants.{Parameters, Precondition, Duration}
 use Rattle.tp_ast.specs.declared.words.Key.TheVariants as keys
 use Rattle.tp_print.proofs.OnPrintingWords.{some_is, bind_some, map_some, no_some, name_read, name_again, name_word, keyword}
@@ -20,7 +20,7 @@ use Rattle.tp_print.proofs.OnPrintingLists.{variables_again}
 use Rattle.tp_print.proofs.OnPrintingConds.{CondAgain, condition_again, nothing_holds}
 use Rattle.tp_print.proofs.OnPrintingParts.{JoinedAgain, nothing_again}
 use Rattle.tp_print.proofs.OnPrintingEffects.{effect_again, timed_condition_again, timed_effect_again}
-use Rattle.tp_print.proofs.OnPrintingRules.{RuleAgain, rule_again}
+use Rattle.tp_print.proofs.OnPrintingConstraints.{ConstraintAgain, constraint_again}
 
 -- ---- fields that may be missing
 
@@ -76,7 +76,7 @@ made n vs b = record { name = n; parameters = vs; body = b }
 -- what a body's fields are, once they were read
 abbrev BodyAgain : Symbols → List Declared → Body → Type 0
 BodyAgain σ vs (instant c e) = CondAgain σ vs c × EffectAgain σ vs e
-BodyAgain σ vs (durative r c e) = RuleAgain σ vs r × TimedCondAgain σ vs c × TimedEffectAgain σ vs e
+BodyAgain σ vs (durative r c e) = ConstraintAgain σ vs r × TimedCondAgain σ vs c × TimedEffectAgain σ vs e
 
 body_again : (σ : Symbols) (d : Bool) (vs : List Declared) (fs : List Field) (b : Body) → body_of σ d vs fs ≡ Some b → (lasts b ≡ d) × BodyAgain σ vs b
 unfolding body_of
@@ -86,12 +86,12 @@ body_again σ false vs fs b h =
     let P : Body → Type 0 = λ b. (lasts b ≡ false) × BodyAgain σ vs b in
     subst P (some_is (instant c.0 e.0) b e.2) (refl, (some_condition σ vs (field Precondition fs) c.0 c.1, some_effect σ vs (field keys.Effect fs) e.0 e.1))
 body_again σ true vs fs b h =
-    let r = bind_some (field Duration fs >>= rule_of σ vs) (λ r. or_missing (all_parts no_parts) (timed_condition_of σ vs) (field keys.Condition fs) >>= λ c. or_missing (all_parts no_parts) (timed_effect_of σ vs) (field keys.Effect fs) >>= λ e. Some (durative r c e)) b h in
-    let s = bind_some (field Duration fs) (rule_of σ vs) r.0 r.1 in
+    let r = bind_some (field Duration fs >>= constraint_of σ vs) (λ r. or_missing (all_parts no_parts) (timed_condition_of σ vs) (field keys.Condition fs) >>= λ c. or_missing (all_parts no_parts) (timed_effect_of σ vs) (field keys.Effect fs) >>= λ e. Some (durative r c e)) b h in
+    let s = bind_some (field Duration fs) (constraint_of σ vs) r.0 r.1 in
     let c = bind_some (or_missing (all_parts no_parts) (timed_condition_of σ vs) (field keys.Condition fs)) (λ c. or_missing (all_parts no_parts) (timed_effect_of σ vs) (field keys.Effect fs) >>= λ e. Some (durative r.0 c e)) b r.2 in
     let e = bind_some (or_missing (all_parts no_parts) (timed_effect_of σ vs) (field keys.Effect fs)) (λ e. Some (durative r.0 c.0 e)) b c.2 in
     let P : Body → Type 0 = λ b. (lasts b ≡ true) × BodyAgain σ vs b in
-    subst P (some_is (durative r.0 c.0 e.0) b e.2) (refl, (rule_again σ vs s.0 r.0 s.2, some_timed_condition σ vs (field keys.Condition fs) c.0 c.1, some_timed_effect σ vs (field keys.Effect fs) e.0 e.1))
+    subst P (some_is (durative r.0 c.0 e.0) b e.2) (refl, (constraint_again σ vs s.0 r.0 s.2, some_timed_condition σ vs (field keys.Condition fs) c.0 c.1, some_timed_effect σ vs (field keys.Effect fs) e.0 e.1))
 
 -- the fields of what is printed
 instant_fields : (p c e : Shape) → fields_of (field_before (codes ":parameters") p (field_before (codes ":precondition") c (field_before (codes ":effect") e no_shapes))) ≡ Some (record { key = Parameters; value = p } ∷ record { key = Precondition; value = c } ∷ record { key = keys.Effect; value = e } ∷ [])
@@ -127,10 +127,10 @@ reads σ n vs (durative r c e) name v h =
     let p = node (typed_shapes vs) in
     let tc = joined_shape (timed_shape condition_shape) c in
     let te = joined_shape (timed_shape effect_shape) e in
-    let fs : List Field = record { key = Parameters; value = p } ∷ record { key = Duration; value = rule_shape r } ∷ record { key = keys.Condition; value = tc } ∷ record { key = keys.Effect; value = te } ∷ [] in
+    let fs : List Field = record { key = Parameters; value = p } ∷ record { key = Duration; value = constraint_shape r } ∷ record { key = keys.Condition; value = tc } ∷ record { key = keys.Effect; value = te } ∷ [] in
     action_is σ true n (field_shapes (made n vs (durative r c e)))
     ∙ ap (λ o. o >>= λ m. fields_of (field_shapes (made n vs (durative r c e))) >>= λ gs. behind_fields σ true m gs) name
-    ∙ ap (λ o. o >>= λ gs. behind_fields σ true n gs) (durative_fields p (rule_shape r) tc te)
+    ∙ ap (λ o. o >>= λ gs. behind_fields σ true n gs) (durative_fields p (constraint_shape r) tc te)
     ∙ ap (λ o. o >>= λ us. option_map (λ b. made n us b) (body_of σ true us fs)) v.0
     ∙ ap (λ o. option_map (λ b. made n vs b) (o >>= λ q. timed_condition_of σ vs tc >>= λ d. timed_effect_of σ vs te >>= λ f. Some (durative q d f))) h.0.again
     ∙ ap (λ o. option_map (λ b. made n vs b) (o >>= λ d. timed_effect_of σ vs te >>= λ f. Some (durative r d f))) h.1.again
@@ -158,7 +158,7 @@ action_at_name σ d w rest a h =
       body.0,
       record {
         again = reads σ n.0 v.0 b.0 (name_again n.0 name.1) variables body.1;
-        words = words_of σ n.0 v.0 b.0 (name_word n.0 name.1.form) variables body.1;
+        words = words_of σ n.0 v.0 b.0 (name_word n.0 name.1.signature) variables body.1;
       },
     )
 

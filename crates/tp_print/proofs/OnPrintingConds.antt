@@ -6,7 +6,7 @@ use Rattle.std.proofs.lemmas.Bool.{and_from, and_left}
 use Rattle.tp_text.specs.Shapes.{Shape, leaf, node, Shapes, no_shapes, shape}
 use Rattle.tp_text.specs.Texts.{IsWord, HasWords, AllHaveWords}
 use Rattle.tp_ast.specs.Gives.{◌>>=◌, provided}
-use Rattle.tp_ast.specs.Words.{lower, is_word, head_of, comparison}
+use Rattle.tp_ast.specs.Words.{lower, is_word, cond_word_of, comparison}
 use Rattle.tp_ast.specs.Terms.{Argument, object, variable, is_name, terms_of}
 use Rattle.tp_ast.specs.Symbols.{Declared, argument_types, Symbols, atom_in}
 use Rattle.tp_ast.specs.TypedLists.{parameters_at}
@@ -17,65 +17,65 @@ use Rattle.tp_ast.specs.declared.words.Comparison.{Comparison}
 use Rattle.tp_ast.specs.declared.words.Comparison.TheVariants as comparisons
 use Rattle.tp_ast.specs.declared.words.CondKind.{CondKind}
 use Rattle.tp_ast.specs.declared.words.CondKind.TheVariants.{Joined, Bound, Simple}
-use Rattle.tp_ast.specs.declared.words.Head.{Head}
-use Rattle.tp_ast.specs.declared.words.Head.TheVariants.{And, Or, Not, Imply, Forall, Exists, Equal, Less, AtMost, AtLeast, More, Preference, Other}
+use Rattle.tp_ast.specs.declared.words.CondWord.{CondWord}
+use Rattle.tp_ast.specs.declared.words.CondWord.TheVariants.{And, Or, Not, Imply, Forall, Exists, Equal, Less, AtMost, AtLeast, Greater, Preference, Other}
 use Rattle.tp_ast.proofs.OnConds.{at_joined, at_bound, at_simple}
 use Rattle.tp_print.proofs.OnPrintingWords.{some_is, bind_some, map_some, provided_some, no_some, lower_lower, keyword, IsTerm, terms_read, terms_again, no_variable}
 use Rattle.tp_print.proofs.OnPrintingLists.{variables_again}
 use Rattle.tp_print.proofs.OnPrintingExprs.{Again, atom_again, expressions_again, two_again, no_term}
 
-head_again : (w : List ℕ) → head_of (lower w) ≡ head_of w
-unfolding head_of is_word
+head_again : (w : List ℕ) → cond_word_of (lower w) ≡ cond_word_of w
+unfolding cond_word_of is_word
 head_again w = rw (lower_lower w) refl
 
-head_and : And ≡ head_of (codes "and")
-unfolding head_of is_word
+head_and : And ≡ cond_word_of (codes "and")
+unfolding cond_word_of is_word
 head_and = refl
 
-head_or : Or ≡ head_of (codes "or")
-unfolding head_of is_word
+head_or : Or ≡ cond_word_of (codes "or")
+unfolding cond_word_of is_word
 head_or = refl
 
-head_not : Not ≡ head_of (codes "not")
-unfolding head_of is_word
+head_not : Not ≡ cond_word_of (codes "not")
+unfolding cond_word_of is_word
 head_not = refl
 
-head_imply : Imply ≡ head_of (codes "imply")
-unfolding head_of is_word
+head_imply : Imply ≡ cond_word_of (codes "imply")
+unfolding cond_word_of is_word
 head_imply = refl
 
-head_forall : Forall ≡ head_of (codes "forall")
-unfolding head_of is_word
+head_forall : Forall ≡ cond_word_of (codes "forall")
+unfolding cond_word_of is_word
 head_forall = refl
 
-head_exists : Exists ≡ head_of (codes "exists")
-unfolding head_of is_word
+head_exists : Exists ≡ cond_word_of (codes "exists")
+unfolding cond_word_of is_word
 head_exists = refl
 
-abbrev pub comparison_head : Comparison → Head
-comparison_head comparisons.Less = Less
-comparison_head comparisons.AtMost = AtMost
-comparison_head comparisons.Equal = Equal
-comparison_head comparisons.AtLeast = AtLeast
-comparison_head comparisons.More = More
+abbrev pub comparison_word_of : Comparison → CondWord
+comparison_word_of comparisons.Less = Less
+comparison_word_of comparisons.AtMost = AtMost
+comparison_word_of comparisons.Equal = Equal
+comparison_word_of comparisons.AtLeast = AtLeast
+comparison_word_of comparisons.Greater = Greater
 
-pub head_compared : (op : Comparison) → comparison_head op ≡ head_of (comparison_word op)
-unfolding head_of is_word
+pub head_compared : (op : Comparison) → comparison_word_of op ≡ cond_word_of (comparison_word op)
+unfolding cond_word_of is_word
 head_compared comparisons.Less = refl
 head_compared comparisons.AtMost = refl
 head_compared comparisons.Equal = refl
 head_compared comparisons.AtLeast = refl
-head_compared comparisons.More = refl
+head_compared comparisons.Greater = refl
 
-kind_compared : (op : Comparison) → Simple ≡ kind_of (comparison_head op)
+kind_compared : (op : Comparison) → Simple ≡ kind_of (comparison_word_of op)
 kind_compared comparisons.Less = refl
 kind_compared comparisons.AtMost = refl
 kind_compared comparisons.Equal = refl
 kind_compared comparisons.AtLeast = refl
-kind_compared comparisons.More = refl
+kind_compared comparisons.Greater = refl
 
-head_equal : Equal ≡ head_of (codes "=")
-unfolding head_of is_word
+head_equal : Equal ≡ cond_word_of (codes "=")
+unfolding cond_word_of is_word
 head_equal = refl
 
 pub compared_word : (op : Comparison) → IsWord (comparison_word op)
@@ -83,12 +83,12 @@ compared_word comparisons.Less = keyword (codes "<") refl
 compared_word comparisons.AtMost = keyword (codes "<=") refl
 compared_word comparisons.Equal = keyword (codes "=") refl
 compared_word comparisons.AtLeast = keyword (codes ">=") refl
-compared_word comparisons.More = keyword (codes ">") refl
+compared_word comparisons.Greater = keyword (codes ">") refl
 
 argument_is_term : (a : Argument) → IsTerm a → is_term (argument_shape a) ≡ true
 unfolding IsTerm is_term
-argument_is_term (object n) is = ap (λ (b : Bool). b || is_name n) (no_variable n is.form) ∙ is.form
-argument_is_term (variable n) is = ap (λ (b : Bool). b || is_name n) is.form
+argument_is_term (object n) is = ap (λ (b : Bool). b || is_name n) (no_variable n is.signature) ∙ is.signature
+argument_is_term (variable n) is = ap (λ (b : Bool). b || is_name n) is.signature
 
 module _ (σ : Symbols) where
   pub record CondAgain (scope : List Declared) (c : Condition) : Type 0 where
@@ -148,7 +148,7 @@ module _ (σ : Symbols) where
     })
     implied_again (d ∷ e ∷ f ∷ cs) c are h = no_some h
 
-    combined_again : (k : Head) (cs : List Condition) (c : Condition) → AllByRecursion (CondAgain scope) cs → combined k cs ≡ Some c → CondAgain scope c
+    combined_again : (k : CondWord) (cs : List Condition) (c : Condition) → AllByRecursion (CondAgain scope) cs → combined k cs ≡ Some c → CondAgain scope c
     unfolding combined
     combined_again And cs c are h = subst (CondAgain scope) (some_is (all_of (conditions cs)) c h) (all_again cs are)
     combined_again Or cs c are h = subst (CondAgain scope) (some_is (any_of (conditions cs)) c h) (any_again cs are)
@@ -160,7 +160,7 @@ module _ (σ : Symbols) where
     combined_again Less cs c are h = no_some h
     combined_again AtMost cs c are h = no_some h
     combined_again AtLeast cs c are h = no_some h
-    combined_again More cs c are h = no_some h
+    combined_again Greater cs c are h = no_some h
     combined_again Preference cs c are h = no_some h
     combined_again Other cs c are h = no_some h
 
@@ -189,7 +189,7 @@ module _ (σ : Symbols) where
       words = (keyword (codes "exists") refl, (v.1, (a.words, tt)));
     }
 
-    bound_made : (k : Head) (vs : List Declared) (c : Condition) → VariablesAgain vs → CondAgain (vs ++ scope) c → CondAgain scope (bound k vs c)
+    bound_made : (k : CondWord) (vs : List Declared) (c : Condition) → VariablesAgain vs → CondAgain (vs ++ scope) c → CondAgain scope (bound k vs c)
     bound_made And vs c v a = for_all_again vs c v a
     bound_made Or vs c v a = for_all_again vs c v a
     bound_made Not vs c v a = for_all_again vs c v a
@@ -200,18 +200,18 @@ module _ (σ : Symbols) where
     bound_made Less vs c v a = for_all_again vs c v a
     bound_made AtMost vs c v a = for_all_again vs c v a
     bound_made AtLeast vs c v a = for_all_again vs c v a
-    bound_made More vs c v a = for_all_again vs c v a
+    bound_made Greater vs c v a = for_all_again vs c v a
     bound_made Preference vs c v a = for_all_again vs c v a
     bound_made Other vs c v a = for_all_again vs c v a
 
     -- ---- conditions with none inside
 
-    fact_again : (w : List ℕ) (rest : Shapes) (c : Condition) → head_of w ≡ Other → option_map fact (atom_in σ σ.predicates scope w rest) ≡ Some c → CondAgain scope c
+    fact_again : (w : List ℕ) (rest : Shapes) (c : Condition) → cond_word_of w ≡ Other → option_map fact (atom_in σ σ.predicates scope w rest) ≡ Some c → CondAgain scope c
     unfolding simple
     fact_again w rest c is h =
         let m = map_some fact (atom_in σ σ.predicates scope w rest) c h in
         let a = atom_again σ σ.predicates scope w rest m.0 m.1 in
-        let head : head_of m.0.name ≡ Other = ap head_of a.name ∙ head_again w ∙ is in
+        let head : cond_word_of m.0.name ≡ Other = ap cond_word_of a.name ∙ head_again w ∙ is in
         subst (CondAgain scope) m.2 (record {
           again = at_simple σ scope m.0.name (argument_shapes m.0.arguments) Other Simple (sym head) refl refl ∙ ap (option_map fact) a.again;
           words = (a.word, a.words);
@@ -248,7 +248,7 @@ module _ (σ : Symbols) where
     abbrev Value : Expression → Type 0
     Value x = Again σ (terms_for scope false) x
 
-    compared_reads : (op : Comparison) (x y : Expression) → Value x → Value y → simple σ scope (comparison_head op) (comparison_word op) (two_shapes (expression_shape x) (expression_shape y)) ≡ Some (compared op x y)
+    compared_reads : (op : Comparison) (x y : Expression) → Value x → Value y → simple σ scope (comparison_word_of op) (comparison_word op) (two_shapes (expression_shape x) (expression_shape y)) ≡ Some (compared op x y)
     unfolding simple
     compared_reads comparisons.Less x y a b = ap (λ o. o >>= related Less) (two_again σ (terms_for scope false) x y a b)
     compared_reads comparisons.AtMost x y a b = ap (λ o. o >>= related AtMost) (two_again σ (terms_for scope false) x y a b)
@@ -256,15 +256,15 @@ module _ (σ : Symbols) where
         ap (λ (t : Bool). cond t (equality σ scope (two_shapes (expression_shape x) (expression_shape y))) (relation σ scope Equal (two_shapes (expression_shape x) (expression_shape y)))) (and_left (is_term (expression_shape x)) (is_term (expression_shape y) && true) (no_term σ scope x a))
         ∙ ap (λ o. o >>= related Equal) (two_again σ (terms_for scope false) x y a b)
     compared_reads comparisons.AtLeast x y a b = ap (λ o. o >>= related AtLeast) (two_again σ (terms_for scope false) x y a b)
-    compared_reads comparisons.More x y a b = ap (λ o. o >>= related More) (two_again σ (terms_for scope false) x y a b)
+    compared_reads comparisons.Greater x y a b = ap (λ o. o >>= related Greater) (two_again σ (terms_for scope false) x y a b)
 
     compared_again : (op : Comparison) (x y : Expression) → Value x → Value y → CondAgain scope (compared op x y)
     compared_again op x y a b = record {
-      again = at_simple σ scope (comparison_word op) (two_shapes (expression_shape x) (expression_shape y)) (comparison_head op) Simple (head_compared op) (kind_compared op) refl ∙ compared_reads op x y a b;
+      again = at_simple σ scope (comparison_word op) (two_shapes (expression_shape x) (expression_shape y)) (comparison_word_of op) Simple (head_compared op) (kind_compared op) refl ∙ compared_reads op x y a b;
       words = (compared_word op, (a.words, (b.words, tt)));
     }
 
-    related_again : (k : Head) (xs : List Expression) (c : Condition) → AllByRecursion (Again σ (terms_for scope false)) xs → related k xs ≡ Some c → CondAgain scope c
+    related_again : (k : CondWord) (xs : List Expression) (c : Condition) → AllByRecursion (Again σ (terms_for scope false)) xs → related k xs ≡ Some c → CondAgain scope c
     related_again k [] c are h = no_some h
     related_again k (x ∷ []) c are h = no_some h
     related_again k (x ∷ y ∷ []) c are h =
@@ -272,7 +272,7 @@ module _ (σ : Symbols) where
         subst (CondAgain scope) m.2 (compared_again m.0 x y are.0 are.1.0)
     related_again k (x ∷ y ∷ z ∷ xs) c are h = no_some h
 
-    relation_again : (k : Head) (rest : Shapes) (c : Condition) → relation σ scope k rest ≡ Some c → CondAgain scope c
+    relation_again : (k : CondWord) (rest : Shapes) (c : Condition) → relation σ scope k rest ≡ Some c → CondAgain scope c
     relation_again k rest c h =
         let b = bind_some (expressions_of σ (terms_for scope false) rest) (related k) c h in
         related_again k b.0 c (expressions_again σ (terms_for scope false) rest b.0 b.1) b.2
@@ -281,7 +281,7 @@ module _ (σ : Symbols) where
     equal_again true rest c h = equality_again rest c h
     equal_again false rest c h = relation_again Equal rest c h
 
-    simple_again : (k : Head) (w : List ℕ) (rest : Shapes) (c : Condition) → head_of w ≡ k → simple σ scope k w rest ≡ Some c → CondAgain scope c
+    simple_again : (k : CondWord) (w : List ℕ) (rest : Shapes) (c : Condition) → cond_word_of w ≡ k → simple σ scope k w rest ≡ Some c → CondAgain scope c
     unfolding simple
     simple_again And w rest c is h = no_some h
     simple_again Or w rest c is h = no_some h
@@ -293,7 +293,7 @@ module _ (σ : Symbols) where
     simple_again Less w rest c is h = relation_again Less rest c h
     simple_again AtMost w rest c is h = relation_again AtMost rest c h
     simple_again AtLeast w rest c is h = relation_again AtLeast rest c h
-    simple_again More w rest c is h = relation_again More rest c h
+    simple_again Greater w rest c is h = relation_again Greater rest c h
     simple_again Preference w rest c is h = no_some h
     simple_again Other w rest c is h = fact_again w rest c is h
 
@@ -312,15 +312,15 @@ module _ (σ : Symbols) where
     condition_again scope (node no_shapes) c h = subst (CondAgain scope) (some_is (all_of no_conditions) c h) (all_again scope [] tt)
     condition_again scope (node (shape (node ss) rest)) c h = no_some h
     condition_again scope (node (shape (leaf w) rest)) c h =
-        elim (by_kind (kind_of (head_of w)) (conditions_of σ scope rest >>= combined (head_of w)) (bound_condition σ scope (head_of w) rest) (simple σ scope (head_of w) w rest) c h) [
+        elim (by_kind (kind_of (cond_word_of w)) (conditions_of σ scope rest >>= combined (cond_word_of w)) (bound_condition σ scope (cond_word_of w) rest) (simple σ scope (cond_word_of w) w rest) c h) [
           | inl j ↦
-              let b = bind_some (conditions_of σ scope rest) (combined (head_of w)) c j in
-              combined_again scope (head_of w) b.0 c (conditions_again scope rest b.0 b.1) b.2
-          | inr (inl q) ↦ bound_again scope (head_of w) rest c q
-          | inr (inr q) ↦ simple_again scope (head_of w) w rest c refl q
+              let b = bind_some (conditions_of σ scope rest) (combined (cond_word_of w)) c j in
+              combined_again scope (cond_word_of w) b.0 c (conditions_again scope rest b.0 b.1) b.2
+          | inr (inl q) ↦ bound_again scope (cond_word_of w) rest c q
+          | inr (inr q) ↦ simple_again scope (cond_word_of w) w rest c refl q
         ]
 
-    bound_again : (scope : List Declared) (k : Head) (ss : Shapes) (c : Condition) → bound_condition σ scope k ss ≡ Some c → CondAgain scope c
+    bound_again : (scope : List Declared) (k : CondWord) (ss : Shapes) (c : Condition) → bound_condition σ scope k ss ≡ Some c → CondAgain scope c
     bound_again scope k no_shapes c h = no_some h
     bound_again scope k (shape vars rest) c h =
         let b = bind_some (parameters_at σ.types vars) (λ vs. option_map (bound k vs) (only_condition σ (vs ++ scope) rest)) c h in

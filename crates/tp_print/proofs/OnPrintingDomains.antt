@@ -7,18 +7,18 @@ use Rattle.tp_ast.specs.Gives.{◌>>=◌, provided}
 use Rattle.tp_ast.specs.Words.{is_word, section_of}
 use Rattle.tp_ast.specs.Lists.{only, both}
 use Rattle.tp_ast.specs.Terms.{name_of}
-use Rattle.tp_ast.specs.Symbols.{Name, Declared, Parent, Form, Symbols}
+use Rattle.tp_ast.specs.Symbols.{Name, Declared, Parent, SignatureView, Symbols}
 use Rattle.tp_ast.specs.TypedLists.{has_twice}
 use Rattle.tp_ast.specs.Actions.{Action, Body, instant, durative, action_of}
-use Rattle.tp_ast.specs.Domains.{Domain, types_in, requirements_in, objects_in, forms_of, numeric_forms, named_once, Part, sections_of, section_number, is_section, section, is_action, each_once, action_at, actions_in, domain_with, kind_and_name, named, domain_of}
-use Rattle.tp_print.specs.Printing.{name_shapes, typed_shapes, type_shapes, form_shapes, body_word, field_shapes, action_shape, action_shapes, section_before, section_shapes, domain_shape}
+use Rattle.tp_ast.specs.Domains.{Domain, types_in, requirements_in, objects_in, signatures_of, numeric_signatures, named_once, SectionBody, sections_of, section_number, is_section, section, is_action, each_once, action_at, actions_in, domain_with, kind_and_name, named, domain_of}
+use Rattle.tp_print.specs.Printing.{name_shapes, typed_shapes, type_shapes, signature_shapes, body_word, field_shapes, action_shape, action_shapes, section_before, section_shapes, domain_shape}
 use Rattle.tp_ast.specs.declared.words.Section.{Section}
 use Rattle.tp_ast.specs.declared.words.Section.TheVariants.{Requirements, Types, Constants, Predicates, Functions}
 use Rattle.tp_ast.specs.declared.words.Section.TheVariants as sections
 use Rattle.tp_print.proofs.OnPrintingWords.{some_is, bind_some, map_some, provided_some, no_some, cond_some, IsName, name_read, name_again, name_word, keyword}
 use Rattle.tp_print.proofs.OnPrintingLists.{objects_again}
 use Rattle.tp_print.proofs.OnPrintingTypes.{types_again}
-use Rattle.tp_print.proofs.OnPrintingForms.{requirements_again, predicates_again, functions_again}
+use Rattle.tp_print.proofs.OnPrintingSignatures.{requirements_again, predicates_again, functions_again}
 use Rattle.tp_print.proofs.OnPrintingActions.{lasts, action_again}
 
 -- ---- actions
@@ -27,10 +27,10 @@ abbrev body_section : Body → Section
 body_section (instant c e) = sections.Action
 body_section (durative r c e) = sections.DurativeAction
 
-abbrev action_part : Action → Part
+abbrev action_part : Action → SectionBody
 action_part a = record { section = body_section a.body; body = shape (leaf a.name) (field_shapes a) }
 
-abbrev action_parts : List Action → List Part
+abbrev action_parts : List Action → List SectionBody
 action_parts as_ = map action_part as_
 
 record ActionReads (σ : Symbols) (a : Action) : Type 0 where
@@ -60,7 +60,7 @@ both_read : (σ : Symbols) (xs ys : List Action) → AllByRecursion (ActionReads
 both_read σ [] ys h k = k
 both_read σ (x ∷ xs) ys h k = (h.0, both_read σ xs ys h.1 k)
 
-actions_read : (σ : Symbols) (ps : List Part) (all : List Action) → actions_in σ ps ≡ Some all → AllByRecursion (ActionReads σ) all
+actions_read : (σ : Symbols) (ps : List SectionBody) (all : List Action) → actions_in σ ps ≡ Some all → AllByRecursion (ActionReads σ) all
 unfolding actions_in
 actions_read σ [] all h = subst (AllByRecursion (ActionReads σ)) (some_is [] all h) tt
 actions_read σ (p ∷ ps) all h =
@@ -81,17 +81,17 @@ action_words σ (a ∷ all) h = (h.0.words, action_words σ all h.1)
 
 -- ---- the sections that are printed
 
-abbrev part_before : Section → Shapes → List Part → List Part
+abbrev part_before : Section → Shapes → List SectionBody → List SectionBody
 part_before k no_shapes ps = ps
 part_before k (shape s ss) ps = record { section = k; body = shape s ss } ∷ ps
 
-abbrev parts_of : List Name → List Parent → List Declared → List Form → List Form → List Action → List Part
+abbrev parts_of : List Name → List Parent → List Declared → List SignatureView → List SignatureView → List Action → List SectionBody
 parts_of r t c p f all =
     part_before Requirements (name_shapes r)
     (part_before Types (type_shapes t)
     (part_before Constants (typed_shapes c)
-    (part_before Predicates (form_shapes p)
-    (part_before Functions (form_shapes f) (action_parts all)))))
+    (part_before Predicates (signature_shapes p)
+    (part_before Functions (signature_shapes f) (action_parts all)))))
 
 body_section_word : (b : Body) → section_of (body_word b) ≡ Some (body_section b)
 unfolding section_of is_word
@@ -105,7 +105,7 @@ action_sections (a ∷ all) =
     ap (λ o. o >>= λ k. option_map (λ ps. record { section = k; body = shape (leaf a.name) (field_shapes a) } ∷ ps) (sections_of (action_shapes all))) (body_section_word a.body)
     ∙ ap (option_map (λ ps. action_part a ∷ ps)) (action_sections all)
 
-sections_before : (w : List ℕ) (k : Section) (ss rest : Shapes) (ps : List Part) → section_of w ≡ Some k → sections_of rest ≡ Some ps → sections_of (section_before w ss rest) ≡ Some (part_before k ss ps)
+sections_before : (w : List ℕ) (k : Section) (ss rest : Shapes) (ps : List SectionBody) → section_of w ≡ Some k → sections_of rest ≡ Some ps → sections_of (section_before w ss rest) ≡ Some (part_before k ss ps)
 unfolding sections_of
 sections_before w k no_shapes rest ps is more = more
 sections_before w k (shape s ss) rest ps is more =
@@ -145,14 +145,14 @@ no_action_has : (k : Section) (all : List Action) → IsOther k → list_any (is
 no_action_has k [] o = refl
 no_action_has k (a ∷ all) o = ap (λ (b : Bool). b || list_any (is_section k) (action_parts all)) (not_body k a.body o) ∙ no_action_has k all o
 
-missing_before : (k j : Section) (ss : Shapes) (ps : List Part) → eqb (section_number j) (section_number k) ≡ false → list_any (is_section k) ps ≡ false → list_any (is_section k) (part_before j ss ps) ≡ false
+missing_before : (k j : Section) (ss : Shapes) (ps : List SectionBody) → eqb (section_number j) (section_number k) ≡ false → list_any (is_section k) ps ≡ false → list_any (is_section k) (part_before j ss ps) ≡ false
 missing_before k j no_shapes ps other h = h
 missing_before k j (shape s ss) ps other h = ap (λ (b : Bool). b || list_any (is_section k) ps) other ∙ h
 
-missing_section : (k : Section) (ps : List Part) → list_any (is_section k) ps ≡ false → section k ps ≡ no_shapes
+missing_section : (k : Section) (ps : List SectionBody) → list_any (is_section k) ps ≡ false → section k ps ≡ no_shapes
 missing_section k [] h = refl
 missing_section k (p ∷ ps) h = by_test (is_section k p) p ps h (missing_section k ps) where
-  by_test : (b : Bool) (p : Part) (ps : List Part) → (b || list_any (is_section k) ps) ≡ false → (list_any (is_section k) ps ≡ false → section k ps ≡ no_shapes) → cond b p.body (section k ps) ≡ no_shapes
+  by_test : (b : Bool) (p : SectionBody) (ps : List SectionBody) → (b || list_any (is_section k) ps) ≡ false → (list_any (is_section k) ps ≡ false → section k ps ≡ no_shapes) → cond b p.body (section k ps) ≡ no_shapes
   by_test true p ps h rest = absurd (let f : true ≡ false = h in cc)
   by_test false p ps h rest = rest h
 
@@ -165,11 +165,11 @@ same_number Functions = refl
 same_number sections.Action = refl
 same_number sections.DurativeAction = refl
 
-found : (k : Section) (ss : Shapes) (ps : List Part) → list_any (is_section k) ps ≡ false → section k (part_before k ss ps) ≡ ss
+found : (k : Section) (ss : Shapes) (ps : List SectionBody) → list_any (is_section k) ps ≡ false → section k (part_before k ss ps) ≡ ss
 found k no_shapes ps h = missing_section k ps h
 found k (shape s ss) ps h = ap (λ (b : Bool). cond b (shape s ss) (section k ps)) (same_number k)
 
-passed : (k j : Section) (ss : Shapes) (ps : List Part) → eqb (section_number j) (section_number k) ≡ false → section k (part_before j ss ps) ≡ section k ps
+passed : (k j : Section) (ss : Shapes) (ps : List SectionBody) → eqb (section_number j) (section_number k) ≡ false → section k (part_before j ss ps) ≡ section k ps
 passed k j no_shapes ps other = refl
 passed k j (shape s ss) ps other = ap (λ (b : Bool). cond b (shape s ss) (section k ps)) other
 
@@ -177,7 +177,7 @@ or_not : (a b : Bool) → b ≡ false → (a || not b) ≡ true
 or_not true b h = refl
 or_not false b h = ap not h
 
-once_before : (k : Section) (ss : Shapes) (ps : List Part) → list_any (is_section k) ps ≡ false → each_once ps ≡ true → each_once (part_before k ss ps) ≡ true
+once_before : (k : Section) (ss : Shapes) (ps : List SectionBody) → list_any (is_section k) ps ≡ false → each_once ps ≡ true → each_once (part_before k ss ps) ≡ true
 once_before k no_shapes ps h once = once
 once_before k (shape s ss) ps h once = ap (λ (b : Bool). b && each_once ps) (or_not (is_action k) (list_any (is_section k) ps) h) ∙ once
 
@@ -198,7 +198,7 @@ no_action_at σ Functions ss h = refl
 no_action_at σ sections.Action ss h = absurd (let f : true ≡ false = h in cc)
 no_action_at σ sections.DurativeAction ss h = absurd (let f : true ≡ false = h in cc)
 
-actions_before : (σ : Symbols) (k : Section) (ss : Shapes) (ps : List Part) (all : List Action) → is_action k ≡ false → actions_in σ ps ≡ Some all → actions_in σ (part_before k ss ps) ≡ Some all
+actions_before : (σ : Symbols) (k : Section) (ss : Shapes) (ps : List SectionBody) (all : List Action) → is_action k ≡ false → actions_in σ ps ≡ Some all → actions_in σ (part_before k ss ps) ≡ Some all
 unfolding actions_in
 actions_before σ k no_shapes ps all other h = h
 actions_before σ k (shape s ss) ps all other h =
@@ -211,31 +211,31 @@ words_before w (shape s ss) rest word h k = ((word, h), k)
 
 -- ---- all of it
 
-abbrev made : Name → List Name → List Parent → List Declared → List Form → List Form → List Action → Domain
+abbrev made : Name → List Name → List Parent → List Declared → List SignatureView → List SignatureView → List Action → Domain
 made n r t c p f all = record { name = n; requirements = r; types = t; constants = c; predicates = p; functions = f; actions = all }
 
-abbrev symbols : List Parent → List Declared → List Form → List Form → Symbols
+abbrev symbols : List Parent → List Declared → List SignatureView → List SignatureView → Symbols
 symbols t c p f = record { types = t; objects = c; predicates = p; functions = f }
 
-abbrev after_actions : Name → List Name → List Parent → List Declared → List Form → List Form → List Action → Option Domain
+abbrev after_actions : Name → List Name → List Parent → List Declared → List SignatureView → List SignatureView → List Action → Option Domain
 after_actions n r t c p f all = provided (not (has_twice (map (λ a. a.name) all))) (made n r t c p f all)
 
-abbrev after_functions : Name → List Part → List Name → List Parent → List Declared → List Form → List Form → Option Domain
+abbrev after_functions : Name → List SectionBody → List Name → List Parent → List Declared → List SignatureView → List SignatureView → Option Domain
 after_functions n ps r t c p f = actions_in (symbols t c p f) ps >>= λ all. after_actions n r t c p f all
 
-abbrev after_predicates : Name → List Part → List Name → List Parent → List Declared → List Form → Option Domain
-after_predicates n ps r t c p = (numeric_forms t false (section Functions ps) >>= named_once) >>= λ f. after_functions n ps r t c p f
+abbrev after_predicates : Name → List SectionBody → List Name → List Parent → List Declared → List SignatureView → Option Domain
+after_predicates n ps r t c p = (numeric_signatures t false (section Functions ps) >>= named_once) >>= λ f. after_functions n ps r t c p f
 
-abbrev after_constants : Name → List Part → List Name → List Parent → List Declared → Option Domain
-after_constants n ps r t c = (forms_of t (section Predicates ps) >>= named_once) >>= λ p. after_predicates n ps r t c p
+abbrev after_constants : Name → List SectionBody → List Name → List Parent → List Declared → Option Domain
+after_constants n ps r t c = (signatures_of t (section Predicates ps) >>= named_once) >>= λ p. after_predicates n ps r t c p
 
-abbrev after_types : Name → List Part → List Name → List Parent → Option Domain
+abbrev after_types : Name → List SectionBody → List Name → List Parent → Option Domain
 after_types n ps r t = objects_in t (section Constants ps) >>= λ c. after_constants n ps r t c
 
-abbrev after_requirements : Name → List Part → List Name → Option Domain
+abbrev after_requirements : Name → List SectionBody → List Name → Option Domain
 after_requirements n ps r = types_in (section Types ps) >>= λ t. after_types n ps r t
 
-domain_is : (n : Name) (ps : List Part) → domain_with n ps ≡ (requirements_in (section Requirements ps) >>= λ r. after_requirements n ps r)
+domain_is : (n : Name) (ps : List SectionBody) → domain_with n ps ≡ (requirements_in (section Requirements ps) >>= λ r. after_requirements n ps r)
 unfolding domain_with
 domain_is n ps = refl
 
@@ -243,14 +243,14 @@ record DomainAgain (d : Domain) : Type 0 where
   again : domain_of (domain_shape d) ≡ Some d
   words : HasWords (domain_shape d)
 
-section_words : (k : Section) (ps : List Part) → AllByRecursion (λ p. AllHaveWords p.body) ps → AllHaveWords (section k ps)
+section_words : (k : Section) (ps : List SectionBody) → AllByRecursion (λ p. AllHaveWords p.body) ps → AllHaveWords (section k ps)
 section_words k [] h = tt
 section_words k (p ∷ ps) h = chosen (is_section k p) h.0 (section_words k ps h.1) where
   chosen : (b : Bool) → AllHaveWords p.body → AllHaveWords (section k ps) → AllHaveWords (cond b p.body (section k ps))
   chosen true x y = x
   chosen false x y = y
 
-parts_words : (ss : Shapes) (ps : List Part) → AllHaveWords ss → sections_of ss ≡ Some ps → AllByRecursion (λ p. AllHaveWords p.body) ps
+parts_words : (ss : Shapes) (ps : List SectionBody) → AllHaveWords ss → sections_of ss ≡ Some ps → AllByRecursion (λ p. AllHaveWords p.body) ps
 unfolding sections_of
 parts_words no_shapes ps words h = subst (AllByRecursion (λ p. AllHaveWords p.body)) (some_is [] ps h) tt
 parts_words (shape (leaf w) rest) ps words h = no_some h
@@ -261,20 +261,20 @@ parts_words (shape (node (shape (leaf w) body)) rest) ps words h =
     let m = map_some (λ qs. record { section = b.0; body = body } ∷ qs) (sections_of rest) ps b.2 in
     subst (AllByRecursion (λ p. AllHaveWords p.body)) m.2 (words.0.1, parts_words rest m.0 words.1 m.1)
 
-module _ (n : Name) (r : List Name) (t : List Parent) (c : List Declared) (p : List Form) (f : List Form) (all : List Action) where
-  from_functions : List Part
-  from_functions = part_before Functions (form_shapes f) (action_parts all)
+module _ (n : Name) (r : List Name) (t : List Parent) (c : List Declared) (p : List SignatureView) (f : List SignatureView) (all : List Action) where
+  from_functions : List SectionBody
+  from_functions = part_before Functions (signature_shapes f) (action_parts all)
 
-  from_predicates : List Part
-  from_predicates = part_before Predicates (form_shapes p) from_functions
+  from_predicates : List SectionBody
+  from_predicates = part_before Predicates (signature_shapes p) from_functions
 
-  from_constants : List Part
+  from_constants : List SectionBody
   from_constants = part_before Constants (typed_shapes c) from_predicates
 
-  from_types : List Part
+  from_types : List SectionBody
   from_types = part_before Types (type_shapes t) from_constants
 
-  printed : List Part
+  printed : List SectionBody
   printed = part_before Requirements (name_shapes r) from_types
 
   printed_sections : sections_of (section_shapes (made n r t c p f all)) ≡ Some printed
@@ -283,16 +283,16 @@ module _ (n : Name) (r : List Name) (t : List Parent) (c : List Declared) (p : L
       sections_before (codes ":requirements") Requirements (name_shapes r) _ from_types requirements_word
       (sections_before (codes ":types") Types (type_shapes t) _ from_constants types_word
       (sections_before (codes ":constants") Constants (typed_shapes c) _ from_predicates constants_word
-      (sections_before (codes ":predicates") Predicates (form_shapes p) _ from_functions predicates_word
-      (sections_before (codes ":functions") Functions (form_shapes f) _ (action_parts all) functions_word (action_sections all)))))
+      (sections_before (codes ":predicates") Predicates (signature_shapes p) _ from_functions predicates_word
+      (sections_before (codes ":functions") Functions (signature_shapes f) _ (action_parts all) functions_word (action_sections all)))))
 
   no_functions : (k : Section) → IsOther k → eqb 4 (section_number k) ≡ false → list_any (is_section k) from_functions ≡ false
   unfolding from_functions
-  no_functions k o e = missing_before k Functions (form_shapes f) (action_parts all) e (no_action_has k all o)
+  no_functions k o e = missing_before k Functions (signature_shapes f) (action_parts all) e (no_action_has k all o)
 
   no_predicates : (k : Section) → IsOther k → eqb 4 (section_number k) ≡ false → eqb 3 (section_number k) ≡ false → list_any (is_section k) from_predicates ≡ false
   unfolding from_predicates
-  no_predicates k o e g = missing_before k Predicates (form_shapes p) from_functions g (no_functions k o e)
+  no_predicates k o e g = missing_before k Predicates (signature_shapes p) from_functions g (no_functions k o e)
 
   no_constants : (k : Section) → IsOther k → eqb 4 (section_number k) ≡ false → eqb 3 (section_number k) ≡ false → eqb 2 (section_number k) ≡ false → list_any (is_section k) from_constants ≡ false
   unfolding from_constants
@@ -308,8 +308,8 @@ module _ (n : Name) (r : List Name) (t : List Parent) (c : List Declared) (p : L
       once_before Requirements (name_shapes r) from_types no_types
       (once_before Types (type_shapes t) from_constants (no_constants Types (refl, refl, refl) refl refl refl)
       (once_before Constants (typed_shapes c) from_predicates (no_predicates Constants (refl, refl, refl) refl refl)
-      (once_before Predicates (form_shapes p) from_functions (no_functions Predicates (refl, refl, refl) refl)
-      (once_before Functions (form_shapes f) (action_parts all) (no_action_has Functions all (refl, refl, refl)) (actions_once all)))))
+      (once_before Predicates (signature_shapes p) from_functions (no_functions Predicates (refl, refl, refl) refl)
+      (once_before Functions (signature_shapes f) (action_parts all) (no_action_has Functions all (refl, refl, refl)) (actions_once all)))))
 
   requirements_found : section Requirements printed ≡ name_shapes r
   unfolding printed
@@ -325,19 +325,19 @@ module _ (n : Name) (r : List Name) (t : List Parent) (c : List Declared) (p : L
       passed Constants Requirements (name_shapes r) from_types refl ∙ passed Constants Types (type_shapes t) from_constants refl
       ∙ found Constants (typed_shapes c) from_predicates (no_predicates Constants (refl, refl, refl) refl refl)
 
-  predicates_found : section Predicates printed ≡ form_shapes p
+  predicates_found : section Predicates printed ≡ signature_shapes p
   unfolding printed from_types from_constants from_predicates
   predicates_found =
       passed Predicates Requirements (name_shapes r) from_types refl ∙ passed Predicates Types (type_shapes t) from_constants refl
       ∙ passed Predicates Constants (typed_shapes c) from_predicates refl
-      ∙ found Predicates (form_shapes p) from_functions (no_functions Predicates (refl, refl, refl) refl)
+      ∙ found Predicates (signature_shapes p) from_functions (no_functions Predicates (refl, refl, refl) refl)
 
-  functions_found : section Functions printed ≡ form_shapes f
+  functions_found : section Functions printed ≡ signature_shapes f
   unfolding printed from_types from_constants from_predicates from_functions
   functions_found =
       passed Functions Requirements (name_shapes r) from_types refl ∙ passed Functions Types (type_shapes t) from_constants refl
-      ∙ passed Functions Constants (typed_shapes c) from_predicates refl ∙ passed Functions Predicates (form_shapes p) from_functions refl
-      ∙ found Functions (form_shapes f) (action_parts all) (no_action_has Functions all (refl, refl, refl))
+      ∙ passed Functions Constants (typed_shapes c) from_predicates refl ∙ passed Functions Predicates (signature_shapes p) from_functions refl
+      ∙ found Functions (signature_shapes f) (action_parts all) (no_action_has Functions all (refl, refl, refl))
 
   actions_found : (σ : Symbols) → AllByRecursion (ActionReads σ) all → actions_in σ printed ≡ Some all
   unfolding printed from_types from_constants from_predicates from_functions
@@ -345,17 +345,17 @@ module _ (n : Name) (r : List Name) (t : List Parent) (c : List Declared) (p : L
       actions_before σ Requirements (name_shapes r) from_types all refl
       (actions_before σ Types (type_shapes t) from_constants all refl
       (actions_before σ Constants (typed_shapes c) from_predicates all refl
-      (actions_before σ Predicates (form_shapes p) from_functions all refl
-      (actions_before σ Functions (form_shapes f) (action_parts all) all refl (actions_again σ all h)))))
+      (actions_before σ Predicates (signature_shapes p) from_functions all refl
+      (actions_before σ Functions (signature_shapes f) (action_parts all) all refl (actions_again σ all h)))))
 
-  with_printed : requirements_in (name_shapes r) ≡ Some r → types_in (type_shapes t) ≡ Some t → objects_in t (typed_shapes c) ≡ Some c → (forms_of t (form_shapes p) >>= named_once) ≡ Some p → (numeric_forms t false (form_shapes f) >>= named_once) ≡ Some f → AllByRecursion (ActionReads (symbols t c p f)) all → not (has_twice (map (λ a. a.name) all)) ≡ true → domain_with n printed ≡ Some (made n r t c p f all)
+  with_printed : requirements_in (name_shapes r) ≡ Some r → types_in (type_shapes t) ≡ Some t → objects_in t (typed_shapes c) ≡ Some c → (signatures_of t (signature_shapes p) >>= named_once) ≡ Some p → (numeric_signatures t false (signature_shapes f) >>= named_once) ≡ Some f → AllByRecursion (ActionReads (symbols t c p f)) all → not (has_twice (map (λ a. a.name) all)) ≡ true → domain_with n printed ≡ Some (made n r t c p f all)
   with_printed hr ht hc hp hf ha once =
       domain_is n printed
       ∙ ap (λ o. o >>= λ r. after_requirements n printed r) (ap requirements_in requirements_found ∙ hr)
       ∙ ap (λ o. o >>= λ t. after_types n printed r t) (ap types_in types_found ∙ ht)
       ∙ ap (λ o. o >>= λ c. after_constants n printed r t c) (ap (objects_in t) constants_found ∙ hc)
-      ∙ ap (λ o. o >>= λ p. after_predicates n printed r t c p) (ap (λ (ss : Shapes). forms_of t ss >>= named_once) predicates_found ∙ hp)
-      ∙ ap (λ o. o >>= λ f. after_functions n printed r t c p f) (ap (λ (ss : Shapes). numeric_forms t false ss >>= named_once) functions_found ∙ hf)
+      ∙ ap (λ o. o >>= λ p. after_predicates n printed r t c p) (ap (λ (ss : Shapes). signatures_of t ss >>= named_once) predicates_found ∙ hp)
+      ∙ ap (λ o. o >>= λ f. after_functions n printed r t c p f) (ap (λ (ss : Shapes). numeric_signatures t false ss >>= named_once) functions_found ∙ hf)
       ∙ ap (λ o. o >>= λ all. after_actions n r t c p f all) (actions_found (symbols t c p f) ha)
       ∙ ap (λ (b : Bool). provided b (made n r t c p f all)) once
 
@@ -367,13 +367,13 @@ module _ (n : Name) (r : List Name) (t : List Parent) (c : List Declared) (p : L
       ∙ ap (λ (b : Bool). provided b printed >>= domain_with n) printed_once
       ∙ h
 
-with_parts : (n : Name) (ps : List Part) (d : Domain) → IsName n → AllByRecursion (λ p. AllHaveWords p.body) ps → domain_with n ps ≡ Some d → DomainAgain d
+with_parts : (n : Name) (ps : List SectionBody) (d : Domain) → IsName n → AllByRecursion (λ p. AllHaveWords p.body) ps → domain_with n ps ≡ Some d → DomainAgain d
 with_parts n ps d name words h =
     let r = bind_some (requirements_in (section Requirements ps)) (λ r. after_requirements n ps r) d (sym (domain_is n ps) ∙ h) in
     let t = bind_some (types_in (section Types ps)) (λ t. after_types n ps r.0 t) d r.2 in
     let c = bind_some (objects_in t.0 (section Constants ps)) (λ c. after_constants n ps r.0 t.0 c) d t.2 in
-    let p = bind_some (forms_of t.0 (section Predicates ps) >>= named_once) (λ p. after_predicates n ps r.0 t.0 c.0 p) d c.2 in
-    let f = bind_some (numeric_forms t.0 false (section Functions ps) >>= named_once) (λ f. after_functions n ps r.0 t.0 c.0 p.0 f) d p.2 in
+    let p = bind_some (signatures_of t.0 (section Predicates ps) >>= named_once) (λ p. after_predicates n ps r.0 t.0 c.0 p) d c.2 in
+    let f = bind_some (numeric_signatures t.0 false (section Functions ps) >>= named_once) (λ f. after_functions n ps r.0 t.0 c.0 p.0 f) d p.2 in
     let σ = symbols t.0 c.0 p.0 f.0 in
     let a = bind_some (actions_in σ ps) (λ all. after_actions n r.0 t.0 c.0 p.0 f.0 all) d f.2 in
     let last = provided_some (not (has_twice (map (λ (a : Action). a.name) a.0))) (made n r.0 t.0 c.0 p.0 f.0 a.0) d a.2 in
@@ -388,12 +388,12 @@ with_parts n ps d name words h =
       words = (
         keyword (codes "define") refl,
         (
-          (keyword (codes "domain") refl, (name_word n name.form, tt)),
+          (keyword (codes "domain") refl, (name_word n name.signature, tt)),
           words_before (codes ":requirements") (name_shapes r.0) _ (keyword (codes ":requirements") refl) hr.1
               (words_before (codes ":types") (type_shapes t.0) _ (keyword (codes ":types") refl) ht.1
               (words_before (codes ":constants") (typed_shapes c.0) _ (keyword (codes ":constants") refl) hc.1
-              (words_before (codes ":predicates") (form_shapes p.0) _ (keyword (codes ":predicates") refl) hp.1
-              (words_before (codes ":functions") (form_shapes f.0) _ (keyword (codes ":functions") refl) hf.1 (action_words σ a.0 ha))))),
+              (words_before (codes ":predicates") (signature_shapes p.0) _ (keyword (codes ":predicates") refl) hp.1
+              (words_before (codes ":functions") (signature_shapes f.0) _ (keyword (codes ":functions") refl) hf.1 (action_words σ a.0 ha))))),
         ),
       );
     })

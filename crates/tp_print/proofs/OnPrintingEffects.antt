@@ -6,12 +6,12 @@ use Rattle.tp_ast.specs.Gives.{◌>>=◌}
 use Rattle.tp_ast.specs.Words.{lower, is_word, effect_word_of, joint_of, specifier_of}
 use Rattle.tp_ast.specs.Lists.{only, both}
 use Rattle.tp_ast.specs.Terms.{Fact}
-use Rattle.tp_ast.specs.Symbols.{Declared, Form, Symbols, atom_in}
+use Rattle.tp_ast.specs.Symbols.{Declared, SignatureView, Symbols, atom_in}
 use Rattle.tp_ast.specs.Expressions.{Expression, terms_for, expression_of}
 use Rattle.tp_ast.specs.Conditions.{Condition, condition_of}
 use Rattle.tp_ast.specs.Parts.{Joined, Reader, one, joined_of}
 use Rattle.tp_ast.specs.Effects.{SimpleEffect, adds, deletes, writes, atom_at, deleted, written, changed, simple_effect_of, Effect, effect_of, Timed, specifier_at, specified_tree, specified, timed_condition_of, effect_at, timed_effect_of}
-use Rattle.tp_print.specs.Printing.{one_shape, two_shapes, argument_shapes, fact_shape, expression_shape, condition_shape, writing_word, simple_effect_shape, effect_shape, mark_word, moment_word, timed_shape}
+use Rattle.tp_print.specs.Printing.{one_shape, two_shapes, argument_shapes, fact_shape, expression_shape, condition_shape, writing_word, simple_effect_shape, effect_shape, specifier_word, specifier_place, timed_shape}
 use Rattle.tp_ast.specs.declared.words.Writing.{Writing}
 use Rattle.tp_ast.specs.declared.words.Writing.TheVariants as writings
 use Rattle.tp_ast.specs.declared.words.TimeSpecifier.{TimeSpecifier}
@@ -64,17 +64,17 @@ writing_is_word writings.ScaleUp = keyword (codes "scale-up") refl
 
 -- ---- atoms as trees
 
-record FactAgain (σ : Symbols) (forms : List Form) (scope : List Declared) (f : Fact) : Type 0 where
-  again : atom_at σ forms scope (fact_shape f) ≡ Some f
+record FactAgain (σ : Symbols) (signatures : List SignatureView) (scope : List Declared) (f : Fact) : Type 0 where
+  again : atom_at σ signatures scope (fact_shape f) ≡ Some f
   words : HasWords (fact_shape f)
 
-fact_again : (σ : Symbols) (forms : List Form) (scope : List Declared) (s : Shape) (f : Fact) → atom_at σ forms scope s ≡ Some f → FactAgain σ forms scope f
+fact_again : (σ : Symbols) (signatures : List SignatureView) (scope : List Declared) (s : Shape) (f : Fact) → atom_at σ signatures scope s ≡ Some f → FactAgain σ signatures scope f
 unfolding atom_at
-fact_again σ forms scope (leaf w) f h = no_some h
-fact_again σ forms scope (node no_shapes) f h = no_some h
-fact_again σ forms scope (node (shape (node ss) rest)) f h = no_some h
-fact_again σ forms scope (node (shape (leaf w) rest)) f h =
-    let a = atom_again σ forms scope w rest f h in
+fact_again σ signatures scope (leaf w) f h = no_some h
+fact_again σ signatures scope (node no_shapes) f h = no_some h
+fact_again σ signatures scope (node (shape (node ss) rest)) f h = no_some h
+fact_again σ signatures scope (node (shape (leaf w) rest)) f h =
+    let a = atom_again σ signatures scope w rest f h in
     record { again = a.again; words = (a.word, a.words) }
 
 -- ---- effects
@@ -154,27 +154,27 @@ effect_again σ duration scope s e h = joined_again σ.types (simple_effect_of �
 
 -- ---- at time specifiers
 
-joint_mark : (m : TimeSpecifier) → joint_of (mark_word m) ≡ One
+joint_specifier : (m : TimeSpecifier) → joint_of (specifier_word m) ≡ One
 unfolding joint_of is_word
-joint_mark AtStart = refl
-joint_mark OverAll = refl
-joint_mark AtEnd = refl
+joint_specifier AtStart = refl
+joint_specifier OverAll = refl
+joint_specifier AtEnd = refl
 
-mark_is_word : (m : TimeSpecifier) → IsWord (mark_word m)
-mark_is_word AtStart = keyword (codes "at") refl
-mark_is_word OverAll = keyword (codes "over") refl
-mark_is_word AtEnd = keyword (codes "at") refl
+specifier_is_word : (m : TimeSpecifier) → IsWord (specifier_word m)
+specifier_is_word AtStart = keyword (codes "at") refl
+specifier_is_word OverAll = keyword (codes "over") refl
+specifier_is_word AtEnd = keyword (codes "at") refl
 
-moment_is_word : (m : TimeSpecifier) → IsWord (moment_word m)
-moment_is_word AtStart = keyword (codes "start") refl
-moment_is_word OverAll = keyword (codes "all") refl
-moment_is_word AtEnd = keyword (codes "end") refl
+place_is_word : (m : TimeSpecifier) → IsWord (specifier_place m)
+place_is_word AtStart = keyword (codes "start") refl
+place_is_word OverAll = keyword (codes "all") refl
+place_is_word AtEnd = keyword (codes "end") refl
 
-mark_reads : (m : TimeSpecifier) (s : Shape) → specified_tree (mark_word m) (two_shapes (leaf (moment_word m)) s) ≡ Some (m, s)
+specifier_reads : (m : TimeSpecifier) (s : Shape) → specified_tree (specifier_word m) (two_shapes (leaf (specifier_place m)) s) ≡ Some (m, s)
 unfolding specified_tree specifier_at specifier_of both only is_word
-mark_reads AtStart s = refl
-mark_reads OverAll s = refl
-mark_reads AtEnd s = refl
+specifier_reads AtStart s = refl
+specifier_reads OverAll s = refl
+specifier_reads AtEnd s = refl
 
 module _ {A : Type 0} (σ : Symbols) (inner : List Declared → TimeSpecifier → Shape → Option A) (tree : A → Shape) (inner_again : (scope : List Declared) (m : TimeSpecifier) (s : Shape) (x : A) → inner scope m s ≡ Some x → (inner scope m (tree x) ≡ Some x) × HasWords (tree x)) where
   abbrev reader : Reader (Timed A)
@@ -189,12 +189,12 @@ module _ {A : Type 0} (σ : Symbols) (inner : List Declared → TimeSpecifier �
       let b = bind_some (specified_tree w rest) (λ p. option_map (timed p.0) (inner scope p.0 p.1)) x h in
       let m = map_some (timed b.0.0) (inner scope b.0.0 b.0.1) x b.2 in
       let a = inner_again scope b.0.0 b.0.1 m.0 m.1 in
-      let args = two_shapes (leaf (moment_word b.0.0)) (tree m.0) in
+      let args = two_shapes (leaf (specifier_place b.0.0)) (tree m.0) in
       subst (λ (y : Timed A). JoinedAgain σ.types reader (timed_shape tree) scope (one y)) m.2 (record {
         again =
-            at_one σ.types reader (timed_shape tree) scope (mark_word b.0.0) args (timed b.0.0 m.0) (joint_mark b.0.0)
-            (ap (λ o. o >>= λ p. option_map (timed p.0) (inner scope p.0 p.1)) (mark_reads b.0.0 (tree m.0)) ∙ ap (option_map (timed b.0.0)) a.0);
-        words = (mark_is_word b.0.0, (moment_is_word b.0.0, (a.1, tt)));
+            at_one σ.types reader (timed_shape tree) scope (specifier_word b.0.0) args (timed b.0.0 m.0) (joint_specifier b.0.0)
+            (ap (λ o. o >>= λ p. option_map (timed p.0) (inner scope p.0 p.1)) (specifier_reads b.0.0 (tree m.0)) ∙ ap (option_map (timed b.0.0)) a.0);
+        words = (specifier_is_word b.0.0, (place_is_word b.0.0, (a.1, tt)));
       })
 
   pub timed_again : (scope : List Declared) (s : Shape) (j : Joined (Timed A)) → joined_of σ.types (λ within. specified (inner within)) scope s ≡ Some j → JoinedAgain σ.types (λ within. specified (inner within)) (timed_shape tree) scope j

@@ -10,7 +10,7 @@ use Rattle.std.specs.Fmt.{signed_decimal}
 use Rattle.tp_ast.specs.Gives.{◌>>=◌, provided}
 use Rattle.tp_ast.specs.Words.{lower, is_word, operator_of}
 use Rattle.tp_ast.specs.Terms.{Argument, Fact, is_name, name_of, terms_of}
-use Rattle.tp_ast.specs.Symbols.{Declared, Form, Symbols, form_of, arguments_fit, atom_in}
+use Rattle.tp_ast.specs.Symbols.{Declared, SignatureView, Symbols, signature_of, arguments_fit, atom_in}
 use Rattle.tp_ast.specs.Expressions.{Expression, number, fluent, sum, negative, difference, product, the_duration, Terms, terms_for, word_expression, is_operator, summed, multiplied, subtracted, computed, expression_of, expressions_of}
 use Rattle.tp_ast.specs.Conditions.{is_term}
 use Rattle.tp_print.specs.Printing.{one_shape, two_shapes, argument_shapes, expression_shape}
@@ -22,31 +22,31 @@ use Rattle.tp_print.proofs.OnPrintingNumbers.{IsNumber, number_read}
 
 -- ---- atoms
 
-pub record AtomAgain (σ : Symbols) (forms : List Form) (scope : List Declared) (w : List ℕ) (f : Fact) : Type 0 where
+pub record AtomAgain (σ : Symbols) (signatures : List SignatureView) (scope : List Declared) (w : List ℕ) (f : Fact) : Type 0 where
   pub name : f.name ≡ lower w
-  pub again : atom_in σ forms scope f.name (argument_shapes f.arguments) ≡ Some f
+  pub again : atom_in σ signatures scope f.name (argument_shapes f.arguments) ≡ Some f
   pub word : IsWord f.name
   pub words : AllHaveWords (argument_shapes f.arguments)
 
-pub atom_again : (σ : Symbols) (forms : List Form) (scope : List Declared) (w : List ℕ) (rest : Shapes) (f : Fact) → atom_in σ forms scope w rest ≡ Some f → AtomAgain σ forms scope w f
+pub atom_again : (σ : Symbols) (signatures : List SignatureView) (scope : List Declared) (w : List ℕ) (rest : Shapes) (f : Fact) → atom_in σ signatures scope w rest ≡ Some f → AtomAgain σ signatures scope w f
 unfolding atom_in
-atom_again σ forms scope w rest f h =
+atom_again σ signatures scope w rest f h =
     let made : List ℕ → List Argument → Fact = λ n ts. record { name = n; arguments = ts } in
-    let fits : Form → List Argument → Bool = λ form ts. arguments_fit σ.types σ.objects scope ts form.parameters in
-    let a = bind_some (name_of w) (λ n. form_of n forms >>= λ form. terms_of rest >>= λ ts. provided (fits form ts) (made n ts)) f h in
-    let b = bind_some (form_of a.0 forms) (λ form. terms_of rest >>= λ ts. provided (fits form ts) (made a.0 ts)) f a.2 in
+    let fits : SignatureView → List Argument → Bool = λ signature ts. arguments_fit σ.types σ.objects scope ts signature.parameters in
+    let a = bind_some (name_of w) (λ n. signature_of n signatures >>= λ signature. terms_of rest >>= λ ts. provided (fits signature ts) (made n ts)) f h in
+    let b = bind_some (signature_of a.0 signatures) (λ signature. terms_of rest >>= λ ts. provided (fits signature ts) (made a.0 ts)) f a.2 in
     let t = bind_some (terms_of rest) (λ ts. provided (fits b.0 ts) (made a.0 ts)) f b.2 in
     let p = provided_some (fits b.0 t.0) (made a.0 t.0) f t.2 in
     let name = name_read w a.0 a.1 in
     let terms = terms_again rest t.0 t.1 in
-    subst (AtomAgain σ forms scope w) p.1 (record {
+    subst (AtomAgain σ signatures scope w) p.1 (record {
       name = name.0;
       again =
-          ap (λ o. o >>= λ n. form_of n forms >>= λ form. terms_of (argument_shapes t.0) >>= λ ts. provided (fits form ts) (made n ts)) (name_again a.0 name.1)
-          ∙ ap (λ o. o >>= λ form. terms_of (argument_shapes t.0) >>= λ ts. provided (fits form ts) (made a.0 ts)) b.1
+          ap (λ o. o >>= λ n. signature_of n signatures >>= λ signature. terms_of (argument_shapes t.0) >>= λ ts. provided (fits signature ts) (made n ts)) (name_again a.0 name.1)
+          ∙ ap (λ o. o >>= λ signature. terms_of (argument_shapes t.0) >>= λ ts. provided (fits signature ts) (made a.0 ts)) b.1
           ∙ ap (λ o. o >>= λ ts. provided (fits b.0 ts) (made a.0 ts)) terms.0
           ∙ ap (λ (c : Bool). provided c (made a.0 t.0)) p.0;
-      word = name_word a.0 name.1.form;
+      word = name_word a.0 name.1.signature;
       words = terms.1;
     })
 

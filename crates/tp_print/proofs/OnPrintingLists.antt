@@ -35,8 +35,8 @@ item_again Variables n is = variable_again n is
 item_again Names n is = name_again n is
 
 item_word : (k : Items) (n : Name) → IsItem k n → IsWord n
-item_word Variables n is = variable_word n is.form
-item_word Names n is = name_word n is.form
+item_word Variables n is = variable_word n is.signature
+item_word Names n is = name_word n is.signature
 
 pub bytes_same : (a b : List ℕ) → bytes_eq a b ≡ true → a ≡ b
 bytes_same a b h = (bytes_eq-Decides a b).0 h
@@ -49,8 +49,8 @@ pub bytes_differ : (a b : List ℕ) → (a ≡ b → ⊥) → bytes_eq a b ≡ f
 bytes_differ a b never = differs (bytes_eq a b) (a ≡ b) (bytes_same a b) never
 
 no_dash : (k : Items) (n : Name) → IsItem k n → n ≡ codes "-" → ⊥
-no_dash Variables n is e = let f : false ≡ true = ap is_variable (sym e) ∙ is.form in cc
-no_dash Names n is e = let f : false ≡ true = ap is_name (sym e) ∙ is.form in cc
+no_dash Variables n is e = let f : false ≡ true = ap is_variable (sym e) ∙ is.signature in cc
+no_dash Names n is e = let f : false ≡ true = ap is_name (sym e) ∙ is.signature in cc
 
 item_no_dash : (k : Items) (n : Name) → IsItem k n → is_dash (leaf n) ≡ false
 unfolding is_dash
@@ -80,7 +80,7 @@ names_again (n ∷ ns) h =
 
 names_words : (ns : List Name) → AllByRecursion IsName ns → AllHaveWords (name_shapes ns)
 names_words [] h = tt
-names_words (n ∷ ns) h = (name_word n h.0.form, names_words ns h.1)
+names_words (n ∷ ns) h = (name_word n h.0.signature, names_words ns h.1)
 
 pub record AreTypes (k : Items) (ts : List Name) : Type 0 where
   pub again : type_at k (types_shape ts) ≡ Some ts
@@ -88,8 +88,8 @@ pub record AreTypes (k : Items) (ts : List Name) : Type 0 where
 
 pub one_type : (k : Items) (n : Name) → IsName n → AreTypes k (n ∷ [])
 unfolding type_at
-one_type Variables n is = record { again = ap (option_map (λ m. m ∷ [])) (name_again n is); words = name_word n is.form }
-one_type Names n is = record { again = ap (option_map (λ m. m ∷ [])) (name_again n is); words = name_word n is.form }
+one_type Variables n is = record { again = ap (option_map (λ m. m ∷ [])) (name_again n is); words = name_word n is.signature }
+one_type Names n is = record { again = ap (option_map (λ m. m ∷ [])) (name_again n is); words = name_word n is.signature }
 
 some_types : (ns ts : List Name) → AllByRecursion IsName ns → some_of ns ≡ Some ts → AreTypes Variables ts
 unfolding type_at either_of is_either is_word

@@ -1,6 +1,6 @@
 -- The text that is printed spells the tree that is printed.
 use Rattle.std.proofs.Common.{◌≡◌, ℕ, List, [], ◌∷◌, ◌++◌, false, codes, refl, sym, subst, append_assoc}
-use Rattle.tp_text.specs.Marks.{Mark, left, right, word, class, begins_word}
+use Rattle.tp_text.specs.Lexemes.{Lexeme, left, right, word, class, begins_word}
 use Rattle.tp_text.specs.Shapes.{Shapes, no_shapes, shape, written, all_written, Spells}
 use Rattle.tp_text.specs.Texts.{shape_text, HasWords, AllHaveWords}
 use Rattle.tp_text.proofs.OnTexts.{Reads, none, reads_left, reads_right, reads_space, reads_line_end, reads_word, reads_shape}
@@ -18,11 +18,11 @@ space_ends_word : (bytes : List ℕ) → begins_word (32 ∷ bytes) ≡ false
 unfolding class
 space_ends_word bytes = refl
 
-reads_lines : (ss : Shapes) (bytes : List ℕ) (ms : List Mark) → AllHaveWords ss → Reads bytes ms → Reads (lines_text ss ++ bytes) (all_written ss ++ ms)
+reads_lines : (ss : Shapes) (bytes : List ℕ) (ms : List Lexeme) → AllHaveWords ss → Reads bytes ms → Reads (lines_text ss ++ bytes) (all_written ss ++ ms)
 reads_lines no_shapes bytes ms words h = h
 reads_lines (shape s ss) bytes ms words h =
     subst (λ (t : List ℕ). Reads t ((written s ++ all_written ss) ++ ms)) (sym (append_assoc (shape_text s) (10 ∷ lines_text ss) bytes))
-    (subst (λ (ns : List Mark). Reads (shape_text s ++ (10 ∷ (lines_text ss ++ bytes))) ns) (sym (append_assoc (written s) (all_written ss) ms))
+    (subst (λ (ns : List Lexeme). Reads (shape_text s ++ (10 ∷ (lines_text ss ++ bytes))) ns) (sym (append_assoc (written s) (all_written ss) ms))
     (reads_shape s (10 ∷ (lines_text ss ++ bytes)) (all_written ss ++ ms) words.0 (line_ends_word (lines_text ss ++ bytes)) (reads_line_end (lines_text ss ++ bytes) (all_written ss ++ ms) (reads_lines ss bytes ms words.1 h))))
 
 text_spells : (d : Domain) → HasWords (domain_shape d) → Spells (domain_text d) (domain_shape d)
@@ -36,7 +36,7 @@ text_spells d words =
     let lines = reads_lines ss end (right ∷ []) words.1.1 closing in
     let name = reads_shape n (10 ∷ (lines_text ss ++ end)) ms words.1.0 (line_ends_word (lines_text ss ++ end)) (reads_line_end (lines_text ss ++ end) ms lines) in
     let all = reads_left (codes "define" ++ (32 ∷ rest)) (word (codes "define") ∷ (written n ++ ms)) (reads_word (codes "define") (32 ∷ rest) (written n ++ ms) words.0 (space_ends_word rest) (reads_space rest (written n ++ ms) name)) in
-    subst (λ (ns : List Mark). Reads (domain_text d) (left ∷ word (codes "define") ∷ ns)) (sym (append_assoc (written n) (all_written ss) (right ∷ []))) all 0
+    subst (λ (ns : List Lexeme). Reads (domain_text d) (left ∷ word (codes "define") ∷ ns)) (sym (append_assoc (written n) (all_written ss) (right ∷ []))) all 0
 
 pub spelled_again : (d : Domain) → IsSpelledAgain d
 spelled_again d text h =

@@ -191,7 +191,7 @@ names_left (p ∷ ps) h = names_step (plain p) p (filter plain ps) h.0 (names_le
 -- ---- those that stand there with those that are mentioned
 
 object_name : IsName object
-object_name = record { form = refl; is_lower = refl }
+object_name = record { signature = refl; is_lower = refl }
 
 all_append : {X : Type 0} (P : X → Type 0) (xs ys : List X) → AllByRecursion P xs → AllByRecursion P ys → AllByRecursion P (xs ++ ys)
 all_append P [] ys h k = k

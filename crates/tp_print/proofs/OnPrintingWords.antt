@@ -128,32 +128,32 @@ variable_word (b ∷ w) h =
 
 -- a name in lower case, as it was read
 pub record IsName (n : List ℕ) : Type 0 where
-  pub form : is_name n ≡ true
+  pub signature : is_name n ≡ true
   pub is_lower : lower n ≡ n
 
 pub record IsVariable (n : List ℕ) : Type 0 where
-  pub form : is_variable n ≡ true
+  pub signature : is_variable n ≡ true
   pub is_lower : lower n ≡ n
 
 pub name_read : (w n : List ℕ) → name_of w ≡ Some n → (n ≡ lower w) × IsName n
 unfolding name_of
 name_read w n h =
     let p = provided_some (is_name w) (lower w) n h in
-    (sym p.1, subst IsName p.1 (record { form = lower_name w p.0; is_lower = lower_lower w }))
+    (sym p.1, subst IsName p.1 (record { signature = lower_name w p.0; is_lower = lower_lower w }))
 
 pub name_again : (n : List ℕ) → IsName n → name_of n ≡ Some n
 unfolding name_of
-name_again n is = ap (λ (b : Bool). cond b (Some (lower n)) None) is.form ∙ ap Some is.is_lower
+name_again n is = ap (λ (b : Bool). cond b (Some (lower n)) None) is.signature ∙ ap Some is.is_lower
 
 pub variable_read : (w n : List ℕ) → variable_of w ≡ Some n → (n ≡ lower w) × IsVariable n
 unfolding variable_of
 variable_read w n h =
     let p = provided_some (is_variable w) (lower w) n h in
-    (sym p.1, subst IsVariable p.1 (record { form = lower_variable w p.0; is_lower = lower_lower w }))
+    (sym p.1, subst IsVariable p.1 (record { signature = lower_variable w p.0; is_lower = lower_lower w }))
 
 pub variable_again : (n : List ℕ) → IsVariable n → variable_of n ≡ Some n
 unfolding variable_of
-variable_again n is = ap (λ (b : Bool). cond b (Some (lower n)) None) is.form ∙ ap Some is.is_lower
+variable_again n is = ap (λ (b : Bool). cond b (Some (lower n)) None) is.signature ∙ ap Some is.is_lower
 
 not_mark : (b : ℕ) → is_ascii_alphabetic b ≡ true → eqb b 63 ≡ false
 not_mark b h = grind (arith, nat_tests)
@@ -173,7 +173,7 @@ IsTerm (variable n) = IsVariable n
 
 read_term : (b : Bool) (w : List ℕ) (t : Argument) → is_variable w ≡ b → cond b (Some (variable (lower w))) (option_map object (name_of w)) ≡ Some t → IsTerm t
 unfolding IsTerm
-read_term true w t is h = subst IsTerm (some_is (variable (lower w)) t h) (record { form = lower_variable w is; is_lower = lower_lower w })
+read_term true w t is h = subst IsTerm (some_is (variable (lower w)) t h) (record { signature = lower_variable w is; is_lower = lower_lower w })
 read_term false w t is h =
     let m = map_some object (name_of w) t h in
     subst IsTerm m.2 (name_read w m.0 m.1).1
@@ -185,13 +185,13 @@ term_read (node ss) t h = no_some h
 
 pub term_again : (t : Argument) → IsTerm t → term_at (argument_shape t) ≡ Some t
 unfolding term_at term_of IsTerm
-term_again (object n) is = ap (λ (b : Bool). cond b (Some (variable (lower n))) (option_map object (name_of n))) (no_variable n is.form) ∙ ap (option_map object) (name_again n is)
-term_again (variable n) is = ap (λ (b : Bool). cond b (Some (variable (lower n))) (option_map object (name_of n))) is.form ∙ ap (λ (m : List ℕ). Some (variable m)) is.is_lower
+term_again (object n) is = ap (λ (b : Bool). cond b (Some (variable (lower n))) (option_map object (name_of n))) (no_variable n is.signature) ∙ ap (option_map object) (name_again n is)
+term_again (variable n) is = ap (λ (b : Bool). cond b (Some (variable (lower n))) (option_map object (name_of n))) is.signature ∙ ap (λ (m : List ℕ). Some (variable m)) is.is_lower
 
 pub term_words : (t : Argument) → IsTerm t → HasWords (argument_shape t)
 unfolding IsTerm
-term_words (object n) is = name_word n is.form
-term_words (variable n) is = variable_word n is.form
+term_words (object n) is = name_word n is.signature
+term_words (variable n) is = variable_word n is.signature
 
 pub terms_read : (ss : Shapes) (ts : List Argument) → terms_of ss ≡ Some ts → AllByRecursion IsTerm ts
 unfolding terms_of

@@ -5,7 +5,7 @@ use Rattle.tp_text.specs.Shapes.{Shape, Shapes, no_shapes, shape}
 use Rattle.tp_text.specs.Texts.{shape_text}
 use Rattle.tp_ast.specs.Domains.{Domain, SpellsDomain}
 use Rattle.tp_ast.specs.Symbols.{Declared}
-use Rattle.tp_print.specs.Printing.{headed, name_shapes, types_shape, typed_shapes, type_shapes, form_shapes, mark_word, moment_word, name_shape, section_shapes}
+use Rattle.tp_print.specs.Printing.{headed, name_shapes, types_shape, typed_shapes, type_shapes, signature_shapes, specifier_word, specifier_place, name_shape, section_shapes}
 use Rattle.tp_ast.specs.declared.words.TimeSpecifier.{TimeSpecifier}
 
 -- each on a line of its own, which ends in LF
@@ -24,8 +24,8 @@ declarations_text d =
     section_line (codes ":requirements") (name_shapes d.requirements)
     ++ (section_line (codes ":types") (type_shapes d.types)
     ++ (section_line (codes ":constants") (typed_shapes d.constants)
-    ++ (section_line (codes ":predicates") (form_shapes d.predicates)
-    ++ section_line (codes ":functions") (form_shapes d.functions))))
+    ++ (section_line (codes ":predicates") (signature_shapes d.predicates)
+    ++ section_line (codes ":functions") (signature_shapes d.functions))))
 
 -- a name with its types
 abbrev pub item_text : Declared → List ℕ
@@ -36,8 +36,8 @@ abbrev pub operands_text : Shape → Shape → List ℕ
 operands_text s t = 32 ∷ (shape_text s ++ 32 ∷ (shape_text t ++ 41 ∷ []))
 
 -- a time specifier's words behind '('
-abbrev pub moment_text : TimeSpecifier → List ℕ
-moment_text m = 40 ∷ (mark_word m ++ 32 ∷ (moment_word m ++ 32 ∷ []))
+abbrev pub specifier_text : TimeSpecifier → List ℕ
+specifier_text m = 40 ∷ (specifier_word m ++ 32 ∷ (specifier_place m ++ 32 ∷ []))
 
 -- a writer that tells its bytes took these
 pub record Took (old new : Option (List ℕ)) (bytes : List ℕ) : Type 0 where

@@ -3,15 +3,15 @@ use Rattle.std.specs.Prelude.{ℕ, List, [], ◌∷◌, codes}
 use Rattle.std.specs.Fmt.{signed_decimal}
 use Rattle.tp_text.specs.Shapes.{Shape, leaf, node, Shapes, no_shapes, shape}
 use Rattle.tp_ast.specs.Terms.{Argument, object, variable, Fact}
-use Rattle.tp_ast.specs.Symbols.{Name, Declared, Parent, Form}
+use Rattle.tp_ast.specs.Symbols.{Name, Declared, Parent, SignatureView}
 use Rattle.tp_ast.specs.Expressions.{Expression, number, fluent, sum, negative, difference, product, the_duration}
 use Rattle.tp_ast.specs.Conditions.{Condition, Conditions, all_of, any_of, negation, implies, for_all, for_some, fact, same, compared, no_conditions, condition}
 use Rattle.tp_ast.specs.Parts.{Joined, Parts, all_parts, for_each, one, no_parts, part}
-use Rattle.tp_ast.specs.Effects.{SimpleEffect, adds, deletes, writes, Effect, Timed, Rule, Rules, all_rules, rule, no_rules, more_rules}
+use Rattle.tp_ast.specs.Effects.{SimpleEffect, adds, deletes, writes, Effect, Timed, Constraint, Constraints, all_constraints, constraint, no_constraints, more_constraints}
 use Rattle.tp_ast.specs.Actions.{Action, Body, instant, durative}
 use Rattle.tp_ast.specs.Domains.{Domain}
 use Rattle.tp_ast.specs.declared.words.Comparison.{Comparison}
-use Rattle.tp_ast.specs.declared.words.Comparison.TheVariants.{Less, AtMost, Equal, AtLeast, More}
+use Rattle.tp_ast.specs.declared.words.Comparison.TheVariants.{Less, AtMost, Equal, AtLeast, Greater}
 use Rattle.tp_ast.specs.declared.words.Writing.{Writing}
 use Rattle.tp_ast.specs.declared.words.Writing.TheVariants.{Assign, Increase, Decrease, ScaleUp}
 use Rattle.tp_ast.specs.declared.words.TimeSpecifier.{TimeSpecifier}
@@ -71,7 +71,7 @@ comparison_word Less = codes "<"
 comparison_word AtMost = codes "<="
 comparison_word Equal = codes "="
 comparison_word AtLeast = codes ">="
-comparison_word More = codes ">"
+comparison_word Greater = codes ">"
 
 abbrev mutual
   pub condition_shape : Condition → Shape
@@ -119,35 +119,35 @@ simple_effect_shape (writes op f x) =
 abbrev pub effect_shape : Effect → Shape
 effect_shape e = joined_shape simple_effect_shape e
 
-abbrev pub mark_word : TimeSpecifier → List ℕ
-mark_word AtStart = codes "at"
-mark_word OverAll = codes "over"
-mark_word AtEnd = codes "at"
+abbrev pub specifier_word : TimeSpecifier → List ℕ
+specifier_word AtStart = codes "at"
+specifier_word OverAll = codes "over"
+specifier_word AtEnd = codes "at"
 
-abbrev pub moment_word : TimeSpecifier → List ℕ
-moment_word AtStart = codes "start"
-moment_word OverAll = codes "all"
-moment_word AtEnd = codes "end"
+abbrev pub specifier_place : TimeSpecifier → List ℕ
+specifier_place AtStart = codes "start"
+specifier_place OverAll = codes "all"
+specifier_place AtEnd = codes "end"
 
 abbrev pub timed_shape : {A : Type 0} → (A → Shape) → Timed A → Shape
-timed_shape f t = headed (mark_word t.specifier) (two_shapes (leaf (moment_word t.specifier)) (f t.what))
+timed_shape f t = headed (specifier_word t.specifier) (two_shapes (leaf (specifier_place t.specifier)) (f t.what))
 
 abbrev mutual
-  pub rule_shape : Rule → Shape
-  rule_shape (all_rules rs) = headed (codes "and") (rule_shapes rs)
-  rule_shape (rule op x) =
+  pub constraint_shape : Constraint → Shape
+  constraint_shape (all_constraints rs) = headed (codes "and") (constraint_shapes rs)
+  constraint_shape (constraint op x) =
       headed (comparison_word op) (two_shapes (leaf (codes "?duration")) (expression_shape x))
 
-  pub rule_shapes : Rules → Shapes
-  rule_shapes no_rules = no_shapes
-  rule_shapes (more_rules r rs) = shape (rule_shape r) (rule_shapes rs)
+  pub constraint_shapes : Constraints → Shapes
+  constraint_shapes no_constraints = no_shapes
+  constraint_shapes (more_constraints r rs) = shape (constraint_shape r) (constraint_shapes rs)
 
 -- a field's word and its value before the rest
 abbrev pub field_before : List ℕ → Shape → Shapes → Shapes
 field_before w s rest = shape (leaf w) (shape s rest)
 
-abbrev pub moment_shapes : Joined (Timed Condition) → Joined (Timed Effect) → Shapes
-moment_shapes c e =
+abbrev pub timed_shapes : Joined (Timed Condition) → Joined (Timed Effect) → Shapes
+timed_shapes c e =
     field_before (codes ":condition") (joined_shape (timed_shape condition_shape) c)
     (field_before (codes ":effect") (joined_shape (timed_shape effect_shape) e) no_shapes)
 
@@ -155,7 +155,7 @@ abbrev pub body_shapes : Body → Shapes
 body_shapes (instant c e) =
     field_before (codes ":precondition")
     (condition_shape c) (field_before (codes ":effect") (effect_shape e) no_shapes)
-body_shapes (durative r c e) = field_before (codes ":duration") (rule_shape r) (moment_shapes c e)
+body_shapes (durative r c e) = field_before (codes ":duration") (constraint_shape r) (timed_shapes c e)
 
 abbrev pub body_word : Body → List ℕ
 body_word (instant c e) = codes ":action"
@@ -178,12 +178,12 @@ type_shapes (t ∷ ts) =
     shape (leaf t.name) (shape (leaf (codes "-")) (shape (leaf t.parent) (type_shapes ts)))
 
 -- of predicates and functions: functions carry no type
-abbrev pub form_shape : Form → Shape
-form_shape f = headed f.name (typed_shapes f.parameters)
+abbrev pub signature_shape : SignatureView → Shape
+signature_shape f = headed f.name (typed_shapes f.parameters)
 
-abbrev pub form_shapes : List Form → Shapes
-form_shapes [] = no_shapes
-form_shapes (f ∷ fs) = shape (form_shape f) (form_shapes fs)
+abbrev pub signature_shapes : List SignatureView → Shapes
+signature_shapes [] = no_shapes
+signature_shapes (f ∷ fs) = shape (signature_shape f) (signature_shapes fs)
 
 -- a section before the rest, left out where it is empty
 abbrev pub section_before : List ℕ → Shapes → Shapes → Shapes
@@ -195,8 +195,8 @@ section_shapes d =
     section_before (codes ":requirements") (name_shapes d.requirements)
     (section_before (codes ":types") (type_shapes d.types)
     (section_before (codes ":constants") (typed_shapes d.constants)
-    (section_before (codes ":predicates") (form_shapes d.predicates)
-    (section_before (codes ":functions") (form_shapes d.functions) (action_shapes d.actions)))))
+    (section_before (codes ":predicates") (signature_shapes d.predicates)
+    (section_before (codes ":functions") (signature_shapes d.functions) (action_shapes d.actions)))))
 
 abbrev pub name_shape : Domain → Shape
 name_shape d = headed (codes "domain") (one_shape (leaf d.name))

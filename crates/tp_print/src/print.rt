@@ -4,14 +4,14 @@ ghost use Rattle.std.specs.Prelude.{◌≡◌, [], ◌∷◌, ◌++◌, map, cod
 ghost use Rattle.std.specs.Io.KnownBytes.{Appends};
 ghost use Rattle.tp_device.specs.Bytes.{failures_after};
 ghost use Rattle.tp_text.specs.Texts.{shape_text, more_text};
-ghost use Rattle.tp_ast.specs.Symbols.{typed_view, parent_view, form_view};
+ghost use Rattle.tp_ast.specs.Symbols.{typed_view, parent_view, signature_view};
 ghost use Rattle.tp_ast.specs.EffectViews.{timed_condition_view, timed_effect_view};
 ghost use Rattle.tp_ast.specs.DomainViews.{body_view, action_view, domain_view};
-ghost use Rattle.tp_print.specs.Printing.{name_shapes, typed_shapes, moment_shapes, body_shapes, body_word, field_shapes, action_shape, action_shapes, type_shapes, form_shape, form_shapes, name_shape};
+ghost use Rattle.tp_print.specs.Printing.{name_shapes, typed_shapes, timed_shapes, body_shapes, body_word, field_shapes, action_shape, action_shapes, type_shapes, signature_shape, signature_shapes, name_shape};
 ghost use Rattle.tp_print.specs.DomainTexts.{Took, lines_text, section_line, declarations_text, domain_text, IsSpelledAgain};
 
 use crate::print_parts::{
-    print_cond, print_items, print_joined, print_names, print_rule, print_variables, put,
+    print_cond, print_constraint, print_items, print_joined, print_names, print_variables, put,
 };
 use tp_ast::action::{Action, Body};
 use tp_ast::domain::Domain;
@@ -21,13 +21,13 @@ use tp_ast::types::TypeName;
 use tp_device::{Failed, Sink};
 
 // Conditions and effects at their time specifiers, each behind its word.
-fn print_moments<W: Sink>(
+fn print_timed<W: Sink>(
     writer: &mut W,
     condition: &TimedCond,
     effect: &TimedEffect,
 ) -> Result<(), Failed>
     ensures bytes { OnOk result (Took (W.held writer.old) (W.held writer.new) (more_text
-        (moment_shapes (timed_condition_view condition.now) (timed_effect_view effect.now)))) }
+        (timed_shapes (timed_condition_view condition.now) (timed_effect_view effect.now)))) }
     ensures cause { W.failures writer.new ≡ failures_after (W.failures writer.old) result }
 {
     put(writer, b" :condition ")?;
@@ -58,8 +58,8 @@ fn print_body<W: Sink>(writer: &mut W, body: &Body) -> Result<(), Failed>
             effect,
         } => {
             put(writer, b" :duration ")?;
-            print_rule(writer, duration)?;
-            print_moments(writer, condition, effect)
+            print_constraint(writer, duration)?;
+            print_timed(writer, condition, effect)
         }
     }
 }
@@ -123,26 +123,27 @@ fn print_parents<W: Sink>(writer: &mut W, types: &[TypeName]) -> Result<(), Fail
     Ok(())
 }
 
-fn print_form<W: Sink>(writer: &mut W, form: &Signature) -> Result<(), Failed>
+fn print_signature<W: Sink>(writer: &mut W, signature: &Signature) -> Result<(), Failed>
     ensures bytes { OnOk result (Took
-        (W.held writer.old) (W.held writer.new) (shape_text (form_shape (form_view form.now)))) }
+        (W.held writer.old) (W.held writer.new)
+        (shape_text (signature_shape (signature_view signature.now)))) }
     ensures cause { W.failures writer.new ≡ failures_after (W.failures writer.old) result }
 {
     put(writer, b"(")?;
-    put(writer, form.name.as_bytes())?;
-    print_items(writer, &form.parameters)?;
+    put(writer, signature.name.as_bytes())?;
+    print_items(writer, &signature.parameters)?;
     put(writer, b")")
 }
 
 // Predicates or functions, each after a space.
-fn print_forms<W: Sink>(writer: &mut W, forms: &[Signature]) -> Result<(), Failed>
+fn print_signatures<W: Sink>(writer: &mut W, signatures: &[Signature]) -> Result<(), Failed>
     ensures bytes { OnOk result (Took (W.held writer.old)
-        (W.held writer.new) (more_text (form_shapes (map form_view forms.now)))) }
+        (W.held writer.new) (more_text (signature_shapes (map signature_view signatures.now)))) }
     ensures cause { W.failures writer.new ≡ failures_after (W.failures writer.old) result }
 {
-    for form in forms {
+    for signature in signatures {
         put(writer, b" ")?;
-        print_form(writer, form)?;
+        print_signature(writer, signature)?;
     }
     Ok(())
 }
@@ -186,29 +187,31 @@ fn print_constants<W: Sink>(writer: &mut W, constants: &[Typed]) -> Result<(), F
     put(writer, b")\n")
 }
 
-fn print_predicates<W: Sink>(writer: &mut W, forms: &[Signature]) -> Result<(), Failed>
+fn print_predicates<W: Sink>(writer: &mut W, signatures: &[Signature]) -> Result<(), Failed>
     ensures bytes { OnOk result (Took (W.held writer.old) (W.held writer.new)
-        (section_line (codes ":predicates") (form_shapes (map form_view forms.now)))) }
+        (section_line (codes ":predicates")
+        (signature_shapes (map signature_view signatures.now)))) }
     ensures cause { W.failures writer.new ≡ failures_after (W.failures writer.old) result }
 {
-    if forms.is_empty() {
+    if signatures.is_empty() {
         return Ok(());
     }
     put(writer, b"(:predicates")?;
-    print_forms(writer, forms)?;
+    print_signatures(writer, signatures)?;
     put(writer, b")\n")
 }
 
-fn print_functions<W: Sink>(writer: &mut W, forms: &[Signature]) -> Result<(), Failed>
+fn print_functions<W: Sink>(writer: &mut W, signatures: &[Signature]) -> Result<(), Failed>
     ensures bytes { OnOk result (Took (W.held writer.old) (W.held writer.new)
-        (section_line (codes ":functions") (form_shapes (map form_view forms.now)))) }
+        (section_line (codes ":functions")
+        (signature_shapes (map signature_view signatures.now)))) }
     ensures cause { W.failures writer.new ≡ failures_after (W.failures writer.old) result }
 {
-    if forms.is_empty() {
+    if signatures.is_empty() {
         return Ok(());
     }
     put(writer, b"(:functions")?;
-    print_forms(writer, forms)?;
+    print_signatures(writer, signatures)?;
     put(writer, b")\n")
 }
 

@@ -13,18 +13,18 @@ ghost use Rattle.tp_ast.specs.CondViews.{cond_view};
 ghost use Rattle.tp_ast.specs.Conditions.{Condition, conditions, same, compared};
 ghost use Rattle.tp_ast.specs.Parts.{parts};
 ghost use Rattle.tp_ast.specs.PartViews.{joined_view};
-ghost use Rattle.tp_ast.specs.Effects.{rules_in, writes};
+ghost use Rattle.tp_ast.specs.Effects.{constraints_in, writes};
 ghost use Rattle.tp_ast.specs.EffectViews.{simple_effect_view, effect_view, timed_view};
-ghost use Rattle.tp_ast.specs.RuleViews.{rule_view};
-ghost use Rattle.tp_print.specs.Printing.{argument_shape, argument_shapes, fact_shape, name_shapes, types_shape, typed_shapes, expression_shape, comparison_word, condition_shape, condition_shapes, joined_shape, part_shapes, writing_word, simple_effect_shape, effect_shape, timed_shape, rule_shape, rule_shapes};
-ghost use Rattle.tp_print.specs.DomainTexts.{Took, item_text, operands_text, moment_text};
+ghost use Rattle.tp_ast.specs.ConstraintViews.{constraint_view};
+ghost use Rattle.tp_print.specs.Printing.{argument_shape, argument_shapes, fact_shape, name_shapes, types_shape, typed_shapes, expression_shape, comparison_word, condition_shape, condition_shapes, joined_shape, part_shapes, writing_word, simple_effect_shape, effect_shape, timed_shape, constraint_shape, constraint_shapes};
+ghost use Rattle.tp_print.specs.DomainTexts.{Took, item_text, operands_text, specifier_text};
 
 use itoa::Buffer;
 use tp_ast::cond::Cond;
+use tp_ast::constraint::DurationConstraint;
 use tp_ast::effect::{Effect, SimpleEffect};
 use tp_ast::expr::Expr;
 use tp_ast::joined::Joined;
-use tp_ast::rule::DurationRule;
 use tp_ast::symbols::Typed;
 use tp_ast::term::{Atom, Term};
 use tp_ast::timed::Timed;
@@ -175,7 +175,7 @@ fn print_expr<W: Sink>(writer: &mut W, expr: &Expr) -> Result<(), Failed>
             print_expr(writer, a)?;
             print_last_operand(writer, b)
         }
-        Expr::Negative(a) => {
+        Expr::Negated(a) => {
             put(writer, b"(-")?;
             print_last_operand(writer, a)
         }
@@ -201,7 +201,7 @@ fn comparison_word(comparison: Comparison) -> &'static [u8]
         Comparison::AtMost => b"<=",
         Comparison::Equal => b"=",
         Comparison::AtLeast => b">=",
-        Comparison::More => b">",
+        Comparison::Greater => b">",
     }
 }
 
@@ -433,8 +433,8 @@ impl Printed for SimpleEffect {
 }
 
 // A time specifier's words behind '(', with a space after each.
-fn moment_words(specifier: TimeSpecifier) -> &'static [u8]
-    ensures { result.now ≡ moment_text specifier }
+fn specifier_words(specifier: TimeSpecifier) -> &'static [u8]
+    ensures { result.now ≡ specifier_text specifier }
 {
     match specifier {
         TimeSpecifier::AtStart => b"(at start ",
@@ -451,7 +451,7 @@ impl Printed for Timed<Cond> {
     ghost tree = { timed_shape condition_shape };
 
     fn print<W: Sink>(&self, writer: &mut W) -> Result<(), Failed> {
-        put(writer, moment_words(self.specifier))?;
+        put(writer, specifier_words(self.specifier))?;
         print_cond(writer, &self.what)?;
         put(writer, b")")
     }
@@ -465,39 +465,47 @@ impl Printed for Timed<Effect> {
     ghost tree = { timed_shape effect_shape };
 
     fn print<W: Sink>(&self, writer: &mut W) -> Result<(), Failed> {
-        put(writer, moment_words(self.specifier))?;
+        put(writer, specifier_words(self.specifier))?;
         print_joined(writer, &self.what)?;
         put(writer, b")")
     }
 }
 
 // Duration constraints, each after a space.
-#[cycle(print_rule)]
-fn print_rules<W: Sink>(writer: &mut W, rules: &[DurationRule]) -> Result<(), Failed>
+#[cycle(print_constraint)]
+fn print_constraints<W: Sink>(
+    writer: &mut W,
+    constraints: &[DurationConstraint],
+) -> Result<(), Failed>
     ensures bytes { OnOk result (Took (W.held writer.old)
-        (W.held writer.new) (more_text (rule_shapes (rules_in (map rule_view rules.now))))) }
+        (W.held writer.new)
+        (more_text (constraint_shapes (constraints_in (map constraint_view constraints.now))))) }
     ensures cause { W.failures writer.new ≡ failures_after (W.failures writer.old) result }
 {
-    for rule in rules {
+    for constraint in constraints {
         put(writer, b" ")?;
-        print_rule(writer, rule)?;
+        print_constraint(writer, constraint)?;
     }
     Ok(())
 }
 
-#[cycle(print_rule)]
-pub fn print_rule<W: Sink>(writer: &mut W, rule: &DurationRule) -> Result<(), Failed>
+#[cycle(print_constraint)]
+pub fn print_constraint<W: Sink>(
+    writer: &mut W,
+    constraint: &DurationConstraint,
+) -> Result<(), Failed>
     ensures bytes { OnOk result (Took
-        (W.held writer.old) (W.held writer.new) (shape_text (rule_shape (rule_view rule.now)))) }
+        (W.held writer.old) (W.held writer.new)
+        (shape_text (constraint_shape (constraint_view constraint.now)))) }
     ensures cause { W.failures writer.new ≡ failures_after (W.failures writer.old) result }
 {
-    match rule {
-        DurationRule::And(rules) => {
+    match constraint {
+        DurationConstraint::And(constraints) => {
             put(writer, b"(and")?;
-            print_rules(writer, rules)?;
+            print_constraints(writer, constraints)?;
             put(writer, b")")
         }
-        DurationRule::Limit(comparison, value) => {
+        DurationConstraint::Limit(comparison, value) => {
             put(writer, b"(")?;
             put(writer, comparison_word(*comparison))?;
             put(writer, b" ?duration ")?;

@@ -6,7 +6,7 @@ use Rattle.std.specs.String.{string_bytes}
 use Rattle.tp_device.specs.Bytes.{AppendsPart}
 use Rattle.tp_device.proofs.Parts.{appends_none}
 use Rattle.tp_bare.specs.Bare.{AnswersAll, AnswersPart, IsRefused, first_machine}
-use Rattle.tp_exec.specs.Machine.{Machine}
+use Rattle.tp_machine.specs.Machine.{Machine}
 use Rattle.tp_script.specs.Pending.{Reading}
 use Rattle.tp_script.specs.declared.serving.Served.{Served}
 use Rattle.tp_journal.specs.Journal.{Entry}

@@ -252,7 +252,7 @@ fn no_step_ends_past_the_horizon(rt: HostRuntime) {
 }
 
 #[test]
-fn durations_keep_their_rule(rt: HostRuntime) {
+fn durations_keep_their_constraint(rt: HostRuntime) {
     assert_eq!(rt; first_wrong(rt.alloc(), CHARGE, &DURATIONS), None);
 }
 

@@ -1,2 +1,2 @@
 pub mod OnEffects
-pub mod OnRules
+pub mod OnConstraints

@@ -20,19 +20,19 @@ use tp_ast::expr::Expr;
 use tp_ast::fault::{LeftOutPart, SyntaxFault};
 use tp_ast::symbols::Typed;
 use tp_ast::term::{Atom, Term};
-use tp_ast::words::{Comparison, CondKind, Head, head_of};
+use tp_ast::words::{Comparison, CondKind, CondWord, cond_word_of};
 use tp_names::symbols::{Scope, Symbols, argument_known, atom_in};
 use tp_names::term::{is_name, is_variable, terms_of};
 use tp_names::typed::{parameters_at, place};
 use tp_names::variables::Variables;
 use tp_text::{Token, Tree};
 
-fn kind_of(head: Head) -> CondKind
+fn kind_of(head: CondWord) -> CondKind
     ensures { result ≡ kind_of head }
 {
     match head {
-        Head::And | Head::Or | Head::Not | Head::Imply => CondKind::Joined,
-        Head::Forall | Head::Exists => CondKind::Bound,
+        CondWord::And | CondWord::Or | CondWord::Not | CondWord::Imply => CondKind::Joined,
+        CondWord::Forall | CondWord::Exists => CondKind::Bound,
         _ => CondKind::Simple,
     }
 }
@@ -68,43 +68,43 @@ fn implied(alloc: Global, conds: Vec<Cond>, at: u32) -> Result<Cond, SyntaxFault
 }
 
 #[tactic(auto, unfolding(tp_ast::specs::Conditions::combined))]
-fn combined(alloc: Global, head: Head, conds: Vec<Cond>, at: u32) -> Result<Cond, SyntaxFault>
+fn combined(alloc: Global, head: CondWord, conds: Vec<Cond>, at: u32) -> Result<Cond, SyntaxFault>
     ensures { Gives cond_view result (combined head (map cond_view conds.items)) }
 {
     match head {
-        Head::And => Ok(Cond::And(conds)),
-        Head::Or => Ok(Cond::Or(conds)),
-        Head::Not => negated(alloc, conds, at),
-        Head::Imply => implied(alloc, conds, at),
+        CondWord::And => Ok(Cond::And(conds)),
+        CondWord::Or => Ok(Cond::Or(conds)),
+        CondWord::Not => negated(alloc, conds, at),
+        CondWord::Imply => implied(alloc, conds, at),
         _ => Err(SyntaxFault::Shape(at)),
     }
 }
 
-fn bound(alloc: Global, head: Head, vars: Vec<Typed>, inner: Cond) -> Result<Cond, SyntaxFault>
+fn bound(alloc: Global, head: CondWord, vars: Vec<Typed>, inner: Cond) -> Result<Cond, SyntaxFault>
     ensures { Gives cond_view result
         (Some (bound head (map typed_view vars.items) (cond_view inner))) }
 {
     let inner = Box::new(alloc, inner)?;
     match head {
-        Head::Exists => Ok(Cond::Exists(vars, inner)),
+        CondWord::Exists => Ok(Cond::Exists(vars, inner)),
         _ => Ok(Cond::Forall(vars, inner)),
     }
 }
 
-fn comparison(head: Head) -> Option<Comparison>
+fn comparison(head: CondWord) -> Option<Comparison>
     ensures { result ≡ comparison head }
 {
     match head {
-        Head::Less => Some(Comparison::Less),
-        Head::AtMost => Some(Comparison::AtMost),
-        Head::Equal => Some(Comparison::Equal),
-        Head::AtLeast => Some(Comparison::AtLeast),
-        Head::More => Some(Comparison::More),
+        CondWord::Less => Some(Comparison::Less),
+        CondWord::AtMost => Some(Comparison::AtMost),
+        CondWord::Equal => Some(Comparison::Equal),
+        CondWord::AtLeast => Some(Comparison::AtLeast),
+        CondWord::Greater => Some(Comparison::Greater),
         _ => None,
     }
 }
 
-fn related(head: Head, exprs: Vec<Expr>, at: u32) -> Result<Cond, SyntaxFault>
+fn related(head: CondWord, exprs: Vec<Expr>, at: u32) -> Result<Cond, SyntaxFault>
     ensures { Gives cond_view result (related head (map expr_view exprs.items)) }
 {
     let Some(operator) = comparison(head) else {
@@ -117,11 +117,11 @@ fn related(head: Head, exprs: Vec<Expr>, at: u32) -> Result<Cond, SyntaxFault>
 }
 
 // An equality of a term and an expression is at fault for its types.
-fn relation_fault(fault: SyntaxFault, head: Head, args: &[Tree]) -> SyntaxFault
+fn relation_fault(fault: SyntaxFault, head: CondWord, args: &[Tree]) -> SyntaxFault
     ensures { IsKept fault result }
 {
     match (fault, head) {
-        (SyntaxFault::Shape(at), Head::Equal) if has_term(args) => SyntaxFault::Types(at),
+        (SyntaxFault::Shape(at), CondWord::Equal) if has_term(args) => SyntaxFault::Types(at),
         _ => fault,
     }
 }
@@ -139,7 +139,7 @@ fn relation(
     alloc: Global,
     symbols: &Symbols,
     scope: &Scope,
-    head: Head,
+    head: CondWord,
     args: &[Tree],
     at: u32,
 ) -> Result<Cond, SyntaxFault>
@@ -247,7 +247,7 @@ fn simple(
     alloc: Global,
     symbols: &Symbols,
     scope: &Scope,
-    head: Head,
+    head: CondWord,
     word: &Token,
     args: &[Tree],
     at: u32,
@@ -256,18 +256,18 @@ fn simple(
         (scope_view scope.now) head word.now.text.now (shapes args.now)) }
 {
     match head {
-        Head::Equal => {
+        CondWord::Equal => {
             if are_terms(args) {
                 equality(alloc, symbols, scope, args, at)
             } else {
                 relation(alloc, symbols, scope, head, args, at)
             }
         }
-        Head::Less | Head::AtMost | Head::AtLeast | Head::More => {
+        CondWord::Less | CondWord::AtMost | CondWord::AtLeast | CondWord::Greater => {
             relation(alloc, symbols, scope, head, args, at)
         }
-        Head::Other => fact(alloc, symbols, scope, word, args, at),
-        Head::Preference => Err(SyntaxFault::LeftOut(at, LeftOutPart::Preference)),
+        CondWord::Other => fact(alloc, symbols, scope, word, args, at),
+        CondWord::Preference => Err(SyntaxFault::LeftOut(at, LeftOutPart::Preference)),
         _ => Err(SyntaxFault::Shape(at)),
     }
 }
@@ -297,7 +297,7 @@ fn read_bound(
     args: &[Tree],
     symbols: &Symbols,
     scope: &Scope,
-    head: Head,
+    head: CondWord,
     at: u32,
 ) -> Result<Cond, SyntaxFault>
     ensures { Gives cond_view result
@@ -341,7 +341,7 @@ pub fn read_cond(
     let Tree::Word(word) = first else {
         return Err(SyntaxFault::Shape(at));
     };
-    let head = head_of(word.text);
+    let head = cond_word_of(word.text);
     match kind_of(head) {
         CondKind::Joined => {
             let conds = read_conds(alloc, args, symbols, scope, at)?;

@@ -3,7 +3,7 @@
 ghost use Rattle.std.specs.Prelude.{◌≡◌, map, false};
 ghost use Rattle.tp_text.specs.Trees.{shape_of};
 ghost use Rattle.tp_ast.specs.Terms.{shapes, atom_view};
-ghost use Rattle.tp_ast.specs.Symbols.{form_view};
+ghost use Rattle.tp_ast.specs.Symbols.{signature_view};
 ghost use Rattle.tp_names.specs.SymbolViews.{scope_view, symbols_view};
 ghost use Rattle.tp_ast.specs.Expressions.{terms_for};
 ghost use Rattle.tp_ast.specs.Effects.{SimpleEffect, atom_at, deleted, written, changed, simple_effect_of, effect_of};
@@ -29,13 +29,13 @@ use tp_types::lookup::Lookup;
 pub fn atom_at(
     alloc: Global,
     symbols: &Symbols,
-    forms: &Lookup<Signature>,
+    signatures: &Lookup<Signature>,
     scope: &Scope,
     tree: &Tree,
     at: u32,
 ) -> Result<Atom, SyntaxFault>
     ensures { Gives atom_view result (atom_at (symbols_view symbols.now)
-        (map form_view forms.now) (scope_view scope.now) (shape_of tree.now)) }
+        (map signature_view signatures.now) (scope_view scope.now) (shape_of tree.now)) }
 {
     let (items, at) = match tree {
         Tree::Word(_) => return Err(SyntaxFault::Shape(at)),
@@ -47,7 +47,7 @@ pub fn atom_at(
     let Tree::Word(word) = first else {
         return Err(SyntaxFault::Shape(at));
     };
-    atom_in(alloc, symbols, forms, scope, word, args, at)
+    atom_in(alloc, symbols, signatures, scope, word, args, at)
 }
 
 #[tactic(auto, unfolding(tp_ast::specs::Effects::deleted))]

@@ -4,7 +4,7 @@ ghost use Rattle.std.specs.Prelude.{◌≡◌, map};
 ghost use Rattle.tp_text.specs.Trees.{shape_of};
 ghost use Rattle.tp_ast.specs.Terms.{shapes};
 ghost use Rattle.tp_names.specs.SymbolViews.{scope_view, symbols_view};
-ghost use Rattle.tp_ast.specs.Symbols.{form_view};
+ghost use Rattle.tp_ast.specs.Symbols.{signature_view};
 ghost use Rattle.tp_ast.specs.Gives.{Gives, IsKept};
 ghost use Rattle.tp_ast.specs.Words.{operator_of};
 ghost use Rattle.tp_ast.specs.Expressions.{word_expression, is_operator, summed, multiplied, subtracted, computed, expression_of, expressions_of, terms_for};
@@ -97,7 +97,7 @@ fn subtracted(alloc: Global, mut operands: Vec<Expr>, at: u32) -> Result<Expr, S
         (Some(a), Some(b), true) => {
             Ok(Expr::Difference(Box::new(alloc, a)?, Box::new(alloc, b)?))
         }
-        (None, Some(a), true) => Ok(Expr::Negative(Box::new(alloc, a)?)),
+        (None, Some(a), true) => Ok(Expr::Negated(Box::new(alloc, a)?)),
         _ => Err(SyntaxFault::Shape(at)),
     }
 }

@@ -2,12 +2,12 @@
 //!
 //! - `expr`, `cond`: expressions, and conditions over them
 //! - `joined`: what `and` and `forall` join; `effect` and `timed` are read by it
-//! - `rule`: duration constraints
+//! - `constraint`: duration constraints
 #![tactic(auto)]
 
 pub mod cond;
+pub mod constraint;
 pub mod effect;
 pub mod expr;
 pub mod joined;
-pub mod rule;
 pub mod timed;

@@ -11,7 +11,7 @@ ghost use Rattle.tp_bounds.specs.declared.Bound.{Bound};
 ghost use Rattle.std.specs.Ordering.{nat_cmp};
 ghost use Rattle.std.specs.BTreeMap.{BTreeMap, get};
 ghost use Rattle.tp_net.specs.NewNet.{new_setting};
-ghost use Rattle.tp_net.specs.Arcs.{AllWait, CannotWait, past_name};
+ghost use Rattle.tp_net.specs.Arcs.{past_name};
 ghost use Rattle.tp_repair.specs.Work.{IsIdle};
 
 use crate::change::{leave, raise, settle};
@@ -24,7 +24,7 @@ use std::collections::BTreeMap;
 use std::marker::Model;
 use tp_bounds::{Bound, BoundId, Edge, MOST_LAG, Reason};
 use tp_net::edges::{floor, name_past, start_arc, stop_arc};
-use tp_net::{Net, NetFault};
+use tp_net::{Net, NetFault, late, tops};
 
 /// A network for bounds between any two points. It keeps the least and the greatest moment of each, and a change costs
 /// what it changes.
@@ -62,17 +62,6 @@ impl Model for RepairNet {
         a.lags.items) (length a.bounds.entries) a.keys a.floors.items a.ends.items a.engine };
 }
 
-/// The greatest moments of the origin and of events that nothing keeps from the horizon.
-fn tops(alloc: Global, events: u16, horizon: u32) -> Result<Vec<u64>, AllocError>
-    ensures { IfOk result (λ r. r.items ≡ 0 ∷ replicate events horizon) }
-{
-    let all = vec![in alloc; u64::from(horizon); events as usize]?;
-    let mut tops = Vec::new(alloc);
-    tops.push(0)?;
-    tops.extend_from_slice(&all)?;
-    Ok(tops)
-}
-
 /// The moments of a network with no bound, at 0.
 fn moments(alloc: Global, events: u16, horizon: u32) -> Result<(Vec<u64>, Vec<u64>), AllocError>
     ensures low { IfOk result (λ r. r.0.items ≡ replicate (suc events) 0) }
@@ -100,21 +89,6 @@ fn unsettled(alloc: Global, events: u16) -> Result<(Vec<Option<u32>>, Vec<u32>),
     let fixed = vec![in alloc; None; events as usize]?;
     let lags = vec![in alloc; 0u32; events as usize]?;
     Ok((fixed, lags))
-}
-
-/// An event that is not dispatched and can't wait until the floor that it has at the moment, if there is one.
-fn late(fixed: &[Option<u32>], high: &[u64], lags: &[u32], now: u32) -> Option<u16>
-    requires events { length fixed.now ≤ 1024 }
-    requires points { length high.now ≡ suc (length fixed.now) }
-    ensures { MatchOption result (AllWait fixed.now high.now lags.now now)
-        (CannotWait fixed.now high.now lags.now now) }
-{
-    for e in 0..fixed.len() {
-        if fixed[e].is_none() && high[e + 1] < u64::from(floor(lags, e as u16, now)) {
-            return Some(e as u16);
-        }
-    }
-    None
 }
 
 /// The key under an identifier.

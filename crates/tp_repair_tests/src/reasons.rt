@@ -8,7 +8,7 @@ use crate::lists::{next, pick, point};
 use std::alloc::{AllocError, Global};
 use std::test::Fail;
 use tp_bounds::{Bound, BoundId, Edge, Limits, Setting, check_reason};
-use tp_exec::{Answer, Command, Executive, Refusal, perform};
+use tp_machine::{Answer, Command, Executive, Refusal, perform};
 use tp_net::{Net, ScratchNet};
 use tp_net_trials::{has_point, is_in_range, window};
 use tp_repair::RepairNet;

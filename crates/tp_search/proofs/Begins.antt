@@ -9,7 +9,7 @@ use Rattle.tp_ground.specs.declared.events.Body.TheVariants.{Instant, Durative}
 use Rattle.tp_ground.specs.declared.task.Task.{Task}
 use Rattle.tp_ground.specs.State.{State, holds}
 use Rattle.tp_ground.specs.Event.{interferes, mixes}
-use Rattle.tp_ground.specs.Happens.{Timed, is_defined}
+use Rattle.tp_ground.specs.Happens.{EventOfStep, is_defined}
 use Rattle.tp_ground.specs.Bounds.{In}
 use Rattle.tp_happen.specs.declared.faults.Why.{Why}
 use Rattle.tp_happen.specs.declared.faults.Why.TheVariants.{Condition, Undefined, Clash}

@@ -6,7 +6,7 @@ use Rattle.std.specs.Option.{option_map, option_and_then}
 use Rattle.std.proofs.lemmas.Bool.{true≢false}
 use Rattle.tp_happen.specs.Parts.{part_of}
 use Rattle.tp_happen.specs.declared.events.Part.TheVariants.{Only}
-use Rattle.tp_happen.specs.TaskLabels.{is_durative}
+use Rattle.tp_happen.specs.TaskWords.{is_durative}
 use Rattle.tp_ground.specs.Bounds.{In}
 use Rattle.tp_ground.specs.declared.events.Body.{Body}
 use Rattle.tp_ground.specs.declared.events.Body.TheVariants.{Instant, Durative}

@@ -10,7 +10,7 @@ use Rattle.tp_ground.specs.declared.events.Body.{Body}
 use Rattle.tp_ground.specs.declared.events.Body.TheVariants.{Instant, Durative}
 use Rattle.tp_ground.specs.declared.task.Task.{Task}
 use Rattle.tp_ground.specs.State.{State, holds}
-use Rattle.tp_ground.specs.Happens.{Timed, Happens, plus}
+use Rattle.tp_ground.specs.Happens.{EventOfStep, Happens, plus}
 use Rattle.tp_ground.specs.Valid.{Planned, Placed, events_from, at, BodyHolds, IsValid}
 use Rattle.tp_ground.proofs.Same.{holds_same}
 use Rattle.tp_validate.specs.OfTask.{planned, plan_of, step_of, scale_of, begin, IsValidPlan}

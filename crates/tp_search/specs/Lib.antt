@@ -6,3 +6,4 @@ pub mod Chains
 pub mod Possible
 pub mod Children
 pub mod Running
+pub use Rattle.tp_forms.specs as tp_forms

@@ -5,13 +5,13 @@ use Rattle.tp_ground.specs.declared.task.Task.{Task}
 use Rattle.tp_ground.specs.declared.events.Body.TheVariants.{Instant}
 use Rattle.tp_ground.specs.declared.events.GroundEvent.{GroundEvent}
 use Rattle.tp_ground.specs.Event.{interferes}
-use Rattle.tp_ground.specs.Happens.{Timed}
+use Rattle.tp_ground.specs.Happens.{EventOfStep}
 use Rattle.tp_ground.specs.Bounds.{In}
 use Rattle.tp_validate.specs.OfTask.{scale_of, begin}
 use Rattle.tp_search.specs.AtOnce.{CanHappen}
 
 -- an event without ticks, alone
-abbrev pub alone : GroundEvent → List Timed
+abbrev pub alone : GroundEvent → List EventOfStep
 alone e = record { event = e; ticks = 0 } ∷ []
 
 -- an action that is one event, which can happen alone in the state in which the task begins

@@ -13,9 +13,10 @@ ghost use Rattle.tp_search.specs.Running.{step_at, steps_at};
 ghost use Rattle.tp_search.specs.Answers.{IsAnswer};
 
 use crate::arena::Arena;
-use crate::found::{Found, SearchFault};
+use crate::found::Found;
 use std::alloc::{AllocError, Global};
-use tp_ground::{ActionId, Task};
+use tp_forms::SearchFault;
+use tp_ground::{ActionId, MOST_STEPS, Task};
 use tp_happen::{
     ApplyFault, Event, EventRef, Outcome, Part, Plan, State, Step, apply, event, interferes,
 };
@@ -206,7 +207,7 @@ fn expand(
     ensures { OnOk result
         (HasChildren task.now first candidates.now chosen.now arena.old arena.new) }
 {
-    if chosen.len() >= 512 {
+    if chosen.len() >= MOST_STEPS {
         return Ok(());
     }
     for action in candidates {

@@ -3,13 +3,13 @@
 ghost use Rattle.std.specs.Prelude.{◌≡◌, ◌≤◌, ◌&&◌, true, nat_le, length, IfOk, IfSome};
 ghost use Rattle.std.specs.List.{list_all};
 ghost use Rattle.tp_happen.specs.Steps.{IsPlan, ends_in_time};
-ghost use Rattle.tp_happen.specs.TaskLabels.{is_durative};
+ghost use Rattle.tp_happen.specs.TaskWords.{is_durative};
 ghost use Rattle.tp_validate.specs.OfTask.{IsOfTask, IsValidPlan, is_step_of};
 ghost use Rattle.tp_search.specs.Plans.{ends_by, is_step_within, EndsBy, is_plan_within};
 
-use crate::found::SearchFault;
 use std::alloc::Global;
-use tp_ground::{Body, Task};
+use tp_forms::SearchFault;
+use tp_ground::{Body, MOST_STEPS, Task};
 use tp_happen::{Plan, Step};
 use tp_validate::{ValidPlan, ValidateFault, Verdict, validate};
 
@@ -49,7 +49,7 @@ fn all_within(task: &Task, steps: &[Step], horizon: u32) -> bool
 fn is_plan_within(task: &Task, steps: &[Step], horizon: u32) -> bool
     ensures { result ≡ is_plan_within task.now horizon steps.now }
 {
-    steps.len() <= 512 && all_within(task, steps, horizon)
+    steps.len() <= MOST_STEPS && all_within(task, steps, horizon)
 }
 
 // The validated plan, None where it is not valid.

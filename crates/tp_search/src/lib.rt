@@ -15,6 +15,7 @@ mod laws;
 mod seeking;
 
 pub use arena::{Arena, Node};
-pub use found::{Found, SearchFault};
+pub use found::Found;
 pub use laws::{plans_at_once_are_met, unreachable_has_no_plan};
 pub use seeking::search;
+pub use tp_forms::SearchFault;

@@ -9,8 +9,9 @@ ghost use Rattle.tp_search.specs.Answers.{IsAnswer};
 
 use crate::at_once::{judge, plan_at_once};
 use crate::certify::certified;
-use crate::found::{Found, SearchFault};
+use crate::found::Found;
 use std::alloc::{AllocError, Global};
+use tp_forms::SearchFault;
 use tp_frontier::{Chosen, Frontier};
 use tp_ground::Task;
 use tp_happen::Step;

@@ -11,7 +11,7 @@ use Rattle.tp_ast.specs.declared.symbols.Typed.{Typed}
 use Rattle.tp_names.specs.declared.symbols.Scope.{Scope, Inner, Empty, the_lemmas}
 use Rattle.tp_ast.specs.Conditions.{Condition, all_of, no_conditions, condition_of}
 use Rattle.tp_ast.specs.Parts.{Joined, all_parts, no_parts}
-use Rattle.tp_ast.specs.Effects.{Effect, Timed, Rule, effect_of, timed_condition_of, timed_effect_of}
+use Rattle.tp_ast.specs.Effects.{Effect, Timed, Constraint, effect_of, timed_condition_of, timed_effect_of}
 use Rattle.tp_ast.specs.TypedLists.{parameters_at}
 use Rattle.tp_ast.specs.Actions.{Action, Field, Body, instant, durative, fields_of, each_once, field, or_missing, body_of, action_of}
 use Rattle.tp_syntax.specs.Fields.{key_at, are_fields_of, checked_fields, duration_field}
@@ -134,10 +134,10 @@ module _ (σ : Symbols) (vs : List Declared) (fs : List Field) where
   abbrev pub timed_effect_field : Option (Joined (Timed Effect))
   timed_effect_field = or_missing (all_parts no_parts) (timed_effect_of σ vs) (field keys.Effect fs)
 
-  abbrev pub then_effect : Rule → Joined (Timed Condition) → Option Body
+  abbrev pub then_effect : Constraint → Joined (Timed Condition) → Option Body
   then_effect r c = timed_effect_field >>= λ e. Some (durative r c e)
 
-  abbrev pub then_condition : Rule → Option Body
+  abbrev pub then_condition : Constraint → Option Body
   then_condition r = timed_condition_field >>= then_effect r
 
   durative_order : body_of σ true vs fs ≡ (duration_field σ vs fs >>= then_condition)
@@ -147,19 +147,19 @@ module _ (σ : Symbols) (vs : List Declared) (fs : List Field) where
   pub duration_fails : (f : SyntaxFault) → Fails f (duration_field σ vs fs) → Fails f (body_of σ true vs fs)
   duration_fails f h = fails_same f _ _ durative_order (fails_bind f (duration_field σ vs fs) _ h)
 
-  after_rule : (r : Rule) → duration_field σ vs fs ≡ Some r → body_of σ true vs fs ≡ then_condition r
-  after_rule r h = durative_order ∙ ap (λ (o : Option Rule). o >>= then_condition) h
+  after_constraint : (r : Constraint) → duration_field σ vs fs ≡ Some r → body_of σ true vs fs ≡ then_condition r
+  after_constraint r h = durative_order ∙ ap (λ (o : Option Constraint). o >>= then_condition) h
 
-  pub timed_condition_fails : (r : Rule) (f : SyntaxFault) → duration_field σ vs fs ≡ Some r → Fails f timed_condition_field → Fails f (body_of σ true vs fs)
-  timed_condition_fails r f is h = fails_same f _ _ (after_rule r is) (fails_bind f timed_condition_field _ h)
+  pub timed_condition_fails : (r : Constraint) (f : SyntaxFault) → duration_field σ vs fs ≡ Some r → Fails f timed_condition_field → Fails f (body_of σ true vs fs)
+  timed_condition_fails r f is h = fails_same f _ _ (after_constraint r is) (fails_bind f timed_condition_field _ h)
 
-  after_condition : (r : Rule) (c : Joined (Timed Condition)) → duration_field σ vs fs ≡ Some r → timed_condition_field ≡ Some c → body_of σ true vs fs ≡ then_effect r c
-  after_condition r c is h = after_rule r is ∙ ap (λ (o : Option (Joined (Timed Condition))). o >>= then_effect r) h
+  after_condition : (r : Constraint) (c : Joined (Timed Condition)) → duration_field σ vs fs ≡ Some r → timed_condition_field ≡ Some c → body_of σ true vs fs ≡ then_effect r c
+  after_condition r c is h = after_constraint r is ∙ ap (λ (o : Option (Joined (Timed Condition))). o >>= then_effect r) h
 
-  pub timed_effect_fails : (r : Rule) (c : Joined (Timed Condition)) (f : SyntaxFault) → duration_field σ vs fs ≡ Some r → timed_condition_field ≡ Some c → Fails f timed_effect_field → Fails f (body_of σ true vs fs)
+  pub timed_effect_fails : (r : Constraint) (c : Joined (Timed Condition)) (f : SyntaxFault) → duration_field σ vs fs ≡ Some r → timed_condition_field ≡ Some c → Fails f timed_effect_field → Fails f (body_of σ true vs fs)
   timed_effect_fails r c f is also h = fails_same f _ _ (after_condition r c is also) (fails_bind f timed_effect_field _ h)
 
-  pub durative_made : (r : Rule) (c : Joined (Timed Condition)) (e : Joined (Timed Effect)) → duration_field σ vs fs ≡ Some r → timed_condition_field ≡ Some c → timed_effect_field ≡ Some e → body_of σ true vs fs ≡ Some (durative r c e)
+  pub durative_made : (r : Constraint) (c : Joined (Timed Condition)) (e : Joined (Timed Effect)) → duration_field σ vs fs ≡ Some r → timed_condition_field ≡ Some c → timed_effect_field ≡ Some e → body_of σ true vs fs ≡ Some (durative r c e)
   durative_made r c e is also h = after_condition r c is also ∙ ap (λ (o : Option (Joined (Timed Effect))). o >>= λ d. Some (durative r c d)) h
 
 -- parameters are the only variables in scope

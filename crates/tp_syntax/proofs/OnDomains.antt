@@ -12,23 +12,23 @@ use Rattle.tp_ast.specs.declared.fault.SyntaxFault.{SyntaxFault}
 use Rattle.tp_ast.proofs.OnFaults.{fails_from}
 use Rattle.tp_ast.proofs.OnGives.{bind_bind}
 use Rattle.tp_ast.specs.Gives.{◌>>=◌, provided, with_front, Fails}
-use Rattle.tp_ast.specs.Symbols.{Name, Parent, Declared, Form, Symbols}
+use Rattle.tp_ast.specs.Symbols.{Name, Parent, Declared, SignatureView, Symbols}
 use Rattle.tp_ast.specs.TypedLists.{has_twice}
 use Rattle.tp_ast.specs.Actions.{Action}
-use Rattle.tp_ast.specs.Domains.{Domain, Part, requirements_in, types_in, objects_in, section, action_at, actions_in, sections_of, each_once, named, defined, domain_with, domain_of}
-use Rattle.tp_names.specs.FormViews.{predicates_in, functions_in}
-use Rattle.tp_syntax.specs.SectionViews.{part_view, action_kind, actions_once, checked_sections, domain_symbols}
+use Rattle.tp_ast.specs.Domains.{Domain, SectionBody, requirements_in, types_in, objects_in, section, action_at, actions_in, sections_of, each_once, named, defined, domain_with, domain_of}
+use Rattle.tp_names.specs.SignatureViews.{predicates_in, functions_in}
+use Rattle.tp_syntax.specs.SectionViews.{section_body_view, action_kind, actions_once, checked_sections, domain_symbols}
 use Rattle.tp_ast.specs.declared.words.Section.{Section}
 use Rattle.tp_ast.specs.declared.words.Section.TheVariants as sections
 
-module _ (n : Name) (parts : List Part) where
-  abbrev pub made : List Name → List Parent → List Declared → List Form → List Form → List Action → Domain
+module _ (n : Name) (parts : List SectionBody) where
+  abbrev pub made : List Name → List Parent → List Declared → List SignatureView → List SignatureView → List Action → Domain
   made rs ts cs ps fs as_ = record { name = n; requirements = rs; types = ts; constants = cs; predicates = ps; functions = fs; actions = as_ }
 
-  abbrev pub after_functions : List Name → List Parent → List Declared → List Form → List Form → Option Domain
+  abbrev pub after_functions : List Name → List Parent → List Declared → List SignatureView → List SignatureView → Option Domain
   after_functions rs ts cs ps fs = actions_in (domain_symbols ts cs ps fs) parts >>= λ as_. provided (not (has_twice (map (λ a. a.name) as_))) (made rs ts cs ps fs as_)
 
-  abbrev pub after_predicates : List Name → List Parent → List Declared → List Form → Option Domain
+  abbrev pub after_predicates : List Name → List Parent → List Declared → List SignatureView → Option Domain
   after_predicates rs ts cs ps = functions_in ts (section sections.Functions parts) >>= after_functions rs ts cs ps
 
   abbrev pub after_constants : List Name → List Parent → List Declared → Option Domain
@@ -44,16 +44,16 @@ module _ (n : Name) (parts : List Part) where
   unfolding domain_with
   in_order = refl
 
-  provided_made : (b : Bool) (rs : List Name) (ts : List Parent) (cs : List Declared) (ps fs : List Form) (as_ : List Action) → provided b (made rs ts cs ps fs as_) ≡ option_map (made rs ts cs ps fs) (provided b as_)
+  provided_made : (b : Bool) (rs : List Name) (ts : List Parent) (cs : List Declared) (ps fs : List SignatureView) (as_ : List Action) → provided b (made rs ts cs ps fs as_) ≡ option_map (made rs ts cs ps fs) (provided b as_)
   provided_made true rs ts cs ps fs as_ = refl
   provided_made false rs ts cs ps fs as_ = refl
 
-  once_then : (rs : List Name) (ts : List Parent) (cs : List Declared) (ps fs : List Form) (o : Option (List Action)) → (o >>= λ as_. provided (not (has_twice (map (λ a. a.name) as_))) (made rs ts cs ps fs as_)) ≡ option_map (made rs ts cs ps fs) (o >>= λ as_. provided (not (has_twice (map (λ a. a.name) as_))) as_)
+  once_then : (rs : List Name) (ts : List Parent) (cs : List Declared) (ps fs : List SignatureView) (o : Option (List Action)) → (o >>= λ as_. provided (not (has_twice (map (λ a. a.name) as_))) (made rs ts cs ps fs as_)) ≡ option_map (made rs ts cs ps fs) (o >>= λ as_. provided (not (has_twice (map (λ a. a.name) as_))) as_)
   once_then rs ts cs ps fs None = refl
   once_then rs ts cs ps fs (Some as_) = provided_made (not (has_twice (map (λ a. a.name) as_))) rs ts cs ps fs as_
 
   -- what is left when all sections but the actions were read
-  pub at_actions : (rs : List Name) (ts : List Parent) (cs : List Declared) (ps fs : List Form) → after_functions rs ts cs ps fs ≡ option_map (made rs ts cs ps fs) (actions_once (domain_symbols ts cs ps fs) parts)
+  pub at_actions : (rs : List Name) (ts : List Parent) (cs : List Declared) (ps fs : List SignatureView) → after_functions rs ts cs ps fs ≡ option_map (made rs ts cs ps fs) (actions_once (domain_symbols ts cs ps fs) parts)
   at_actions rs ts cs ps fs = once_then rs ts cs ps fs (actions_in (domain_symbols ts cs ps fs) parts)
 
   pub at_types : (rs : List Name) → requirements_in (section sections.Requirements parts) ≡ Some rs → domain_with n parts ≡ after_requirements rs
@@ -65,15 +65,15 @@ module _ (n : Name) (parts : List Part) where
   pub at_predicates : (rs : List Name) (ts : List Parent) (cs : List Declared) → domain_with n parts ≡ after_types rs ts → objects_in ts (section sections.Constants parts) ≡ Some cs → domain_with n parts ≡ after_constants rs ts cs
   at_predicates rs ts cs so_far h = so_far ∙ ap (λ o. o >>= after_constants rs ts) h
 
-  pub at_functions : (rs : List Name) (ts : List Parent) (cs : List Declared) (ps : List Form) → domain_with n parts ≡ after_constants rs ts cs → predicates_in ts (section sections.Predicates parts) ≡ Some ps → domain_with n parts ≡ after_predicates rs ts cs ps
+  pub at_functions : (rs : List Name) (ts : List Parent) (cs : List Declared) (ps : List SignatureView) → domain_with n parts ≡ after_constants rs ts cs → predicates_in ts (section sections.Predicates parts) ≡ Some ps → domain_with n parts ≡ after_predicates rs ts cs ps
   at_functions rs ts cs ps so_far h = so_far ∙ ap (λ o. o >>= after_predicates rs ts cs) h
 
-  pub after_all : (rs : List Name) (ts : List Parent) (cs : List Declared) (ps fs : List Form) → domain_with n parts ≡ after_predicates rs ts cs ps → functions_in ts (section sections.Functions parts) ≡ Some fs → domain_with n parts ≡ option_map (made rs ts cs ps fs) (actions_once (domain_symbols ts cs ps fs) parts)
+  pub after_all : (rs : List Name) (ts : List Parent) (cs : List Declared) (ps fs : List SignatureView) → domain_with n parts ≡ after_predicates rs ts cs ps → functions_in ts (section sections.Functions parts) ≡ Some fs → domain_with n parts ≡ option_map (made rs ts cs ps fs) (actions_once (domain_symbols ts cs ps fs) parts)
   after_all rs ts cs ps fs so_far h = so_far ∙ ap (λ o. o >>= after_functions rs ts cs ps) h ∙ at_actions rs ts cs ps fs
 
 module _ (σ : Symbols) where
   abbrev all : List (Keyed Section) → Option (List Action)
-  all xs = actions_in σ (map part_view xs)
+  all xs = actions_in σ (map section_body_view xs)
 
   abbrev here : Keyed Section → Option (List Action)
   here x = action_at σ x.kind (shapes x.body.now)
@@ -148,9 +148,9 @@ by_define (node (shape (node ss) rest)) = refl
 by_define (node (shape (leaf w) no_shapes)) = sym (ap (λ o. o >>= after_define) (if_none (is_word (codes "define") w) None refl))
 by_define (node (shape (leaf w) (shape head rest))) = if_then (is_word (codes "define") w) head rest
 
-pub symbols_same : (parts : List Part) (ts us : List Parent) (cs ds : List Declared) (ps qs fs gs : List Form) → ts ≡ us → cs ≡ ds → ps ≡ qs → fs ≡ gs → actions_once (domain_symbols ts cs ps fs) parts ≡ actions_once (domain_symbols us ds qs gs) parts
+pub symbols_same : (parts : List SectionBody) (ts us : List Parent) (cs ds : List Declared) (ps qs fs gs : List SignatureView) → ts ≡ us → cs ≡ ds → ps ≡ qs → fs ≡ gs → actions_once (domain_symbols ts cs ps fs) parts ≡ actions_once (domain_symbols us ds qs gs) parts
 symbols_same parts ts us cs ds ps qs fs gs t c p f =
     ap (λ (xs : List Parent). actions_once (domain_symbols xs cs ps fs) parts) t
     ∙ ap (λ (xs : List Declared). actions_once (domain_symbols us xs ps fs) parts) c
-    ∙ ap (λ (xs : List Form). actions_once (domain_symbols us ds xs fs) parts) p
-    ∙ ap (λ (xs : List Form). actions_once (domain_symbols us ds qs xs) parts) f
+    ∙ ap (λ (xs : List SignatureView). actions_once (domain_symbols us ds xs fs) parts) p
+    ∙ ap (λ (xs : List SignatureView). actions_once (domain_symbols us ds qs xs) parts) f

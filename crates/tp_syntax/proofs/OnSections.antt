@@ -4,18 +4,18 @@ use Rattle.std.specs.Option.{is_some}
 use Rattle.tp_text.specs.Shapes.{Shape, leaf, node, Shapes, no_shapes, shape}
 use Rattle.tp_ast.specs.Gives.{◌>>=◌, provided}
 use Rattle.tp_ast.specs.Words.{section_of}
-use Rattle.tp_ast.specs.Domains.{Part, sections_of, section_number, is_section, section, is_action, each_once}
-use Rattle.tp_syntax.specs.SectionViews.{part_view, checked_sections}
+use Rattle.tp_ast.specs.Domains.{SectionBody, sections_of, section_number, is_section, section, is_action, each_once}
+use Rattle.tp_syntax.specs.SectionViews.{section_body_view, checked_sections}
 use Rattle.tp_syntax.specs.KeyedParts as keyed
 use Rattle.tp_syntax.specs.KeyedParts.{part_seen, part_of, parts_of, first, or_nothing}
 use Rattle.tp_syntax.specs.declared.keyed.Keyed.{Keyed}
 use Rattle.tp_ast.specs.declared.words.Section.{Section}
 use Rattle.tp_syntax.proofs.OnKeyed.{all_same, kept, any_first, first_if}
 
-abbrev pub made : Section × Shapes → Part
+abbrev pub made : Section × Shapes → SectionBody
 made p = record { section = p.0; body = p.1 }
 
-at_section : (o : Option Section) (body : Shapes) (rest : Option (List Part)) → (o >>= λ k. option_map (λ (ps : List Part). record { section = k; body = body } ∷ ps) rest) ≡ (option_map made (option_map (λ k. (k, body)) o) >>= λ p. option_map (λ ps. p ∷ ps) rest)
+at_section : (o : Option Section) (body : Shapes) (rest : Option (List SectionBody)) → (o >>= λ k. option_map (λ (ps : List SectionBody). record { section = k; body = body } ∷ ps) rest) ≡ (option_map made (option_map (λ k. (k, body)) o) >>= λ p. option_map (λ ps. p ∷ ps) rest)
 at_section None body rest = refl
 at_section (Some k) body rest = refl
 
@@ -41,6 +41,6 @@ sections_same ss =
     ap (λ o. o >>= λ ps. provided (each_once ps) ps) (all_same made section_of sections_of none more ss)
     ∙ kept made each_once (keyed.each_once section_number is_action) once (parts_of section_of ss)
 
-pub section_same : (k : Section) (ps : List (Keyed Section)) → section k (map part_view ps) ≡ or_nothing (first section_number k (map part_seen ps))
+pub section_same : (k : Section) (ps : List (Keyed Section)) → section k (map section_body_view ps) ≡ or_nothing (first section_number k (map part_seen ps))
 section_same k [] = refl
 section_same k (p ∷ ps) = first_if (section_number p.kind == section_number k) _ _ _ (section_same k ps)

@@ -7,7 +7,7 @@ use Rattle.tp_ast.specs.Gives.{◌>>=◌, provided}
 use Rattle.tp_ast.specs.Words.{key_of}
 use Rattle.tp_ast.specs.Actions as actions
 use Rattle.tp_ast.specs.Actions.{field, fields_of, each_once, is_field_of}
-use Rattle.tp_ast.specs.Effects.{Rule, rule_of}
+use Rattle.tp_ast.specs.Effects.{Constraint, constraint_of}
 use Rattle.tp_ast.specs.Symbols.{Declared, Symbols}
 use Rattle.tp_ast.specs.declared.words.Key.TheVariants as keys
 use Rattle.tp_ast.specs.declared.words.Key.{Key}
@@ -31,5 +31,5 @@ checked_fields lasts ss =
     fields_of ss >>= λ fs. provided (each_once fs && are_fields_of lasts fs) fs
 
 -- the duration constraint, which may not be missing
-abbrev pub duration_field : Symbols → List Declared → List actions.Field → Option Rule
-duration_field σ vs fs = field keys.Duration fs >>= rule_of σ vs
+abbrev pub duration_field : Symbols → List Declared → List actions.Field → Option Constraint
+duration_field σ vs fs = field keys.Duration fs >>= constraint_of σ vs

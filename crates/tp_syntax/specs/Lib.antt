@@ -20,7 +20,7 @@ pub use Rattle.tp_ast.specs.Parts
 pub use Rattle.tp_ast.specs.Effects
 pub use Rattle.tp_ast.specs.Actions
 pub use Rattle.tp_ast.specs.Domains
-pub use Rattle.tp_names.specs.FormViews
+pub use Rattle.tp_names.specs.SignatureViews
 pub use Rattle.tp_types.specs.Cycles
 pub use Rattle.tp_types.specs.Jumps
 pub use Rattle.tp_types.specs.TypeTables
@@ -29,7 +29,7 @@ pub use Rattle.tp_ast.specs.ExprViews
 pub use Rattle.tp_ast.specs.CondViews
 pub use Rattle.tp_ast.specs.PartViews
 pub use Rattle.tp_ast.specs.EffectViews
-pub use Rattle.tp_ast.specs.RuleViews
+pub use Rattle.tp_ast.specs.ConstraintViews
 pub use Rattle.tp_ast.specs.DomainViews
 pub use Rattle.tp_print.specs.Printing
 pub use Rattle.tp_print.specs.DomainTexts

@@ -4,5 +4,5 @@ use Rattle.tp_ast.specs.Problems as problems
 use Rattle.tp_ast.specs.declared.words.ProblemSection.{ProblemSection}
 use Rattle.tp_syntax.specs.declared.keyed.Keyed.{Keyed}
 
-abbrev pub part_view : Keyed ProblemSection → problems.Part
-part_view p = record { section = p.kind; body = shapes p.body.now }
+abbrev pub section_body_view : Keyed ProblemSection → problems.ProblemSectionBody
+section_body_view p = record { section = p.kind; body = shapes p.body.now }

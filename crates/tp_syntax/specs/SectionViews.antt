@@ -4,23 +4,23 @@ use Rattle.tp_text.specs.Shapes.{Shapes}
 use Rattle.tp_ast.specs.Gives.{◌>>=◌, provided, with_front, Fails}
 use Rattle.tp_ast.specs.declared.fault.SyntaxFault.{SyntaxFault}
 use Rattle.tp_ast.specs.Terms.{shapes}
-use Rattle.tp_ast.specs.Symbols.{Parent, Declared, Form, Symbols}
+use Rattle.tp_ast.specs.Symbols.{Parent, Declared, SignatureView, Symbols}
 use Rattle.tp_ast.specs.TypedLists.{has_twice}
 use Rattle.tp_ast.specs.Actions.{Action}
-use Rattle.tp_ast.specs.Domains.{Part, sections_of, each_once, actions_in}
+use Rattle.tp_ast.specs.Domains.{SectionBody, sections_of, each_once, actions_in}
 use Rattle.tp_ast.specs.declared.words.Section.{Section}
 use Rattle.tp_ast.specs.declared.words.Section.TheVariants as sections
 use Rattle.tp_syntax.specs.declared.keyed.Keyed.{Keyed}
 
-abbrev pub part_view : Keyed Section → Part
-part_view p = record { section = p.kind; body = shapes p.body.now }
+abbrev pub section_body_view : Keyed Section → SectionBody
+section_body_view p = record { section = p.kind; body = shapes p.body.now }
 
 -- each but the actions at most once
-abbrev pub checked_sections : Shapes → Option (List Part)
+abbrev pub checked_sections : Shapes → Option (List SectionBody)
 checked_sections ss = sections_of ss >>= λ ps. provided (each_once ps) ps
 
 -- the actions, each named once
-abbrev pub actions_once : Symbols → List Part → Option (List Action)
+abbrev pub actions_once : Symbols → List SectionBody → Option (List Action)
 actions_once σ ps =
     actions_in σ ps >>= λ as_. provided (not (has_twice (map (λ a. a.name) as_))) as_
 
@@ -31,7 +31,7 @@ action_kind sections.DurativeAction = Some true
 action_kind _ = None
 
 -- what actions may name: what the other sections declare
-abbrev pub domain_symbols : List Parent → List Declared → List Form → List Form → Symbols
+abbrev pub domain_symbols : List Parent → List Declared → List SignatureView → List SignatureView → Symbols
 domain_symbols ts cs ps fs = record { types = ts; objects = cs; predicates = ps; functions = fs }
 
 -- what is read goes behind what was there

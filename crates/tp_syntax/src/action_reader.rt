@@ -7,7 +7,7 @@ ghost use Rattle.tp_ast.specs.Parts.{all_parts, no_parts};
 ghost use Rattle.tp_ast.specs.Effects.{effect_of, timed_condition_of, timed_effect_of};
 ghost use Rattle.tp_ast.specs.TypedLists.{parameters_at};
 ghost use Rattle.tp_ast.specs.CondViews.{cond_view};
-ghost use Rattle.tp_ast.specs.RuleViews.{rule_view};
+ghost use Rattle.tp_ast.specs.ConstraintViews.{constraint_view};
 ghost use Rattle.tp_ast.specs.EffectViews.{effect_view, timed_condition_view, timed_effect_view};
 ghost use Rattle.tp_ast.specs.DomainViews.{body_view, action_view};
 ghost use Rattle.tp_syntax.specs.Fields.{field_view, duration_field};
@@ -22,10 +22,10 @@ use crate::fields::{Field, find_field, read_fields};
 use std::alloc::Global;
 use tp_ast::action::{Action, Body};
 use tp_ast::cond::Cond;
+use tp_ast::constraint::DurationConstraint;
 use tp_ast::effect::Effect;
 use tp_ast::fault::SyntaxFault;
 use tp_ast::joined::Joined;
-use tp_ast::rule::DurationRule;
 use tp_ast::symbols::Typed;
 use tp_ast::timed::{TimedCond, TimedEffect};
 use tp_ast::words::Key;
@@ -34,8 +34,8 @@ use tp_names::term::name_of;
 use tp_names::typed::parameters_at;
 use tp_names::variables::Variables;
 use tp_read::cond::read_cond;
+use tp_read::constraint::read_constraint;
 use tp_read::effect::read_effect;
-use tp_read::rule::read_rule;
 use tp_read::timed::{read_timed_cond, read_timed_effect};
 use tp_text::Tree;
 use tp_types::types::Types;
@@ -96,12 +96,12 @@ fn duration(
     scope: &Scope,
     fields: &[Field],
     at: u32,
-) -> Result<DurationRule, SyntaxFault>
-    ensures { Gives rule_view result (duration_field
+) -> Result<DurationConstraint, SyntaxFault>
+    ensures { Gives constraint_view result (duration_field
         (symbols_view symbols.now) (scope_view scope.now) (map field_view fields.now)) }
 {
     match find_field(Key::Duration, fields) {
-        Some(rule) => read_rule(alloc, rule.value, symbols, scope, at),
+        Some(constraint) => read_constraint(alloc, constraint.value, symbols, scope, at),
         None => Err(SyntaxFault::Shape(at)),
     }
 }

@@ -6,12 +6,12 @@ ghost use Rattle.tp_text.specs.Trees.{shape_of};
 ghost use Rattle.tp_syntax.specs.Limits.{NestsUpTo};
 ghost use Rattle.tp_ast.specs.Domains.{requirements_in, types_in, objects_in, section, action_at, actions_in, domain_with, domain_of, SpellsDomain};
 ghost use Rattle.tp_ast.specs.DomainViews.{action_view, domain_view};
-ghost use Rattle.tp_names.specs.FormViews.{predicates_in, functions_in};
-ghost use Rattle.tp_syntax.specs.SectionViews.{part_view, Adds, action_kind, actions_once, domain_symbols};
+ghost use Rattle.tp_names.specs.SignatureViews.{predicates_in, functions_in};
+ghost use Rattle.tp_syntax.specs.SectionViews.{section_body_view, Adds, action_kind, actions_once, domain_symbols};
 ghost use Rattle.tp_syntax.specs.Refusals.{IsRefusedDomain};
 ghost use Rattle.tp_names.specs.SymbolViews.{symbols_view};
 ghost use Rattle.tp_types.specs.TypeViews.{types_view};
-ghost use Rattle.tp_ast.specs.Symbols.{typed_view, parent_view, form_view};
+ghost use Rattle.tp_ast.specs.Symbols.{typed_view, parent_view, signature_view};
 ghost use Rattle.tp_ast.specs.Terms.{shapes};
 ghost use Rattle.tp_ast.specs.Gives.{Gives};
 ghost use Rattle.tp_ast.specs.declared.words.Section.TheVariants as sections;
@@ -27,8 +27,8 @@ use tp_ast::fault::{SyntaxFault, text_fault, tree_fault};
 use tp_ast::symbols::{Signature, Typed};
 use tp_ast::types::TypeName;
 use tp_ast::words::Section;
-use tp_names::forms::{functions_in, predicates_in};
 use tp_names::head::{defined, named, requirements_in};
+use tp_names::signatures::{functions_in, predicates_in};
 use tp_names::symbols::Symbols;
 use tp_names::type_reader::types_in;
 use tp_names::typed::{objects_in, place};
@@ -71,7 +71,7 @@ fn actions_in(
     parts: &[Keyed<Section>],
 ) -> Result<Vec<Action>, SyntaxFault>
     ensures { Gives (λ v. map action_view v.items) result
-        (actions_in (symbols_view symbols.now) (map part_view parts.now)) }
+        (actions_in (symbols_view symbols.now) (map section_body_view parts.now)) }
 {
     let mut actions = Vec::new(alloc);
     for part in parts {
@@ -101,7 +101,7 @@ fn actions_once(
     parts: &[Keyed<Section>],
 ) -> Result<Vec<Action>, SyntaxFault>
     ensures { Gives (λ v. map action_view v.items) result
-        (actions_once (symbols_view symbols.now) (map part_view parts.now)) }
+        (actions_once (symbols_view symbols.now) (map section_body_view parts.now)) }
 {
     let actions = actions_in(alloc, symbols, parts)?;
     if let Some(number) = second_named(alloc, &actions)? {
@@ -112,7 +112,7 @@ fn actions_once(
 
 fn requirements(alloc: Global, parts: &[Keyed<Section>]) -> Result<Vec<String>, SyntaxFault>
     ensures { Gives (λ v. map string_bytes v.items) result
-        (requirements_in (section sections.Requirements (map part_view parts.now))) }
+        (requirements_in (section sections.Requirements (map section_body_view parts.now))) }
 {
     let part = find_section(Section::Requirements, parts);
     requirements_in(alloc, part.body, part.at)
@@ -120,7 +120,7 @@ fn requirements(alloc: Global, parts: &[Keyed<Section>]) -> Result<Vec<String>, 
 
 fn types(alloc: Global, parts: &[Keyed<Section>]) -> Result<Vec<TypeName>, SyntaxFault>
     ensures { Gives (λ v. map parent_view v.items) result
-        (types_in (section sections.Types (map part_view parts.now))) }
+        (types_in (section sections.Types (map section_body_view parts.now))) }
 {
     let part = find_section(Section::Types, parts);
     types_in(alloc, part.body, part.at)
@@ -132,7 +132,8 @@ fn constants(
     parts: &[Keyed<Section>],
 ) -> Result<Vec<Typed>, SyntaxFault>
     ensures { Gives (λ v. map typed_view v.items) result
-        (objects_in (types_view types.now) (section sections.Constants (map part_view parts.now))) }
+        (objects_in (types_view types.now)
+        (section sections.Constants (map section_body_view parts.now))) }
 {
     let part = find_section(Section::Constants, parts);
     objects_in(alloc, types, part.body, part.at)
@@ -143,8 +144,8 @@ fn predicates(
     types: &Types,
     parts: &[Keyed<Section>],
 ) -> Result<Vec<Signature>, SyntaxFault>
-    ensures { Gives (λ v. map form_view v.items) result (predicates_in
-        (types_view types.now) (section sections.Predicates (map part_view parts.now))) }
+    ensures { Gives (λ v. map signature_view v.items) result (predicates_in
+        (types_view types.now) (section sections.Predicates (map section_body_view parts.now))) }
 {
     let part = find_section(Section::Predicates, parts);
     predicates_in(alloc, types, part.body, part.at)
@@ -155,8 +156,8 @@ fn functions(
     types: &Types,
     parts: &[Keyed<Section>],
 ) -> Result<Vec<Signature>, SyntaxFault>
-    ensures { Gives (λ v. map form_view v.items) result (functions_in
-        (types_view types.now) (section sections.Functions (map part_view parts.now))) }
+    ensures { Gives (λ v. map signature_view v.items) result (functions_in
+        (types_view types.now) (section sections.Functions (map section_body_view parts.now))) }
 {
     let part = find_section(Section::Functions, parts);
     functions_in(alloc, types, part.body, part.at)
@@ -173,7 +174,8 @@ fn actions_over<'d>(
 ) -> Result<Vec<Action>, SyntaxFault>
     ensures { Gives (λ v. map action_view v.items) result
         (actions_once (domain_symbols (types_view types.entry) (map typed_view constants.now)
-        (map form_view predicates.now) (map form_view functions.now)) (map part_view parts.now)) }
+        (map signature_view predicates.now) (map signature_view functions.now))
+        (map section_body_view parts.now)) }
 {
     let constants = Lookup::new(alloc, constants)?;
     let objects = Lookup::listed(&[]);
@@ -182,7 +184,8 @@ fn actions_over<'d>(
 }
 
 fn domain_with(alloc: Global, name: String, parts: &[Keyed<Section>]) -> Result<Domain, SyntaxFault>
-    ensures { Gives domain_view result (domain_with (string_bytes name) (map part_view parts.now)) }
+    ensures { Gives domain_view result
+        (domain_with (string_bytes name) (map section_body_view parts.now)) }
 {
     let requirements = requirements(alloc, parts)?;
     let types = types(alloc, parts)?;

@@ -1,7 +1,7 @@
 //! What the actions of a domain and a problem may name.
 
 ghost use Rattle.std.specs.Prelude.{◌≡◌, ◌++◌, map, IfOk};
-ghost use Rattle.tp_ast.specs.Symbols.{typed_view, form_view};
+ghost use Rattle.tp_ast.specs.Symbols.{typed_view, signature_view};
 ghost use Rattle.tp_types.specs.TypeViews.{types_view};
 ghost use Rattle.tp_names.specs.SymbolViews.{symbols_view};
 ghost use Rattle.tp_syntax.specs.SectionViews.{domain_symbols};
@@ -23,7 +23,7 @@ pub fn with_signatures<'d>(
 ) -> Result<Symbols<'d>, AllocError>
     ensures { IfOk result (λ s. symbols_view s ≡ domain_symbols
         (types_view types.entry) (map typed_view constants.entry ++ map typed_view objects.entry)
-        (map form_view predicates.now) (map form_view functions.now)) }
+        (map signature_view predicates.now) (map signature_view functions.now)) }
 {
     let predicates = Lookup::new(alloc, predicates)?;
     let functions = Lookup::new(alloc, functions)?;

@@ -12,7 +12,7 @@ ghost use Rattle.tp_names.specs.SymbolViews.{symbols_view};
 ghost use Rattle.tp_ast.specs.Problems.{initial_of, section, goal_in, new_objects, stated, symbols_with, problem_with, own_name, problem_of, SpellsProblem, IsRefusedProblem};
 ghost use Rattle.tp_ast.specs.CondViews.{cond_view};
 ghost use Rattle.tp_ast.specs.DomainViews.{initial_view, domain_view, problem_view};
-ghost use Rattle.tp_syntax.specs.ProblemViews.{part_view};
+ghost use Rattle.tp_syntax.specs.ProblemViews.{section_body_view};
 ghost use Rattle.tp_ast.specs.Gives.{Gives};
 ghost use Rattle.tp_ast.specs.declared.words.ProblemSection.TheVariants as sections;
 
@@ -114,7 +114,8 @@ fn initial_in(
     at: u32,
 ) -> Result<Vec<Initial>, SyntaxFault>
     ensures { Gives (λ v. map initial_view v.items) result
-        (initial_of (symbols_view symbols.now) (section sections.Init (map part_view parts.now))) }
+        (initial_of (symbols_view symbols.now)
+        (section sections.Init (map section_body_view parts.now))) }
 {
     let entries = find_section(ProblemSection::Init, parts, at);
     initial_of(alloc, symbols, entries.body, entries.at)
@@ -128,7 +129,8 @@ fn goal_of(
     at: u32,
 ) -> Result<Cond, SyntaxFault>
     ensures { Gives cond_view result
-        (goal_in (symbols_view symbols.now) (section sections.Goal (map part_view parts.now))) }
+        (goal_in (symbols_view symbols.now)
+        (section sections.Goal (map section_body_view parts.now))) }
 {
     let goals = find_section(ProblemSection::Goal, parts, at);
     goal_in(alloc, symbols, goals.body, goals.at)
@@ -143,7 +145,7 @@ fn stated(
     at: u32,
 ) -> Result<(Vec<Initial>, Cond), SyntaxFault>
     ensures { Gives (λ r. (map initial_view r.0.items, cond_view r.1)) result
-        (stated (symbols_view symbols.now) (map part_view parts.now)) }
+        (stated (symbols_view symbols.now) (map section_body_view parts.now)) }
 {
     let initial = initial_in(alloc, symbols, parts, at)?;
     let goal = goal_of(alloc, symbols, parts, at)?;
@@ -184,7 +186,7 @@ fn stated_of(
     at: u32,
 ) -> Result<(Vec<Initial>, Cond), SyntaxFault>
     ensures { Gives (λ r. (map initial_view r.0.items, cond_view r.1)) result (stated (symbols_with
-        (domain_view domain.now) (map typed_view objects.now)) (map part_view parts.now)) }
+        (domain_view domain.now) (map typed_view objects.now)) (map section_body_view parts.now)) }
 {
     let symbols = symbols_with(alloc, domain, objects)?;
     stated(alloc, &symbols, parts, at)
@@ -199,7 +201,8 @@ fn problem_with(
     at: u32,
 ) -> Result<Problem, SyntaxFault>
     ensures { Gives problem_view result
-        (problem_with (domain_view domain.now) (string_bytes name) (map part_view parts.now)) }
+        (problem_with (domain_view domain.now) (string_bytes name)
+        (map section_body_view parts.now)) }
 {
     let words = find_section(ProblemSection::Requirements, parts, at);
     let _words = requirements_in(alloc, words.body, words.at)?;

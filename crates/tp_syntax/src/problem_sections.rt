@@ -3,7 +3,7 @@
 ghost use Rattle.std.specs.Prelude.{◌≡◌, map};
 ghost use Rattle.tp_ast.specs.Terms.{shapes};
 ghost use Rattle.tp_ast.specs.Problems.{section, once_each};
-ghost use Rattle.tp_syntax.specs.ProblemViews.{part_view};
+ghost use Rattle.tp_syntax.specs.ProblemViews.{section_body_view};
 ghost use Rattle.tp_ast.specs.Gives.{Gives};
 
 use crate::keyed::{Keyed, SectionWord, find_or_empty, read_parts};
@@ -57,7 +57,7 @@ pub fn find_section<'t, 'a>(
     parts: &[Keyed<'t, 'a, ProblemSection>],
     at: u32,
 ) -> Keyed<'t, 'a, ProblemSection>
-    ensures { shapes result.body.now ≡ section kind (map part_view parts.now) }
+    ensures { shapes result.body.now ≡ section kind (map section_body_view parts.now) }
 {
     find_or_empty(kind, parts, at)
 }
@@ -68,7 +68,7 @@ pub fn once_each<'t, 'a>(
     trees: &'t [Tree<'a>],
     at: u32,
 ) -> Result<Vec<Keyed<'t, 'a, ProblemSection>>, SyntaxFault>
-    ensures { Gives (λ v. map part_view v.items) result (once_each (shapes trees.now)) }
+    ensures { Gives (λ v. map section_body_view v.items) result (once_each (shapes trees.now)) }
 {
     read_parts(alloc, trees, at)
 }

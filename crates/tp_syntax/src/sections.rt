@@ -2,7 +2,7 @@
 
 ghost use Rattle.std.specs.Prelude.{◌≡◌, map};
 ghost use Rattle.tp_ast.specs.Domains.{section};
-ghost use Rattle.tp_syntax.specs.SectionViews.{part_view, checked_sections};
+ghost use Rattle.tp_syntax.specs.SectionViews.{section_body_view, checked_sections};
 ghost use Rattle.tp_ast.specs.Terms.{shapes};
 ghost use Rattle.tp_ast.specs.Gives.{Gives};
 
@@ -61,7 +61,7 @@ pub fn find_section<'t, 'a>(
     wanted: Section,
     parts: &[Keyed<'t, 'a, Section>],
 ) -> Keyed<'t, 'a, Section>
-    ensures { shapes result.body.now ≡ section wanted (map part_view parts.now) }
+    ensures { shapes result.body.now ≡ section wanted (map section_body_view parts.now) }
 {
     find_or_empty(wanted, parts, 0)
 }
@@ -72,7 +72,8 @@ pub fn read_sections<'t, 'a>(
     trees: &'t [Tree<'a>],
     at: u32,
 ) -> Result<Vec<Keyed<'t, 'a, Section>>, SyntaxFault>
-    ensures { Gives (λ v. map part_view v.items) result (checked_sections (shapes trees.now)) }
+    ensures { Gives (λ v. map section_body_view v.items) result
+        (checked_sections (shapes trees.now)) }
 {
     read_parts(alloc, trees, at)
 }

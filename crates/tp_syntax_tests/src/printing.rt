@@ -142,7 +142,7 @@ fn functions_carry_no_type(rt: HostRuntime) -> Result<(), Fail> {
 }
 
 #[test]
-fn the_mark_of_a_duration_rule_is_not_kept(rt: HostRuntime) -> Result<(), Fail> {
+fn the_mark_of_a_duration_constraint_is_not_kept(rt: HostRuntime) -> Result<(), Fail> {
     assert!(rt;
         is_printed_as(
             rt.alloc(),

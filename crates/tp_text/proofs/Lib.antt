@@ -1,4 +1,4 @@
-pub mod OnMarks
+pub mod OnLexemes
 pub mod Pieces
 pub mod OnTrees
 pub mod OnTexts

@@ -1,6 +1,6 @@
 use Rattle.std.proofs.Common.{◌≡◌, ℕ, ◌+◌, ◌-◌, ◌<◌, ◌≤◌, List, [], ◌∷◌, ◌++◌, length, take, drop, Ok, refl, sym, ap, ◌∙◌, subst, arith, append-nil, length-drop, slice_index_or}
 use Rattle.std.proofs.lemmas.List.{drop-drop, take_rest}
-use Rattle.tp_text.specs.Marks.{placed, Placed, Marks, with_front}
+use Rattle.tp_text.specs.Lexemes.{placed, Placed, Lexemes, with_front}
 use Rattle.tp_text.specs.Tokens.{Covers}
 use Rattle.tp_text.specs.declared.token.Token.{Token}
 
@@ -28,7 +28,7 @@ module _ (text rest : List ℕ) (at n : ℕ) where
   pub here_on : rest ≡ drop at text → take (length rest - n) (drop n rest) ≡ drop (at + n) text
   here_on here = take_rest rest n ∙ ap (drop n) here ∙ drop-drop n at text
 
-  pub so_far_on : (ps : List Placed) (total : Marks) → ((k : ℕ) → placed k rest ≡ placed (k + n) (drop n rest)) → with_front ps (placed at rest) ≡ total → with_front ps (placed (at + n) (take (length rest - n) (drop n rest))) ≡ total
+  pub so_far_on : (ps : List Placed) (total : Lexemes) → ((k : ℕ) → placed k rest ≡ placed (k + n) (drop n rest)) → with_front ps (placed at rest) ≡ total → with_front ps (placed (at + n) (take (length rest - n) (drop n rest))) ≡ total
   so_far_on ps total h so_far = ap (λ (bs : List ℕ). with_front ps (placed (at + n) bs)) (take_rest rest n) ∙ ap (with_front ps) (sym (h at)) ∙ so_far
 
 -- a slice that a pattern took apart

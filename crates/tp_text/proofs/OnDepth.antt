@@ -1,72 +1,72 @@
--- How deep lists lie in one another, in trees and in their marks.
+-- How deep lists lie in one another, in trees and in their lexemes.
 use Rattle.std.proofs.Common.{◌≡◌, ℕ, zero, suc, ◌+◌, ◌<◌, ◌≤◌, max, List, [], ◌∷◌, ◌++◌, refl, sym, ap, ◌∙◌, subst, arith, append_assoc, append-nil, ◌⊎◌, inl, inr, Result, Ok, Err}
 use Rattle.std.specs.Prelude.{IfOk, OnOk}
 use Rattle.std.proofs.lemmas.Bool.{cases_lt}
-use Rattle.tp_text.specs.Marks.{Mark, left, right, word}
+use Rattle.tp_text.specs.Lexemes.{Lexeme, left, right, word}
 use Rattle.tp_text.specs.Shapes.{Shape, leaf, node, Shapes, no_shapes, shape, written, all_written, nesting, most_nesting}
 use Rattle.tp_text.specs.Trees.{lefts, rights, IsDeep, HasRoom, DeepIsNested, shape_of, tree_written}
 use Rattle.tp_text.specs.declared.tree.Tree.{Tree}
 use Rattle.tp_text.specs.declared.fault.TextFault.{TextFault}
 use Rattle.tp_text.proofs.OnTrees.{lefts-append, rights-append, balanced}
 
--- ---- a mark of two lists in a row stands in the first or in the second
+-- ---- a lexeme of two lists in a row stands in the first or in the second
 
-abbrev InFirst : List Mark → List Mark → Mark → List Mark → Type 0
-InFirst a front m rest = (more : List Mark) × (a ≡ front ++ m ∷ more)
+abbrev InFirst : List Lexeme → List Lexeme → Lexeme → List Lexeme → Type 0
+InFirst a front m rest = (more : List Lexeme) × (a ≡ front ++ m ∷ more)
 
-abbrev InSecond : List Mark → List Mark → List Mark → Mark → List Mark → Type 0
-InSecond a b front m rest = (more : List Mark) × (front ≡ a ++ more) × (b ≡ more ++ m ∷ rest)
+abbrev InSecond : List Lexeme → List Lexeme → List Lexeme → Lexeme → List Lexeme → Type 0
+InSecond a b front m rest = (more : List Lexeme) × (front ≡ a ++ more) × (b ≡ more ++ m ∷ rest)
 
-in_more : (x : Mark) (a b front : List Mark) (m : Mark) (rest : List Mark) → InFirst a front m rest ⊎ InSecond a b front m rest → InFirst (x ∷ a) (x ∷ front) m rest ⊎ InSecond (x ∷ a) b (x ∷ front) m rest
-in_more x a b front m rest (inl h) = inl (h.0, ap (λ (ms : List Mark). x ∷ ms) h.1)
-in_more x a b front m rest (inr h) = inr (h.0, ap (λ (ms : List Mark). x ∷ ms) h.1, h.2)
+in_more : (x : Lexeme) (a b front : List Lexeme) (m : Lexeme) (rest : List Lexeme) → InFirst a front m rest ⊎ InSecond a b front m rest → InFirst (x ∷ a) (x ∷ front) m rest ⊎ InSecond (x ∷ a) b (x ∷ front) m rest
+in_more x a b front m rest (inl h) = inl (h.0, ap (λ (ms : List Lexeme). x ∷ ms) h.1)
+in_more x a b front m rest (inr h) = inr (h.0, ap (λ (ms : List Lexeme). x ∷ ms) h.1, h.2)
 
-where_it_stands : (a b front : List Mark) (m : Mark) (rest : List Mark) → a ++ b ≡ front ++ m ∷ rest → InFirst a front m rest ⊎ InSecond a b front m rest
+where_it_stands : (a b front : List Lexeme) (m : Lexeme) (rest : List Lexeme) → a ++ b ≡ front ++ m ∷ rest → InFirst a front m rest ⊎ InSecond a b front m rest
 where_it_stands [] b front m rest e = inr (front, refl, e)
-where_it_stands (x ∷ a) b [] m rest e = let h : x ≡ m = cc in inl (a, ap (λ (n : Mark). n ∷ a) h)
+where_it_stands (x ∷ a) b [] m rest e = let h : x ≡ m = cc in inl (a, ap (λ (n : Lexeme). n ∷ a) h)
 where_it_stands (x ∷ a) b (y ∷ front) m rest e =
     let h : x ≡ y = cc in
     let t : a ++ b ≡ front ++ m ∷ rest = cc in
-    subst (λ (n : Mark). InFirst (x ∷ a) (n ∷ front) m rest ⊎ InSecond (x ∷ a) b (n ∷ front) m rest) h (in_more x a b front m rest (where_it_stands a b front m rest t))
+    subst (λ (n : Lexeme). InFirst (x ∷ a) (n ∷ front) m rest ⊎ InSecond (x ∷ a) b (n ∷ front) m rest) h (in_more x a b front m rest (where_it_stands a b front m rest t))
 
--- ---- one mark more
+-- ---- one lexeme more
 
-not_after : (m : Mark) (front rest : List Mark) → m ∷ [] ≡ front ++ left ∷ rest → (front ≡ []) × (m ≡ left)
+not_after : (m : Lexeme) (front rest : List Lexeme) → m ∷ [] ≡ front ++ left ∷ rest → (front ≡ []) × (m ≡ left)
 not_after m [] rest e = (refl, cc)
 not_after m (x ∷ []) rest e = absurd cc
 not_after m (x ∷ y ∷ front) rest e = absurd cc
 
-pub deep_more : (ms : List Mark) (m : Mark) → HasRoom ms m → ¬ (IsDeep ms) → ¬ (IsDeep (ms ++ m ∷ []))
+pub deep_more : (ms : List Lexeme) (m : Lexeme) → HasRoom ms m → ¬ (IsDeep ms) → ¬ (IsDeep (ms ++ m ∷ []))
 deep_more ms m room shallow deep = elim (where_it_stands ms (m ∷ []) deep.0 left deep.1 deep.2) as (λ v. ⊥) [
   | inl h ↦ shallow (deep.0, h.0, h.1, deep.3)
   | inr h ↦ let n = not_after m h.0 deep.1 h.2 in
-      let front : deep.0 ≡ ms = h.1 ∙ ap (λ (ns : List Mark). ms ++ ns) n.0 ∙ append-nil ms in
+      let front : deep.0 ≡ ms = h.1 ∙ ap (λ (ns : List Lexeme). ms ++ ns) n.0 ∙ append-nil ms in
       let now : lefts ms < rights ms + 64 = subst (HasRoom ms) n.1 room in
-      let counted : rights ms + 64 ≤ lefts ms = subst (λ (ns : List Mark). rights ns + 64 ≤ lefts ns) front deep.3 in
+      let counted : rights ms + 64 ≤ lefts ms = subst (λ (ns : List Lexeme). rights ns + 64 ≤ lefts ns) front deep.3 in
       absurd (omega arith)
 ]
 
-nothing_there : (front rest : List Mark) → [] ≡ front ++ left ∷ rest → ⊥
+nothing_there : (front rest : List Lexeme) → [] ≡ front ++ left ∷ rest → ⊥
 nothing_there [] rest e = cc
 nothing_there (x ∷ front) rest e = cc
 
 pub none_deep : ¬ (IsDeep [])
 none_deep deep = nothing_there deep.0 deep.1 deep.2
 
--- ---- a tree that is nested so deep has marks that are
+-- ---- a tree that is nested so deep has lexemes that are
 
 -- a list begins where so many are open
-abbrev Reaches : ℕ → List Mark → Type 0
-Reaches k ms = (front : List Mark) × (rest : List Mark) × (ms ≡ front ++ left ∷ rest) × (rights front + k ≤ lefts front)
+abbrev Reaches : ℕ → List Lexeme → Type 0
+Reaches k ms = (front : List Lexeme) × (rest : List Lexeme) × (ms ≡ front ++ left ∷ rest) × (rights front + k ≤ lefts front)
 
-reaches_before : (k : ℕ) (a b : List Mark) → Reaches k a → Reaches k (a ++ b)
-reaches_before k a b h = (h.0, h.1 ++ b, ap (λ (ms : List Mark). ms ++ b) h.2 ∙ append_assoc h.0 (left ∷ h.1) b, h.3)
+reaches_before : (k : ℕ) (a b : List Lexeme) → Reaches k a → Reaches k (a ++ b)
+reaches_before k a b h = (h.0, h.1 ++ b, ap (λ (ms : List Lexeme). ms ++ b) h.2 ∙ append_assoc h.0 (left ∷ h.1) b, h.3)
 
-reaches_behind : (k : ℕ) (a b : List Mark) → lefts a ≡ rights a → Reaches k b → Reaches k (a ++ b)
-reaches_behind k a b even h = (a ++ h.0, h.1, ap (λ (ms : List Mark). a ++ ms) h.2 ∙ sym (append_assoc a h.0 (left ∷ h.1)), omega (arith, h.3, lefts-append a h.0, rights-append a h.0))
+reaches_behind : (k : ℕ) (a b : List Lexeme) → lefts a ≡ rights a → Reaches k b → Reaches k (a ++ b)
+reaches_behind k a b even h = (a ++ h.0, h.1, ap (λ (ms : List Lexeme). a ++ ms) h.2 ∙ sym (append_assoc a h.0 (left ∷ h.1)), omega (arith, h.3, lefts-append a h.0, rights-append a h.0))
 
-reaches_inside : (k : ℕ) (ms : List Mark) → Reaches k ms → Reaches (suc k) (left ∷ ms)
-reaches_inside k ms h = (left ∷ h.0, h.1, ap (λ (ns : List Mark). left ∷ ns) h.2, omega (arith, h.3))
+reaches_inside : (k : ℕ) (ms : List Lexeme) → Reaches k ms → Reaches (suc k) (left ∷ ms)
+reaches_inside k ms h = (left ∷ h.0, h.1, ap (λ (ns : List Lexeme). left ∷ ns) h.2, omega (arith, h.3))
 
 mutual
   reaches : (k : ℕ) (s : Shape) → k < nesting s → Reaches k (written s)
@@ -83,21 +83,21 @@ mutual
 
 -- ---- and the other way round
 
-no_left : (w : List ℕ) (front rest : List Mark) → word w ∷ [] ≡ front ++ left ∷ rest → ⊥
+no_left : (w : List ℕ) (front rest : List Lexeme) → word w ∷ [] ≡ front ++ left ∷ rest → ⊥
 no_left w [] rest e = cc
 no_left w (x ∷ []) rest e = cc
 no_left w (x ∷ y ∷ front) rest e = cc
 
-open_inside : (k : ℕ) (ss : Shapes) (front rest : List Mark) → ((j : ℕ) → Reaches j (all_written ss) → j < most_nesting ss) → all_written ss ≡ front ++ left ∷ rest → rights front + k ≤ lefts front + 1 → k < most_nesting ss + 1
+open_inside : (k : ℕ) (ss : Shapes) (front rest : List Lexeme) → ((j : ℕ) → Reaches j (all_written ss) → j < most_nesting ss) → all_written ss ≡ front ++ left ∷ rest → rights front + k ≤ lefts front + 1 → k < most_nesting ss + 1
 open_inside zero ss front rest below e counted = omega arith
 open_inside (suc k) ss front rest below e counted = let h = below k (front, rest, e, omega arith) in omega arith
 
-nests_list : (k : ℕ) (ss : Shapes) (front rest : List Mark) → ((j : ℕ) → Reaches j (all_written ss) → j < most_nesting ss) → left ∷ (all_written ss ++ right ∷ []) ≡ front ++ left ∷ rest → rights front + k ≤ lefts front → k < most_nesting ss + 1
+nests_list : (k : ℕ) (ss : Shapes) (front rest : List Lexeme) → ((j : ℕ) → Reaches j (all_written ss) → j < most_nesting ss) → left ∷ (all_written ss ++ right ∷ []) ≡ front ++ left ∷ rest → rights front + k ≤ lefts front → k < most_nesting ss + 1
 nests_list k ss [] rest below e counted = omega arith
 nests_list k ss (x ∷ front) rest below e counted =
     let is : x ≡ left = cc in
     let inside : all_written ss ++ right ∷ [] ≡ front ++ left ∷ rest = cc in
-    let here : rights (left ∷ front) + k ≤ lefts (left ∷ front) = subst (λ (m : Mark). rights (m ∷ front) + k ≤ lefts (m ∷ front)) is counted in
+    let here : rights (left ∷ front) + k ≤ lefts (left ∷ front) = subst (λ (m : Lexeme). rights (m ∷ front) + k ≤ lefts (m ∷ front)) is counted in
     elim (where_it_stands (all_written ss) (right ∷ []) front left rest inside) as (λ v. k < most_nesting ss + 1) [
       | inl h ↦ open_inside k ss front h.0 below h.1 here
       | inr h ↦ let n = not_after right h.0 rest h.2 in let wrong : right ≡ left = n.1 in absurd cc
@@ -112,7 +112,7 @@ mutual
   all_nest k no_shapes h = absurd (nothing_there h.0 h.1 h.2)
   all_nest k (shape s ss) h = elim (where_it_stands (written s) (all_written ss) h.0 left h.1 h.2) as (λ v. k < max (nesting s) (most_nesting ss)) [
     | inl g ↦ let here = nests k s (h.0, g.0, g.1, h.3) in omega arith
-    | inr g ↦ let counted : rights (written s ++ g.0) + k ≤ lefts (written s ++ g.0) = subst (λ (ms : List Mark). rights ms + k ≤ lefts ms) g.1 h.3 in
+    | inr g ↦ let counted : rights (written s ++ g.0) + k ≤ lefts (written s ++ g.0) = subst (λ (ms : List Lexeme). rights ms + k ≤ lefts ms) g.1 h.3 in
         let there = all_nest k ss (g.0, h.1, g.2, omega (arith, counted, balanced s, lefts-append (written s) g.0, rights-append (written s) g.0)) in
         omega arith
   ]
@@ -121,7 +121,7 @@ pub deep_nested : DeepIsNested
 deep_nested s = (nests 64 s, reaches 64 s)
 
 -- what was read lies within the limit
-pub nested : (r : Result Tree TextFault) (ms : List Mark) → IfOk r (λ t. tree_written t ≡ ms) → OnOk r (¬ (IsDeep ms)) → IfOk r (λ t. nesting (shape_of t) ≤ 64)
+pub nested : (r : Result Tree TextFault) (ms : List Lexeme) → IfOk r (λ t. tree_written t ≡ ms) → OnOk r (¬ (IsDeep ms)) → IfOk r (λ t. nesting (shape_of t) ≤ 64)
 nested (Ok t) ms is shallow = elim (cases_lt 64 (nesting (shape_of t))) as (λ v. nesting (shape_of t) ≤ 64) [
   | inl deep ↦ absurd (shallow (subst IsDeep is (reaches 64 (shape_of t) deep)))
   | inr le ↦ le

@@ -2,10 +2,10 @@
 use Rattle.std.proofs.Common.{◌≡◌, ℕ, zero, suc, ◌+◌, ◌<◌, ◌≤◌, List, [], ◌∷◌, ◌++◌, length, drop, get_or, map, Vec, Global, Result, Ok, Err, refl, sym, ap, ◌∙◌, subst, arith, rules, append_assoc, append-nil}
 use Rattle.std.proofs.lemmas.List.{drop_all, length-map}
 use Rattle.std.specs.Prelude.{IfErr}
-use Rattle.tp_text.specs.Marks.{Mark, left, right, word, placed}
-use Rattle.tp_text.specs.Shapes.{Shape, leaf, node, Shapes, no_shapes, shape, written, all_written, marks_only, Spells, SpellsOneTree}
-use Rattle.tp_text.specs.Trees.{shapes_of, shape_of, tree_written, trees_written, frames_written, lefts, rights, IsNoTree, IsOneTree, IsOpen, built, CannotGoOn, HasNoTree, IsDeep, IsRefused, marks_of}
-use Rattle.tp_text.specs.Tokens.{mark_of, placed_of, HasNoMarks}
+use Rattle.tp_text.specs.Lexemes.{Lexeme, left, right, word, placed}
+use Rattle.tp_text.specs.Shapes.{Shape, leaf, node, Shapes, no_shapes, shape, written, all_written, lexemes_only, Spells, SpellsOneTree}
+use Rattle.tp_text.specs.Trees.{shapes_of, shape_of, tree_written, trees_written, frames_written, lefts, rights, IsNoTree, IsOneTree, IsOpen, built, CannotGoOn, HasNoTree, IsDeep, IsRefused, lexemes_of}
+use Rattle.tp_text.specs.Tokens.{lexeme_of, placed_of, HasNoLexemes}
 use Rattle.tp_text.specs.declared.token.Token.{Token}
 use Rattle.tp_text.specs.declared.fault.TextFault.{TextFault}
 use Rattle.tp_text.specs.declared.fault.TextFault.TheVariants as faults
@@ -21,20 +21,20 @@ shape_List v span = search (rules, the_lemmas)
 -- trees side by side write what their shapes write
 pub all_written_of : (ts : List Tree) → all_written (shapes_of (map shape_of ts)) ≡ trees_written ts
 all_written_of [] = refl
-all_written_of (x ∷ ts) = ap (λ (ms : List Mark). tree_written x ++ ms) (all_written_of ts)
+all_written_of (x ∷ ts) = ap (λ (ms : List Lexeme). tree_written x ++ ms) (all_written_of ts)
 
 pub list_written : (v : Vec Tree Global) (span : Span) → tree_written (trees.List v span) ≡ left ∷ (trees_written v.items ++ right ∷ [])
-list_written v span = ap written (shape_List v span) ∙ ap (λ (ms : List Mark). left ∷ (ms ++ right ∷ [])) (all_written_of v.items)
+list_written v span = ap written (shape_List v span) ∙ ap (λ (ms : List Lexeme). left ∷ (ms ++ right ∷ [])) (all_written_of v.items)
 
 -- ---- no tree writes the front of what another writes
 
 -- what a tree writes begins with no ')'
-no_right : (a : Shape) (x y : List Mark) → written a ++ x ≡ right ∷ y → ⊥
+no_right : (a : Shape) (x y : List Lexeme) → written a ++ x ≡ right ∷ y → ⊥
 no_right (leaf w) x y e = cc
 no_right (node ss) x y e = cc
 
 mutual
-  pub same_rest : (a b : Shape) (x y : List Mark) → written a ++ x ≡ written b ++ y → x ≡ y
+  pub same_rest : (a b : Shape) (x y : List Lexeme) → written a ++ x ≡ written b ++ y → x ≡ y
   same_rest (leaf v) (leaf w) x y e = cc
   same_rest (leaf v) (node bs) x y e = absurd cc
   same_rest (node ss) (leaf w) x y e = absurd cc
@@ -43,7 +43,7 @@ mutual
       let inner : all_written ss ++ right ∷ [] ++ x ≡ all_written bs ++ right ∷ [] ++ y = cc in
       same_rests ss bs x y (sym (append_assoc (all_written ss) (right ∷ []) x) ∙ inner ∙ append_assoc (all_written bs) (right ∷ []) y)
 
-  same_rests : (ss bs : Shapes) (x y : List Mark) → all_written ss ++ (right ∷ x) ≡ all_written bs ++ (right ∷ y) → x ≡ y
+  same_rests : (ss bs : Shapes) (x y : List Lexeme) → all_written ss ++ (right ∷ x) ≡ all_written bs ++ (right ∷ y) → x ≡ y
   same_rests no_shapes no_shapes x y e = cc
   same_rests no_shapes (shape b bs) x y e = absurd (no_right b (all_written bs ++ (right ∷ y)) x (sym (append_assoc (written b) (all_written bs) (right ∷ y)) ∙ sym e))
   same_rests (shape a ss) no_shapes x y e = absurd (no_right a (all_written ss ++ (right ∷ x)) y (sym (append_assoc (written a) (all_written ss) (right ∷ x)) ∙ e))
@@ -52,7 +52,7 @@ mutual
 
 -- and that trees which write the same are the same
 mutual
-  pub same_tree : (a b : Shape) (x y : List Mark) → written a ++ x ≡ written b ++ y → a ≡ b
+  pub same_tree : (a b : Shape) (x y : List Lexeme) → written a ++ x ≡ written b ++ y → a ≡ b
   same_tree (leaf v) (leaf w) x y e = cc
   same_tree (leaf v) (node bs) x y e = absurd cc
   same_tree (node ss) (leaf w) x y e = absurd cc
@@ -61,7 +61,7 @@ mutual
       let inner : all_written ss ++ right ∷ [] ++ x ≡ all_written bs ++ right ∷ [] ++ y = cc in
       ap node (same_trees ss bs x y (sym (append_assoc (all_written ss) (right ∷ []) x) ∙ inner ∙ append_assoc (all_written bs) (right ∷ []) y))
 
-  same_trees : (ss bs : Shapes) (x y : List Mark) → all_written ss ++ (right ∷ x) ≡ all_written bs ++ (right ∷ y) → ss ≡ bs
+  same_trees : (ss bs : Shapes) (x y : List Lexeme) → all_written ss ++ (right ∷ x) ≡ all_written bs ++ (right ∷ y) → ss ≡ bs
   same_trees no_shapes no_shapes x y e = refl
   same_trees no_shapes (shape b bs) x y e = absurd (no_right b (all_written bs ++ (right ∷ y)) x (sym (append_assoc (written b) (all_written bs) (right ∷ y)) ∙ sym e))
   same_trees (shape a ss) no_shapes x y e = absurd (no_right a (all_written ss ++ (right ∷ x)) y (sym (append_assoc (written a) (all_written ss) (right ∷ x)) ∙ e))
@@ -76,24 +76,24 @@ pub spells_one_tree : SpellsOneTree
 spells_one_tree text s u is other =
     let same = sym is.1 ∙ other.1 in
     let ps : is.0 ≡ other.0 = cc in
-    let both : written s ≡ written u = sym is.2 ∙ ap marks_only ps ∙ other.2 in
-    same_tree s u [] [] (ap (λ (ms : List Mark). ms ++ []) both)
+    let both : written s ≡ written u = sym is.2 ∙ ap lexemes_only ps ∙ other.2 in
+    same_tree s u [] [] (ap (λ (ms : List Lexeme). ms ++ []) both)
 
 -- nothing stands after a tree
-pub none_after : (t : Shape) (m : Mark) (more : List Mark) → IsNoTree (written t ++ m ∷ more)
+pub none_after : (t : Shape) (m : Lexeme) (more : List Lexeme) → IsNoTree (written t ++ m ∷ more)
 none_after t m more s e =
     let same : [] ≡ m ∷ more = same_rest s t [] (m ∷ more) (append-nil (written s) ∙ e) in
     cc
 
 -- ---- counts of parentheses
 
-pub lefts-append : (a b : List Mark) → lefts (a ++ b) ≡ lefts a + lefts b
+pub lefts-append : (a b : List Lexeme) → lefts (a ++ b) ≡ lefts a + lefts b
 lefts-append [] b = omega arith
 lefts-append (left ∷ a) b = omega (arith, lefts-append a b)
 lefts-append (right ∷ a) b = lefts-append a b
 lefts-append (word w ∷ a) b = lefts-append a b
 
-pub rights-append : (a b : List Mark) → rights (a ++ b) ≡ rights a + rights b
+pub rights-append : (a b : List Lexeme) → rights (a ++ b) ≡ rights a + rights b
 rights-append [] b = omega arith
 rights-append (left ∷ a) b = rights-append a b
 rights-append (right ∷ a) b = omega (arith, rights-append a b)
@@ -125,7 +125,7 @@ built_open b = omega (arith, frames_open b.outer.items, trees_balanced b.items.i
 frames_written_push : (fs : List Frame) (f : Frame) → frames_written (fs ++ f ∷ []) ≡ frames_written fs ++ (trees_written f.items.items ++ left ∷ [])
 frames_written_push [] f = refl
 frames_written_push (g ∷ fs) f =
-    ap (λ (ms : List Mark). trees_written g.items.items ++ left ∷ ms) (frames_written_push fs f)
+    ap (λ (ms : List Lexeme). trees_written g.items.items ++ left ∷ ms) (frames_written_push fs f)
     ∙ sym (append_assoc (trees_written g.items.items) (left ∷ frames_written fs) (trees_written f.items.items ++ left ∷ []))
 
 pub began : (fs fs' : List Frame) (f : Frame) (ts ts' : List Tree) → fs' ≡ fs ++ f ∷ [] → f.items.items ≡ ts → ts' ≡ [] → frames_written fs' ++ trees_written ts' ≡ frames_written fs ++ trees_written ts ++ left ∷ []
@@ -137,104 +137,104 @@ began fs fs' f ts ts' pushed had none =
 
 trees_written_push : (ts : List Tree) (t : Tree) → trees_written (ts ++ t ∷ []) ≡ trees_written ts ++ tree_written t
 trees_written_push [] t = append-nil (tree_written t)
-trees_written_push (u ∷ ts) t = ap (λ (ms : List Mark). tree_written u ++ ms) (trees_written_push ts t) ∙ sym (append_assoc (tree_written u) (trees_written ts) (tree_written t))
+trees_written_push (u ∷ ts) t = ap (λ (ms : List Lexeme). tree_written u ++ ms) (trees_written_push ts t) ∙ sym (append_assoc (tree_written u) (trees_written ts) (tree_written t))
 
 pub ended : (fs fs' : List Frame) (f : Frame) (ts ts' : List Tree) (t : Tree) → fs ≡ fs' ++ f ∷ [] → ts' ≡ f.items.items ++ t ∷ [] → tree_written t ≡ left ∷ (trees_written ts ++ right ∷ []) → frames_written fs' ++ trees_written ts' ≡ frames_written fs ++ trees_written ts ++ right ∷ []
 ended fs fs' f ts ts' t popped pushed made =
-    let here : trees_written ts' ≡ trees_written f.items.items ++ (left ∷ (trees_written ts ++ right ∷ [])) = ap trees_written pushed ∙ trees_written_push f.items.items t ∙ ap (λ (ms : List Mark). trees_written f.items.items ++ ms) made in
+    let here : trees_written ts' ≡ trees_written f.items.items ++ (left ∷ (trees_written ts ++ right ∷ [])) = ap trees_written pushed ∙ trees_written_push f.items.items t ∙ ap (λ (ms : List Lexeme). trees_written f.items.items ++ ms) made in
     let before : frames_written fs ≡ frames_written fs' ++ (trees_written f.items.items ++ left ∷ []) = ap frames_written popped ∙ frames_written_push fs' f in
     rw (here, before) (simp append_assoc)
 
-pub one_tree : (fs : List Frame) (ts : List Tree) (m : Mark) (more : List Mark) → IsOneTree fs ts → length fs ≡ 0 → (length ts ≡ 0 → ⊥) → IsNoTree (frames_written fs ++ trees_written ts ++ m ∷ more)
+pub one_tree : (fs : List Frame) (ts : List Tree) (m : Lexeme) (more : List Lexeme) → IsOneTree fs ts → length fs ≡ 0 → (length ts ≡ 0 → ⊥) → IsNoTree (frames_written fs ++ trees_written ts ++ m ∷ more)
 one_tree (f ∷ fs) ts m more one none some = absurd (omega arith)
 one_tree [] [] m more one none some = absurd (some refl)
 one_tree [] (t ∷ u ∷ ts) m more one none some = absurd (omega arith)
-one_tree [] (t ∷ []) m more one none some = λ s e. none_after (shape_of t) m more s (e ∙ ap (λ (ms : List Mark). ms ++ m ∷ more) (append-nil (tree_written t)))
+one_tree [] (t ∷ []) m more one none some = λ s e. none_after (shape_of t) m more s (e ∙ ap (λ (ms : List Lexeme). ms ++ m ∷ more) (append-nil (tree_written t)))
 
 -- a ')' comes first
-pub right_first : (fs : List Frame) (ts : List Tree) (more : List Mark) → IsOpen fs ts → length fs ≡ 0 → IsNoTree (frames_written fs ++ trees_written ts ++ right ∷ more)
+pub right_first : (fs : List Frame) (ts : List Tree) (more : List Lexeme) → IsOpen fs ts → length fs ≡ 0 → IsNoTree (frames_written fs ++ trees_written ts ++ right ∷ more)
 right_first (f ∷ fs) ts more opened none = absurd (omega arith)
 right_first [] ts more opened none = λ s e. no_right s [] more (append-nil (written s) ∙ e ∙ ap (λ (us : List Tree). trees_written us ++ right ∷ more) opened)
 
 -- a list stays open
-pub stays_open : (b : Builder) (ms : List Mark) → 0 < length b.outer.items → built b ≡ ms → IsNoTree ms
+pub stays_open : (b : Builder) (ms : List Lexeme) → 0 < length b.outer.items → built b ≡ ms → IsNoTree ms
 stays_open b ms some all s e =
     let same : written s ≡ built b = e ∙ sym all in
     omega (arith, balanced s, built_open b, ap lefts same, ap rights same)
 
-no_mark : (s : Shape) → written s ≡ [] → ⊥
-no_mark (leaf w) e = cc
-no_mark (node ss) e = cc
+no_lexeme : (s : Shape) → written s ≡ [] → ⊥
+no_lexeme (leaf w) e = cc
+no_lexeme (node ss) e = cc
 
 -- nothing was read
-pub nothing : (fs : List Frame) (ts : List Tree) (ms : List Mark) → length fs < 1 → length ts ≡ 0 → frames_written fs ++ trees_written ts ≡ ms → IsNoTree ms
+pub nothing : (fs : List Frame) (ts : List Tree) (ms : List Lexeme) → length fs < 1 → length ts ≡ 0 → frames_written fs ++ trees_written ts ≡ ms → IsNoTree ms
 nothing (f ∷ fs) ts ms no_frames no_trees all = absurd (omega arith)
 nothing [] (t ∷ ts) ms no_frames no_trees all = absurd (omega arith)
-nothing [] [] ms no_frames no_trees all = λ s e. no_mark s (e ∙ sym all)
+nothing [] [] ms no_frames no_trees all = λ s e. no_lexeme s (e ∙ sym all)
 
--- what a step says of the marks so far is so of all marks
-pub refused_for_all : (ms more : List Mark) (m : Mark) (all : List Mark) (e : TextFault) → ms ++ m ∷ more ≡ all → CannotGoOn ms m e → HasNoTree all e
+-- what a step says of the lexemes so far is so of all lexemes
+pub refused_for_all : (ms more : List Lexeme) (m : Lexeme) (all : List Lexeme) (e : TextFault) → ms ++ m ∷ more ≡ all → CannotGoOn ms m e → HasNoTree all e
 refused_for_all ms more m all faults.Memory is h = tt
 refused_for_all ms more m all faults.TooLong is h = absurd h
 refused_for_all ms more m all (faults.BadByte at) is h = absurd h
 refused_for_all ms more m all (faults.Unclosed at) is h = absurd h
 refused_for_all ms more m all (faults.Extra at) is h = λ s e. h more s (e ∙ sym is)
-refused_for_all ms more m all (faults.Depth at) is h = (ms, more, sym is ∙ ap (λ (n : Mark). ms ++ n ∷ more) h.0, h.1)
+refused_for_all ms more m all (faults.Depth at) is h = (ms, more, sym is ∙ ap (λ (n : Lexeme). ms ++ n ∷ more) h.0, h.1)
 refused_for_all ms more m all faults.Empty is h = absurd h
 
-drop_marks : (ts : List Token) (i : ℕ) (d : Token) → i < length ts → drop i (marks_of ts) ≡ mark_of (get_or ts i d).text.now ∷ drop (suc i) (marks_of ts)
-drop_marks [] i d lt = absurd (omega arith)
-drop_marks (t ∷ ts) zero d lt = refl
-drop_marks (t ∷ ts) (suc i) d lt = drop_marks ts i d (omega arith)
+drop_lexemes : (ts : List Token) (i : ℕ) (d : Token) → i < length ts → drop i (lexemes_of ts) ≡ lexeme_of (get_or ts i d).text.now ∷ drop (suc i) (lexemes_of ts)
+drop_lexemes [] i d lt = absurd (omega arith)
+drop_lexemes (t ∷ ts) zero d lt = refl
+drop_lexemes (t ∷ ts) (suc i) d lt = drop_lexemes ts i d (omega arith)
 
--- the marks before an index, the one there, and the rest
-pub at_token : (ms : List Mark) (ts : List Token) (i : ℕ) (d : Token) → i < length ts → ms ++ drop i (marks_of ts) ≡ marks_of ts → ms ++ mark_of (get_or ts i d).text.now ∷ drop (i + 1) (marks_of ts) ≡ marks_of ts
+-- the lexemes before an index, the one there, and the rest
+pub at_token : (ms : List Lexeme) (ts : List Token) (i : ℕ) (d : Token) → i < length ts → ms ++ drop i (lexemes_of ts) ≡ lexemes_of ts → ms ++ lexeme_of (get_or ts i d).text.now ∷ drop (i + 1) (lexemes_of ts) ≡ lexemes_of ts
 at_token ms ts i d lt so_far =
     let k : i + 1 ≡ suc i = omega arith in
-    rw k (ap (λ (more : List Mark). ms ++ more) (sym (drop_marks ts i d lt)) ∙ so_far)
+    rw k (ap (λ (more : List Lexeme). ms ++ more) (sym (drop_lexemes ts i d lt)) ∙ so_far)
 
--- a step reads one mark more
-pub one_more : (old new more all : List Mark) (m : Mark) → new ≡ old ++ m ∷ [] → old ++ m ∷ more ≡ all → new ++ more ≡ all
-one_more old new more all m is so_far = ap (λ (ms : List Mark). ms ++ more) is ∙ append_assoc old (m ∷ []) more ∙ so_far
+-- a step reads one lexeme more
+pub one_more : (old new more all : List Lexeme) (m : Lexeme) → new ≡ old ++ m ∷ [] → old ++ m ∷ more ≡ all → new ++ more ≡ all
+one_more old new more all m is so_far = ap (λ (ms : List Lexeme). ms ++ more) is ∙ append_assoc old (m ∷ []) more ∙ so_far
 
--- no mark is left
-pub all_read : (ms : List Mark) (ts : List Token) (i : ℕ) → length ts ≤ i → ms ++ drop i (marks_of ts) ≡ marks_of ts → ms ≡ marks_of ts
+-- no lexeme is left
+pub all_read : (ms : List Lexeme) (ts : List Token) (i : ℕ) → length ts ≤ i → ms ++ drop i (lexemes_of ts) ≡ lexemes_of ts → ms ≡ lexemes_of ts
 all_read ms ts i le so_far =
-    let none : drop i (marks_of ts) ≡ [] = drop_all i (marks_of ts) (omega (arith, length-map ts (λ (t : Token). mark_of t.text.now))) in
-    sym (append-nil ms) ∙ ap (λ (more : List Mark). ms ++ more) (sym none) ∙ so_far
+    let none : drop i (lexemes_of ts) ≡ [] = drop_all i (lexemes_of ts) (omega (arith, length-map ts (λ (t : Token). lexeme_of t.text.now))) in
+    sym (append-nil ms) ∙ ap (λ (more : List Lexeme). ms ++ more) (sym none) ∙ so_far
 
--- tokens are the marks of their text
-pub marks_are : (ts : List Token) → marks_only (map placed_of ts) ≡ marks_of ts
-marks_are [] = refl
-marks_are (t ∷ ts) = ap (λ (ms : List Mark). mark_of t.text.now ∷ ms) (marks_are ts)
+-- tokens are the lexemes of their text
+pub lexemes_are : (ts : List Token) → lexemes_only (map placed_of ts) ≡ lexemes_of ts
+lexemes_are [] = refl
+lexemes_are (t ∷ ts) = ap (λ (ms : List Lexeme). lexeme_of t.text.now ∷ ms) (lexemes_are ts)
 
-pub spelled : (text : List ℕ) (ts : List Token) (s : Shape) → placed 0 text ≡ Ok (map placed_of ts) → written s ≡ marks_of ts → Spells text s
-spelled text ts s is w = (map placed_of ts, is, marks_are ts ∙ sym w)
+pub spelled : (text : List ℕ) (ts : List Token) (s : Shape) → placed 0 text ≡ Ok (map placed_of ts) → written s ≡ lexemes_of ts → Spells text s
+spelled text ts s is w = (map placed_of ts, is, lexemes_are ts ∙ sym w)
 
--- a text has one list of marks
-spells_marks : (text : List ℕ) (ts : List Token) (s : Shape) → placed 0 text ≡ Ok (map placed_of ts) → Spells text s → written s ≡ marks_of ts
-spells_marks text ts s is spells =
+-- a text has one list of lexemes
+spells_lexemes : (text : List ℕ) (ts : List Token) (s : Shape) → placed 0 text ≡ Ok (map placed_of ts) → Spells text s → written s ≡ lexemes_of ts
+spells_lexemes text ts s is spells =
     let same = sym is ∙ spells.1 in
     let ps : map placed_of ts ≡ spells.0 = cc in
-    sym spells.2 ∙ sym (ap marks_only ps) ∙ marks_are ts
+    sym spells.2 ∙ sym (ap lexemes_only ps) ∙ lexemes_are ts
 
-pub refused_tree : (text : List ℕ) (ts : List Token) (e : TextFault) → placed 0 text ≡ Ok (map placed_of ts) → HasNoTree (marks_of ts) e → IsRefused text e
+pub refused_tree : (text : List ℕ) (ts : List Token) (e : TextFault) → placed 0 text ≡ Ok (map placed_of ts) → HasNoTree (lexemes_of ts) e → IsRefused text e
 refused_tree text ts faults.Memory is h = tt
 refused_tree text ts faults.TooLong is h = absurd h
 refused_tree text ts (faults.BadByte at) is h = absurd h
-refused_tree text ts (faults.Unclosed at) is h = λ s spells. h s (spells_marks text ts s is spells)
-refused_tree text ts (faults.Extra at) is h = λ s spells. h s (spells_marks text ts s is spells)
-refused_tree text ts (faults.Depth at) is h = (map placed_of ts, is, subst IsDeep (sym (marks_are ts)) h)
-refused_tree text ts faults.Empty is h = λ s spells. h s (spells_marks text ts s is spells)
+refused_tree text ts (faults.Unclosed at) is h = λ s spells. h s (spells_lexemes text ts s is spells)
+refused_tree text ts (faults.Extra at) is h = λ s spells. h s (spells_lexemes text ts s is spells)
+refused_tree text ts (faults.Depth at) is h = (map placed_of ts, is, subst IsDeep (sym (lexemes_are ts)) h)
+refused_tree text ts faults.Empty is h = λ s spells. h s (spells_lexemes text ts s is spells)
 
-pub refused_marks : (text : List ℕ) (e : TextFault) → HasNoMarks text e → IsRefused text e
-refused_marks text faults.Memory h = tt
-refused_marks text faults.TooLong h = h
-refused_marks text (faults.BadByte at) h = λ s spells. let same = sym h ∙ spells.1 in absurd cc
-refused_marks text (faults.Unclosed at) h = absurd h
-refused_marks text (faults.Extra at) h = absurd h
-refused_marks text (faults.Depth at) h = absurd h
-refused_marks text faults.Empty h = absurd h
+pub refused_lexemes : (text : List ℕ) (e : TextFault) → HasNoLexemes text e → IsRefused text e
+refused_lexemes text faults.Memory h = tt
+refused_lexemes text faults.TooLong h = h
+refused_lexemes text (faults.BadByte at) h = λ s spells. let same = sym h ∙ spells.1 in absurd cc
+refused_lexemes text (faults.Unclosed at) h = absurd h
+refused_lexemes text (faults.Extra at) h = absurd h
+refused_lexemes text (faults.Depth at) h = absurd h
+refused_lexemes text faults.Empty h = absurd h
 
 pub if_err : {X Y : Type 0} (r : Result X Y) (P Q : Y → Type 0) → ((y : Y) → P y → Q y) → IfErr r P → IfErr r Q
 if_err (Ok x) P Q f h = tt

@@ -1,6 +1,6 @@
 -- Trees of words, without places, and what a text spells.
 use Rattle.std.specs.Prelude.{◌≡◌, ℕ, ◌+◌, max, List, [], ◌∷◌, ◌++◌, map, Ok}
-use Rattle.tp_text.specs.Marks.{Mark, left, right, word, Placed, placed}
+use Rattle.tp_text.specs.Lexemes.{Lexeme, left, right, word, Placed, placed}
 
 mutual
   pub data Shape : Type 0 where
@@ -13,11 +13,11 @@ mutual
 
 -- a word writes itself; a list writes '(', its members, ')'
 abbrev mutual
-  pub written : Shape → List Mark
+  pub written : Shape → List Lexeme
   written (leaf w) = word w ∷ []
   written (node ss) = left ∷ (all_written ss ++ right ∷ [])
 
-  pub all_written : Shapes → List Mark
+  pub all_written : Shapes → List Lexeme
   all_written no_shapes = []
   all_written (shape s ss) = written s ++ all_written ss
 
@@ -31,12 +31,12 @@ abbrev mutual
   most_nesting no_shapes = 0
   most_nesting (shape s ss) = max (nesting s) (most_nesting ss)
 
-abbrev pub marks_only : List Placed → List Mark
-marks_only ps = map (λ p. p.mark) ps
+abbrev pub lexemes_only : List Placed → List Lexeme
+lexemes_only ps = map (λ p. p.lexeme) ps
 
--- the text's marks are those that the tree writes
+-- the text's lexemes are those that the tree writes
 abbrev pub Spells : List ℕ → Shape → Type 0
-Spells text s = (ps : List Placed) × (placed 0 text ≡ Ok ps) × (marks_only ps ≡ written s)
+Spells text s = (ps : List Placed) × (placed 0 text ≡ Ok ps) × (lexemes_only ps ≡ written s)
 
 -- a text spells at most one tree
 abbrev pub SpellsOneTree : Type 0

@@ -1,12 +1,12 @@
 -- What tokens show of a text.
 use Rattle.std.specs.Prelude.{◌≡◌, ℕ, ◌+◌, ◌-◌, ◌≤◌, ◌<◌, Bool, false, take, drop, List, [], ◌∷◌, length, ◌==◌, if◌then◌else◌, Ok, Err}
-use Rattle.tp_text.specs.Marks as marks
-use Rattle.tp_text.specs.Marks.{left, right, word, Placed, Marks, before, placed}
+use Rattle.tp_text.specs.Lexemes as lexemes
+use Rattle.tp_text.specs.Lexemes.{left, right, word, Placed, Lexemes, before, placed}
 use Rattle.tp_text.specs.declared.fault.TextFault.{TextFault}
 use Rattle.tp_text.specs.declared.fault.TextFault.TheVariants as faults
 use Rattle.tp_text.specs.declared.token.Token.{Token}
 use Rattle.tp_text.specs.declared.lexing.Piece.{Piece}
-use Rattle.tp_text.specs.declared.lexing.Piece.TheVariants.{Blank, Mark, Bad}
+use Rattle.tp_text.specs.declared.lexing.Piece.TheVariants.{Blank, Lexeme, Bad}
 use Rattle.std.specs.Str.{IsAscii}
 
 abbrev pub max_text : ℕ
@@ -18,40 +18,40 @@ is_byte b [] = false
 is_byte b (c ∷ []) = c == b
 is_byte b (c ∷ d ∷ cs) = false
 
--- the mark that these bytes are
-abbrev pub mark_of : List ℕ → marks.Mark
-mark_of text = if is_byte 40 text then left else (if is_byte 41 text then right else word text)
+-- the lexeme that these bytes are
+abbrev pub lexeme_of : List ℕ → lexemes.Lexeme
+lexeme_of text = if is_byte 40 text then left else (if is_byte 41 text then right else word text)
 
 abbrev pub placed_of : Token → Placed
-placed_of t = record { mark = mark_of t.text.now; start = t.span.start; stop = t.span.stop }
+placed_of t = record { lexeme = lexeme_of t.text.now; start = t.span.start; stop = t.span.stop }
 
--- when a text is refused before its marks are known
-abbrev pub HasNoMarks : List ℕ → TextFault → Type 0
-HasNoMarks text faults.Memory = Unit {0}
-HasNoMarks text faults.TooLong = max_text < length text
-HasNoMarks text (faults.BadByte at) = placed 0 text ≡ Err at
-HasNoMarks text (faults.Unclosed at) = ⊥
-HasNoMarks text (faults.Extra at) = ⊥
-HasNoMarks text (faults.Depth at) = ⊥
-HasNoMarks text faults.Empty = ⊥
+-- when a text is refused before its lexemes are known
+abbrev pub HasNoLexemes : List ℕ → TextFault → Type 0
+HasNoLexemes text faults.Memory = Unit {0}
+HasNoLexemes text faults.TooLong = max_text < length text
+HasNoLexemes text (faults.BadByte at) = placed 0 text ≡ Err at
+HasNoLexemes text (faults.Unclosed at) = ⊥
+HasNoLexemes text (faults.Extra at) = ⊥
+HasNoLexemes text (faults.Depth at) = ⊥
+HasNoLexemes text faults.Empty = ⊥
 
 -- what stands at the front of bytes, and how long it is
 abbrev pub Begins : Piece → List ℕ → Type 0
 Begins (Blank n) bytes =
     (0 < n) × (n ≤ length bytes) × ((at : ℕ) → placed at bytes ≡ placed (at + n) (drop n bytes))
-Begins (Mark n) bytes =
+Begins (Lexeme n) bytes =
     (0 < n)
     × (n ≤ length bytes)
     × IsAscii (take n bytes)
     × ((at : ℕ) → placed at bytes ≡ before (record {
-      mark = mark_of (take n bytes);
+      lexeme = lexeme_of (take n bytes);
       start = at;
       stop = at + n;
     }) (placed (at + n) (drop n bytes)))
 Begins Bad bytes = (at : ℕ) → placed at bytes ≡ Err at
 
--- Tokens in order behind a place of a text: no mark stands before the first (so only blanks and comments do), each is the
--- slice at its span, the next begins where it ends or later, and no mark stands behind the last.
+-- Tokens in order behind a place of a text: no lexeme stands before the first (so only blanks and comments do), each is the
+-- slice at its span, the next begins where it ends or later, and no lexeme stands behind the last.
 abbrev pub Covers : List ℕ → ℕ → List Token → Type 0
 Covers text from [] = placed from (drop from text) ≡ Ok []
 Covers text from (t ∷ ts) =

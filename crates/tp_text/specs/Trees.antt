@@ -1,9 +1,9 @@
 -- What a `Tree` shows: its words and lists.
 use Rattle.std.specs.Prelude.{◌≡◌, ℕ, ◌+◌, ◌<◌, ◌≤◌, List, [], ◌∷◌, ◌++◌, map, length, Ok}
 use Rattle.std.specs.List.{flat_map}
-use Rattle.tp_text.specs.Marks.{Mark, left, right, word, Placed, placed}
-use Rattle.tp_text.specs.Tokens.{mark_of, max_text}
-use Rattle.tp_text.specs.Shapes.{Shape, leaf, node, Shapes, no_shapes, shape, written, marks_only, Spells, nesting}
+use Rattle.tp_text.specs.Lexemes.{Lexeme, left, right, word, Placed, placed}
+use Rattle.tp_text.specs.Tokens.{lexeme_of, max_text}
+use Rattle.tp_text.specs.Shapes.{Shape, leaf, node, Shapes, no_shapes, shape, written, lexemes_only, Spells, nesting}
 use Rattle.tp_text.specs.declared.fault.TextFault.{TextFault}
 use Rattle.tp_text.specs.declared.fault.TextFault.TheVariants as faults
 use Rattle.tp_text.specs.declared.token.Token.{Token}
@@ -26,53 +26,53 @@ shape_step (Tree-F.List items span) = node (shapes_of items.items)
 abbrev pub shape_of : Tree → Shape
 shape_of = fold-Tree Shape shape_step
 
-abbrev pub tree_written : Tree → List Mark
+abbrev pub tree_written : Tree → List Lexeme
 tree_written t = written (shape_of t)
 
-abbrev pub trees_written : List Tree → List Mark
+abbrev pub trees_written : List Tree → List Lexeme
 trees_written ts = flat_map tree_written ts
 
 -- lists that are open, the outermost first
-abbrev pub frames_written : List Frame → List Mark
+abbrev pub frames_written : List Frame → List Lexeme
 frames_written [] = []
 frames_written (f ∷ fs) = trees_written f.items.items ++ left ∷ frames_written fs
 
--- tokens as marks
-abbrev pub marks_of : List Token → List Mark
-marks_of ts = map (λ t. mark_of t.text.now) ts
+-- tokens as lexemes
+abbrev pub lexemes_of : List Token → List Lexeme
+lexemes_of ts = map (λ t. lexeme_of t.text.now) ts
 
--- how often a parenthesis stands among marks
-abbrev pub lefts : List Mark → ℕ
+-- how often a parenthesis stands among lexemes
+abbrev pub lefts : List Lexeme → ℕ
 lefts [] = 0
 lefts (left ∷ ms) = lefts ms + 1
 lefts (right ∷ ms) = lefts ms
 lefts (word w ∷ ms) = lefts ms
 
-abbrev pub rights : List Mark → ℕ
+abbrev pub rights : List Lexeme → ℕ
 rights [] = 0
 rights (left ∷ ms) = rights ms
 rights (right ∷ ms) = rights ms + 1
 rights (word w ∷ ms) = rights ms
 
 -- a list begins where 64 are open, or more
-abbrev pub IsDeep : List Mark → Type 0
+abbrev pub IsDeep : List Lexeme → Type 0
 IsDeep ms =
-    (front : List Mark)
-    × (rest : List Mark)
+    (front : List Lexeme)
+    × (rest : List Lexeme)
     × (ms ≡ front ++ left ∷ rest)
     × (rights front + 64 ≤ lefts front)
 
--- the marks that a tree writes are so exactly if it has a list inside 64 others
+-- the lexemes that a tree writes are so exactly if it has a list inside 64 others
 abbrev pub DeepIsNested : Type 0
 DeepIsNested =
     (s : Shape) → (IsDeep (written s) → 64 < nesting s) × (64 < nesting s → IsDeep (written s))
 
--- no tree writes these marks
-abbrev pub IsNoTree : List Mark → Type 0
+-- no tree writes these lexemes
+abbrev pub IsNoTree : List Lexeme → Type 0
 IsNoTree ms = (s : Shape) → written s ≡ ms → ⊥
 
--- when marks are refused
-abbrev pub HasNoTree : List Mark → TextFault → Type 0
+-- when lexemes are refused
+abbrev pub HasNoTree : List Lexeme → TextFault → Type 0
 HasNoTree ms faults.Memory = Unit {0}
 HasNoTree ms (faults.Unclosed at) = IsNoTree ms
 HasNoTree ms (faults.Extra at) = IsNoTree ms
@@ -91,14 +91,14 @@ abbrev pub IsOpen : List Frame → List Tree → Type 0
 IsOpen [] ts = ts ≡ []
 IsOpen (f ∷ fs) ts = Unit {0}
 
--- the marks that were read
-abbrev pub built : Builder → List Mark
+-- the lexemes that were read
+abbrev pub built : Builder → List Lexeme
 built b = frames_written b.outer.items ++ trees_written b.items.items
 
--- after these marks another is refused
-abbrev pub CannotGoOn : List Mark → Mark → TextFault → Type 0
+-- after these lexemes another is refused
+abbrev pub CannotGoOn : List Lexeme → Lexeme → TextFault → Type 0
 CannotGoOn ms m faults.Memory = Unit {0}
-CannotGoOn ms m (faults.Extra at) = (more : List Mark) → IsNoTree (ms ++ m ∷ more)
+CannotGoOn ms m (faults.Extra at) = (more : List Lexeme) → IsNoTree (ms ++ m ∷ more)
 CannotGoOn ms m (faults.Depth at) = (m ≡ left) × (rights ms + 64 ≤ lefts ms)
 CannotGoOn ms m (faults.Unclosed at) = ⊥
 CannotGoOn ms m faults.Empty = ⊥
@@ -106,15 +106,15 @@ CannotGoOn ms m faults.TooLong = ⊥
 CannotGoOn ms m (faults.BadByte at) = ⊥
 
 -- a list may begin only where fewer than 64 are open
-abbrev pub HasRoom : List Mark → Mark → Type 0
+abbrev pub HasRoom : List Lexeme → Lexeme → Type 0
 HasRoom ms left = lefts ms < rights ms + 64
 HasRoom ms right = Unit {0}
 HasRoom ms (word w) = Unit {0}
 
-abbrev pub kind_mark : TokenKind → List ℕ → Mark
-kind_mark Left text = left
-kind_mark Right text = right
-kind_mark Word text = word text
+abbrev pub kind_lexeme : TokenKind → List ℕ → Lexeme
+kind_lexeme Left text = left
+kind_lexeme Right text = right
+kind_lexeme Word text = word text
 
 -- no tree is spelled
 abbrev pub SpellsNothing : List ℕ → Type 0
@@ -128,5 +128,5 @@ IsRefused text (faults.BadByte at) = SpellsNothing text
 IsRefused text (faults.Unclosed at) = SpellsNothing text
 IsRefused text (faults.Extra at) = SpellsNothing text
 IsRefused text (faults.Depth at) =
-    (ps : List Placed) × (placed 0 text ≡ Ok ps) × IsDeep (marks_only ps)
+    (ps : List Placed) × (placed 0 text ≡ Ok ps) × IsDeep (lexemes_only ps)
 IsRefused text faults.Empty = SpellsNothing text

@@ -2,8 +2,8 @@
 
 ghost use Rattle.std.specs.Prelude.{◌≡◌, ◌∷◌, ◌+◌, ◌<◌, ◌≤◌, length, take, drop, map, All, IsTrue, false, IfOk, IfErr, OnOk, Ok, slice_index, ℕ};
 ghost use Rattle.std.specs.Str.{IsAscii};
-ghost use Rattle.tp_text.specs.Marks.{class, begins_word, placed, after_comment};
-ghost use Rattle.tp_text.specs.Tokens.{placed_of, max_text, HasNoMarks, Begins, Covers};
+ghost use Rattle.tp_text.specs.Lexemes.{class, begins_word, placed, after_comment};
+ghost use Rattle.tp_text.specs.Tokens.{placed_of, max_text, HasNoLexemes, Begins, Covers};
 
 use crate::fault::TextFault;
 use crate::token::{Span, Token};
@@ -22,7 +22,7 @@ enum Class {
     Other,
 }
 
-#[tactic(auto, unfolding(crate::specs::Marks::class))]
+#[tactic(auto, unfolding(crate::specs::Lexemes::class))]
 fn class_of(b: u8) -> Class
     ensures { result ≡ class b }
 {
@@ -77,7 +77,7 @@ enum Piece {
     // Blanks or a comment.
     Blank(usize),
     // A parenthesis or a word.
-    Mark(usize),
+    Lexeme(usize),
     // A byte that may not stand there.
     Bad,
 }
@@ -89,8 +89,8 @@ fn first_piece(first: u8, rest: &[u8]) -> Piece
     match class_of(first) {
         Class::Blank => Piece::Blank(1),
         Class::Semicolon => Piece::Blank(1 + comment_len(rest)),
-        Class::Opening | Class::Closing => Piece::Mark(1),
-        Class::Letter => Piece::Mark(1 + word_len(rest)),
+        Class::Opening | Class::Closing => Piece::Lexeme(1),
+        Class::Letter => Piece::Lexeme(1 + word_len(rest)),
         Class::Other => Piece::Bad,
     }
 }
@@ -100,7 +100,7 @@ pub fn tokens<'a>(alloc: Global, text: &'a str) -> Result<Vec<Token<'a>>, TextFa
     ensures found { IfOk result (λ ts. placed 0 text.now ≡ Ok (map placed_of ts.items)) }
     ensures slices { IfOk result (λ ts. Covers text.now 0 ts.items) }
     ensures limited { OnOk result (length text.now ≤ max_text) }
-    ensures refused { IfErr result (λ e. HasNoMarks text.now e) }
+    ensures refused { IfErr result (λ e. HasNoLexemes text.now e) }
 {
     let bytes = text.as_bytes();
     if bytes.len() > MAX_TEXT {
@@ -115,7 +115,7 @@ pub fn tokens<'a>(alloc: Global, text: &'a str) -> Result<Vec<Token<'a>>, TextFa
                 rest = &rest[len..];
                 at += len;
             }
-            Piece::Mark(len) => {
+            Piece::Lexeme(len) => {
                 let (front, after) = rest.split_at(len);
                 let span = Span {
                     start: at as u32,

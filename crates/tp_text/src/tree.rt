@@ -1,10 +1,10 @@
 //! From tokens to a tree.
 
 ghost use Rattle.std.specs.Prelude.{◌≡◌, ◌+◌, ◌<◌, ◌≤◌, [], ◌∷◌, ◌++◌, length, map, IfOk, IfErr, OnOk};
-ghost use Rattle.tp_text.specs.Marks.{left, right, word};
-ghost use Rattle.tp_text.specs.Trees.{tree_written, trees_written, marks_of, HasNoTree, IsOneTree, IsOpen, built, CannotGoOn, kind_mark, shape_of, lefts, rights, HasRoom, IsDeep, IsRefused};
+ghost use Rattle.tp_text.specs.Lexemes.{left, right, word};
+ghost use Rattle.tp_text.specs.Trees.{tree_written, trees_written, lexemes_of, HasNoTree, IsOneTree, IsOpen, built, CannotGoOn, kind_lexeme, shape_of, lefts, rights, HasRoom, IsDeep, IsRefused};
 ghost use Rattle.tp_text.specs.Shapes.{Spells, nesting};
-ghost use Rattle.tp_text.specs.Tokens.{mark_of, max_text};
+ghost use Rattle.tp_text.specs.Tokens.{lexeme_of, max_text};
 
 use crate::fault::TextFault;
 use crate::lexing::tokens;
@@ -54,7 +54,7 @@ enum TokenKind {
 }
 
 fn kind_of(token: &Token) -> TokenKind
-    ensures { mark_of token.now.text.now ≡ kind_mark result token.now.text.now }
+    ensures { lexeme_of token.now.text.now ≡ kind_lexeme result token.now.text.now }
 {
     match token.text.as_bytes() {
         [b'('] => TokenKind::Left,
@@ -113,11 +113,11 @@ impl<'a> Builder<'a> {
     fn step(&mut self, alloc: Global, token: &Token<'a>) -> Result<(), TextFault>
         requires { IsOneTree self.old.outer.items self.old.items.items }
         ensures ok { OnOk result
-            (built self.new ≡ built self.old ++ mark_of token.now.text.now ∷ []) }
+            (built self.new ≡ built self.old ++ lexeme_of token.now.text.now ∷ []) }
         ensures one { OnOk result (IsOneTree self.new.outer.items self.new.items.items) }
-        ensures room { OnOk result (HasRoom (built self.old) (mark_of token.now.text.now)) }
+        ensures room { OnOk result (HasRoom (built self.old) (lexeme_of token.now.text.now)) }
         ensures refused { IfErr result
-            (λ e. CannotGoOn (built self.old) (mark_of token.now.text.now) e) }
+            (λ e. CannotGoOn (built self.old) (lexeme_of token.now.text.now) e) }
     {
         if self.outer.is_empty() && !self.items.is_empty() {
             return Err(TextFault::Extra(token.span.start));
@@ -131,9 +131,9 @@ impl<'a> Builder<'a> {
 }
 
 fn tree_of<'a>(alloc: Global, tokens: &[Token<'a>]) -> Result<Tree<'a>, TextFault>
-    ensures found { IfOk result (λ t. tree_written t ≡ marks_of tokens.now) }
-    ensures shallow { OnOk result (¬ (IsDeep (marks_of tokens.now))) }
-    ensures refused { IfErr result (λ e. HasNoTree (marks_of tokens.now) e) }
+    ensures found { IfOk result (λ t. tree_written t ≡ lexemes_of tokens.now) }
+    ensures shallow { OnOk result (¬ (IsDeep (lexemes_of tokens.now))) }
+    ensures refused { IfErr result (λ e. HasNoTree (lexemes_of tokens.now) e) }
 {
     let outer = Vec::new(alloc);
     let items = Vec::new(alloc);
@@ -157,6 +157,6 @@ pub fn read_tree<'a>(alloc: Global, text: &'a str) -> Result<Tree<'a>, TextFault
     ensures limited { OnOk result (length text.now ≤ max_text) }
     ensures refused { IfErr result (λ e. IsRefused text.now e) }
 {
-    let marks = tokens(alloc, text)?;
-    tree_of(alloc, &marks)
+    let lexemes = tokens(alloc, text)?;
+    tree_of(alloc, &lexemes)
 }

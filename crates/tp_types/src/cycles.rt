@@ -1,4 +1,4 @@
-//! Whether the parents of types form a cycle, and the rank of each type: its steps up to `object`.
+//! Whether the parents of types signature a cycle, and the rank of each type: its steps up to `object`.
 
 ghost use Rattle.std.specs.Prelude.{◌≡◌, map, length, option_map, string_bytes, true, false, IfOk};
 ghost use Rattle.std.specs.List.{list_all};

@@ -7,8 +7,8 @@ use Rattle.tp_ground.specs.declared.events.Cond.{Cond}
 use Rattle.tp_ground.specs.declared.events.Body.TheVariants.{Durative}
 use Rattle.tp_ground.specs.State.{State, value}
 use Rattle.tp_ground.specs.Verdict.{is_unlawful}
-use Rattle.tp_validate.specs.Rules.{limit_holds}
+use Rattle.tp_validate.specs.Constraints.{limit_holds}
 
-pub unlawful_is : (scale : ℕ) (s : State) (ticks : ℕ) (start end : GroundEvent) (c : Cond) → list_all (λ (l : Limit). is_some (value s None l.value)) start.rule.items ≡ true
-    → is_unlawful scale s ticks (Durative start end c) ≡ not (nat_le 1 ticks && list_all (limit_holds scale s ticks) start.rule.items)
-unlawful_is scale s ticks start end c h = ap (λ b. b && not (nat_le 1 ticks && list_all (limit_holds scale s ticks) start.rule.items)) h
+pub unlawful_is : (scale : ℕ) (s : State) (ticks : ℕ) (start end : GroundEvent) (c : Cond) → list_all (λ (l : Limit). is_some (value s None l.value)) start.constraint.items ≡ true
+    → is_unlawful scale s ticks (Durative start end c) ≡ not (nat_le 1 ticks && list_all (limit_holds scale s ticks) start.constraint.items)
+unlawful_is scale s ticks start end c h = ap (λ b. b && not (nat_le 1 ticks && list_all (limit_holds scale s ticks) start.constraint.items)) h

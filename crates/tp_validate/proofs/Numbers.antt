@@ -5,7 +5,7 @@ use Rattle.std.proofs.lemmas.Bool.{and_parts, cond-false, not-true}
 use Rattle.tp_ground.specs.declared.events.Body.{Body}
 use Rattle.tp_ground.specs.declared.events.Body.TheVariants.{Instant, Durative}
 use Rattle.tp_ground.specs.Event.{interferes}
-use Rattle.tp_ground.specs.Happens.{Timed, apart}
+use Rattle.tp_ground.specs.Happens.{EventOfStep, apart}
 use Rattle.tp_ground.specs.Valid.{Planned, Placed, events_of, events_from, count_of}
 use Rattle.tp_ground.specs.Verdict.{pair_or, first_pair}
 use Rattle.tp_happen.specs.Fault as happening
@@ -26,19 +26,19 @@ numbered k (p ∷ ps) = body_numbered k p p.body (events_from (k + count_of p.bo
 
 -- what happens at some events
 
-abbrev pub times : List Placed → List Timed
+abbrev pub times : List Placed → List EventOfStep
 times fs = map (λ e. e.timed) fs
 
 -- the number of the first that passes
-abbrev pub first_number : (Timed → Bool) → List Placed → Option ℕ
+abbrev pub first_number : (EventOfStep → Bool) → List Placed → Option ℕ
 first_number P [] = None
 first_number P (e ∷ fs) = cond (P e.timed) (Some e.number) (first_number P fs)
 
-number_step : (m k : ℕ) (P : Timed → Bool) (e : Placed) (es : List Placed) (L : Option ℕ) → e.number ≡ k → L ≡ first_number P (here m es) → (b : Bool) → cond (b && P e.timed) (Some k) L ≡ first_number P (cond b (e ∷ here m es) (here m es))
+number_step : (m k : ℕ) (P : EventOfStep → Bool) (e : Placed) (es : List Placed) (L : Option ℕ) → e.number ≡ k → L ≡ first_number P (here m es) → (b : Bool) → cond (b && P e.timed) (Some k) L ≡ first_number P (cond b (e ∷ here m es) (here m es))
 number_step m k P e es L n h true = ap₂ (λ x r. cond (P e.timed) (Some x) r) (sym n) h
 number_step m k P e es L n h false = h
 
-pub by_number : (m : ℕ) (P : Timed → Bool) (k : ℕ) (es : List Placed) → IsNumbered k es → position_from (λ (e : Placed). (e.moment == m) && P e.timed) k es ≡ first_number P (here m es)
+pub by_number : (m : ℕ) (P : EventOfStep → Bool) (k : ℕ) (es : List Placed) → IsNumbered k es → position_from (λ (e : Placed). (e.moment == m) && P e.timed) k es ≡ first_number P (here m es)
 by_number m P k [] h = refl
 by_number m P k (e ∷ es) h = number_step m k P e es (position_from (λ (u : Placed). (u.moment == m) && P u.timed) (k + 1) es) h.0 (by_number m P (k + 1) es h.1) (e.moment == m)
 
@@ -61,7 +61,7 @@ place_step : (e : Placed) (fs : List Placed) (j i : ℕ) (L R : Option ℕ) → 
 place_step e fs j i L R f l true h = let q : j ≡ i = cc in ap (λ x. Some x) (at_same e.number (numbers fs) i j q)
 place_step e fs j i L R f l false h = f h ∙ ap (λ x. Some x) (at_more e.number (numbers fs) i j (l h))
 
-pub place_of : (P : Timed → Bool) (fs : List Placed) (j i : ℕ) → position_from P j (times fs) ≡ Some i → first_number P fs ≡ Some (get_or (numbers fs) (i - j) 0)
+pub place_of : (P : EventOfStep → Bool) (fs : List Placed) (j i : ℕ) → position_from P j (times fs) ≡ Some i → first_number P fs ≡ Some (get_or (numbers fs) (i - j) 0)
 place_of P [] j i h = absurd (cc)
 place_of P (e ∷ fs) j i h =
     place_step e fs j i (position_from P (j + 1) (times fs)) (first_number P fs) (place_of P fs (j + 1) i) (λ q. (position_within P (j + 1) (times fs) i q).0) (P e.timed) h
@@ -70,16 +70,16 @@ none_step : (j n : ℕ) (L R : Option ℕ) → (L ≡ None → R ≡ None) → (
 none_step j n L R f true h = absurd (cc)
 none_step j n L R f false h = f h
 
-pub none_of : (P : Timed → Bool) (fs : List Placed) (j : ℕ) → position_from P j (times fs) ≡ None → first_number P fs ≡ None
+pub none_of : (P : EventOfStep → Bool) (fs : List Placed) (j : ℕ) → position_from P j (times fs) ≡ None → first_number P fs ≡ None
 none_of P [] j h = refl
 none_of P (e ∷ fs) j h = none_step j e.number (position_from P (j + 1) (times fs)) (first_number P fs) (none_of P fs (j + 1)) (P e.timed) h
 
 -- where all fail the test, none is first
-pub none_first : (P : Timed → Bool) (fs : List Placed) → AllByRecursion (λ t. P t ≡ false) (times fs) → first_number P fs ≡ None
+pub none_first : (P : EventOfStep → Bool) (fs : List Placed) → AllByRecursion (λ t. P t ≡ false) (times fs) → first_number P fs ≡ None
 none_first P [] h = refl
 none_first P (e ∷ fs) h = cond-false (P e.timed) _ _ h.0 ∙ none_first P fs h.1
 
-none_all : (P : Timed → Bool) (fs : List Placed) → list_all (λ t. not (P t)) (times fs) ≡ true → first_number P fs ≡ None
+none_all : (P : EventOfStep → Bool) (fs : List Placed) → list_all (λ t. not (P t)) (times fs) ≡ true → first_number P fs ≡ None
 none_all P [] h = refl
 none_all P (e ∷ fs) h =
     let p = and_parts (not (P e.timed)) (list_all (λ t. not (P t)) (times fs)) h in
@@ -112,11 +112,11 @@ pairs_step j i k n (Some x) R f g h =
     (omega arith, omega arith, omega (arith, q.0, b), omega (arith, q.1, b))
 pairs_step j i k n None R f g h = let q = g h in (omega (arith, q.0), omega (arith, q.1), omega (arith, q.2), omega (arith, q.3))
 
-pub pair_within : (j : ℕ) (ts : List Timed) (i k : ℕ) → happening.first_pair j ts ≡ Some (i, k) → (j ≤ i) × (i < j + length ts) × (j ≤ k) × (k < j + length ts)
+pub pair_within : (j : ℕ) (ts : List EventOfStep) (i k : ℕ) → happening.first_pair j ts ≡ Some (i, k) → (j ≤ i) × (i < j + length ts) × (j ≤ k) × (k < j + length ts)
 pair_within j [] i k h = absurd (cc)
 pair_within j (t ∷ ts) i k h =
-    pairs_step j i k (length ts) (position_from (λ (u : Timed). interferes t.event u.event) (j + 1) ts) (happening.first_pair (j + 1) ts)
-    (position_within (λ (u : Timed). interferes t.event u.event) (j + 1) ts) (pair_within (j + 1) ts i k) h
+    pairs_step j i k (length ts) (position_from (λ (u : EventOfStep). interferes t.event u.event) (j + 1) ts) (happening.first_pair (j + 1) ts)
+    (position_within (λ (u : EventOfStep). interferes t.event u.event) (j + 1) ts) (pair_within (j + 1) ts i k) h
 
 places_step : (e : Placed) (fs : List Placed) (j i k : ℕ) (L N : Option ℕ) (R M : Option (ℕ × ℕ))
     → ((x : ℕ) → L ≡ Some x → (N ≡ Some (get_or (numbers fs) (x - (j + 1)) 0)) × (j + 1 ≤ x)) → (L ≡ None → N ≡ None)
@@ -134,7 +134,7 @@ places_step e fs j i k None N R M f none g h =
 pub places_of : (fs : List Placed) (j i k : ℕ) → happening.first_pair j (times fs) ≡ Some (i, k) → first_numbers fs ≡ Some (get_or (numbers fs) (i - j) 0, get_or (numbers fs) (k - j) 0)
 places_of [] j i k h = absurd (cc)
 places_of (e ∷ fs) j i k h =
-    let Q : Timed → Bool = λ u. interferes e.timed.event u.event in
+    let Q : EventOfStep → Bool = λ u. interferes e.timed.event u.event in
     places_step e fs j i k (position_from Q (j + 1) (times fs)) (first_number Q fs) (happening.first_pair (j + 1) (times fs)) (first_numbers fs)
     (λ x q. (place_of Q fs (j + 1) x q, (position_within Q (j + 1) (times fs) x q).0))
     (none_of Q fs (j + 1))
@@ -144,5 +144,5 @@ places_of (e ∷ fs) j i k h =
 pub none_pairs : (fs : List Placed) → apart (times fs) ≡ true → first_numbers fs ≡ None
 none_pairs [] h = refl
 none_pairs (e ∷ fs) h =
-    let p = and_parts (list_all (λ (u : Timed). not (interferes e.timed.event u.event)) (times fs)) (apart (times fs)) h in
+    let p = and_parts (list_all (λ (u : EventOfStep). not (interferes e.timed.event u.event)) (times fs)) (apart (times fs)) h in
     ap (λ r. pair_or e.number r (first_numbers fs)) (none_all (λ u. interferes e.timed.event u.event) fs p.0) ∙ none_pairs fs p.1

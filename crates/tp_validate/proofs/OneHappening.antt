@@ -4,7 +4,7 @@ use Rattle.std.specs.List.{position_from, AllByRecursion}
 use Rattle.std.proofs.lemmas.Bool.{not_from_true}
 use Rattle.tp_ground.specs.State.{State, holds}
 use Rattle.tp_ground.specs.Event.{mixes}
-use Rattle.tp_ground.specs.Happens.{Timed, is_defined, Happens}
+use Rattle.tp_ground.specs.Happens.{EventOfStep, is_defined, Happens}
 use Rattle.tp_ground.specs.Valid.{Placed, at}
 use Rattle.tp_ground.specs.Verdict as fault
 use Rattle.tp_ground.specs.Verdict.{Fault, fault_or, first_pair}
@@ -56,7 +56,7 @@ module _ (scale : ℕ) (s : State) (m : ℕ) (es : List Placed) (ordered : IsNum
   abbrev fs : List Placed
   fs = here m es
 
-  placing : (P : Timed → Bool) → Placing (numbers fs) (position_from P 0 (times fs)) (position_from (λ (e : Placed). (e.moment == m) && P e.timed) 0 es)
+  placing : (P : EventOfStep → Bool) → Placing (numbers fs) (position_from P 0 (times fs)) (position_from (λ (e : Placed). (e.moment == m) && P e.timed) 0 es)
   placing P =
       record {
         found = λ i h. by_number m P 0 es ordered ∙ (place_of P fs 0 i h ∙ ap (λ k. Some (get_or (numbers fs) k 0)) (from_zero i));
@@ -67,13 +67,13 @@ module _ (scale : ℕ) (s : State) (m : ℕ) (es : List Placed) (ordered : IsNum
   pub fails : (i : ℕ) (why : Why) (rest : Option Fault) → happening.fault_of scale s (at m es) ≡ Some (i, why) → of_events scale s m es rest ≡ Some (renumbered (numbers fs) i why)
   fails i why rest h =
       chain (numbers fs) rest i why
-      (position_from (λ t. not (is_defined scale s t)) 0 (times fs)) (position_from (λ (t : Timed). not (holds s t.event.condition)) 0 (times fs)) (position_from (λ (t : Timed). mixes t.event) 0 (times fs)) (happening.first_pair 0 (times fs))
+      (position_from (λ t. not (is_defined scale s t)) 0 (times fs)) (position_from (λ (t : EventOfStep). not (holds s t.event.condition)) 0 (times fs)) (position_from (λ (t : EventOfStep). mixes t.event) 0 (times fs)) (happening.first_pair 0 (times fs))
       _ _ _ _
       (placing (λ t. not (is_defined scale s t))) (placing (λ t. not (holds s t.event.condition))) (placing (λ t. mixes t.event))
       (record { found = λ x y q. by_numbers m 0 es ordered ∙ (places_of fs 0 x y q ∙ ap₂ (λ k l. Some (get_or (numbers fs) k 0, get_or (numbers fs) l 0)) (from_zero x) (from_zero y)) })
       h
 
-  none_true : (P : Timed → Bool) (ts : List Timed) → AllByRecursion (λ t. P t ≡ true) ts → AllByRecursion (λ t. not (P t) ≡ false) ts
+  none_true : (P : EventOfStep → Bool) (ts : List EventOfStep) → AllByRecursion (λ t. P t ≡ true) ts → AllByRecursion (λ t. not (P t) ≡ false) ts
   none_true P [] h = tt
   none_true P (t ∷ ts) h = (not_from_true (P t) h.0, none_true P ts h.1)
 
@@ -81,6 +81,6 @@ module _ (scale : ℕ) (s : State) (m : ℕ) (es : List Placed) (ordered : IsNum
   pub happens : (rest : Option Fault) (new : State) → Happens scale s (at m es) new → of_events scale s m es rest ≡ rest
   happens rest new h =
       ap (λ r. fault_or fault.Undefined r (fault_or fault.Condition (position_from (λ (e : Placed). (e.moment == m) && not (holds s e.timed.event.condition)) 0 es) (fault_or fault.Clash (position_from (λ (e : Placed). (e.moment == m) && mixes e.timed.event) 0 es) (fault_or (λ (p : ℕ × ℕ). fault.Interferes p.0 p.1) (first_pair m 0 es) rest)))) (by_number m (λ t. not (is_defined scale s t)) 0 es ordered ∙ none_first (λ t. not (is_defined scale s t)) fs (none_true (λ t. is_defined scale s t) (times fs) h.definedness))
-      ∙ (ap (λ r. fault_or fault.Condition r (fault_or fault.Clash (position_from (λ (e : Placed). (e.moment == m) && mixes e.timed.event) 0 es) (fault_or (λ (p : ℕ × ℕ). fault.Interferes p.0 p.1) (first_pair m 0 es) rest))) (by_number m (λ t. not (holds s t.event.condition)) 0 es ordered ∙ none_first (λ t. not (holds s t.event.condition)) fs (none_true (λ (t : Timed). holds s t.event.condition) (times fs) h.conditions))
+      ∙ (ap (λ r. fault_or fault.Condition r (fault_or fault.Clash (position_from (λ (e : Placed). (e.moment == m) && mixes e.timed.event) 0 es) (fault_or (λ (p : ℕ × ℕ). fault.Interferes p.0 p.1) (first_pair m 0 es) rest))) (by_number m (λ t. not (holds s t.event.condition)) 0 es ordered ∙ none_first (λ t. not (holds s t.event.condition)) fs (none_true (λ (t : EventOfStep). holds s t.event.condition) (times fs) h.conditions))
       ∙ (ap (λ r. fault_or fault.Clash r (fault_or (λ (p : ℕ × ℕ). fault.Interferes p.0 p.1) (first_pair m 0 es) rest)) (by_number m (λ t. mixes t.event) 0 es ordered ∙ none_first (λ t. mixes t.event) fs h.unmixed)
       ∙ ap (λ r. fault_or (λ (p : ℕ × ℕ). fault.Interferes p.0 p.1) r rest) (by_numbers m 0 es ordered ∙ none_pairs fs h.separate)))

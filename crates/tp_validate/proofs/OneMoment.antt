@@ -5,17 +5,17 @@ use Rattle.std.proofs.lemmas.Bool.{and_left, and_right, and_cases, or_parts, not
 use Rattle.tp_ground.specs.declared.events.Body.{Body}
 use Rattle.tp_ground.specs.declared.events.Body.TheVariants.{Instant, Durative}
 use Rattle.tp_ground.specs.State.{State}
-use Rattle.tp_ground.specs.Happens.{Timed, Happens}
+use Rattle.tp_ground.specs.Happens.{EventOfStep, Happens}
 use Rattle.tp_ground.specs.Valid.{Planned, Placed, events_of, events_from, count_of, at}
 use Rattle.tp_ground.specs.Verdict as fault
 use Rattle.tp_ground.specs.Verdict.{Fault, fault_or, is_unlawful, is_broken}
 use Rattle.tp_happen.specs.declared.faults.Why.{Why}
 use Rattle.tp_happen.specs.Fault.{fault_of}
 use Rattle.tp_happen.specs.Small.{all_small}
-use Rattle.tp_happen.specs.Bounded.{event_small, effects_small, rule_small, Passes}
+use Rattle.tp_happen.specs.Bounded.{event_small, effects_small, constraint_small, Passes}
 use Rattle.tp_validate.specs.Places.{here, numbers}
 use Rattle.tp_validate.specs.Tick.{after_of, of_events, fault_from, renumbered, invariant_small, PassesAt}
-use Rattle.tp_validate.specs.Rules.{start_small, rule_small_at}
+use Rattle.tp_validate.specs.Constraints.{start_small, constraint_small_at}
 use Rattle.tp_validate.proofs.Numbers.{IsNumbered}
 use Rattle.tp_validate.proofs.OneHappening.{fails, happens}
 
@@ -59,26 +59,26 @@ module _ (scale : ℕ) (s : State) (m : ℕ) where
   starting : (k : ℕ) (p : Planned) (b : Body) (es : List Placed) → (p.moment == m) ≡ true → start_small s b ≡ false → passes (events_of k p b ++ es)
   starting k p (Instant x) es e h = absurd (cc)
   starting k p (Durative x y c) es e h =
-      let t : Timed = record { event = x; ticks = p.duration } in
+      let t : EventOfStep = record { event = x; ticks = p.duration } in
       let start : Placed = record { number = k; first = k; last = k + 1; moment = p.moment; timed = t } in
       let end : Placed = record { number = k + 1; first = k; last = k + 1; moment = p.moment + p.duration; timed = record { event = y; ticks = p.duration } } in
       ap (λ fs. list_all (event_small scale s) (map (λ (z : Placed). z.timed) fs)) (cond-true (p.moment == m) (start ∷ filter (λ z. z.moment == m) (end ∷ es)) (filter (λ z. z.moment == m) (end ∷ es)) e)
-      ∙ and_left (event_small scale s t) _ (and_right (all_small s x.condition) _ (and_right (effects_small scale s t) (rule_small s t) h))
+      ∙ and_left (event_small scale s t) _ (and_right (all_small s x.condition) _ (and_right (effects_small scale s t) (constraint_small s t) h))
 
-  pub rules_pass : (k : ℕ) (ps : List Planned) → list_all (rule_small_at s m) ps ≡ false → passes (events_from k ps)
-  rules_pass k [] h = absurd (cc)
-  rules_pass k (p ∷ ps) h =
+  pub constraints_pass : (k : ℕ) (ps : List Planned) → list_all (constraint_small_at s m) ps ≡ false → passes (events_from k ps)
+  constraints_pass k [] h = absurd (cc)
+  constraints_pass k (p ∷ ps) h =
       ⊎_elim
       (λ e. let q = or_parts (not (p.moment == m)) (start_small s p.body) e in starting k p p.body (events_from (k + count_of p.body) ps) (not-false (p.moment == m) q.0) q.1)
-      (λ e. later k p p.body (events_from (k + count_of p.body) ps) (rules_pass (k + count_of p.body) ps e))
-      (and_cases (rule_small_at s m p) (list_all (rule_small_at s m) ps) h)
+      (λ e. later k p p.body (events_from (k + count_of p.body) ps) (constraints_pass (k + count_of p.body) ps e))
+      (and_cases (constraint_small_at s m p) (list_all (constraint_small_at s m) ps) h)
 
 -- where a number passes the limit
 module _ (scale : ℕ) (s : State) (m : ℕ) (ps : List Planned) (es : List Placed) where
-  pub rule_range : es ≡ events_from 0 ps → list_all (rule_small_at s m) ps ≡ false → PassesAt scale s m ps es
-  rule_range e h = inl (inl (subst (λ (xs : List Placed). list_all (event_small scale s) (at m xs) ≡ false) (sym e) (rules_pass scale s m 0 ps h)))
+  pub constraint_range : es ≡ events_from 0 ps → list_all (constraint_small_at s m) ps ≡ false → PassesAt scale s m ps es
+  constraint_range e h = inl (inl (subst (λ (xs : List Placed). list_all (event_small scale s) (at m xs) ≡ false) (sym e) (constraints_pass scale s m 0 ps h)))
 
-  pub event_range : (ts : List Timed) → ts ≡ at m es → Passes scale s ts → PassesAt scale s m ps es
+  pub event_range : (ts : List EventOfStep) → ts ≡ at m es → Passes scale s ts → PassesAt scale s m ps es
   event_range ts e h = inl (subst (λ xs. Passes scale s xs) e h)
 
   pub invariant_range : (new : State) → Happens scale s (at m es) new → list_all (λ (p : Planned). invariant_small new m p p.body) ps ≡ false → PassesAt scale s m ps es

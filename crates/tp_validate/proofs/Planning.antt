@@ -6,7 +6,7 @@ use Rattle.std.proofs.lemmas.Bool.{and_parts, and_from, leb-true}
 use Rattle.tp_ground.specs.declared.events.Body.{Body}
 use Rattle.tp_ground.specs.declared.events.Body.TheVariants.{Instant, Durative}
 use Rattle.tp_ground.specs.Fits.{body_fits, event_fits}
-use Rattle.tp_ground.specs.Happens.{Timed}
+use Rattle.tp_ground.specs.Happens.{EventOfStep}
 use Rattle.tp_ground.specs.Valid.{Planned, Placed, events_of, events_from, count_of, at}
 use Rattle.tp_ground.specs.Verdict.{last_moment}
 use Rattle.tp_happen.specs.declared.plans.Step.{Step}
@@ -38,7 +38,7 @@ module _ (atoms fluents : ℕ) where
   abbrev pub fits : Planned → Bool
   fits p = body_fits atoms fluents p.body
 
-  abbrev pub timed_fits : Timed → Bool
+  abbrev pub timed_fits : EventOfStep → Bool
   timed_fits t = event_fits atoms fluents t.event
 
   fit_more : (s : Step) (bodies : List Body) (i : ℕ) (ps : List Planned) → list_all (body_fits atoms fluents) bodies ≡ true → list_all fits ps ≡ true → list_all fits (option_to_list (option_map (step_of s) (slice_get bodies i)) ++ ps) ≡ true

@@ -4,7 +4,7 @@ use Rattle.std.specs.List.{list_all}
 use Rattle.std.proofs.lemmas.Bool.{cases_lt}
 use Rattle.tp_ground.specs.declared.task.Task.{Task}
 use Rattle.tp_ground.specs.State.{State}
-use Rattle.tp_ground.specs.Happens.{Timed}
+use Rattle.tp_ground.specs.Happens.{EventOfStep}
 use Rattle.tp_ground.specs.Fits.{event_fits}
 use Rattle.tp_ground.specs.Valid.{Planned, Placed, events, at}
 use Rattle.tp_ground.specs.Bounds.{In}
@@ -91,8 +91,8 @@ module _ (t : Task) (ps : List Planned) where
 
     pub fits_here : list_all (fits (length t.initial_atoms.items) (length t.initial_numbers.items)) ps ≡ true → list_all (fits_in st) (at m es) ≡ true
     fits_here h =
-        subst (λ n. list_all (λ (x : Timed). event_fits n (length st.numbers) x.event) (at m es) ≡ true) (sym r.task.atoms)
-        (subst (λ n. list_all (λ (x : Timed). event_fits (length t.initial_atoms.items) n x.event) (at m es) ≡ true) (sym r.task.numbers)
+        subst (λ n. list_all (λ (x : EventOfStep). event_fits n (length st.numbers) x.event) (at m es) ≡ true) (sym r.task.atoms)
+        (subst (λ n. list_all (λ (x : EventOfStep). event_fits (length t.initial_atoms.items) n x.event) (at m es) ≡ true) (sym r.task.numbers)
         (events_fit (length t.initial_atoms.items) (length t.initial_numbers.items) m 0 ps h))
 
     pub next : (new : Stored) → m ≤ last_moment es → GoesOn st m ps es new → Reached t ps (m + 1) new

@@ -2,7 +2,7 @@ pub mod OfTask
 pub mod Places
 pub mod Agenda
 pub mod Tick
-pub mod Rules
+pub mod Constraints
 pub mod Found
 pub mod Verdict
 pub mod Validated

@@ -10,7 +10,7 @@ use Rattle.tp_ground.specs.Valid.{Planned, Placed, events, IsValid}
 use Rattle.tp_ground.specs.Verdict.{Fault, states, fault_at, last_moment}
 use Rattle.tp_happen.specs.declared.plans.Step.{Step}
 use Rattle.tp_happen.specs.Stored.{state_of, first_of}
-use Rattle.tp_happen.specs.TaskLabels.{is_durative}
+use Rattle.tp_happen.specs.TaskWords.{is_durative}
 
 -- a step's action is the task's, and if it is instantaneous the step lasts no tick
 abbrev pub is_step_of : Task → Step → Bool

@@ -5,7 +5,7 @@ use Rattle.tp_ground.specs.declared.events.Body.{Body}
 use Rattle.tp_ground.specs.declared.events.Body.TheVariants.{Instant, Durative}
 use Rattle.tp_ground.specs.State.{State, holds}
 use Rattle.tp_ground.specs.Event.{mixes}
-use Rattle.tp_ground.specs.Happens.{Timed, Happens, is_defined, atom_after, number_after}
+use Rattle.tp_ground.specs.Happens.{EventOfStep, Happens, is_defined, atom_after, number_after}
 use Rattle.tp_ground.specs.Valid.{Planned, Placed, at}
 use Rattle.tp_ground.specs.Verdict as fault
 use Rattle.tp_ground.specs.Verdict.{Fault, fault_or, first_pair, is_unlawful, is_broken}
@@ -15,7 +15,7 @@ use Rattle.tp_happen.specs.declared.faults.Why.{Why}
 use Rattle.tp_happen.specs.declared.faults.Why.TheVariants.{Condition, Undefined, Clash, Interferes}
 
 -- the state that the effects of some events make
-abbrev pub after_of : ℕ → State → List Timed → State
+abbrev pub after_of : ℕ → State → List EventOfStep → State
 after_of scale s ts = record { atom = atom_after s ts; number = number_after scale s ts }
 
 -- the fault of the events at a moment, by their numbers, else another

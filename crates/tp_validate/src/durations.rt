@@ -7,11 +7,11 @@ ghost use Rattle.tp_ground.specs.Verdict as verdict;
 ghost use Rattle.tp_happen.specs.Small.{is_small, values_small};
 ghost use Rattle.tp_happen.specs.Stored.{state_of};
 ghost use Rattle.tp_validate.specs.Agenda.{starting_at};
-ghost use Rattle.tp_validate.specs.Rules.{limit_holds, start_small, rule_small_at};
+ghost use Rattle.tp_validate.specs.Constraints.{limit_holds, start_small, constraint_small_at};
 
 use crate::placing::PlannedStep;
 use tp_ground::{Body, Limit};
-use tp_happen::{Range, State, compares, rule_defined, value};
+use tp_happen::{Range, State, compares, constraint_defined, value};
 use tp_text::Scale;
 
 /// Units of time in ticks.
@@ -40,13 +40,14 @@ fn limit_holds(state: &State, ticks: u32, limit: &Limit) -> Result<bool, Range>
     }
 }
 
-fn limits_hold(state: &State, ticks: u32, rule: &[Limit]) -> Result<bool, Range>
+fn limits_hold(state: &State, ticks: u32, constraint: &[Limit]) -> Result<bool, Range>
     ensures ok { IfOk result
-        (λ r. r ≡ list_all (limit_holds state.now.scale (state_of state.now) ticks) rule.now) }
+        (λ r. r ≡ list_all
+        (limit_holds state.now.scale (state_of state.now) ticks) constraint.now) }
     ensures err { OnErr result
-        (list_all (λ l. values_small (state_of state.now) None l.value) rule.now ≡ false) }
+        (list_all (λ l. values_small (state_of state.now) None l.value) constraint.now ≡ false) }
 {
-    for limit in rule {
+    for limit in constraint {
         if !limit_holds(state, ticks, limit)? {
             return Ok(false);
         }
@@ -55,13 +56,13 @@ fn limits_hold(state: &State, ticks: u32, rule: &[Limit]) -> Result<bool, Range>
 }
 
 // Whether so many ticks are at least one, and keep the duration constraint.
-fn is_lawful(state: &State, ticks: u32, rule: &[Limit]) -> Result<bool, Range>
+fn is_lawful(state: &State, ticks: u32, constraint: &[Limit]) -> Result<bool, Range>
     ensures ok { IfOk result (λ r. r ≡ (nat_le 1 ticks
-        && list_all (limit_holds state.now.scale (state_of state.now) ticks) rule.now)) }
+        && list_all (limit_holds state.now.scale (state_of state.now) ticks) constraint.now)) }
     ensures err { OnErr result
-        (list_all (λ l. values_small (state_of state.now) None l.value) rule.now ≡ false) }
+        (list_all (λ l. values_small (state_of state.now) None l.value) constraint.now ≡ false) }
 {
-    let holds = limits_hold(state, ticks, rule)?;
+    let holds = limits_hold(state, ticks, constraint)?;
     Ok(1 <= ticks && holds)
 }
 
@@ -74,10 +75,10 @@ fn is_unlawful(state: &State, ticks: u32, body: &Body) -> Result<bool, Range>
     match body {
         Body::Instant(_) => Ok(false),
         Body::Durative(start, _, _) => {
-            if !rule_defined(state, &start.rule)? {
+            if !constraint_defined(state, &start.constraint)? {
                 return Ok(false);
             }
-            let lawful = is_lawful(state, ticks, &start.rule)?;
+            let lawful = is_lawful(state, ticks, &start.constraint)?;
             Ok(!lawful)
         }
     }
@@ -94,7 +95,7 @@ fn unlawful_among(
         (state_of state.now) p.duration p.body) 0 steps.now) }
     ensures place { IfOk result (λ r. IfSome r (λ i. i < length steps.now)) }
     ensures err { OnErr result
-        (list_all (rule_small_at (state_of state.now) moment) steps.now ≡ false) }
+        (list_all (constraint_small_at (state_of state.now) moment) steps.now ≡ false) }
 {
     for (i, step) in steps.iter().enumerate() {
         if step.tick == moment && is_unlawful(state, step.duration, step.body)? {
@@ -118,7 +119,7 @@ pub fn first_unlawful(
         (state_of state.now) p.duration p.body) 0 steps.now) }
     ensures place { IfOk result (λ r. IfSome r (λ i. i < length steps.now)) }
     ensures err { OnErr result
-        (list_all (rule_small_at (state_of state.now) moment) steps.now ≡ false) }
+        (list_all (constraint_small_at (state_of state.now) moment) steps.now ≡ false) }
 {
     match unlawful_among(state, starting, moment)? {
         Some(_) => unlawful_among(state, steps, moment),

@@ -2,7 +2,7 @@
 
 ghost use Rattle.std.specs.Prelude.{◌≡◌, [], map, IfOk};
 ghost use Rattle.tp_syntax.specs.CondViews.{cond_view};
-ghost use Rattle.tp_syntax.specs.RuleViews.{rule_view};
+ghost use Rattle.tp_syntax.specs.ConstraintViews.{constraint_view};
 ghost use Rattle.tp_syntax.specs.EffectViews.{effect_view, timed_condition_view, timed_effect_view};
 ghost use Rattle.tp_syntax.specs.DomainViews.{body_view};
 ghost use Rattle.tp_syntax.specs.Actions.{durative};
@@ -18,15 +18,15 @@ ghost use Rattle.tp_ground.specs.Lowered.{Lowers};
 use crate::environment::Env;
 use crate::fault::GroundFault;
 use crate::lowering::conditions::condition;
+use crate::lowering::constraints::limits;
 use crate::lowering::effects::NumberedEffect;
 use crate::lowering::parts::joined;
-use crate::lowering::rules::limits;
 use crate::numbering::Numbering;
 use crate::universe::Universe;
 use crate::{Body, Cond, GroundEvent, Limit, NumericEffect};
 use std::alloc::{AllocError, Global};
 use tp_syntax::TimeSpecifier::{AtEnd, AtStart, OverAll};
-use tp_syntax::{DurationRule, Effect, TimeSpecifier, TimedCond, TimedEffect};
+use tp_syntax::{DurationConstraint, Effect, TimeSpecifier, TimedCond, TimedEffect};
 
 // The adds, the deletes and the writes among simple effects.
 struct Changes {
@@ -61,11 +61,11 @@ fn event(
     alloc: Global,
     condition: Cond,
     simple_effects: Vec<NumberedEffect>,
-    rule: Vec<Limit>,
+    constraint: Vec<Limit>,
 ) -> Result<GroundEvent, AllocError>
     ensures { IfOk result
         (λ e. (t : Tables) → named_event t e ≡ happening (named_condition t condition)
-        (map (named_simple_effect t) simple_effects.items) (map (named_limit t) rule.items)) }
+        (map (named_simple_effect t) simple_effects.items) (map (named_limit t) constraint.items)) }
 {
     let Changes {
         adds,
@@ -77,7 +77,7 @@ fn event(
         adds,
         deletes,
         writes,
-        rule,
+        constraint,
     })
 }
 
@@ -104,20 +104,20 @@ fn start(
     universe: &Universe,
     env: &Env,
     numbering: &mut Numbering,
-    duration: &DurationRule,
+    duration: &DurationConstraint,
     condition: &TimedCond,
     effect: &TimedEffect,
 ) -> Result<GroundEvent, GroundFault>
     ensures { Lowers named_event numbering.old result numbering.new
-        (start_in (universe_view universe.now) (env_view env.now) (rule_view duration.now)
+        (start_in (universe_view universe.now) (env_view env.now) (constraint_view duration.now)
         (timed_condition_view condition.now) (timed_effect_view effect.now))
-        (of_start (universe_view universe.now) (env_view env.now) (rule_view duration.now)
+        (of_start (universe_view universe.now) (env_view env.now) (constraint_view duration.now)
         (timed_condition_view condition.now) (timed_effect_view effect.now)) }
 {
     let condition = condition_at(alloc, universe, env, AtStart, numbering, condition)?;
     let simple_effects = joined(alloc, universe, env, AtStart, numbering, effect)?;
-    let rule = limits(alloc, env, numbering, duration)?;
-    Ok(event(alloc, condition, simple_effects, rule)?)
+    let constraint = limits(alloc, env, numbering, duration)?;
+    Ok(event(alloc, condition, simple_effects, constraint)?)
 }
 
 fn end(
@@ -168,17 +168,18 @@ fn ends_of(
     universe: &Universe,
     env: &Env,
     numbering: &mut Numbering,
-    duration: &DurationRule,
+    duration: &DurationConstraint,
     condition: &TimedCond,
     effect: &TimedEffect,
 ) -> Result<Ends, GroundFault>
     ensures { Lowers named_ends numbering.old result numbering.new (
-      start_in (universe_view universe.now) (env_view env.now) (rule_view duration.now)
+      start_in (universe_view universe.now) (env_view env.now) (constraint_view duration.now)
           (timed_condition_view condition.now) (timed_effect_view effect.now),
       end_in (universe_view universe.now) (env_view env.now) (timed_condition_view condition.now)
           (timed_effect_view effect.now),
     ) (of_start (universe_view universe.now) (env_view env.now)
-        (rule_view duration.now) (timed_condition_view condition.now) (timed_effect_view effect.now)
+        (constraint_view duration.now) (timed_condition_view condition.now)
+        (timed_effect_view effect.now)
         then of_end (universe_view universe.now)
         (env_view env.now) (timed_condition_view condition.now) (timed_effect_view effect.now)) }
 {
@@ -193,14 +194,16 @@ fn durative(
     universe: &Universe,
     env: &Env,
     numbering: &mut Numbering,
-    duration: &DurationRule,
+    duration: &DurationConstraint,
     condition: &TimedCond,
     effect: &TimedEffect,
 ) -> Result<Body, GroundFault>
     ensures { Lowers named_body numbering.old result numbering.new
-        (body_in (universe_view universe.now) (env_view env.now) (durative (rule_view duration.now)
+        (body_in (universe_view universe.now) (env_view env.now)
+        (durative (constraint_view duration.now)
         (timed_condition_view condition.now) (timed_effect_view effect.now)))
-        (of_body (universe_view universe.now) (env_view env.now) (durative (rule_view duration.now)
+        (of_body (universe_view universe.now) (env_view env.now)
+        (durative (constraint_view duration.now)
         (timed_condition_view condition.now) (timed_effect_view effect.now))) }
 {
     let ends = ends_of(alloc, universe, env, numbering, duration, condition, effect)?;

@@ -27,7 +27,7 @@ pub fn comparison_of(comparison: tp_syntax::Comparison) -> Comparison
         tp_syntax::Comparison::AtMost => Comparison::AtMost,
         tp_syntax::Comparison::Equal => Comparison::Equal,
         tp_syntax::Comparison::AtLeast => Comparison::AtLeast,
-        tp_syntax::Comparison::More => Comparison::Greater,
+        tp_syntax::Comparison::Greater => Comparison::Greater,
     }
 }
 
@@ -81,7 +81,7 @@ pub fn expression(
             let number = fluent(alloc, env, numbering, atom)?;
             Ok(Expr::Fluent(number))
         }
-        tp_syntax::Expr::Negative(a) => {
+        tp_syntax::Expr::Negated(a) => {
             let x = operand(alloc, env, numbering, a)?;
             Ok(Expr::Negated(x))
         }

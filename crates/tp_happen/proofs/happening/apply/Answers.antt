@@ -2,7 +2,7 @@ use Rattle.std.proofs.Common.{not, sym, ◌∙◌, inl}
 use Rattle.std.proofs.lemmas.Result.{MatchResult-from_err, err_from_is_err_and}
 use Rattle.tp_ground.specs.State.{holds}
 use Rattle.tp_ground.specs.Event.{mixes}
-use Rattle.tp_ground.specs.Happens.{Timed, is_defined}
+use Rattle.tp_ground.specs.Happens.{EventOfStep, is_defined}
 use Rattle.tp_happen.specs.Stored.{state_of}
 use Rattle.tp_happen.specs.Bounded.{Passes}
 use Rattle.tp_happen.specs.Fault.{OnRange}
@@ -15,7 +15,7 @@ pub next-requires-clause-apart : goal.next-requires-clause-apart
 next-requires-clause-apart c = no_pair 0 c.args.events.now (sym c.in_default-4.is ∙ c.in_ok-i-4.ensures)
 
 pub next-requires-clause-unmixed : goal.next-requires-clause-unmixed
-next-requires-clause-unmixed c = none_passes (λ (t : Timed). mixes t.event) 0 c.args.events.now (sym c.in_default-3.is ∙ c.in_ok-i-3.ensures)
+next-requires-clause-unmixed c = none_passes (λ (t : EventOfStep). mixes t.event) 0 c.args.events.now (sym c.in_default-3.is ∙ c.in_ok-i-3.ensures)
 
 pub next-requires-clause-defined : goal.next-requires-clause-defined
 next-requires-clause-defined c =
@@ -43,11 +43,11 @@ returns-in_err-next-clause-range c =
 pub returns-clause-ok : goal.returns-clause-ok
 returns-clause-ok c =
     record {
-      conditions = each_passes (λ (t : Timed). holds (state_of c.args.state.now) t.event.condition) c.args.events.now
-          (none_passes (λ (t : Timed). not (holds (state_of c.args.state.now) t.event.condition)) 0 c.args.events.now (sym c.in_default-2.is ∙ c.in_ok-i-2.ensures.ok));
+      conditions = each_passes (λ (t : EventOfStep). holds (state_of c.args.state.now) t.event.condition) c.args.events.now
+          (none_passes (λ (t : EventOfStep). not (holds (state_of c.args.state.now) t.event.condition)) 0 c.args.events.now (sym c.in_default-2.is ∙ c.in_ok-i-2.ensures.ok));
       definedness = each_passes (λ t. is_defined c.args.state.now.scale (state_of c.args.state.now) t) c.args.events.now
           (none_passes (λ t. not (is_defined c.args.state.now.scale (state_of c.args.state.now) t)) 0 c.args.events.now (sym c.in_default.is ∙ c.in_ok-i.ensures.ok));
-      unmixed = none_passes (λ (t : Timed). mixes t.event) 0 c.args.events.now (sym c.in_default-3.is ∙ c.in_ok-i-3.ensures);
+      unmixed = none_passes (λ (t : EventOfStep). mixes t.event) 0 c.args.events.now (sym c.in_default-3.is ∙ c.in_ok-i-3.ensures);
       separate = no_pair 0 c.args.events.now (sym c.in_default-4.is ∙ c.in_ok-i-4.ensures);
       atoms = c.in_ok-next.ensures.atoms;
       numbers = c.in_ok-next.ensures.numbers;

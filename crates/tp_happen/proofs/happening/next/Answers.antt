@@ -1,5 +1,5 @@
 use Rattle.std.proofs.Common.{◌≡◌, ◌<◌, true, false, None, length, get_or, All, sym, ap, ◌∙◌, subst}
-use Rattle.tp_ground.specs.Happens.{Timed}
+use Rattle.tp_ground.specs.Happens.{EventOfStep}
 use Rattle.tp_ground.specs.InOrder.{after_events, after_deletes, after_adds}
 use Rattle.tp_ground.proofs.Sequence.{in_order, atoms_in_order}
 use Rattle.tp_happen.specs.Bounded.{all_sums_small}
@@ -9,15 +9,15 @@ use Rattle.tp_happen.proofs.happening.next.Goals as goal
 
 pub atoms_after-requires-clause-adds : goal.atoms_after-requires-clause-adds
 atoms_after-requires-clause-adds c =
-    subst (λ xs. All (λ (t : Timed). All (λ a. a < length xs) t.event.adds.items) c.args.events.now) (sym (c.deref.ensures.value ∙ ap (λ (s : Stored). s.atoms) c.state.view_is)) (fits_adds c.args.state.now c.args.events.now c.requires.fits)
+    subst (λ xs. All (λ (t : EventOfStep). All (λ a. a < length xs) t.event.adds.items) c.args.events.now) (sym (c.deref.ensures.value ∙ ap (λ (s : Stored). s.atoms) c.state.view_is)) (fits_adds c.args.state.now c.args.events.now c.requires.fits)
 
 pub atoms_after-requires-clause-deletes : goal.atoms_after-requires-clause-deletes
 atoms_after-requires-clause-deletes c =
-    subst (λ xs. All (λ (t : Timed). All (λ a. a < length xs) t.event.deletes.items) c.args.events.now) (sym (c.deref.ensures.value ∙ ap (λ (s : Stored). s.atoms) c.state.view_is)) (fits_deletes c.args.state.now c.args.events.now c.requires.fits)
+    subst (λ xs. All (λ (t : EventOfStep). All (λ a. a < length xs) t.event.deletes.items) c.args.events.now) (sym (c.deref.ensures.value ∙ ap (λ (s : Stored). s.atoms) c.state.view_is)) (fits_deletes c.args.state.now c.args.events.now c.requires.fits)
 
 pub numbers_after-requires : goal.numbers_after-requires
 numbers_after-requires c =
-    subst (λ xs. All (λ (t : Timed). All (λ w. w.fluent < length xs) t.event.writes.items) c.args.events.now) (sym (c.deref-2.ensures.value ∙ ap (λ (s : Stored). s.numbers) c.state.view_is)) (fits_writes c.args.state.now c.args.events.now c.requires.fits)
+    subst (λ xs. All (λ (t : EventOfStep). All (λ w. w.fluent < length xs) t.event.writes.items) c.args.events.now) (sym (c.deref-2.ensures.value ∙ ap (λ (s : Stored). s.numbers) c.state.view_is)) (fits_writes c.args.state.now c.args.events.now c.requires.fits)
 
 pub returns-clause-atoms : goal.returns-clause-atoms
 returns-clause-atoms c = λ a.

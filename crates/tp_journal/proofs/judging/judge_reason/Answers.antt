@@ -1,7 +1,7 @@
 use Rattle.std.proofs.Common.{◌≡◌, ◌<◌, ◌^◌, IsTrue, rules, true, subst, sym}
 use Rattle.tp_bounds.specs.Setting.{event_count}
 use Rattle.tp_bounds.specs.Reasons.{IsReason, BeginsWith}
-use Rattle.tp_exec.specs.Step.{asked, brings}
+use Rattle.tp_machine.specs.Step.{asked, brings}
 use Rattle.tp_journal.specs.Allowed.{IsJudged}
 use Rattle.tp_journal.specs.Reasons.{may_conflict}
 use Rattle.tp_journal.proofs.Verdicts.{wrong_reason, judged_reason}

@@ -1,6 +1,6 @@
 use Rattle.std.proofs.Common.{◌≡◌, ◌<◌, ◌^◌, IsTrue, None, drop, rules, true, sym, ap, ◌∙◌, codes}
 use Rattle.tp_bounds.specs.Setting.{event_count}
-use Rattle.tp_exec.specs.Step.{may_want_memory}
+use Rattle.tp_machine.specs.Step.{may_want_memory}
 use Rattle.tp_script.specs.Words.{words_of}
 use Rattle.tp_script.proofs.WordLemmas.{tail_is}
 use Rattle.tp_journal.specs.Edges.{edges_of, begins}

@@ -1,6 +1,6 @@
 use Rattle.std.proofs.Common.{◌≢◌, IsTrue, subst, sym, rules}
-use Rattle.tp_exec.specs.declared.command.Answer.TheVariants.{Refused}
-use Rattle.tp_exec.specs.declared.refusal.Refusal.TheVariants.{Memory}
+use Rattle.tp_machine.specs.declared.command.Answer.TheVariants.{Refused}
+use Rattle.tp_machine.specs.declared.refusal.Refusal.TheVariants.{Memory}
 use Rattle.tp_journal.specs.Allowed.{IsJudged}
 use Rattle.tp_journal.proofs.Verdicts.{judged_telling}
 use Rattle.tp_journal.proofs.SoundLemmas.{step_sound}

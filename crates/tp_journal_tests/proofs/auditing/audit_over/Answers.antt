@@ -1,6 +1,6 @@
 use Rattle.std.proofs.Common.{sym, subst}
-use Rattle.tp_exec.specs.Machine.{IsFresh}
-use Rattle.tp_exec.proofs.Ready.{fresh_new, fresh_lagged}
+use Rattle.tp_machine.specs.Machine.{IsFresh}
+use Rattle.tp_machine.proofs.Ready.{fresh_new, fresh_lagged}
 use Rattle.tp_journal.proofs.SoundLemmas.{bare_is_new}
 use Rattle.tp_journal_tests.proofs.auditing.audit_over.Goals as goal
 

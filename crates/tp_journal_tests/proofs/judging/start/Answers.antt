@@ -1,6 +1,6 @@
 use Rattle.std.proofs.Common.{sym, subst}
-use Rattle.tp_exec.specs.Machine.{IsFresh}
-use Rattle.tp_exec.proofs.Ready.{fresh_new}
+use Rattle.tp_machine.specs.Machine.{IsFresh}
+use Rattle.tp_machine.proofs.Ready.{fresh_new}
 use Rattle.tp_journal.proofs.SoundLemmas.{bare_is_new, new_sound}
 use Rattle.tp_journal_tests.proofs.judging.start.Goals as goal
 

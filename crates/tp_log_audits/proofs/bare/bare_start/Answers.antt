@@ -2,8 +2,8 @@ use Rattle.std.proofs.Common.{◌≡◌, ◌∙◌, ap, arith, inl, subst, sym}
 use Rattle.std.specs.List.{All}
 use Rattle.tp_bounds.specs.RunLimits.{RunLimits}
 use Rattle.tp_bounds.specs.Setting.{Setting, event_count}
-use Rattle.tp_exec.specs.Machine.{IsFresh, Machine, new_machine}
-use Rattle.tp_exec.proofs.Ready.{fresh_new}
+use Rattle.tp_machine.specs.Machine.{IsFresh, Machine, new_machine}
+use Rattle.tp_machine.proofs.Ready.{fresh_new}
 use Rattle.tp_log_audits.specs.Bare.{LagFits}
 use Rattle.tp_log_audits.proofs.AuditLemmas.{events_new}
 use Rattle.tp_log_audits.proofs.bare.bare_start.Goals as goal

@@ -1,6 +1,6 @@
 use Rattle.std.proofs.Common.{◌≡◌, drop}
 use Rattle.tp_bounds.specs.Setting.{event_count}
-use Rattle.tp_exec.specs.Machine.{IsFresh}
+use Rattle.tp_machine.specs.Machine.{IsFresh}
 use Rattle.tp_log_audits.specs.Bare.{lagged}
 use Rattle.tp_log_audits.proofs.bare.set_lags.Given as goal
 

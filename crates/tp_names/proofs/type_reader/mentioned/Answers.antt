@@ -2,7 +2,7 @@ use Rattle.std.proofs.Common.{List, String, Global, string_bytes, ◌+◌, ◌�
 use Rattle.std.proofs.lemmas.List.{at_drop_more}
 use Rattle.tp_ast.specs.Symbols.{parent_view}
 use Rattle.tp_ast.specs.Domains.{mentioned}
-use Rattle.tp_names.specs.FormViews.{names_in, to_mention}
+use Rattle.tp_names.specs.SignatureViews.{names_in, to_mention}
 use Rattle.tp_ast.specs.declared.types.TypeName.{TypeName}
 use Rattle.tp_names.proofs.OnTypes.{from_known}
 use Rattle.tp_names.proofs.type_reader.mentioned.Goals as goal

@@ -1,7 +1,7 @@
 use Rattle.std.proofs.Common.{◌≡◌, ◌∷◌, map, drop}
 use Rattle.tp_ast.specs.Symbols.{parent_view}
 use Rattle.tp_ast.specs.Domains.{object, mentioned}
-use Rattle.tp_names.specs.FormViews.{to_mention}
+use Rattle.tp_names.specs.SignatureViews.{to_mention}
 use Rattle.tp_names.proofs.type_reader.mentioned.Given as goal
 
 abbrev pub invariant-loop-declared : goal.invariant-loop-declared

@@ -27,11 +27,11 @@ returns-then-index-gt0 c =
     let within : c.args.new.to < length r.amounts.items = omega (arith, c.requires.new_among.1, c.in_ok-raised.ensures.len, r.amounts.ok.0) in
     let here : get_or r.amounts.items c.args.new.to 0 ≡ c.index.result.now = read_at r.amounts.items c.args.new.to c.index.result.now within c.index.ensures in
     let some : 0 < get_or r.amounts.items c.args.new.to 0 = omega (arith, here, c.if-index-gt0.true) in
-    let circle = raise_negative_cycle c.args.arcs.now links c.args.new c.gap-amount.result (get_or r.amounts.items c.args.new.to 0) (λ x. get_or c.args.low.now x 0) c.in_ok-path.path.items c.in_ok-links.ensures (simp to_z-of_z at c.gap-amount.ensures) some t in
+    let found = raise_negative_cycle c.args.arcs.now links c.args.new c.gap-amount.result (get_or r.amounts.items c.args.new.to 0) (λ x. get_or c.args.low.now x 0) c.in_ok-path.path.items c.in_ok-links.ensures (simp to_z-of_z at c.gap-amount.ensures) some t in
     let e : c.extend_from_slice.new.self.items ≡ length c.args.arcs.now ∷ c.in_ok-path.path.items =
     (let p : c.push.new.self.items ≡ length c.args.arcs.now ∷ [] = c.in_ok-push.ensures.items ∙ ap (λ (xs : List ℕ). xs ++ length c.args.arcs.now ∷ []) c.new-cycle.ensures.items in
     c.in_ok-extend_from_slice.ensures.items ∙ (ap (λ (xs : List ℕ). xs ++ c.deref-then-index-gt0-2.result.now) p ∙ ap (λ (ys : List ℕ). length c.args.arcs.now ∷ ys) c.deref-then-index-gt0-2.ensures.value)) in
-    subst (λ cycle. CycleBeginsWith (c.args.arcs.now ++ c.args.new ∷ []) (length c.args.arcs.now) cycle) (sym e) circle
+    subst (λ cycle. CycleBeginsWith (c.args.arcs.now ++ c.args.new ∷ []) (length c.args.arcs.now) cycle) (sym e) found
 
 pub returns : goal.returns
 returns c =

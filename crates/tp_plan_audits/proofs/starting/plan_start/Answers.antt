@@ -3,8 +3,8 @@ use Rattle.std.proofs.lemmas.Result.{IfOk-weaker}
 use Rattle.std.specs.List.{All}
 use Rattle.tp_bounds.specs.Setting.{Setting, event_count}
 use Rattle.tp_net.specs.NewNet.{new_setting}
-use Rattle.tp_exec.specs.Machine.{IsFresh, plan_machine}
-use Rattle.tp_exec.proofs.Ready.{fresh_new}
+use Rattle.tp_machine.specs.Machine.{IsFresh, plan_machine}
+use Rattle.tp_machine.proofs.Ready.{fresh_new}
 use Rattle.tp_journal.proofs.SoundLemmas.{plan_is_new}
 use Rattle.tp_bare.specs.Bare.{first_setting}
 use Rattle.tp_log_audits.specs.Bare.{LagFits, lagged}

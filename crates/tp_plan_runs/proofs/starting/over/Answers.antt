@@ -2,7 +2,7 @@ use Rattle.std.proofs.Common.{◌∙◌, ap, subst, sym}
 use Rattle.std.proofs.lemmas.Result.{IfOk-weaker}
 use Rattle.tp_bounds.specs.RunLimits.{greatest_limits}
 use Rattle.tp_exec.specs.FromPlan.{CameFrom}
-use Rattle.tp_exec.specs.Machine.{plan_machine}
+use Rattle.tp_machine.specs.Machine.{plan_machine}
 use Rattle.tp_exec.proofs.FromPlans.{start_came}
 use Rattle.tp_plan_runs.proofs.starting.over.Goals as goal
 

@@ -1,8 +1,8 @@
 use Rattle.std.proofs.Common.{◌≡◌, ◌∙◌, ap, arith, length, subst, sym}
 use Rattle.std.specs.Prelude.{Ok, Err}
 use Rattle.tp_net.specs.NewNet.{new_setting}
-use Rattle.tp_exec.specs.Machine.{IsFresh}
-use Rattle.tp_exec.proofs.Ready.{fresh_new}
+use Rattle.tp_machine.specs.Machine.{IsFresh}
+use Rattle.tp_machine.proofs.Ready.{fresh_new}
 use Rattle.tp_script.specs.Lags.{ReadsLags}
 use Rattle.tp_plan_runs.proofs.starting.start.Goals as goal
 

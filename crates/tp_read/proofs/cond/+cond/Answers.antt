@@ -44,7 +44,7 @@ read_cond-returns-in_err-conds-in-Joined t c =
     let σ = symbols_view c.args.symbols.now in
     let scope = scope_view c.args.scope.now in
     let f = λ (s : Shape). condition_of σ scope s in
-    let is = word_first f _ _ _ c.as_slice.result.now c.first-item.result _ c.in-List.is c.as_slice.ensures.value c.in-len1-up.len_at_least c.first-item.is c.in-Word-first.is ∙ at_joined σ scope _ _ c.head_of-head.result c.kind_of.result c.head_of-head.ensures c.kind_of.ensures c.in-Joined.is in
+    let is = word_first f _ _ _ c.as_slice.result.now c.first-item.result _ c.in-List.is c.as_slice.ensures.value c.in-len1-up.len_at_least c.first-item.is c.in-Word-first.is ∙ at_joined σ scope _ _ c.cond_word_of-head.result c.kind_of.result c.cond_word_of-head.ensures c.kind_of.ensures c.in-Joined.is in
     let p = err_from_is_err_and c.from_residual.result c.from_residual.ensures.1 in
     rw (p.1, p.2) (subst (λ o. Fails c.in_err-conds-in-Joined.field-0.0 o) (sym is) (fails_bind c.in_err-conds-in-Joined.field-0.0 _ _ c.in_err-conds-in-Joined.ensures))
 
@@ -53,15 +53,15 @@ read_cond-returns-in_ok-conds-in-Joined t c =
     let σ = symbols_view c.args.symbols.now in
     let scope = scope_view c.args.scope.now in
     let f = λ (s : Shape). condition_of σ scope s in
-    let is = word_first f _ _ _ c.as_slice.result.now c.first-item.result _ c.in-List.is c.as_slice.ensures.value c.in-len1-up.len_at_least c.first-item.is c.in-Word-first.is ∙ at_joined σ scope _ _ c.head_of-head.result c.kind_of.result c.head_of-head.ensures c.kind_of.ensures c.in-Joined.is in
-    gives_same cond_view _ _ _ (is ∙ ap (λ o. o >>= combined c.head_of-head.result) c.in_ok-conds-in-Joined.ensures) c.combined.ensures
+    let is = word_first f _ _ _ c.as_slice.result.now c.first-item.result _ c.in-List.is c.as_slice.ensures.value c.in-len1-up.len_at_least c.first-item.is c.in-Word-first.is ∙ at_joined σ scope _ _ c.cond_word_of-head.result c.kind_of.result c.cond_word_of-head.ensures c.kind_of.ensures c.in-Joined.is in
+    gives_same cond_view _ _ _ (is ∙ ap (λ o. o >>= combined c.cond_word_of-head.result) c.in_ok-conds-in-Joined.ensures) c.combined.ensures
 
 pub read_cond-returns-in-Bound : goal.read_cond-returns-in-Bound
 read_cond-returns-in-Bound t c =
     let σ = symbols_view c.args.symbols.now in
     let scope = scope_view c.args.scope.now in
     let f = λ (s : Shape). condition_of σ scope s in
-    let is = word_first f _ _ _ c.as_slice.result.now c.first-item.result _ c.in-List.is c.as_slice.ensures.value c.in-len1-up.len_at_least c.first-item.is c.in-Word-first.is ∙ at_bound σ scope _ _ c.head_of-head.result c.kind_of.result c.head_of-head.ensures c.kind_of.ensures c.in-Bound.is in
+    let is = word_first f _ _ _ c.as_slice.result.now c.first-item.result _ c.in-List.is c.as_slice.ensures.value c.in-len1-up.len_at_least c.first-item.is c.in-Word-first.is ∙ at_bound σ scope _ _ c.cond_word_of-head.result c.kind_of.result c.cond_word_of-head.ensures c.kind_of.ensures c.in-Bound.is in
     gives_same cond_view _ _ _ is c.read_bound.ensures
 
 pub read_cond-returns-in-Simple : goal.read_cond-returns-in-Simple
@@ -69,7 +69,7 @@ read_cond-returns-in-Simple t c =
     let σ = symbols_view c.args.symbols.now in
     let scope = scope_view c.args.scope.now in
     let f = λ (s : Shape). condition_of σ scope s in
-    let is = word_first f _ _ _ c.as_slice.result.now c.first-item.result _ c.in-List.is c.as_slice.ensures.value c.in-len1-up.len_at_least c.first-item.is c.in-Word-first.is ∙ at_simple σ scope _ _ c.head_of-head.result c.kind_of.result c.head_of-head.ensures c.kind_of.ensures c.in-Simple.is in
+    let is = word_first f _ _ _ c.as_slice.result.now c.first-item.result _ c.in-List.is c.as_slice.ensures.value c.in-len1-up.len_at_least c.first-item.is c.in-Word-first.is ∙ at_simple σ scope _ _ c.cond_word_of-head.result c.kind_of.result c.cond_word_of-head.ensures c.kind_of.ensures c.in-Simple.is in
     gives_same cond_view _ _ _ is c.simple.ensures
 
 pub read_conds-returns-in_err-read_cond : goal.read_conds-returns-in_err-read_cond

@@ -5,9 +5,9 @@ use Rattle.tp_text.specs.Trees.{shape_of}
 use Rattle.tp_ast.specs.Gives.{◌>>=◌}
 use Rattle.tp_ast.specs.Symbols.{Name}
 use Rattle.tp_ast.specs.Terms.{shapes}
-use Rattle.tp_ast.specs.Domains.{Part, domain_with}
+use Rattle.tp_ast.specs.Domains.{SectionBody, domain_with}
 use Rattle.tp_ast.specs.DomainViews.{domain_view}
-use Rattle.tp_syntax.specs.SectionViews.{part_view}
+use Rattle.tp_syntax.specs.SectionViews.{section_body_view}
 use Rattle.tp_ast.proofs.OnGives.{fails_same, fails_bind, gives_same}
 use Rattle.tp_syntax.proofs.OnDomains.{by_define, after_define, after_head}
 use Rattle.tp_syntax.proofs.domain_reader.domain_of.Goals as goal
@@ -33,5 +33,5 @@ returns c =
     let n : Name = string_bytes c.in_ok-name.name in
     gives_same domain_view _ _ _
     (by_define (shape_of c.args.tree.now) ∙ ap (λ (o : Option (Shape × Shapes)). o >>= after_define) (sym c.in-Some.ensures) ∙ ap (λ (o : Option Name). o >>= after_head (shapes c.in-Some.rest.now)) c.in_ok-name.ensures
-    ∙ ap (λ (o : Option (List Part)). o >>= domain_with n) c.in_ok-parts.ensures ∙ ap (domain_with n) (sym (ap (map part_view) c.deref.ensures.value)))
+    ∙ ap (λ (o : Option (List SectionBody)). o >>= domain_with n) c.in_ok-parts.ensures ∙ ap (domain_with n) (sym (ap (map section_body_view) c.deref.ensures.value)))
     c.domain_with.ensures

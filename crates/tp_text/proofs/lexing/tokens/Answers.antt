@@ -1,5 +1,5 @@
 use Rattle.std.proofs.Common.{ℕ, List, subst}
-use Rattle.tp_text.proofs.OnMarks.{all_placed}
+use Rattle.tp_text.proofs.OnLexemes.{all_placed}
 use Rattle.tp_text.proofs.OnCovers.{still, covered, place_on, here_on, so_far_on, whole}
 use Rattle.tp_text.specs.Tokens.{Begins}
 use Rattle.tp_text.specs.declared.lexing.Piece.TheVariants.{Blank}

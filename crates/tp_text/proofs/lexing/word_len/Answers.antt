@@ -1,6 +1,6 @@
 use Rattle.std.proofs.Common.{◌≡◌, sym, ◌∙◌, rules}
 use Rattle.std.proofs.lemmas.List.Elements.{All-more}
-use Rattle.tp_text.specs.Marks.{class}
+use Rattle.tp_text.specs.Lexemes.{class}
 use Rattle.tp_text.specs.declared.lexing.Class.TheVariants.{Letter}
 use Rattle.tp_text.proofs.lexing.word_len.Goals as goal
 

@@ -1,5 +1,5 @@
 use Rattle.std.proofs.Common.{◌≡◌, take, All}
-use Rattle.tp_text.specs.Marks.{class}
+use Rattle.tp_text.specs.Lexemes.{class}
 use Rattle.tp_text.specs.declared.lexing.Class.TheVariants.{Letter}
 use Rattle.tp_text.proofs.lexing.word_len.Given as goal
 

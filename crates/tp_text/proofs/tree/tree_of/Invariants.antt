@@ -1,10 +1,10 @@
 use Rattle.std.proofs.Common.{◌≡◌, ◌++◌, drop}
-use Rattle.tp_text.specs.Trees.{built, marks_of, IsDeep, IsOneTree}
+use Rattle.tp_text.specs.Trees.{built, lexemes_of, IsDeep, IsOneTree}
 use Rattle.tp_text.proofs.tree.tree_of.Given as goal
 
 abbrev pub invariant-loop-token : goal.invariant-loop-token
 invariant-loop-token l = record {
-  so_far : built l.builder ++ drop l.token-index (marks_of l.tokens) ≡ marks_of l.tokens;
+  so_far : built l.builder ++ drop l.token-index (lexemes_of l.tokens) ≡ lexemes_of l.tokens;
   shallow : ¬ (IsDeep (built l.builder));
   one : IsOneTree l.builder.outer.items l.builder.items.items;
 }

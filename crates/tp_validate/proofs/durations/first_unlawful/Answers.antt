@@ -4,14 +4,14 @@ use Rattle.std.specs.List.{list_all}
 use Rattle.tp_ground.specs.Valid.{Planned}
 use Rattle.tp_ground.specs.Verdict.{is_unlawful}
 use Rattle.tp_happen.specs.Stored.{state_of}
-use Rattle.tp_validate.specs.Rules.{start_small, rule_small_at}
+use Rattle.tp_validate.specs.Constraints.{start_small, constraint_small_at}
 use Rattle.tp_validate.proofs.Running.{none_starts, start_fails}
 use Rattle.tp_validate.proofs.durations.first_unlawful.Goals as goal
 
 pub returns-in_err-unlawful_among-clause-err : goal.returns-in_err-unlawful_among-clause-err
 returns-in_err-unlawful_among-clause-err c =
     let s = state_of c.args.state.now in
-    MatchResult-from_err c.from_residual.result (λ _. Unit {0}) (λ e. list_all (rule_small_at s c.args.moment) c.args.steps.now ≡ false) c.from_residual.ensures.0
+    MatchResult-from_err c.from_residual.result (λ _. Unit {0}) (λ e. list_all (constraint_small_at s c.args.moment) c.args.steps.now ≡ false) c.from_residual.ensures.0
     (λ e. start_fails c.args.moment c.args.starting.now c.args.steps.now c.requires.starting (λ (p : Planned). start_small s p.body) c.in_err-unlawful_among.ensures.err)
 
 pub returns-in-None-clause-ok : goal.returns-in-None-clause-ok

@@ -5,17 +5,17 @@ use Rattle.tp_ground.specs.Written.{GroundExpression, negative, sum, difference,
 use Rattle.tp_ground.specs.Mentions.{of_expression}
 use Rattle.tp_ground.specs.ReadBack.{named_expression}
 use Rattle.tp_ground.proofs.OnLowered.{lowered_as, as_written, first_failed, second_failed, both_lowered}
-use Rattle.tp_ground.proofs.OnExpressions.{at_Negative, sum_of, difference_of, product_of, named_Negated, named_Sum, named_Difference, named_Product, named_box}
+use Rattle.tp_ground.proofs.OnExpressions.{at_Negated, sum_of, difference_of, product_of, named_Negated, named_Sum, named_Difference, named_Product, named_box}
 use Rattle.tp_ground.proofs.lowering.expressions.+expression.Goals as goal
 
 pub operand-returns : goal.operand-returns
 operand-returns t c = lowered_as (λ (y : GroundExpression). y) _ (λ u. ap (named_expression u) c.in_ok-new.ensures.ok) c.in_ok-lowered.ensures
 
-pub expression-returns-in_ok-x-in-Negative : goal.expression-returns-in_ok-x-in-Negative
-expression-returns-in_ok-x-in-Negative t c =
+pub expression-returns-in_ok-x-in-Negated : goal.expression-returns-in_ok-x-in-Negated
+expression-returns-in_ok-x-in-Negated t c =
     let env = env_view c.args.env.now in
-    as_written of_expression _ _ (at_Negative env c.args.expr.now c.in-Negative.a c.in-Negative.is ∙ ap (λ e. negative (expression_in env (expr_view e))) (sym c.deref.ensures))
-    (lowered_as negative _ (λ u. named_Negated u c.in_ok-x-in-Negative.x) c.in_ok-x-in-Negative.ensures)
+    as_written of_expression _ _ (at_Negated env c.args.expr.now c.in-Negated.a c.in-Negated.is ∙ ap (λ e. negative (expression_in env (expr_view e))) (sym c.deref.ensures))
+    (lowered_as negative _ (λ u. named_Negated u c.in_ok-x-in-Negated.x) c.in_ok-x-in-Negated.ensures)
 
 pub expression-returns-in_err-x-in-Sum : goal.expression-returns-in_err-x-in-Sum
 expression-returns-in_err-x-in-Sum t c =

@@ -1,5 +1,5 @@
 use Rattle.std.proofs.Common.{Vec, Global, arith, ap, ◌∙◌}
-use Rattle.tp_text.specs.Marks.{left, right}
+use Rattle.tp_text.specs.Lexemes.{left, right}
 use Rattle.std.proofs.Common.{◌∷◌, [], ◌++◌}
 use Rattle.tp_text.specs.Trees.{trees_written}
 use Rattle.tp_text.specs.declared.tree.Tree.{Tree}

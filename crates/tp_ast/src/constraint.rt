@@ -1,0 +1,12 @@
+//! Duration constraints.
+
+use crate::expr::Expr;
+use crate::words::Comparison;
+
+/// What the duration of a step must be. The empty conjunction allows each.
+#[derive(Debug, PartialEq, Drop)]
+pub enum DurationConstraint {
+    And(Vec<DurationConstraint>),
+    /// The duration compared with a value: `AtMost` is at most the value.
+    Limit(Comparison, Expr),
+}

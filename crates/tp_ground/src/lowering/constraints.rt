@@ -1,0 +1,64 @@
+//! Duration constraints.
+
+ghost use Rattle.std.specs.Prelude.{◌≡◌, map};
+ghost use Rattle.std.specs.List.{flat_map};
+ghost use Rattle.tp_syntax.specs.ConstraintViews.{constraint_view};
+ghost use Rattle.tp_ground.specs.Views.{env_view};
+ghost use Rattle.tp_ground.specs.Written.{limits_in};
+ghost use Rattle.tp_ground.specs.Mentions.{of_limit, of_each};
+ghost use Rattle.tp_ground.specs.ReadBack.{named_limit};
+ghost use Rattle.tp_ground.specs.Lowered.{Lowers};
+
+use crate::Limit;
+use crate::environment::Env;
+use crate::fault::GroundFault;
+use crate::lowering::expressions::{comparison_of, expression};
+use crate::numbering::Numbering;
+use std::alloc::Global;
+use tp_syntax::DurationConstraint;
+
+#[cycle(limits)]
+fn all_limits(
+    alloc: Global,
+    env: &Env,
+    numbering: &mut Numbering,
+    constraints: &[DurationConstraint],
+) -> Result<Vec<Limit>, GroundFault>
+    ensures { Lowers (λ t v. map (named_limit t) v.items) numbering.old result numbering.new
+        (flat_map (λ r. limits_in (env_view env.now) (constraint_view r)) constraints.now)
+        (of_each of_limit
+        (flat_map (λ r. limits_in (env_view env.now) (constraint_view r)) constraints.now)) }
+{
+    let mut lowered = Vec::new(alloc);
+    for constraint in constraints {
+        let mut more = limits(alloc, env, numbering, constraint)?;
+        lowered.append(&mut more)?;
+    }
+    Ok(lowered)
+}
+
+/// The comparisons of a duration constraint.
+#[cycle(limits)]
+pub fn limits(
+    alloc: Global,
+    env: &Env,
+    numbering: &mut Numbering,
+    constraint: &DurationConstraint,
+) -> Result<Vec<Limit>, GroundFault>
+    ensures { Lowers (λ t v. map (named_limit t) v.items) numbering.old result numbering.new
+        (limits_in (env_view env.now) (constraint_view constraint.now))
+        (of_each of_limit (limits_in (env_view env.now) (constraint_view constraint.now))) }
+{
+    match constraint {
+        DurationConstraint::And(constraints) => all_limits(alloc, env, numbering, constraints),
+        DurationConstraint::Limit(comparison, value) => {
+            let value = expression(alloc, env, numbering, value)?;
+            let mut one = Vec::new(alloc);
+            one.push(Limit {
+                how: comparison_of(*comparison),
+                value,
+            })?;
+            Ok(one)
+        }
+    }
+}

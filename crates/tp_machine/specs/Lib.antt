@@ -1,0 +1,5 @@
+pub mod Machine
+pub mod Step
+pub mod Run
+pub mod Copies
+pub mod OwnBounds
