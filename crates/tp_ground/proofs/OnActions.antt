@@ -2,9 +2,9 @@
 use Rattle.std.proofs.Common.{◌≡◌, ℕ, ◌+◌, ◌<◌, List, [], ◌∷◌, ◌++◌, length, take, drop, get_or, map, Result, IsErrAnd, Bor, Vec, Global, refl, sym, ap, subst, ◌∙◌, append-nil}
 use Rattle.std.specs.List.{flat_map}
 use Rattle.std.proofs.lemmas.List.{map-append, take_more, take-append-drop}
-use Rattle.tp_syntax.specs.Symbols.{Name, Declared, typed_view}
-use Rattle.tp_syntax.specs.Actions as actions
-use Rattle.tp_syntax.specs.DomainViews.{action_view}
+use Rattle.tp_ast.specs.Symbols.{Name, Declared, typed_view}
+use Rattle.tp_ast.specs.Actions as actions
+use Rattle.tp_ast.specs.DomainViews.{action_view}
 use Rattle.tp_ast.specs.declared.symbols.Typed.{Typed}
 use Rattle.tp_ast.specs.declared.action.Action.{Action}
 use Rattle.tp_ground.specs.Views.{env_view}

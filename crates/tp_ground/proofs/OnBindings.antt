@@ -6,7 +6,7 @@ use Rattle.std.specs.List.{flat_map, list_any}
 use Rattle.std.proofs.lemmas.Bool.{ltb-true, ltb-false}
 use Rattle.std.proofs.lemmas.List.{map-append, length-map, at_drop_more}
 use Rattle.std.proofs.lemmas.List.Elements.{filter-append}
-use Rattle.tp_syntax.specs.Symbols.{Name, Declared, Parent, typed_view, types_fit}
+use Rattle.tp_ast.specs.Symbols.{Name, Declared, Parent, typed_view, types_fit}
 use Rattle.tp_ast.specs.declared.symbols.Typed.{Typed}
 use Rattle.tp_ground.specs.Bindings.{Universe, fitting, choices, has_no_choice, bindings}
 

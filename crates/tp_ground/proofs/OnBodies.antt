@@ -1,8 +1,8 @@
 -- Events and bodies of what was numbered one after another.
 use Rattle.std.proofs.Common.{◌≡◌, List, [], map, Result, IsErrAnd, Vec, Global, refl, sym, ap, subst, ◌∙◌}
-use Rattle.tp_syntax.specs.ConstraintViews.{constraint_view}
-use Rattle.tp_syntax.specs.EffectViews.{timed_condition_view, timed_effect_view}
-use Rattle.tp_syntax.specs.DomainViews.{body_view}
+use Rattle.tp_ast.specs.ConstraintViews.{constraint_view}
+use Rattle.tp_ast.specs.EffectViews.{timed_condition_view, timed_effect_view}
+use Rattle.tp_ast.specs.DomainViews.{body_view}
 use Rattle.tp_ast.specs.declared.constraint.DurationConstraint.{DurationConstraint}
 use Rattle.tp_ast.specs.declared.joined.Joined.{Joined}
 use Rattle.tp_ast.specs.declared.timed.Timed.{Timed}

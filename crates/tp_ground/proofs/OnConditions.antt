@@ -1,10 +1,10 @@
 -- Conditions over atoms' words, and over their numbers.
 use Rattle.std.proofs.Common.{◌≡◌, ℕ, List, [], ◌∷◌, map, Bool, true, false, if◌then◌else◌, Result, IsErrAnd, Vec, Box, Global, refl, sym, ap, subst, ◌∙◌, rules}
-use Rattle.tp_syntax.specs.Terms.{atom_view, term_view}
-use Rattle.tp_syntax.specs.Symbols.{typed_view}
-use Rattle.tp_syntax.specs.Conditions as conditions
-use Rattle.tp_syntax.specs.ExprViews.{expr_view}
-use Rattle.tp_syntax.specs.CondViews.{cond_view}
+use Rattle.tp_ast.specs.Terms.{atom_view, term_view}
+use Rattle.tp_ast.specs.Symbols.{typed_view}
+use Rattle.tp_ast.specs.Conditions as conditions
+use Rattle.tp_ast.specs.ExprViews.{expr_view}
+use Rattle.tp_ast.specs.CondViews.{cond_view}
 use Rattle.tp_ast.specs.declared.words.Comparison.{Comparison}
 use Rattle.tp_ast.specs.declared.term.Atom.{Atom}
 use Rattle.tp_ast.specs.declared.term.Term.{Term}
@@ -12,7 +12,7 @@ use Rattle.tp_ast.specs.declared.expr.Expr.{Expr}
 use Rattle.tp_ast.specs.declared.symbols.Typed.{Typed}
 use Rattle.tp_ast.specs.declared.cond.Cond as syntax
 use Rattle.std.specs.Str.{bytes_eq}
-use Rattle.tp_syntax.specs.Terms.{Argument}
+use Rattle.tp_ast.specs.Terms.{Argument}
 use Rattle.tp_ground.specs.Bindings.{Universe, Env, object_for, words_in}
 use Rattle.tp_ground.specs.Tables.{Tables, words_at}
 use Rattle.tp_ground.specs.Written.{GroundCondition, atom, compared, negation, all_of, any_of, conditions_from, always, never, either, same_in, compared_in, inner, condition_in, conditions_in}

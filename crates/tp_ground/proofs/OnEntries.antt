@@ -1,7 +1,7 @@
 -- Entries of ':init' that cannot be numbered.
 use Rattle.std.proofs.Common.{◌≡◌, ℤ, [], sym, subst, rules}
-use Rattle.tp_syntax.specs.Terms.{atom_view}
-use Rattle.tp_syntax.specs.DomainViews.{initial_view}
+use Rattle.tp_ast.specs.Terms.{atom_view}
+use Rattle.tp_ast.specs.DomainViews.{initial_view}
 use Rattle.tp_ast.specs.declared.term.Atom.{Atom}
 use Rattle.tp_ast.specs.declared.problem.Initial.{Initial}
 use Rattle.tp_ast.specs.declared.problem.Initial.TheVariants.{Holds, Fails, HasValue}

@@ -1,7 +1,7 @@
 -- What variables stand for, from the inside out.
 use Rattle.std.proofs.Common.{◌≡◌, ℕ, List, [], ◌∷◌, ◌++◌, map, Bool, true, false, cond, Option, Some, None, Bor, refl, sym, ap, ◌∙◌, rules}
 use Rattle.std.specs.Str.{bytes_eq}
-use Rattle.tp_syntax.specs.Symbols.{Name, typed_view}
+use Rattle.tp_ast.specs.Symbols.{Name, typed_view}
 use Rattle.tp_ast.specs.declared.symbols.Typed.{Typed}
 use Rattle.tp_ground.specs.Bindings.{Env, bound, object_among}
 use Rattle.tp_ground.specs.Views.{env_view}

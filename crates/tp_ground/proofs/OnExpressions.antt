@@ -1,7 +1,7 @@
 -- Expressions over fluents' words, and over their numbers.
 use Rattle.std.proofs.Common.{◌≡◌, ℕ, ℤ, Box, Global, sym, ap, ◌∙◌, rules}
-use Rattle.tp_syntax.specs.Terms.{atom_view}
-use Rattle.tp_syntax.specs.ExprViews.{expr_view}
+use Rattle.tp_ast.specs.Terms.{atom_view}
+use Rattle.tp_ast.specs.ExprViews.{expr_view}
 use Rattle.tp_ast.specs.declared.term.Atom.{Atom}
 use Rattle.tp_ast.specs.declared.expr.Expr as syntax
 use Rattle.tp_ground.specs.Bindings.{Env, words_in}

@@ -4,10 +4,10 @@ use Rattle.std.proofs.Common.{◌≡◌, ℕ, zero, suc, ◌<◌, Bool, true, fa
 use Rattle.std.specs.List.{list_all, flat_map}
 use Rattle.std.proofs.lemmas.Bool.{lt-ltb, and_parts, and_from}
 use Rattle.std.proofs.lemmas.List.Folds.{list_all-append}
-use Rattle.tp_syntax.specs.Parts.{Joined, Parts, all_parts, for_each, one, no_parts, part}
-use Rattle.tp_syntax.specs.Effects as effects
-use Rattle.tp_syntax.specs.Effects.{SimpleEffect, Effect, Timed}
-use Rattle.tp_syntax.specs.Actions as actions
+use Rattle.tp_ast.specs.Parts.{Joined, Parts, all_parts, for_each, one, no_parts, part}
+use Rattle.tp_ast.specs.Effects as effects
+use Rattle.tp_ast.specs.Effects.{SimpleEffect, Effect, Timed}
+use Rattle.tp_ast.specs.Actions as actions
 use Rattle.tp_ast.specs.declared.words.TimeSpecifier.{TimeSpecifier}
 use Rattle.tp_ast.specs.declared.words.TimeSpecifier.TheVariants.{AtStart, AtEnd}
 use Rattle.tp_ground.specs.Words.{Words}

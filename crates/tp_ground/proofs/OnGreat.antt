@@ -2,16 +2,16 @@
 use Rattle.std.proofs.Common.{◌≡◌, ℕ, ◌≤◌, List, [], ◌∷◌, map, length, drop, Bool, true, false, ◌||◌, Vec, Global, refl, sym, ap, ◌∙◌, rules}
 use Rattle.std.specs.List.{list_any}
 use Rattle.std.proofs.lemmas.List.{at_drop_all}
-use Rattle.tp_syntax.specs.Conditions.{all_of, any_of, conditions}
-use Rattle.tp_syntax.specs.CondViews.{cond_view}
+use Rattle.tp_ast.specs.Conditions.{all_of, any_of, conditions}
+use Rattle.tp_ast.specs.CondViews.{cond_view}
 use Rattle.tp_ast.specs.declared.cond.Cond as conds
 use Rattle.tp_ast.specs.declared.cond.Cond.{Cond}
-use Rattle.tp_syntax.specs.Parts.{all_parts, parts}
-use Rattle.tp_syntax.specs.PartViews.{joined_view}
+use Rattle.tp_ast.specs.Parts.{all_parts, parts}
+use Rattle.tp_ast.specs.PartViews.{joined_view}
 use Rattle.tp_ast.specs.declared.joined.Joined as joins
 use Rattle.tp_ast.specs.declared.joined.Joined.{Joined}
-use Rattle.tp_syntax.specs.Effects.{all_constraints, constraints_in}
-use Rattle.tp_syntax.specs.ConstraintViews.{constraint_view}
+use Rattle.tp_ast.specs.Effects.{all_constraints, constraints_in}
+use Rattle.tp_ast.specs.ConstraintViews.{constraint_view}
 use Rattle.tp_ast.specs.declared.constraint.DurationConstraint as the_constraints
 use Rattle.tp_ast.specs.declared.constraint.DurationConstraint.{DurationConstraint}
 use Rattle.tp_ground.specs.Great.{great_condition, great_conditions, great_part, great_parts, great_constraint, great_constraints}

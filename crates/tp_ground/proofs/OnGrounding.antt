@@ -1,9 +1,9 @@
 -- The names of ground actions, one action after another.
 use Rattle.std.proofs.Common.{◌≡◌, ℕ, ◌+◌, ◌<◌, List, [], ◌∷◌, ◌++◌, map, length, get_or, drop, string_bytes, refl, sym, ap, ◌∙◌, append_assoc}
 use Rattle.std.proofs.lemmas.List.{map-append, at_drop_more}
-use Rattle.tp_syntax.specs.Symbols.{Name, typed_view}
-use Rattle.tp_syntax.specs.Actions as actions
-use Rattle.tp_syntax.specs.DomainViews.{action_view}
+use Rattle.tp_ast.specs.Symbols.{Name, typed_view}
+use Rattle.tp_ast.specs.Actions as actions
+use Rattle.tp_ast.specs.DomainViews.{action_view}
 use Rattle.tp_ast.specs.declared.action.Action.{Action}
 use Rattle.tp_ground.specs.Words.{Words}
 use Rattle.tp_ground.specs.Bindings.{Universe, bindings}

@@ -1,7 +1,7 @@
 -- What variables stand for, one binding after another.
 use Rattle.std.proofs.Common.{◌≡◌, List, [], ◌∷◌, ◌++◌, map, Bor, refl, ap, ◌∙◌}
 use Rattle.std.specs.List.{flat_map}
-use Rattle.tp_syntax.specs.Symbols.{Name, Declared, typed_view}
+use Rattle.tp_ast.specs.Symbols.{Name, Declared, typed_view}
 use Rattle.tp_ast.specs.declared.symbols.Typed.{Typed}
 use Rattle.tp_ground.specs.Views.{env_view}
 use Rattle.tp_ground.specs.declared.environment.Env as code

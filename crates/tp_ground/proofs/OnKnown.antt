@@ -4,7 +4,7 @@ use Rattle.std.specs.List.{list_all}
 use Rattle.std.specs.Str.{bytes_eq}
 use Rattle.std.proofs.lemmas.Bool.{and_from}
 use Rattle.std.proofs.lemmas.Slice.Eq.{bytes_eq-Decides}
-use Rattle.tp_syntax.specs.Symbols.{Name}
+use Rattle.tp_ast.specs.Symbols.{Name}
 use Rattle.tp_ground.specs.Words.{Words, same_words}
 use Rattle.tp_ground.specs.Bindings.{Universe, choices}
 use Rattle.tp_ground.specs.KnownChoices.{of_types, is_known}

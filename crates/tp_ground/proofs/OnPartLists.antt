@@ -2,13 +2,13 @@
 use Rattle.std.proofs.Common.{◌≡◌, List, [], ◌∷◌, ◌++◌, map, Bool, true, if◌then◌else◌, Vec, Box, Global, refl, sym, ap, ◌∙◌, rules}
 use Rattle.std.specs.List.{flat_map}
 use Rattle.std.proofs.lemmas.List.Concat.{flat_map-cons}
-use Rattle.tp_syntax.specs.Symbols.{Name, Declared, typed_view}
-use Rattle.tp_syntax.specs.Parts as specs
-use Rattle.tp_syntax.specs.Parts.{all_parts, for_each, parts}
-use Rattle.tp_syntax.specs.PartViews.{joined_view}
-use Rattle.tp_syntax.specs.Effects.{all_constraints, constraint, constraints_in}
-use Rattle.tp_syntax.specs.ExprViews.{expr_view}
-use Rattle.tp_syntax.specs.ConstraintViews.{constraint_view}
+use Rattle.tp_ast.specs.Symbols.{Name, Declared, typed_view}
+use Rattle.tp_ast.specs.Parts as specs
+use Rattle.tp_ast.specs.Parts.{all_parts, for_each, parts}
+use Rattle.tp_ast.specs.PartViews.{joined_view}
+use Rattle.tp_ast.specs.Effects.{all_constraints, constraint, constraints_in}
+use Rattle.tp_ast.specs.ExprViews.{expr_view}
+use Rattle.tp_ast.specs.ConstraintViews.{constraint_view}
 use Rattle.tp_ast.specs.declared.words.Comparison.{Comparison}
 use Rattle.tp_ast.specs.declared.expr.Expr.{Expr}
 use Rattle.tp_ast.specs.declared.symbols.Typed.{Typed}

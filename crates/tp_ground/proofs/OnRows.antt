@@ -4,7 +4,7 @@ use Rattle.std.proofs.Math.Nat.{mul-div_cancel_left, div-lt_iff_lt-mul, mod-lt}
 use Rattle.std.proofs.lemmas.Nat.{div-add-mod'}
 use Rattle.std.specs.List.{flat_map}
 use Rattle.std.proofs.lemmas.List.{map-append, length-map, take_all, drop_all, get_or_append_left, get_or-append-add, get_or-map, at_drop_more}
-use Rattle.tp_syntax.specs.Symbols.{Declared}
+use Rattle.tp_ast.specs.Symbols.{Declared}
 use Rattle.tp_ground.specs.Bindings.{Universe, choices, bindings}
 use Rattle.tp_ground.specs.Rows.{product, names_of, lists_of}
 

@@ -3,12 +3,12 @@ use Rattle.std.proofs.Common.{◌≡◌, ◌<◌, ◌≤◌, true, false, None, 
 use Rattle.std.specs.List.{AllByRecursion, IsDistinct, list_all}
 use Rattle.std.proofs.lemmas.Bool.{and_from}
 use Rattle.std.proofs.lemmas.List.{length-map, get_or-map}
-use Rattle.tp_syntax.specs.Symbols.{Name}
-use Rattle.tp_syntax.specs.Conditions.{Condition}
-use Rattle.tp_syntax.specs.Actions as actions
-use Rattle.tp_syntax.specs.Domains.{Domain}
-use Rattle.tp_syntax.specs.Problems.{Problem}
-use Rattle.tp_syntax.specs.DomainViews.{initial_view, action_view}
+use Rattle.tp_ast.specs.Symbols.{Name}
+use Rattle.tp_ast.specs.Conditions.{Condition}
+use Rattle.tp_ast.specs.Actions as actions
+use Rattle.tp_ast.specs.Domains.{Domain}
+use Rattle.tp_ast.specs.Problems.{Problem}
+use Rattle.tp_ast.specs.DomainViews.{initial_view, action_view}
 use Rattle.tp_ast.specs.declared.action.Action.{Action}
 use Rattle.tp_ast.specs.declared.problem.Initial.{Initial}
 use Rattle.tp_bounds.specs.RunLimits.{RunLimits}

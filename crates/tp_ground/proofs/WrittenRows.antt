@@ -1,13 +1,13 @@
 -- The match domain's 'light-match' with the match m1, written out by computation; and quantifiers over its objects.
 use Rattle.std.proofs.Common.{◌≡◌, List, [], ◌∷◌, pos, refl}
 use Rattle.std.specs.Prelude.{codes}
-use Rattle.tp_syntax.specs.Terms.{Argument, object, variable, Fact}
-use Rattle.tp_syntax.specs.Symbols.{Name, Declared}
-use Rattle.tp_syntax.specs.Expressions as expressions
-use Rattle.tp_syntax.specs.Conditions as conditions
-use Rattle.tp_syntax.specs.Parts.{all_parts, part, no_parts, one}
-use Rattle.tp_syntax.specs.Effects as effects
-use Rattle.tp_syntax.specs.Actions as actions
+use Rattle.tp_ast.specs.Terms.{Argument, object, variable, Fact}
+use Rattle.tp_ast.specs.Symbols.{Name, Declared}
+use Rattle.tp_ast.specs.Expressions as expressions
+use Rattle.tp_ast.specs.Conditions as conditions
+use Rattle.tp_ast.specs.Parts.{all_parts, part, no_parts, one}
+use Rattle.tp_ast.specs.Effects as effects
+use Rattle.tp_ast.specs.Actions as actions
 use Rattle.tp_ast.specs.declared.words.Comparison.TheVariants as comparisons
 use Rattle.tp_ast.specs.declared.words.TimeSpecifier.TheVariants.{AtStart, AtEnd}
 use Rattle.tp_ground.specs.declared.events.Comparison.TheVariants.{Equal}

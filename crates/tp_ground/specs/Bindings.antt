@@ -2,8 +2,8 @@
 use Rattle.std.specs.Prelude.{Bool, List, [], ◌∷◌, length, nat_eq, map, filter, if◌then◌else◌, Option, Some, None, unwrap_or}
 use Rattle.std.specs.List.{flat_map}
 use Rattle.std.specs.Str.{bytes_eq}
-use Rattle.tp_syntax.specs.Terms.{Argument, object, variable, Fact}
-use Rattle.tp_syntax.specs.Symbols.{Name, Declared, Parent, types_fit}
+use Rattle.tp_ast.specs.Terms.{Argument, object, variable, Fact}
+use Rattle.tp_ast.specs.Symbols.{Name, Declared, Parent, types_fit}
 use Rattle.tp_ground.specs.Words.{Words}
 
 -- the types, and all objects: the domain's constants, then the problem's objects

@@ -1,17 +1,17 @@
 -- Numbers past 10^15 in absolute value, in a domain's actions and in a problem.
 use Rattle.std.specs.Prelude.{Bool, false, ◌||◌, ℤ, nat_lt, unsigned_abs}
 use Rattle.std.specs.List.{list_any}
-use Rattle.tp_syntax.specs.Expressions as expressions
-use Rattle.tp_syntax.specs.Expressions.{Expression}
-use Rattle.tp_syntax.specs.Conditions as conditions
-use Rattle.tp_syntax.specs.Conditions.{Condition, Conditions}
-use Rattle.tp_syntax.specs.Parts.{Joined, Parts, all_parts, for_each, one, no_parts, part}
-use Rattle.tp_syntax.specs.Effects as effects
-use Rattle.tp_syntax.specs.Effects.{SimpleEffect, Effect, Timed, Constraint, Constraints, all_constraints, no_constraints, more_constraints}
-use Rattle.tp_syntax.specs.Actions as actions
-use Rattle.tp_syntax.specs.Domains.{Domain}
-use Rattle.tp_syntax.specs.Problems as problems
-use Rattle.tp_syntax.specs.Problems.{Initial, Problem}
+use Rattle.tp_ast.specs.Expressions as expressions
+use Rattle.tp_ast.specs.Expressions.{Expression}
+use Rattle.tp_ast.specs.Conditions as conditions
+use Rattle.tp_ast.specs.Conditions.{Condition, Conditions}
+use Rattle.tp_ast.specs.Parts.{Joined, Parts, all_parts, for_each, one, no_parts, part}
+use Rattle.tp_ast.specs.Effects as effects
+use Rattle.tp_ast.specs.Effects.{SimpleEffect, Effect, Timed, Constraint, Constraints, all_constraints, no_constraints, more_constraints}
+use Rattle.tp_ast.specs.Actions as actions
+use Rattle.tp_ast.specs.Domains.{Domain}
+use Rattle.tp_ast.specs.Problems as problems
+use Rattle.tp_ast.specs.Problems.{Initial, Problem}
 
 abbrev pub is_great : ℤ → Bool
 is_great n = nat_lt 1000000000000000 (unsigned_abs n)

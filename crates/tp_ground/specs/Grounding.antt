@@ -1,10 +1,10 @@
 -- The task of a problem.
 use Rattle.std.specs.Prelude.{◌≡◌, ◌<◌, true, List, [], ◌∷◌, ◌++◌, map, length}
 use Rattle.std.specs.List.{flat_map}
-use Rattle.tp_syntax.specs.Symbols.{Name}
-use Rattle.tp_syntax.specs.Actions.{Action}
-use Rattle.tp_syntax.specs.Domains.{Domain}
-use Rattle.tp_syntax.specs.Problems.{Problem}
+use Rattle.tp_ast.specs.Symbols.{Name}
+use Rattle.tp_ast.specs.Actions.{Action}
+use Rattle.tp_ast.specs.Domains.{Domain}
+use Rattle.tp_ast.specs.Problems.{Problem}
 use Rattle.tp_bounds.specs.RunLimits.{RunLimits}
 use Rattle.tp_text.specs.declared.number.Scale.{Scale}
 use Rattle.tp_ground.specs.Words.{firsts}

@@ -1,7 +1,7 @@
 -- What is true, and which values there are, at first.
 use Rattle.std.specs.Prelude.{ℕ, Bool, false, ◌||◌, ◌==◌, List, [], ◌∷◌, if◌then◌else◌, Option, Some, None, ℤ}
-use Rattle.tp_syntax.specs.Problems as problems
-use Rattle.tp_syntax.specs.Problems.{Initial}
+use Rattle.tp_ast.specs.Problems as problems
+use Rattle.tp_ast.specs.Problems.{Initial}
 use Rattle.tp_ground.specs.Words.{Words, same_words}
 use Rattle.tp_ground.specs.Bindings.{words_in}
 use Rattle.tp_ground.specs.Tables.{Tables, words_at}

@@ -28,6 +28,6 @@ pub mod WrittenTasks
 pub mod OwnNames
 pub mod Readable
 pub mod Rows
-pub use Rattle.tp_syntax.specs.Terms
-pub use Rattle.tp_syntax.specs.Domains
-pub use Rattle.tp_syntax.specs.Problems
+pub use Rattle.tp_ast.specs.Terms
+pub use Rattle.tp_ast.specs.Domains
+pub use Rattle.tp_ast.specs.Problems

@@ -1,9 +1,9 @@
 -- The atoms and the fluents that are mentioned, in order of mention.
 use Rattle.std.specs.Prelude.{List, [], ◌∷◌, ◌++◌}
-use Rattle.tp_syntax.specs.Conditions.{Condition}
-use Rattle.tp_syntax.specs.Parts.{Joined}
-use Rattle.tp_syntax.specs.Effects.{Effect, Timed, Constraint}
-use Rattle.tp_syntax.specs.Actions as actions
+use Rattle.tp_ast.specs.Conditions.{Condition}
+use Rattle.tp_ast.specs.Parts.{Joined}
+use Rattle.tp_ast.specs.Effects.{Effect, Timed, Constraint}
+use Rattle.tp_ast.specs.Actions as actions
 use Rattle.tp_ast.specs.declared.words.TimeSpecifier.TheVariants.{AtStart, OverAll, AtEnd}
 use Rattle.tp_ground.specs.Words.{Words}
 use Rattle.tp_ground.specs.Bindings.{Universe, Env}

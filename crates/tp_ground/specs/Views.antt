@@ -1,7 +1,7 @@
 -- What a `Universe` and an `Env` show.
 use Rattle.std.specs.Prelude.{[], ◌++◌, map}
-use Rattle.tp_syntax.specs.Symbols.{typed_view}
-use Rattle.tp_syntax.specs.TypeViews.{types_view}
+use Rattle.tp_ast.specs.Symbols.{typed_view}
+use Rattle.tp_types.specs.TypeViews.{types_view}
 use Rattle.tp_ground.specs.Bindings as bindings
 use Rattle.tp_ground.specs.Bindings.{bound}
 use Rattle.tp_ground.specs.declared.objects.Universe.{Universe}

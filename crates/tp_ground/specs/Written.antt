@@ -3,16 +3,16 @@
 use Rattle.std.specs.Prelude.{ℕ, List, [], ◌∷◌, ◌++◌, map, Bool, ◌==◌, if◌then◌else◌, ℤ}
 use Rattle.std.specs.List.{flat_map}
 use Rattle.std.specs.Str.{bytes_eq}
-use Rattle.tp_syntax.specs.Terms.{Argument}
-use Rattle.tp_syntax.specs.Symbols.{Declared}
-use Rattle.tp_syntax.specs.Expressions as expressions
-use Rattle.tp_syntax.specs.Expressions.{Expression}
-use Rattle.tp_syntax.specs.Conditions as conditions
-use Rattle.tp_syntax.specs.Conditions.{Condition, Conditions}
-use Rattle.tp_syntax.specs.Parts.{Joined, Parts, all_parts, for_each, one, no_parts, part}
-use Rattle.tp_syntax.specs.Effects as effects
-use Rattle.tp_syntax.specs.Effects.{SimpleEffect, Effect, Timed, Constraint, Constraints, all_constraints, no_constraints, more_constraints}
-use Rattle.tp_syntax.specs.Actions as actions
+use Rattle.tp_ast.specs.Terms.{Argument}
+use Rattle.tp_ast.specs.Symbols.{Declared}
+use Rattle.tp_ast.specs.Expressions as expressions
+use Rattle.tp_ast.specs.Expressions.{Expression}
+use Rattle.tp_ast.specs.Conditions as conditions
+use Rattle.tp_ast.specs.Conditions.{Condition, Conditions}
+use Rattle.tp_ast.specs.Parts.{Joined, Parts, all_parts, for_each, one, no_parts, part}
+use Rattle.tp_ast.specs.Effects as effects
+use Rattle.tp_ast.specs.Effects.{SimpleEffect, Effect, Timed, Constraint, Constraints, all_constraints, no_constraints, more_constraints}
+use Rattle.tp_ast.specs.Actions as actions
 use Rattle.tp_ast.specs.declared.words.Comparison as syntax
 use Rattle.tp_ast.specs.declared.words.Comparison.TheVariants as comparisons
 use Rattle.tp_ast.specs.declared.words.Writing.{Writing}

@@ -1,8 +1,8 @@
 -- What is written out of a problem before its task is made.
 use Rattle.std.specs.Prelude.{◌≡◌, ℕ, ◌<◌, List, [], map, length, false, None, slice_index_or}
-use Rattle.tp_syntax.specs.Conditions.{Condition}
-use Rattle.tp_syntax.specs.Actions.{Action}
-use Rattle.tp_syntax.specs.Problems.{Initial}
+use Rattle.tp_ast.specs.Conditions.{Condition}
+use Rattle.tp_ast.specs.Actions.{Action}
+use Rattle.tp_ast.specs.Problems.{Initial}
 use Rattle.tp_bounds.specs.RunLimits.{RunLimits}
 use Rattle.tp_text.specs.declared.number.Scale.{Scale}
 use Rattle.tp_ground.specs.Bindings.{Universe}

@@ -1,7 +1,7 @@
 //! What a problem says of its initial state, by number.
 
 ghost use Rattle.std.specs.Prelude.{◌≡◌, ℕ, ◌<◌, ◌||◌, length, map, slice_index_or, false, None, IfOk};
-ghost use Rattle.tp_syntax.specs.DomainViews.{initial_view};
+ghost use Rattle.tp_ast.specs.DomainViews.{initial_view};
 ghost use Rattle.tp_ground.specs.Initially.{or_else, true_at, value_at, initial_in, named_initial, of_initial};
 ghost use Rattle.tp_ground.specs.Mentions.{of_each};
 ghost use Rattle.tp_ground.specs.Lowered.{Lowers};
@@ -11,7 +11,7 @@ use crate::fault::GroundFault;
 use crate::lowering::{atom, fluent};
 use crate::numbering::Numbering;
 use std::alloc::{AllocError, Global};
-use tp_syntax::Initial;
+use tp_ast::problem::Initial;
 
 /// What one entry of `:init` says, by number.
 #[derive(Clone, Copy)]

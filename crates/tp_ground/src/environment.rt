@@ -1,14 +1,15 @@
 //! What variables stand for.
 
 ghost use Rattle.std.specs.Prelude.{◌≡◌, option_map, map, IfOk};
-ghost use Rattle.tp_syntax.specs.Terms.{term_view, atom_view};
-ghost use Rattle.tp_syntax.specs.Symbols.{typed_view};
+ghost use Rattle.tp_ast.specs.Terms.{term_view, atom_view};
+ghost use Rattle.tp_ast.specs.Symbols.{typed_view};
 ghost use Rattle.tp_ground.specs.Bindings.{bound, object_among, object_for, words_in};
 ghost use Rattle.tp_ground.specs.Views.{env_view};
 
 use smallvec::SmallVec;
 use std::alloc::{AllocError, Global};
-use tp_syntax::{Atom, Term, Typed};
+use tp_ast::symbols::Typed;
+use tp_ast::term::{Atom, Term};
 
 /// What variables stand for. An inner one hides an outer one of the same name.
 #[derive(Clone, Copy)]

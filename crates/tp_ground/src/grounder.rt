@@ -2,9 +2,9 @@
 
 ghost use Rattle.std.specs.Prelude.{◌≡◌, ◌≤◌, ◌<◌, ◌++◌, ℕ, true, None, map, length, nat_lt, slice_index_or, false, IfOk, IfErr, OnOk};
 ghost use Rattle.std.specs.List.{list_all};
-ghost use Rattle.tp_syntax.specs.Symbols.{typed_view};
-ghost use Rattle.tp_syntax.specs.CondViews.{cond_view};
-ghost use Rattle.tp_syntax.specs.DomainViews.{initial_view, action_view, domain_view, problem_view};
+ghost use Rattle.tp_ast.specs.Symbols.{typed_view};
+ghost use Rattle.tp_ast.specs.CondViews.{cond_view};
+ghost use Rattle.tp_ast.specs.DomainViews.{initial_view, action_view, domain_view, problem_view};
 ghost use Rattle.tp_bounds.specs.RunLimits.{RunLimits};
 ghost use Rattle.tp_ground.specs.Great.{has_great_number};
 ghost use Rattle.tp_ground.specs.Fits.{body_fits};
@@ -31,9 +31,13 @@ use crate::universe::Universe;
 use crate::{Body, Cond};
 use indexmap::IndexMap;
 use std::alloc::{AllocError, Global};
+use tp_ast::action::Action;
+use tp_ast::domain::Domain;
+use tp_ast::problem::{Initial, Problem};
+use tp_ast::symbols::Typed;
 use tp_bounds::Limits;
-use tp_syntax::{Action, Domain, Initial, Problem, Typed, Types};
 use tp_text::Scale;
+use tp_types::types::Types;
 
 /// The most objects that a problem may have.
 const MOST_OBJECTS: usize = 65_535;
@@ -131,7 +135,7 @@ fn lower(
     universe: &Universe,
     numbering: &mut Numbering,
     initial: &[Initial],
-    goal: &tp_syntax::Cond,
+    goal: &tp_ast::cond::Cond,
     actions: &[Action],
 ) -> Result<LoweredTask, GroundFault>
     ensures { Lowers named_task numbering.old result numbering.new

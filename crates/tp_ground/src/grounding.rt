@@ -1,8 +1,8 @@
 //! All ground actions of a problem.
 
 ghost use Rattle.std.specs.Prelude.{◌≡◌, ◌++◌, ◌∷◌, map, length, nat_le, OnOk, string_bytes};
-ghost use Rattle.tp_syntax.specs.Symbols.{typed_view};
-ghost use Rattle.tp_syntax.specs.DomainViews.{action_view, body_view};
+ghost use Rattle.tp_ast.specs.Symbols.{typed_view};
+ghost use Rattle.tp_ast.specs.DomainViews.{action_view, body_view};
 ghost use Rattle.tp_ground.specs.Views.{universe_view};
 ghost use Rattle.tp_ground.specs.Bindings.{bound, bindings};
 ghost use Rattle.tp_ground.specs.Written.{body_in};
@@ -20,7 +20,8 @@ use crate::numbering::Numbering;
 use crate::rows::{Rows, rows_of};
 use crate::universe::{Universe, count_bindings, with_first};
 use std::alloc::{AllocError, Global};
-use tp_syntax::{Action, Typed};
+use tp_ast::action::Action;
+use tp_ast::symbols::Typed;
 
 /// Whether all actions together have no more bindings than so many.
 pub fn actions_fit(universe: &Universe, actions: &[Action], most: u32) -> bool
@@ -84,7 +85,7 @@ fn bodies(
     universe: &Universe,
     numbering: &mut Numbering,
     parameters: &[Typed],
-    written: &tp_syntax::Body,
+    written: &tp_ast::action::Body,
 ) -> Result<Vec<Body>, GroundFault>
     ensures { Lowers (λ t v. map (named_body t) v.items) numbering.old result numbering.new
         (map (λ objects. body_in (universe_view universe.now)

@@ -38,4 +38,3 @@ pub use numbering::Numbering;
 pub use numbers::{GREATEST_NUMBER, has_great_number};
 pub use task::{ActionId, AtomId, FluentId, Task};
 pub use tp_bounds::MOST_STEPS;
-pub use tp_syntax::is_name;

@@ -5,7 +5,12 @@ ghost use Rattle.tp_ground.specs.Views.{universe_view};
 
 use crate::universe::{Universe, note};
 use std::alloc::{AllocError, Global};
-use tp_syntax::{Action, Body, Cond, Effect, Joined, SimpleEffect, Timed, Typed};
+use tp_ast::action::{Action, Body};
+use tp_ast::cond::Cond;
+use tp_ast::effect::{Effect, SimpleEffect};
+use tp_ast::joined::Joined;
+use tp_ast::symbols::Typed;
+use tp_ast::timed::Timed;
 
 fn note_variables<'a>(
     alloc: Global,

@@ -2,20 +2,25 @@
 
 ghost use Rattle.std.specs.Prelude.{◌≡◌, Bool};
 ghost use Rattle.std.specs.List.{list_any};
-ghost use Rattle.tp_syntax.specs.ExprViews.{expr_view};
-ghost use Rattle.tp_syntax.specs.CondViews.{cond_view};
-ghost use Rattle.tp_syntax.specs.PartViews.{joined_view};
-ghost use Rattle.tp_syntax.specs.EffectViews.{simple_effect_view, effect_view, timed_view, timed_condition_view, timed_effect_view};
-ghost use Rattle.tp_syntax.specs.ConstraintViews.{constraint_view};
-ghost use Rattle.tp_syntax.specs.DomainViews.{body_view, action_view, initial_view, domain_view, problem_view};
-ghost use Rattle.tp_syntax.specs.Conditions.{Condition};
-ghost use Rattle.tp_syntax.specs.Effects;
+ghost use Rattle.tp_ast.specs.ExprViews.{expr_view};
+ghost use Rattle.tp_ast.specs.CondViews.{cond_view};
+ghost use Rattle.tp_ast.specs.PartViews.{joined_view};
+ghost use Rattle.tp_ast.specs.EffectViews.{simple_effect_view, effect_view, timed_view, timed_condition_view, timed_effect_view};
+ghost use Rattle.tp_ast.specs.ConstraintViews.{constraint_view};
+ghost use Rattle.tp_ast.specs.DomainViews.{body_view, action_view, initial_view, domain_view, problem_view};
+ghost use Rattle.tp_ast.specs.Conditions.{Condition};
+ghost use Rattle.tp_ast.specs.Effects;
 ghost use Rattle.tp_ground.specs.Great.{is_great, great_expression, great_condition, great_part, great_simple_effect, great_effect, great_timed, great_constraint, great_body, great_initial, has_great_number};
 
-use tp_syntax::{
-    Action, Body, Cond, Domain, DurationConstraint, Effect, Expr, Initial, Joined, Problem,
-    SimpleEffect, Timed,
-};
+use tp_ast::action::{Action, Body};
+use tp_ast::cond::Cond;
+use tp_ast::constraint::DurationConstraint;
+use tp_ast::domain::Domain;
+use tp_ast::effect::{Effect, SimpleEffect};
+use tp_ast::expr::Expr;
+use tp_ast::joined::Joined;
+use tp_ast::problem::{Initial, Problem};
+use tp_ast::timed::Timed;
 
 /// The greatest magnitude of a number, 10^15.
 pub const GREATEST_NUMBER: u64 = 1_000_000_000_000_000;

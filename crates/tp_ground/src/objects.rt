@@ -2,12 +2,13 @@
 
 ghost use Rattle.std.specs.Prelude.{◌≡◌, ◌++◌, true, map};
 ghost use Rattle.std.specs.List.{list_all};
-ghost use Rattle.tp_syntax.specs.Symbols.{typed_view};
-ghost use Rattle.tp_syntax.specs.TypeViews.{types_view};
+ghost use Rattle.tp_ast.specs.Symbols.{typed_view};
+ghost use Rattle.tp_types.specs.TypeViews.{types_view};
 ghost use Rattle.tp_ground.specs.KnownChoices.{is_known};
 
 use indexmap::IndexMap;
-use tp_syntax::{Typed, Types};
+use tp_ast::symbols::Typed;
+use tp_types::types::Types;
 
 /// The types, and all objects: the domain's constants, then the problem's objects.
 #[derive(Drop)]

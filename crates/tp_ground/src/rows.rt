@@ -1,14 +1,14 @@
 //! The bindings of variables, one at a time.
 
 ghost use Rattle.std.specs.Prelude.{◌≡◌, ◌<◌, [], map, length, slice_index_or, IfOk};
-ghost use Rattle.tp_syntax.specs.Symbols.{typed_view};
+ghost use Rattle.tp_ast.specs.Symbols.{typed_view};
 ghost use Rattle.tp_ground.specs.Bindings.{choices, bindings};
 ghost use Rattle.tp_ground.specs.Views.{universe_view};
 ghost use Rattle.tp_ground.specs.Rows.{product, lists_of};
 
 use crate::universe::{Universe, choices, count_bindings};
 use std::alloc::{AllocError, Global};
-use tp_syntax::Typed;
+use tp_ast::symbols::Typed;
 
 /// The names that each variable may stand for, how many bindings they have, and one of those.
 #[derive(Drop)]

@@ -2,8 +2,8 @@
 
 ghost use Rattle.std.specs.Prelude.{◌≡◌, ◌≤◌, ◌<◌, ◌++◌, ◌∷◌, [], true, map, length, filter, IfOk, OnOk, IfSome, MatchOption, string_bytes};
 ghost use Rattle.std.specs.List.{list_any, list_all};
-ghost use Rattle.tp_syntax.specs.Symbols.{typed_view, types_fit};
-ghost use Rattle.tp_syntax.specs.TypeViews.{types_view};
+ghost use Rattle.tp_ast.specs.Symbols.{typed_view, types_fit};
+ghost use Rattle.tp_types.specs.TypeViews.{types_view};
 ghost use Rattle.tp_ground.specs.Bindings.{fitting, choices, has_no_choice, bindings};
 ghost use Rattle.tp_ground.specs.Bindings as bindings;
 ghost use Rattle.tp_ground.specs.Words.{same_words};
@@ -14,7 +14,8 @@ use crate::objects::Known;
 pub use crate::objects::Universe;
 use indexmap::IndexMap;
 use std::alloc::{AllocError, Global};
-use tp_syntax::{Typed, Types, types_fit};
+use tp_ast::symbols::Typed;
+use tp_types::types::{Types, types_fit};
 
 // Whether two lists of types are the same.
 fn are_same(left: &[String], right: &[String]) -> bool

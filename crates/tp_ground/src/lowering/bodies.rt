@@ -1,11 +1,11 @@
 //! The bodies of actions.
 
 ghost use Rattle.std.specs.Prelude.{◌≡◌, [], map, IfOk};
-ghost use Rattle.tp_syntax.specs.CondViews.{cond_view};
-ghost use Rattle.tp_syntax.specs.ConstraintViews.{constraint_view};
-ghost use Rattle.tp_syntax.specs.EffectViews.{effect_view, timed_condition_view, timed_effect_view};
-ghost use Rattle.tp_syntax.specs.DomainViews.{body_view};
-ghost use Rattle.tp_syntax.specs.Actions.{durative};
+ghost use Rattle.tp_ast.specs.CondViews.{cond_view};
+ghost use Rattle.tp_ast.specs.ConstraintViews.{constraint_view};
+ghost use Rattle.tp_ast.specs.EffectViews.{effect_view, timed_condition_view, timed_effect_view};
+ghost use Rattle.tp_ast.specs.DomainViews.{body_view};
+ghost use Rattle.tp_ast.specs.Actions.{durative};
 ghost use Rattle.tp_ground.specs.Views.{env_view, universe_view};
 ghost use Rattle.tp_ground.specs.Tables.{Tables};
 ghost use Rattle.tp_ground.specs.Written.{happening, condition_at, start_in, end_in, instant_in, body_in};
@@ -25,8 +25,11 @@ use crate::numbering::Numbering;
 use crate::universe::Universe;
 use crate::{Body, Cond, GroundEvent, Limit, NumericEffect};
 use std::alloc::{AllocError, Global};
-use tp_syntax::TimeSpecifier::{AtEnd, AtStart, OverAll};
-use tp_syntax::{DurationConstraint, Effect, TimeSpecifier, TimedCond, TimedEffect};
+use tp_ast::constraint::DurationConstraint;
+use tp_ast::effect::Effect;
+use tp_ast::timed::{TimedCond, TimedEffect};
+use tp_ast::words::TimeSpecifier;
+use tp_ast::words::TimeSpecifier::{AtEnd, AtStart, OverAll};
 
 // The adds, the deletes and the writes among simple effects.
 struct Changes {
@@ -143,7 +146,7 @@ fn instant(
     universe: &Universe,
     env: &Env,
     numbering: &mut Numbering,
-    precondition: &tp_syntax::Cond,
+    precondition: &tp_ast::cond::Cond,
     effect: &Effect,
 ) -> Result<GroundEvent, GroundFault>
     ensures { Lowers named_event numbering.old result numbering.new
@@ -217,21 +220,21 @@ pub fn body(
     universe: &Universe,
     env: &Env,
     numbering: &mut Numbering,
-    body: &tp_syntax::Body,
+    body: &tp_ast::action::Body,
 ) -> Result<Body, GroundFault>
     ensures { Lowers named_body numbering.old result numbering.new
         (body_in (universe_view universe.now) (env_view env.now) (body_view body.now))
         (of_body (universe_view universe.now) (env_view env.now) (body_view body.now)) }
 {
     match body {
-        tp_syntax::Body::Instant {
+        tp_ast::action::Body::Instant {
             precondition,
             effect,
         } => {
             let event = instant(alloc, universe, env, numbering, precondition, effect)?;
             Ok(Body::Instant(event))
         }
-        tp_syntax::Body::Durative {
+        tp_ast::action::Body::Durative {
             duration,
             condition,
             effect,

@@ -1,10 +1,10 @@
 //! Conditions.
 
 ghost use Rattle.std.specs.Prelude.{◌≡◌, map, IfOk};
-ghost use Rattle.tp_syntax.specs.Terms.{atom_view, term_view};
-ghost use Rattle.tp_syntax.specs.Symbols.{typed_view};
-ghost use Rattle.tp_syntax.specs.ExprViews.{expr_view};
-ghost use Rattle.tp_syntax.specs.CondViews.{cond_view};
+ghost use Rattle.tp_ast.specs.Terms.{atom_view, term_view};
+ghost use Rattle.tp_ast.specs.Symbols.{typed_view};
+ghost use Rattle.tp_ast.specs.ExprViews.{expr_view};
+ghost use Rattle.tp_ast.specs.CondViews.{cond_view};
 ghost use Rattle.tp_ground.specs.Bindings.{words_in};
 ghost use Rattle.tp_ground.specs.Views.{env_view, universe_view};
 ghost use Rattle.tp_ground.specs.Tables.{Tables, words_at};
@@ -22,7 +22,10 @@ use crate::numbering::Numbering;
 use crate::rows::rows_of;
 use crate::universe::Universe;
 use std::alloc::{AllocError, Global};
-use tp_syntax::{Atom, Comparison, Expr, Term, Typed};
+use tp_ast::expr::Expr;
+use tp_ast::symbols::Typed;
+use tp_ast::term::{Atom, Term};
+use tp_ast::words::Comparison;
 
 /// The number of an atom.
 pub fn atom(
@@ -99,7 +102,7 @@ fn conditions(
     universe: &Universe,
     env: &Env,
     numbering: &mut Numbering,
-    conds: &[tp_syntax::Cond],
+    conds: &[tp_ast::cond::Cond],
 ) -> Result<Vec<Cond>, GroundFault>
     ensures { Lowers (λ t v. map (named_condition t) v.items) numbering.old result numbering.new
         (map (λ c. condition_in (universe_view universe.now) (env_view env.now) (cond_view c))
@@ -121,7 +124,7 @@ fn under_each(
     env: &Env,
     numbering: &mut Numbering,
     variables: &[Typed],
-    cond: &tp_syntax::Cond,
+    cond: &tp_ast::cond::Cond,
 ) -> Result<Vec<Cond>, GroundFault>
     ensures { Lowers (λ t v. map (named_condition t) v.items) numbering.old result numbering.new
         (map (λ e. condition_in (universe_view universe.now) e (cond_view cond.now))
@@ -146,7 +149,7 @@ fn negated(
     universe: &Universe,
     env: &Env,
     numbering: &mut Numbering,
-    cond: &tp_syntax::Cond,
+    cond: &tp_ast::cond::Cond,
 ) -> Result<Cond, GroundFault>
     ensures { Lowers named_condition numbering.old result numbering.new (negation (condition_in
         (universe_view universe.now) (env_view env.now) (cond_view cond.now))) (of_condition
@@ -162,7 +165,7 @@ fn conjunction(
     universe: &Universe,
     env: &Env,
     numbering: &mut Numbering,
-    conds: &[tp_syntax::Cond],
+    conds: &[tp_ast::cond::Cond],
 ) -> Result<Cond, GroundFault>
     ensures { Lowers named_condition numbering.old result numbering.new
         (all_of (conditions_from (map (λ c.
@@ -179,7 +182,7 @@ fn disjunction(
     universe: &Universe,
     env: &Env,
     numbering: &mut Numbering,
-    conds: &[tp_syntax::Cond],
+    conds: &[tp_ast::cond::Cond],
 ) -> Result<Cond, GroundFault>
     ensures { Lowers named_condition numbering.old result numbering.new
         (any_of (conditions_from (map (λ c.
@@ -197,7 +200,7 @@ fn for_all(
     env: &Env,
     numbering: &mut Numbering,
     variables: &[Typed],
-    cond: &tp_syntax::Cond,
+    cond: &tp_ast::cond::Cond,
 ) -> Result<Cond, GroundFault>
     ensures { Lowers named_condition numbering.old result numbering.new (all_of (conditions_from
         (map (λ e. condition_in (universe_view universe.now) e (cond_view cond.now))
@@ -216,7 +219,7 @@ fn for_some(
     env: &Env,
     numbering: &mut Numbering,
     variables: &[Typed],
-    cond: &tp_syntax::Cond,
+    cond: &tp_ast::cond::Cond,
 ) -> Result<Cond, GroundFault>
     ensures { Lowers named_condition numbering.old result numbering.new (any_of (conditions_from
         (map (λ e. condition_in (universe_view universe.now) e (cond_view cond.now))
@@ -235,30 +238,30 @@ pub fn condition(
     universe: &Universe,
     env: &Env,
     numbering: &mut Numbering,
-    cond: &tp_syntax::Cond,
+    cond: &tp_ast::cond::Cond,
 ) -> Result<Cond, GroundFault>
     ensures { Lowers named_condition numbering.old result numbering.new (condition_in
         (universe_view universe.now) (env_view env.now) (cond_view cond.now)) (of_condition
         (condition_in (universe_view universe.now) (env_view env.now) (cond_view cond.now))) }
 {
     match cond {
-        tp_syntax::Cond::And(conds) => conjunction(alloc, universe, env, numbering, conds),
-        tp_syntax::Cond::Or(conds) => disjunction(alloc, universe, env, numbering, conds),
-        tp_syntax::Cond::Not(inner) => negated(alloc, universe, env, numbering, inner),
-        tp_syntax::Cond::Imply(a, b) => {
+        tp_ast::cond::Cond::And(conds) => conjunction(alloc, universe, env, numbering, conds),
+        tp_ast::cond::Cond::Or(conds) => disjunction(alloc, universe, env, numbering, conds),
+        tp_ast::cond::Cond::Not(inner) => negated(alloc, universe, env, numbering, inner),
+        tp_ast::cond::Cond::Imply(a, b) => {
             let first = negated(alloc, universe, env, numbering, a)?;
             let second = condition(alloc, universe, env, numbering, b)?;
             Ok(either(alloc, first, second)?)
         }
-        tp_syntax::Cond::Forall(variables, inner) => {
+        tp_ast::cond::Cond::Forall(variables, inner) => {
             for_all(alloc, universe, env, numbering, variables, inner)
         }
-        tp_syntax::Cond::Exists(variables, inner) => {
+        tp_ast::cond::Cond::Exists(variables, inner) => {
             for_some(alloc, universe, env, numbering, variables, inner)
         }
-        tp_syntax::Cond::Atom(a) => fact(alloc, env, numbering, a),
-        tp_syntax::Cond::Same(a, b) => Ok(same(alloc, env, a, b)),
-        tp_syntax::Cond::Compare(comparison, a, b) => {
+        tp_ast::cond::Cond::Atom(a) => fact(alloc, env, numbering, a),
+        tp_ast::cond::Cond::Same(a, b) => Ok(same(alloc, env, a, b)),
+        tp_ast::cond::Cond::Compare(comparison, a, b) => {
             compared(alloc, env, numbering, *comparison, a, b)
         }
     }

@@ -2,7 +2,7 @@
 
 ghost use Rattle.std.specs.Prelude.{◌≡◌, map};
 ghost use Rattle.std.specs.List.{flat_map};
-ghost use Rattle.tp_syntax.specs.ConstraintViews.{constraint_view};
+ghost use Rattle.tp_ast.specs.ConstraintViews.{constraint_view};
 ghost use Rattle.tp_ground.specs.Views.{env_view};
 ghost use Rattle.tp_ground.specs.Written.{limits_in};
 ghost use Rattle.tp_ground.specs.Mentions.{of_limit, of_each};
@@ -15,7 +15,7 @@ use crate::fault::GroundFault;
 use crate::lowering::expressions::{comparison_of, expression};
 use crate::numbering::Numbering;
 use std::alloc::Global;
-use tp_syntax::DurationConstraint;
+use tp_ast::constraint::DurationConstraint;
 
 #[cycle(limits)]
 fn all_limits(

@@ -1,13 +1,13 @@
 //! Effects, and the parts of a durative action at its time specifiers.
 
 ghost use Rattle.std.specs.Prelude.{◌≡◌, ◌∷◌, [], map};
-ghost use Rattle.tp_syntax.specs.Terms.{atom_view};
-ghost use Rattle.tp_syntax.specs.ExprViews.{expr_view};
-ghost use Rattle.tp_syntax.specs.CondViews.{cond_view};
-ghost use Rattle.tp_syntax.specs.EffectViews.{simple_effect_view, effect_view, timed_view};
-ghost use Rattle.tp_syntax.specs.Conditions.{Condition};
-ghost use Rattle.tp_syntax.specs.Effects;
-ghost use Rattle.tp_syntax.specs.Effects.{writes};
+ghost use Rattle.tp_ast.specs.Terms.{atom_view};
+ghost use Rattle.tp_ast.specs.ExprViews.{expr_view};
+ghost use Rattle.tp_ast.specs.CondViews.{cond_view};
+ghost use Rattle.tp_ast.specs.EffectViews.{simple_effect_view, effect_view, timed_view};
+ghost use Rattle.tp_ast.specs.Conditions.{Condition};
+ghost use Rattle.tp_ast.specs.Effects;
+ghost use Rattle.tp_ast.specs.Effects.{writes};
 ghost use Rattle.tp_ground.specs.Views.{env_view, universe_view};
 ghost use Rattle.tp_ground.specs.Written.{GroundCondition, GroundEffect, simple_effect_in, condition_in, change_of, is_specifier, simple_effect_part, condition_part, simple_effects_part};
 ghost use Rattle.tp_ground.specs.Mentions.{of_simple_effect, of_condition, of_each};
@@ -24,7 +24,11 @@ use crate::numbering::Numbering;
 use crate::universe::Universe;
 use crate::{Change, Cond, NumericEffect};
 use std::alloc::Global;
-use tp_syntax::{Atom, Effect, Expr, SimpleEffect, TimeSpecifier, Timed, Writing};
+use tp_ast::effect::{Effect, SimpleEffect};
+use tp_ast::expr::Expr;
+use tp_ast::term::Atom;
+use tp_ast::timed::Timed;
+use tp_ast::words::{TimeSpecifier, Writing};
 
 /// One change over numbers.
 #[derive(Drop)]
@@ -109,7 +113,7 @@ fn conjunct(
     universe: &Universe,
     env: &Env,
     numbering: &mut Numbering,
-    cond: &tp_syntax::Cond,
+    cond: &tp_ast::cond::Cond,
 ) -> Result<Vec<Cond>, GroundFault>
     ensures { Lowers (λ t v. map (named_condition t) v.items) numbering.old result numbering.new
         (condition_in (universe_view universe.now) (env_view env.now) (cond_view cond.now) ∷ [])
@@ -150,7 +154,7 @@ impl Lowerable for SimpleEffect {
     }
 }
 
-impl Lowerable for Timed<tp_syntax::Cond> {
+impl Lowerable for Timed<tp_ast::cond::Cond> {
     type Lowered = Cond;
 
     ghost Seen = { Effects.Timed Condition };

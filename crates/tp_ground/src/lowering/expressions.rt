@@ -1,8 +1,8 @@
 //! Expressions.
 
 ghost use Rattle.std.specs.Prelude.{◌≡◌};
-ghost use Rattle.tp_syntax.specs.Terms.{atom_view};
-ghost use Rattle.tp_syntax.specs.ExprViews.{expr_view};
+ghost use Rattle.tp_ast.specs.Terms.{atom_view};
+ghost use Rattle.tp_ast.specs.ExprViews.{expr_view};
 ghost use Rattle.tp_ground.specs.Bindings.{words_in};
 ghost use Rattle.tp_ground.specs.Views.{env_view};
 ghost use Rattle.tp_ground.specs.Tables.{words_at};
@@ -16,18 +16,18 @@ use crate::fault::GroundFault;
 use crate::numbering::Numbering;
 use crate::{Comparison, Expr};
 use std::alloc::Global;
-use tp_syntax::Atom;
+use tp_ast::term::Atom;
 
 /// How numbers are compared.
-pub fn comparison_of(comparison: tp_syntax::Comparison) -> Comparison
+pub fn comparison_of(comparison: tp_ast::words::Comparison) -> Comparison
     ensures { result ≡ comparison_of comparison }
 {
     match comparison {
-        tp_syntax::Comparison::Less => Comparison::Less,
-        tp_syntax::Comparison::AtMost => Comparison::AtMost,
-        tp_syntax::Comparison::Equal => Comparison::Equal,
-        tp_syntax::Comparison::AtLeast => Comparison::AtLeast,
-        tp_syntax::Comparison::Greater => Comparison::Greater,
+        tp_ast::words::Comparison::Less => Comparison::Less,
+        tp_ast::words::Comparison::AtMost => Comparison::AtMost,
+        tp_ast::words::Comparison::Equal => Comparison::Equal,
+        tp_ast::words::Comparison::AtLeast => Comparison::AtLeast,
+        tp_ast::words::Comparison::Greater => Comparison::Greater,
     }
 }
 
@@ -52,7 +52,7 @@ pub fn operand(
     alloc: Global,
     env: &Env,
     numbering: &mut Numbering,
-    expr: &tp_syntax::Expr,
+    expr: &tp_ast::expr::Expr,
 ) -> Result<Box<Expr>, GroundFault>
     ensures { Lowers (λ t b. named_expression t b.value) numbering.old result numbering.new
         (expression_in (env_view env.now) (expr_view expr.now))
@@ -68,34 +68,34 @@ pub fn expression(
     alloc: Global,
     env: &Env,
     numbering: &mut Numbering,
-    expr: &tp_syntax::Expr,
+    expr: &tp_ast::expr::Expr,
 ) -> Result<Expr, GroundFault>
     ensures { Lowers named_expression numbering.old result numbering.new
         (expression_in (env_view env.now) (expr_view expr.now))
         (of_expression (expression_in (env_view env.now) (expr_view expr.now))) }
 {
     match expr {
-        tp_syntax::Expr::Number(number) => Ok(Expr::Number(*number)),
-        tp_syntax::Expr::Duration => Ok(Expr::Duration),
-        tp_syntax::Expr::Fluent(atom) => {
+        tp_ast::expr::Expr::Number(number) => Ok(Expr::Number(*number)),
+        tp_ast::expr::Expr::Duration => Ok(Expr::Duration),
+        tp_ast::expr::Expr::Fluent(atom) => {
             let number = fluent(alloc, env, numbering, atom)?;
             Ok(Expr::Fluent(number))
         }
-        tp_syntax::Expr::Negated(a) => {
+        tp_ast::expr::Expr::Negated(a) => {
             let x = operand(alloc, env, numbering, a)?;
             Ok(Expr::Negated(x))
         }
-        tp_syntax::Expr::Sum(a, b) => {
+        tp_ast::expr::Expr::Sum(a, b) => {
             let x = operand(alloc, env, numbering, a)?;
             let y = operand(alloc, env, numbering, b)?;
             Ok(Expr::Sum(x, y))
         }
-        tp_syntax::Expr::Difference(a, b) => {
+        tp_ast::expr::Expr::Difference(a, b) => {
             let x = operand(alloc, env, numbering, a)?;
             let y = operand(alloc, env, numbering, b)?;
             Ok(Expr::Difference(x, y))
         }
-        tp_syntax::Expr::Product(a, b) => {
+        tp_ast::expr::Expr::Product(a, b) => {
             let x = operand(alloc, env, numbering, a)?;
             let y = operand(alloc, env, numbering, b)?;
             Ok(Expr::Product(x, y))

@@ -2,8 +2,8 @@
 
 ghost use Rattle.std.specs.Prelude.{◌≡◌, List, map};
 ghost use Rattle.std.specs.List.{flat_map};
-ghost use Rattle.tp_syntax.specs.Symbols.{typed_view};
-ghost use Rattle.tp_syntax.specs.PartViews.{joined_view};
+ghost use Rattle.tp_ast.specs.Symbols.{typed_view};
+ghost use Rattle.tp_ast.specs.PartViews.{joined_view};
 ghost use Rattle.tp_ast.specs.declared.words.TimeSpecifier as specifiers;
 ghost use Rattle.tp_ground.specs.Bindings as bindings;
 ghost use Rattle.tp_ground.specs.Views.{env_view, universe_view};
@@ -18,7 +18,9 @@ use crate::numbering::Numbering;
 use crate::rows::rows_of;
 use crate::universe::Universe;
 use std::alloc::Global;
-use tp_syntax::{Joined, TimeSpecifier, Typed};
+use tp_ast::joined::Joined;
+use tp_ast::symbols::Typed;
+use tp_ast::words::TimeSpecifier;
 
 /// What may stand inside.
 pub trait Lowerable: Drop {

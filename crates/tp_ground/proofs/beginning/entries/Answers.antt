@@ -1,5 +1,5 @@
 use Rattle.std.proofs.Common.{refl}
-use Rattle.tp_syntax.specs.DomainViews.{initial_view}
+use Rattle.tp_ast.specs.DomainViews.{initial_view}
 use Rattle.tp_ast.specs.declared.problem.Initial.{Initial}
 use Rattle.tp_ground.specs.Initially.{initial_in, named_initial, of_initial}
 use Rattle.tp_ground.proofs.Along.{map_next, map_ended}

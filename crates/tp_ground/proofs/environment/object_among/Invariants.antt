@@ -1,5 +1,5 @@
 use Rattle.std.proofs.Common.{◌≡◌, map, drop}
-use Rattle.tp_syntax.specs.Symbols.{typed_view}
+use Rattle.tp_ast.specs.Symbols.{typed_view}
 use Rattle.tp_ground.specs.Bindings.{bound, object_among}
 use Rattle.tp_ground.proofs.environment.object_among.Given as goal
 

@@ -1,5 +1,5 @@
 use Rattle.std.proofs.Common.{◌≡◌, ◌++◌, map, drop}
-use Rattle.tp_syntax.specs.Terms.{term_view, atom_view}
+use Rattle.tp_ast.specs.Terms.{term_view, atom_view}
 use Rattle.tp_ground.specs.Bindings.{object_for, words_in}
 use Rattle.tp_ground.specs.Views.{env_view}
 use Rattle.tp_ground.proofs.environment.words_in.Given as goal

@@ -1,5 +1,5 @@
 use Rattle.std.proofs.Common.{refl}
-use Rattle.tp_syntax.specs.CondViews.{cond_view}
+use Rattle.tp_ast.specs.CondViews.{cond_view}
 use Rattle.tp_ground.specs.Views.{universe_view}
 use Rattle.tp_ground.specs.WrittenTasks.{named_task}
 use Rattle.tp_ground.proofs.OnLowered.{failed}

@@ -1,5 +1,5 @@
 use Rattle.std.proofs.Common.{ℕ, [], refl, ap, ◌∙◌}
-use Rattle.tp_syntax.specs.DomainViews.{domain_view, problem_view}
+use Rattle.tp_ast.specs.DomainViews.{domain_view, problem_view}
 use Rattle.tp_ground.specs.Tables.{with_actions}
 use Rattle.tp_ground.proofs.OnTasks.{few_here, few_atoms, few_fluents, fits_here, named_here, is_task}
 use Rattle.tp_ground.proofs.grounder.made.Goals as goal

@@ -1,7 +1,7 @@
 use Rattle.std.proofs.Common.{List, Bor, Vec, Global, map, refl, ap, ◌∙◌}
 use Rattle.std.proofs.lemmas.List.{take_all}
-use Rattle.tp_syntax.specs.Symbols.{Name, typed_view}
-use Rattle.tp_syntax.specs.DomainViews.{body_view}
+use Rattle.tp_ast.specs.Symbols.{Name, typed_view}
+use Rattle.tp_ast.specs.DomainViews.{body_view}
 use Rattle.tp_ground.specs.Bindings.{Env, bindings}
 use Rattle.tp_ground.specs.Rows.{product, lists_of}
 use Rattle.tp_ground.proofs.OnRows.{row_there, within, behind_all}

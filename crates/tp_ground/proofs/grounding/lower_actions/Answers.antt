@@ -1,8 +1,8 @@
 use Rattle.std.proofs.Common.{List, map, sym, ap, ◌∙◌}
 use Rattle.std.specs.List.{flat_map}
 use Rattle.std.proofs.lemmas.List.{take_all}
-use Rattle.tp_syntax.specs.Symbols.{typed_view}
-use Rattle.tp_syntax.specs.DomainViews.{action_view, body_view}
+use Rattle.tp_ast.specs.Symbols.{typed_view}
+use Rattle.tp_ast.specs.DomainViews.{action_view, body_view}
 use Rattle.tp_ast.specs.declared.symbols.Typed.{Typed}
 use Rattle.tp_ast.specs.declared.action.Action.{Action}
 use Rattle.tp_ground.specs.Bindings.{bound, bindings}

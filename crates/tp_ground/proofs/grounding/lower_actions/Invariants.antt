@@ -1,6 +1,6 @@
 use Rattle.std.proofs.Common.{take}
 use Rattle.std.specs.List.{flat_map}
-use Rattle.tp_syntax.specs.DomainViews.{action_view}
+use Rattle.tp_ast.specs.DomainViews.{action_view}
 use Rattle.tp_ground.specs.Views.{universe_view}
 use Rattle.tp_ground.specs.Mentions.{of_each}
 use Rattle.tp_ground.specs.Grounding.{of_action}

@@ -1,8 +1,8 @@
 use Rattle.std.proofs.Common.{◌≡◌, List, [], ◌∷◌, ◌++◌, map, refl, sym, ap, ap₂, ◌∙◌, subst}
 use Rattle.std.specs.List.{flat_map}
 use Rattle.std.proofs.lemmas.List.{map-append}
-use Rattle.tp_syntax.specs.Symbols.{Name}
-use Rattle.tp_syntax.specs.Actions.{Action}
+use Rattle.tp_ast.specs.Symbols.{Name}
+use Rattle.tp_ast.specs.Actions.{Action}
 use Rattle.tp_ground.specs.Words.{Words}
 use Rattle.tp_ground.specs.Bindings.{Universe, bindings}
 use Rattle.tp_ground.specs.Grounding.{universe_of, ground_action, ground_actions}

@@ -1,6 +1,6 @@
 use Rattle.std.proofs.Common.{◌≡◌, drop}
 use Rattle.std.specs.List.{list_any}
-use Rattle.tp_syntax.specs.CondViews.{cond_view}
+use Rattle.tp_ast.specs.CondViews.{cond_view}
 use Rattle.tp_ground.specs.Great.{great_condition}
 use Rattle.tp_ground.proofs.numbers.+condition_is_great.Given as goal
 

@@ -1,6 +1,6 @@
 use Rattle.std.proofs.Common.{◌≡◌, drop}
 use Rattle.std.specs.List.{list_any}
-use Rattle.tp_syntax.specs.ConstraintViews.{constraint_view}
+use Rattle.tp_ast.specs.ConstraintViews.{constraint_view}
 use Rattle.tp_ground.specs.Great.{great_constraint}
 use Rattle.tp_ground.proofs.numbers.+constraint_is_great.Given as goal
 

@@ -1,6 +1,6 @@
 use Rattle.std.proofs.Common.{◌≡◌, drop}
 use Rattle.std.specs.List.{list_any}
-use Rattle.tp_syntax.specs.PartViews.{joined_view}
+use Rattle.tp_ast.specs.PartViews.{joined_view}
 use Rattle.tp_ground.specs.Great.{great_part}
 use Rattle.tp_ground.proofs.numbers.+part_is_great.Given as goal
 

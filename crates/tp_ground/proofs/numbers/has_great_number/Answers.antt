@@ -1,4 +1,4 @@
-use Rattle.tp_syntax.specs.DomainViews.{action_view, initial_view}
+use Rattle.tp_ast.specs.DomainViews.{action_view, initial_view}
 use Rattle.tp_ground.specs.Great.{great_body, great_initial}
 use Rattle.tp_ground.proofs.OnGreat.{any_seen, or_first, or_second}
 use Rattle.tp_ground.proofs.numbers.has_great_number.Goals as goal

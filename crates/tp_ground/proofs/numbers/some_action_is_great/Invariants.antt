@@ -1,6 +1,6 @@
 use Rattle.std.proofs.Common.{◌≡◌, drop}
 use Rattle.std.specs.List.{list_any}
-use Rattle.tp_syntax.specs.DomainViews.{action_view}
+use Rattle.tp_ast.specs.DomainViews.{action_view}
 use Rattle.tp_ground.specs.Great.{great_body}
 use Rattle.tp_ground.proofs.numbers.some_action_is_great.Given as goal
 

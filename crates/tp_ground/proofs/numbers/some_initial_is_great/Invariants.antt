@@ -1,6 +1,6 @@
 use Rattle.std.proofs.Common.{◌≡◌, drop}
 use Rattle.std.specs.List.{list_any}
-use Rattle.tp_syntax.specs.DomainViews.{initial_view}
+use Rattle.tp_ast.specs.DomainViews.{initial_view}
 use Rattle.tp_ground.specs.Great.{great_initial}
 use Rattle.tp_ground.proofs.numbers.some_initial_is_great.Given as goal
 

@@ -1,5 +1,5 @@
 use Rattle.std.proofs.Common.{◌≡◌, map, take}
-use Rattle.tp_syntax.specs.Symbols.{typed_view}
+use Rattle.tp_ast.specs.Symbols.{typed_view}
 use Rattle.tp_ground.specs.Bindings.{choices}
 use Rattle.tp_ground.specs.Views.{universe_view}
 use Rattle.tp_ground.specs.Rows.{lists_of}

@@ -1,5 +1,5 @@
 use Rattle.std.proofs.Common.{Bor, Vec, Global, Result, Ok, Err, IfOk, map, length, sym, ap, ◌∙◌}
-use Rattle.tp_syntax.specs.Symbols.{Name, typed_view}
+use Rattle.tp_ast.specs.Symbols.{Name, typed_view}
 use Rattle.tp_ground.specs.Views.{universe_view}
 use Rattle.tp_ground.specs.Rows.{product, lists_of}
 use Rattle.tp_ground.proofs.OnRows.{rows_bindings}

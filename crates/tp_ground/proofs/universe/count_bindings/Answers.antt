@@ -1,5 +1,5 @@
 use Rattle.std.proofs.Common.{ℕ, ◌+◌, ◌*◌, ◌<◌, length, map, drop, refl, sym, ap, ◌∙◌, arith}
-use Rattle.tp_syntax.specs.Symbols.{typed_view}
+use Rattle.tp_ast.specs.Symbols.{typed_view}
 use Rattle.tp_ground.specs.Bindings.{bindings}
 use Rattle.tp_ground.specs.Views.{universe_view}
 use Rattle.tp_ground.proofs.OnBindings.{no_bindings, some_bindings, choices_on, counted_on, too_many, past}

@@ -1,6 +1,6 @@
 use Rattle.std.proofs.Common.{◌≡◌, ◌*◌, ◌≤◌, false, length, map, drop}
 use Rattle.std.specs.List.{list_any}
-use Rattle.tp_syntax.specs.Symbols.{typed_view}
+use Rattle.tp_ast.specs.Symbols.{typed_view}
 use Rattle.tp_ground.specs.Bindings.{has_no_choice, bindings}
 use Rattle.tp_ground.specs.Views.{universe_view}
 use Rattle.tp_ground.proofs.universe.count_bindings.Given as goal

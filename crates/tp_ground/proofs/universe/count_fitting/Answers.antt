@@ -1,6 +1,6 @@
 use Rattle.std.proofs.Common.{◌≡◌, ap, ◌∙◌, map, length, string_bytes, arith}
-use Rattle.tp_syntax.specs.Symbols.{typed_view, types_fit}
-use Rattle.tp_syntax.specs.TypeViews.{types_view}
+use Rattle.tp_ast.specs.Symbols.{typed_view, types_fit}
+use Rattle.tp_types.specs.TypeViews.{types_view}
 use Rattle.tp_ground.proofs.OnBindings.{fit_step}
 use Rattle.tp_ground.proofs.universe.count_fitting.Goals as goal
 use Rattle.tp_ground.proofs.universe.count_fitting.Goals.{then-types_fit, else-types_fit}

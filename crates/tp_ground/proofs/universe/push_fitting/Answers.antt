@@ -1,7 +1,7 @@
 use Rattle.std.proofs.Common.{◌≡◌, ℕ, ◌+◌, drop, List, [], ◌∷◌, ◌++◌, Bor, ap, ◌∙◌, map, string_bytes}
 use Rattle.std.proofs.lemmas.List.{map-append}
-use Rattle.tp_syntax.specs.Symbols.{typed_view, types_fit}
-use Rattle.tp_syntax.specs.TypeViews.{types_view}
+use Rattle.tp_ast.specs.Symbols.{typed_view, types_fit}
+use Rattle.tp_types.specs.TypeViews.{types_view}
 use Rattle.tp_ground.specs.Bindings.{fitting}
 use Rattle.tp_ground.proofs.OnBindings.{fit_step, pushed_on, kept_on}
 use Rattle.tp_ground.proofs.universe.push_fitting.Goals as goal

@@ -1,6 +1,6 @@
 use Rattle.std.proofs.Common.{◌≡◌, ◌++◌, map, drop}
-use Rattle.tp_syntax.specs.Symbols.{typed_view}
-use Rattle.tp_syntax.specs.TypeViews.{types_view}
+use Rattle.tp_ast.specs.Symbols.{typed_view}
+use Rattle.tp_types.specs.TypeViews.{types_view}
 use Rattle.tp_ground.specs.Bindings.{fitting}
 use Rattle.tp_ground.proofs.universe.push_fitting.Given as goal
 

@@ -1,6 +1,6 @@
 use Rattle.std.proofs.Common.{refl}
-use Rattle.tp_syntax.specs.ConstraintViews.{constraint_view}
-use Rattle.tp_syntax.specs.EffectViews.{timed_condition_view, timed_effect_view}
+use Rattle.tp_ast.specs.ConstraintViews.{constraint_view}
+use Rattle.tp_ast.specs.EffectViews.{timed_condition_view, timed_effect_view}
 use Rattle.tp_ground.specs.Views.{env_view, universe_view}
 use Rattle.tp_ground.specs.Mentions.{of_start, of_end}
 use Rattle.tp_ground.proofs.OnBodies.{start_stopped, end_stopped, ends_lowered}

@@ -1,5 +1,5 @@
-use Rattle.tp_syntax.specs.CondViews.{cond_view}
-use Rattle.tp_syntax.specs.EffectViews.{effect_view}
+use Rattle.tp_ast.specs.CondViews.{cond_view}
+use Rattle.tp_ast.specs.EffectViews.{effect_view}
 use Rattle.tp_ground.specs.Views.{env_view, universe_view}
 use Rattle.tp_ground.specs.Written.{condition_in, simple_effects_in}
 use Rattle.tp_ground.specs.Mentions.{of_condition, of_simple_effect, of_each}

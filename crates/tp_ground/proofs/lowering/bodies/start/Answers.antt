@@ -1,5 +1,5 @@
-use Rattle.tp_syntax.specs.ConstraintViews.{constraint_view}
-use Rattle.tp_syntax.specs.EffectViews.{timed_condition_view, timed_effect_view}
+use Rattle.tp_ast.specs.ConstraintViews.{constraint_view}
+use Rattle.tp_ast.specs.EffectViews.{timed_condition_view, timed_effect_view}
 use Rattle.tp_ast.specs.declared.words.TimeSpecifier.TheVariants.{AtStart}
 use Rattle.tp_ground.specs.Views.{env_view, universe_view}
 use Rattle.tp_ground.specs.Written.{condition_at, simple_effects_at, limits_in}

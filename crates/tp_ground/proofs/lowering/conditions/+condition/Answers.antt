@@ -1,7 +1,7 @@
 use Rattle.std.proofs.Common.{List, Vec, Bor, Global, map, ◌++◌, refl, sym, ap, ◌∙◌}
-use Rattle.tp_syntax.specs.Terms.{term_view}
-use Rattle.tp_syntax.specs.Symbols.{Name, typed_view}
-use Rattle.tp_syntax.specs.CondViews.{cond_view}
+use Rattle.tp_ast.specs.Terms.{term_view}
+use Rattle.tp_ast.specs.Symbols.{Name, typed_view}
+use Rattle.tp_ast.specs.CondViews.{cond_view}
 use Rattle.tp_ast.specs.declared.cond.Cond as syntax
 use Rattle.tp_ground.specs.Bindings.{Env, bound, bindings}
 use Rattle.tp_ground.specs.Rows.{product, lists_of}

@@ -1,6 +1,6 @@
 use Rattle.std.proofs.Common.{map, take, ◌++◌}
-use Rattle.tp_syntax.specs.Symbols.{typed_view}
-use Rattle.tp_syntax.specs.CondViews.{cond_view}
+use Rattle.tp_ast.specs.Symbols.{typed_view}
+use Rattle.tp_ast.specs.CondViews.{cond_view}
 use Rattle.std.proofs.Common.{◌≡◌}
 use Rattle.tp_ground.specs.Bindings.{bound, bindings}
 use Rattle.tp_ground.specs.Rows.{product, lists_of}

@@ -1,5 +1,5 @@
 use Rattle.std.proofs.Common.{[], refl, ap}
-use Rattle.tp_syntax.specs.ConstraintViews.{constraint_view}
+use Rattle.tp_ast.specs.ConstraintViews.{constraint_view}
 use Rattle.tp_ast.specs.declared.constraint.DurationConstraint.{DurationConstraint}
 use Rattle.tp_ground.specs.Views.{env_view}
 use Rattle.tp_ground.specs.Written.{GroundExpression, comparison_of, limits_in}

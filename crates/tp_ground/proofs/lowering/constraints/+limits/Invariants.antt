@@ -1,6 +1,6 @@
 use Rattle.std.proofs.Common.{take}
 use Rattle.std.specs.List.{flat_map}
-use Rattle.tp_syntax.specs.ConstraintViews.{constraint_view}
+use Rattle.tp_ast.specs.ConstraintViews.{constraint_view}
 use Rattle.tp_ground.specs.Views.{env_view}
 use Rattle.tp_ground.specs.Written.{limits_in}
 use Rattle.tp_ground.specs.Mentions.{of_limit}

@@ -1,5 +1,5 @@
 use Rattle.std.proofs.Common.{refl, ap, sym, ◌∙◌}
-use Rattle.tp_syntax.specs.ExprViews.{expr_view}
+use Rattle.tp_ast.specs.ExprViews.{expr_view}
 use Rattle.tp_ground.specs.Views.{env_view}
 use Rattle.tp_ground.specs.Written.{GroundExpression, negative, sum, difference, product, expression_in}
 use Rattle.tp_ground.specs.Mentions.{of_expression}

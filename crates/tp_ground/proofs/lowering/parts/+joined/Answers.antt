@@ -1,6 +1,6 @@
 use Rattle.std.proofs.Common.{List, Bor, Vec, Global, map, refl, sym, ap, ◌∙◌}
-use Rattle.tp_syntax.specs.Symbols.{Name, typed_view}
-use Rattle.tp_syntax.specs.PartViews.{joined_view}
+use Rattle.tp_ast.specs.Symbols.{Name, typed_view}
+use Rattle.tp_ast.specs.PartViews.{joined_view}
 use Rattle.tp_ground.specs.Bindings.{Env, bindings}
 use Rattle.tp_ground.specs.Rows.{product, lists_of}
 use Rattle.tp_ground.proofs.OnRows.{row_there, within, behind_all}

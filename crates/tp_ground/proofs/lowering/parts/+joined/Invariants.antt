@@ -1,7 +1,7 @@
 use Rattle.std.proofs.Common.{map, take, ◌++◌}
 use Rattle.std.specs.List.{flat_map}
-use Rattle.tp_syntax.specs.Symbols.{typed_view}
-use Rattle.tp_syntax.specs.PartViews.{joined_view}
+use Rattle.tp_ast.specs.Symbols.{typed_view}
+use Rattle.tp_ast.specs.PartViews.{joined_view}
 use Rattle.std.proofs.Common.{◌≡◌}
 use Rattle.tp_ground.specs.Bindings.{bound, bindings}
 use Rattle.tp_ground.specs.Rows.{product, lists_of}
