@@ -1,5 +1,6 @@
 pub mod OnActions
 pub mod OnKeyed
+pub mod OnFields
 pub mod OnSections
 pub mod OnProblemSections
 pub mod OnReadings

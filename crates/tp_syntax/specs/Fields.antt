@@ -1,6 +1,8 @@
 -- An action's fields as they are read.
 use Rattle.std.specs.Prelude.{List, Bool, ◌&&◌, Option, None}
 use Rattle.std.specs.List.{list_all}
+use Rattle.std.specs.Borrow.{Bor}
+use Rattle.tp_text.specs.declared.tree.Tree.{Tree}
 use Rattle.tp_text.specs.Shapes.{Shape, leaf, node, Shapes}
 use Rattle.tp_text.specs.Trees.{shape_of}
 use Rattle.tp_ast.specs.Gives.{◌>>=◌, provided}
@@ -11,10 +13,10 @@ use Rattle.tp_ast.specs.Effects.{Constraint, constraint_of}
 use Rattle.tp_ast.specs.Symbols.{Declared, Symbols}
 use Rattle.tp_ast.specs.declared.words.Key.TheVariants as keys
 use Rattle.tp_ast.specs.declared.words.Key.{Key}
-use Rattle.tp_syntax.specs.declared.fields.Field.{Field}
+use Rattle.tp_syntax.specs.declared.keyed.Keyed.{Keyed}
 
-abbrev pub field_view : Field → actions.Field
-field_view f = record { key = f.key; value = shape_of f.value.now }
+abbrev pub field_view : Keyed Key (Bor Tree) → actions.Field
+field_view f = record { key = f.kind; value = shape_of f.body.now }
 
 -- the key that a word is
 unfoldable pub key_at : Shape → Option Key

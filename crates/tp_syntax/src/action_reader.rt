@@ -50,7 +50,7 @@ fn parameters(
         (types_view types.now)) (field keys.Parameters (map field_view fields.now))) }
 {
     match find_field(Key::Parameters, fields) {
-        Some(list) => parameters_at(alloc, types, list.value, at),
+        Some(list) => parameters_at(alloc, types, list.body, at),
         None => Ok(Vec::new(alloc)),
     }
 }
@@ -67,7 +67,7 @@ fn precondition(
         (scope_view scope.now)) (field keys.Precondition (map field_view fields.now))) }
 {
     match find_field(Key::Precondition, fields) {
-        Some(cond) => read_cond(alloc, cond.value, symbols, scope, at),
+        Some(cond) => read_cond(alloc, cond.body, symbols, scope, at),
         None => Ok(Cond::And(Vec::new(alloc))),
     }
 }
@@ -84,7 +84,7 @@ fn effect(
         (scope_view scope.now)) (field keys.Effect (map field_view fields.now))) }
 {
     match find_field(Key::Effect, fields) {
-        Some(effect) => read_effect(alloc, effect.value, symbols, scope, at),
+        Some(effect) => read_effect(alloc, effect.body, symbols, scope, at),
         None => Ok(Joined::And(Vec::new(alloc))),
     }
 }
@@ -101,7 +101,7 @@ fn duration(
         (symbols_view symbols.now) (scope_view scope.now) (map field_view fields.now)) }
 {
     match find_field(Key::Duration, fields) {
-        Some(constraint) => read_constraint(alloc, constraint.value, symbols, scope, at),
+        Some(constraint) => read_constraint(alloc, constraint.body, symbols, scope, at),
         None => Err(SyntaxFault::Shape(at)),
     }
 }
@@ -118,7 +118,7 @@ fn timed_condition(
         (scope_view scope.now)) (field keys.Condition (map field_view fields.now))) }
 {
     match find_field(Key::Condition, fields) {
-        Some(cond) => read_timed_cond(alloc, cond.value, symbols, scope, at),
+        Some(cond) => read_timed_cond(alloc, cond.body, symbols, scope, at),
         None => Ok(Joined::And(Vec::new(alloc))),
     }
 }
@@ -135,7 +135,7 @@ fn timed_effect(
         (scope_view scope.now)) (field keys.Effect (map field_view fields.now))) }
 {
     match find_field(Key::Effect, fields) {
-        Some(effect) => read_timed_effect(alloc, effect.value, symbols, scope, at),
+        Some(effect) => read_timed_effect(alloc, effect.body, symbols, scope, at),
         None => Ok(Joined::And(Vec::new(alloc))),
     }
 }

@@ -1,25 +1,43 @@
 //! The fields of an action.
 
-ghost use Rattle.std.specs.Prelude.{◌≡◌, ◌==◌, map, not, option_map};
-ghost use Rattle.std.specs.Option.{is_some};
+ghost use Rattle.std.specs.Prelude.{◌≡◌, map, option_map};
 ghost use Rattle.tp_text.specs.Trees.{shape_of};
-ghost use Rattle.tp_ast.specs.Actions.{key_number, field, each_once, is_field_of, fields_of};
+ghost use Rattle.tp_ast.specs.Actions.{field, is_field_of, fields_of};
 ghost use Rattle.tp_syntax.specs.Fields.{field_view, key_at, are_fields_of, checked_fields};
 ghost use Rattle.tp_ast.specs.Terms.{shapes};
 ghost use Rattle.tp_ast.specs.Gives.{Gives};
 
+use crate::keyed::{Keyed, Kind, find, repeated};
 use std::alloc::Global;
 use tp_ast::fault::SyntaxFault;
 use tp_ast::words::{Key, key_of};
 use tp_names::typed::place;
 use tp_text::Tree;
 
-/// A field's word, with its place, and its value.
-#[derive(Clone, Copy)]
-pub struct Field<'t, 'a> {
-    pub key: Key,
-    pub at: u32,
-    pub value: &'t Tree<'a>,
+/// A field: a word and its value, in the list of an action.
+pub type Field<'t, 'a> = Keyed<Key, &'t Tree<'a>>;
+
+impl Kind for Key {
+    ghost use Rattle.std.specs.Prelude.{false};
+    ghost use Rattle.tp_ast.specs.Actions.{key_number};
+
+    ghost number = { key_number };
+
+    ghost may_repeat = { λ _. false };
+
+    fn number(self) -> u8 {
+        match self {
+            Key::Parameters => 0,
+            Key::Precondition => 1,
+            Key::Duration => 2,
+            Key::Condition => 3,
+            Key::Effect => 4,
+        }
+    }
+
+    fn may_repeat(self) -> bool {
+        false
+    }
 }
 
 #[tactic(auto, unfolding(crate::specs::Fields::key_at))]
@@ -45,61 +63,28 @@ fn fields_of<'t, 'a>(
     let mut fields = Vec::new(alloc);
     let mut rest = trees;
     'fields: while let [word, others @ ..] = rest {
-        let key = key_at(word, at)?;
-        let [value, more @ ..] = others else {
+        let kind = key_at(word, at)?;
+        let [body, more @ ..] = others else {
             return Err(SyntaxFault::Shape(at));
         };
-        let at = place(word);
-        fields.push(Field { key, at, value })?;
+        let word = place(word);
+        fields.push(Keyed {
+            kind,
+            at,
+            word,
+            body,
+        })?;
         rest = more;
     }
     Ok(fields)
 }
 
-fn key_number(key: Key) -> u8
-    ensures { result ≡ key_number key }
-{
-    match key {
-        Key::Parameters => 0,
-        Key::Precondition => 1,
-        Key::Duration => 2,
-        Key::Condition => 3,
-        Key::Effect => 4,
-    }
-}
-
-fn is_key(field: &Field, key: Key) -> bool
-    ensures { result ≡ (key_number field.now.key == key_number key) }
-{
-    key_number(field.key) == key_number(key)
-}
-
 /// The first field of a key.
 pub fn find_field<'t, 'a>(key: Key, fields: &[Field<'t, 'a>]) -> Option<Field<'t, 'a>>
-    ensures { option_map (λ f. shape_of f.value.now) result
+    ensures { option_map (λ f. shape_of f.body.now) result
         ≡ field key (map field_view fields.now) }
 {
-    for candidate in fields {
-        if is_key(candidate, key) {
-            return Some(*candidate);
-        }
-    }
-    None
-}
-
-// A field whose key stands before it too.
-fn repeated<'t, 'a>(fields: &[Field<'t, 'a>]) -> Option<Field<'t, 'a>>
-    ensures { is_some result ≡ not (each_once (map field_view fields.now)) }
-{
-    let mut rest = fields;
-    'fields: while let [first, others @ ..] = rest {
-        let second = find_field(first.key, others);
-        if second.is_some() {
-            return second;
-        }
-        rest = others;
-    }
-    None
+    find(key, fields)
 }
 
 fn is_field_of(lasts: bool, key: Key) -> bool
@@ -116,7 +101,7 @@ fn are_fields_of(lasts: bool, fields: &[Field]) -> bool
     ensures { result ≡ are_fields_of lasts (map field_view fields.now) }
 {
     for field in fields {
-        if !is_field_of(lasts, field.key) {
+        if !is_field_of(lasts, field.kind) {
             return false;
         }
     }
@@ -124,6 +109,7 @@ fn are_fields_of(lasts: bool, fields: &[Field]) -> bool
 }
 
 /// The fields of an action, or of a durative one, each at most once.
+#[tactic(auto, using(crate::proofs::OnFields::fields_once))]
 pub fn read_fields<'t, 'a>(
     alloc: Global,
     lasts: bool,
@@ -134,7 +120,7 @@ pub fn read_fields<'t, 'a>(
 {
     let fields = fields_of(alloc, trees, at)?;
     if let Some(second) = repeated(&fields) {
-        return Err(SyntaxFault::Twice(second.at));
+        return Err(SyntaxFault::Twice(second.word));
     }
     if !are_fields_of(lasts, &fields) {
         return Err(SyntaxFault::Shape(at));

@@ -1,6 +1,6 @@
 //! Domains and problems of planning texts.
 //!
-//! - `keyed`: lists that begin with a word of their kind, in any order
+//! - `keyed`: items that begin with a word of their kind, in any order: sections and fields
 //! - `sections`, `problem_sections`: the sections of a domain and of a problem
 //! - `fields`, `action_reader`: the fields of an action; actions
 //! - `known`: what actions and a problem may name

@@ -6,34 +6,19 @@ ghost use Rattle.tp_ast.specs.Problems.{section, once_each};
 ghost use Rattle.tp_syntax.specs.ProblemViews.{section_body_view};
 ghost use Rattle.tp_ast.specs.Gives.{Gives};
 
-use crate::keyed::{Keyed, SectionWord, find_or_empty, read_parts};
+use crate::keyed::{Kind, Part, SectionWord, find_or_empty, read_parts};
 use std::alloc::Global;
 use tp_ast::fault::{LeftOutPart, SyntaxFault};
 use tp_ast::words::{ProblemSection, is_word, problem_section_of};
 use tp_text::{Token, Tree};
 
-impl SectionWord for ProblemSection {
+impl Kind for ProblemSection {
     ghost use Rattle.std.specs.Prelude.{false};
-    ghost use Rattle.tp_ast.specs.Words.{problem_section_of};
     ghost use Rattle.tp_ast.specs.Problems.{section_number};
-
-    ghost kind_of = { problem_section_of };
 
     ghost number = { section_number };
 
     ghost may_repeat = { λ _. false };
-
-    fn kind_of(word: &str) -> Option<ProblemSection> {
-        problem_section_of(word)
-    }
-
-    fn fault(word: &Token, at: u32) -> SyntaxFault {
-        if is_word(word.text, ":constraints") {
-            SyntaxFault::LeftOut(at, LeftOutPart::Constraint)
-        } else {
-            SyntaxFault::Shape(at)
-        }
-    }
 
     fn number(self) -> u8 {
         match self {
@@ -51,12 +36,30 @@ impl SectionWord for ProblemSection {
     }
 }
 
+impl SectionWord for ProblemSection {
+    ghost use Rattle.tp_ast.specs.Words.{problem_section_of};
+
+    ghost kind_of = { problem_section_of };
+
+    fn kind_of(word: &str) -> Option<ProblemSection> {
+        problem_section_of(word)
+    }
+
+    fn fault(word: &Token, at: u32) -> SyntaxFault {
+        if is_word(word.text, ":constraints") {
+            SyntaxFault::LeftOut(at, LeftOutPart::Constraint)
+        } else {
+            SyntaxFault::Shape(at)
+        }
+    }
+}
+
 /// The section of a kind; if it is missing, an empty one at `at`.
 pub fn find_section<'t, 'a>(
     kind: ProblemSection,
-    parts: &[Keyed<'t, 'a, ProblemSection>],
+    parts: &[Part<'t, 'a, ProblemSection>],
     at: u32,
-) -> Keyed<'t, 'a, ProblemSection>
+) -> Part<'t, 'a, ProblemSection>
     ensures { shapes result.body.now ≡ section kind (map section_body_view parts.now) }
 {
     find_or_empty(kind, parts, at)
@@ -67,7 +70,7 @@ pub fn once_each<'t, 'a>(
     alloc: Global,
     trees: &'t [Tree<'a>],
     at: u32,
-) -> Result<Vec<Keyed<'t, 'a, ProblemSection>>, SyntaxFault>
+) -> Result<Vec<Part<'t, 'a, ProblemSection>>, SyntaxFault>
     ensures { Gives (λ v. map section_body_view v.items) result (once_each (shapes trees.now)) }
 {
     read_parts(alloc, trees, at)

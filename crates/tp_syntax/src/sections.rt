@@ -6,35 +6,18 @@ ghost use Rattle.tp_syntax.specs.SectionViews.{section_body_view, checked_sectio
 ghost use Rattle.tp_ast.specs.Terms.{shapes};
 ghost use Rattle.tp_ast.specs.Gives.{Gives};
 
-use crate::keyed::{Keyed, SectionWord, find_or_empty, read_parts};
+use crate::keyed::{Kind, Part, SectionWord, find_or_empty, read_parts};
 use std::alloc::Global;
 use tp_ast::fault::{LeftOutPart, SyntaxFault};
 use tp_ast::words::{Section, is_word, section_of};
 use tp_text::{Token, Tree};
 
-impl SectionWord for Section {
-    ghost use Rattle.tp_ast.specs.Words.{section_of};
+impl Kind for Section {
     ghost use Rattle.tp_ast.specs.Domains.{section_number, is_action};
-
-    ghost kind_of = { section_of };
 
     ghost number = { section_number };
 
     ghost may_repeat = { is_action };
-
-    fn kind_of(word: &str) -> Option<Section> {
-        section_of(word)
-    }
-
-    fn fault(word: &Token, at: u32) -> SyntaxFault {
-        if is_word(word.text, ":derived") {
-            SyntaxFault::LeftOut(at, LeftOutPart::Derived)
-        } else if is_word(word.text, ":constraints") {
-            SyntaxFault::LeftOut(at, LeftOutPart::Constraint)
-        } else {
-            SyntaxFault::Shape(at)
-        }
-    }
 
     fn number(self) -> u8 {
         match self {
@@ -56,11 +39,31 @@ impl SectionWord for Section {
     }
 }
 
+impl SectionWord for Section {
+    ghost use Rattle.tp_ast.specs.Words.{section_of};
+
+    ghost kind_of = { section_of };
+
+    fn kind_of(word: &str) -> Option<Section> {
+        section_of(word)
+    }
+
+    fn fault(word: &Token, at: u32) -> SyntaxFault {
+        if is_word(word.text, ":derived") {
+            SyntaxFault::LeftOut(at, LeftOutPart::Derived)
+        } else if is_word(word.text, ":constraints") {
+            SyntaxFault::LeftOut(at, LeftOutPart::Constraint)
+        } else {
+            SyntaxFault::Shape(at)
+        }
+    }
+}
+
 /// What stands in a section, nothing if it is missing.
 pub fn find_section<'t, 'a>(
     wanted: Section,
-    parts: &[Keyed<'t, 'a, Section>],
-) -> Keyed<'t, 'a, Section>
+    parts: &[Part<'t, 'a, Section>],
+) -> Part<'t, 'a, Section>
     ensures { shapes result.body.now ≡ section wanted (map section_body_view parts.now) }
 {
     find_or_empty(wanted, parts, 0)
@@ -71,7 +74,7 @@ pub fn read_sections<'t, 'a>(
     alloc: Global,
     trees: &'t [Tree<'a>],
     at: u32,
-) -> Result<Vec<Keyed<'t, 'a, Section>>, SyntaxFault>
+) -> Result<Vec<Part<'t, 'a, Section>>, SyntaxFault>
     ensures { Gives (λ v. map section_body_view v.items) result
         (checked_sections (shapes trees.now)) }
 {
