@@ -7,7 +7,7 @@ use Rattle.tp_ast.specs.Lists.{first_of}
 use Rattle.tp_ast.specs.Words.{is_word}
 use Rattle.tp_ast.specs.Terms.{shapes}
 use Rattle.tp_ast.specs.Actions.{action_of}
-use Rattle.tp_syntax.specs.KeyedParts.{Part}
+use Rattle.tp_syntax.specs.KeyedParts.{SectionItem}
 use Rattle.tp_ast.specs.declared.fault.SyntaxFault.{SyntaxFault}
 use Rattle.tp_ast.proofs.OnFaults.{fails_from}
 use Rattle.tp_ast.proofs.OnGives.{bind_bind}
@@ -72,13 +72,13 @@ module _ (n : Name) (parts : List SectionBody) where
   after_all rs ts cs ps fs so_far h = so_far ∙ ap (λ o. o >>= after_functions rs ts cs ps) h ∙ at_actions rs ts cs ps fs
 
 module _ (σ : Symbols) where
-  abbrev all : List (Part Section) → Option (List Action)
+  abbrev all : List (SectionItem Section) → Option (List Action)
   all xs = actions_in σ (map section_body_view xs)
 
-  abbrev here : Part Section → Option (List Action)
+  abbrev here : SectionItem Section → Option (List Action)
   here x = action_at σ x.kind (shapes x.body.now)
 
-  more : (x : Part Section) (xs : List (Part Section)) → all (x ∷ xs) ≡ (here x >>= λ front. with_front front (all xs))
+  more : (x : SectionItem Section) (xs : List (SectionItem Section)) → all (x ∷ xs) ≡ (here x >>= λ front. with_front front (all xs))
   unfolding actions_in
   more x xs = refl
 
@@ -91,16 +91,16 @@ module _ (σ : Symbols) where
   onto old new (Some f) None is = refl
   onto old new (Some f) (Some r) is = let e : old ++ f ≡ new = cc in ap Some (sym (append_assoc old f r) ∙ ap (λ (l : List Action). l ++ r) e)
 
-  step : (xs : List (Part Section)) (i : ℕ) (x : Part Section) → i < length xs → x ≡ get_or xs i x → all (drop i xs) ≡ (here x >>= λ front. with_front front (all (drop (i + 1) xs)))
-  step xs i x lt at = at_drop_more all xs i x lt ∙ more (get_or xs i x) (drop (i + 1) xs) ∙ ap (λ (z : Part Section). here z >>= λ front. with_front front (all (drop (i + 1) xs))) (sym at)
+  step : (xs : List (SectionItem Section)) (i : ℕ) (x : SectionItem Section) → i < length xs → x ≡ get_or xs i x → all (drop i xs) ≡ (here x >>= λ front. with_front front (all (drop (i + 1) xs)))
+  step xs i x lt at = at_drop_more all xs i x lt ∙ more (get_or xs i x) (drop (i + 1) xs) ∙ ap (λ (z : SectionItem Section). here z >>= λ front. with_front front (all (drop (i + 1) xs))) (sym at)
 
-  pub actions_go_on : (old new : List Action) (xs : List (Part Section)) (i : ℕ) (x : Part Section) (total : Option (List Action)) → i < length xs → x ≡ get_or xs i x → with_front old (here x) ≡ Some new → with_front old (all (drop i xs)) ≡ total → with_front new (all (drop (i + 1) xs)) ≡ total
+  pub actions_go_on : (old new : List Action) (xs : List (SectionItem Section)) (i : ℕ) (x : SectionItem Section) (total : Option (List Action)) → i < length xs → x ≡ get_or xs i x → with_front old (here x) ≡ Some new → with_front old (all (drop i xs)) ≡ total → with_front new (all (drop (i + 1) xs)) ≡ total
   actions_go_on old new xs i x total lt at added so_far = sym (onto old new (here x) (all (drop (i + 1) xs)) added) ∙ ap (with_front old) (sym (step xs i x lt at)) ∙ so_far
 
-  pub actions_fail : (e : SyntaxFault) (old : List Action) (xs : List (Part Section)) (i : ℕ) (x : Part Section) (total : Option (List Action)) → i < length xs → x ≡ get_or xs i x → Fails e (here x) → with_front old (all (drop i xs)) ≡ total → Fails e total
+  pub actions_fail : (e : SyntaxFault) (old : List Action) (xs : List (SectionItem Section)) (i : ℕ) (x : SectionItem Section) (total : Option (List Action)) → i < length xs → x ≡ get_or xs i x → Fails e (here x) → with_front old (all (drop i xs)) ≡ total → Fails e total
   actions_fail e old xs i x total lt at h so_far = fails_from e (here x) total (λ nothing. sym so_far ∙ ap (with_front old) (step xs i x lt at ∙ ap (λ (o : Option (List Action)). o >>= λ front. with_front front (all (drop (i + 1) xs))) nothing)) h
 
-  pub actions_end : (old : List Action) (xs : List (Part Section)) (i : ℕ) (total : Option (List Action)) → length xs ≤ i → with_front old (all (drop i xs)) ≡ total → total ≡ Some old
+  pub actions_end : (old : List Action) (xs : List (SectionItem Section)) (i : ℕ) (total : Option (List Action)) → length xs ≤ i → with_front old (all (drop i xs)) ≡ total → total ≡ Some old
   actions_end old xs i total le so_far = sym so_far ∙ ap (with_front old) (at_drop_all all xs i le ∙ none) ∙ ap Some (append-nil old)
 
   pub no_action_at : (k : Section) (body : Shapes) (old : List Action) → action_kind k ≡ None → with_front old (action_at σ k body) ≡ Some old

@@ -9,7 +9,7 @@ use Rattle.tp_text.specs.declared.tree.Tree.{Tree}
 use Rattle.tp_ast.specs.Gives.{◌>>=◌, provided, Fails, Gives}
 use Rattle.tp_ast.specs.Terms.{shapes}
 use Rattle.tp_ast.specs.declared.fault.SyntaxFault.{SyntaxFault}
-use Rattle.tp_syntax.specs.KeyedParts.{Part, with_kind, part_seen, part_of, parts_of, first, or_nothing, each_once}
+use Rattle.tp_syntax.specs.KeyedParts.{SectionItem, with_kind, part_seen, part_of, parts_of, first, or_nothing, each_once}
 use Rattle.tp_syntax.specs.declared.keyed.Keyed.{Keyed}
 use Rattle.tp_ast.proofs.Loops.{IsEach}
 use Rattle.tp_ast.proofs.OnGives.{fails_map}
@@ -47,15 +47,15 @@ module _ {K B V P : Type 0} (seen : B → V) (view : Keyed K B → P) (number : 
 
 -- ---- sections
 
-pub or_else : {K : Type 0} (o : Option (Part K)) (missing : Part K) → shapes missing.body.now ≡ no_shapes → shapes (unwrap_or o missing).body.now ≡ or_nothing (option_map (λ p. shapes p.body.now) o)
+pub or_else : {K : Type 0} (o : Option (SectionItem K)) (missing : SectionItem K) → shapes missing.body.now ≡ no_shapes → shapes (unwrap_or o missing).body.now ≡ or_nothing (option_map (λ p. shapes p.body.now) o)
 or_else None missing is = is
 or_else (Some p) missing is = refl
 
 module _ {K : Type 0} (number : K → ℕ) where
-  pub part_found : (k : K) (ps : List (Part K)) (o : Option (Part K)) → option_map (λ p. p.body) o ≡ first number k (map with_kind ps) → option_map (λ p. shapes p.body.now) o ≡ first number k (map part_seen ps)
+  pub part_found : (k : K) (ps : List (SectionItem K)) (o : Option (SectionItem K)) → option_map (λ p. p.body) o ≡ first number k (map with_kind ps) → option_map (λ p. shapes p.body.now) o ≡ first number k (map part_seen ps)
   part_found = found (λ b. shapes b.now) part_seen number (first number) (λ k. refl) (λ k p vs. refl)
 
-  pub parts_once : (may_repeat : K → Bool) (ps : List (Part K)) → each_once number may_repeat (map part_seen ps) ≡ each_once number may_repeat (map with_kind ps)
+  pub parts_once : (may_repeat : K → Bool) (ps : List (SectionItem K)) → each_once number may_repeat (map part_seen ps) ≡ each_once number may_repeat (map with_kind ps)
   parts_once may_repeat ps = sym (once_seen (λ b. shapes b.now) part_seen number (first number) (λ k. refl) (λ k p vs. refl) may_repeat (each_once number may_repeat) refl (λ p vs. refl) ps)
 
 module _ {K : Type 0} (kind_of : List ℕ → Option K) where
@@ -114,7 +114,7 @@ module _ {K P : Type 0} (made : K × Shapes → P) where
       ap (λ b. b || list_any test (map made ps)) (same p)
       ∙ any_if (number p.0 == number k) p.1 _ (first number k ps) (any_first number k test same ps)
 
-  pub gives_made : (r : Result (Vec (Part K) Global) SyntaxFault) (o : Option (List (K × Shapes))) (all : Option (List P)) → all ≡ option_map (map made) o → Gives (λ v. map part_seen v.items) r o → Gives (λ v. map (λ p. made (part_seen p)) v.items) r all
+  pub gives_made : (r : Result (Vec (SectionItem K) Global) SyntaxFault) (o : Option (List (K × Shapes))) (all : Option (List P)) → all ≡ option_map (map made) o → Gives (λ v. map part_seen v.items) r o → Gives (λ v. map (λ p. made (part_seen p)) v.items) r all
   gives_made (Ok v) o all same is = same ∙ ap (option_map (map made)) is ∙ ap Some (map-map made part_seen v.items)
   gives_made (Err e) o all same is = subst (λ a. Fails e a) (sym same) (fails_map (map made) e o is)
 

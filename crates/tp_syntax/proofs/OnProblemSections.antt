@@ -7,7 +7,7 @@ use Rattle.tp_ast.specs.Words.{problem_section_of}
 use Rattle.tp_ast.specs.Problems.{ProblemSectionBody, section_at, sections_of, section_number, is_section, section, each_once, once_each}
 use Rattle.tp_syntax.specs.ProblemViews.{section_body_view}
 use Rattle.tp_syntax.specs.KeyedParts as keyed
-use Rattle.tp_syntax.specs.KeyedParts.{Part, part_seen, part_of, parts_of, first, or_nothing}
+use Rattle.tp_syntax.specs.KeyedParts.{SectionItem, part_seen, part_of, parts_of, first, or_nothing}
 use Rattle.tp_ast.specs.declared.words.ProblemSection.{ProblemSection}
 use Rattle.tp_syntax.proofs.OnKeyed.{all_same, kept, any_first, first_if}
 
@@ -45,6 +45,6 @@ sections_same ss =
     ap (λ o. o >>= λ ps. provided (each_once ps) ps) (all_same made problem_section_of sections_of none more ss)
     ∙ kept made each_once (keyed.each_once section_number (λ _. false)) once (parts_of problem_section_of ss)
 
-pub section_same : (k : ProblemSection) (ps : List (Part ProblemSection)) → section k (map section_body_view ps) ≡ or_nothing (first section_number k (map part_seen ps))
+pub section_same : (k : ProblemSection) (ps : List (SectionItem ProblemSection)) → section k (map section_body_view ps) ≡ or_nothing (first section_number k (map part_seen ps))
 section_same k [] = refl
 section_same k (p ∷ ps) = first_if (section_number p.kind == section_number k) _ _ _ (section_same k ps)

@@ -12,11 +12,11 @@ abbrev pub with_kind : {K B : Type 0} → Keyed K B → K × B
 with_kind p = (p.kind, p.body)
 
 -- a section
-abbrev pub Part : Type 0 → Type 0
-Part K = Keyed K (Bor (List Tree))
+abbrev pub SectionItem : Type 0 → Type 0
+SectionItem K = Keyed K (Bor (List Tree))
 
 -- a section's kind, and what stands behind its word
-abbrev pub part_seen : {K : Type 0} → Part K → K × Shapes
+abbrev pub part_seen : {K : Type 0} → SectionItem K → K × Shapes
 part_seen p = (p.kind, shapes p.body.now)
 
 -- a list that begins with the word of a kind

@@ -10,9 +10,9 @@ use Rattle.tp_ast.specs.Actions.{Action}
 use Rattle.tp_ast.specs.Domains.{SectionBody, sections_of, each_once, actions_in}
 use Rattle.tp_ast.specs.declared.words.Section.{Section}
 use Rattle.tp_ast.specs.declared.words.Section.TheVariants as sections
-use Rattle.tp_syntax.specs.KeyedParts.{Part}
+use Rattle.tp_syntax.specs.KeyedParts.{SectionItem}
 
-abbrev pub section_body_view : Part Section → SectionBody
+abbrev pub section_body_view : SectionItem Section → SectionBody
 section_body_view p = record { section = p.kind; body = shapes p.body.now }
 
 -- each but the actions at most once

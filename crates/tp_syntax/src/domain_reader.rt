@@ -17,7 +17,7 @@ ghost use Rattle.tp_ast.specs.Gives.{Gives};
 ghost use Rattle.tp_ast.specs.declared.words.Section.TheVariants as sections;
 
 use crate::action_reader::read_action;
-use crate::keyed::Part;
+use crate::keyed::SectionItem;
 use crate::known::with_signatures;
 use crate::sections::{find_section, read_sections};
 use std::alloc::Global;
@@ -53,7 +53,7 @@ fn add_action(
     alloc: Global,
     actions: &mut Vec<Action>,
     symbols: &Symbols,
-    part: &Part<Section>,
+    part: &SectionItem<Section>,
 ) -> Result<(), SyntaxFault>
     ensures { Adds (map action_view actions.old.items) (map action_view actions.new.items) result
         (action_at (symbols_view symbols.now) part.now.kind (shapes part.now.body.now)) }
@@ -68,7 +68,7 @@ fn add_action(
 fn actions_in(
     alloc: Global,
     symbols: &Symbols,
-    parts: &[Part<Section>],
+    parts: &[SectionItem<Section>],
 ) -> Result<Vec<Action>, SyntaxFault>
     ensures { Gives (λ v. map action_view v.items) result
         (actions_in (symbols_view symbols.now) (map section_body_view parts.now)) }
@@ -81,7 +81,7 @@ fn actions_in(
 }
 
 // Where the action of a number has its name.
-fn action_place(parts: &[Part<Section>], number: usize) -> u32 {
+fn action_place(parts: &[SectionItem<Section>], number: usize) -> u32 {
     let mut left = number;
     for part in parts {
         if action_kind(part.kind).is_some() {
@@ -98,7 +98,7 @@ fn action_place(parts: &[Part<Section>], number: usize) -> u32 {
 fn actions_once(
     alloc: Global,
     symbols: &Symbols,
-    parts: &[Part<Section>],
+    parts: &[SectionItem<Section>],
 ) -> Result<Vec<Action>, SyntaxFault>
     ensures { Gives (λ v. map action_view v.items) result
         (actions_once (symbols_view symbols.now) (map section_body_view parts.now)) }
@@ -110,7 +110,7 @@ fn actions_once(
     Ok(actions)
 }
 
-fn requirements(alloc: Global, parts: &[Part<Section>]) -> Result<Vec<String>, SyntaxFault>
+fn requirements(alloc: Global, parts: &[SectionItem<Section>]) -> Result<Vec<String>, SyntaxFault>
     ensures { Gives (λ v. map string_bytes v.items) result
         (requirements_in (section sections.Requirements (map section_body_view parts.now))) }
 {
@@ -118,7 +118,7 @@ fn requirements(alloc: Global, parts: &[Part<Section>]) -> Result<Vec<String>, S
     requirements_in(alloc, part.body, part.at)
 }
 
-fn types(alloc: Global, parts: &[Part<Section>]) -> Result<Vec<TypeName>, SyntaxFault>
+fn types(alloc: Global, parts: &[SectionItem<Section>]) -> Result<Vec<TypeName>, SyntaxFault>
     ensures { Gives (λ v. map parent_view v.items) result
         (types_in (section sections.Types (map section_body_view parts.now))) }
 {
@@ -129,7 +129,7 @@ fn types(alloc: Global, parts: &[Part<Section>]) -> Result<Vec<TypeName>, Syntax
 fn constants(
     alloc: Global,
     types: &Types,
-    parts: &[Part<Section>],
+    parts: &[SectionItem<Section>],
 ) -> Result<Vec<Typed>, SyntaxFault>
     ensures { Gives (λ v. map typed_view v.items) result
         (objects_in (types_view types.now)
@@ -142,7 +142,7 @@ fn constants(
 fn predicates(
     alloc: Global,
     types: &Types,
-    parts: &[Part<Section>],
+    parts: &[SectionItem<Section>],
 ) -> Result<Vec<Signature>, SyntaxFault>
     ensures { Gives (λ v. map signature_view v.items) result (predicates_in
         (types_view types.now) (section sections.Predicates (map section_body_view parts.now))) }
@@ -154,7 +154,7 @@ fn predicates(
 fn functions(
     alloc: Global,
     types: &Types,
-    parts: &[Part<Section>],
+    parts: &[SectionItem<Section>],
 ) -> Result<Vec<Signature>, SyntaxFault>
     ensures { Gives (λ v. map signature_view v.items) result (functions_in
         (types_view types.now) (section sections.Functions (map section_body_view parts.now))) }
@@ -170,7 +170,7 @@ fn actions_over<'d>(
     constants: &'d [Typed],
     predicates: &'d [Signature],
     functions: &'d [Signature],
-    parts: &[Part<Section>],
+    parts: &[SectionItem<Section>],
 ) -> Result<Vec<Action>, SyntaxFault>
     ensures { Gives (λ v. map action_view v.items) result
         (actions_once (domain_symbols (types_view types.entry) (map typed_view constants.now)
@@ -183,7 +183,11 @@ fn actions_over<'d>(
     actions_once(alloc, &symbols, parts)
 }
 
-fn domain_with(alloc: Global, name: String, parts: &[Part<Section>]) -> Result<Domain, SyntaxFault>
+fn domain_with(
+    alloc: Global,
+    name: String,
+    parts: &[SectionItem<Section>],
+) -> Result<Domain, SyntaxFault>
     ensures { Gives domain_view result
         (domain_with (string_bytes name) (map section_body_view parts.now)) }
 {

@@ -7,7 +7,7 @@ ghost use Rattle.tp_syntax.specs.Fields.{field_view, key_at, are_fields_of, chec
 ghost use Rattle.tp_ast.specs.Terms.{shapes};
 ghost use Rattle.tp_ast.specs.Gives.{Gives};
 
-use crate::keyed::{Keyed, Kind, find, repeated};
+use crate::keyed::{ItemKind, Keyed, find, repeated};
 use std::alloc::Global;
 use tp_ast::fault::SyntaxFault;
 use tp_ast::words::{Key, key_of};
@@ -17,7 +17,7 @@ use tp_text::Tree;
 /// A field: a word and its value, in the list of an action.
 pub type Field<'t, 'a> = Keyed<Key, &'t Tree<'a>>;
 
-impl Kind for Key {
+impl ItemKind for Key {
     ghost use Rattle.std.specs.Prelude.{false};
     ghost use Rattle.tp_ast.specs.Actions.{key_number};
 

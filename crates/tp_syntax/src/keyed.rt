@@ -13,7 +13,7 @@ use tp_ast::fault::SyntaxFault;
 use tp_text::{Token, Tree};
 
 /// A kind of item.
-pub trait Kind: Copy {
+pub trait ItemKind: Copy {
     ghost number: { Self → ℕ };
 
     ghost may_repeat: { Self → Bool };
@@ -28,7 +28,7 @@ pub trait Kind: Copy {
 }
 
 /// A kind of section, and the word that a section of the kind begins with.
-pub trait SectionWord: Kind {
+pub trait SectionWord: ItemKind {
     /// The kind that a word stands for.
     ghost kind_of: { List ℕ → Option Self };
 
@@ -50,10 +50,10 @@ pub struct Keyed<K, B> {
 }
 
 /// A section: a list that begins with its word.
-pub type Part<'t, 'a, K> = Keyed<K, &'t [Tree<'a>]>;
+pub type SectionItem<'t, 'a, K> = Keyed<K, &'t [Tree<'a>]>;
 
 /// The first item of a kind.
-pub fn find<K: Kind, B: Copy>(kind: K, items: &[Keyed<K, B>]) -> Option<Keyed<K, B>>
+pub fn find<K: ItemKind, B: Copy>(kind: K, items: &[Keyed<K, B>]) -> Option<Keyed<K, B>>
     ensures { option_map (λ p. p.body) result ≡ first K.number kind (map with_kind items.now) }
 {
     for item in items {
@@ -65,7 +65,7 @@ pub fn find<K: Kind, B: Copy>(kind: K, items: &[Keyed<K, B>]) -> Option<Keyed<K,
 }
 
 /// The second item of a kind that may stand in a list once.
-pub fn repeated<K: Kind, B: Copy>(items: &[Keyed<K, B>]) -> Option<Keyed<K, B>>
+pub fn repeated<K: ItemKind, B: Copy>(items: &[Keyed<K, B>]) -> Option<Keyed<K, B>>
     ensures { is_some result ≡ not (each_once K.number K.may_repeat (map with_kind items.now)) }
 {
     let mut rest = items;
@@ -85,7 +85,7 @@ pub fn repeated<K: Kind, B: Copy>(items: &[Keyed<K, B>]) -> Option<Keyed<K, B>>
 fn part_at<'t, 'a, K: SectionWord>(
     tree: &'t Tree<'a>,
     above: u32,
-) -> Result<Part<'t, 'a, K>, SyntaxFault>
+) -> Result<SectionItem<'t, 'a, K>, SyntaxFault>
     ensures { Gives part_seen result (part_of K.kind_of (shape_of tree.now)) }
 {
     let (items, at) = match tree {
@@ -114,7 +114,7 @@ fn parts_of<'t, 'a, K: SectionWord>(
     alloc: Global,
     trees: &'t [Tree<'a>],
     at: u32,
-) -> Result<Vec<Part<'t, 'a, K>>, SyntaxFault>
+) -> Result<Vec<SectionItem<'t, 'a, K>>, SyntaxFault>
     ensures { Gives (λ v. map part_seen v.items) result (parts_of K.kind_of (shapes trees.now)) }
 {
     let mut parts = Vec::new(alloc);
@@ -133,9 +133,9 @@ fn no_trees<'t, 'a>() -> &'t [Tree<'a>]
 /// The first section of a kind; if it is missing, an empty one at `at`.
 pub fn find_or_empty<'t, 'a, K: SectionWord>(
     kind: K,
-    parts: &[Part<'t, 'a, K>],
+    parts: &[SectionItem<'t, 'a, K>],
     at: u32,
-) -> Part<'t, 'a, K>
+) -> SectionItem<'t, 'a, K>
     ensures { shapes result.body.now ≡ or_nothing (first K.number kind (map part_seen parts.now)) }
 {
     find(kind, parts).unwrap_or(Keyed {
@@ -152,7 +152,7 @@ pub fn read_parts<'t, 'a, K: SectionWord>(
     alloc: Global,
     trees: &'t [Tree<'a>],
     at: u32,
-) -> Result<Vec<Part<'t, 'a, K>>, SyntaxFault>
+) -> Result<Vec<SectionItem<'t, 'a, K>>, SyntaxFault>
     ensures { Gives (λ v. map part_seen v.items) result
         (once_each K.kind_of K.number K.may_repeat (shapes trees.now)) }
 {

@@ -18,7 +18,7 @@ ghost use Rattle.tp_ast.specs.declared.words.ProblemSection.TheVariants as secti
 
 use crate::clash::first_clash;
 use crate::initial::initial_of;
-use crate::keyed::Part;
+use crate::keyed::SectionItem;
 use crate::known::with_signatures;
 use crate::problem_sections::{find_section, once_each};
 use std::alloc::{AllocError, Global};
@@ -110,7 +110,7 @@ fn entry_place(trees: &[Tree], number: usize, at: u32) -> u32 {
 fn initial_in(
     alloc: Global,
     symbols: &Symbols,
-    parts: &[Part<ProblemSection>],
+    parts: &[SectionItem<ProblemSection>],
     at: u32,
 ) -> Result<Vec<Initial>, SyntaxFault>
     ensures { Gives (λ v. map initial_view v.items) result
@@ -125,7 +125,7 @@ fn initial_in(
 fn goal_of(
     alloc: Global,
     symbols: &Symbols,
-    parts: &[Part<ProblemSection>],
+    parts: &[SectionItem<ProblemSection>],
     at: u32,
 ) -> Result<Cond, SyntaxFault>
     ensures { Gives cond_view result
@@ -141,7 +141,7 @@ fn goal_of(
 fn stated(
     alloc: Global,
     symbols: &Symbols,
-    parts: &[Part<ProblemSection>],
+    parts: &[SectionItem<ProblemSection>],
     at: u32,
 ) -> Result<(Vec<Initial>, Cond), SyntaxFault>
     ensures { Gives (λ r. (map initial_view r.0.items, cond_view r.1)) result
@@ -182,7 +182,7 @@ fn stated_of(
     alloc: Global,
     domain: &Domain,
     objects: &[Typed],
-    parts: &[Part<ProblemSection>],
+    parts: &[SectionItem<ProblemSection>],
     at: u32,
 ) -> Result<(Vec<Initial>, Cond), SyntaxFault>
     ensures { Gives (λ r. (map initial_view r.0.items, cond_view r.1)) result (stated (symbols_with
@@ -197,7 +197,7 @@ fn problem_with(
     alloc: Global,
     domain: &Domain,
     name: String,
-    parts: &[Part<ProblemSection>],
+    parts: &[SectionItem<ProblemSection>],
     at: u32,
 ) -> Result<Problem, SyntaxFault>
     ensures { Gives problem_view result

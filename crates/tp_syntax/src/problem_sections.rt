@@ -6,13 +6,13 @@ ghost use Rattle.tp_ast.specs.Problems.{section, once_each};
 ghost use Rattle.tp_syntax.specs.ProblemViews.{section_body_view};
 ghost use Rattle.tp_ast.specs.Gives.{Gives};
 
-use crate::keyed::{Kind, Part, SectionWord, find_or_empty, read_parts};
+use crate::keyed::{ItemKind, SectionItem, SectionWord, find_or_empty, read_parts};
 use std::alloc::Global;
 use tp_ast::fault::{LeftOutPart, SyntaxFault};
 use tp_ast::words::{ProblemSection, is_word, problem_section_of};
 use tp_text::{Token, Tree};
 
-impl Kind for ProblemSection {
+impl ItemKind for ProblemSection {
     ghost use Rattle.std.specs.Prelude.{false};
     ghost use Rattle.tp_ast.specs.Problems.{section_number};
 
@@ -57,9 +57,9 @@ impl SectionWord for ProblemSection {
 /// The section of a kind; if it is missing, an empty one at `at`.
 pub fn find_section<'t, 'a>(
     kind: ProblemSection,
-    parts: &[Part<'t, 'a, ProblemSection>],
+    parts: &[SectionItem<'t, 'a, ProblemSection>],
     at: u32,
-) -> Part<'t, 'a, ProblemSection>
+) -> SectionItem<'t, 'a, ProblemSection>
     ensures { shapes result.body.now ≡ section kind (map section_body_view parts.now) }
 {
     find_or_empty(kind, parts, at)
@@ -70,7 +70,7 @@ pub fn once_each<'t, 'a>(
     alloc: Global,
     trees: &'t [Tree<'a>],
     at: u32,
-) -> Result<Vec<Part<'t, 'a, ProblemSection>>, SyntaxFault>
+) -> Result<Vec<SectionItem<'t, 'a, ProblemSection>>, SyntaxFault>
     ensures { Gives (λ v. map section_body_view v.items) result (once_each (shapes trees.now)) }
 {
     read_parts(alloc, trees, at)

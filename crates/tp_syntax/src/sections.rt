@@ -6,13 +6,13 @@ ghost use Rattle.tp_syntax.specs.SectionViews.{section_body_view, checked_sectio
 ghost use Rattle.tp_ast.specs.Terms.{shapes};
 ghost use Rattle.tp_ast.specs.Gives.{Gives};
 
-use crate::keyed::{Kind, Part, SectionWord, find_or_empty, read_parts};
+use crate::keyed::{ItemKind, SectionItem, SectionWord, find_or_empty, read_parts};
 use std::alloc::Global;
 use tp_ast::fault::{LeftOutPart, SyntaxFault};
 use tp_ast::words::{Section, is_word, section_of};
 use tp_text::{Token, Tree};
 
-impl Kind for Section {
+impl ItemKind for Section {
     ghost use Rattle.tp_ast.specs.Domains.{section_number, is_action};
 
     ghost number = { section_number };
@@ -62,8 +62,8 @@ impl SectionWord for Section {
 /// What stands in a section, nothing if it is missing.
 pub fn find_section<'t, 'a>(
     wanted: Section,
-    parts: &[Part<'t, 'a, Section>],
-) -> Part<'t, 'a, Section>
+    parts: &[SectionItem<'t, 'a, Section>],
+) -> SectionItem<'t, 'a, Section>
     ensures { shapes result.body.now ≡ section wanted (map section_body_view parts.now) }
 {
     find_or_empty(wanted, parts, 0)
@@ -74,7 +74,7 @@ pub fn read_sections<'t, 'a>(
     alloc: Global,
     trees: &'t [Tree<'a>],
     at: u32,
-) -> Result<Vec<Part<'t, 'a, Section>>, SyntaxFault>
+) -> Result<Vec<SectionItem<'t, 'a, Section>>, SyntaxFault>
     ensures { Gives (λ v. map section_body_view v.items) result
         (checked_sections (shapes trees.now)) }
 {

@@ -8,4 +8,4 @@ pub returns : goal.returns
 returns g c =
     ap (λ p. shapes p.body.now) c.unwrap_or.ensures
     ∙ or_else c.find.result _ c.no_trees.ensures
-    ∙ ap or_nothing (part_found g.K.Kind.number c.args.kind c.args.parts.now c.find.result c.find.ensures)
+    ∙ ap or_nothing (part_found g.K.ItemKind.number c.args.kind c.args.parts.now c.find.result c.find.ensures)
