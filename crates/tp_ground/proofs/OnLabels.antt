@@ -103,9 +103,3 @@ numbered_on N M l new words i w is h g at pushed = (
 
 pub taken_on : {A : Type 0} (f : A → List ℕ) (xs : List A) (i : ℕ) (d : A) → i < length xs → map f (take i xs) ++ f (get_or xs i d) ∷ [] ≡ map f (take (i + 1) xs)
 taken_on f xs i d lt = sym (ap (map f) (take_more xs i d lt) ∙ map-append f (take i xs) (get_or xs i d ∷ []))
-
-pub last_split : {A : Type 0} (f : A → List ℕ) (xs : List A) (d : A) → 1 ≤ length xs → map f xs ≡ map f (take (length xs - 1) xs) ++ f (get_or xs (length xs - 1) d) ∷ []
-last_split f xs d le =
-    let whole : length xs - 1 + 1 ≡ length xs = omega arith in
-    ap (map f) (sym (take_all (length xs) xs (omega arith)) ∙ ap (λ n. take n xs) (sym whole))
-    ∙ sym (taken_on f xs (length xs - 1) d (omega arith))

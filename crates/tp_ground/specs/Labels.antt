@@ -1,6 +1,6 @@
 -- Words as the numbers of their names, and the numberings that are kept so.
-use Rattle.std.specs.Prelude.{◌≡◌, ℕ, ◌<◌, ◌≤◌, List, [], ◌∷◌, ◌++◌, map, length, nat_eq, slice_index_or, if◌then◌else◌}
-use Rattle.std.specs.List.{AllByRecursion, IsDistinct, list_any}
+use Rattle.std.specs.Prelude.{◌≡◌, ℕ, ◌<◌, ◌≤◌, List, [], ◌∷◌, ◌++◌, Bool, map, length, nat_eq, slice_index_or, if◌then◌else◌}
+use Rattle.std.specs.List.{AllByRecursion, IsDistinct, list_any, list_all}
 use Rattle.std.specs.Str.{bytes_eq}
 use Rattle.std.specs.Cmp.Lexicographic.{pointwise}
 use Rattle.tp_ground.specs.Words.{Words}
@@ -20,6 +20,10 @@ Grows {A} old new = (more : List A) × (new ≡ old ++ more)
 -- each number has a name
 abbrev pub AreNamed : ℕ → List ℕ → Type 0
 AreNamed names label = AllByRecursion (λ i. i < names) label
+
+-- whether each of these words is a name
+abbrev pub are_known : List (List ℕ) → Words → Bool
+are_known names words = list_all (λ w. list_any (bytes_eq w) names) words
 
 -- No name has two numbers, each label's numbers have names, and there are no more atoms and fluents than there may be.
 pub record IsNumbering (names atoms fluents actions : List (List ℕ)) (most : ℕ) : Type 0 where

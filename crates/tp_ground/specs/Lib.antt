@@ -16,7 +16,6 @@ pub mod Views
 pub mod KnownChoices
 pub mod Tables
 pub mod Initially
-pub mod NumberViews
 pub mod Written
 pub mod Mentions
 pub mod ReadBack

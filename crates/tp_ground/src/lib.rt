@@ -3,7 +3,7 @@
 //! - `events`, `task`: conditions, expressions, effects, events and tasks as data; `laws`: what holds of their plans
 //! - `truth`: whether parts of a condition hold, where they have a truth; whether effects mention the duration
 //! - `objects`, `universe`, `noting`, `rows`: the objects, what variables may stand for, and their bindings
-//! - `lookup`, `guesses`, `numbering`: names, atoms and fluents by number
+//! - `labels`, `lookup`, `guesses`, `numbering`: names, atoms, fluents and actions by number
 //! - `environment`, `lowering`: conditions, expressions, effects and bodies grounded under a binding
 //! - `numbers`, `beginning`, `grounding`, `grounder`: numbers past the limit, the initial state, all ground actions, the task
 //! - `fault`: why a problem has none
@@ -16,6 +16,7 @@ mod fault;
 mod grounder;
 mod grounding;
 mod guesses;
+mod labels;
 mod laws;
 mod lookup;
 mod lowering;

@@ -1,79 +1,15 @@
 //! Words looked up and written out by the numbers of their names.
 
-ghost use Rattle.std.specs.Prelude.{◌≡◌, ◌∷◌, [], ◌++◌, map, length, nat_eq, option_map, slice_get, IfOk, OnOk, slice_index_or, string_bytes, IfSome, ◌+◌, ◌<◌, ◌^◌, true, Some};
+ghost use Rattle.std.specs.Prelude.{◌≡◌, ◌∷◌, [], ◌++◌, map, length, option_map, slice_get, IfOk, OnOk, slice_index_or, string_bytes, IfSome, ◌+◌, ◌<◌, ◌^◌, true, false, Some, MatchOption};
 ghost use Rattle.std.specs.List.{AllByRecursion, IsDistinct, position_from};
 ghost use Rattle.std.specs.Str.{bytes_eq};
-ghost use Rattle.std.specs.Cmp.Lexicographic.{pointwise};
 ghost use Rattle.tp_ground.specs.Words.{same_words, text_of_words};
-ghost use Rattle.tp_ground.specs.Labels.{named, AreNamed};
-ghost use Rattle.tp_ground.specs.NumberViews.{numbers_view};
+ghost use Rattle.tp_ground.specs.Labels.{named, are_known, AreNamed};
 
+use crate::labels::{Label, Labels};
 use indexmap::IndexSet;
 use smallvec::SmallVec;
 use std::alloc::AllocError;
-
-/// Words by the numbers of their names: most atoms have at most three objects.
-pub type Label = SmallVec<usize, 4>;
-
-/// Numbers of names, in a chain that takes no memory.
-#[derive(Clone, Copy)]
-pub enum Numbers<'a> {
-    Done,
-    Next(usize, &'a Numbers<'a>),
-}
-
-// The most arguments whose numbers are kept in a chain, one call of `find_by_numbers` each.
-const MOST_CHAINED: usize = 64;
-
-// Whether a label has exactly these numbers.
-fn is_label(numbers: &Numbers, label: &[usize]) -> bool
-    ensures { result ≡ pointwise nat_eq (numbers_view numbers.now) label.now }
-{
-    match (numbers, label) {
-        (Numbers::Done, []) => true,
-        (Numbers::Next(number, more), [first, rest @ ..]) => {
-            number == first && is_label(more, rest)
-        }
-        _ => false,
-    }
-}
-
-// Where the first label of these numbers stands.
-fn position_of(numbers: &Numbers, labels: &[Label]) -> Option<usize>
-    ensures { result ≡ position_from
-        (pointwise nat_eq (numbers_view numbers.now)) 0 (map (λ l. l.items) labels.now) }
-{
-    for (place, label) in labels.iter().enumerate() {
-        if is_label(numbers, label.as_slice()) {
-            return Some(place);
-        }
-    }
-    None
-}
-
-// Where the first label of these words stands: a name, the objects that are left, and those whose numbers are known.
-fn find_by_numbers(
-    names: &IndexSet<String>,
-    labels: &[Label],
-    name: &str,
-    left: &[&str],
-    known: &Numbers,
-) -> Option<usize>
-    requires distinct { IsDistinct bytes_eq (map string_bytes names.now.keys) }
-    requires named { AllByRecursion
-        (AreNamed (length (map string_bytes names.now.keys))) (map (λ l. l.items) labels.now) }
-    requires known { AreNamed (length (map string_bytes names.now.keys)) (numbers_view known.now) }
-    ensures { result ≡ position_from (same_words (name.now ∷ (map (λ w. w.now) left.now
-        ++ named (map string_bytes names.now.keys) (numbers_view known.now)))) 0
-        (map (named (map string_bytes names.now.keys)) (map (λ l. l.items) labels.now)) }
-{
-    let [others @ .., last] = left else {
-        let number = names.get_index_of(name)?;
-        return position_of(&Numbers::Next(number, &*known), labels);
-    };
-    let number = names.get_index_of(*last)?;
-    find_by_numbers(names, labels, name, others, &Numbers::Next(number, &*known))
-}
 
 // Whether a number's name is this word.
 fn is_name(names: &IndexSet<String>, number: usize, word: &str) -> bool
@@ -120,42 +56,61 @@ fn is_called(names: &IndexSet<String>, label: &[usize], name: &str, args: &[&str
 // Where the first label of these words stands: a name and its objects.
 fn find_by_names(
     names: &IndexSet<String>,
-    labels: &[Label],
+    labels: &Labels,
     name: &str,
     args: &[&str],
 ) -> Option<usize>
-    ensures { result ≡ position_from (same_words (name.now ∷ map (λ w. w.now) args.now)) 0
-        (map (named (map string_bytes names.now.keys)) (map (λ l. l.items) labels.now)) }
+    ensures { result ≡ position_from (same_words (name.now ∷ map (λ a. a.now) args.now)) 0
+        (map (named (map string_bytes names.now.keys)) labels.now) }
 {
-    for (place, label) in labels.iter().enumerate() {
-        if is_called(names, label.as_slice(), name, args) {
+    for place in 0..labels.len() {
+        if is_called(names, labels.at(place), name, args) {
             return Some(place);
         }
     }
     None
 }
 
-/// Where the first label of these words stands: a name and its objects.
-pub fn find(names: &IndexSet<String>, labels: &[Label], name: &str, args: &[&str]) -> Option<usize>
-    requires distinct { IsDistinct bytes_eq (map string_bytes names.now.keys) }
-    requires named { AllByRecursion
-        (AreNamed (length (map string_bytes names.now.keys))) (map (λ l. l.items) labels.now) }
-    ensures { result ≡ position_from (same_words (name.now ∷ map (λ w. w.now) args.now)) 0
-        (map (named (map string_bytes names.now.keys)) (map (λ l. l.items) labels.now)) }
+// The label of words, a name and its objects; None if one of them has no number.
+fn known_label(
+    names: &IndexSet<String>,
+    name: &str,
+    args: &[&str],
+) -> Result<Option<Label>, AllocError>
+    ensures { IfOk result (λ known. MatchOption known
+        (are_known (map string_bytes names.now.keys)
+        (name.now ∷ map (λ a. a.now) args.now) ≡ false)
+        (λ l. (named (map string_bytes names.now.keys) l.items
+        ≡ name.now ∷ map (λ a. a.now) args.now)
+        × AreNamed (length (map string_bytes names.now.keys)) l.items)) }
 {
-    if args.len() > MOST_CHAINED {
-        return find_by_names(names, labels, name, args);
+    let Some(first) = names.get_index_of(name) else {
+        return Ok(None);
+    };
+    let mut label = SmallVec::new(*names.allocator());
+    label.push(first)?;
+    for arg in args {
+        let Some(number) = names.get_index_of(*arg) else {
+            return Ok(None);
+        };
+        label.push(number)?;
     }
-    find_by_numbers(names, labels, name, args, &Numbers::Done)
+    Ok(Some(label))
 }
 
-/// The label at a number, empty past the end.
-pub fn label_at<'a>(labels: &'a [Label], number: u32) -> &'a [usize]
-    ensures { result.now ≡ slice_index_or (map (λ l. l.items) labels.now) number [] }
+/// Where the first label of these words stands: a name and its objects.
+pub fn find(names: &IndexSet<String>, labels: &Labels, name: &str, args: &[&str]) -> Option<usize>
+    requires distinct { IsDistinct bytes_eq (map string_bytes names.now.keys) }
+    requires named { AllByRecursion
+        (AreNamed (length (map string_bytes names.now.keys))) labels.now }
+    ensures { result ≡ position_from (same_words (name.now ∷ map (λ a. a.now) args.now)) 0
+        (map (named (map string_bytes names.now.keys)) labels.now) }
 {
-    match labels.get(number as usize) {
-        Some(label) => label.as_slice(),
-        None => &[],
+    match known_label(names, name, args) {
+        Ok(Some(label)) => labels.position(&label),
+        Ok(None) => None,
+        // No memory for the numbers of so many words: the labels are looked at one after another.
+        Err(_) => find_by_names(names, labels, name, args),
     }
 }
 

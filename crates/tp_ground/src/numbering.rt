@@ -9,7 +9,8 @@ ghost use Rattle.tp_ground.specs.Tables.{words_at, IsFull, CannotNumber};
 
 use crate::fault::{GroundFault, TooManyKind};
 use crate::guesses::Guesses;
-use crate::lookup::{Label, find, has_words_at, label_at, text_of, word_of};
+use crate::labels::{Label, Labels, label_at};
+use crate::lookup::{find, has_words_at, text_of, word_of};
 use indexmap::IndexSet;
 use smallvec::SmallVec;
 use std::alloc::{AllocError, Global};
@@ -21,7 +22,7 @@ pub struct Numbering {
     names: IndexSet<String>,
     atoms: IndexSet<Label>,
     fluents: IndexSet<Label>,
-    actions: Vec<Label>,
+    actions: Labels,
     most: u32,
     /// Where atoms and fluents were found before.
     guesses: Guesses,
@@ -40,13 +41,13 @@ impl Model for Numbering {
     ghost view = { λ n. record {
       atoms = map (named (map string_bytes n.names.keys)) (map (λ l. l.items) n.atoms.keys);
       fluents = map (named (map string_bytes n.names.keys)) (map (λ l. l.items) n.fluents.keys);
-      actions = map (named (map string_bytes n.names.keys)) (map (λ l. l.items) n.actions.items);
+      actions = map (named (map string_bytes n.names.keys)) n.actions;
       most = n.most;
     } };
 
     ghost invariant = { λ n.
         IsNumbering (map string_bytes n.names.keys) (map (λ l. l.items) n.atoms.keys)
-        (map (λ l. l.items) n.fluents.keys) (map (λ l. l.items) n.actions.items) n.most };
+        (map (λ l. l.items) n.fluents.keys) n.actions n.most };
 }
 
 // The number of a name, which gets one if it has none.
@@ -94,14 +95,6 @@ fn number_near(
         return Ok(number);
     }
     name_number(names, name)
-}
-
-// The last label, if there is one.
-fn last_of(labels: &[Label]) -> &[usize] {
-    match labels.last() {
-        Some(label) => label.as_slice(),
-        None => &[],
-    }
 }
 
 // The label of words, which may have names in common with a label near it.
@@ -158,7 +151,7 @@ impl Numbering {
             names: IndexSet::new(alloc),
             atoms: IndexSet::new(alloc),
             fluents: IndexSet::new(alloc),
-            actions: Vec::new(alloc),
+            actions: Labels::new(alloc),
             most,
             guesses: Guesses::new(alloc),
         }
@@ -291,8 +284,7 @@ impl Numbering {
         ensures fluents { self.new.fluents ≡ self.old.fluents }
         ensures most { self.new.most ≡ self.old.most }
     {
-        let near = last_of(&self.actions);
-        let label = label_of(&mut self.names, near, words)?;
+        let label = label_of(&mut self.names, self.actions.last(), words)?;
         self.actions.push(label)?;
         Ok(())
     }
@@ -310,7 +302,8 @@ impl Numbering {
         ensures { IfOk result
             (λ s. string_bytes s ≡ text_of_words (words_at self.now.atoms number)) }
     {
-        text_of(&self.names, label_at(self.atoms.as_slice(), number))
+        let label = label_at(self.atoms.as_slice(), number as usize);
+        text_of(&self.names, label)
     }
 
     /// An action as text.
@@ -318,7 +311,7 @@ impl Numbering {
         ensures { IfOk result
             (λ s. string_bytes s ≡ text_of_words (words_at self.now.actions number)) }
     {
-        text_of(&self.names, label_at(&self.actions, number))
+        text_of(&self.names, self.actions.at(number as usize))
     }
 
     /// A word of an action: its name at 0, and then its objects.
@@ -327,6 +320,6 @@ impl Numbering {
         ensures word { option_map (λ w. w.now) result
             ≡ slice_get (words_at self.now.actions number) place }
     {
-        word_of(&self.names, label_at(&self.actions, number), place)
+        word_of(&self.names, self.actions.at(number as usize), place)
     }
 }

@@ -5,4 +5,4 @@ use Rattle.tp_ground.specs.Labels.{named}
 use Rattle.tp_ground.proofs.lookup.find_by_names.Given as goal
 
 abbrev pub invariant-loop-place : goal.invariant-loop-place
-invariant-loop-place l = position_from (same_words (l.name ∷ map (λ w. w.now) l.args)) l.place (map (named (map string_bytes l.names.keys)) (map (λ k. k.items) (drop l.place l.labels))) ≡ position_from (same_words (l.name ∷ map (λ w. w.now) l.args)) 0 (map (named (map string_bytes l.names.keys)) (map (λ k. k.items) l.labels))
+invariant-loop-place l = position_from (same_words (l.name ∷ map (λ w. w.now) l.args)) l.place (map (named (map string_bytes l.names.keys)) (drop l.place l.labels)) ≡ position_from (same_words (l.name ∷ map (λ w. w.now) l.args)) 0 (map (named (map string_bytes l.names.keys)) l.labels)

@@ -1,6 +1,5 @@
-use Rattle.std.proofs.Common.{ℕ, [], map, get_or, string_bytes, sym, ap, ◌∙◌}
+use Rattle.std.proofs.Common.{map, string_bytes, sym, ap, ◌∙◌}
 use Rattle.std.proofs.lemmas.Result.{IfOk-weaker}
-use Rattle.smallvec.specs.SmallVec.{SmallVec}
 use Rattle.tp_ground.specs.Words.{text_of_words}
 use Rattle.tp_ground.specs.Labels.{named}
 use Rattle.tp_ground.specs.Tables.{words_at}
@@ -11,7 +10,7 @@ pub returns : goal.returns
 returns c =
     IfOk-weaker c.text_of.result _ _
     (λ s e. e ∙ ap text_of_words
-    (ap (named (map string_bytes c.self.inside.names.keys)) (c.label_at.ensures ∙ ap (λ ls. get_or (map (λ (l : SmallVec ℕ). l.items) ls) c.args.number []) c.deref.ensures.value)
+    (ap (named (map string_bytes c.self.inside.names.keys)) c.at.ensures
     ∙ sym (words_named (map string_bytes c.self.inside.names.keys) _ c.args.number)
     ∙ ap (λ t. words_at t.actions c.args.number) c.self.view_is))
     c.text_of.ensures

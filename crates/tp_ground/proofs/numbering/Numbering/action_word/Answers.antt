@@ -1,5 +1,4 @@
-use Rattle.std.proofs.Common.{ℕ, [], map, length, get_or, slice_get, string_bytes, sym, ap, subst, ◌∙◌}
-use Rattle.smallvec.specs.SmallVec.{SmallVec}
+use Rattle.std.proofs.Common.{map, length, slice_get, string_bytes, sym, ap, subst, ◌∙◌}
 use Rattle.tp_ground.specs.Labels.{named, AreNamed}
 use Rattle.tp_ground.specs.Tables.{words_at}
 use Rattle.tp_ground.proofs.OnNumberings.{words_named, named_at}
@@ -8,13 +7,13 @@ use Rattle.tp_ground.proofs.numbering.Numbering.action_word.Goals as goal
 pub word_of-requires : goal.word_of-requires
 word_of-requires c =
     subst (AreNamed (length (map string_bytes c.self.inside.names.keys)))
-    (sym (c.label_at.ensures ∙ ap (λ ls. get_or (map (λ (l : SmallVec ℕ). l.items) ls) c.args.number []) c.deref.ensures.value))
-    (named_at (length (map string_bytes c.self.inside.names.keys)) (map (λ (l : SmallVec ℕ). l.items) c.self.inside.actions.items) c.args.number c.self.invariant.actions_named)
+    (sym c.at.ensures)
+    (named_at (length (map string_bytes c.self.inside.names.keys)) c.self.inside.actions c.args.number c.self.invariant.actions_named)
 
 pub returns-clause-word : goal.returns-clause-word
 returns-clause-word c =
     c.word_of.ensures.word
     ∙ ap (λ ws. slice_get ws c.args.place)
-    (ap (named (map string_bytes c.self.inside.names.keys)) (c.label_at.ensures ∙ ap (λ ls. get_or (map (λ (l : SmallVec ℕ). l.items) ls) c.args.number []) c.deref.ensures.value)
+    (ap (named (map string_bytes c.self.inside.names.keys)) c.at.ensures
     ∙ sym (words_named (map string_bytes c.self.inside.names.keys) _ c.args.number)
     ∙ ap (λ t. words_at t.actions c.args.number) c.self.view_is)

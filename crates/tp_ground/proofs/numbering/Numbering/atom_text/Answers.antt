@@ -11,7 +11,7 @@ pub returns : goal.returns
 returns c =
     IfOk-weaker c.text_of.result _ _
     (λ s e. e ∙ ap text_of_words
-    (ap (named (map string_bytes c.self.inside.names.keys)) (c.label_at.ensures ∙ ap (λ ls. get_or (map (λ (l : SmallVec ℕ). l.items) ls) c.args.number []) c.as_slice.ensures.keys)
+    (ap (named (map string_bytes c.self.inside.names.keys)) (c.label_at-label.ensures ∙ ap (λ ls. get_or (map (λ (l : SmallVec ℕ). l.items) ls) c.args.number []) c.as_slice.ensures.keys)
     ∙ sym (words_named (map string_bytes c.self.inside.names.keys) _ c.args.number)
     ∙ ap (λ t. words_at t.atoms c.args.number) c.self.view_is))
     c.text_of.ensures

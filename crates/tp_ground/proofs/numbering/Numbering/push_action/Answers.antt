@@ -1,6 +1,4 @@
-use Rattle.std.proofs.Common.{ℕ, [], ◌∷◌, ap, map, ◌∙◌}
-use Rattle.std.proofs.lemmas.List.{map-append}
-use Rattle.smallvec.specs.SmallVec.{SmallVec}
+use Rattle.std.proofs.Common.{ap}
 use Rattle.tp_ground.proofs.OnNumberings.{on_err, keep, keep_same, grown, more_actions, same_actions, push_words}
 use Rattle.tp_ground.proofs.numbering.Numbering.push_action.Goals as goal
 
@@ -15,12 +13,12 @@ returns-in_err-label-clause-fluents c = keep _ _ _ _ c.in_err-label.ensures.grow
 
 pub invariant_of-self-in_err-push : goal.invariant_of-self-in_err-push
 invariant_of-self-in_err-push c =
-    same_actions _ _ _ _ _ _ (grown _ _ _ _ _ _ c.self.invariant c.in_ok-label.ensures.grows c.in_ok-label.ensures.distinct) (ap (map (λ (l : SmallVec ℕ). l.items)) c.in_err-push.ensures.items)
+    same_actions _ _ _ _ _ _ (grown _ _ _ _ _ _ c.self.invariant c.in_ok-label.ensures.grows c.in_ok-label.ensures.distinct) c.in_err-push.ensures.unchanged
 
 pub returns-in_err-push-clause-unchanged : goal.returns-in_err-push-clause-unchanged
 returns-in_err-push-clause-unchanged c =
     on_err c.from_residual-in_err-push.result
-    (keep_same _ _ _ _ _ c.in_ok-label.ensures.grows c.self.invariant.actions_named (ap (λ t. t.actions) c.self.view_is) (ap (map (λ (l : SmallVec ℕ). l.items)) c.in_err-push.ensures.items))
+    (keep_same _ _ _ _ _ c.in_ok-label.ensures.grows c.self.invariant.actions_named (ap (λ t. t.actions) c.self.view_is) c.in_err-push.ensures.unchanged)
 
 pub returns-in_err-push-clause-atoms : goal.returns-in_err-push-clause-atoms
 returns-in_err-push-clause-atoms c = keep _ _ _ _ c.in_ok-label.ensures.grows c.self.invariant.atoms_named (ap (λ t. t.atoms) c.self.view_is)
@@ -30,13 +28,11 @@ returns-in_err-push-clause-fluents c = keep _ _ _ _ c.in_ok-label.ensures.grows 
 
 pub invariant_of-self-2 : goal.invariant_of-self-2
 invariant_of-self-2 c =
-    more_actions _ _ _ _ _ _ c.in_ok-label.label.items (grown _ _ _ _ _ _ c.self.invariant c.in_ok-label.ensures.grows c.in_ok-label.ensures.distinct) c.in_ok-label.ensures.in_range
-    (ap (map (λ (l : SmallVec ℕ). l.items)) c.in_ok-push.ensures.items ∙ map-append (λ (l : SmallVec ℕ). l.items) c.self.inside.actions.items (c.in_ok-label.label ∷ []))
+    more_actions _ _ _ _ _ _ c.in_ok-label.label.items (grown _ _ _ _ _ _ c.self.invariant c.in_ok-label.ensures.grows c.in_ok-label.ensures.distinct) c.in_ok-label.ensures.in_range c.in_ok-push.ensures.added
 
 pub returns-clause-actions : goal.returns-clause-actions
 returns-clause-actions c =
-    push_words _ _ _ _ c.in_ok-label.label.items _ _ c.in_ok-label.ensures.grows c.self.invariant.actions_named (ap (λ t. t.actions) c.self.view_is) c.in_ok-label.ensures.label
-    (ap (map (λ (l : SmallVec ℕ). l.items)) c.in_ok-push.ensures.items ∙ map-append (λ (l : SmallVec ℕ). l.items) c.self.inside.actions.items (c.in_ok-label.label ∷ []))
+    push_words _ _ _ _ c.in_ok-label.label.items _ _ c.in_ok-label.ensures.grows c.self.invariant.actions_named (ap (λ t. t.actions) c.self.view_is) c.in_ok-label.ensures.label c.in_ok-push.ensures.added
 
 pub returns-clause-atoms : goal.returns-clause-atoms
 returns-clause-atoms c = keep _ _ _ _ c.in_ok-label.ensures.grows c.self.invariant.atoms_named (ap (λ t. t.atoms) c.self.view_is)
