@@ -1,5 +1,5 @@
 // Preloaded under a program, lets one of its requests for memory fail: the one whose number stands in REFUSE, counted from 1.
-// At the end it writes how many requests there were to the file named in REQUESTS.
+// At the end it adds a line to the file named in REQUESTS: how many requests there were.
 #define _GNU_SOURCE
 #include <dlfcn.h>
 #include <errno.h>
@@ -66,7 +66,7 @@ int posix_memalign(void **block, size_t alignment, size_t size)
 __attribute__((destructor)) static void tell(void)
 {
     const char *name = getenv("REQUESTS");
-    FILE *file = name ? fopen(name, "w") : NULL;
+    FILE *file = name ? fopen(name, "a") : NULL;
     if (file) {
         fprintf(file, "%ld\n", requests);
         fclose(file);

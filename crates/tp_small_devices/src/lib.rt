@@ -32,15 +32,6 @@ impl<'a> Read for Feed<'a> {
     }
 }
 
-/// All of the text in one piece.
-pub fn whole(text: &str) -> Feed<'_> {
-    Feed {
-        bytes: text.as_bytes(),
-        most: usize::MAX,
-        broken: false,
-    }
-}
-
 /// What is left of a file in memory.
 #[derive(Drop)]
 pub struct Stored<'a> {
@@ -123,13 +114,12 @@ impl Sink for Note {
     }
 }
 
-/// Files in memory, how often one was asked for, and the one journal that can be made: its name and its room.
+/// Files in memory, and the one journal that can be made: its name and its room.
 #[derive(Drop)]
 pub struct Desk<'a> {
     alloc: Global,
     shelf: Shelf<'a>,
     journal: Option<(&'a str, usize)>,
-    pub opened: u64,
     pub last: Option<Note>,
 }
 
@@ -140,14 +130,12 @@ impl<'a> Desk<'a> {
         files: &'a [(&'a str, &'a [u8])],
         journal: Option<(&'a str, usize)>,
     ) -> Desk<'a>
-        ensures opened { result.opened ≡ 0 }
         ensures last { result.last ≡ None }
     {
         Desk {
             alloc,
             shelf: Shelf { files },
             journal,
-            opened: 0,
             last: None,
         }
     }
@@ -159,7 +147,6 @@ impl<'a> Files for Desk<'a> {
     ghost held = { λ d name. option_map (λ f. f.1.now) (find (λ f. bytes_eq f.0.now name) d.shelf.files.now) };
 
     fn open(&mut self, name: &str) -> Result<Stored<'a>, Failed> {
-        self.opened = self.opened.saturating_add(1);
         self.shelf.open(name)
     }
 }

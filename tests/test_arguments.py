@@ -1,0 +1,94 @@
+"""Calls for help, and words that are refused."""
+from program import NEVER, Case, call, whole
+
+# words that are refused, and what is said of them
+REFUSED = (
+    ("split", "error: unrecognized subcommand 'split'"),
+    ("plan d", "<PROBLEM>"),
+    ("audit", "<LOG>"),
+    ("Bare", "error: unrecognized subcommand 'Bare'"),
+    ("bare bare", "error: unexpected argument 'bare' found"),
+    ("--journal log", "error: unexpected argument '--journal' found"),
+    ("bare --journal", "--journal <FILE>"),
+    ("bare --journal a --journal b", "cannot be used multiple times"),
+    ("check d p", "<PLAN>"),
+    ("net d p", "<PLAN>"),
+    ("run d p", "<PLAN>"),
+    ("audit log d", ""),
+    ("audit log d p", ""),
+    ("audit log --scale 7", ""),
+    ("audit log d p l o", "error: unexpected argument 'o' found"),
+    ("run d p l --journal", "--journal <FILE>"),
+    ("net d p l --journal log", "error: unexpected argument '--journal' found"),
+    ("check d p l o", "error: unexpected argument 'o' found"),
+    ("''", "error: "),
+    ("help split", "error: "),
+)
+
+# options of `check` that no call may have
+OTHERS = (
+    ("check d p l --scale 0", ""),
+    ("check d p l --scale 7", ""),
+    ("check d p l --scale 1001", ""),
+    ("check d p l --horizon 1000000001", ""),
+    ("check d p l --horizon -1", ""),
+    ("check d p l --budget 5", ""),
+)
+
+# calls for the version and for the help of the program and of its commands, and what stands in it
+HELPS = (
+    (("--version", "-V"), ("tempo rattle-kit-", " logic ")),
+    (("--help", "-h", "help"), ("Usage: tempo", "bare", "Examples:", "Exit status: 0 yes")),
+    (("bare --help", "help bare"), ("Usage: tempo bare", "network N H", "window E", "--journal <FILE>", "Example:")),
+    (
+        ("check --help", "help check"),
+        ("Usage: tempo check", "TIME: (NAME ARG ..) [DURATION]", "--scale", "--horizon", "1000000", "Example:"),
+    ),
+    (("net --help", "help net"), ("Usage: tempo net", "event E TEXT", "bound ID F T W", "--horizon", "Example:")),
+    (
+        ("run --help", "help run"),
+        (
+            "Usage: tempo run",
+            "lag E L",
+            "`altered`",
+            "--journal <FILE>",
+            "--scale",
+            "Exit status: 0 a plan of the run was printed",
+            "Example:",
+        ),
+    ),
+    (("audit --help", "help audit"), ("Usage: tempo audit", "[DOMAIN]", "audit ok N", "wrong N", "--horizon", "Examples:")),
+)
+
+
+class Arguments(Case):
+    def is_refused(self, words, why):
+        """The words are refused before any file is opened, and that stands in what is said of them below the fault line."""
+        files = {word: NEVER for word in words.split() if word not in ("''", ".")}
+        found = call(words, files, whole("network 1 5\n"))
+        line, _, said = found.faults.decode().partition("\n")
+        self.assertEqual((found.answers, line, found.status), (b"", "fault arguments 1 words", 2))
+        self.assertIn(why, said)
+
+    def helps(self, words, texts):
+        """The words call for a help in which all of these texts stand."""
+        found = call(words)
+        self.assertEqual((found.faults, found.status), (b"", 0))
+        for text in texts:
+            self.assertIn(text, found.answers.decode())
+
+    def test_words_that_are_no_command_are_refused(self):
+        for words, why in REFUSED:
+            with self.subTest(f"tempo {words}"):
+                self.is_refused(words, why)
+
+    def test_help_goes_to_the_output(self):
+        for calls, texts in HELPS:
+            for words in calls:
+                with self.subTest(f"tempo {words}"):
+                    self.helps(words, texts)
+
+    def test_other_scales_and_horizons_are_refused(self):
+        for words, why in OTHERS:
+            with self.subTest(f"tempo {words}"):
+                self.is_refused(words, why)

@@ -1,0 +1,188 @@
+"""Verdicts on plans in files, worked by hand."""
+from program import NEVER, Case, Once, told, world
+
+SUPPLY_DOMAIN = """(define (domain supply)
+ (:functions (stock))
+ (:action empty-and-fill :parameters () :effect (and (assign (stock) 0) (increase (stock) 5)))
+ (:action square :parameters () :effect (increase (stock) (* (stock) (stock)))))
+"""
+
+SUPPLY_PROBLEM = """(define (problem p) (:domain supply)
+ (:init (= (stock) 1000000000)) (:goal (> (stock) 0)))
+"""
+
+# domains, each with a problem
+MATCH = (world("MATCH"), world("MATCHES"))
+
+TOGGLE = (world("TOGGLE"), world("TOGGLED"))
+
+CHARGE = (world("CHARGE"), world("UNCHARGED"))
+
+SUPPLY = (SUPPLY_DOMAIN, SUPPLY_PROBLEM)
+
+# an empty plan reaches this goal
+MET = (world("TOGGLE"), "(define (problem p) (:domain toggle) (:init (p)) (:goal (p)))")
+
+# one number of this problem is past 10^15
+GREAT = (
+    SUPPLY_DOMAIN,
+    """(define (problem p) (:domain supply)
+ (:init (= (stock) 1000000000000001)) (:goal (> (stock) 0)))""",
+)
+
+# the list of this domain does not end
+CUT = ("(define (domain d)", world("UNCHARGED"))
+
+# this problem is another domain's
+OTHER = (world("CHARGE"), world("TOGGLED"))
+
+# one number of this problem has a fraction
+FRACTION = (
+    world("CHARGE"),
+    """(define (problem p) (:domain charge)
+ (:init (= (e) 2.5)) (:goal (full)))""",
+)
+
+# the one action of this domain has 131,072 bindings
+LARGE = (
+    """(define (domain d) (:action a
+ :parameters (?a ?b ?c ?d ?e ?f ?g ?h ?i ?j ?k ?l ?m ?n ?o ?p ?q - object)))""",
+    "(define (problem p) (:domain d) (:objects x y) (:goal (and)))",
+)
+
+CALL = "check domain problem plan"
+
+TENTHS = "check domain problem plan --scale 10 --horizon 35"
+
+THOUSANDTHS = "check domain problem plan --scale 1000"
+
+# plans, the words of the call, and the line that it writes
+FUSES = (
+    ("0: (light-match m1) [8]\n0: (mend-fuse f1) [5]\n", CALL, "valid\n"),
+    ("0: (light-match m1) [8]\n3: (mend-fuse f1) [5]\n", CALL, "valid\n"),
+    ("0: (light-match m1) [8]\n4: (mend-fuse f1) [5]\n", CALL, "invalid 8 over-all 1\n"),
+)
+
+SWITCHES = (
+    ("3: (need)\n3: (drop)\n", CALL, "invalid 3 interferes 0 1\n"),
+    ("3: (need)\n4: (drop)\n", CALL, "valid\n"),
+    ("3: (drop)\n4: (need)\n", CALL, "invalid 4 condition 1\n"),
+    ("0: (watch) [5]\n2: (give)\n3: (drop)\n", CALL, "valid\n"),
+)
+
+HORIZONS = (
+    ("999998: (rest) [2]\n", CALL, "valid\n"),
+    ("999999: (rest) [2]\n", CALL, "fault plan 7 horizon 1\n"),
+    ("999999: (rest) [2]\n", "check domain problem plan --horizon 1000001", "valid\n"),
+    ("999999: (rest) [2]\n", "check domain problem plan --horizon=1000000000", "valid\n"),
+    ("0.5: (rest) [3]\n", TENTHS, "valid\n"),
+    ("0.6: (rest) [3]\n", TENTHS, "fault plan 7 horizon 1\n"),
+)
+
+DURATIONS = (
+    ("0: (charge) [4]\n", CALL, "valid\n"),
+    ("0: (rest) [4]\n", CALL, "valid\n"),
+    ("0: (charge) [7]\n", CALL, "invalid 0 duration 0\n"),
+    ("0: (rest) [0]\n", CALL, "invalid 0 duration 0\n"),
+)
+
+FRACTIONS = (
+    ("0.001: (charge) [2.000]\n", THOUSANDTHS, "invalid 2001 goal\n"),
+    ("0.001: (charge) [4.000]\n", THOUSANDTHS, "valid\n"),
+    ("0.001: (charge) [4.5]\n", THOUSANDTHS, "invalid 4501 undefined 1\n"),
+    ("0.0005: (charge) [4]\n", THOUSANDTHS, "fault plan 4 not-ticks 1\n"),
+)
+
+PLANS = (
+    ("0: (charge)\n", CALL, "fault plan 6 no-duration 1\n"),
+    ("x: (rest) [2]\n", CALL, "fault plan 2 line 1\n"),
+    ("\n0: (dash) [1]\n", CALL, "fault plan 3 no-action 2\n"),
+    ("4: (rest) [2]\n", "check domain problem plan --horizon 5", "fault plan 7 horizon 1\n"),
+)
+
+
+def verdict(line):
+    """What a call comes to that writes that line: a verdict goes to the output, and a fault ends with status 2."""
+    if line.startswith("fault "):
+        return told("", line, 2)
+    return told(line, "", 0 if line == "valid\n" else 1)
+
+
+class Check(Case):
+    def writes(self, example, plan, words, line):
+        """A call with those files writes that line, and ends with its status."""
+        files = {"domain": example[0], "problem": example[1], "plan": plan}
+        self.comes_to(verdict(line), words, files)
+
+    def each_writes(self, example, rows):
+        for plan, words, line in rows:
+            with self.subTest(f"{plan!r} {words}"):
+                self.writes(example, plan, words, line)
+
+    def test_a_fuse_is_mended_by_the_light_of_a_match(self):
+        self.each_writes(MATCH, FUSES)
+
+    def test_what_is_needed_is_not_dropped_at_the_same_tick(self):
+        self.each_writes(TOGGLE, SWITCHES)
+
+    def test_an_empty_plan_is_judged_by_its_goal(self):
+        with self.subTest("a goal that is not met"):
+            self.writes(TOGGLE, "", CALL, "invalid 0 goal\n")
+        with self.subTest("a goal that is met"):
+            self.writes(MET, "", CALL, "valid\n")
+
+    def test_a_number_is_set_or_changed_but_not_both(self):
+        self.writes(SUPPLY, "2: (empty-and-fill)\n", CALL, "invalid 2 clash 0\n")
+
+    def test_numbers_past_10_to_the_15_are_not_judged(self):
+        with self.subTest("a value that is too great to judge"):
+            self.writes(SUPPLY, "0: (square)\n", CALL, "fault check 2 range\n")
+        with self.subTest("a number that is too great to write"):
+            self.writes(GREAT, "", CALL, "fault ground 3 range\n")
+
+    def test_no_step_ends_past_the_horizon(self):
+        self.each_writes(CHARGE, HORIZONS)
+
+    def test_durations_keep_their_constraint(self):
+        self.each_writes(CHARGE, DURATIONS)
+
+    def test_times_may_have_fractions(self):
+        self.each_writes(CHARGE, FRACTIONS)
+
+    def test_domains_and_problems_that_cannot_be_read(self):
+        with self.subTest("a list that does not end"):
+            self.writes(CUT, "", CALL, "fault domain 2 text 4 unclosed 0\n")
+        with self.subTest("a problem of another domain"):
+            self.writes(OTHER, "", CALL, "fault problem 4 unknown 29\n")
+        with self.subTest("a fraction"):
+            self.writes(FRACTION, "", CALL, "fault problem 7 left-out 52 number\n")
+
+    def test_tasks_that_are_too_large(self):
+        self.writes(LARGE, "", CALL, "fault ground 2 too-many actions\n")
+
+    def test_plans_that_cannot_be_read(self):
+        self.each_writes(CHARGE, PLANS)
+        with self.subTest("too many steps"):
+            self.writes(CHARGE, 513 * "0: (rest) [2]\n", CALL, "fault plan 5 too-many\n")
+
+    def test_bytes_that_are_no_text_and_texts_that_are_too_long(self):
+        with self.subTest("bytes that are no text"):
+            self.writes(CHARGE, b"; \xe4\n", CALL, "fault file 2 utf8 plan\n")
+        with self.subTest("a text that is too long"):
+            self.writes(CHARGE, 1_048_577 * " ", CALL, "fault file 3 too-long plan\n")
+
+    def asks_for(self, files, line, status):
+        """A call with those files writes that line. It opens each of them once at most, and none behind the last of them."""
+        with self.subTest(line.strip()):
+            self.comes_to(told("", line, status), CALL, files)
+
+    def test_a_file_is_opened_only_when_what_stands_before_it_is_done(self):
+        domain, problem = Once(CHARGE[0]), Once(CHARGE[1])
+        self.asks_for({"problem": NEVER, "plan": NEVER}, "fault file 1 read domain\n", 3)
+        self.asks_for({"domain": Once("("), "problem": NEVER, "plan": NEVER}, "fault domain 2 text 4 unclosed 0\n", 2)
+        self.asks_for({"domain": domain, "plan": NEVER}, "fault file 1 read problem\n", 3)
+        self.asks_for({"domain": domain, "problem": problem}, "fault file 1 read plan\n", 3)
+
+    def test_a_verdict_that_cannot_be_written(self):
+        files = {"domain": CHARGE[0], "problem": CHARGE[1], "plan": "0: (rest) [4]\n"}
+        self.comes_to(told("va", "fault script 2 write\n", 3), CALL, files, room=2)
