@@ -15,9 +15,9 @@ use Rattle.tp_program.specs.CallFiles.{CallFiles}
 use Rattle.tp_program.specs.Checks.{SaysPart, SaysValid}
 use Rattle.tp_program.specs.Journaled.{LogsSome, LogsTo}
 use Rattle.tp_program.specs.Networks.{ShowsNetwork, ShowsPart}
-use Rattle.tp_program.specs.Requests.{AsksFor}
-use Rattle.tp_program.specs.declared.requests.Request.{Request}
-use Rattle.tp_program.specs.declared.requests.Request.TheVariants.{Bare, BareLog, Check, Net, Run, RunLog, Plan, Audit, PlanAudit, Help}
+use Rattle.tp_arguments.specs.Requests.{AsksFor}
+use Rattle.tp_arguments.specs.declared.requests.Request.{Request}
+use Rattle.tp_arguments.specs.declared.requests.Request.TheVariants.{Bare, BareLog, Check, Net, Run, RunLog, Plan, Audit, PlanAudit, Help}
 
 -- all commands of the input were answered; the same, and their journal is in the file that was named for it; the plan is valid and that was
 -- written; its network was written; all commands of the input were answered on that network, and the plan of the run was written; a valid

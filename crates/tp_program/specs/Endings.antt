@@ -14,9 +14,9 @@ use Rattle.tp_run_journals.specs.RunJournals.{EndsRunLog}
 use Rattle.tp_program.specs.CallFiles.{CallFiles}
 use Rattle.tp_program.specs.Checks.{EndsCheck}
 use Rattle.tp_program.specs.Networks.{EndsNet}
-use Rattle.tp_program.specs.Requests.{AsksFor}
-use Rattle.tp_program.specs.declared.requests.Request.{Request}
-use Rattle.tp_program.specs.declared.requests.Request.TheVariants.{Bare, BareLog, Check, Net, Run, RunLog, Plan, Audit, PlanAudit, Help}
+use Rattle.tp_arguments.specs.Requests.{AsksFor}
+use Rattle.tp_arguments.specs.declared.requests.Request.{Request}
+use Rattle.tp_arguments.specs.declared.requests.Request.TheVariants.{Bare, BareLog, Check, Net, Run, RunLog, Plan, Audit, PlanAudit, Help}
 
 -- there was no memory for the words
 pub record LacksMemory (status : ℕ) (held held-now : Option (List ℕ)) (output output-now : ℕ)

@@ -6,8 +6,8 @@ use Rattle.tp_bare.specs.Bare.{AnswersAll, AnswersPart, IsRefused}
 use Rattle.tp_program.specs.CallFiles.{CallFiles}
 use Rattle.tp_program.specs.Done.{AnswersNo, DoesPart, DoesWhatIsAsked}
 use Rattle.tp_files.specs.FaultLines.{IsFaultText, TellsFault, fault_line}
-use Rattle.tp_program.specs.Requests.{AsksFor, AsksForNoCommands}
-use Rattle.tp_program.specs.declared.requests.Request.TheVariants.{Bare}
+use Rattle.tp_arguments.specs.Requests.{AsksFor, AsksForNoCommands}
+use Rattle.tp_arguments.specs.declared.requests.Request.TheVariants.{Bare}
 
 -- One fault line was written, and behind the line of words that are refused what is said of them; or where the writer failed a first part of
 -- these.

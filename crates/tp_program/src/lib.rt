@@ -3,36 +3,30 @@
 //! commands on that network are answered, and the plan of the run goes out; or a plan is searched for;
 //! or the journal in a file is audited.
 //!
-//! - `commands`: the commands of the program, their words and their help
-//! - `requests`, `arguments`: what the words of a call ask for
-//! - `words`: the doing of it, over any files, reader and writers
+//! - `words`: the doing of what the words of a call ask for, over any files, reader and writers
 //! - `check`: the judging of the plan in a file
 //! - `net`: the network of the plan in a file
 //! - `stops`: why a command on a plan stopped, and its line
 //! - `streams`: a run over readers and writers of std
 //! - `host`: the files of the host, those that are read and those of journals
 //!
-//! Commands on a network of bounds alone are those of `tp_bare`, those with a journal of `tp_bare_journals`, files and fault lines those of `tp_files`, tasks and verdicts of
-//! files those of `tp_plan_files`, runs of plans those of `tp_plan_runs`, searches those of `tp_plan_search`, audits those of
-//! `tp_log_audits`.
+//! The words of a call are read by `tp_arguments`. Commands on a network of bounds alone are those of `tp_bare`, those with a journal
+//! of `tp_bare_journals`, files and fault lines those of `tp_files`, tasks and verdicts of files those of `tp_plan_files`, runs of
+//! plans those of `tp_plan_runs`, searches those of `tp_plan_search`, audits those of `tp_log_audits`.
 #![tactic(auto)]
 
-mod arguments;
 mod check;
-mod commands;
 mod host;
 mod net;
-mod requests;
 mod stops;
 mod streams;
 mod words;
 
-pub use arguments::{
-    NoRequest, audit_calls, bare_calls, bare_log_calls, check_calls, net_calls, plan_audit_calls,
-    plan_calls, read_words, requests_are_distinct, run_calls, run_log_calls,
-};
 pub use host::HostDesk;
-pub use requests::Request;
 pub use stops::{PlanStop, stop_line};
 pub use streams::{Ended, Refused, refuse_streams, run_streams};
+pub use tp_arguments::{
+    NoRequest, Request, audit_calls, bare_calls, bare_log_calls, check_calls, net_calls,
+    plan_audit_calls, plan_calls, read_words, requests_are_distinct, run_calls, run_log_calls,
+};
 pub use words::run_words;

@@ -9,13 +9,12 @@ ghost use Rattle.tp_program.specs.CallFiles.{call_files};
 ghost use Rattle.tp_program.specs.Done.{AnswersNo, DoesPart, DoesWhatIsAsked};
 ghost use Rattle.tp_files.specs.FaultLines.{TellsFault, TellsRefusal};
 ghost use Rattle.tp_program.specs.Endings.{EndsBare, EndsCall, RefusesWords, StopsHelp};
-ghost use Rattle.tp_program.specs.Requests.{AsksFor, AsksForNoCommands};
+ghost use Rattle.tp_arguments.specs.Requests.{AsksFor, AsksForNoCommands};
 
-use crate::arguments::{NoRequest, read_words};
 use crate::check::run_check;
 use crate::net::run_net;
-use crate::requests::Request;
 use std::alloc::Global;
+use tp_arguments::{NoRequest, Request, read_words};
 use tp_bare::run_bare;
 use tp_bare_journals::run_bare_journal;
 use tp_device::{Sink, Source, push_all};
