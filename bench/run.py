@@ -272,6 +272,8 @@ def checks(program):
     judged(program, "the network of 512 steps side by side, on the same task", PLACES, problem, visits(), "net")
     at_once(program)
     judged(program, "59,319 ground actions of three objects, one step", TRIPLES, triples_problem(39), "0: (a o0 o1 o2)\n")
+    last = "".join(f"{k}: (a o39 o39 o39)\n" for k in range(512))
+    judged(program, "64,000 ground actions, 512 steps of the last of them", TRIPLES, triples_problem(40), last)
     judged(program, "59,000 ground actions with two 'exists' over four objects each", YARD, yard_problem(), "0: (drive t0 p0) [5]\n")
     judged(program, "62,500 ground actions over objects whose names end alike", *alike(), "")
     long_problem = "(define (problem q) (:domain long) (:init (q0)) (:goal (q0)))"
