@@ -25,14 +25,18 @@ REFUSED = (
     ("help split", "error: "),
 )
 
-# options of `check` that no call may have
+# options that no call of `check` or `plan` may have
 OTHERS = (
     ("check d p l --scale 0", ""),
     ("check d p l --scale 7", ""),
     ("check d p l --scale 1001", ""),
     ("check d p l --horizon 1000000001", ""),
     ("check d p l --horizon -1", ""),
-    ("check d p l --budget 5", ""),
+    ("check d p l --budget 5", "error: unexpected argument '--budget' found"),
+    ("plan d p --scale 7", ""),
+    ("plan d p --horizon 1000000001", "1000000001 is not in 0..=1000000000"),
+    ("plan d p --budget 1000001", "1000001 is not in 0..=1000000"),
+    ("plan d p --journal log", "error: unexpected argument '--journal' found"),
 )
 
 # calls for the version and for the help of the program and of its commands, and what stands in it
@@ -56,6 +60,10 @@ HELPS = (
             "Exit status: 0 a plan of the run was printed",
             "Example:",
         ),
+    ),
+    (
+        ("plan --help", "help plan"),
+        ("Usage: tempo plan", "unreachable", "exhausted", "spent B", "--budget", "100000", "--horizon", "--scale", "Example:"),
     ),
     (("audit --help", "help audit"), ("Usage: tempo audit", "[DOMAIN]", "audit ok N", "wrong N", "--horizon", "Examples:")),
 )

@@ -1,4 +1,4 @@
-//! What the words of a call ask for, and the doing of it.
+//! The doing of what the words of a call ask for.
 
 ghost use Rattle.std.specs.Prelude.{◌≡◌, ◌≢◌, ◌≤◌, ◌⊎◌, ℕ, List, Option, [], map};
 ghost use Rattle.std.specs.String.{string_bytes};

@@ -59,7 +59,7 @@ impl SectionWord for Section {
     }
 }
 
-/// What stands in a section, nothing if it is missing.
+/// The section of a kind; if it is missing, an empty one at 0.
 pub fn find_section<'t, 'a>(
     wanted: Section,
     parts: &[SectionItem<'t, 'a, Section>],
