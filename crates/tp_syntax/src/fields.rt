@@ -67,11 +67,11 @@ fn fields_of<'t, 'a>(
         let [body, more @ ..] = others else {
             return Err(SyntaxFault::Shape(at));
         };
-        let word = place(word);
+        let word_at = place(word);
         fields.push(Keyed {
             kind,
             at,
-            word,
+            word_at,
             body,
         })?;
         rest = more;
@@ -120,7 +120,7 @@ pub fn read_fields<'t, 'a>(
 {
     let fields = fields_of(alloc, trees, at)?;
     if let Some(second) = repeated(&fields) {
-        return Err(SyntaxFault::Twice(second.word));
+        return Err(SyntaxFault::Twice(second.word_at));
     }
     if !are_fields_of(lasts, &fields) {
         return Err(SyntaxFault::Shape(at));

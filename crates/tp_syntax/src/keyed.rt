@@ -45,7 +45,7 @@ pub trait SectionWord: ItemKind {
 pub struct Keyed<K, B> {
     pub kind: K,
     pub at: u32,
-    pub word: u32,
+    pub word_at: u32,
     pub body: B,
 }
 
@@ -101,11 +101,11 @@ fn part_at<'t, 'a, K: SectionWord>(
     let Some(kind) = K::kind_of(word.text) else {
         return Err(K::fault(word, at));
     };
-    let word = word.span.start;
+    let word_at = word.span.start;
     Ok(Keyed {
         kind,
         at,
-        word,
+        word_at,
         body,
     })
 }
@@ -141,7 +141,7 @@ pub fn find_or_empty<'t, 'a, K: SectionWord>(
     find(kind, parts).unwrap_or(Keyed {
         kind,
         at,
-        word: at,
+        word_at: at,
         body: no_trees(),
     })
 }
@@ -158,7 +158,7 @@ pub fn read_parts<'t, 'a, K: SectionWord>(
 {
     let parts = parts_of(alloc, trees, at)?;
     if let Some(second) = repeated(&parts) {
-        return Err(SyntaxFault::Twice(second.word));
+        return Err(SyntaxFault::Twice(second.word_at));
     }
     Ok(parts)
 }
