@@ -1,5 +1,7 @@
 //! Conditions, expressions, effects and events as data.
 
+use std::rc::Rc;
+
 /// How two numbers are compared.
 #[derive(Clone, Copy)]
 pub enum Comparison {
@@ -30,6 +32,8 @@ pub enum Cond {
     Not(Box<Cond>),
     And(Vec<Cond>),
     Or(Vec<Cond>),
+    /// A condition that others may share.
+    Shared(Rc<Cond>),
 }
 
 /// The assignment operator of a numeric effect.
