@@ -50,5 +50,6 @@ fn judged(state: &State, cond: &Cond) -> Result<Option<bool>, Range>
             }
             Ok(any)
         }
+        Cond::Shared(c) => judged(state, c),
     }
 }
