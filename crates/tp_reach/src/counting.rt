@@ -89,6 +89,7 @@ impl Counters {
             Cond::Not(c) => self.add_condition(c, !positive, above),
             Cond::And(cs) => self.add_parts(cs, positive, positive, above),
             Cond::Or(cs) => self.add_parts(cs, positive, !positive, above),
+            Cond::Shared(c) => self.add_condition(c, positive, above),
         }
     }
 

@@ -44,6 +44,7 @@ pub fn met(reach: &[bool], positive: bool, cond: &Cond) -> bool
             }
             !positive
         }
+        Cond::Shared(c) => met(reach, positive, c),
     }
 }
 
