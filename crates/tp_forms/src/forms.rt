@@ -243,6 +243,7 @@ impl<'t> Forms<'t> {
                 }
                 Ok(())
             }
+            Cond::Shared(c) => self.add_goal(c),
             _ => self.add_conjunct(goal),
         }
     }
@@ -398,6 +399,7 @@ impl<'t> Forms<'t> {
             Cond::Not(c) => self.push_literals(c, !positive, truth),
             Cond::And(cs) if positive => self.push_literals_of(cs, positive, truth),
             Cond::Or(cs) if !positive => self.push_literals_of(cs, positive, truth),
+            Cond::Shared(c) => self.push_literals(c, positive, truth),
             _ => Ok(()),
         }
     }
@@ -432,6 +434,7 @@ impl<'t> Forms<'t> {
             Cond::Not(c) => self.push_parts(c, !positive),
             Cond::And(cs) if positive => self.push_parts_of(cs, positive),
             Cond::Or(cs) if !positive => self.push_parts_of(cs, positive),
+            Cond::Shared(c) => self.push_parts(c, positive),
             _ => {
                 self.parts.push(Conjunct { cond, positive })?;
                 self.push_atoms(cond)
@@ -454,6 +457,7 @@ impl<'t> Forms<'t> {
             Cond::Compare(_, _, _) => Ok(()),
             Cond::Not(c) => self.push_atoms(c),
             Cond::And(cs) | Cond::Or(cs) => self.push_atoms_of(cs),
+            Cond::Shared(c) => self.push_atoms(c),
         }
     }
 
@@ -486,6 +490,7 @@ impl<'t> Forms<'t> {
             }
             Cond::Not(c) => self.push_compared(c),
             Cond::And(cs) | Cond::Or(cs) => self.push_compared_of(cs),
+            Cond::Shared(c) => self.push_compared(c),
         }
     }
 

@@ -110,5 +110,6 @@ pub fn judged(sight: Sight<'_>, cond: &Cond) -> Result<Option<bool>, SearchFault
             }
             Ok(any)
         }
+        Cond::Shared(c) => judged(sight, c),
     }
 }
