@@ -7,6 +7,7 @@ use Rattle.tp_ast.specs.Actions as actions
 use Rattle.tp_ast.specs.DomainViews.{action_view}
 use Rattle.tp_ast.specs.declared.symbols.Typed.{Typed}
 use Rattle.tp_ast.specs.declared.action.Action.{Action}
+use Rattle.tp_ground.specs.WriterViews.{WriterView}
 use Rattle.tp_ground.specs.Views.{env_view}
 use Rattle.tp_ground.specs.Bindings.{Universe, Env, bindings, bound}
 use Rattle.tp_ground.specs.Written.{GroundBody, body_in}
@@ -35,7 +36,7 @@ module _ {X : Type 0} (of : X → Mentions) (xs : List X) (i : ℕ) (x : X) (lt 
       ∙ sym (then_assoc (of_each of (take i xs)) (of x) (of_each of (drop (i + 1) xs)))
 
 -- a fault at one that comes after others, in all
-pub each_stopped : {X C Y : Type 0} (named : Tables → C → Y) (of : X → Mentions) (xs : List X) (i : ℕ) (x : X) → i < length xs → x ≡ get_or xs i x → (a b c : Tables) (r : Result C GroundFault) (e : GroundFault) → IsErrAnd r (λ f. f ≡ e) → {D Z : Type 0} {before : Tables → D → Z} {v : D} {ys : Z} → (y : Y) (all m : Mentions) → all ≡ of_each of xs → m ≡ of x → IsLowered before a b v ys (of_each of (take i xs)) → Overflows b m e → Lowers named a r c y all
+pub each_stopped : {X C Y : Type 0} (named : Tables → C → Y) (of : X → Mentions) (xs : List X) (i : ℕ) (x : X) → i < length xs → x ≡ get_or xs i x → (a b c : WriterView) (r : Result C GroundFault) (e : GroundFault) → IsErrAnd r (λ f. f ≡ e) → {D Z : Type 0} {before : Tables → D → Z} {v : D} {ys : Z} → (y : Y) (all m : Mentions) → all ≡ of_each of xs → m ≡ of x → IsLowered before a b v ys (of_each of (take i xs)) → Overflows b m e → Lowers named a r c y all
 each_stopped named of xs i x lt item a b c r e err y all m is p l h =
     failed named a c y all r e err
     (subst (λ n. Overflows a n e) (sym (is ∙ each_whole of xs i x lt item))
@@ -46,7 +47,7 @@ module _ {C Y : Type 0} (named : Tables → C → Y) where
   abbrev pub every : Tables → Vec C Global → List Y
   every t v = map (named t) v.items
 
-  module _ {X : Type 0} (of : X → Mentions) (xs : List X) (i : ℕ) (x : X) (lt : i < length xs) (item : x ≡ get_or xs i x) (a b c : Tables) (v u : Vec C Global) where
+  module _ {X : Type 0} (of : X → Mentions) (xs : List X) (i : ℕ) (x : X) (lt : i < length xs) (item : x ≡ get_or xs i x) (a b c : WriterView) (v u : Vec C Global) where
     pub each_push : (g : X → Y) (o : C) (y : Y) (m : Mentions) → u.items ≡ v.items ++ o ∷ [] → y ≡ g x → m ≡ of x → IsLowered every a b v (map g (take i xs)) (of_each of (take i xs)) → IsLowered named b c o y m → IsLowered every a c u (map g (take (i + 1) xs)) (of_each of (take (i + 1) xs))
     each_push g o y m items p q l k =
         lowered_same (map g (take (i + 1) xs)) (of_each of (take (i + 1) xs))

@@ -5,9 +5,9 @@ use Rattle.tp_ast.specs.DomainViews.{initial_view}
 use Rattle.tp_ast.specs.declared.term.Atom.{Atom}
 use Rattle.tp_ast.specs.declared.problem.Initial.{Initial}
 use Rattle.tp_ast.specs.declared.problem.Initial.TheVariants.{Holds, Fails, HasValue}
+use Rattle.tp_ground.specs.WriterViews.{WriterView}
 use Rattle.tp_ground.specs.Bindings.{Env, words_in}
 use Rattle.tp_ground.specs.Views.{env_view}
-use Rattle.tp_ground.specs.Tables.{Tables}
 use Rattle.tp_ground.specs.Mentions.{an_atom, a_fluent}
 use Rattle.tp_ground.specs.Initially.{initial_in, of_initial}
 use Rattle.tp_ground.specs.Lowered.{Overflows}
@@ -17,7 +17,7 @@ use Rattle.tp_ground.specs.declared.fault.GroundFault.{GroundFault}
 pub empty_env : env_view Empty ≡ []
 empty_env = search (rules, the_lemmas)
 
-module _ (a : Tables) (i : Initial) (f : Atom) where
+module _ (a : WriterView) (i : Initial) (f : Atom) where
   pub holds_stopped : (e : GroundFault) → i ≡ Holds f → Overflows a (an_atom (words_in (env_view Empty) (atom_view f))) e → Overflows a (of_initial (initial_in (initial_view i))) e
   holds_stopped e is h = subst (λ j. Overflows a (of_initial (initial_in (initial_view j))) e) (sym is) (subst (λ (env : Env). Overflows a (an_atom (words_in env (atom_view f))) e) empty_env h)
 

@@ -13,6 +13,7 @@ use Rattle.tp_ast.specs.declared.action.Action.{Action}
 use Rattle.tp_ast.specs.declared.problem.Initial.{Initial}
 use Rattle.tp_bounds.specs.RunLimits.{RunLimits}
 use Rattle.tp_text.specs.declared.number.Scale.{Scale}
+use Rattle.tp_ground.specs.WriterViews.{WriterView}
 use Rattle.tp_ground.specs.Words.{Words, same_words, with_all, firsts}
 use Rattle.tp_ground.specs.Views.{env_view}
 use Rattle.tp_ground.specs.Bindings.{Universe, Env, bindings, bound}
@@ -68,22 +69,22 @@ module _ (u : Universe) (is : List Initial) (c : Condition) (each : List Action)
   abbrev told : List GroundInitial
   told = map (λ i. initial_in (initial_view i)) is
 
-  pub entries_stopped : (a : Tables) (e : GroundFault) → Overflows a (of_each of_initial told) e → Overflows a (of_task u (map initial_view is) c (map action_view each)) e
+  pub entries_stopped : (a : WriterView) (e : GroundFault) → Overflows a (of_each of_initial told) e → Overflows a (of_task u (map initial_view is) c (map action_view each)) e
   entries_stopped a e h = at_first a first second third e (subst (λ (es : List GroundInitial). Overflows a (of_each of_initial es) e) (entries_view is) h)
 
-  entries_noted : (a b : Tables) → Notes a b (of_each of_initial told) → Notes a b first
+  entries_noted : (a b : WriterView) → Notes a b (of_each of_initial told) → Notes a b first
   entries_noted a b l = subst (λ (es : List GroundInitial). Notes a b (of_each of_initial es)) (entries_view is) l
 
-  goal_noted : (a b : Tables) → Notes a b (of_condition (condition_in u (env_view Empty) c)) → Notes a b second
+  goal_noted : (a b : WriterView) → Notes a b (of_condition (condition_in u (env_view Empty) c)) → Notes a b second
   goal_noted a b l = subst (λ (env : Env). Notes a b (of_condition (condition_in u env c))) empty_env l
 
-  pub goal_stopped : (a b : Tables) (e : GroundFault) → Notes a b (of_each of_initial told) → Overflows b (of_condition (condition_in u (env_view Empty) c)) e → Overflows a (of_task u (map initial_view is) c (map action_view each)) e
+  pub goal_stopped : (a b : WriterView) (e : GroundFault) → Notes a b (of_each of_initial told) → Overflows b (of_condition (condition_in u (env_view Empty) c)) e → Overflows a (of_task u (map initial_view is) c (map action_view each)) e
   goal_stopped a b e l h = at_second a first second third e b (entries_noted a b l) (subst (λ (env : Env). Overflows b (of_condition (condition_in u env c)) e) empty_env h)
 
-  pub actions_stopped : (a b d : Tables) (e : GroundFault) → Notes a b (of_each of_initial told) → Notes b d (of_condition (condition_in u (env_view Empty) c)) → Overflows d third e → Overflows a (of_task u (map initial_view is) c (map action_view each)) e
+  pub actions_stopped : (a b d : WriterView) (e : GroundFault) → Notes a b (of_each of_initial told) → Notes b d (of_condition (condition_in u (env_view Empty) c)) → Overflows d third e → Overflows a (of_task u (map initial_view is) c (map action_view each)) e
   actions_stopped a b d e l k h = at_third a first second third e b d (entries_noted a b l) (goal_noted b d k) h
 
-  pub task_lowered : (a b d w : Tables) (es : Vec NumberedInitial Global) (g : Cond) (bs : Vec Body Global) (x : LoweredTask) → x ≡ record { entries = es; goal = g; actions = bs } → IsLowered all_entries a b es told (of_each of_initial told) → IsLowered named_condition b d g (condition_in u (env_view Empty) c) (of_condition (condition_in u (env_view Empty) c)) → IsLowered all_bodies d w bs (map (λ y. y.body) (ground_actions u (map action_view each))) third → IsLowered named_task a w x (written_task u (map initial_view is) c (map action_view each)) (of_task u (map initial_view is) c (map action_view each))
+  pub task_lowered : (a b d w : WriterView) (es : Vec NumberedInitial Global) (g : Cond) (bs : Vec Body Global) (x : LoweredTask) → x ≡ record { entries = es; goal = g; actions = bs } → IsLowered all_entries a b es told (of_each of_initial told) → IsLowered named_condition b d g (condition_in u (env_view Empty) c) (of_condition (condition_in u (env_view Empty) c)) → IsLowered all_bodies d w bs (map (λ y. y.body) (ground_actions u (map action_view each))) third → IsLowered named_task a w x (written_task u (map initial_view is) c (map action_view each)) (of_task u (map initial_view is) c (map action_view each))
   task_lowered a b d w es g bs x is_x l k h =
       subst (λ (y : LoweredTask). IsLowered named_task a w y (written_task u (map initial_view is) c (map action_view each)) (of_task u (map initial_view is) c (map action_view each))) (sym is_x)
       (lowered_both (λ (p : List GroundInitial × GroundCondition) (q : List GroundBody). record { initial = p.0; goal = p.1; bodies = q }) (record { entries = es; goal = g; actions = bs }) (λ t. refl)
@@ -92,7 +93,7 @@ module _ (u : Universe) (is : List Initial) (c : Condition) (each : List Action)
       (lowered_same _ second (ap (λ (env : Env). condition_in u env c) empty_env) (ap (λ (env : Env). of_condition (condition_in u env c)) empty_env) k))
       h)
 
-module _ (a b : Tables) (r : Result LoweredTask GroundFault) (c : Condition) where
+module _ (a b : WriterView) (r : Result LoweredTask GroundFault) (c : Condition) where
   abbrev pub TaskLowers : Universe → List Initial → List Action → Type 0
   TaskLowers u is each = Lowers named_task a r b (written_task u (map initial_view is) c (map action_view each)) (of_task u (map initial_view is) c (map action_view each))
 
@@ -130,13 +131,13 @@ module _ (u : Universe) where
 pub same_extend : (a b : Tables) → b.atoms ≡ a.atoms → b.fluents ≡ a.fluents → Extends a b
 same_extend a b atoms fluents = record { atoms = ([], atoms ∙ sym (append-nil a.atoms)); fluents = ([], fluents ∙ sym (append-nil a.fluents)) }
 
-module _ (limits : RunLimits) (scale : Scale) (d : Domain) (p : Problem) (none new later : Tables) (l : LoweredTask)
-    (empty : none ≡ record { atoms = []; fluents = []; actions = []; most = limits.atoms })
+module _ (limits : RunLimits) (scale : Scale) (d : Domain) (p : Problem) (none new : WriterView) (later : Tables) (l : LoweredTask)
+    (empty : none.tables ≡ record { atoms = []; fluents = []; actions = []; most = limits.atoms })
     (lowered : IsLowered named_task none new l (written_task (universe_of d p) p.initial p.goal d.actions) (mentioned d p))
-    (names : later.actions ≡ new.actions ++ map (λ a. a.words) (ground_actions (universe_of d p) d.actions))
-    (atoms : later.atoms ≡ new.atoms) (fluents : later.fluents ≡ new.fluents) (most : later.most ≡ new.most) where
+    (names : later.actions ≡ new.tables.actions ++ map (λ a. a.words) (ground_actions (universe_of d p) d.actions))
+    (atoms : later.atoms ≡ new.tables.atoms) (fluents : later.fluents ≡ new.tables.fluents) (most : later.most ≡ new.tables.most) where
   pub said : named_task later l ≡ written_task (universe_of d p) p.initial p.goal d.actions
-  said = lowered.says later (same_extend new later atoms fluents)
+  said = lowered.says later (same_extend new.tables later atoms fluents)
 
   bodies : map (named_body later) l.actions.items ≡ map (λ a. a.body) (ground_actions (universe_of d p) d.actions)
   bodies = ap (λ (w : WrittenTask). w.bodies) said
@@ -217,8 +218,8 @@ module _ (limits : RunLimits) (scale : Scale) (d : Domain) (p : Problem) (none n
     }
 
 -- what cannot be numbered is too much
-pub overflowed : (limits : RunLimits) (d : Domain) (p : Problem) (none : Tables) (e : GroundFault) → none ≡ record { atoms = []; fluents = []; actions = []; most = limits.atoms } → Overflows none (mentioned d p) e → HasNoTask limits d p e
-overflowed limits d p none e empty h = by e (subst (λ (t : Tables). Overflows t (mentioned d p) e) empty h)
+pub overflowed : (limits : RunLimits) (d : Domain) (p : Problem) (none : WriterView) (e : GroundFault) → none.tables ≡ record { atoms = []; fluents = []; actions = []; most = limits.atoms } → Overflows none (mentioned d p) e → HasNoTask limits d p e
+overflowed limits d p none e empty h = by e (subst (λ (t : Tables). CannotNumber t.most (with_all t.atoms (mentioned d p).atoms) (with_all t.fluents (mentioned d p).fluents) e) empty h)
   where
     by : (f : GroundFault) → CannotNumber limits.atoms (firsts (mentioned d p).atoms) (firsts (mentioned d p).fluents) f → HasNoTask limits d p f
     by faults.Memory k = tt

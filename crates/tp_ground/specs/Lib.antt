@@ -19,7 +19,11 @@ pub mod Initially
 pub mod Written
 pub mod Mentions
 pub mod ReadBack
+pub mod WriterViews
 pub mod Lowered
+pub mod TermsIn
+pub mod Kept
+pub mod Found
 pub mod NumberedEffects
 pub mod NumberedEnds
 pub mod Grounding

@@ -9,7 +9,7 @@ ghost use Rattle.tp_ground.specs.Lowered.{Lowers};
 use crate::environment::Env;
 use crate::fault::GroundFault;
 use crate::lowering::{atom, fluent};
-use crate::numbering::Numbering;
+use crate::writer::Writer;
 use std::alloc::{AllocError, Global};
 use tp_ast::problem::Initial;
 
@@ -22,25 +22,21 @@ pub enum NumberedInitial {
 }
 
 // One entry by number.
-fn entry(
-    alloc: Global,
-    numbering: &mut Numbering,
-    said: &Initial,
-) -> Result<NumberedInitial, GroundFault>
-    ensures { Lowers named_initial numbering.old result numbering.new
+fn entry(alloc: Global, writer: &mut Writer, said: &Initial) -> Result<NumberedInitial, GroundFault>
+    ensures { Lowers named_initial writer.old result writer.new
         (initial_in (initial_view said.now)) (of_initial (initial_in (initial_view said.now))) }
 {
     match said {
         Initial::Holds(fact) => {
-            let number = atom(alloc, &Env::Empty, numbering, fact)?;
+            let number = atom(alloc, &Env::Empty, writer, fact)?;
             Ok(NumberedInitial::Holds(number))
         }
         Initial::Fails(fact) => {
-            let number = atom(alloc, &Env::Empty, numbering, fact)?;
+            let number = atom(alloc, &Env::Empty, writer, fact)?;
             Ok(NumberedInitial::Fails(number))
         }
         Initial::HasValue(fact, value) => {
-            let number = fluent(alloc, &Env::Empty, numbering, fact)?;
+            let number = fluent(alloc, &Env::Empty, writer, fact)?;
             Ok(NumberedInitial::HasValue(number, *value))
         }
     }
@@ -49,16 +45,16 @@ fn entry(
 /// All entries by number.
 pub fn entries(
     alloc: Global,
-    numbering: &mut Numbering,
+    writer: &mut Writer,
     said: &[Initial],
 ) -> Result<Vec<NumberedInitial>, GroundFault>
-    ensures { Lowers (λ t v. map (named_initial t) v.items) numbering.old result numbering.new
+    ensures { Lowers (λ t v. map (named_initial t) v.items) writer.old result writer.new
         (map (λ i. initial_in (initial_view i)) said.now)
         (of_each of_initial (map (λ i. initial_in (initial_view i)) said.now)) }
 {
     let mut lowered = Vec::new(alloc);
     for one in said {
-        lowered.push(entry(alloc, numbering, one)?)?;
+        lowered.push(entry(alloc, writer, one)?)?;
     }
     Ok(lowered)
 }

@@ -13,10 +13,10 @@ use tp_ast::term::{Atom, Term};
 
 /// What variables stand for. An inner one hides an outer one of the same name.
 #[derive(Clone, Copy)]
-pub enum Env<'a> {
+pub enum Env<'e, 'a> {
     Empty,
     /// Variables, the objects that they stand for, and what stands outside.
-    Inner(&'a [Typed], &'a [&'a str], &'a Env<'a>),
+    Inner(&'e [Typed], &'e [&'a str], &'e Env<'e, 'a>),
 }
 
 // The object that one of these variables stands for.
@@ -38,7 +38,7 @@ fn object_among<'a>(variables: &[Typed], objects: &[&'a str], name: &str) -> Opt
 }
 
 /// The object that a variable stands for.
-fn object_under<'a>(env: &Env<'a>, name: &str) -> Option<&'a str>
+fn object_under<'a>(env: &Env<'_, 'a>, name: &str) -> Option<&'a str>
     ensures { option_map (λ o. o.now) result ≡ object_among (env_view env.now) name.now }
 {
     match env {
@@ -51,7 +51,7 @@ fn object_under<'a>(env: &Env<'a>, name: &str) -> Option<&'a str>
 }
 
 /// The object for an argument. A variable that stands for none is left as it is.
-pub fn object_for<'a>(env: &Env<'a>, argument: &'a Term) -> &'a str
+pub fn object_for<'a>(env: &Env<'_, 'a>, argument: &'a Term) -> &'a str
     ensures { result.now ≡ object_for (env_view env.now) (term_view argument.now) }
 {
     match argument {
@@ -66,7 +66,7 @@ pub fn object_for<'a>(env: &Env<'a>, argument: &'a Term) -> &'a str
 /// The words of an atom or a fluent.
 pub fn words_in<'a>(
     alloc: Global,
-    env: &Env<'a>,
+    env: &Env<'_, 'a>,
     atom: &'a Atom,
 ) -> Result<SmallVec<&'a str, 4>, AllocError>
     ensures { IfOk result

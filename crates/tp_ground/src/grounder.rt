@@ -12,7 +12,7 @@ ghost use Rattle.tp_ground.specs.Words.{firsts};
 ghost use Rattle.tp_ground.specs.Views.{universe_view};
 ghost use Rattle.tp_ground.specs.Lowered.{Lowers};
 ghost use Rattle.tp_ground.specs.Grounding.{universe_of, ground_actions, mentioned, IsTask, HasNoTask};
-ghost use Rattle.tp_ground.specs.Tables.{with_actions};
+ghost use Rattle.tp_ground.specs.WriterViews.{with_tables};
 ghost use Rattle.tp_ground.specs.Initially.{true_at, value_at};
 ghost use Rattle.tp_ground.specs.declared.fault.GroundFault.TheVariants.{TooMany};
 ghost use Rattle.tp_ground.specs.declared.fault.TooManyKind.TheVariants.{Actions};
@@ -28,6 +28,7 @@ use crate::numbering::Numbering;
 use crate::numbers::has_great_number;
 use crate::task::Task;
 use crate::universe::Universe;
+use crate::writer::Writer;
 use crate::{Body, Cond};
 use indexmap::IndexMap;
 use std::alloc::{AllocError, Global};
@@ -130,22 +131,23 @@ fn check_actions(universe: &Universe, domain: &Domain, limits: &Limits) -> Resul
 }
 
 // What is said at first, what is asked for, and what can be done, by number.
-fn lower(
+fn lower<'a>(
     alloc: Global,
-    universe: &Universe,
-    numbering: &mut Numbering,
-    initial: &[Initial],
-    goal: &tp_ast::cond::Cond,
-    actions: &[Action],
+    universe: &Universe<'a>,
+    writer: &mut Writer<'a>,
+    initial: &'a [Initial],
+    goal: &'a tp_ast::cond::Cond,
+    actions: &'a [Action],
 ) -> Result<LoweredTask, GroundFault>
-    ensures { Lowers named_task numbering.old result numbering.new
+    requires { universe_view universe.now ≡ writer.old.universe }
+    ensures { Lowers named_task writer.old result writer.new
         (written_task (universe_view universe.now) (map initial_view initial.now)
         (cond_view goal.now) (map action_view actions.now)) (of_task (universe_view universe.now)
         (map initial_view initial.now) (cond_view goal.now) (map action_view actions.now)) }
 {
-    let entries = entries(alloc, numbering, initial)?;
-    let goal = condition(alloc, universe, &Env::Empty, numbering, goal)?;
-    let actions = lower_actions(alloc, universe, numbering, actions)?;
+    let entries = entries(alloc, writer, initial)?;
+    let goal = condition(alloc, universe, &Env::Empty, writer, goal)?;
+    let actions = lower_actions(alloc, universe, writer, actions)?;
     Ok(LoweredTask {
         entries,
         goal,
@@ -153,16 +155,17 @@ fn lower(
     })
 }
 
-fn lower_task(
+fn lower_task<'a>(
     alloc: Global,
-    universe: &Universe,
-    numbering: &mut Numbering,
-    domain: &Domain,
-    problem: &Problem,
+    universe: &Universe<'a>,
+    writer: &mut Writer<'a>,
+    domain: &'a Domain,
+    problem: &'a Problem,
 ) -> Result<LoweredTask, GroundFault>
+    requires of_universe { universe_view universe.now ≡ writer.old.universe }
     requires of_problem { universe_view universe.now
         ≡ universe_of (domain_view domain.now) (problem_view problem.now) }
-    ensures { Lowers named_task numbering.old result numbering.new (written_task (universe_of
+    ensures { Lowers named_task writer.old result writer.new (written_task (universe_of
         (domain_view domain.now) (problem_view problem.now)) (problem_view problem.now).initial
         (problem_view problem.now).goal (domain_view domain.now).actions)
         (mentioned (domain_view domain.now) (problem_view problem.now)) }
@@ -170,7 +173,7 @@ fn lower_task(
     lower(
         alloc,
         universe,
-        numbering,
+        writer,
         &problem.initial,
         &problem.goal,
         &domain.actions,
@@ -178,26 +181,27 @@ fn lower_task(
 }
 
 // All that is mentioned by number, and then the words of the ground actions.
-fn prepare(
+fn prepare<'a>(
     alloc: Global,
-    universe: &Universe,
-    numbering: &mut Numbering,
-    domain: &Domain,
-    problem: &Problem,
+    universe: &Universe<'a>,
+    writer: &mut Writer<'a>,
+    domain: &'a Domain,
+    problem: &'a Problem,
 ) -> Result<LoweredTask, GroundFault>
+    requires of_universe { universe_view universe.now ≡ writer.old.universe }
     requires of_problem { universe_view universe.now
         ≡ universe_of (domain_view domain.now) (problem_view problem.now) }
-    ensures lowered { Lowers named_task numbering.old result
-        (with_actions numbering.new numbering.old.actions) (written_task (universe_of
+    ensures lowered { Lowers named_task writer.old result
+        (with_tables writer.old writer.new.tables) (written_task (universe_of
         (domain_view domain.now) (problem_view problem.now)) (problem_view problem.now).initial
         (problem_view problem.now).goal (domain_view domain.now).actions)
         (mentioned (domain_view domain.now) (problem_view problem.now)) }
-    ensures names { OnOk result (numbering.new.actions ≡ numbering.old.actions ++ map (λ a. a.words)
+    ensures names { OnOk result (writer.new.tables.actions ≡ writer.old.tables.actions ++ map (λ a. a.words)
         (ground_actions (universe_of (domain_view domain.now) (problem_view problem.now))
         (domain_view domain.now).actions)) }
 {
-    let lowered = lower_task(alloc, &*universe, numbering, domain, problem)?;
-    name_actions(alloc, universe, numbering, &domain.actions)?;
+    let lowered = lower_task(alloc, &*universe, writer, domain, problem)?;
+    name_actions(alloc, universe, writer, &domain.actions)?;
     Ok(lowered)
 }
 
@@ -250,11 +254,11 @@ fn task_of(
 }
 
 // The task of a problem with few enough ground actions.
-fn made(
+fn made<'a>(
     alloc: Global,
-    universe: &Universe,
-    domain: &Domain,
-    problem: &Problem,
+    universe: &Universe<'a>,
+    domain: &'a Domain,
+    problem: &'a Problem,
     limits: &Limits,
     scale: Scale,
 ) -> Result<Task, GroundFault>
@@ -273,15 +277,42 @@ fn made(
     ensures err { IfErr result
         (HasNoTask limits.now (domain_view domain.now) (problem_view problem.now)) }
 {
-    let mut numbering = Numbering::new(alloc, limits.atoms());
-    let lowered = prepare(alloc, universe, &mut numbering, domain, problem)?;
-    Ok(task_of(alloc, *limits, scale, numbering, lowered)?)
+    let mut writer = Writer::new(alloc, domain, problem, limits.atoms());
+    let lowered = prepare(alloc, universe, &mut writer, domain, problem)?;
+    Ok(task_of(alloc, *limits, scale, writer.into_numbering(), lowered)?)
+}
+
+// The task of a problem whose numbers and objects are in range.
+fn within<'a>(
+    alloc: Global,
+    domain: &'a Domain,
+    problem: &'a Problem,
+    limits: &Limits,
+    scale: Scale,
+) -> Result<Task, GroundFault>
+    ensures ok { IfOk result
+        (IsTask limits.now scale (domain_view domain.now) (problem_view problem.now)) }
+    ensures atoms { OnOk result
+        (length (firsts (mentioned (domain_view domain.now) (problem_view problem.now)).atoms)
+        ≤ limits.now.atoms) }
+    ensures fluents { OnOk result
+        (length (firsts (mentioned (domain_view domain.now) (problem_view problem.now)).fluents)
+        ≤ limits.now.atoms) }
+    ensures few { OnOk result (length (ground_actions (universe_of (domain_view domain.now)
+        (problem_view problem.now)) (domain_view domain.now).actions) ≤ limits.now.actions) }
+    ensures err { IfErr result
+        (HasNoTask limits.now (domain_view domain.now) (problem_view problem.now)) }
+{
+    let universe = universe_of(alloc, domain, problem)?;
+    check_actions(&universe, domain, limits)?;
+    made(alloc, &universe, domain, problem, limits, scale)
 }
 
 /// The task of a problem of a domain: its actions written out over its objects, atoms and fluents numbered in the order in
 /// which `:init`, the goal and the ground actions mention them. Takes time and memory in what is written out: a step for
 /// each variable of each binding and for each part of what stands under it; a quantifier asks for the room of all its
-/// bindings before the first is written out.
+/// bindings before the first is written out, and is mostly written out once for all places where its terms stand for the
+/// same objects.
 pub fn ground(
     alloc: Global,
     domain: &Domain,
@@ -307,7 +338,5 @@ pub fn ground(
         (HasNoTask limits.now (domain_view domain.now) (problem_view problem.now)) }
 {
     check(domain, problem)?;
-    let universe = universe_of(alloc, domain, problem)?;
-    check_actions(&universe, domain, limits)?;
-    made(alloc, &universe, domain, problem, limits, scale)
+    within(alloc, domain, problem, limits, scale)
 }

@@ -16,9 +16,9 @@ use crate::Body;
 use crate::environment::Env;
 use crate::fault::GroundFault;
 use crate::lowering::body;
-use crate::numbering::Numbering;
 use crate::rows::{Rows, rows_of};
 use crate::universe::{Universe, count_bindings, with_first};
+use crate::writer::Writer;
 use std::alloc::{AllocError, Global};
 use tp_ast::action::Action;
 use tp_ast::symbols::Typed;
@@ -41,20 +41,20 @@ pub fn actions_fit(universe: &Universe, actions: &[Action], most: u32) -> bool
 // The words of an action under all bindings, after those of other actions.
 fn push_names(
     alloc: Global,
-    numbering: &mut Numbering,
+    writer: &mut Writer,
     action: &Action,
     rows: &mut Rows,
 ) -> Result<(), AllocError>
-    ensures actions { OnOk result (numbering.new.actions ≡ numbering.old.actions ++ map
+    ensures actions { OnOk result (writer.new.tables.actions ≡ writer.old.tables.actions ++ map
         (λ ns. string_bytes action.now.name ∷ ns) (product (lists_of rows.old.lists.items))) }
-    ensures atoms { numbering.new.atoms ≡ numbering.old.atoms }
-    ensures fluents { numbering.new.fluents ≡ numbering.old.fluents }
-    ensures most { numbering.new.most ≡ numbering.old.most }
+    ensures atoms { writer.new.tables.atoms ≡ writer.old.tables.atoms }
+    ensures fluents { writer.new.tables.fluents ≡ writer.old.tables.fluents }
+    ensures most { writer.new.tables.most ≡ writer.old.tables.most }
 {
     for place in 0..rows.count {
         rows.turn_to(place);
         let words = with_first(alloc, action.name.as_str(), &rows.row)?;
-        numbering.push_action(&words)?;
+        writer.push_action(&words)?;
     }
     Ok(())
 }
@@ -63,31 +63,32 @@ fn push_names(
 pub fn name_actions(
     alloc: Global,
     universe: &Universe,
-    numbering: &mut Numbering,
+    writer: &mut Writer,
     actions: &[Action],
 ) -> Result<(), AllocError>
-    ensures actions { OnOk result (numbering.new.actions ≡ numbering.old.actions ++ map (λ a.
+    ensures actions { OnOk result (writer.new.tables.actions ≡ writer.old.tables.actions ++ map (λ a.
         a.words) (ground_actions (universe_view universe.now) (map action_view actions.now))) }
-    ensures atoms { numbering.new.atoms ≡ numbering.old.atoms }
-    ensures fluents { numbering.new.fluents ≡ numbering.old.fluents }
-    ensures most { numbering.new.most ≡ numbering.old.most }
+    ensures atoms { writer.new.tables.atoms ≡ writer.old.tables.atoms }
+    ensures fluents { writer.new.tables.fluents ≡ writer.old.tables.fluents }
+    ensures most { writer.new.tables.most ≡ writer.old.tables.most }
 {
     for action in actions {
         let mut rows = rows_of(alloc, universe, &action.parameters)?;
-        push_names(alloc, numbering, action, &mut rows)?;
+        push_names(alloc, writer, action, &mut rows)?;
     }
     Ok(())
 }
 
 // The body of an action under each binding of its parameters.
-fn bodies(
+fn bodies<'a>(
     alloc: Global,
-    universe: &Universe,
-    numbering: &mut Numbering,
-    parameters: &[Typed],
-    written: &tp_ast::action::Body,
+    universe: &Universe<'a>,
+    writer: &mut Writer<'a>,
+    parameters: &'a [Typed],
+    written: &'a tp_ast::action::Body,
 ) -> Result<Vec<Body>, GroundFault>
-    ensures { Lowers (λ t v. map (named_body t) v.items) numbering.old result numbering.new
+    requires { universe_view universe.now ≡ writer.old.universe }
+    ensures { Lowers (λ t v. map (named_body t) v.items) writer.old result writer.new
         (map (λ objects. body_in (universe_view universe.now)
         (bound (map typed_view parameters.now) objects) (body_view written.now))
         (bindings (universe_view universe.now) (map typed_view parameters.now)))
@@ -101,25 +102,26 @@ fn bodies(
     for place in 0..rows.count {
         rows.turn_to(place);
         let inner = Env::Inner(&*parameters, &rows.row, &outside);
-        lowered.push(body(alloc, universe, &inner, numbering, written)?)?;
+        lowered.push(body(alloc, universe, &inner, writer, written)?)?;
     }
     Ok(lowered)
 }
 
 /// The bodies of all ground actions, in order.
-pub fn lower_actions(
+pub fn lower_actions<'a>(
     alloc: Global,
-    universe: &Universe,
-    numbering: &mut Numbering,
-    actions: &[Action],
+    universe: &Universe<'a>,
+    writer: &mut Writer<'a>,
+    actions: &'a [Action],
 ) -> Result<Vec<Body>, GroundFault>
-    ensures { Lowers (λ t v. map (named_body t) v.items) numbering.old result numbering.new (map
+    requires { universe_view universe.now ≡ writer.old.universe }
+    ensures { Lowers (λ t v. map (named_body t) v.items) writer.old result writer.new (map
         (λ a. a.body) (ground_actions (universe_view universe.now) (map action_view actions.now)))
         (of_each (of_action (universe_view universe.now)) (map action_view actions.now)) }
 {
     let mut lowered = Vec::new(alloc);
     for action in actions {
-        let mut more = bodies(alloc, universe, numbering, &action.parameters, &action.body)?;
+        let mut more = bodies(alloc, universe, writer, &action.parameters, &action.body)?;
         lowered.append(&mut more)?;
     }
     Ok(lowered)

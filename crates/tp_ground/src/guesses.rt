@@ -22,13 +22,18 @@ fn end_of(word: &str) -> u32 {
     }
 }
 
+/// A mix of what was mixed before and the last letters of a word.
+pub fn mixed(before: u32, word: &str) -> u32 {
+    (before.rotate_left(5) ^ end_of(word)).wrapping_mul(0x9E37_79B1)
+}
+
 // Where the guess for words stands.
 fn slot_of(words: &[&str]) -> usize {
-    let mut mixed = 0u32;
+    let mut all = 0u32;
     for word in words {
-        mixed = (mixed.rotate_left(5) ^ end_of(word)).wrapping_mul(0x9E37_79B1);
+        all = mixed(all, *word);
     }
-    (mixed >> 16) as usize
+    (all >> 16) as usize
 }
 
 impl Guesses {

@@ -5,6 +5,7 @@
 //! - `objects`, `universe`, `noting`, `rows`: the objects, what variables may stand for, and their bindings
 //! - `labels`, `lookup`, `guesses`, `numbering`: names, atoms, fluents and actions by number
 //! - `environment`, `lowering`: conditions, expressions, effects and bodies grounded under a binding
+//! - `sameness`, `keys`, `memory`, `writer`: conditions that were written out before, found by what their terms stand for
 //! - `numbers`, `beginning`, `grounding`, `grounder`: numbers past the limit, the initial state, all ground actions, the task
 //! - `fault`: why a problem has none
 #![tactic(auto)]
@@ -16,18 +17,22 @@ mod fault;
 mod grounder;
 mod grounding;
 mod guesses;
+mod keys;
 mod labels;
 mod laws;
 mod lookup;
 mod lowering;
+mod memory;
 mod noting;
 mod numbering;
 mod numbers;
 mod objects;
 mod rows;
+mod sameness;
 mod task;
 pub mod truth;
 mod universe;
+mod writer;
 
 pub use events::{Body, Change, Comparison, Cond, Expr, GroundEvent, Limit, NumericEffect};
 pub use fault::{GroundFault, TooManyKind};

@@ -17,8 +17,8 @@ use std::alloc::{AllocError, Global};
 use tp_ast::symbols::Typed;
 use tp_types::types::{Types, types_fit};
 
-// Whether two lists of types are the same.
-fn are_same(left: &[String], right: &[String]) -> bool
+/// Whether two lists of types are the same.
+pub fn are_same(left: &[String], right: &[String]) -> bool
     ensures { result ≡ same_words (map string_bytes left.now) (map string_bytes right.now) }
 {
     let mut open = left;

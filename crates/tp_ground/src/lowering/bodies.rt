@@ -21,8 +21,8 @@ use crate::lowering::conditions::condition;
 use crate::lowering::constraints::limits;
 use crate::lowering::effects::NumberedEffect;
 use crate::lowering::parts::joined;
-use crate::numbering::Numbering;
 use crate::universe::Universe;
+use crate::writer::Writer;
 use crate::{Body, Cond, GroundEvent, Limit, NumericEffect};
 use std::alloc::{AllocError, Global};
 use tp_ast::constraint::DurationConstraint;
@@ -85,77 +85,81 @@ fn event(
 }
 
 // The conjuncts of a durative action's condition at a specifier.
-fn condition_at(
+fn condition_at<'a>(
     alloc: Global,
-    universe: &Universe,
-    env: &Env,
+    universe: &Universe<'a>,
+    env: &Env<'_, 'a>,
     specifier: TimeSpecifier,
-    numbering: &mut Numbering,
-    condition: &TimedCond,
+    writer: &mut Writer<'a>,
+    condition: &'a TimedCond,
 ) -> Result<Cond, GroundFault>
-    ensures { Lowers named_condition numbering.old result numbering.new (condition_at
+    requires { universe_view universe.now ≡ writer.old.universe }
+    ensures { Lowers named_condition writer.old result writer.new (condition_at
         (universe_view universe.now) specifier (env_view env.now)
         (timed_condition_view condition.now))
         (of_condition (condition_at (universe_view universe.now) specifier
         (env_view env.now) (timed_condition_view condition.now))) }
 {
-    Ok(Cond::And(joined(alloc, universe, env, specifier, numbering, condition)?))
+    Ok(Cond::And(joined(alloc, universe, env, specifier, writer, condition)?))
 }
 
-fn start(
+fn start<'a>(
     alloc: Global,
-    universe: &Universe,
-    env: &Env,
-    numbering: &mut Numbering,
-    duration: &DurationConstraint,
-    condition: &TimedCond,
-    effect: &TimedEffect,
+    universe: &Universe<'a>,
+    env: &Env<'_, 'a>,
+    writer: &mut Writer<'a>,
+    duration: &'a DurationConstraint,
+    condition: &'a TimedCond,
+    effect: &'a TimedEffect,
 ) -> Result<GroundEvent, GroundFault>
-    ensures { Lowers named_event numbering.old result numbering.new
+    requires { universe_view universe.now ≡ writer.old.universe }
+    ensures { Lowers named_event writer.old result writer.new
         (start_in (universe_view universe.now) (env_view env.now) (constraint_view duration.now)
         (timed_condition_view condition.now) (timed_effect_view effect.now))
         (of_start (universe_view universe.now) (env_view env.now) (constraint_view duration.now)
         (timed_condition_view condition.now) (timed_effect_view effect.now)) }
 {
-    let condition = condition_at(alloc, universe, env, AtStart, numbering, condition)?;
-    let simple_effects = joined(alloc, universe, env, AtStart, numbering, effect)?;
-    let constraint = limits(alloc, env, numbering, duration)?;
+    let condition = condition_at(alloc, universe, env, AtStart, writer, condition)?;
+    let simple_effects = joined(alloc, universe, env, AtStart, writer, effect)?;
+    let constraint = limits(alloc, env, writer, duration)?;
     Ok(event(alloc, condition, simple_effects, constraint)?)
 }
 
-fn end(
+fn end<'a>(
     alloc: Global,
-    universe: &Universe,
-    env: &Env,
-    numbering: &mut Numbering,
-    condition: &TimedCond,
-    effect: &TimedEffect,
+    universe: &Universe<'a>,
+    env: &Env<'_, 'a>,
+    writer: &mut Writer<'a>,
+    condition: &'a TimedCond,
+    effect: &'a TimedEffect,
 ) -> Result<GroundEvent, GroundFault>
-    ensures { Lowers named_event numbering.old result numbering.new
+    requires { universe_view universe.now ≡ writer.old.universe }
+    ensures { Lowers named_event writer.old result writer.new
         (end_in (universe_view universe.now) (env_view env.now) (timed_condition_view condition.now)
         (timed_effect_view effect.now)) (of_end (universe_view universe.now)
         (env_view env.now) (timed_condition_view condition.now) (timed_effect_view effect.now)) }
 {
-    let condition = condition_at(alloc, universe, env, AtEnd, numbering, condition)?;
-    let simple_effects = joined(alloc, universe, env, AtEnd, numbering, effect)?;
+    let condition = condition_at(alloc, universe, env, AtEnd, writer, condition)?;
+    let simple_effects = joined(alloc, universe, env, AtEnd, writer, effect)?;
     Ok(event(alloc, condition, simple_effects, Vec::new(alloc))?)
 }
 
-fn instant(
+fn instant<'a>(
     alloc: Global,
-    universe: &Universe,
-    env: &Env,
-    numbering: &mut Numbering,
-    precondition: &tp_ast::cond::Cond,
-    effect: &Effect,
+    universe: &Universe<'a>,
+    env: &Env<'_, 'a>,
+    writer: &mut Writer<'a>,
+    precondition: &'a tp_ast::cond::Cond,
+    effect: &'a Effect,
 ) -> Result<GroundEvent, GroundFault>
-    ensures { Lowers named_event numbering.old result numbering.new
+    requires { universe_view universe.now ≡ writer.old.universe }
+    ensures { Lowers named_event writer.old result writer.new
         (instant_in (universe_view universe.now) (env_view env.now) (cond_view precondition.now)
         (effect_view effect.now)) (of_instant (universe_view universe.now)
         (env_view env.now) (cond_view precondition.now) (effect_view effect.now)) }
 {
-    let condition = condition(alloc, universe, env, numbering, precondition)?;
-    let simple_effects = joined(alloc, universe, env, AtStart, numbering, effect)?;
+    let condition = condition(alloc, universe, env, writer, precondition)?;
+    let simple_effects = joined(alloc, universe, env, AtStart, writer, effect)?;
     Ok(event(alloc, condition, simple_effects, Vec::new(alloc))?)
 }
 
@@ -166,16 +170,17 @@ struct Ends {
     last: GroundEvent,
 }
 
-fn ends_of(
+fn ends_of<'a>(
     alloc: Global,
-    universe: &Universe,
-    env: &Env,
-    numbering: &mut Numbering,
-    duration: &DurationConstraint,
-    condition: &TimedCond,
-    effect: &TimedEffect,
+    universe: &Universe<'a>,
+    env: &Env<'_, 'a>,
+    writer: &mut Writer<'a>,
+    duration: &'a DurationConstraint,
+    condition: &'a TimedCond,
+    effect: &'a TimedEffect,
 ) -> Result<Ends, GroundFault>
-    ensures { Lowers named_ends numbering.old result numbering.new (
+    requires { universe_view universe.now ≡ writer.old.universe }
+    ensures { Lowers named_ends writer.old result writer.new (
       start_in (universe_view universe.now) (env_view env.now) (constraint_view duration.now)
           (timed_condition_view condition.now) (timed_effect_view effect.now),
       end_in (universe_view universe.now) (env_view env.now) (timed_condition_view condition.now)
@@ -186,22 +191,23 @@ fn ends_of(
         then of_end (universe_view universe.now)
         (env_view env.now) (timed_condition_view condition.now) (timed_effect_view effect.now)) }
 {
-    let first = start(alloc, universe, env, numbering, duration, condition, effect)?;
-    let last = end(alloc, universe, env, numbering, condition, effect)?;
+    let first = start(alloc, universe, env, writer, duration, condition, effect)?;
+    let last = end(alloc, universe, env, writer, condition, effect)?;
     Ok(Ends { first, last })
 }
 
 // A start, an end, and what holds between them.
-fn durative(
+fn durative<'a>(
     alloc: Global,
-    universe: &Universe,
-    env: &Env,
-    numbering: &mut Numbering,
-    duration: &DurationConstraint,
-    condition: &TimedCond,
-    effect: &TimedEffect,
+    universe: &Universe<'a>,
+    env: &Env<'_, 'a>,
+    writer: &mut Writer<'a>,
+    duration: &'a DurationConstraint,
+    condition: &'a TimedCond,
+    effect: &'a TimedEffect,
 ) -> Result<Body, GroundFault>
-    ensures { Lowers named_body numbering.old result numbering.new
+    requires { universe_view universe.now ≡ writer.old.universe }
+    ensures { Lowers named_body writer.old result writer.new
         (body_in (universe_view universe.now) (env_view env.now)
         (durative (constraint_view duration.now)
         (timed_condition_view condition.now) (timed_effect_view effect.now)))
@@ -209,20 +215,21 @@ fn durative(
         (durative (constraint_view duration.now)
         (timed_condition_view condition.now) (timed_effect_view effect.now))) }
 {
-    let ends = ends_of(alloc, universe, env, numbering, duration, condition, effect)?;
-    let between = condition_at(alloc, universe, env, OverAll, numbering, condition)?;
+    let ends = ends_of(alloc, universe, env, writer, duration, condition, effect)?;
+    let between = condition_at(alloc, universe, env, OverAll, writer, condition)?;
     Ok(Body::Durative(ends.first, ends.last, between))
 }
 
 /// The body of an action, under a binding of its parameters.
-pub fn body(
+pub fn body<'a>(
     alloc: Global,
-    universe: &Universe,
-    env: &Env,
-    numbering: &mut Numbering,
-    body: &tp_ast::action::Body,
+    universe: &Universe<'a>,
+    env: &Env<'_, 'a>,
+    writer: &mut Writer<'a>,
+    body: &'a tp_ast::action::Body,
 ) -> Result<Body, GroundFault>
-    ensures { Lowers named_body numbering.old result numbering.new
+    requires { universe_view universe.now ≡ writer.old.universe }
+    ensures { Lowers named_body writer.old result writer.new
         (body_in (universe_view universe.now) (env_view env.now) (body_view body.now))
         (of_body (universe_view universe.now) (env_view env.now) (body_view body.now)) }
 {
@@ -231,13 +238,13 @@ pub fn body(
             precondition,
             effect,
         } => {
-            let event = instant(alloc, universe, env, numbering, precondition, effect)?;
+            let event = instant(alloc, universe, env, writer, precondition, effect)?;
             Ok(Body::Instant(event))
         }
         tp_ast::action::Body::Durative {
             duration,
             condition,
             effect,
-        } => durative(alloc, universe, env, numbering, duration, condition, effect),
+        } => durative(alloc, universe, env, writer, duration, condition, effect),
     }
 }

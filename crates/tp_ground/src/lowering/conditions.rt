@@ -1,58 +1,53 @@
 //! Conditions.
 
-ghost use Rattle.std.specs.Prelude.{◌≡◌, map, IfOk};
+ghost use Rattle.std.specs.Prelude.{◌≡◌, map, IfOk, IfSome};
 ghost use Rattle.tp_ast.specs.Terms.{atom_view, term_view};
 ghost use Rattle.tp_ast.specs.Symbols.{typed_view};
 ghost use Rattle.tp_ast.specs.ExprViews.{expr_view};
 ghost use Rattle.tp_ast.specs.CondViews.{cond_view};
-ghost use Rattle.tp_ground.specs.Bindings.{words_in};
+ghost use Rattle.tp_ground.specs.Bindings.{object_for, words_in};
 ghost use Rattle.tp_ground.specs.Views.{env_view, universe_view};
 ghost use Rattle.tp_ground.specs.Tables.{Tables, words_at};
 ghost use Rattle.tp_ground.specs.Written.{condition_in, same_in, compared_in, either, negation, inner, all_of, any_of, conditions_from};
 ghost use Rattle.tp_ground.specs.Written.{atom as cond_atom};
 ghost use Rattle.tp_ground.specs.Mentions.{an_atom, of_condition, of_each};
 ghost use Rattle.tp_ground.specs.ReadBack.{named_condition};
-ghost use Rattle.tp_ground.specs.Lowered.{Lowers};
+ghost use Rattle.tp_ground.specs.Lowered.{IsLowered, Lowers};
+ghost use Rattle.tp_ground.specs.TermsIn.{terms_in};
+ghost use Rattle.tp_ground.specs.Kept.{Stands};
 
 use crate::Cond;
 use crate::environment::{Env, object_for, words_in};
 use crate::fault::GroundFault;
+use crate::keys::{Objects, objects_in};
 use crate::lowering::expressions::{comparison_of, operand};
-use crate::numbering::Numbering;
+use crate::memory::Kept;
 use crate::rows::rows_of;
 use crate::universe::Universe;
+use crate::writer::Writer;
 use std::alloc::{AllocError, Global};
+use std::rc::Rc;
 use tp_ast::expr::Expr;
 use tp_ast::symbols::Typed;
 use tp_ast::term::{Atom, Term};
 use tp_ast::words::Comparison;
 
 /// The number of an atom.
-pub fn atom(
-    alloc: Global,
-    env: &Env,
-    numbering: &mut Numbering,
-    atom: &Atom,
-) -> Result<u32, GroundFault>
-    ensures { Lowers (λ t i. words_at t.atoms i) numbering.old result numbering.new
+pub fn atom(alloc: Global, env: &Env, writer: &mut Writer, atom: &Atom) -> Result<u32, GroundFault>
+    ensures { Lowers (λ t i. words_at t.atoms i) writer.old result writer.new
         (words_in (env_view env.now) (atom_view atom.now))
         (an_atom (words_in (env_view env.now) (atom_view atom.now))) }
 {
     let words = words_in(alloc, env, atom)?;
-    numbering.atom(&words)
+    writer.atom(&words)
 }
 
-fn fact(
-    alloc: Global,
-    env: &Env,
-    numbering: &mut Numbering,
-    fact: &Atom,
-) -> Result<Cond, GroundFault>
-    ensures { Lowers named_condition numbering.old result numbering.new
+fn fact(alloc: Global, env: &Env, writer: &mut Writer, fact: &Atom) -> Result<Cond, GroundFault>
+    ensures { Lowers named_condition writer.old result writer.new
         (cond_atom (words_in (env_view env.now) (atom_view fact.now)))
         (an_atom (words_in (env_view env.now) (atom_view fact.now))) }
 {
-    let number = atom(alloc, env, numbering, fact)?;
+    let number = atom(alloc, env, writer, fact)?;
     Ok(Cond::Atom(number))
 }
 
@@ -71,17 +66,17 @@ fn same(alloc: Global, env: &Env, left: &Term, right: &Term) -> Cond
 fn compared(
     alloc: Global,
     env: &Env,
-    numbering: &mut Numbering,
+    writer: &mut Writer,
     comparison: Comparison,
     left: &Expr,
     right: &Expr,
 ) -> Result<Cond, GroundFault>
-    ensures { Lowers named_condition numbering.old result numbering.new (compared_in
+    ensures { Lowers named_condition writer.old result writer.new (compared_in
         (env_view env.now) comparison (expr_view left.now) (expr_view right.now)) (of_condition
         (compared_in (env_view env.now) comparison (expr_view left.now) (expr_view right.now))) }
 {
-    let x = operand(alloc, env, numbering, left)?;
-    let y = operand(alloc, env, numbering, right)?;
+    let x = operand(alloc, env, writer, left)?;
+    let y = operand(alloc, env, writer, right)?;
     Ok(Cond::Compare(comparison_of(comparison), x, y))
 }
 
@@ -97,36 +92,38 @@ fn either(alloc: Global, first: Cond, second: Cond) -> Result<Cond, AllocError>
 }
 
 #[cycle(condition)]
-fn conditions(
+fn conditions<'a>(
     alloc: Global,
-    universe: &Universe,
-    env: &Env,
-    numbering: &mut Numbering,
-    conds: &[tp_ast::cond::Cond],
+    universe: &Universe<'a>,
+    env: &Env<'_, 'a>,
+    writer: &mut Writer<'a>,
+    conds: &'a [tp_ast::cond::Cond],
 ) -> Result<Vec<Cond>, GroundFault>
-    ensures { Lowers (λ t v. map (named_condition t) v.items) numbering.old result numbering.new
+    requires { universe_view universe.now ≡ writer.old.universe }
+    ensures { Lowers (λ t v. map (named_condition t) v.items) writer.old result writer.new
         (map (λ c. condition_in (universe_view universe.now) (env_view env.now) (cond_view c))
         conds.now) (of_each of_condition (map (λ c.
         condition_in (universe_view universe.now) (env_view env.now) (cond_view c)) conds.now)) }
 {
     let mut lowered = Vec::with_capacity(alloc, conds.len())?;
     for cond in conds {
-        lowered.push(condition(alloc, universe, env, numbering, cond)?)?;
+        lowered.push(condition(alloc, universe, env, writer, cond)?)?;
     }
     Ok(lowered)
 }
 
 // A condition under each binding of variables.
 #[cycle(condition)]
-fn under_each(
+fn under_each<'a>(
     alloc: Global,
-    universe: &Universe,
-    env: &Env,
-    numbering: &mut Numbering,
-    variables: &[Typed],
-    cond: &tp_ast::cond::Cond,
+    universe: &Universe<'a>,
+    env: &Env<'_, 'a>,
+    writer: &mut Writer<'a>,
+    variables: &'a [Typed],
+    cond: &'a tp_ast::cond::Cond,
 ) -> Result<Vec<Cond>, GroundFault>
-    ensures { Lowers (λ t v. map (named_condition t) v.items) numbering.old result numbering.new
+    requires { universe_view universe.now ≡ writer.old.universe }
+    ensures { Lowers (λ t v. map (named_condition t) v.items) writer.old result writer.new
         (map (λ e. condition_in (universe_view universe.now) e (cond_view cond.now))
         (inner (universe_view universe.now) (env_view env.now) (map typed_view variables.now)))
         (of_each of_condition
@@ -138,131 +135,246 @@ fn under_each(
     for place in 0..rows.count {
         rows.turn_to(place);
         let inner = Env::Inner(&*variables, &rows.row, &*env);
-        lowered.push(condition(alloc, universe, &inner, numbering, cond)?)?;
+        lowered.push(condition(alloc, universe, &inner, writer, cond)?)?;
     }
     Ok(lowered)
 }
 
 #[cycle(condition)]
-fn negated(
+fn negated<'a>(
     alloc: Global,
-    universe: &Universe,
-    env: &Env,
-    numbering: &mut Numbering,
-    cond: &tp_ast::cond::Cond,
+    universe: &Universe<'a>,
+    env: &Env<'_, 'a>,
+    writer: &mut Writer<'a>,
+    cond: &'a tp_ast::cond::Cond,
 ) -> Result<Cond, GroundFault>
-    ensures { Lowers named_condition numbering.old result numbering.new (negation (condition_in
+    requires { universe_view universe.now ≡ writer.old.universe }
+    ensures { Lowers named_condition writer.old result writer.new (negation (condition_in
         (universe_view universe.now) (env_view env.now) (cond_view cond.now))) (of_condition
         (condition_in (universe_view universe.now) (env_view env.now) (cond_view cond.now))) }
 {
-    let lowered = condition(alloc, universe, env, numbering, cond)?;
+    let lowered = condition(alloc, universe, env, writer, cond)?;
     Ok(Cond::Not(Box::new(alloc, lowered)?))
 }
 
 #[cycle(condition)]
-fn conjunction(
+fn conjunction<'a>(
     alloc: Global,
-    universe: &Universe,
-    env: &Env,
-    numbering: &mut Numbering,
-    conds: &[tp_ast::cond::Cond],
+    universe: &Universe<'a>,
+    env: &Env<'_, 'a>,
+    writer: &mut Writer<'a>,
+    conds: &'a [tp_ast::cond::Cond],
 ) -> Result<Cond, GroundFault>
-    ensures { Lowers named_condition numbering.old result numbering.new
+    requires { universe_view universe.now ≡ writer.old.universe }
+    ensures { Lowers named_condition writer.old result writer.new
         (all_of (conditions_from (map (λ c.
         condition_in (universe_view universe.now) (env_view env.now) (cond_view c)) conds.now)))
         (of_condition (all_of (conditions_from (map (λ c.
         condition_in (universe_view universe.now) (env_view env.now) (cond_view c)) conds.now)))) }
 {
-    Ok(Cond::And(conditions(alloc, universe, env, numbering, conds)?))
+    Ok(Cond::And(conditions(alloc, universe, env, writer, conds)?))
 }
 
 #[cycle(condition)]
-fn disjunction(
+fn disjunction<'a>(
     alloc: Global,
-    universe: &Universe,
-    env: &Env,
-    numbering: &mut Numbering,
-    conds: &[tp_ast::cond::Cond],
+    universe: &Universe<'a>,
+    env: &Env<'_, 'a>,
+    writer: &mut Writer<'a>,
+    conds: &'a [tp_ast::cond::Cond],
 ) -> Result<Cond, GroundFault>
-    ensures { Lowers named_condition numbering.old result numbering.new
+    requires { universe_view universe.now ≡ writer.old.universe }
+    ensures { Lowers named_condition writer.old result writer.new
         (any_of (conditions_from (map (λ c.
         condition_in (universe_view universe.now) (env_view env.now) (cond_view c)) conds.now)))
         (of_condition (any_of (conditions_from (map (λ c.
         condition_in (universe_view universe.now) (env_view env.now) (cond_view c)) conds.now)))) }
 {
-    Ok(Cond::Or(conditions(alloc, universe, env, numbering, conds)?))
+    Ok(Cond::Or(conditions(alloc, universe, env, writer, conds)?))
 }
 
 #[cycle(condition)]
-fn for_all(
+fn for_all<'a>(
     alloc: Global,
-    universe: &Universe,
-    env: &Env,
-    numbering: &mut Numbering,
-    variables: &[Typed],
-    cond: &tp_ast::cond::Cond,
+    universe: &Universe<'a>,
+    env: &Env<'_, 'a>,
+    writer: &mut Writer<'a>,
+    variables: &'a [Typed],
+    cond: &'a tp_ast::cond::Cond,
 ) -> Result<Cond, GroundFault>
-    ensures { Lowers named_condition numbering.old result numbering.new (all_of (conditions_from
+    requires { universe_view universe.now ≡ writer.old.universe }
+    ensures { Lowers named_condition writer.old result writer.new (all_of (conditions_from
         (map (λ e. condition_in (universe_view universe.now) e (cond_view cond.now))
         (inner (universe_view universe.now) (env_view env.now) (map typed_view variables.now)))))
         (of_condition (all_of (conditions_from
         (map (λ e. condition_in (universe_view universe.now) e (cond_view cond.now))
         (inner (universe_view universe.now) (env_view env.now) (map typed_view variables.now)))))) }
 {
-    Ok(Cond::And(under_each(alloc, universe, env, numbering, variables, cond)?))
+    Ok(Cond::And(under_each(alloc, universe, env, writer, variables, cond)?))
 }
 
 #[cycle(condition)]
-fn for_some(
+fn for_some<'a>(
     alloc: Global,
-    universe: &Universe,
-    env: &Env,
-    numbering: &mut Numbering,
-    variables: &[Typed],
-    cond: &tp_ast::cond::Cond,
+    universe: &Universe<'a>,
+    env: &Env<'_, 'a>,
+    writer: &mut Writer<'a>,
+    variables: &'a [Typed],
+    cond: &'a tp_ast::cond::Cond,
 ) -> Result<Cond, GroundFault>
-    ensures { Lowers named_condition numbering.old result numbering.new (any_of (conditions_from
+    requires { universe_view universe.now ≡ writer.old.universe }
+    ensures { Lowers named_condition writer.old result writer.new (any_of (conditions_from
         (map (λ e. condition_in (universe_view universe.now) e (cond_view cond.now))
         (inner (universe_view universe.now) (env_view env.now) (map typed_view variables.now)))))
         (of_condition (any_of (conditions_from
         (map (λ e. condition_in (universe_view universe.now) e (cond_view cond.now))
         (inner (universe_view universe.now) (env_view env.now) (map typed_view variables.now)))))) }
 {
-    Ok(Cond::Or(under_each(alloc, universe, env, numbering, variables, cond)?))
+    Ok(Cond::Or(under_each(alloc, universe, env, writer, variables, cond)?))
 }
 
-/// The condition over numbers, its quantifiers written out.
+// A condition with what stands in it written out anew, but for what is inside of it.
 #[cycle(condition)]
-pub fn condition(
+fn written_out<'a>(
     alloc: Global,
-    universe: &Universe,
-    env: &Env,
-    numbering: &mut Numbering,
-    cond: &tp_ast::cond::Cond,
+    universe: &Universe<'a>,
+    env: &Env<'_, 'a>,
+    writer: &mut Writer<'a>,
+    cond: &'a tp_ast::cond::Cond,
 ) -> Result<Cond, GroundFault>
-    ensures { Lowers named_condition numbering.old result numbering.new (condition_in
+    requires { universe_view universe.now ≡ writer.old.universe }
+    ensures { Lowers named_condition writer.old result writer.new (condition_in
         (universe_view universe.now) (env_view env.now) (cond_view cond.now)) (of_condition
         (condition_in (universe_view universe.now) (env_view env.now) (cond_view cond.now))) }
 {
     match cond {
-        tp_ast::cond::Cond::And(conds) => conjunction(alloc, universe, env, numbering, conds),
-        tp_ast::cond::Cond::Or(conds) => disjunction(alloc, universe, env, numbering, conds),
-        tp_ast::cond::Cond::Not(inner) => negated(alloc, universe, env, numbering, inner),
+        tp_ast::cond::Cond::And(conds) => conjunction(alloc, universe, env, writer, conds),
+        tp_ast::cond::Cond::Or(conds) => disjunction(alloc, universe, env, writer, conds),
+        tp_ast::cond::Cond::Not(inner) => negated(alloc, universe, env, writer, inner),
         tp_ast::cond::Cond::Imply(a, b) => {
-            let first = negated(alloc, universe, env, numbering, a)?;
-            let second = condition(alloc, universe, env, numbering, b)?;
+            let first = negated(alloc, universe, env, writer, a)?;
+            let second = condition(alloc, universe, env, writer, b)?;
             Ok(either(alloc, first, second)?)
         }
         tp_ast::cond::Cond::Forall(variables, inner) => {
-            for_all(alloc, universe, env, numbering, variables, inner)
+            for_all(alloc, universe, env, writer, variables, inner)
         }
         tp_ast::cond::Cond::Exists(variables, inner) => {
-            for_some(alloc, universe, env, numbering, variables, inner)
+            for_some(alloc, universe, env, writer, variables, inner)
         }
-        tp_ast::cond::Cond::Atom(a) => fact(alloc, env, numbering, a),
+        tp_ast::cond::Cond::Atom(a) => fact(alloc, env, writer, a),
         tp_ast::cond::Cond::Same(a, b) => Ok(same(alloc, env, a, b)),
         tp_ast::cond::Cond::Compare(comparison, a, b) => {
-            compared(alloc, env, numbering, *comparison, a, b)
+            compared(alloc, env, writer, *comparison, a, b)
         }
+    }
+}
+
+// What the condition was written out to where its terms stood for these objects, if that is found.
+fn recalled(
+    env: &Env,
+    writer: &Writer,
+    cond: &tp_ast::cond::Cond,
+    objects: &[&str],
+) -> Result<Option<Cond>, AllocError>
+    requires { map (object_for (env_view env.now)) (terms_in (cond_view cond.now))
+        ≡ map (λ o. o.now) objects.now }
+    ensures { IfOk result (λ r. IfSome r (λ c. IsLowered named_condition writer.now writer.now c
+        (condition_in writer.now.universe (env_view env.now) (cond_view cond.now)) (of_condition
+        (condition_in writer.now.universe (env_view env.now) (cond_view cond.now))))) }
+{
+    match writer.recall(cond, objects) {
+        Some(known) => Ok(Some(Cond::Shared(known.clone()?))),
+        None => Ok(None),
+    }
+}
+
+// A condition that is kept from now on, and shared.
+fn kept<'a>(
+    alloc: Global,
+    writer: &mut Writer<'a>,
+    cond: &'a tp_ast::cond::Cond,
+    objects: Objects<'a>,
+    written: Cond,
+) -> Result<Cond, AllocError>
+    requires { Stands writer.old (cond_view cond.now) (map (λ o. o.now) objects.items) written }
+    ensures same { IfOk result
+        (λ c. (t : Tables) → named_condition t c ≡ named_condition t written) }
+    ensures writer { writer.new ≡ writer.old }
+{
+    let shared = Rc::new(alloc, written)?;
+    let again = shared.clone()?;
+    writer.keep(
+        alloc,
+        Kept {
+            cond,
+            objects,
+            written: again,
+        },
+    )?;
+    Ok(Cond::Shared(shared))
+}
+
+// A condition that is written out, and kept from then on.
+#[cycle(condition)]
+fn written_once<'a>(
+    alloc: Global,
+    universe: &Universe<'a>,
+    env: &Env<'_, 'a>,
+    writer: &mut Writer<'a>,
+    cond: &'a tp_ast::cond::Cond,
+    objects: Objects<'a>,
+) -> Result<Cond, GroundFault>
+    requires of_universe { universe_view universe.now ≡ writer.old.universe }
+    requires of_terms { map (object_for (env_view env.now)) (terms_in (cond_view cond.now))
+        ≡ map (λ o. o.now) objects.items }
+    ensures { Lowers named_condition writer.old result writer.new (condition_in
+        (universe_view universe.now) (env_view env.now) (cond_view cond.now)) (of_condition
+        (condition_in (universe_view universe.now) (env_view env.now) (cond_view cond.now))) }
+{
+    let written = written_out(alloc, universe, env, writer, cond)?;
+    Ok(kept(alloc, writer, cond, objects, written)?)
+}
+
+// A condition that is written out once for all places where its terms stand for the same objects.
+#[cycle(condition)]
+fn shared<'a>(
+    alloc: Global,
+    universe: &Universe<'a>,
+    env: &Env<'_, 'a>,
+    writer: &mut Writer<'a>,
+    cond: &'a tp_ast::cond::Cond,
+) -> Result<Cond, GroundFault>
+    requires { universe_view universe.now ≡ writer.old.universe }
+    ensures { Lowers named_condition writer.old result writer.new (condition_in
+        (universe_view universe.now) (env_view env.now) (cond_view cond.now)) (of_condition
+        (condition_in (universe_view universe.now) (env_view env.now) (cond_view cond.now))) }
+{
+    let objects = objects_in(alloc, env, cond)?;
+    match recalled(env, &*writer, cond, &objects)? {
+        Some(known) => Ok(known),
+        None => written_once(alloc, universe, env, writer, cond, objects),
+    }
+}
+
+/// The condition over numbers, its quantifiers written out.
+#[cycle(condition)]
+pub fn condition<'a>(
+    alloc: Global,
+    universe: &Universe<'a>,
+    env: &Env<'_, 'a>,
+    writer: &mut Writer<'a>,
+    cond: &'a tp_ast::cond::Cond,
+) -> Result<Cond, GroundFault>
+    requires { universe_view universe.now ≡ writer.old.universe }
+    ensures { Lowers named_condition writer.old result writer.new (condition_in
+        (universe_view universe.now) (env_view env.now) (cond_view cond.now)) (of_condition
+        (condition_in (universe_view universe.now) (env_view env.now) (cond_view cond.now))) }
+{
+    match cond {
+        tp_ast::cond::Cond::Forall(_, _) | tp_ast::cond::Cond::Exists(_, _) => {
+            shared(alloc, universe, env, writer, cond)
+        }
+        _ => written_out(alloc, universe, env, writer, cond),
     }
 }

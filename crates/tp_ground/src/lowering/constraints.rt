@@ -13,7 +13,7 @@ use crate::Limit;
 use crate::environment::Env;
 use crate::fault::GroundFault;
 use crate::lowering::expressions::{comparison_of, expression};
-use crate::numbering::Numbering;
+use crate::writer::Writer;
 use std::alloc::Global;
 use tp_ast::constraint::DurationConstraint;
 
@@ -21,17 +21,17 @@ use tp_ast::constraint::DurationConstraint;
 fn all_limits(
     alloc: Global,
     env: &Env,
-    numbering: &mut Numbering,
+    writer: &mut Writer,
     constraints: &[DurationConstraint],
 ) -> Result<Vec<Limit>, GroundFault>
-    ensures { Lowers (λ t v. map (named_limit t) v.items) numbering.old result numbering.new
+    ensures { Lowers (λ t v. map (named_limit t) v.items) writer.old result writer.new
         (flat_map (λ r. limits_in (env_view env.now) (constraint_view r)) constraints.now)
         (of_each of_limit
         (flat_map (λ r. limits_in (env_view env.now) (constraint_view r)) constraints.now)) }
 {
     let mut lowered = Vec::new(alloc);
     for constraint in constraints {
-        let mut more = limits(alloc, env, numbering, constraint)?;
+        let mut more = limits(alloc, env, writer, constraint)?;
         lowered.append(&mut more)?;
     }
     Ok(lowered)
@@ -42,17 +42,17 @@ fn all_limits(
 pub fn limits(
     alloc: Global,
     env: &Env,
-    numbering: &mut Numbering,
+    writer: &mut Writer,
     constraint: &DurationConstraint,
 ) -> Result<Vec<Limit>, GroundFault>
-    ensures { Lowers (λ t v. map (named_limit t) v.items) numbering.old result numbering.new
+    ensures { Lowers (λ t v. map (named_limit t) v.items) writer.old result writer.new
         (limits_in (env_view env.now) (constraint_view constraint.now))
         (of_each of_limit (limits_in (env_view env.now) (constraint_view constraint.now))) }
 {
     match constraint {
-        DurationConstraint::And(constraints) => all_limits(alloc, env, numbering, constraints),
+        DurationConstraint::And(constraints) => all_limits(alloc, env, writer, constraints),
         DurationConstraint::Limit(comparison, value) => {
-            let value = expression(alloc, env, numbering, value)?;
+            let value = expression(alloc, env, writer, value)?;
             let mut one = Vec::new(alloc);
             one.push(Limit {
                 how: comparison_of(*comparison),

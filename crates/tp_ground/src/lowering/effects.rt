@@ -20,8 +20,8 @@ use crate::fault::GroundFault;
 use crate::lowering::conditions::{atom, condition};
 use crate::lowering::expressions::{expression, fluent};
 use crate::lowering::parts::{Lowerable, joined};
-use crate::numbering::Numbering;
 use crate::universe::Universe;
+use crate::writer::Writer;
 use crate::{Change, Cond, NumericEffect};
 use std::alloc::Global;
 use tp_ast::effect::{Effect, SimpleEffect};
@@ -52,18 +52,18 @@ fn change_of(writing: Writing) -> Change
 fn write(
     alloc: Global,
     env: &Env,
-    numbering: &mut Numbering,
+    writer: &mut Writer,
     writing: Writing,
     atom: &Atom,
     value: &Expr,
 ) -> Result<NumberedEffect, GroundFault>
-    ensures { Lowers named_simple_effect numbering.old result numbering.new (simple_effect_in
+    ensures { Lowers named_simple_effect writer.old result writer.new (simple_effect_in
         (env_view env.now) (writes writing (atom_view atom.now) (expr_view value.now)))
         (of_simple_effect (simple_effect_in (env_view env.now)
         (writes writing (atom_view atom.now) (expr_view value.now)))) }
 {
-    let fluent = fluent(alloc, env, numbering, atom)?;
-    let value = expression(alloc, env, numbering, value)?;
+    let fluent = fluent(alloc, env, writer, atom)?;
+    let value = expression(alloc, env, writer, value)?;
     Ok(NumberedEffect::Write(NumericEffect {
         fluent,
         change: change_of(writing),
@@ -74,25 +74,25 @@ fn write(
 fn simple_effect(
     alloc: Global,
     env: &Env,
-    numbering: &mut Numbering,
+    writer: &mut Writer,
     simple_effect: &SimpleEffect,
 ) -> Result<NumberedEffect, GroundFault>
-    ensures { Lowers named_simple_effect numbering.old result numbering.new
+    ensures { Lowers named_simple_effect writer.old result writer.new
         (simple_effect_in (env_view env.now) (simple_effect_view simple_effect.now))
         (of_simple_effect
         (simple_effect_in (env_view env.now) (simple_effect_view simple_effect.now))) }
 {
     match simple_effect {
         SimpleEffect::Add(added) => {
-            let number = atom(alloc, env, numbering, added)?;
+            let number = atom(alloc, env, writer, added)?;
             Ok(NumberedEffect::Add(number))
         }
         SimpleEffect::Delete(deleted) => {
-            let number = atom(alloc, env, numbering, deleted)?;
+            let number = atom(alloc, env, writer, deleted)?;
             Ok(NumberedEffect::Delete(number))
         }
         SimpleEffect::Write(writing, fluent, value) => {
-            write(alloc, env, numbering, *writing, fluent, value)
+            write(alloc, env, writer, *writing, fluent, value)
         }
     }
 }
@@ -108,20 +108,21 @@ fn is_specifier(left: TimeSpecifier, right: TimeSpecifier) -> bool
     )
 }
 
-fn conjunct(
+fn conjunct<'a>(
     alloc: Global,
-    universe: &Universe,
-    env: &Env,
-    numbering: &mut Numbering,
-    cond: &tp_ast::cond::Cond,
+    universe: &Universe<'a>,
+    env: &Env<'_, 'a>,
+    writer: &mut Writer<'a>,
+    cond: &'a tp_ast::cond::Cond,
 ) -> Result<Vec<Cond>, GroundFault>
-    ensures { Lowers (λ t v. map (named_condition t) v.items) numbering.old result numbering.new
+    requires { universe_view universe.now ≡ writer.old.universe }
+    ensures { Lowers (λ t v. map (named_condition t) v.items) writer.old result writer.new
         (condition_in (universe_view universe.now) (env_view env.now) (cond_view cond.now) ∷ [])
         (of_each of_condition
         (condition_in (universe_view universe.now) (env_view env.now) (cond_view cond.now) ∷ [])) }
 {
     let mut one = Vec::with_capacity(alloc, 1)?;
-    one.push(condition(alloc, universe, env, numbering, cond)?)?;
+    one.push(condition(alloc, universe, env, writer, cond)?)?;
     Ok(one)
 }
 
@@ -140,16 +141,16 @@ impl Lowerable for SimpleEffect {
 
     ghost written = { simple_effect_part };
 
-    fn lower(
-        &self,
+    fn lower<'a>(
+        &'a self,
         alloc: Global,
-        _universe: &Universe,
-        env: &Env,
+        _universe: &Universe<'a>,
+        env: &Env<'_, 'a>,
         _mark: TimeSpecifier,
-        numbering: &mut Numbering,
+        writer: &mut Writer<'a>,
     ) -> Result<Vec<NumberedEffect>, GroundFault> {
         let mut one = Vec::with_capacity(alloc, 1)?;
-        one.push(simple_effect(alloc, env, numbering, self)?)?;
+        one.push(simple_effect(alloc, env, writer, self)?)?;
         Ok(one)
     }
 }
@@ -169,16 +170,16 @@ impl Lowerable for Timed<tp_ast::cond::Cond> {
 
     ghost written = { condition_part };
 
-    fn lower(
-        &self,
+    fn lower<'a>(
+        &'a self,
         alloc: Global,
-        universe: &Universe,
-        env: &Env,
+        universe: &Universe<'a>,
+        env: &Env<'_, 'a>,
         specifier: TimeSpecifier,
-        numbering: &mut Numbering,
+        writer: &mut Writer<'a>,
     ) -> Result<Vec<Cond>, GroundFault> {
         if is_specifier(self.specifier, specifier) {
-            conjunct(alloc, universe, env, numbering, &self.what)
+            conjunct(alloc, universe, env, writer, &self.what)
         } else {
             Ok(Vec::new(alloc))
         }
@@ -200,16 +201,16 @@ impl Lowerable for Timed<Effect> {
 
     ghost written = { simple_effects_part };
 
-    fn lower(
-        &self,
+    fn lower<'a>(
+        &'a self,
         alloc: Global,
-        universe: &Universe,
-        env: &Env,
+        universe: &Universe<'a>,
+        env: &Env<'_, 'a>,
         specifier: TimeSpecifier,
-        numbering: &mut Numbering,
+        writer: &mut Writer<'a>,
     ) -> Result<Vec<NumberedEffect>, GroundFault> {
         if is_specifier(self.specifier, specifier) {
-            joined(alloc, universe, env, specifier, numbering, &self.what)
+            joined(alloc, universe, env, specifier, writer, &self.what)
         } else {
             Ok(Vec::new(alloc))
         }

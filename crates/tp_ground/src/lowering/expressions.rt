@@ -13,7 +13,7 @@ ghost use Rattle.tp_ground.specs.Lowered.{Lowers};
 
 use crate::environment::{Env, words_in};
 use crate::fault::GroundFault;
-use crate::numbering::Numbering;
+use crate::writer::Writer;
 use crate::{Comparison, Expr};
 use std::alloc::Global;
 use tp_ast::term::Atom;
@@ -35,15 +35,15 @@ pub fn comparison_of(comparison: tp_ast::words::Comparison) -> Comparison
 pub fn fluent(
     alloc: Global,
     env: &Env,
-    numbering: &mut Numbering,
+    writer: &mut Writer,
     atom: &Atom,
 ) -> Result<u32, GroundFault>
-    ensures { Lowers (λ t i. words_at t.fluents i) numbering.old result numbering.new
+    ensures { Lowers (λ t i. words_at t.fluents i) writer.old result writer.new
         (words_in (env_view env.now) (atom_view atom.now))
         (a_fluent (words_in (env_view env.now) (atom_view atom.now))) }
 {
     let words = words_in(alloc, env, atom)?;
-    numbering.fluent(&words)
+    writer.fluent(&words)
 }
 
 /// The same, in a box of its own.
@@ -51,14 +51,14 @@ pub fn fluent(
 pub fn operand(
     alloc: Global,
     env: &Env,
-    numbering: &mut Numbering,
+    writer: &mut Writer,
     expr: &tp_ast::expr::Expr,
 ) -> Result<Box<Expr>, GroundFault>
-    ensures { Lowers (λ t b. named_expression t b.value) numbering.old result numbering.new
+    ensures { Lowers (λ t b. named_expression t b.value) writer.old result writer.new
         (expression_in (env_view env.now) (expr_view expr.now))
         (of_expression (expression_in (env_view env.now) (expr_view expr.now))) }
 {
-    let lowered = expression(alloc, env, numbering, expr)?;
+    let lowered = expression(alloc, env, writer, expr)?;
     Ok(Box::new(alloc, lowered)?)
 }
 
@@ -67,10 +67,10 @@ pub fn operand(
 pub fn expression(
     alloc: Global,
     env: &Env,
-    numbering: &mut Numbering,
+    writer: &mut Writer,
     expr: &tp_ast::expr::Expr,
 ) -> Result<Expr, GroundFault>
-    ensures { Lowers named_expression numbering.old result numbering.new
+    ensures { Lowers named_expression writer.old result writer.new
         (expression_in (env_view env.now) (expr_view expr.now))
         (of_expression (expression_in (env_view env.now) (expr_view expr.now))) }
 {
@@ -78,26 +78,26 @@ pub fn expression(
         tp_ast::expr::Expr::Number(number) => Ok(Expr::Number(*number)),
         tp_ast::expr::Expr::Duration => Ok(Expr::Duration),
         tp_ast::expr::Expr::Fluent(atom) => {
-            let number = fluent(alloc, env, numbering, atom)?;
+            let number = fluent(alloc, env, writer, atom)?;
             Ok(Expr::Fluent(number))
         }
         tp_ast::expr::Expr::Negated(a) => {
-            let x = operand(alloc, env, numbering, a)?;
+            let x = operand(alloc, env, writer, a)?;
             Ok(Expr::Negated(x))
         }
         tp_ast::expr::Expr::Sum(a, b) => {
-            let x = operand(alloc, env, numbering, a)?;
-            let y = operand(alloc, env, numbering, b)?;
+            let x = operand(alloc, env, writer, a)?;
+            let y = operand(alloc, env, writer, b)?;
             Ok(Expr::Sum(x, y))
         }
         tp_ast::expr::Expr::Difference(a, b) => {
-            let x = operand(alloc, env, numbering, a)?;
-            let y = operand(alloc, env, numbering, b)?;
+            let x = operand(alloc, env, writer, a)?;
+            let y = operand(alloc, env, writer, b)?;
             Ok(Expr::Difference(x, y))
         }
         tp_ast::expr::Expr::Product(a, b) => {
-            let x = operand(alloc, env, numbering, a)?;
-            let y = operand(alloc, env, numbering, b)?;
+            let x = operand(alloc, env, writer, a)?;
+            let y = operand(alloc, env, writer, b)?;
             Ok(Expr::Product(x, y))
         }
     }

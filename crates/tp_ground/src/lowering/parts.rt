@@ -14,9 +14,9 @@ ghost use Rattle.tp_ground.specs.Lowered.{Lowers};
 
 use crate::environment::Env;
 use crate::fault::GroundFault;
-use crate::numbering::Numbering;
 use crate::rows::rows_of;
 use crate::universe::Universe;
+use crate::writer::Writer;
 use std::alloc::Global;
 use tp_ast::joined::Joined;
 use tp_ast::symbols::Typed;
@@ -44,30 +44,32 @@ pub trait Lowerable: Drop {
         → Seen → List Written };
 
     /// What it is at a specifier.
-    fn lower(
-        &self,
+    fn lower<'a>(
+        &'a self,
         alloc: Global,
-        universe: &Universe,
-        env: &Env,
+        universe: &Universe<'a>,
+        env: &Env<'_, 'a>,
         specifier: TimeSpecifier,
-        numbering: &mut Numbering,
+        writer: &mut Writer<'a>,
     ) -> Result<Vec<Self::Lowered>, GroundFault>
-        ensures { Lowers (λ t v. map (named t) v.items) numbering.old result numbering.new (written
+        requires { universe_view universe.now ≡ writer.old.universe }
+        ensures { Lowers (λ t v. map (named t) v.items) writer.old result writer.new (written
             (universe_view universe.now) specifier (env_view env.now) (seen self.now))
             (of_each mentions (written
             (universe_view universe.now) specifier (env_view env.now) (seen self.now))) };
 }
 
 #[cycle(joined)]
-fn all_parts<P: Lowerable>(
+fn all_parts<'a, P: Lowerable>(
     alloc: Global,
-    universe: &Universe,
-    env: &Env,
+    universe: &Universe<'a>,
+    env: &Env<'_, 'a>,
     specifier: TimeSpecifier,
-    numbering: &mut Numbering,
-    parts: &[Joined<P>],
+    writer: &mut Writer<'a>,
+    parts: &'a [Joined<P>],
 ) -> Result<Vec<P::Lowered>, GroundFault>
-    ensures { Lowers (λ t v. map (P.named t) v.items) numbering.old result numbering.new
+    requires { universe_view universe.now ≡ writer.old.universe }
+    ensures { Lowers (λ t v. map (P.named t) v.items) writer.old result writer.new
         (flat_map (λ p. parts_in (universe_view universe.now) (P.written
         (universe_view universe.now) specifier) (env_view env.now)
         (joined_view P.seen p)) parts.now)
@@ -77,7 +79,7 @@ fn all_parts<P: Lowerable>(
 {
     let mut lowered = Vec::new(alloc);
     for part in parts {
-        let mut more = joined(alloc, universe, env, specifier, numbering, part)?;
+        let mut more = joined(alloc, universe, env, specifier, writer, part)?;
         lowered.append(&mut more)?;
     }
     Ok(lowered)
@@ -85,16 +87,17 @@ fn all_parts<P: Lowerable>(
 
 // Parts under each binding of variables.
 #[cycle(joined)]
-fn under_each<P: Lowerable>(
+fn under_each<'a, P: Lowerable>(
     alloc: Global,
-    universe: &Universe,
-    env: &Env,
+    universe: &Universe<'a>,
+    env: &Env<'_, 'a>,
     specifier: TimeSpecifier,
-    numbering: &mut Numbering,
-    variables: &[Typed],
-    part: &Joined<P>,
+    writer: &mut Writer<'a>,
+    variables: &'a [Typed],
+    part: &'a Joined<P>,
 ) -> Result<Vec<P::Lowered>, GroundFault>
-    ensures { Lowers (λ t v. map (P.named t) v.items) numbering.old result numbering.new
+    requires { universe_view universe.now ≡ writer.old.universe }
+    ensures { Lowers (λ t v. map (P.named t) v.items) writer.old result writer.new
         (flat_map (λ e. parts_in (universe_view universe.now)
         (P.written (universe_view universe.now) specifier) e (joined_view P.seen part.now))
         (inner (universe_view universe.now) (env_view env.now) (map typed_view variables.now)))
@@ -107,7 +110,7 @@ fn under_each<P: Lowerable>(
     for place in 0..rows.count {
         rows.turn_to(place);
         let inner = Env::Inner(&*variables, &rows.row, &*env);
-        let mut more = joined(alloc, universe, &inner, specifier, numbering, part)?;
+        let mut more = joined(alloc, universe, &inner, specifier, writer, part)?;
         lowered.append(&mut more)?;
     }
     Ok(lowered)
@@ -115,25 +118,26 @@ fn under_each<P: Lowerable>(
 
 /// The parts at a specifier, each after the one before.
 #[cycle(joined)]
-pub fn joined<P: Lowerable>(
+pub fn joined<'a, P: Lowerable>(
     alloc: Global,
-    universe: &Universe,
-    env: &Env,
+    universe: &Universe<'a>,
+    env: &Env<'_, 'a>,
     specifier: TimeSpecifier,
-    numbering: &mut Numbering,
-    part: &Joined<P>,
+    writer: &mut Writer<'a>,
+    part: &'a Joined<P>,
 ) -> Result<Vec<P::Lowered>, GroundFault>
-    ensures { Lowers (λ t v. map (P.named t) v.items) numbering.old result numbering.new
+    requires { universe_view universe.now ≡ writer.old.universe }
+    ensures { Lowers (λ t v. map (P.named t) v.items) writer.old result writer.new
         (parts_in (universe_view universe.now) (P.written (universe_view universe.now) specifier)
         (env_view env.now) (joined_view P.seen part.now))
         (of_each P.mentions (parts_in (universe_view universe.now) (P.written
         (universe_view universe.now) specifier) (env_view env.now) (joined_view P.seen part.now))) }
 {
     match part {
-        Joined::And(parts) => all_parts(alloc, universe, env, specifier, numbering, parts),
+        Joined::And(parts) => all_parts(alloc, universe, env, specifier, writer, parts),
         Joined::Forall(variables, inner) => {
-            under_each(alloc, universe, env, specifier, numbering, variables, inner)
+            under_each(alloc, universe, env, specifier, writer, variables, inner)
         }
-        Joined::One(one) => one.lower(alloc, universe, env, specifier, numbering),
+        Joined::One(one) => one.lower(alloc, universe, env, specifier, writer),
     }
 }

@@ -12,7 +12,7 @@ use Rattle.tp_ground.proofs.grounding.bodies.Given as goal
 
 abbrev pub invariant-loop-place : goal.invariant-loop-place
 invariant-loop-place l = record {
-  lowered : IsLowered (every named_body) l.fn.numbering l.numbering l.lowered (map (body_under (universe_view l.universe) (map typed_view l.parameters) (body_view l.written)) (take l.place (bindings (universe_view l.universe) (map typed_view l.parameters)))) (of_each (mentions_under (universe_view l.universe) (map typed_view l.parameters) (body_view l.written)) (take l.place (bindings (universe_view l.universe) (map typed_view l.parameters))));
+  lowered : IsLowered (every named_body) l.fn.writer l.writer l.lowered (map (body_under (universe_view l.universe) (map typed_view l.parameters) (body_view l.written)) (take l.place (bindings (universe_view l.universe) (map typed_view l.parameters)))) (of_each (mentions_under (universe_view l.universe) (map typed_view l.parameters) (body_view l.written)) (take l.place (bindings (universe_view l.universe) (map typed_view l.parameters))));
   lists : product (lists_of l.rows.lists.items) ≡ bindings (universe_view l.universe) (map typed_view l.parameters);
   count : l.rows.count ≡ l.initial.rows.count;
 }

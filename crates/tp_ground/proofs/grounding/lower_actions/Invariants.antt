@@ -10,4 +10,4 @@ use Rattle.tp_ground.proofs.OnActions.{every, bodies_of}
 use Rattle.tp_ground.proofs.grounding.lower_actions.Given as goal
 
 abbrev pub invariant-loop-action : goal.invariant-loop-action
-invariant-loop-action l = IsLowered (every named_body) l.fn.numbering l.numbering l.lowered (flat_map (bodies_of (universe_view l.universe)) (take l.action-index l.actions)) (of_each (λ x. of_action (universe_view l.universe) (action_view x)) (take l.action-index l.actions))
+invariant-loop-action l = IsLowered (every named_body) l.fn.writer l.writer l.lowered (flat_map (bodies_of (universe_view l.universe)) (take l.action-index l.actions)) (of_each (λ x. of_action (universe_view l.universe) (action_view x)) (take l.action-index l.actions))

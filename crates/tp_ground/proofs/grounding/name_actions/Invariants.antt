@@ -6,8 +6,8 @@ use Rattle.tp_ground.proofs.grounding.name_actions.Given as goal
 
 abbrev pub invariant-loop-action : goal.invariant-loop-action
 invariant-loop-action l = record {
-  actions : l.numbering.actions ++ map (λ a. a.words) (ground_actions (universe_view l.universe) (map action_view (drop l.action-index l.actions))) ≡ l.initial.numbering.actions ++ map (λ a. a.words) (ground_actions (universe_view l.universe) (map action_view l.actions));
-  atoms : l.numbering.atoms ≡ l.initial.numbering.atoms;
-  fluents : l.numbering.fluents ≡ l.initial.numbering.fluents;
-  most : l.numbering.most ≡ l.initial.numbering.most;
+  actions : l.writer.tables.actions ++ map (λ a. a.words) (ground_actions (universe_view l.universe) (map action_view (drop l.action-index l.actions))) ≡ l.initial.writer.tables.actions ++ map (λ a. a.words) (ground_actions (universe_view l.universe) (map action_view l.actions));
+  atoms : l.writer.tables.atoms ≡ l.initial.writer.tables.atoms;
+  fluents : l.writer.tables.fluents ≡ l.initial.writer.tables.fluents;
+  most : l.writer.tables.most ≡ l.initial.writer.tables.most;
 }

@@ -25,10 +25,10 @@ loop-place-preserved c =
     record {
       actions =
           c.in_ok-push_action.ensures.actions
-          ∙ ap (λ (w : Words). c.loop-place.numbering.actions ++ w ∷ []) label
+          ∙ ap (λ (w : Words). c.loop-place.writer.tables.actions ++ w ∷ []) label
           ∙ ap (λ (ws : List Words). ws ++ f row ∷ []) c.loop-place.invariant.actions
-          ∙ append_assoc c.args.numbering.now.actions (map f (take place xs)) (f row ∷ [])
-          ∙ ap (λ (ws : List Words). c.args.numbering.now.actions ++ ws) (sym (map_next f xs place row lt.1 item));
+          ∙ append_assoc c.args.writer.now.tables.actions (map f (take place xs)) (f row ∷ [])
+          ∙ ap (λ (ws : List Words). c.args.writer.now.tables.actions ++ ws) (sym (map_next f xs place row lt.1 item));
       lists = c.turn_to.ensures.lists ∙ c.loop-place.invariant.lists;
       count = c.turn_to.ensures.count ∙ c.loop-place.invariant.count;
       atoms = c.push_action.ensures.atoms ∙ c.loop-place.invariant.atoms;
@@ -42,4 +42,4 @@ returns-clause-actions c =
     let f = λ (ns : List Name). string_bytes c.args.action.now.name ∷ ns in
     let same = ap all_of c.loop-place.invariant.lists in
     c.loop-place.invariant.actions
-    ∙ ap (λ (ws : List Words). c.args.numbering.now.actions ++ ws) (map_ended f xs c.loop-place.place (behind_all (all_of c.loop-place.rows.lists) xs c.loop-place.place _ _ same c.loop-place-test.false c.loop-place.invariant.count c.loop-place.rows.counted))
+    ∙ ap (λ (ws : List Words). c.args.writer.now.tables.actions ++ ws) (map_ended f xs c.loop-place.place (behind_all (all_of c.loop-place.rows.lists) xs c.loop-place.place _ _ same c.loop-place-test.false c.loop-place.invariant.count c.loop-place.rows.counted))

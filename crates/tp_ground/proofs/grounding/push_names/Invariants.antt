@@ -4,10 +4,10 @@ use Rattle.tp_ground.proofs.grounding.push_names.Given as goal
 
 abbrev pub invariant-loop-place : goal.invariant-loop-place
 invariant-loop-place l = record {
-  actions : l.numbering.actions ≡ l.initial.numbering.actions ++ map (λ ns. string_bytes l.action.name ∷ ns) (take l.place (product (lists_of l.initial.rows.lists.items)));
+  actions : l.writer.tables.actions ≡ l.initial.writer.tables.actions ++ map (λ ns. string_bytes l.action.name ∷ ns) (take l.place (product (lists_of l.initial.rows.lists.items)));
   lists : l.rows.lists ≡ l.initial.rows.lists;
   count : l.rows.count ≡ l.initial.rows.count;
-  atoms : l.numbering.atoms ≡ l.initial.numbering.atoms;
-  fluents : l.numbering.fluents ≡ l.initial.numbering.fluents;
-  most : l.numbering.most ≡ l.initial.numbering.most;
+  atoms : l.writer.tables.atoms ≡ l.initial.writer.tables.atoms;
+  fluents : l.writer.tables.fluents ≡ l.initial.writer.tables.fluents;
+  most : l.writer.tables.most ≡ l.initial.writer.tables.most;
 }

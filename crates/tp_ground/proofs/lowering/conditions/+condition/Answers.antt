@@ -1,4 +1,4 @@
-use Rattle.std.proofs.Common.{List, Vec, Bor, Global, map, ◌++◌, refl, sym, ap, ◌∙◌}
+use Rattle.std.proofs.Common.{List, Vec, Bor, Global, map, ◌++◌, refl, sym, ap, subst, ◌∙◌}
 use Rattle.tp_ast.specs.Terms.{term_view}
 use Rattle.tp_ast.specs.Symbols.{Name, typed_view}
 use Rattle.tp_ast.specs.CondViews.{cond_view}
@@ -7,7 +7,9 @@ use Rattle.tp_ground.specs.Bindings.{Env, bound, bindings}
 use Rattle.tp_ground.specs.Rows.{product, lists_of}
 use Rattle.tp_ground.proofs.OnRows.{row_there, within, behind_all}
 use Rattle.tp_ground.specs.Views.{env_view, universe_view}
-use Rattle.tp_ground.specs.Written.{negation, either, condition_in}
+use Rattle.tp_ground.specs.WriterViews.{WriterView}
+use Rattle.tp_ground.specs.Written.{GroundCondition, negation, either, condition_in}
+use Rattle.tp_ground.specs.Lowered.{IsLowered}
 use Rattle.tp_ground.specs.Mentions.{of_condition}
 use Rattle.tp_ground.specs.ReadBack.{named_condition}
 use Rattle.tp_ground.proofs.Along.{map_next, map_ended}
@@ -15,6 +17,7 @@ use Rattle.tp_ground.proofs.Stopped.{map_stopped, map_stopped_as}
 use Rattle.tp_ground.proofs.OnInner.{map_under, inner_env}
 use Rattle.tp_ground.proofs.OnConditions.{and_of, or_of, imply_of, forall_of, exists_of, same_of, named_Not, all_lowered, any_lowered, all_failed, any_failed, same_lowered, either_mentions}
 use Rattle.tp_ground.proofs.OnLowered.{lowered_as, as_written, written_as, all_push, all_same, first_failed, second_failed, both_lowered}
+use Rattle.tp_ground.proofs.OnKept.{stands_over}
 use Rattle.tp_ground.proofs.lowering.conditions.+condition.Goals as goal
 
 pub conditions-loop-cond-preserved : goal.conditions-loop-cond-preserved
@@ -106,35 +109,45 @@ for_some-returns-in_err-under_each t c = any_failed _ _ _ _ _ _ c.from_residual.
 pub for_some-returns : goal.for_some-returns
 for_some-returns t c = any_lowered _ _ _ _ _ refl c.in_ok-under_each.ensures
 
-pub condition-returns-in-And : goal.condition-returns-in-And
-condition-returns-in-And t c = written_as named_condition of_condition _ _ _ _ _ (and_of (universe_view c.args.universe.now) (env_view c.args.env.now) c.args.cond.now c.in-And.conds c.deref.result.now c.in-And.is c.deref.ensures.value) c.conjunction.ensures
+pub written_out-returns-in-And : goal.written_out-returns-in-And
+written_out-returns-in-And t c = written_as named_condition of_condition _ _ _ _ _ (and_of (universe_view c.args.universe.now) (env_view c.args.env.now) c.args.cond.now c.in-And.conds c.deref.result.now c.in-And.is c.deref.ensures.value) c.conjunction.ensures
 
-pub condition-returns-in-Or : goal.condition-returns-in-Or
-condition-returns-in-Or t c = written_as named_condition of_condition _ _ _ _ _ (or_of (universe_view c.args.universe.now) (env_view c.args.env.now) c.args.cond.now c.in-Or.conds c.deref-in-Or.result.now c.in-Or.is c.deref-in-Or.ensures.value) c.disjunction.ensures
+pub written_out-returns-in-Or : goal.written_out-returns-in-Or
+written_out-returns-in-Or t c = written_as named_condition of_condition _ _ _ _ _ (or_of (universe_view c.args.universe.now) (env_view c.args.env.now) c.args.cond.now c.in-Or.conds c.deref-in-Or.result.now c.in-Or.is c.deref-in-Or.ensures.value) c.disjunction.ensures
 
-pub condition-returns-in_err-first-in-Imply : goal.condition-returns-in_err-first-in-Imply
-condition-returns-in_err-first-in-Imply t c =
+pub written_out-returns-in_err-first-in-Imply : goal.written_out-returns-in_err-first-in-Imply
+written_out-returns-in_err-first-in-Imply t c =
     let u = universe_view c.args.universe.now in
     let env = env_view c.args.env.now in
     first_failed named_condition named_condition named_condition of_condition of_condition of_condition either either_mentions _ _ _ (imply_of u env c.args.cond.now c.in-Imply.a c.in-Imply.b c.deref-in-Imply.result.now c.in-Imply.b.value c.in-Imply.is c.deref-in-Imply.ensures refl) _ _ _ _ c.from_residual.ensures.1 c.in_err-first-in-Imply.ensures
 
-pub condition-returns-in_err-second-in-Imply : goal.condition-returns-in_err-second-in-Imply
-condition-returns-in_err-second-in-Imply t c =
+pub written_out-returns-in_err-second-in-Imply : goal.written_out-returns-in_err-second-in-Imply
+written_out-returns-in_err-second-in-Imply t c =
     let u = universe_view c.args.universe.now in
     let env = env_view c.args.env.now in
     second_failed named_condition named_condition named_condition of_condition of_condition of_condition either either_mentions _ _ _ (imply_of u env c.args.cond.now c.in-Imply.a c.in-Imply.b c.deref-in-Imply.result.now c.deref-in-Imply-2.result.now c.in-Imply.is c.deref-in-Imply.ensures c.deref-in-Imply-2.ensures) _ _ _ _ _ _ c.from_residual-in_err-second-in-Imply.ensures.1 c.in_ok-first-in-Imply.ensures c.in_err-second-in-Imply.ensures
 
-pub condition-returns-in_ok-either-in-Imply : goal.condition-returns-in_ok-either-in-Imply
-condition-returns-in_ok-either-in-Imply t c =
+pub written_out-returns-in_ok-either-in-Imply : goal.written_out-returns-in_ok-either-in-Imply
+written_out-returns-in_ok-either-in-Imply t c =
     let u = universe_view c.args.universe.now in
     let env = env_view c.args.env.now in
     both_lowered named_condition named_condition named_condition of_condition of_condition of_condition either either_mentions _ _ _ (imply_of u env c.args.cond.now c.in-Imply.a c.in-Imply.b c.deref-in-Imply.result.now c.deref-in-Imply-2.result.now c.in-Imply.is c.deref-in-Imply.ensures c.deref-in-Imply-2.ensures) _ _ _ _ _ _ c.in_ok-either-in-Imply.ensures c.in_ok-first-in-Imply.ensures c.in_ok-second-in-Imply.ensures
 
-pub condition-returns-in-Forall : goal.condition-returns-in-Forall
-condition-returns-in-Forall t c = written_as named_condition of_condition _ _ _ _ _ (forall_of (universe_view c.args.universe.now) (env_view c.args.env.now) c.args.cond.now c.in-Forall.variables c.in-Forall.inner c.deref-in-Forall.result.now c.deref-in-Forall-2.result.now c.in-Forall.is c.deref-in-Forall.ensures.value c.deref-in-Forall-2.ensures) c.for_all.ensures
+pub written_out-returns-in-Forall : goal.written_out-returns-in-Forall
+written_out-returns-in-Forall t c = written_as named_condition of_condition _ _ _ _ _ (forall_of (universe_view c.args.universe.now) (env_view c.args.env.now) c.args.cond.now c.in-Forall.variables c.in-Forall.inner c.deref-in-Forall.result.now c.deref-in-Forall-2.result.now c.in-Forall.is c.deref-in-Forall.ensures.value c.deref-in-Forall-2.ensures) c.for_all.ensures
 
-pub condition-returns-in-Exists : goal.condition-returns-in-Exists
-condition-returns-in-Exists t c = written_as named_condition of_condition _ _ _ _ _ (exists_of (universe_view c.args.universe.now) (env_view c.args.env.now) c.args.cond.now c.in-Exists.variables c.in-Exists.inner c.deref-in-Exists.result.now c.deref-in-Exists-2.result.now c.in-Exists.is c.deref-in-Exists.ensures.value c.deref-in-Exists-2.ensures) c.for_some.ensures
+pub written_out-returns-in-Exists : goal.written_out-returns-in-Exists
+written_out-returns-in-Exists t c = written_as named_condition of_condition _ _ _ _ _ (exists_of (universe_view c.args.universe.now) (env_view c.args.env.now) c.args.cond.now c.in-Exists.variables c.in-Exists.inner c.deref-in-Exists.result.now c.deref-in-Exists-2.result.now c.in-Exists.is c.deref-in-Exists.ensures.value c.deref-in-Exists-2.ensures) c.for_some.ensures
 
-pub condition-returns-in-Same : goal.condition-returns-in-Same
-condition-returns-in-Same t c = as_written of_condition _ _ (same_of (universe_view c.args.universe.now) (env_view c.args.env.now) c.args.cond.now c.in-Same.a c.in-Same.b c.in-Same.is) (same_lowered _ _ (env_view c.args.env.now) (term_view c.in-Same.a) (term_view c.in-Same.b) c.same.ensures)
+pub written_out-returns-in-Same : goal.written_out-returns-in-Same
+written_out-returns-in-Same t c = as_written of_condition _ _ (same_of (universe_view c.args.universe.now) (env_view c.args.env.now) c.args.cond.now c.in-Same.a c.in-Same.b c.in-Same.is) (same_lowered _ _ (env_view c.args.env.now) (term_view c.in-Same.a) (term_view c.in-Same.b) c.same.ensures)
+
+pub written_once-kept-requires : goal.written_once-kept-requires
+written_once-kept-requires t c = stands_over c.args.writer.now c.written_out.new.writer (universe_view c.args.universe.now) (env_view c.args.env.now) (cond_view c.args.cond.now) _ c.in_ok-written.written c.requires.of_universe c.requires.of_terms c.in_ok-written.ensures
+
+pub written_once-returns : goal.written_once-returns
+written_once-returns t c =
+    let u = universe_view c.args.universe.now in
+    let y = condition_in u (env_view c.args.env.now) (cond_view c.args.cond.now) in
+    subst (λ (w : WriterView). IsLowered named_condition c.args.writer.now w c.in_ok-kept.field-0 y (of_condition y)) (sym c.kept.ensures.writer)
+    (lowered_as (λ (z : GroundCondition). z) c.in_ok-kept.field-0 c.in_ok-kept.ensures.same c.in_ok-written.ensures)
