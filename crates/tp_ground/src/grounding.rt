@@ -107,6 +107,19 @@ fn bodies<'a>(
     Ok(lowered)
 }
 
+// More bodies after those that there are. Where there are none, no body is copied.
+fn append_bodies(all: &mut Vec<Body>, more: Vec<Body>) -> Result<(), AllocError>
+    ensures { OnOk result (all.new.items ≡ all.old.items ++ more.items) }
+{
+    if all.is_empty() {
+        *all = more;
+        return Ok(());
+    }
+    let mut left = more;
+    all.append(&mut left)?;
+    Ok(())
+}
+
 /// The bodies of all ground actions, in order.
 pub fn lower_actions<'a>(
     alloc: Global,
@@ -121,8 +134,8 @@ pub fn lower_actions<'a>(
 {
     let mut lowered = Vec::new(alloc);
     for action in actions {
-        let mut more = bodies(alloc, universe, writer, &action.parameters, &action.body)?;
-        lowered.append(&mut more)?;
+        let more = bodies(alloc, universe, writer, &action.parameters, &action.body)?;
+        append_bodies(&mut lowered, more)?;
     }
     Ok(lowered)
 }

@@ -5,7 +5,7 @@
 //! - `objects`, `universe`, `noting`, `rows`: the objects, what variables may stand for, and their bindings
 //! - `labels`, `lookup`, `guesses`, `numbering`: names, atoms, fluents and actions by number
 //! - `environment`, `lowering`: conditions, expressions, effects and bodies grounded under a binding
-//! - `sameness`, `keys`, `memory`, `writer`: conditions that were written out before, found by what their terms stand for
+//! - `shortness`, `sameness`, `keys`, `memory`, `writer`: conditions that were written out before, found by what their terms stand for
 //! - `numbers`, `beginning`, `grounding`, `grounder`: numbers past the limit, the initial state, all ground actions, the task
 //! - `fault`: why a problem has none
 #![tactic(auto)]
@@ -29,6 +29,7 @@ mod numbers;
 mod objects;
 mod rows;
 mod sameness;
+mod shortness;
 mod task;
 pub mod truth;
 mod universe;

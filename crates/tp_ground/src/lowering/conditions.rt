@@ -23,6 +23,7 @@ use crate::keys::{Objects, objects_in};
 use crate::lowering::expressions::{comparison_of, operand};
 use crate::memory::Kept;
 use crate::rows::rows_of;
+use crate::shortness::is_short_quantifier;
 use crate::universe::Universe;
 use crate::writer::Writer;
 use std::alloc::{AllocError, Global};
@@ -371,10 +372,9 @@ pub fn condition<'a>(
         (universe_view universe.now) (env_view env.now) (cond_view cond.now)) (of_condition
         (condition_in (universe_view universe.now) (env_view env.now) (cond_view cond.now))) }
 {
-    match cond {
-        tp_ast::cond::Cond::Forall(_, _) | tp_ast::cond::Cond::Exists(_, _) => {
-            shared(alloc, universe, env, writer, cond)
-        }
-        _ => written_out(alloc, universe, env, writer, cond),
+    if is_short_quantifier(cond) {
+        shared(alloc, universe, env, writer, cond)
+    } else {
+        written_out(alloc, universe, env, writer, cond)
     }
 }

@@ -19,7 +19,7 @@ pub loop-action-preserved : goal.loop-action-preserved
 loop-action-preserved c =
     let u = universe_view c.args.universe.now in
     let x = body_view c.action-item.result.body in
-    each_append named_body (λ (a : Action). of_action u (action_view a)) c.args.actions.now c.loop-action.action-index c.action-item.result c.loop-action-test.true c.action-item.is _ _ _ _ _ (bodies_of u) _ _ _ c.in_ok-append.ensures.items
+    each_append named_body (λ (a : Action). of_action u (action_view a)) c.args.actions.now c.loop-action.action-index c.action-item.result c.loop-action-test.true c.action-item.is _ _ _ _ _ (bodies_of u) _ _ _ c.in_ok-append_bodies.ensures
     (ap (λ (ps : List Typed). map (λ objects. body_in u (bound (map typed_view ps) objects) x) (bindings u (map typed_view ps))) c.deref.ensures.value)
     (ap (λ (ps : List Typed). of_each (λ objects. of_body u (bound (map typed_view ps) objects) x) (bindings u (map typed_view ps))) c.deref.ensures.value)
     c.loop-action.invariant c.in_ok-more.ensures

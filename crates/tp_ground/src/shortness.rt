@@ -1,0 +1,62 @@
+//! Which conditions are looked for among those that were written out before: quantifiers' that are short, so that a long one
+//! which is written out to little costs no walk through it.
+
+use tp_ast::cond::Cond;
+use tp_ast::expr::Expr;
+use tp_ast::symbols::Typed;
+
+// The most steps of a walk through a condition that is looked for.
+const MOST_STEPS: usize = 256;
+
+// What is left of so many steps after variables and their types.
+fn after_variables(variables: &[Typed], steps: usize) -> Option<usize> {
+    let mut left = steps;
+    for variable in variables {
+        left = left.checked_sub(1)?;
+        left = left.checked_sub(variable.type_names().len())?;
+    }
+    Some(left)
+}
+
+fn after_expression(expr: &Expr, steps: usize) -> Option<usize> {
+    let left = steps.checked_sub(1)?;
+    match expr {
+        Expr::Number(_) | Expr::Duration => Some(left),
+        Expr::Fluent(atom) => left.checked_sub(atom.terms.len()),
+        Expr::Negated(a) => after_expression(a, left),
+        Expr::Sum(a, b) | Expr::Difference(a, b) | Expr::Product(a, b) => {
+            after_expression(b, after_expression(a, left)?)
+        }
+    }
+}
+
+#[cycle(after_condition)]
+fn after_conditions(conds: &[Cond], steps: usize) -> Option<usize> {
+    let mut left = steps;
+    for cond in conds {
+        left = after_condition(cond, left)?;
+    }
+    Some(left)
+}
+
+#[cycle(after_condition)]
+fn after_condition(cond: &Cond, steps: usize) -> Option<usize> {
+    let left = steps.checked_sub(1)?;
+    match cond {
+        Cond::And(conds) | Cond::Or(conds) => after_conditions(conds, left),
+        Cond::Not(inner) => after_condition(inner, left),
+        Cond::Imply(a, b) => after_condition(b, after_condition(a, left)?),
+        Cond::Forall(variables, inner) | Cond::Exists(variables, inner) => {
+            after_condition(inner, after_variables(variables, left)?)
+        }
+        Cond::Atom(atom) => left.checked_sub(atom.terms.len()),
+        Cond::Same(_, _) => Some(left),
+        Cond::Compare(_, a, b) => after_expression(b, after_expression(a, left)?),
+    }
+}
+
+/// Whether a condition is a quantifier's, and short.
+pub fn is_short_quantifier(cond: &Cond) -> bool {
+    matches!(cond, Cond::Forall(_, _) | Cond::Exists(_, _))
+        && after_condition(cond, MOST_STEPS).is_some()
+}
