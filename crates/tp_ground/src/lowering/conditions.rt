@@ -234,7 +234,7 @@ fn for_some<'a>(
     Ok(Cond::Or(under_each(alloc, universe, env, writer, variables, cond)?))
 }
 
-// A condition with what stands in it written out anew, but for what is inside of it.
+// The condition written out anew, whether or not it was before.
 #[cycle(condition)]
 fn written_out<'a>(
     alloc: Global,
