@@ -4,3 +4,4 @@ pub mod OnCycles
 pub mod OnJumps
 pub mod OnMarks
 pub mod OnNames
+pub mod OnAscending

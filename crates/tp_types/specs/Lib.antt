@@ -5,3 +5,4 @@ pub mod TypeTables
 pub mod TypeViews
 pub mod Marks
 pub mod NameSets
+pub mod Ascending
