@@ -5,3 +5,4 @@ pub mod OnJumps
 pub mod OnMarks
 pub mod OnNames
 pub mod OnAscending
+pub mod OnGuesses

@@ -6,3 +6,4 @@ pub mod TypeViews
 pub mod Marks
 pub mod NameSets
 pub mod Ascending
+pub mod Once
