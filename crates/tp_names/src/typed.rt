@@ -157,6 +157,18 @@ fn give(
     Ok(())
 }
 
+// Gives names behind which no type stands the type of all objects. Where there are none, as in most lists, nothing is made.
+fn give_object(alloc: Global, done: &mut Vec<Typed>, names: &[String]) -> Result<(), AllocError>
+    ensures { OnOk result (map typed_view done.new.items ≡ map typed_view done.old.items
+        ++ map (given (codes "object" ∷ [])) (map string_bytes names.now)) }
+{
+    if names.is_empty() {
+        return Ok(());
+    }
+    let object = object_type(alloc)?;
+    give(alloc, done, names, object)
+}
+
 /// The items of a typed list, and whether each of their types is declared.
 #[derive(Drop)]
 pub struct Listed {
@@ -208,8 +220,7 @@ pub fn typed_items(
             rest = others;
         }
     }
-    let object = object_type(alloc)?;
-    give(alloc, &mut done, &waiting, object)?;
+    give_object(alloc, &mut done, &waiting)?;
     Ok(Listed {
         items: done,
         are_declared,

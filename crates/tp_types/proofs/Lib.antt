@@ -4,3 +4,5 @@ pub mod OnCycles
 pub mod OnJumps
 pub mod OnMarks
 pub mod OnNames
+pub mod OnAscending
+pub mod OnGuesses

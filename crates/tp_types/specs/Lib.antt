@@ -5,3 +5,5 @@ pub mod TypeTables
 pub mod TypeViews
 pub mod Marks
 pub mod NameSets
+pub mod Ascending
+pub mod Once

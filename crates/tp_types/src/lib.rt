@@ -1,11 +1,13 @@
 //! Names found by tables, and the order among types.
 //!
 //! - `names`, `once`, `table`, `lookup`: names in an order, names that stand once, where they stand, what they were declared as
+//! - `guesses`: where names may stand
 //! - `cycles`, `jumps`: whether types lead back to themselves, and jumps up their order
 //! - `marks`, `types`: whether types fit
 #![tactic(auto)]
 
 pub mod cycles;
+pub mod guesses;
 pub mod jumps;
 pub mod lookup;
 pub mod marks;

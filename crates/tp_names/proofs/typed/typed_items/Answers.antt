@@ -1,4 +1,5 @@
-use Rattle.std.proofs.Common.{ℕ, ◌++◌, List, String, Global, Some, map, string_bytes, refl, ap, sym, ◌∙◌}
+use Rattle.std.proofs.Common.{ℕ, [], ◌∷◌, ◌++◌, List, String, Global, Some, map, string_bytes, refl, ap, sym, ◌∙◌}
+use Rattle.std.specs.Prelude.{codes}
 use Rattle.std.proofs.lemmas.List.{map-append}
 use Rattle.std.proofs.lemmas.Result.{err_from_is_err_and}
 use Rattle.tp_ast.specs.Symbols.{typed_view}
@@ -58,13 +59,11 @@ runs-preserved c = record {
 
 pub returns-clause-items : goal.returns-clause-items
 returns-clause-items c = over c.args.items _ _ _ c.runs.rest.now _ c.in_default.len_below c.runs.invariant.items (
-    c.in_ok-give-2.ensures
-    ∙ ap (λ (ss : List (String Global)). map typed_view c.runs.done.items ++ map (given (map string_bytes c.in_ok-object.object.items)) (map string_bytes ss)) c.deref-2.ensures.value
-    ∙ ap (λ (ts : List (List ℕ)). map typed_view c.runs.done.items ++ map (given ts) (map string_bytes c.runs.waiting.items)) c.in_ok-object.ensures)
+    c.in_ok-give_object.ensures
+    ∙ ap (λ (ss : List (String Global)). map typed_view c.runs.done.items ++ map (given (codes "object" ∷ [])) (map string_bytes ss)) c.deref-2.ensures.value)
 
 pub returns-clause-declared : goal.returns-clause-declared
 returns-clause-declared c =
     last_declared (types_view c.args.types.now) (map typed_view c.runs.done.items) _ (map string_bytes c.runs.waiting.items) c.runs.are_declared c.runs.invariant.declared (
-    c.in_ok-give-2.ensures
-    ∙ ap (λ (ss : List (String Global)). map typed_view c.runs.done.items ++ map (given (map string_bytes c.in_ok-object.object.items)) (map string_bytes ss)) c.deref-2.ensures.value
-    ∙ ap (λ (ts : List (List ℕ)). map typed_view c.runs.done.items ++ map (given ts) (map string_bytes c.runs.waiting.items)) c.in_ok-object.ensures)
+    c.in_ok-give_object.ensures
+    ∙ ap (λ (ss : List (String Global)). map typed_view c.runs.done.items ++ map (given (codes "object" ∷ [])) (map string_bytes ss)) c.deref-2.ensures.value)
