@@ -6,13 +6,13 @@ use Rattle.std.specs.Bool.{MatchBool}
 use Rattle.std.proofs.lemmas.Int.{ints, clamps}
 use Rattle.tp_bounds.specs.declared.Point.TheVariants.{Event}
 use Rattle.tp_bounds.specs.Schedule.{Meets}
-use Rattle.tp_ground.specs.declared.events.Comparison.{Comparison}
-use Rattle.tp_ground.specs.declared.events.Comparison.TheVariants.{Less, AtMost, Equal, AtLeast, Greater}
-use Rattle.tp_ground.specs.declared.events.GroundEvent.{GroundEvent}
-use Rattle.tp_ground.specs.declared.events.Limit.{Limit}
-use Rattle.tp_ground.specs.State.{State, both, value, compares, compares_values}
-use Rattle.tp_ground.specs.Valid.{IsLawful}
-use Rattle.tp_ground.specs.Bounds.{uses_duration, KeepsDuration}
+use Rattle.tp_task.specs.declared.events.Comparison.{Comparison}
+use Rattle.tp_task.specs.declared.events.Comparison.TheVariants.{Less, AtMost, Equal, AtLeast, Greater}
+use Rattle.tp_task.specs.declared.events.GroundEvent.{GroundEvent}
+use Rattle.tp_task.specs.declared.events.Limit.{Limit}
+use Rattle.tp_task.specs.State.{State, both, value, compares, compares_values}
+use Rattle.tp_task.specs.Valid.{IsLawful}
+use Rattle.tp_task.specs.Bounds.{uses_duration, KeepsDuration}
 use Rattle.tp_bounds.specs.OwnBounds.{MeetsEach}
 use Rattle.tp_deorder.specs.declared.spans.Ticks.{Ticks}
 use Rattle.tp_deorder.specs.Spans.{IsAmong, narrowed, narrowed_by, narrowed_all, lawful_ticks, kept_ticks}

@@ -3,7 +3,7 @@ use Rattle.std.proofs.Common.{◌≡◌, ℕ, Bool, true, false, cond, List, [],
 use Rattle.std.specs.List.{flat_map}
 use Rattle.tp_bounds.specs.declared.Bound.{Bound}
 use Rattle.tp_bounds.specs.Schedule.{Meets}
-use Rattle.tp_ground.specs.Bounds.{In}
+use Rattle.tp_task.specs.Bounds.{In}
 use Rattle.tp_bounds.specs.OwnBounds.{MeetsEach}
 use Rattle.tp_deorder.specs.Inequalities.{only_if}
 

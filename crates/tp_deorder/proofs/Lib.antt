@@ -8,5 +8,5 @@ pub mod OnRunPlans
 pub mod OnPlanNets
 pub mod Every
 pub mod Suited
-pub use Rattle.tp_ground.proofs.Sound
-pub use Rattle.tp_ground.proofs.Retimed
+pub use Rattle.tp_task.proofs.Sound
+pub use Rattle.tp_task.proofs.Retimed

@@ -5,13 +5,13 @@ use Rattle.std.proofs.lemmas.Bool.{and_parts, and_from, ltb-true, leb-true, lt-l
 use Rattle.std.proofs.lemmas.Bool.Decides.{nat_tests}
 use Rattle.std.specs.List.{flat_map}
 use Rattle.tp_bounds.specs.Schedule.{Meets}
-use Rattle.tp_ground.specs.declared.events.Cond.{Cond}
-use Rattle.tp_ground.specs.declared.events.Body.{Body}
-use Rattle.tp_ground.specs.declared.events.Body.TheVariants.{Instant, Durative}
-use Rattle.tp_ground.specs.State.{State}
-use Rattle.tp_ground.specs.Event.{interferes}
-use Rattle.tp_ground.specs.Valid.{Planned, Placed, events, count_of}
-use Rattle.tp_ground.specs.Bounds.{In, Touches, KeepsInvariant, BodyKeeps, StepsKeep, MeetsBounds, writes_into}
+use Rattle.tp_task.specs.declared.events.Cond.{Cond}
+use Rattle.tp_task.specs.declared.events.Body.{Body}
+use Rattle.tp_task.specs.declared.events.Body.TheVariants.{Instant, Durative}
+use Rattle.tp_task.specs.State.{State}
+use Rattle.tp_task.specs.Event.{interferes}
+use Rattle.tp_task.specs.Valid.{Planned, Placed, events, count_of}
+use Rattle.tp_task.specs.Bounds.{In, Touches, KeepsInvariant, BodyKeeps, StepsKeep, MeetsBounds, writes_into}
 use Rattle.tp_bounds.specs.OwnBounds.{MeetsEach, IsWithin}
 use Rattle.tp_deorder.specs.Spans.{kept_ticks}
 use Rattle.tp_deorder.specs.Inequalities.{earlier, no_later, comes_before, order_of, orders, touches, touching, is_inside, inside, side_of, turn_of, turns, invariant_bounds, length_bounds, body_bounds, steps_bounds, plan_bounds, only_if, event_count_of}

@@ -5,15 +5,15 @@ use Rattle.std.specs.List.{All, AllByRecursion}
 use Rattle.std.proofs.lemmas.List.Elements.{All-nil, All-cons}
 use Rattle.tp_bounds.specs.declared.Bound.{Bound}
 use Rattle.tp_bounds.specs.Nets.{SuitsNet}
-use Rattle.tp_ground.specs.declared.task.Task.{Task}
-use Rattle.tp_ground.specs.declared.events.Body.{Body}
-use Rattle.tp_ground.specs.declared.events.Body.TheVariants.{Instant, Durative}
-use Rattle.tp_ground.specs.Valid.{Planned, Placed, events, events_from, events_of, count_of, IsValidRun, IsValid}
-use Rattle.tp_ground.specs.Verdict.{last_moment}
-use Rattle.tp_ground.specs.Bounds.{In}
-use Rattle.tp_ground.proofs.Sound.{without_fault}
-use Rattle.tp_ground.proofs.Retimed.{retimed_run}
-use Rattle.tp_ground.proofs.Own.{own_bounds}
+use Rattle.tp_task.specs.declared.task.Task.{Task}
+use Rattle.tp_task.specs.declared.events.Body.{Body}
+use Rattle.tp_task.specs.declared.events.Body.TheVariants.{Instant, Durative}
+use Rattle.tp_task.specs.Valid.{Planned, Placed, events, events_from, events_of, count_of, IsValidRun, IsValid}
+use Rattle.tp_task.specs.Verdict.{last_moment}
+use Rattle.tp_task.specs.Bounds.{In}
+use Rattle.tp_task.proofs.Sound.{without_fault}
+use Rattle.tp_task.proofs.Retimed.{retimed_run}
+use Rattle.tp_task.proofs.Own.{own_bounds}
 use Rattle.tp_happen.specs.declared.plans.Step.{Step}
 use Rattle.tp_validate.specs.OfTask.{scale_of, begin, plan_of, state_at}
 use Rattle.tp_validate.specs.Verdict.{IsSound}

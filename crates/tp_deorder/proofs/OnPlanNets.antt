@@ -6,12 +6,12 @@ use Rattle.tp_bounds.specs.declared.plan_nets.PlanNet.{PlanNet}
 use Rattle.tp_bounds.specs.RunLimits.{RunLimits}
 use Rattle.tp_bounds.specs.Nets.{IsNet}
 use Rattle.std.specs.Option.{option_to_list}
-use Rattle.tp_ground.specs.declared.events.Body.{Body}
-use Rattle.tp_ground.specs.declared.events.Body.TheVariants.{Instant, Durative}
-use Rattle.tp_ground.specs.declared.task.Task.{Task}
-use Rattle.tp_ground.specs.Words.{Words}
-use Rattle.tp_ground.specs.Tables.{words_at}
-use Rattle.tp_ground.specs.Valid.{Planned, count_of}
+use Rattle.tp_task.specs.declared.events.Body.{Body}
+use Rattle.tp_task.specs.declared.events.Body.TheVariants.{Instant, Durative}
+use Rattle.tp_task.specs.declared.task.Task.{Task}
+use Rattle.tp_task.specs.Words.{Words}
+use Rattle.tp_task.specs.Tables.{words_at}
+use Rattle.tp_task.specs.Valid.{Planned, count_of}
 use Rattle.tp_happen.specs.declared.plans.Step.{Step}
 use Rattle.tp_validate.specs.OfTask.{step_of, planned, plan_of}
 use Rattle.tp_validate.proofs.Planning.{planned_few}

@@ -5,15 +5,15 @@ use Rattle.std.proofs.lemmas.Int.{ints}
 use Rattle.tp_bounds.specs.declared.Bound.{Bound}
 use Rattle.tp_bounds.specs.declared.Point.TheVariants.{Event}
 use Rattle.tp_bounds.specs.Setting.{IsInRange}
-use Rattle.tp_ground.specs.declared.events.Body.{Body}
-use Rattle.tp_ground.specs.declared.events.Body.TheVariants.{Instant, Durative}
-use Rattle.tp_ground.specs.declared.events.Cond.{Cond}
-use Rattle.tp_ground.specs.declared.events.Limit.{Limit}
-use Rattle.tp_ground.specs.State.{State}
-use Rattle.tp_ground.specs.Valid.{Planned, Placed, events, events_of, events_from, count_of, IsLawful, BodyHolds}
-use Rattle.tp_ground.specs.Verdict.{last_moment}
-use Rattle.tp_ground.specs.Bounds.{In, uses_duration}
-use Rattle.tp_ground.proofs.Numbered.{in_parts, in_left, in_right}
+use Rattle.tp_task.specs.declared.events.Body.{Body}
+use Rattle.tp_task.specs.declared.events.Body.TheVariants.{Instant, Durative}
+use Rattle.tp_task.specs.declared.events.Cond.{Cond}
+use Rattle.tp_task.specs.declared.events.Limit.{Limit}
+use Rattle.tp_task.specs.State.{State}
+use Rattle.tp_task.specs.Valid.{Planned, Placed, events, events_of, events_from, count_of, IsLawful, BodyHolds}
+use Rattle.tp_task.specs.Verdict.{last_moment}
+use Rattle.tp_task.specs.Bounds.{In, uses_duration}
+use Rattle.tp_task.proofs.Numbered.{in_parts, in_left, in_right}
 use Rattle.tp_validate.proofs.Ordered.{at_most}
 use Rattle.tp_validate.proofs.Runs.{all_in}
 use Rattle.tp_deorder.specs.declared.spans.Ticks.{Ticks}

@@ -2,8 +2,8 @@
 use Rattle.std.specs.Prelude.{◌≡◌, ℕ, ◌<◌, ◌≤◌, ◌⊎◌, ◌↔◌, List, length, map, slice_index_or, string_bytes}
 use Rattle.tp_bounds.specs.declared.Bound.{Bound}
 use Rattle.tp_bounds.specs.Schedule.{IsSchedule}
-use Rattle.tp_ground.specs.declared.task.Task.{Task}
-use Rattle.tp_ground.specs.Bounds.{MeetsBounds}
+use Rattle.tp_task.specs.declared.task.Task.{Task}
+use Rattle.tp_task.specs.Bounds.{MeetsBounds}
 use Rattle.tp_happen.specs.declared.plans.Step.{Step}
 use Rattle.tp_validate.specs.OfTask.{scale_of, plan_of, state_at, IsValidPlan}
 use Rattle.tp_deorder.specs.RunPlans.{run_steps}
@@ -12,8 +12,8 @@ use Rattle.tp_bounds.specs.declared.plan_nets.PlanNet.{PlanNet}
 use Rattle.tp_bounds.specs.Nets.{SuitsNet}
 use Rattle.tp_bounds.specs.OwnBounds.{setting_of, IsWithin}
 use Rattle.tp_bounds.specs.RunLimits.{RunLimits}
-use Rattle.tp_ground.specs.Valid.{Planned, events}
-use Rattle.tp_ground.specs.Verdict.{last_moment}
+use Rattle.tp_task.specs.Valid.{Planned, events}
+use Rattle.tp_task.specs.Verdict.{last_moment}
 use Rattle.tp_deorder.specs.declared.DeorderFault.{DeorderFault}
 use Rattle.tp_deorder.specs.declared.DeorderFault.TheVariants.{Memory, TooMany}
 use Rattle.tp_deorder.specs.EventTexts.{event_lines}

@@ -1,10 +1,10 @@
 -- The texts of a plan's events: 'start STEP (NAME OBJECT ..)' and 'end STEP ..' of a durative step, 'at STEP ..' of another.
 use Rattle.std.specs.Prelude.{ℕ, suc, Bool, true, false, List, [], ◌∷◌, ◌++◌, Option, Some, None, codes, decimal, slice_get, option_map}
-use Rattle.tp_ground.specs.declared.events.Body.{Body}
-use Rattle.tp_ground.specs.declared.events.Body.TheVariants.{Instant, Durative}
-use Rattle.tp_ground.specs.declared.task.Task.{Task}
-use Rattle.tp_ground.specs.Words.{Words, text_of_words}
-use Rattle.tp_ground.specs.Tables.{words_at}
+use Rattle.tp_task.specs.declared.events.Body.{Body}
+use Rattle.tp_task.specs.declared.events.Body.TheVariants.{Instant, Durative}
+use Rattle.tp_task.specs.declared.task.Task.{Task}
+use Rattle.tp_task.specs.Words.{Words, text_of_words}
+use Rattle.tp_task.specs.Tables.{words_at}
 use Rattle.tp_happen.specs.declared.plans.Step.{Step}
 
 -- a word, the number of the step, and its action

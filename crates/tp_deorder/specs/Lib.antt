@@ -3,6 +3,6 @@ pub mod Inequalities
 pub mod Answers
 pub mod RunPlans
 pub mod EventTexts
-pub use Rattle.tp_ground.specs as tp_ground
+pub use Rattle.tp_task.specs as tp_task
 pub use Rattle.tp_happen.specs as tp_happen
 pub use Rattle.tp_validate.specs as tp_validate

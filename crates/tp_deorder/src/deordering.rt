@@ -2,9 +2,9 @@
 
 ghost use Rattle.std.specs.Prelude.{◌≡◌, ℕ, ◌+◌, ◌++◌, ◌≤◌, ◌<◌, true, false, ◌||◌, None, nat_le, nat_lt, length, pos, ◌≤ℤ◌, IfOk, IfErr};
 ghost use Rattle.std.specs.List.{list_all, All};
-ghost use Rattle.tp_ground.specs.Fits.{body_fits};
-ghost use Rattle.tp_ground.specs.Valid.{events, at};
-ghost use Rattle.tp_ground.specs.Verdict.{states, fault_at, last_moment};
+ghost use Rattle.tp_task.specs.Fits.{body_fits};
+ghost use Rattle.tp_task.specs.Valid.{events, at};
+ghost use Rattle.tp_task.specs.Verdict.{states, fault_at, last_moment};
 ghost use Rattle.tp_happen.specs.Bounded.{StaysSmall};
 ghost use Rattle.tp_happen.specs.Steps.{IsPlan};
 ghost use Rattle.tp_validate.specs.Verdict.{IsSound};
@@ -21,8 +21,8 @@ use crate::steps::note_steps;
 use crate::walk::walk;
 use std::alloc::Global;
 use tp_bounds::{Bound, Limits, PlanNet};
-use tp_ground::Task;
 use tp_happen::Step;
+use tp_task::Task;
 use tp_validate::{PlacedEvent, PlannedStep, ValidPlan, agenda_of, placed_events, planned_steps};
 
 /// The bounds of steps that may take these numbers of ticks. TooMany where they are more than `most`.

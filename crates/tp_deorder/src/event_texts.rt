@@ -1,13 +1,13 @@
 //! The texts of a plan's events.
 
 ghost use Rattle.std.specs.Prelude.{◌≡◌, List, ◌∷◌, [], ◌++◌, map, codes, IfOk, OnOk, slice_get, option_map, string_bytes};
-ghost use Rattle.tp_ground.specs.Tables.{words_at};
+ghost use Rattle.tp_task.specs.Tables.{words_at};
 ghost use Rattle.tp_deorder.specs.EventTexts as spec;
 ghost use Rattle.tp_deorder.specs.EventTexts.{event_lines, event_line, step_lines};
 
 use std::alloc::{AllocError, Global};
-use tp_ground::{ActionId, Body, Task};
 use tp_happen::Step;
+use tp_task::{ActionId, Body, Task};
 
 /// A word, the number of a step, and its action.
 fn event_text(

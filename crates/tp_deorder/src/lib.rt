@@ -10,10 +10,10 @@
 #![tactic(auto)]
 
 ghost use Rattle.std.specs.Prelude.{◌≡◌, ℕ, List, ◌↔◌};
-ghost use Rattle.tp_ground.specs.State.{State};
-ghost use Rattle.tp_ground.specs.Valid.{Planned};
-ghost use Rattle.tp_ground.specs.Bounds.{MeetsBounds, retimed};
-ghost use Rattle.tp_ground.specs.declared.task.Task.{Task};
+ghost use Rattle.tp_task.specs.State.{State};
+ghost use Rattle.tp_task.specs.Valid.{Planned};
+ghost use Rattle.tp_task.specs.Bounds.{MeetsBounds, retimed};
+ghost use Rattle.tp_task.specs.declared.task.Task.{Task};
 ghost use Rattle.tp_happen.specs.declared.plans.Step.{Step};
 ghost use Rattle.tp_validate.specs.OfTask.{plan_of};
 ghost use Rattle.tp_deorder.specs.RunPlans.{run_steps};
@@ -35,8 +35,8 @@ use std::alloc::AllocError;
 use thiserror::Error;
 
 // What carries a plan out needs of the crates of tasks and plans.
-pub use tp_ground;
 pub use tp_happen;
+pub use tp_task;
 pub use tp_validate;
 
 /// What keeps a plan from having a network: out of memory, or too many events, ticks or bounds for the limits.

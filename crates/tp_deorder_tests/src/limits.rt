@@ -7,8 +7,8 @@ use std::alloc::Global;
 use std::test::Fail;
 use tp_bounds::Limits;
 use tp_deorder::{DeorderFault, deorder};
-use tp_ground::Task;
 use tp_happen::read_plan;
+use tp_task::Task;
 use tp_validate::{Verdict, validate};
 
 fn limits_of(events: u16, bounds: u32, horizon: u32) -> Limits

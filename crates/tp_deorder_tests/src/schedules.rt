@@ -6,8 +6,8 @@ use std::fmt::Write;
 use std::process::Abort;
 use std::test::Fail;
 use tp_bounds::{Bound, PlanNet, Point};
-use tp_ground::Task;
 use tp_happen::read_plan;
+use tp_task::Task;
 use tp_validate::{Verdict, validate};
 
 /// The moment of a point, 0 for what is no event.

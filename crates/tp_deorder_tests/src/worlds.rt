@@ -4,12 +4,13 @@ use std::alloc::Global;
 use std::test::Fail;
 use tp_bounds::{Limits, PlanNet};
 use tp_deorder::deorder;
-use tp_ground::{Task, ground};
+use tp_ground::ground;
 use tp_happen::read_plan;
 use tp_small_worlds::{
     CHARGE, EMPTY_TANK, LINE, MATCH, MATCHES, TANK, TOGGLE, TOGGLED, UNCHARGED, UNSET,
 };
 use tp_syntax::{Domain, read_domain, read_problem};
+use tp_task::Task;
 use tp_text::Scale;
 use tp_validate::{Verdict, validate};
 

@@ -14,11 +14,11 @@ use Rattle.tp_bounds.specs.Schedule.{IsSchedule, HasSchedule}
 use Rattle.tp_bounds.specs.OwnBounds.{with_bounds, IsWithin, MeetsEach}
 use Rattle.tp_bounds.proofs.Numbering.{in_force_each, others_stay}
 use Rattle.tp_bounds.proofs.Schedules.{is_schedule, schedule_is}
-use Rattle.tp_deorder.specs.tp_ground.declared.events.Body.{Body}
-use Rattle.tp_deorder.specs.tp_ground.declared.events.Body.TheVariants.{Instant, Durative}
-use Rattle.tp_deorder.specs.tp_ground.declared.task.Task.{Task}
-use Rattle.tp_deorder.specs.tp_ground.Valid.{Planned, IsValid, IsValidRun}
-use Rattle.tp_deorder.specs.tp_ground.Bounds.{MeetsBounds}
+use Rattle.tp_deorder.specs.tp_task.declared.events.Body.{Body}
+use Rattle.tp_deorder.specs.tp_task.declared.events.Body.TheVariants.{Instant, Durative}
+use Rattle.tp_deorder.specs.tp_task.declared.task.Task.{Task}
+use Rattle.tp_deorder.specs.tp_task.Valid.{Planned, IsValid, IsValidRun}
+use Rattle.tp_deorder.specs.tp_task.Bounds.{MeetsBounds}
 use Rattle.tp_deorder.proofs.Sound.{without_fault}
 use Rattle.tp_deorder.proofs.Retimed.{retimed_run}
 use Rattle.tp_deorder.specs.tp_happen.declared.plans.Step.{Step}

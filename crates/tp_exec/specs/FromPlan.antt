@@ -1,8 +1,8 @@
 -- A network that came from a validated plan, and the plan of its run.
 use Rattle.std.specs.Prelude.{◌≡◌, List, Option, Some, None}
 use Rattle.tp_bounds.specs.Setting.{Setting}
-use Rattle.tp_deorder.specs.tp_ground.declared.task.Task.{Task}
-use Rattle.tp_deorder.specs.tp_ground.Bounds.{MeetsBounds}
+use Rattle.tp_deorder.specs.tp_task.declared.task.Task.{Task}
+use Rattle.tp_deorder.specs.tp_task.Bounds.{MeetsBounds}
 use Rattle.tp_deorder.specs.tp_happen.declared.plans.Step.{Step}
 use Rattle.tp_deorder.specs.tp_validate.OfTask.{IsOfTask, IsValidPlan, scale_of, plan_of, state_at}
 use Rattle.tp_deorder.specs.Inequalities.{event_count_of}

@@ -7,7 +7,7 @@ ghost use Rattle.tp_bounds.specs.Setting.{Setting, event_count};
 ghost use Rattle.tp_bounds.specs.Schedule.{HasSchedule};
 ghost use Rattle.tp_bounds.specs.Lawful.{IsLawful};
 ghost use Rattle.tp_bounds.specs.declared.plan_nets.PlanNet.{PlanNet};
-ghost use Rattle.tp_deorder.specs.tp_ground.declared.task.Task.{Task};
+ghost use Rattle.tp_deorder.specs.tp_task.declared.task.Task.{Task};
 ghost use Rattle.tp_deorder.specs.tp_happen.declared.plans.Step.{Step};
 ghost use Rattle.tp_deorder.specs.tp_validate.OfTask.{IsValidPlan};
 ghost use Rattle.tp_deorder.specs.tp_validate.Verdict.{IsSound};
@@ -24,8 +24,8 @@ ghost use Rattle.tp_exec.specs.FromPlan.{CameFrom, TellsSteps, TellsPlan};
 
 use std::alloc::{AllocError, Global};
 use tp_deorder::has_two;
-use tp_deorder::tp_ground::Task;
 use tp_deorder::tp_happen::{Plan, Step};
+use tp_deorder::tp_task::Task;
 use tp_deorder::tp_validate::ValidPlan;
 use tp_machine::{Executive, Kind};
 use tp_net::Net;

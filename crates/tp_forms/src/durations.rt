@@ -3,7 +3,7 @@
 use crate::fault::SearchFault;
 use crate::forms::Forms;
 use crate::state::SearchState;
-use tp_ground::{Comparison, Limit};
+use tp_task::{Comparison, Limit};
 use tp_text::Scale;
 
 /// The durations, in ticks, that limits allow so far.

@@ -5,7 +5,7 @@ use crate::forms::{EventForm, Forms};
 use crate::state::{SearchState, place_in};
 use crate::values::{difference, product, sum};
 use std::alloc::AllocError;
-use tp_ground::{Change, NumericEffect};
+use tp_task::{Change, NumericEffect};
 
 // The values of right sides in the state before them; `None` stands where one is missing.
 fn right_sides(

@@ -4,9 +4,9 @@ use crate::fault::SearchFault;
 use crate::state::{Places, SearchState, Span, part, place_in, places_of, small};
 use crate::values::{Sight, judged, value};
 use std::alloc::{AllocError, Global};
-use tp_ground::truth::uses_duration;
-use tp_ground::{Body, Change, Cond, Expr, GroundEvent, NumericEffect, Task};
 use tp_reach::met;
+use tp_task::truth::uses_duration;
+use tp_task::{Body, Change, Cond, Expr, GroundEvent, NumericEffect, Task};
 
 /// A conjunct that is no literal, and whether it is to be true or false.
 #[derive(Clone, Copy)]

@@ -4,7 +4,7 @@
 use crate::forms::{EventForm, Forms};
 use crate::state::place_in;
 use std::alloc::{AllocError, Global};
-use tp_ground::{Change, NumericEffect};
+use tp_task::{Change, NumericEffect};
 
 #[derive(Clone, Copy)]
 struct AtomMark {

@@ -1,7 +1,7 @@
 //! The state that a search has at hand: a bit an atom, a word a fluent, and what was changed last.
 
 use std::alloc::{AllocError, Global};
-use tp_ground::Task;
+use tp_task::Task;
 
 /// What stands for the number of a fluent that has none: no number of a task is as small.
 const NO_NUMBER: i64 = i64::MIN;

@@ -2,8 +2,8 @@
 
 use crate::fault::SearchFault;
 use crate::state::{Places, SearchState, place_in};
-use tp_ground::truth::{and, compared, not, or};
-use tp_ground::{Cond, Expr, GREATEST_NUMBER};
+use tp_task::truth::{and, compared, not, or};
+use tp_task::{Cond, Expr, GREATEST_NUMBER};
 
 /// The state at hand, with the places of atoms and fluents.
 #[derive(Clone, Copy)]

@@ -10,7 +10,7 @@ use crate::store::{Choice, Chosen, Moment, Node, Running, Store};
 use std::alloc::{AllocError, Global};
 use std::marker::Model;
 use tp_forms::{Forms, Marks, SearchFault, SearchState, Span};
-use tp_ground::{MOST_STEPS, Task};
+use tp_task::{MOST_STEPS, Task};
 
 /// The nodes of a search, seen as those that still wait: a queue for each number of goal conjuncts that they lack, each in
 /// the order in which they were made.

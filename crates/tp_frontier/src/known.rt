@@ -6,7 +6,7 @@ use tp_forms::{
     Action, CondForm, EventForm, Forms, Lists, Marks, SearchFault, SearchState, Waiting, carry_out,
     least_duration, touched, units_of, waiting_for,
 };
-use tp_ground::Task;
+use tp_task::Task;
 use tp_text::Scale;
 
 /// What the search looks up, and never changes.

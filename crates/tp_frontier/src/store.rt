@@ -3,7 +3,7 @@
 
 use std::alloc::{AllocError, Global};
 use tp_forms::{SearchState, Span, part, small};
-use tp_ground::{ActionId, MOST_STEPS};
+use tp_task::{ActionId, MOST_STEPS};
 
 /// A step that runs: its action, its duration, and how many of its ticks are left, 0 where its end is due.
 #[derive(Clone, Copy, Debug, PartialEq, Eq, PartialOrd, Ord)]

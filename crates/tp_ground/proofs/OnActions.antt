@@ -11,13 +11,13 @@ use Rattle.tp_ground.specs.WriterViews.{WriterView}
 use Rattle.tp_ground.specs.Views.{env_view}
 use Rattle.tp_ground.specs.Bindings.{Universe, Env, bindings, bound}
 use Rattle.tp_ground.specs.Written.{GroundBody, body_in}
-use Rattle.tp_ground.specs.Tables.{Tables}
+use Rattle.tp_task.specs.Tables.{Tables}
 use Rattle.tp_ground.specs.Mentions.{Mentions, ◌then◌, of_body, of_each}
 use Rattle.tp_ground.specs.Lowered.{IsLowered, Overflows, Lowers}
 use Rattle.tp_ground.specs.Grounding.{ground_action, ground_actions, of_action}
 use Rattle.tp_ground.specs.declared.environment.Env as code
 use Rattle.tp_ground.specs.declared.environment.Env.{Inner, Empty}
-use Rattle.tp_ground.specs.declared.fault.GroundFault.{GroundFault}
+use Rattle.tp_task.specs.declared.fault.GroundFault.{GroundFault}
 use Rattle.tp_ground.proofs.Along.{next, map_next}
 use Rattle.tp_ground.proofs.OnEntries.{empty_env}
 use Rattle.tp_ground.proofs.OnInner.{inner_env}

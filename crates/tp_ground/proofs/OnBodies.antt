@@ -13,7 +13,7 @@ use Rattle.tp_ast.specs.declared.action.Body.TheVariants as bodies
 use Rattle.tp_ast.specs.declared.words.TimeSpecifier.TheVariants.{OverAll}
 use Rattle.tp_ground.specs.WriterViews.{WriterView}
 use Rattle.tp_ground.specs.Bindings.{Universe, Env}
-use Rattle.tp_ground.specs.Tables.{Tables}
+use Rattle.tp_task.specs.Tables.{Tables}
 use Rattle.tp_ground.specs.Written.{GroundCondition, GroundEffect, GroundLimit, GroundHappening, instant, durative, happening, condition_at, start_in, end_in, body_in}
 use Rattle.tp_ground.specs.Mentions.{Mentions, ◌then◌, of_condition, of_simple_effect, of_limit, of_each, of_start, of_end, of_body}
 use Rattle.tp_ground.specs.ReadBack.{named_condition, named_limit, named_event, named_body}
@@ -21,12 +21,12 @@ use Rattle.tp_ground.specs.NumberedEffects.{named_simple_effect}
 use Rattle.tp_ground.specs.NumberedEnds.{named_ends}
 use Rattle.tp_ground.specs.declared.lowering.bodies.Ends.{Ends}
 use Rattle.tp_ground.specs.Lowered.{Notes, IsLowered, Overflows, Lowers}
-use Rattle.tp_ground.specs.declared.fault.GroundFault.{GroundFault}
-use Rattle.tp_ground.specs.declared.events.Cond.{Cond}
-use Rattle.tp_ground.specs.declared.events.Limit.{Limit}
-use Rattle.tp_ground.specs.declared.events.GroundEvent.{GroundEvent}
-use Rattle.tp_ground.specs.declared.events.Body.{Body}
-use Rattle.tp_ground.specs.declared.events.Body.TheVariants.{Instant, Durative}
+use Rattle.tp_task.specs.declared.fault.GroundFault.{GroundFault}
+use Rattle.tp_task.specs.declared.events.Cond.{Cond}
+use Rattle.tp_task.specs.declared.events.Limit.{Limit}
+use Rattle.tp_task.specs.declared.events.GroundEvent.{GroundEvent}
+use Rattle.tp_task.specs.declared.events.Body.{Body}
+use Rattle.tp_task.specs.declared.events.Body.TheVariants.{Instant, Durative}
 use Rattle.tp_ground.specs.declared.lowering.effects.NumberedEffect.{NumberedEffect}
 use Rattle.tp_ground.proofs.OnLowered.{AllLowered, failed, notes_then, overflows_first, overflows_then, lowered_as, lowered_both}
 

@@ -15,16 +15,16 @@ use Rattle.std.specs.Str.{bytes_eq}
 use Rattle.tp_ast.specs.Terms.{Argument}
 use Rattle.tp_ground.specs.WriterViews.{WriterView}
 use Rattle.tp_ground.specs.Bindings.{Universe, Env, object_for, words_in}
-use Rattle.tp_ground.specs.Tables.{Tables, words_at}
+use Rattle.tp_task.specs.Tables.{Tables, words_at}
 use Rattle.tp_ground.specs.Written.{GroundCondition, atom, compared, negation, all_of, any_of, conditions_from, always, never, either, same_in, compared_in, inner, condition_in, conditions_in}
 use Rattle.tp_ground.specs.Mentions.{nothing, of_condition, of_conditions, of_each, ◌then◌}
 use Rattle.tp_ground.specs.ReadBack.{named_condition, named_expression}
 use Rattle.tp_ground.specs.Lowered.{IsLowered, Overflows, Lowers}
-use Rattle.tp_ground.specs.declared.events.Cond as conds
-use Rattle.tp_ground.specs.declared.events.Cond.{Cond}
-use Rattle.tp_ground.specs.declared.events.Expr as exprs
-use Rattle.tp_ground.specs.declared.events.Comparison as how
-use Rattle.tp_ground.specs.declared.fault.GroundFault.{GroundFault}
+use Rattle.tp_task.specs.declared.events.Cond as conds
+use Rattle.tp_task.specs.declared.events.Cond.{Cond}
+use Rattle.tp_task.specs.declared.events.Expr as exprs
+use Rattle.tp_task.specs.declared.events.Comparison as how
+use Rattle.tp_task.specs.declared.fault.GroundFault.{GroundFault}
 use Rattle.tp_ground.proofs.OnLowered.{AllLowered, failed, lowered_as, lowered_same, lowered_none, then_nothing}
 
 pub of_conditions_each : (cs : List GroundCondition) → of_conditions (conditions_from cs) ≡ of_each of_condition cs

@@ -12,7 +12,7 @@ use Rattle.tp_ground.specs.Mentions.{an_atom, a_fluent}
 use Rattle.tp_ground.specs.Initially.{initial_in, of_initial}
 use Rattle.tp_ground.specs.Lowered.{Overflows}
 use Rattle.tp_ground.specs.declared.environment.Env.{Empty, the_lemmas}
-use Rattle.tp_ground.specs.declared.fault.GroundFault.{GroundFault}
+use Rattle.tp_task.specs.declared.fault.GroundFault.{GroundFault}
 
 pub empty_env : env_view Empty ≡ []
 empty_env = search (rules, the_lemmas)

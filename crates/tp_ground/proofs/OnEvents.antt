@@ -1,11 +1,11 @@
 -- Simple effects as adds, deletes and writes.
 use Rattle.std.proofs.Common.{◌≡◌, ℕ, List, [], ◌∷◌, ◌++◌, map, refl, sym, ap, subst, ◌∙◌, append-nil}
 use Rattle.std.proofs.lemmas.List.{map-append}
-use Rattle.tp_ground.specs.Tables.{Tables, words_at}
+use Rattle.tp_task.specs.Tables.{Tables, words_at}
 use Rattle.tp_ground.specs.Written.{GroundEffect, adds, deletes, writes, added, deleted, written}
 use Rattle.tp_ground.specs.ReadBack.{named_write}
 use Rattle.tp_ground.specs.NumberedEffects.{named_simple_effect, AreSplit}
-use Rattle.tp_ground.specs.declared.events.NumericEffect.{NumericEffect}
+use Rattle.tp_task.specs.declared.events.NumericEffect.{NumericEffect}
 use Rattle.tp_ground.specs.declared.lowering.effects.NumberedEffect.{NumberedEffect}
 use Rattle.tp_ground.specs.declared.lowering.effects.NumberedEffect.TheVariants.{Add, Delete, Write}
 

@@ -5,11 +5,11 @@ use Rattle.tp_ast.specs.ExprViews.{expr_view}
 use Rattle.tp_ast.specs.declared.term.Atom.{Atom}
 use Rattle.tp_ast.specs.declared.expr.Expr as syntax
 use Rattle.tp_ground.specs.Bindings.{Env, words_in}
-use Rattle.tp_ground.specs.Tables.{Tables, words_at}
+use Rattle.tp_task.specs.Tables.{Tables, words_at}
 use Rattle.tp_ground.specs.Written.{GroundExpression, number, fluent, the_duration, negative, sum, difference, product, expression_in}
 use Rattle.tp_ground.specs.ReadBack.{named_expression}
-use Rattle.tp_ground.specs.declared.events.Expr as exprs
-use Rattle.tp_ground.specs.declared.events.Expr.{Expr}
+use Rattle.tp_task.specs.declared.events.Expr as exprs
+use Rattle.tp_task.specs.declared.events.Expr.{Expr}
 
 module _ (env : Env) (x : syntax.Expr) where
   pub at_Number : (n : ℤ) → x ≡ syntax.Number n → expression_in env (expr_view x) ≡ number n

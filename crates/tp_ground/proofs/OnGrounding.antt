@@ -5,7 +5,7 @@ use Rattle.tp_ast.specs.Symbols.{Name, typed_view}
 use Rattle.tp_ast.specs.Actions as actions
 use Rattle.tp_ast.specs.DomainViews.{action_view}
 use Rattle.tp_ast.specs.declared.action.Action.{Action}
-use Rattle.tp_ground.specs.Words.{Words}
+use Rattle.tp_task.specs.Words.{Words}
 use Rattle.tp_ground.specs.Bindings.{Universe, bindings}
 use Rattle.tp_ground.specs.Grounding.{ground_action, ground_actions}
 

@@ -6,10 +6,10 @@ use Rattle.std.proofs.lemmas.List.Elements.{All-weaker, All-drop, All-push, All-
 use Rattle.tp_ast.specs.Symbols.{Name}
 use Rattle.tp_ast.specs.Conditions.{Condition}
 use Rattle.tp_ast.specs.CondViews.{cond_view}
-use Rattle.tp_ground.specs.Words.{Words, same_words, has_words, with_words, with_all}
-use Rattle.tp_ground.specs.Labels.{Grows}
+use Rattle.tp_task.specs.Words.{Words, same_words, has_words, with_words, with_all}
+use Rattle.tp_task.specs.Labels.{Grows}
 use Rattle.tp_ground.specs.Bindings.{Universe, Env, object_for}
-use Rattle.tp_ground.specs.Tables.{Tables}
+use Rattle.tp_task.specs.Tables.{Tables}
 use Rattle.tp_ground.specs.Written.{condition_in}
 use Rattle.tp_ground.specs.Mentions.{Mentions, of_condition}
 use Rattle.tp_ground.specs.ReadBack.{named_condition}
@@ -18,11 +18,11 @@ use Rattle.tp_ground.specs.Lowered.{Extends, IsLowered}
 use Rattle.tp_ground.specs.TermsIn.{terms_in}
 use Rattle.tp_ground.specs.Kept.{Stands, StillStands}
 use Rattle.tp_ground.specs.Found.{IsOf}
-use Rattle.tp_ground.specs.declared.fault.GroundFault.{GroundFault}
-use Rattle.tp_ground.specs.declared.events.Cond as conds
-use Rattle.tp_ground.specs.declared.events.Cond.{Cond}
+use Rattle.tp_task.specs.declared.fault.GroundFault.{GroundFault}
+use Rattle.tp_task.specs.declared.events.Cond as conds
+use Rattle.tp_task.specs.declared.events.Cond.{Cond}
 use Rattle.tp_ground.specs.declared.memory.Kept.{Kept}
-use Rattle.tp_ground.proofs.Growth.{grows_by_none, with_words_grows, with_all_grows, with_all-longer}
+use Rattle.tp_task.proofs.Growth.{grows_by_none, with_words_grows, with_all_grows, with_all-longer}
 use Rattle.tp_ground.proofs.OnKnown.{same_words_self}
 use Rattle.tp_ground.proofs.OnLowered.{as_written, extends_then}
 use Rattle.tp_ground.proofs.OnTerms.{written_alike}

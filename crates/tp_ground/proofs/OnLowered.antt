@@ -2,16 +2,16 @@
 use Rattle.std.proofs.Common.{◌≡◌, ℕ, zero, suc, ◌≤◌, List, [], ◌∷◌, ◌++◌, length, map, Some, Result, Ok, Err, OnOk, IfOk, IfErr, IsErrAnd, Vec, Global, refl, sym, ap, subst, ◌∙◌, append_assoc, append-nil, arith}
 use Rattle.std.specs.List.{slice_get}
 use Rattle.std.proofs.lemmas.List.{map-append}
-use Rattle.tp_ground.specs.Words.{Words, with_words, with_all}
-use Rattle.tp_ground.specs.Labels.{Grows}
-use Rattle.tp_ground.specs.Tables.{Tables, words_at, CannotNumber}
+use Rattle.tp_task.specs.Words.{Words, with_words, with_all}
+use Rattle.tp_task.specs.Labels.{Grows}
+use Rattle.tp_task.specs.Tables.{Tables, words_at, CannotNumber}
 use Rattle.tp_ground.specs.WriterViews.{WriterView}
 use Rattle.tp_ground.specs.Mentions.{Mentions, nothing, an_atom, a_fluent, ◌then◌, of_each}
 use Rattle.tp_ground.specs.Lowered.{Notes, Extends, IsLowered, Overflows, Lowers}
-use Rattle.tp_ground.specs.declared.fault.GroundFault.{GroundFault}
-use Rattle.tp_ground.specs.declared.fault.GroundFault.TheVariants as faults
-use Rattle.tp_ground.specs.declared.fault.TooManyKind.TheVariants as kinds
-use Rattle.tp_ground.proofs.Growth.{grows_on, with_all_grows, with_all-append, with_all-longer_append}
+use Rattle.tp_task.specs.declared.fault.GroundFault.{GroundFault}
+use Rattle.tp_task.specs.declared.fault.GroundFault.TheVariants as faults
+use Rattle.tp_task.specs.declared.fault.TooManyKind.TheVariants as kinds
+use Rattle.tp_task.proofs.Growth.{grows_on, with_all_grows, with_all-append, with_all-longer_append}
 
 -- ---- mentions
 

@@ -14,11 +14,11 @@ use Rattle.tp_ast.specs.declared.problem.Initial.{Initial}
 use Rattle.tp_bounds.specs.RunLimits.{RunLimits}
 use Rattle.tp_text.specs.declared.number.Scale.{Scale}
 use Rattle.tp_ground.specs.WriterViews.{WriterView}
-use Rattle.tp_ground.specs.Words.{Words, same_words, with_all, firsts}
+use Rattle.tp_task.specs.Words.{Words, same_words, with_all, firsts}
 use Rattle.tp_ground.specs.Views.{env_view}
 use Rattle.tp_ground.specs.Bindings.{Universe, Env, bindings, bound}
-use Rattle.tp_ground.specs.Fits.{body_fits}
-use Rattle.tp_ground.specs.Tables.{Tables, CannotNumber}
+use Rattle.tp_task.specs.Fits.{body_fits}
+use Rattle.tp_task.specs.Tables.{Tables, CannotNumber}
 use Rattle.tp_ground.specs.Written.{GroundCondition, GroundBody, GroundAction, condition_in, body_in}
 use Rattle.tp_ground.specs.Mentions.{Mentions, of_condition, of_each}
 use Rattle.tp_ground.specs.ReadBack.{named_condition, named_body}
@@ -29,12 +29,12 @@ use Rattle.tp_ground.specs.WrittenTasks.{WrittenTask, written_task, named_task, 
 use Rattle.tp_ground.specs.declared.environment.Env.{Empty}
 use Rattle.tp_ground.specs.declared.beginning.NumberedInitial.{NumberedInitial}
 use Rattle.tp_ground.specs.declared.grounder.LoweredTask.{LoweredTask}
-use Rattle.tp_ground.specs.declared.task.Task.{Task}
-use Rattle.tp_ground.specs.declared.fault.GroundFault.{GroundFault}
-use Rattle.tp_ground.specs.declared.fault.GroundFault.TheVariants as faults
-use Rattle.tp_ground.specs.declared.fault.TooManyKind.TheVariants as kinds
-use Rattle.tp_ground.specs.declared.events.Cond.{Cond}
-use Rattle.tp_ground.specs.declared.events.Body.{Body}
+use Rattle.tp_task.specs.declared.task.Task.{Task}
+use Rattle.tp_task.specs.declared.fault.GroundFault.{GroundFault}
+use Rattle.tp_task.specs.declared.fault.GroundFault.TheVariants as faults
+use Rattle.tp_task.specs.declared.fault.TooManyKind.TheVariants as kinds
+use Rattle.tp_task.specs.declared.events.Cond.{Cond}
+use Rattle.tp_task.specs.declared.events.Body.{Body}
 use Rattle.tp_ground.proofs.OnBodies.{at_first, at_second, at_third}
 use Rattle.tp_ground.proofs.OnEntries.{empty_env}
 use Rattle.tp_ground.proofs.OnFits.{body_fits_of}

@@ -7,7 +7,7 @@ use Rattle.tp_ast.specs.Expressions as expressions
 use Rattle.tp_ast.specs.Expressions.{Expression}
 use Rattle.tp_ast.specs.Conditions as conditions
 use Rattle.tp_ast.specs.Conditions.{Condition, Conditions}
-use Rattle.tp_ground.specs.Words.{Words}
+use Rattle.tp_task.specs.Words.{Words}
 use Rattle.tp_ground.specs.Bindings.{Universe, Env, bindings, bound, object_among, object_for}
 use Rattle.tp_ground.specs.Written.{GroundExpression, fluent, negative, sum, difference, product, GroundCondition, atom, compared, negation, all_of, any_of, conditions_from, always, never, either, comparison_of, expression_in, condition_in, conditions_in}
 use Rattle.tp_ground.specs.TermsIn.{terms_of, terms_in, terms_in_each}

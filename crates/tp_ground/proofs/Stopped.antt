@@ -2,10 +2,10 @@
 use Rattle.std.proofs.Common.{◌≡◌, ℕ, ◌+◌, ◌<◌, List, length, take, drop, get_or, map, Result, IsErrAnd, Vec, Global, subst, ◌∙◌}
 use Rattle.std.specs.List.{flat_map}
 use Rattle.tp_ground.specs.WriterViews.{WriterView}
-use Rattle.tp_ground.specs.Tables.{Tables}
+use Rattle.tp_task.specs.Tables.{Tables}
 use Rattle.tp_ground.specs.Mentions.{Mentions, of_each}
 use Rattle.tp_ground.specs.Lowered.{Overflows, Lowers}
-use Rattle.tp_ground.specs.declared.fault.GroundFault.{GroundFault}
+use Rattle.tp_task.specs.declared.fault.GroundFault.{GroundFault}
 use Rattle.tp_ground.proofs.Along.{whole, map_whole}
 use Rattle.tp_ground.proofs.OnLowered.{all_named, AllLowered, all_stopped, one_stopped}
 

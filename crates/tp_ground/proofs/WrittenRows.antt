@@ -10,8 +10,8 @@ use Rattle.tp_ast.specs.Effects as effects
 use Rattle.tp_ast.specs.Actions as actions
 use Rattle.tp_ast.specs.declared.words.Comparison.TheVariants as comparisons
 use Rattle.tp_ast.specs.declared.words.TimeSpecifier.TheVariants.{AtStart, AtEnd}
-use Rattle.tp_ground.specs.declared.events.Comparison.TheVariants.{Equal}
-use Rattle.tp_ground.specs.Words.{firsts}
+use Rattle.tp_task.specs.declared.events.Comparison.TheVariants.{Equal}
+use Rattle.tp_task.specs.Words.{firsts}
 use Rattle.tp_ground.specs.Bindings.{Universe, Env, bindings, bound}
 use Rattle.tp_ground.specs.Written.{number, atom, negation, all_of, any_of, no_conditions, condition, always, never, durative, condition_in, body_in}
 use Rattle.tp_ground.specs.Mentions.{of_body}

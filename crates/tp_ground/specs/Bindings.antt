@@ -4,7 +4,7 @@ use Rattle.std.specs.List.{flat_map}
 use Rattle.std.specs.Str.{bytes_eq}
 use Rattle.tp_ast.specs.Terms.{Argument, object, variable, Fact}
 use Rattle.tp_ast.specs.Symbols.{Name, Declared, Parent, types_fit}
-use Rattle.tp_ground.specs.Words.{Words}
+use Rattle.tp_task.specs.Words.{Words}
 
 -- the types, and all objects: the domain's constants, then the problem's objects
 pub record Universe : Type 0 where

@@ -10,7 +10,7 @@ use Rattle.tp_ground.specs.ReadBack.{named_condition}
 use Rattle.tp_ground.specs.WriterViews.{WriterView}
 use Rattle.tp_ground.specs.Lowered.{IsLowered}
 use Rattle.tp_ground.specs.TermsIn.{terms_in}
-use Rattle.tp_ground.specs.declared.events.Cond.{Cond}
+use Rattle.tp_task.specs.declared.events.Cond.{Cond}
 use Rattle.tp_ground.specs.declared.memory.Kept.{Kept}
 
 -- Wherever the condition's terms stand for these objects, x says what is written out, and all that it mentions is

@@ -2,7 +2,7 @@
 use Rattle.std.specs.Prelude.{Bool, List, [], map, string_bytes}
 use Rattle.tp_ast.specs.Symbols.{Name, Declared}
 use Rattle.tp_ground.specs.Bindings.{Universe, choices}
-use Rattle.tp_ground.specs.Words.{same_words}
+use Rattle.tp_task.specs.Words.{same_words}
 use Rattle.tp_ground.specs.declared.objects.Known.{Known}
 
 -- something of these types

@@ -1,12 +1,12 @@
 -- What numbering an expression, a condition or an action gives: something that says what is written out, in every table
 -- that comes after.
 use Rattle.std.specs.Prelude.{◌≡◌, Result, Ok, Err}
-use Rattle.tp_ground.specs.Words.{with_all}
-use Rattle.tp_ground.specs.Labels.{Grows}
-use Rattle.tp_ground.specs.Tables.{Tables, CannotNumber}
+use Rattle.tp_task.specs.Words.{with_all}
+use Rattle.tp_task.specs.Labels.{Grows}
+use Rattle.tp_task.specs.Tables.{Tables, CannotNumber}
 use Rattle.tp_ground.specs.WriterViews.{WriterView}
 use Rattle.tp_ground.specs.Mentions.{Mentions}
-use Rattle.tp_ground.specs.declared.fault.GroundFault.{GroundFault}
+use Rattle.tp_task.specs.declared.fault.GroundFault.{GroundFault}
 
 -- once these are numbered too, over the same universe
 pub record Notes (old new : WriterView) (m : Mentions) : Type 0 where

@@ -5,7 +5,7 @@ use Rattle.tp_ast.specs.Parts.{Joined}
 use Rattle.tp_ast.specs.Effects.{Effect, Timed, Constraint}
 use Rattle.tp_ast.specs.Actions as actions
 use Rattle.tp_ast.specs.declared.words.TimeSpecifier.TheVariants.{AtStart, OverAll, AtEnd}
-use Rattle.tp_ground.specs.Words.{Words}
+use Rattle.tp_task.specs.Words.{Words}
 use Rattle.tp_ground.specs.Bindings.{Universe, Env}
 use Rattle.tp_ground.specs.Written.{GroundExpression, number, fluent, the_duration, negative, sum, difference, product, GroundCondition, GroundConditions, atom, compared, negation, all_of, any_of, no_conditions, condition, GroundEffect, adds, deletes, writes, GroundLimit, simple_effects_in, simple_effects_at, limits_in, condition_in, condition_at}
 

@@ -1,9 +1,9 @@
 -- What one numbered change says.
 use Rattle.std.specs.Prelude.{◌≡◌, ℕ, List, map}
-use Rattle.tp_ground.specs.Tables.{Tables, words_at}
+use Rattle.tp_task.specs.Tables.{Tables, words_at}
 use Rattle.tp_ground.specs.Written.{GroundEffect, adds, deletes, writes, added, deleted, written}
 use Rattle.tp_ground.specs.ReadBack.{named_write}
-use Rattle.tp_ground.specs.declared.events.NumericEffect.{NumericEffect}
+use Rattle.tp_task.specs.declared.events.NumericEffect.{NumericEffect}
 use Rattle.tp_ground.specs.declared.lowering.effects.NumberedEffect.{NumberedEffect}
 use Rattle.tp_ground.specs.declared.lowering.effects.NumberedEffect.TheVariants.{Add, Delete, Write}
 

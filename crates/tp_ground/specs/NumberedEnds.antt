@@ -1,5 +1,5 @@
 -- What the start and the end of a durative action say.
-use Rattle.tp_ground.specs.Tables.{Tables}
+use Rattle.tp_task.specs.Tables.{Tables}
 use Rattle.tp_ground.specs.Written.{GroundHappening}
 use Rattle.tp_ground.specs.ReadBack.{named_event}
 use Rattle.tp_ground.specs.declared.lowering.bodies.Ends.{Ends}

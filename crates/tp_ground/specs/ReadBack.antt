@@ -1,16 +1,16 @@
 -- What numbered conditions, expressions, events and bodies say, with the words at each number put back.
 use Rattle.std.specs.Prelude.{map}
-use Rattle.tp_ground.specs.Tables.{Tables, words_at}
+use Rattle.tp_task.specs.Tables.{Tables, words_at}
 use Rattle.tp_ground.specs.Written.{GroundExpression, number, fluent, the_duration, negative, sum, difference, product, GroundCondition, atom, compared, negation, all_of, any_of, conditions_from, GroundWrite, GroundLimit, GroundHappening, GroundBody, instant, durative}
-use Rattle.tp_ground.specs.declared.events.Expr.{Expr, fold-Expr}
-use Rattle.tp_ground.specs.declared.events.Expr.TheOpen.{Expr-F}
-use Rattle.tp_ground.specs.declared.events.Cond.{Cond, fold-Cond}
-use Rattle.tp_ground.specs.declared.events.Cond.TheOpen.{Cond-F}
-use Rattle.tp_ground.specs.declared.events.NumericEffect.{NumericEffect}
-use Rattle.tp_ground.specs.declared.events.Limit.{Limit}
-use Rattle.tp_ground.specs.declared.events.GroundEvent.{GroundEvent}
-use Rattle.tp_ground.specs.declared.events.Body.{Body}
-use Rattle.tp_ground.specs.declared.events.Body.TheVariants.{Instant, Durative}
+use Rattle.tp_task.specs.declared.events.Expr.{Expr, fold-Expr}
+use Rattle.tp_task.specs.declared.events.Expr.TheOpen.{Expr-F}
+use Rattle.tp_task.specs.declared.events.Cond.{Cond, fold-Cond}
+use Rattle.tp_task.specs.declared.events.Cond.TheOpen.{Cond-F}
+use Rattle.tp_task.specs.declared.events.NumericEffect.{NumericEffect}
+use Rattle.tp_task.specs.declared.events.Limit.{Limit}
+use Rattle.tp_task.specs.declared.events.GroundEvent.{GroundEvent}
+use Rattle.tp_task.specs.declared.events.Body.{Body}
+use Rattle.tp_task.specs.declared.events.Body.TheVariants.{Instant, Durative}
 
 abbrev pub named_expression_step : Tables → Expr-F GroundExpression → GroundExpression
 named_expression_step t (Expr-F.Number n) = number n

@@ -1,6 +1,6 @@
 -- What a `Writer` shows.
 use Rattle.tp_ground.specs.Bindings.{Universe}
-use Rattle.tp_ground.specs.Tables.{Tables, with_actions}
+use Rattle.tp_task.specs.Tables.{Tables, with_actions}
 
 -- the numbers, and what is written out over
 pub record WriterView : Type 0 where

@@ -19,11 +19,11 @@ use Rattle.tp_ast.specs.declared.words.Writing.{Writing}
 use Rattle.tp_ast.specs.declared.words.Writing.TheVariants as writings
 use Rattle.tp_ast.specs.declared.words.TimeSpecifier.{TimeSpecifier}
 use Rattle.tp_ast.specs.declared.words.TimeSpecifier.TheVariants.{AtStart, OverAll, AtEnd}
-use Rattle.tp_ground.specs.declared.events.Comparison.{Comparison}
-use Rattle.tp_ground.specs.declared.events.Comparison.TheVariants.{Less, AtMost, Equal, AtLeast, Greater}
-use Rattle.tp_ground.specs.declared.events.Change.{Change}
-use Rattle.tp_ground.specs.declared.events.Change.TheVariants.{Assign, ScaleUp, Increase, Decrease}
-use Rattle.tp_ground.specs.Words.{Words}
+use Rattle.tp_task.specs.declared.events.Comparison.{Comparison}
+use Rattle.tp_task.specs.declared.events.Comparison.TheVariants.{Less, AtMost, Equal, AtLeast, Greater}
+use Rattle.tp_task.specs.declared.events.Change.{Change}
+use Rattle.tp_task.specs.declared.events.Change.TheVariants.{Assign, ScaleUp, Increase, Decrease}
+use Rattle.tp_task.specs.Words.{Words}
 use Rattle.tp_ground.specs.Bindings.{Universe, Env, bindings, bound, object_for, words_in}
 
 pub data GroundExpression : Type 0 where

@@ -6,14 +6,14 @@ use Rattle.tp_ast.specs.Problems.{Initial}
 use Rattle.tp_bounds.specs.RunLimits.{RunLimits}
 use Rattle.tp_text.specs.declared.number.Scale.{Scale}
 use Rattle.tp_ground.specs.Bindings.{Universe}
-use Rattle.tp_ground.specs.Tables.{Tables}
+use Rattle.tp_task.specs.Tables.{Tables}
 use Rattle.tp_ground.specs.Written.{GroundCondition, GroundBody, condition_in}
 use Rattle.tp_ground.specs.Mentions.{Mentions, ◌then◌, of_condition, of_each}
 use Rattle.tp_ground.specs.ReadBack.{named_condition, named_body}
 use Rattle.tp_ground.specs.Initially.{GroundInitial, initial_in, of_initial, named_initial, true_at, value_at}
 use Rattle.tp_ground.specs.Grounding.{ground_actions, of_action}
 use Rattle.tp_ground.specs.declared.grounder.LoweredTask.{LoweredTask}
-use Rattle.tp_ground.specs.declared.task.Task.{Task}
+use Rattle.tp_task.specs.declared.task.Task.{Task}
 
 -- the entries of ':init', the goal, and the bodies of the ground actions
 pub record WrittenTask : Type 0 where

@@ -7,11 +7,11 @@ ghost use Rattle.tp_ground.specs.Mentions.{of_each};
 ghost use Rattle.tp_ground.specs.Lowered.{Lowers};
 
 use crate::environment::Env;
-use crate::fault::GroundFault;
 use crate::lowering::{atom, fluent};
 use crate::writer::Writer;
 use std::alloc::{AllocError, Global};
 use tp_ast::problem::Initial;
+use tp_task::GroundFault;
 
 /// What one entry of `:init` says, by number.
 #[derive(Clone, Copy)]

@@ -12,9 +12,7 @@ ghost use Rattle.tp_ground.specs.Lowered.{Lowers};
 ghost use Rattle.tp_ground.specs.Grounding.{ground_actions, of_action};
 ghost use Rattle.tp_ground.specs.Rows.{product, lists_of};
 
-use crate::Body;
 use crate::environment::Env;
-use crate::fault::GroundFault;
 use crate::lowering::body;
 use crate::rows::{Rows, rows_of};
 use crate::universe::{Universe, count_bindings, with_first};
@@ -22,6 +20,7 @@ use crate::writer::Writer;
 use std::alloc::{AllocError, Global};
 use tp_ast::action::Action;
 use tp_ast::symbols::Typed;
+use tp_task::{Body, GroundFault};
 
 /// Whether all actions together have no more bindings than so many.
 pub fn actions_fit(universe: &Universe, actions: &[Action], most: u32) -> bool

@@ -6,13 +6,12 @@ ghost use Rattle.std.specs.List.{Contains};
 ghost use Rattle.tp_ast.specs.CondViews.{cond_view};
 ghost use Rattle.tp_ground.specs.Found.{IsOf};
 
-use crate::Cond;
-use crate::guesses::mixed;
 use crate::keys::Objects;
 use crate::sameness::same_condition;
 use std::alloc::{AllocError, Global};
 use std::rc::Rc;
 use tp_ast::symbols::Typed;
+use tp_task::Cond;
 
 // The most conditions that are kept, and how many places there are to look at: one for each number of 12 bits.
 const MOST: usize = 4_096;
@@ -30,6 +29,16 @@ pub struct Kept<'a> {
 pub struct Memory<'a> {
     pub entries: Vec<Kept<'a>>,
     places: Vec<u32>,
+}
+
+// A mix of what was mixed before and the last four letters of a word, by the steps of FNV-1a.
+fn mixed(before: u32, word: &str) -> u32 {
+    let letters = word.as_bytes();
+    let mut mixed = before;
+    for letter in &letters[letters.len().saturating_sub(4)..] {
+        mixed = (mixed ^ u32::from(*letter)).wrapping_mul(0x0100_0193);
+    }
+    mixed
 }
 
 fn mark_types(variables: &[Typed], mark: u32) -> u32 {

@@ -21,9 +21,7 @@ use tp_ast::expr::Expr;
 use tp_ast::joined::Joined;
 use tp_ast::problem::{Initial, Problem};
 use tp_ast::timed::Timed;
-
-/// The greatest magnitude of a number, 10^15.
-pub const GREATEST_NUMBER: u64 = 1_000_000_000_000_000;
+use tp_task::GREATEST_NUMBER;
 
 fn is_great(number: i64) -> bool
     ensures { result ≡ is_great number }

@@ -6,7 +6,7 @@ ghost use Rattle.tp_ast.specs.Symbols.{typed_view, types_fit};
 ghost use Rattle.tp_types.specs.TypeViews.{types_view};
 ghost use Rattle.tp_ground.specs.Bindings.{fitting, choices, has_no_choice, bindings};
 ghost use Rattle.tp_ground.specs.Bindings as bindings;
-ghost use Rattle.tp_ground.specs.Words.{same_words};
+ghost use Rattle.tp_task.specs.Words.{same_words};
 ghost use Rattle.tp_ground.specs.Views.{universe_view};
 ghost use Rattle.tp_ground.specs.KnownChoices.{of_types, is_known};
 

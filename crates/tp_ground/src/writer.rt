@@ -4,20 +4,18 @@ ghost use Rattle.std.specs.Prelude.{◌≡◌, ◌++◌, ◌∷◌, [], map, IfS
 ghost use Rattle.tp_ast.specs.CondViews.{cond_view};
 ghost use Rattle.tp_ast.specs.DomainViews.{domain_view, problem_view};
 ghost use Rattle.tp_ground.specs.Grounding.{universe_of};
-ghost use Rattle.tp_ground.specs.Tables.{words_at};
+ghost use Rattle.tp_task.specs.Tables.{words_at};
 ghost use Rattle.tp_ground.specs.Mentions.{an_atom, a_fluent};
 ghost use Rattle.tp_ground.specs.Lowered.{Lowers};
 ghost use Rattle.tp_ground.specs.Kept.{Stands, StillStands};
 
-use crate::Cond;
-use crate::fault::GroundFault;
 use crate::memory::{Kept, Memory};
-use crate::numbering::Numbering;
 use std::alloc::{AllocError, Global};
 use std::marker::Model;
 use std::rc::Rc;
 use tp_ast::domain::Domain;
 use tp_ast::problem::Problem;
+use tp_task::{Cond, GroundFault, Numbering};
 
 /// The numbers of what is mentioned, and the conditions that were written out over the objects of a problem.
 #[derive(Drop)]

@@ -7,8 +7,8 @@ use crate::support::{NOTHING, Told, are_told, domain, task_within};
 use std::alloc::{AllocError, Global};
 use std::test::Fail;
 use tp_bounds::Limits;
-use tp_ground::{ActionId, GroundFault, TooManyKind};
 use tp_syntax::Domain;
+use tp_task::{ActionId, GroundFault, TooManyKind};
 
 const PAIRS_PROBLEM: &str = "(define (problem p) (:domain pairs) (:objects p - place c - car)
  (:init) (:goal (near v v)))";

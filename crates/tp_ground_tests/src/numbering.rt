@@ -2,7 +2,7 @@
 
 use std::alloc::{AllocError, Global};
 use std::test::Fail;
-use tp_ground::{GroundFault, Numbering, TooManyKind};
+use tp_task::{GroundFault, Numbering, TooManyKind};
 
 // Whether atoms get these numbers, one after another.
 fn atoms_get(numbering: &mut Numbering, rows: &[(&[&str], Result<u32, GroundFault>)]) -> bool {

@@ -3,8 +3,9 @@
 use std::alloc::{AllocError, Global};
 use std::test::Fail;
 use tp_bounds::Limits;
-use tp_ground::{ActionId, AtomId, GroundFault, Task, ground};
+use tp_ground::ground;
 use tp_syntax::{Domain, read_domain, read_problem};
+use tp_task::{ActionId, AtomId, GroundFault, Task};
 use tp_text::Scale;
 
 /// A domain of a text.

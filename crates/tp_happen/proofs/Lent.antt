@@ -3,9 +3,9 @@ use Rattle.std.proofs.Common.{◌≡◌, ℕ, true, List, [], ◌∷◌, suc, ze
 use Rattle.std.specs.Option.{option_and_then, IfSome}
 use Rattle.std.specs.List.{list_all, slice_get}
 use Rattle.std.proofs.lemmas.Bool.{and_parts}
-use Rattle.tp_ground.specs.declared.events.Body.{Body}
-use Rattle.tp_ground.specs.declared.events.Body.TheVariants.{Instant, Durative}
-use Rattle.tp_ground.specs.Fits.{body_fits, event_fits}
+use Rattle.tp_task.specs.declared.events.Body.{Body}
+use Rattle.tp_task.specs.declared.events.Body.TheVariants.{Instant, Durative}
+use Rattle.tp_task.specs.Fits.{body_fits, event_fits}
 use Rattle.tp_happen.specs.declared.events.Part.{Part}
 use Rattle.tp_happen.specs.declared.events.Part.TheVariants.{Start, End, Only}
 use Rattle.tp_happen.specs.Parts.{part_of}

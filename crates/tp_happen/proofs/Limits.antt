@@ -2,9 +2,9 @@
 use Rattle.std.proofs.Common.{◌≡◌, ℕ, Bool, true, false, ◌&&◌, List, [], ◌∷◌, Option, ℤ, ◌⊎◌, inl, inr, ⊎_elim, refl, sym, ◌∙◌}
 use Rattle.std.specs.List.{list_all}
 use Rattle.std.proofs.lemmas.Bool.{and_parts, and_from, and_left, and_right, and_cases, false_from_ne_true, true≢false}
-use Rattle.tp_ground.specs.declared.events.NumericEffect.{NumericEffect}
-use Rattle.tp_ground.specs.State.{State, units}
-use Rattle.tp_ground.specs.Happens.{EventOfStep}
+use Rattle.tp_task.specs.declared.events.NumericEffect.{NumericEffect}
+use Rattle.tp_task.specs.State.{State, units}
+use Rattle.tp_task.specs.Happens.{EventOfStep}
 use Rattle.tp_happen.specs.Small.{values_small, all_small}
 use Rattle.tp_happen.specs.Bounded.{product_small, effect_small, effects_small, constraint_small, event_small, all_sums_small, Passes}
 use Rattle.tp_happen.specs.Terms.{terms_small, condition_small}

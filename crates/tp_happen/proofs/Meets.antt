@@ -2,10 +2,10 @@
 use Rattle.std.proofs.Common.{◌≡◌, ℕ, Bool, true, false, cond, ◌&&◌, ◌||◌, ◌==◌, List, [], ◌∷◌, ◌++◌, map, filter, refl, ap, ◌∙◌, Vec, Global}
 use Rattle.std.specs.List.{list_any, flat_map}
 use Rattle.std.proofs.lemmas.List.Folds.{list_any-append}
-use Rattle.tp_ground.specs.declared.events.Cond.{Cond, And, Or, Row_of-Cond, end_of-Cond, more_of-Cond, items-the_row-Cond, items_hidden-the_row-Cond-0}
-use Rattle.tp_ground.specs.declared.events.GroundEvent.{GroundEvent}
-use Rattle.tp_ground.specs.State.{atoms_in, atoms_in_row, fluents_in, fluents_in_row}
-use Rattle.tp_ground.specs.Event.{has, meets, fluents_written}
+use Rattle.tp_task.specs.declared.events.Cond.{Cond, And, Or, Row_of-Cond, end_of-Cond, more_of-Cond, items-the_row-Cond, items_hidden-the_row-Cond-0}
+use Rattle.tp_task.specs.declared.events.GroundEvent.{GroundEvent}
+use Rattle.tp_task.specs.State.{atoms_in, atoms_in_row, fluents_in, fluents_in_row}
+use Rattle.tp_task.specs.Event.{has, meets, fluents_written}
 use Rattle.tp_happen.proofs.Rows.{row_of}
 
 has_map : {X : Type 0} (g : X → ℕ) (xs : List X) (n : ℕ) → has (map g xs) n ≡ list_any (λ x. g x == n) xs

@@ -1,8 +1,8 @@
 -- What a condition of conditions mentions, by the list of these.
 use Rattle.std.proofs.Common.{◌≡◌, ◌++◌, refl, ap, ◌∙◌, Vec, Global}
 use Rattle.std.specs.List.{flat_map}
-use Rattle.tp_ground.specs.declared.events.Cond.{Cond, And, Or, Row_of-Cond, end_of-Cond, more_of-Cond, items-the_row-Cond, items_hidden-the_row-Cond-0}
-use Rattle.tp_ground.specs.State.{atoms_in, atoms_in_row, fluents_in, fluents_in_row}
+use Rattle.tp_task.specs.declared.events.Cond.{Cond, And, Or, Row_of-Cond, end_of-Cond, more_of-Cond, items-the_row-Cond, items_hidden-the_row-Cond-0}
+use Rattle.tp_task.specs.State.{atoms_in, atoms_in_row, fluents_in, fluents_in_row}
 use Rattle.tp_happen.proofs.Rows.{row_of}
 
 atoms_row : (n : _) (row : Row_of-Cond n) → atoms_in_row row ≡ flat_map atoms_in (items-the_row-Cond n row)

@@ -3,8 +3,8 @@ use Rattle.std.proofs.Common.{◌≡◌, ℕ, Bool, true, false, cond, not, ◌&
 use Rattle.std.specs.List.{list_any}
 use Rattle.std.proofs.lemmas.Bool.{eqb-true, eqb-false, false≢true}
 use Rattle.std.proofs.lemmas.List.{drop_more, get_or-set_same, get_or-set_other}
-use Rattle.tp_ground.specs.declared.events.NumericEffect.{NumericEffect}
-use Rattle.tp_ground.specs.Event.{is_additive, mixes_with, mixes_in}
+use Rattle.tp_task.specs.declared.events.NumericEffect.{NumericEffect}
+use Rattle.tp_task.specs.Event.{is_additive, mixes_with, mixes_in}
 use Rattle.tp_happen.specs.Clashes.{clashes}
 
 -- some write clashes with what a table tells of its fluent

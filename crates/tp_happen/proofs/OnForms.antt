@@ -1,8 +1,8 @@
 -- Lemmas on the forms of lines.
 use Rattle.std.proofs.Common.{◌≡◌, ℕ, ◌≤◌, Bool, true, false, ◌&&◌, cond, eqb, List, [], ◌∷◌, ◌++◌, length, map, refl, sym, ap, ◌∙◌, append_assoc, append-nil, arith, Option, Some, None, Bor}
 use Rattle.std.specs.List.{list_all}
-use Rattle.tp_ground.specs.Terms.{is_name}
-use Rattle.tp_ground.specs.Readable.{are_names}
+use Rattle.tp_ast.specs.Terms.{is_name}
+use Rattle.tp_task.specs.Readable.{are_names}
 use Rattle.tp_happen.specs.PlanLexemes.{Lexeme, word, sign}
 use Rattle.tp_happen.specs.PlanForms.{with_word, words_of}
 

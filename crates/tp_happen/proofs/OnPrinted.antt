@@ -14,9 +14,9 @@ use Rattle.tp_text.specs.declared.number.Scale.{Scale}
 use Rattle.tp_text.specs.declared.number.Scale.TheVariants.{One, Ten, Hundred, Thousand}
 use Rattle.tp_text.proofs.OnNumbers.{own}
 use Rattle.tp_text.proofs.OnTimes.{exact_some, digit_is, ticks_is}
-use Rattle.tp_ground.specs.Terms.{is_inner, is_name}
-use Rattle.tp_ground.specs.Readable.{are_names}
-use Rattle.tp_ground.specs.declared.task.ActionId.{ActionId}
+use Rattle.tp_ast.specs.Terms.{is_inner, is_name}
+use Rattle.tp_task.specs.Readable.{are_names}
+use Rattle.tp_task.specs.declared.task.ActionId.{ActionId}
 use Rattle.tp_happen.specs.declared.tokens.ByteKind.TheVariants.{Blank, Letter, Alone}
 use Rattle.tp_happen.specs.declared.plans.Step.{Step}
 use Rattle.tp_happen.specs.declared.reading.Wrong.TheVariants as wrong

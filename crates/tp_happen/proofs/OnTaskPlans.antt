@@ -3,11 +3,11 @@ use Rattle.std.proofs.Common.{◌≡◌, ℕ, ◌+◌, ◌<◌, ◌≤◌, Bool,
 use Rattle.std.specs.Prelude.{nat_lt, ◌==◌}
 use Rattle.std.specs.List.{AllByRecursion, list_all, position_from}
 use Rattle.std.proofs.lemmas.Bool.Decides.{nat_tests}
-use Rattle.tp_ground.specs.Words.{Words, same_words}
-use Rattle.tp_ground.specs.Tables.{words_at}
-use Rattle.tp_ground.specs.Readable.{are_names, AreReadable}
-use Rattle.tp_ground.specs.declared.task.ActionId.{ActionId}
-use Rattle.tp_ground.specs.declared.task.Task.{Task}
+use Rattle.tp_task.specs.Words.{Words, same_words}
+use Rattle.tp_task.specs.Tables.{words_at}
+use Rattle.tp_task.specs.Readable.{are_names, AreReadable}
+use Rattle.tp_task.specs.declared.task.ActionId.{ActionId}
+use Rattle.tp_task.specs.declared.task.Task.{Task}
 use Rattle.tp_happen.specs.declared.plans.Step.{Step}
 use Rattle.tp_happen.specs.PlanTexts.{ReadableTask, SpellsPlan, is_known, AreKnown}
 use Rattle.tp_happen.specs.PlanPrints.{plan_text, IsReadable, PlansAreRead}

@@ -2,8 +2,8 @@
 use Rattle.std.proofs.Common.{◌≡◌, ℕ, ◌+◌, ◌<◌, Bool, true, false, cond, List, [], ◌∷◌, length, map, refl, sym, ap, ◌∙◌, arith, Option, Some, None, option_map, Bor}
 use Rattle.std.specs.List.{position_from}
 use Rattle.std.specs.Option.{IfSome}
-use Rattle.tp_ground.specs.declared.task.ActionId.{ActionId}
-use Rattle.tp_ground.specs.Words.{Words, same_words}
+use Rattle.tp_task.specs.declared.task.ActionId.{ActionId}
+use Rattle.tp_task.specs.Words.{Words, same_words}
 use Rattle.tp_happen.specs.TaskWords.{action_of}
 
 made_back : (r : Option ActionId) → option_map (λ n. let a : ActionId = record { 0 = n } in a) (option_map (λ (i : ActionId). i.0) r) ≡ r

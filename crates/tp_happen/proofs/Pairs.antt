@@ -1,9 +1,9 @@
 -- A step of the search for two events that interfere.
 use Rattle.std.proofs.Common.{◌≡◌, ℕ, ◌+◌, ◌<◌, List, Option, length, get_or, drop, drop-cons, add-one, sym, ap, ap₂, ◌∙◌}
 use Rattle.std.specs.List.{position_from}
-use Rattle.tp_ground.specs.declared.events.GroundEvent.{GroundEvent}
-use Rattle.tp_ground.specs.Event.{interferes}
-use Rattle.tp_ground.specs.Happens.{EventOfStep}
+use Rattle.tp_task.specs.declared.events.GroundEvent.{GroundEvent}
+use Rattle.tp_task.specs.Event.{interferes}
+use Rattle.tp_task.specs.Happens.{EventOfStep}
 use Rattle.tp_happen.specs.Fault.{first_pair, pair_or}
 
 module _ (ts : List EventOfStep) (i : ℕ) (t : EventOfStep) (l : i < length ts) (is : t ≡ get_or ts i t) (e : GroundEvent) (event : e ≡ t.event) (r : Option ℕ) (found : r ≡ position_from (λ (u : EventOfStep). interferes e u.event) (i + 1) (drop (i + 1) ts)) where

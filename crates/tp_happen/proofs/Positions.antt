@@ -1,7 +1,7 @@
 -- First positions in a list, by tests and by tables.
 use Rattle.std.proofs.Common.{◌≡◌, ℕ, ◌+◌, ◌≤◌, ◌==◌, Bool, true, false, cond, ◌||◌, List, [], ◌∷◌, Option, Some, None, nat_lt, refl, sym, ap, ap₂, ◌∙◌, arith}
 use Rattle.std.specs.List.{list_any, position_from}
-use Rattle.tp_ground.specs.Event.{has, meets}
+use Rattle.tp_task.specs.Event.{has, meets}
 use Rattle.tp_happen.specs.Meetings.{earlier, first_of}
 
 lesser_assoc : (i j k : ℕ) → cond (nat_lt (cond (nat_lt i j) i j) k) (cond (nat_lt i j) i j) k ≡ cond (nat_lt i (cond (nat_lt j k) j k)) i (cond (nat_lt j k) j k)

@@ -1,10 +1,10 @@
 -- Conditions of a `Vec`: what their row says, by the list of its items.
 use Rattle.std.proofs.Common.{◌≡◌, Bool, true, false, cond, ◌&&◌, ◌||◌, ℕ, ◌<◌, ◌≤◌, length, drop, get_or, drop-cons, drop_of_length-le, List, Option, Some, None, suc, Vec, Global, refl, sym, ap, ◌∙◌}
 use mathlib.Core.Former.{Count}
-use Rattle.tp_ground.specs.declared.events.Cond.{Cond, And, And', Or, Row_of-Cond, end_of-Cond, more_of-Cond, items-the_row-Cond, items_hidden-the_row-Cond-0}
-use Rattle.tp_ground.specs.State.{State, truth, all_true, some_true, has_values, have_values}
+use Rattle.tp_task.specs.declared.events.Cond.{Cond, And, And', Or, Row_of-Cond, end_of-Cond, more_of-Cond, items-the_row-Cond, items_hidden-the_row-Cond-0}
+use Rattle.tp_task.specs.State.{State, truth, all_true, some_true, has_values, have_values}
 use Rattle.tp_happen.specs.Small.{all_small, rows_small}
-use Rattle.tp_ground.specs.Truth.{and_both, or_both}
+use Rattle.tp_task.specs.Truth.{and_both, or_both}
 use Rattle.tp_happen.specs.Judged.{judgement, judged_all, judged_any, each_small}
 
 abbrev pub row_of : Cond → (n : Count) × Row_of-Cond n

@@ -6,9 +6,9 @@ use Rattle.std.proofs.Math.ListN.{get_or-eq_default}
 use Rattle.std.proofs.lemmas.List.{drop_more}
 use Rattle.std.proofs.lemmas.List.Sums.{AllPass-from_list_all}
 use Rattle.tp_happen.specs.declared.meetings.Meeting.{Meeting}
-use Rattle.tp_ground.specs.declared.events.GroundEvent.{GroundEvent}
-use Rattle.tp_ground.specs.Event.{has, meets}
-use Rattle.tp_ground.specs.Happens.{EventOfStep}
+use Rattle.tp_task.specs.declared.events.GroundEvent.{GroundEvent}
+use Rattle.tp_task.specs.Event.{has, meets}
+use Rattle.tp_task.specs.Happens.{EventOfStep}
 use Rattle.tp_happen.specs.Fault.{pair_or}
 use Rattle.tp_happen.specs.Meetings.{done, met, meet, pair_by, earlier, first_of, done_within}
 use Rattle.tp_happen.proofs.Positions.{pos_same, pos_or, pos_any, meets_sym}

@@ -2,11 +2,11 @@
 use Rattle.std.proofs.Common.{◌≡◌, ℕ, Bool, true, false, cond, not, nat_lt, length, List, [], ◌∷◌, ◌++◌, map, refl}
 use Rattle.std.specs.List.{list_all, filter}
 use Rattle.std.proofs.lemmas.Bool.{and_parts, and_from}
-use Rattle.tp_ground.specs.declared.events.NumericEffect.{NumericEffect}
-use Rattle.tp_ground.specs.declared.events.GroundEvent.{GroundEvent}
-use Rattle.tp_ground.specs.Event.{is_additive}
-use Rattle.tp_ground.specs.Fits.{event_fits}
-use Rattle.tp_ground.specs.Happens.{EventOfStep}
+use Rattle.tp_task.specs.declared.events.NumericEffect.{NumericEffect}
+use Rattle.tp_task.specs.declared.events.GroundEvent.{GroundEvent}
+use Rattle.tp_task.specs.Event.{is_additive}
+use Rattle.tp_task.specs.Fits.{event_fits}
+use Rattle.tp_task.specs.Happens.{EventOfStep}
 use Rattle.tp_happen.specs.declared.meetings.Meeting.{Meeting}
 use Rattle.tp_happen.specs.declared.meetings.Meeting.TheVariants.{ChangedAndAsked, AddedAndDeleted, WrittenAndRead, SetAndWritten}
 use Rattle.tp_happen.specs.Stored.{Stored, fits_in}

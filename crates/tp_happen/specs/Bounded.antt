@@ -1,12 +1,12 @@
 -- The numbers with which a happening is worked out, and when one of them passes 10^15 in absolute value.
 use Rattle.std.specs.Prelude.{◌≡◌, ℕ, Bool, true, false, ◌==◌, ◌&&◌, ◌⊎◌, if◌then◌else◌, List, [], ◌∷◌, Option, None, ℤ, ◌+ℤ◌, ◌-ℤ◌, ◌*ℤ◌}
 use Rattle.std.specs.List.{list_all}
-use Rattle.tp_ground.specs.declared.events.Change.{Change}
-use Rattle.tp_ground.specs.declared.events.Change.TheVariants.{Assign, ScaleUp, Increase, Decrease}
-use Rattle.tp_ground.specs.declared.events.NumericEffect.{NumericEffect}
-use Rattle.tp_ground.specs.State.{State, both, value, units}
-use Rattle.tp_ground.specs.Happens.{EventOfStep}
-use Rattle.tp_ground.specs.InOrder.{after_write, after_writes}
+use Rattle.tp_task.specs.declared.events.Change.{Change}
+use Rattle.tp_task.specs.declared.events.Change.TheVariants.{Assign, ScaleUp, Increase, Decrease}
+use Rattle.tp_task.specs.declared.events.NumericEffect.{NumericEffect}
+use Rattle.tp_task.specs.State.{State, both, value, units}
+use Rattle.tp_task.specs.Happens.{EventOfStep}
+use Rattle.tp_task.specs.InOrder.{after_write, after_writes}
 use Rattle.tp_happen.specs.Small.{is_small, values_small, all_small}
 
 -- the product that a `scale-up` sets

@@ -1,9 +1,9 @@
 -- The first fault of a happening.
 use Rattle.std.specs.Prelude.{◌≡◌, ℕ, ◌+◌, not, List, [], ◌∷◌, Option, Some, None}
 use Rattle.std.specs.List.{position_from}
-use Rattle.tp_ground.specs.State as spec
-use Rattle.tp_ground.specs.Event.{interferes, mixes}
-use Rattle.tp_ground.specs.Happens.{EventOfStep, is_defined, Happens}
+use Rattle.tp_task.specs.State as spec
+use Rattle.tp_task.specs.Event.{interferes, mixes}
+use Rattle.tp_task.specs.Happens.{EventOfStep, is_defined, Happens}
 use Rattle.tp_happen.specs.Stored.{Stored, state_of}
 use Rattle.tp_happen.specs.declared.faults.Why.{Why}
 use Rattle.tp_happen.specs.declared.faults.Why.TheVariants.{Condition, Undefined, Clash, Interferes}

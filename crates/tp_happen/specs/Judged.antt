@@ -1,9 +1,9 @@
 -- A condition's truth where all its fluents have values, else nothing.
 use Rattle.std.specs.Prelude.{Bool, true, false, if◌then◌else◌, List, [], ◌∷◌, Option, Some, None}
 use Rattle.std.specs.List.{list_all}
-use Rattle.tp_ground.specs.declared.events.Cond.{Cond}
-use Rattle.tp_ground.specs.State.{State, truth, has_values}
-use Rattle.tp_ground.specs.Truth.{and_both, or_both}
+use Rattle.tp_task.specs.declared.events.Cond.{Cond}
+use Rattle.tp_task.specs.State.{State, truth, has_values}
+use Rattle.tp_task.specs.Truth.{and_both, or_both}
 use Rattle.tp_happen.specs.Small.{all_small}
 
 abbrev pub judgement : State → Cond → Option Bool

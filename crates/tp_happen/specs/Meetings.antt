@@ -1,12 +1,12 @@
 -- Ways in which two events interfere: something that one of them does to atoms or fluents, and something that the other does with them.
 use Rattle.std.specs.Prelude.{ℕ, ◌+◌, ◌==◌, Bool, ◌&&◌, ◌||◌, List, [], ◌∷◌, ◌++◌, Option, Some, None, if◌then◌else◌, nat_lt, nat_le}
 use Rattle.std.specs.List.{position_from, list_all}
-use Rattle.tp_ground.specs.declared.events.GroundEvent.{GroundEvent}
+use Rattle.tp_task.specs.declared.events.GroundEvent.{GroundEvent}
 use Rattle.tp_happen.specs.declared.meetings.Meeting.{Meeting}
 use Rattle.tp_happen.specs.declared.meetings.Meeting.TheVariants.{ChangedAndAsked, AddedAndDeleted, WrittenAndRead, SetAndWritten}
-use Rattle.tp_ground.specs.State.{atoms_in}
-use Rattle.tp_ground.specs.Event.{meets, fluents_read, fluents_written, fluents_set}
-use Rattle.tp_ground.specs.Happens.{EventOfStep}
+use Rattle.tp_task.specs.State.{atoms_in}
+use Rattle.tp_task.specs.Event.{meets, fluents_read, fluents_written, fluents_set}
+use Rattle.tp_task.specs.Happens.{EventOfStep}
 use Rattle.tp_happen.specs.Fault.{pair_or}
 
 -- what one event does, and what the other

@@ -1,8 +1,8 @@
 -- The events of an action.
 use Rattle.std.specs.Prelude.{Option, Some, None}
-use Rattle.tp_ground.specs.declared.events.GroundEvent.{GroundEvent}
-use Rattle.tp_ground.specs.declared.events.Body.{Body}
-use Rattle.tp_ground.specs.declared.events.Body.TheVariants.{Instant, Durative}
+use Rattle.tp_task.specs.declared.events.GroundEvent.{GroundEvent}
+use Rattle.tp_task.specs.declared.events.Body.{Body}
+use Rattle.tp_task.specs.declared.events.Body.TheVariants.{Instant, Durative}
 use Rattle.tp_happen.specs.declared.events.Part.{Part}
 use Rattle.tp_happen.specs.declared.events.Part.TheVariants.{Start, End, Only}
 

@@ -2,7 +2,7 @@
 use Rattle.std.specs.Prelude.{◌≡◌, ℕ, List, [], ◌∷◌, ◌++◌, map, Bool, true, ◌==◌, ◌&&◌, if◌then◌else◌, Option, Some, None, option_map}
 use Rattle.std.specs.Option.{option_and_then}
 use Rattle.tp_text.specs.Numbers.{has_time_form}
-use Rattle.tp_ground.specs.Readable.{are_names}
+use Rattle.tp_task.specs.Readable.{are_names}
 use Rattle.tp_happen.specs.PlanLexemes.{Lexeme, word, sign, is_bare, word_first, sign_first}
 use Rattle.tp_happen.specs.declared.forms.Form as shown
 

@@ -5,7 +5,7 @@ use Rattle.std.specs.List.{AllByRecursion}
 use Rattle.tp_text.specs.Scales.{scale_ticks}
 use Rattle.tp_text.specs.declared.number.Scale.{Scale}
 use Rattle.tp_text.specs.declared.number.Scale.TheVariants.{One, Ten, Hundred, Thousand}
-use Rattle.tp_ground.specs.Readable.{are_names}
+use Rattle.tp_task.specs.Readable.{are_names}
 use Rattle.tp_happen.specs.declared.plans.Step.{Step}
 use Rattle.tp_happen.specs.PlanTexts.{ReadableTask, SpellsPlan}
 

@@ -5,7 +5,7 @@ use Rattle.std.specs.List.{list_all}
 use Rattle.tp_text.specs.Numbers.{ticks_of}
 use Rattle.tp_text.specs.Scales.{scale_ticks}
 use Rattle.tp_text.specs.declared.number.Scale.{Scale}
-use Rattle.tp_ground.specs.declared.task.ActionId.{ActionId}
+use Rattle.tp_task.specs.declared.task.ActionId.{ActionId}
 use Rattle.tp_happen.specs.declared.plans.Step.{Step}
 use Rattle.tp_happen.specs.declared.reading.Wrong.{Wrong}
 use Rattle.tp_happen.specs.declared.reading.Wrong.TheVariants as wrong

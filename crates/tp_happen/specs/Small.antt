@@ -1,10 +1,10 @@
 -- Numbers that the machine works with: none passes 10^15 in absolute value.
 use Rattle.std.specs.Prelude.{Bool, true, ◌&&◌, Option, Some, None, ℤ, unsigned_abs, nat_le}
-use Rattle.tp_ground.specs.declared.events.Expr.{Expr}
-use Rattle.tp_ground.specs.declared.events.Expr.TheVariants.{Number, Fluent, Duration, Negated', Sum', Difference', Product'}
-use Rattle.tp_ground.specs.declared.events.Cond.{Cond, Row_of-Cond, end_of-Cond, more_of-Cond}
-use Rattle.tp_ground.specs.declared.events.Cond.TheVariants.{Atom, Compare, Not', And', Or', Shared'}
-use Rattle.tp_ground.specs.State.{State, value}
+use Rattle.tp_task.specs.declared.events.Expr.{Expr}
+use Rattle.tp_task.specs.declared.events.Expr.TheVariants.{Number, Fluent, Duration, Negated', Sum', Difference', Product'}
+use Rattle.tp_task.specs.declared.events.Cond.{Cond, Row_of-Cond, end_of-Cond, more_of-Cond}
+use Rattle.tp_task.specs.declared.events.Cond.TheVariants.{Atom, Compare, Not', And', Or', Shared'}
+use Rattle.tp_task.specs.State.{State, value}
 
 abbrev pub is_small : Option ℤ → Bool
 is_small (Some x) = nat_le (unsigned_abs x) 1000000000000000

@@ -1,9 +1,9 @@
 -- A state as it is stored: the scale of the task's time, the truth of each atom and the number of each fluent.
 use Rattle.std.specs.Prelude.{◌≡◌, ℕ, Bool, false, List, length, Option, None, ℤ, slice_index_or}
-use Rattle.tp_ground.specs.State as spec
-use Rattle.tp_ground.specs.Happens.{EventOfStep}
-use Rattle.tp_ground.specs.Fits.{event_fits}
-use Rattle.tp_ground.specs.declared.task.Task.{Task}
+use Rattle.tp_task.specs.State as spec
+use Rattle.tp_task.specs.Happens.{EventOfStep}
+use Rattle.tp_task.specs.Fits.{event_fits}
+use Rattle.tp_task.specs.declared.task.Task.{Task}
 use Rattle.tp_text.specs.Scales.{scale_ticks}
 
 pub record Stored : Type 0 where

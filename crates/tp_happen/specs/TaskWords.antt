@@ -1,12 +1,12 @@
 -- A task, as plan texts speak of it.
 use Rattle.std.specs.Prelude.{Bool, true, false, List, [], ◌∷◌, length, min, Option, Some, None, option_map, slice_get}
 use Rattle.std.specs.List.{position_from}
-use Rattle.tp_ground.specs.Words.{Words, same_words}
-use Rattle.tp_ground.specs.Tables.{words_at}
-use Rattle.tp_ground.specs.declared.events.Body.{Body}
-use Rattle.tp_ground.specs.declared.events.Body.TheVariants.{Instant, Durative}
-use Rattle.tp_ground.specs.declared.task.ActionId.{ActionId}
-use Rattle.tp_ground.specs.declared.task.Task.{Task}
+use Rattle.tp_task.specs.Words.{Words, same_words}
+use Rattle.tp_task.specs.Tables.{words_at}
+use Rattle.tp_task.specs.declared.events.Body.{Body}
+use Rattle.tp_task.specs.declared.events.Body.TheVariants.{Instant, Durative}
+use Rattle.tp_task.specs.declared.task.ActionId.{ActionId}
+use Rattle.tp_task.specs.declared.task.Task.{Task}
 use Rattle.tp_happen.specs.PlanTexts.{ReadableTask}
 
 abbrev pub is_durative : Option Body → Bool

@@ -1,8 +1,8 @@
 -- Parts of an event's expressions, in the order in which the code looks at them.
 use Rattle.std.specs.Prelude.{ℕ, Bool, ◌&&◌}
 use Rattle.std.specs.List.{list_all}
-use Rattle.tp_ground.specs.State.{State, units}
-use Rattle.tp_ground.specs.Happens.{EventOfStep}
+use Rattle.tp_task.specs.State.{State, units}
+use Rattle.tp_task.specs.Happens.{EventOfStep}
 use Rattle.tp_happen.specs.Small.{values_small, all_small}
 use Rattle.tp_happen.specs.Bounded.{constraint_small}
 

@@ -2,13 +2,13 @@
 
 ghost use Rattle.std.specs.Prelude.{◌≡◌, ℕ, ◌<◌, length, None, slice_index_or, IfOk};
 ghost use Rattle.std.specs.List.{All, position_from};
-ghost use Rattle.tp_ground.specs.Event as event_spec;
+ghost use Rattle.tp_task.specs.Event as event_spec;
 ghost use Rattle.tp_happen.specs.Clashes.{clashes};
 
 use crate::EventRef;
 use crate::interfere::is_additive;
 use std::alloc::{AllocError, Global};
-use tp_ground::NumericEffect;
+use tp_task::NumericEffect;
 
 /// Whether a write may not stand behind others of its fluent: there is one, and not all of them are additive.
 fn clashes(before: Option<bool>, additive: bool) -> bool

@@ -2,14 +2,14 @@
 
 ghost use Rattle.std.specs.Prelude.{◌≡◌, true, false, IfOk, OnOk, OnErr, not};
 ghost use Rattle.std.specs.Option.{option_map};
-ghost use Rattle.tp_ground.specs.State as spec;
+ghost use Rattle.tp_task.specs.State as spec;
 ghost use Rattle.tp_happen.specs.Small.{all_small};
 ghost use Rattle.tp_happen.specs.Judged.{judgement};
 ghost use Rattle.tp_happen.specs.Stored.{state_of};
 
 use crate::{Range, State, value};
-use tp_ground::truth::{and, compared, not, or};
-use tp_ground::{AtomId, Cond};
+use tp_task::truth::{and, compared, not, or};
+use tp_task::{AtomId, Cond};
 
 /// Whether a condition holds. `Range` where a part of an expression passes 10^15.
 pub fn holds(state: &State, cond: &Cond) -> Result<bool, Range>

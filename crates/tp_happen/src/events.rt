@@ -3,7 +3,7 @@
 ghost use Rattle.std.specs.Prelude.{◌≡◌};
 
 use std::marker::Model;
-use tp_ground::GroundEvent;
+use tp_task::GroundEvent;
 
 /// Which event of an action: the start or the end of a durative one, or the only one of another.
 #[derive(Clone, Copy, Debug, PartialEq, Eq)]
@@ -20,8 +20,8 @@ pub struct Event<'t> {
 }
 
 impl<'t> Model for Event<'t> {
-    ghost use Rattle.tp_ground.specs.contracts.GroundEvent as ground_event;
-    ghost use Rattle.tp_ground.specs.declared.events.GroundEvent.{GroundEvent as Body};
+    ghost use Rattle.tp_task.specs.contracts.GroundEvent as ground_event;
+    ghost use Rattle.tp_task.specs.declared.events.GroundEvent.{GroundEvent as Body};
     ghost use Rattle.std.specs.Coded.{codes};
 
     ghost Value = { Body };
@@ -48,8 +48,8 @@ pub struct EventRef<'t> {
 }
 
 impl<'t> Model for EventRef<'t> {
-    ghost use Rattle.tp_ground.specs.Happens.{EventOfStep};
-    ghost use Rattle.tp_ground.specs.contracts.GroundEvent as ground_event;
+    ghost use Rattle.tp_task.specs.Happens.{EventOfStep};
+    ghost use Rattle.tp_task.specs.contracts.GroundEvent as ground_event;
     ghost use Rattle.std.specs.Coded.{codes};
 
     ghost Value = { EventOfStep };

@@ -2,9 +2,9 @@
 
 ghost use Rattle.std.specs.Prelude.{◌≡◌, ◌+◌, ◌≤◌, true, false, not, ◌&&◌, ◌||◌, length, drop, IfOk, OnOk, OnErr, IfNone, is_some, None};
 ghost use Rattle.std.specs.List.{list_all, position_from};
-ghost use Rattle.tp_ground.specs.State as spec;
-ghost use Rattle.tp_ground.specs.Event as event_spec;
-ghost use Rattle.tp_ground.specs.Happens as happens;
+ghost use Rattle.tp_task.specs.State as spec;
+ghost use Rattle.tp_task.specs.Event as event_spec;
+ghost use Rattle.tp_task.specs.Happens as happens;
 ghost use Rattle.tp_happen.specs.Stored.{state_of};
 ghost use Rattle.tp_happen.specs.Small.{values_small};
 ghost use Rattle.tp_happen.specs.Terms.{terms_small, condition_small};
@@ -12,7 +12,7 @@ ghost use Rattle.tp_happen.specs.Fault.{first_pair};
 
 use crate::interfere::interfere;
 use crate::{EventRef, Range, State, holds, value};
-use tp_ground::{Change, FluentId, GroundEvent, Limit, NumericEffect};
+use tp_task::{Change, FluentId, GroundEvent, Limit, NumericEffect};
 
 /// Why an event can't happen.
 #[derive(Clone, Copy, Debug, PartialEq, Eq)]

@@ -2,8 +2,8 @@
 
 ghost use Rattle.std.specs.Prelude.{◌≡◌, map, IfOk, option_map};
 ghost use Rattle.std.specs.List.{list_all};
-ghost use Rattle.tp_ground.specs.Terms.{is_name};
-ghost use Rattle.tp_ground.specs.Readable.{are_names};
+ghost use Rattle.tp_ast.specs.Terms.{is_name};
+ghost use Rattle.tp_task.specs.Readable.{are_names};
 ghost use Rattle.tp_happen.specs.PlanLexemes.{lexemes};
 ghost use Rattle.tp_happen.specs.PlanForms.{form_view, head_of, words_of, bracket_of, end_of, form_of, is_duration, is_well_formed, FormsAreWritten};
 

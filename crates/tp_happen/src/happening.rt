@@ -2,9 +2,9 @@
 
 ghost use Rattle.std.specs.Prelude.{◌≡◌, ℕ, ◌<◌, ◌⊎◌, length, true, false, None, slice_index_or, IfOk, IfErr, OnOk};
 ghost use Rattle.std.specs.List.{All, AllByRecursion, list_all};
-ghost use Rattle.tp_ground.specs.InOrder.{after_events, after_deletes, after_adds};
-ghost use Rattle.tp_ground.specs.Happens.{atom_after, number_after, apart, is_defined};
-ghost use Rattle.tp_ground.specs.Event.{mixes};
+ghost use Rattle.tp_task.specs.InOrder.{after_events, after_deletes, after_adds};
+ghost use Rattle.tp_task.specs.Happens.{atom_after, number_after, apart, is_defined};
+ghost use Rattle.tp_task.specs.Event.{mixes};
 ghost use Rattle.tp_happen.specs.Stored.{state_of, fits_in, OfOneTask};
 ghost use Rattle.tp_happen.specs.Bounded.{effects_small, all_sums_small, StaysSmall, Passes};
 ghost use Rattle.tp_happen.specs.Fault.{Applies, OnNext, OnRange};

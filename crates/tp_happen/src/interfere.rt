@@ -2,13 +2,13 @@
 
 ghost use Rattle.std.specs.Prelude.{◌≡◌, ◌==◌, ◌&&◌, ◌||◌, ◌++◌, not};
 ghost use Rattle.std.specs.List.{list_any, flat_map};
-ghost use Rattle.tp_ground.specs.State.{atoms_in, fluents_in, fluents_of};
-ghost use Rattle.tp_ground.specs.Bounds as bounds;
-ghost use Rattle.tp_ground.specs.Event as spec;
-ghost use Rattle.tp_ground.specs.Event.{has, meets, fluents_read, fluents_written, fluents_set};
+ghost use Rattle.tp_task.specs.State.{atoms_in, fluents_in, fluents_of};
+ghost use Rattle.tp_task.specs.Bounds as bounds;
+ghost use Rattle.tp_task.specs.Event as spec;
+ghost use Rattle.tp_task.specs.Event.{has, meets, fluents_read, fluents_written, fluents_set};
 
 use crate::Event;
-use tp_ground::{Change, Cond, Expr, GroundEvent, Limit, NumericEffect, truth};
+use tp_task::{Change, Cond, Expr, GroundEvent, Limit, NumericEffect, truth};
 
 /// Whether a condition mentions an atom.
 #[cycle(mentions_atom)]

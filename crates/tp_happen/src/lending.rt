@@ -2,11 +2,11 @@
 
 ghost use Rattle.std.specs.Prelude.{◌≡◌, length, true, slice_get, IfSome};
 ghost use Rattle.std.specs.Option.{option_and_then};
-ghost use Rattle.tp_ground.specs.Fits.{body_fits, event_fits};
+ghost use Rattle.tp_task.specs.Fits.{body_fits, event_fits};
 ghost use Rattle.tp_happen.specs.Parts.{part_of};
 
 use crate::events::{Event, Part};
-use tp_ground::{ActionId, Body, GroundEvent, Task};
+use tp_task::{ActionId, Body, GroundEvent, Task};
 
 fn part_of(body: &Body, part: Part) -> Option<Event<'_>>
     ensures { result ≡ part_of body.now part }

@@ -1,7 +1,7 @@
 //! The first two events of a tick that interfere, found by tables of what the events do.
 
 ghost use Rattle.std.specs.Prelude.{◌≡◌, ℕ, ◌<◌, ◌++◌, true, if◌then◌else◌, length, Some, None, slice_index_or, IfOk, OnOk};
-ghost use Rattle.tp_ground.specs.Event.{has};
+ghost use Rattle.tp_task.specs.Event.{has};
 ghost use Rattle.std.specs.List.{list_all};
 ghost use Rattle.tp_happen.specs.Fault.{first_pair, pair_or};
 ghost use Rattle.tp_happen.specs.Stored.{fits_in};
@@ -11,7 +11,7 @@ use crate::faults::first_of_pairs;
 use crate::mentions::{push_atoms, push_read, push_set, push_written};
 use crate::{EventRef, State};
 use std::alloc::{AllocError, Global};
-use tp_ground::GroundEvent;
+use tp_task::GroundEvent;
 
 /// So many events with so many effects are compared in pairs.
 const FEW: usize = 16;

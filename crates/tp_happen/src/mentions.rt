@@ -2,13 +2,13 @@
 
 ghost use Rattle.std.specs.Prelude.{◌≡◌, ◌++◌, not, map, OnOk, IfOk};
 ghost use Rattle.std.specs.List.{flat_map, filter};
-ghost use Rattle.tp_ground.specs.State.{atoms_in, fluents_in, fluents_of};
-ghost use Rattle.tp_ground.specs.Event as spec;
-ghost use Rattle.tp_ground.specs.Event.{fluents_read};
+ghost use Rattle.tp_task.specs.State.{atoms_in, fluents_in, fluents_of};
+ghost use Rattle.tp_task.specs.Event as spec;
+ghost use Rattle.tp_task.specs.Event.{fluents_read};
 
 use crate::interfere::is_additive;
 use std::alloc::AllocError;
-use tp_ground::{Cond, Expr, GroundEvent, Limit, NumericEffect};
+use tp_task::{Cond, Expr, GroundEvent, Limit, NumericEffect};
 
 /// Appends the atoms that a condition mentions.
 #[cycle(push_atoms)]

@@ -2,7 +2,6 @@
 
 ghost use Rattle.std.specs.Prelude.{◌≡◌, ◌++◌, true};
 ghost use Rattle.tp_device.specs.Bytes.{Writes, failures_after};
-ghost use Rattle.tp_happen.specs.TaskPlans.{TaskPlansAreRead};
 ghost use Rattle.tp_happen.specs.PlanPrints.{digit, decimals, time_text, space_before, words_text, end_text, step_text, plan_text, PlansAreRead};
 ghost use Rattle.tp_happen.specs.TaskWords.{readable};
 
@@ -10,7 +9,7 @@ use crate::plans::{Plan, Step};
 use crate::task_words::is_durative;
 use itoa::Buffer;
 use tp_device::{Failed, Sink, push_all};
-use tp_ground::{ActionId, Task, actions_are_readable};
+use tp_task::{ActionId, Task};
 use tp_text::Scale;
 
 fn digit(n: u32) -> u8
@@ -164,12 +163,3 @@ pub fn print_plan<W: Sink>(plan: &Plan, task: &Task, writer: &mut W) -> Result<(
 pub fn plans_are_read()
     ensures { PlansAreRead }
 {}
-
-/// What is written for steps of a task spells them, for each task of a problem that is spelled by texts: the steps' actions
-/// are the task's, an instantaneous step lasts no tick, and each ends by the task's horizon.
-pub fn task_plans_are_read()
-    ensures { TaskPlansAreRead }
-{
-    actions_are_readable();
-    plans_are_read();
-}

@@ -15,7 +15,7 @@ use crate::tokens::is_bare;
 use std::alloc::{AllocError, Global};
 use thiserror::Error;
 use tp_bounds::MOST_STEPS;
-use tp_ground::{ActionId, Task};
+use tp_task::{ActionId, Task};
 use tp_text::{Scale, read_ticks};
 
 /// Why a text is refused as a plan. Lines are numbered from 1.

@@ -2,12 +2,12 @@
 
 ghost use Rattle.std.specs.Prelude.{◌≡◌, ◌↔◌, IfOk, IsTrue};
 ghost use Rattle.tp_text.specs.Scales.{scale_ticks};
-ghost use Rattle.tp_ground.specs.State.{units};
+ghost use Rattle.tp_task.specs.State.{units};
 ghost use Rattle.tp_happen.specs.Stored.{state_of, first_of};
 
 use std::alloc::{AllocError, Global};
 use std::marker::Model;
-use tp_ground::{AtomId, FluentId, Task};
+use tp_task::{AtomId, FluentId, Task};
 use tp_text::Scale;
 
 /// The truth of each atom and the number of each fluent that has one, with the scale of the task's time.

@@ -4,7 +4,7 @@ ghost use Rattle.std.specs.Prelude.{◌≡◌, ◌≤◌, ◌<◌, map, option_m
 ghost use Rattle.tp_happen.specs.TaskWords.{readable, is_durative};
 
 use tp_bounds::MOST_HORIZON;
-use tp_ground::{ActionId, Body, Task};
+use tp_task::{ActionId, Body, Task};
 
 /// The latest tick at which a step of a task may end.
 pub(crate) fn horizon(task: &Task) -> u32

@@ -1,13 +1,13 @@
 //! What an expression is worth in a state.
 
 ghost use Rattle.std.specs.Prelude.{◌≡◌, true, false, IfOk, OnOk, OnErr, ◌+ℤ◌, ◌-ℤ◌, ◌*ℤ◌};
-ghost use Rattle.tp_ground.specs.State as spec;
+ghost use Rattle.tp_task.specs.State as spec;
 ghost use Rattle.tp_happen.specs.Small.{is_small, values_small};
 ghost use Rattle.tp_happen.specs.Stored.{state_of};
 
 use crate::State;
 use thiserror::Error;
-use tp_ground::{Expr, FluentId, GREATEST_NUMBER};
+use tp_task::{Expr, FluentId, GREATEST_NUMBER};
 
 /// A number passed 10^15 in absolute value. Nothing else stops a value from being worked out.
 #[derive(Clone, Copy, Debug, PartialEq, Eq, Error)]

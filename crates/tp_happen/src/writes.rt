@@ -2,14 +2,14 @@
 
 ghost use Rattle.std.specs.Prelude.{◌≡◌, ℕ, ◌<◌, ◌&&◌, ◌⊎◌, if◌then◌else◌, length, true, false, None, slice_index_or, IfOk, OnOk, OnErr};
 ghost use Rattle.std.specs.List.{All, list_all};
-ghost use Rattle.tp_ground.specs.Event.{has};
-ghost use Rattle.tp_ground.specs.InOrder.{after_write, after_writes, after_events, after_deletes, after_adds};
+ghost use Rattle.tp_task.specs.Event.{has};
+ghost use Rattle.tp_task.specs.InOrder.{after_write, after_writes, after_events, after_deletes, after_adds};
 ghost use Rattle.tp_happen.specs.Stored.{state_of};
 ghost use Rattle.tp_happen.specs.Bounded.{effect_small, effects_small, sum_small, sums_small, all_sums_small};
 
 use crate::values::{difference, product, small, sum};
 use crate::{EventRef, Range, State, value};
-use tp_ground::{Change, FluentId, NumericEffect};
+use tp_task::{Change, FluentId, NumericEffect};
 
 /// Writes a truth value to some atoms.
 fn write_atoms(atoms: &mut [bool], which: &[u32], truth: bool)

@@ -1,8 +1,8 @@
 -- States and events of a task.
 use Rattle.std.specs.Prelude.{◌≡◌, Bool, length}
-use Rattle.tp_ground.specs.declared.task.Task.{Task}
-use Rattle.tp_ground.specs.Fits.{event_fits}
-use Rattle.tp_ground.specs.declared.events.GroundEvent.{GroundEvent}
+use Rattle.tp_task.specs.declared.task.Task.{Task}
+use Rattle.tp_task.specs.Fits.{event_fits}
+use Rattle.tp_task.specs.declared.events.GroundEvent.{GroundEvent}
 use Rattle.tp_happen.specs.Stored.{Stored}
 
 -- the state has the task's atoms and fluents

@@ -8,8 +8,8 @@ use crate::worlds::{CHARGES, FUSES, SWITCHES, TANKS, World, task_of};
 use std::alloc::Global;
 use std::process::Abort;
 use std::test::Fail;
-use tp_ground::{ActionId, AtomId, Body, FluentId, Task};
 use tp_happen::{Part, State, Why, event, interferes, uses_duration, writes_into};
+use tp_task::{ActionId, AtomId, Body, FluentId, Task};
 use tp_text::Scale;
 
 /// Whether a state of the match domain is that of its problem at first, in thousandths.

@@ -10,8 +10,8 @@ use std::process::Abort;
 use std::sync::ledger::{Blank, Ledger};
 use std::test::Fail;
 use tp_device::{Failed, ToWrite};
-use tp_ground::Task;
 use tp_happen::{Plan, Step, print_plan, read_plan};
+use tp_task::Task;
 use tp_text::Scale;
 
 fn print_to<L: Ledger, W: Write + Drop>(

@@ -9,8 +9,8 @@ use crate::worlds::{World, task_of};
 use std::alloc::Global;
 use std::process::Abort;
 use std::test::Fail;
-use tp_ground::{AtomId, FluentId, Task};
 use tp_happen::{ApplyFault, Event, EventRef, Outcome, Part, State, Why, apply, event};
+use tp_task::{AtomId, FluentId, Task};
 
 /// An event of an action by its name: its only one, or its start or end with these objects in a step of so many ticks.
 #[derive(Clone, Copy)]

@@ -5,8 +5,8 @@ use crate::worlds::{TANKS, task_of};
 use std::alloc::{AllocError, Global};
 use std::process::Abort;
 use std::test::Fail;
-use tp_ground::{Body, Comparison, Cond, Expr, Limit, Task};
 use tp_happen::{Range, State, compares, constraint_defined, holds, value};
+use tp_task::{Body, Comparison, Cond, Expr, Limit, Task};
 
 /// A condition on the fluent without a value.
 fn undefined(alloc: Global) -> Result<Cond, AllocError> {

@@ -5,9 +5,10 @@ ghost use Rattle.std.specs.Prelude.{◌≤◌};
 use std::alloc::Global;
 use std::test::Fail;
 use tp_bounds::Limits;
-use tp_ground::{GroundFault, Task, ground};
+use tp_ground::ground;
 use tp_small_worlds::{CHARGE, EMPTY_TANK, MATCH, MATCHES, TANK, TOGGLE, TOGGLED, UNCHARGED};
 use tp_syntax::{Domain, Problem, read_domain, read_problem};
+use tp_task::{GroundFault, Task};
 use tp_text::Scale;
 
 fn grounded(

@@ -13,9 +13,9 @@ use std::alloc::Global;
 use tp_audit::JournalHead;
 use tp_device::{Sink, Source};
 use tp_files::{Files, OUT_OF_ORDER, REFUSED, complain};
-use tp_ground::Task;
 use tp_log_audits::{AuditStop, head_in};
 use tp_plan_files::{PlanWords, task_in, verdict_in};
+use tp_task::Task;
 
 /// Audits what a source has left, a journal with that head, against the plan that the words name, of their task, and writes what was
 /// found. Answers whether it is a journal.

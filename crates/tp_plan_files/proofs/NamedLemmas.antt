@@ -4,7 +4,7 @@ use Rattle.tp_syntax.specs.Domains.{Domain, SpellsDomain}
 use Rattle.tp_syntax.specs.Problems.{SpellsProblem}
 use Rattle.tp_syntax.specs.Refusals.{IsRefusedDomain}
 use Rattle.tp_ast.specs.Problems.{IsRefusedProblem}
-use Rattle.tp_ground.specs.declared.task.Task.{Task}
+use Rattle.tp_task.specs.declared.task.Task.{Task}
 use Rattle.tp_happen.specs.PlanTexts.{IsRefused, SpellsPlan}
 use Rattle.tp_happen.specs.TaskWords.{readable}
 use Rattle.tp_happen.specs.declared.plans.Step.{Step}

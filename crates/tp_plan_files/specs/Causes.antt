@@ -6,7 +6,7 @@ use Rattle.tp_syntax.specs.Domains.{Domain, SpellsDomain}
 use Rattle.tp_syntax.specs.Problems.{Problem, SpellsProblem}
 use Rattle.tp_syntax.specs.Refusals.{IsRefusedDomain}
 use Rattle.tp_ground.specs.Grounding.{HasNoTask}
-use Rattle.tp_ground.specs.declared.task.Task as task
+use Rattle.tp_task.specs.declared.task.Task as task
 use Rattle.tp_happen.specs.PlanTexts.{IsRefused}
 use Rattle.tp_happen.specs.TaskWords.{readable}
 use Rattle.tp_happen.specs.declared.plans.Step.{Step}

@@ -7,10 +7,10 @@ use Rattle.tp_ast.specs.declared.fault.LeftOutPart.{LeftOutPart}
 use Rattle.tp_ast.specs.declared.fault.LeftOutPart.TheVariants as left_out
 use Rattle.tp_ast.specs.declared.fault.SyntaxFault.{SyntaxFault}
 use Rattle.tp_ast.specs.declared.fault.SyntaxFault.TheVariants as syntax_fault
-use Rattle.tp_ground.specs.declared.fault.TooManyKind.{TooManyKind}
-use Rattle.tp_ground.specs.declared.fault.TooManyKind.TheVariants as kinds
-use Rattle.tp_ground.specs.declared.fault.GroundFault.{GroundFault}
-use Rattle.tp_ground.specs.declared.fault.GroundFault.TheVariants as ground_fault
+use Rattle.tp_task.specs.declared.fault.TooManyKind.{TooManyKind}
+use Rattle.tp_task.specs.declared.fault.TooManyKind.TheVariants as kinds
+use Rattle.tp_task.specs.declared.fault.GroundFault.{GroundFault}
+use Rattle.tp_task.specs.declared.fault.GroundFault.TheVariants as ground_fault
 use Rattle.tp_happen.specs.declared.reading.PlanFault.{PlanFault}
 use Rattle.tp_happen.specs.declared.reading.PlanFault.TheVariants as plan_fault
 use Rattle.tp_files.specs.FaultLines.{construct_line, fault_line, named_line, placed_line}

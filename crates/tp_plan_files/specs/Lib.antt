@@ -2,3 +2,4 @@ pub mod Causes
 pub mod JudgeLines
 pub mod Named
 pub mod VerdictLines
+pub mod TaskPlans

@@ -4,7 +4,7 @@ use Rattle.tp_bounds.specs.RunLimits.{greatest_limits}
 use Rattle.tp_syntax.specs.Domains.{Domain, SpellsDomain}
 use Rattle.tp_syntax.specs.Problems.{Problem, SpellsProblem}
 use Rattle.tp_ground.specs.Grounding.{IsTask}
-use Rattle.tp_ground.specs.declared.task.Task.{Task}
+use Rattle.tp_task.specs.declared.task.Task.{Task}
 use Rattle.tp_happen.specs.PlanTexts.{SpellsPlan}
 use Rattle.tp_happen.specs.TaskWords.{readable}
 use Rattle.tp_happen.specs.declared.plans.Step.{Step}

@@ -7,9 +7,9 @@ ghost use Rattle.tp_plan_files.specs.JudgeLines.{ground_status, ground_text, jud
 use crate::judging::JudgeFault;
 use crate::plan_words::PlanWords;
 use tp_files::{FaultLine, FileFault};
-use tp_ground::{GroundFault, TooManyKind};
 use tp_happen::PlanFault;
 use tp_syntax::{LeftOutPart, SyntaxFault};
+use tp_task::{GroundFault, TooManyKind};
 use tp_text::TextFault;
 
 /// The word of what there are too many of.

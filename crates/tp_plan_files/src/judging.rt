@@ -14,11 +14,13 @@ ghost use Rattle.tp_plan_files.specs.Named.{IsIn, IsNamedPlan, IsNamedTask, IsTa
 
 use crate::plan_words::PlanWords;
 use std::alloc::Global;
+use std::mem::forget;
 use tp_bounds::Limits;
 use tp_files::{FileFault, Files, open_text};
-use tp_ground::{GroundFault, Task, ground};
+use tp_ground::ground;
 use tp_happen::{Plan, PlanFault, read_plan};
 use tp_syntax::{Domain, Problem, SyntaxFault, read_domain, read_problem};
+use tp_task::{GroundFault, Task};
 use tp_validate::{ValidateFault, Verdict, validate};
 
 /// Why the files of a plan gave no verdict.
@@ -108,13 +110,18 @@ fn task_with<N: Files>(
         &Limits::greatest(words.horizon),
         words.scale,
     ) {
-        Ok(task) => Ok(task),
+        Ok(task) => {
+            // To free it piece by piece takes long, and the end of the program does it at once.
+            forget(problem);
+            Ok(task)
+        }
         Err(fault) => Err(JudgeFault::Task(fault)),
     }
 }
 
 /// The task of the domain and the problem that the words name. A file is opened only when what stands before it is done. The cost
-/// is that of reading both texts and of grounding.
+/// is that of reading both texts and of grounding. What both texts spell is never freed: a call is made once in a run of the
+/// program, whose end frees all at once.
 ///
 /// # Errors
 /// The first fault of the two files, their texts and the task.
@@ -129,7 +136,10 @@ pub fn task_in<N: Files>(
     ensures same { (other : List ℕ) → N.held files.new other ≡ N.held files.old other }
 {
     let domain = domain_in(alloc, files, words)?;
-    task_with(alloc, files, words, &domain)
+    let task = task_with(alloc, files, words, &domain);
+    // As the problem in `task_with`.
+    forget(domain);
+    task
 }
 
 /// The plan of a task in the file that the words name.

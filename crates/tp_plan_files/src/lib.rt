@@ -5,14 +5,17 @@
 //! - `judging`: the task, and the verdict on the plan
 //! - `judge_lines`: the lines of faults of texts, tasks and plans
 //! - `verdict_lines`: the line of a verdict
+//! - `laws`: that a plan is read as it was written
 #![tactic(auto)]
 
 mod judge_lines;
 mod judging;
+mod laws;
 mod plan_words;
 mod verdict_lines;
 
 pub use judge_lines::{file_line, judge_line, plan_line, syntax_line, task_line};
 pub use judging::{JudgeFault, task_in, verdict_in};
+pub use laws::task_plans_are_read;
 pub use plan_words::PlanWords;
 pub use verdict_lines::{write_invalid, write_verdict};

@@ -3,12 +3,12 @@
 use std::alloc::Global;
 use tp_bare::{BareFault, bare_line, serve_line};
 use tp_files::{FaultLine, FileFault, complain};
-use tp_ground::{GroundFault, TooManyKind};
 use tp_happen::PlanFault;
 use tp_plan_files::{file_line, plan_line, syntax_line, task_line};
 use tp_script::ServeFault;
 use tp_small_devices::Note;
 use tp_syntax::{LeftOutPart, SyntaxFault};
+use tp_task::{GroundFault, TooManyKind};
 use tp_text::TextFault;
 
 /// Whether the line is written so, and goes with that status.

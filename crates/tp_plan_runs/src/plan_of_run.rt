@@ -13,10 +13,10 @@ use crate::run_lines::RunStop;
 use tp_bare::BareFault;
 use tp_device::{Failed, Sink, push_all};
 use tp_exec::run_plan;
-use tp_ground::Task;
 use tp_happen::{Plan, print_plan};
 use tp_machine::Executive;
 use tp_repair::RepairNet;
+use tp_task::Task;
 use tp_validate::ValidPlan;
 
 /// Writes the lines of the plan of a run.

@@ -18,8 +18,8 @@ use tp_bounds::{Limits, PlanNet};
 use tp_deorder::deorder;
 use tp_device::{Sink, Source};
 use tp_files::{Files, OUT_OF_ORDER, REFUSED, complain};
-use tp_ground::Task;
 use tp_plan_files::{PlanWords, task_in, verdict_in, write_invalid};
+use tp_task::Task;
 use tp_validate::{ValidPlan, Verdict};
 
 /// Answers the commands of the input on the network of a plan, and writes the plan of the run. Answers whether there is one.

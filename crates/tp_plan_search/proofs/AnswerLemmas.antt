@@ -1,6 +1,6 @@
 -- What is written of an answer of the search.
 use Rattle.std.proofs.Common.{◌≡◌, ℕ, ◌≤◌, List, Option, Bool, true, false, inl, inr, refl, sym, ap, subst}
-use Rattle.tp_ground.specs.declared.task.Task.{Task}
+use Rattle.tp_task.specs.declared.task.Task.{Task}
 use Rattle.tp_happen.specs.PlanPrints.{PlansAreRead, plan_text}
 use Rattle.tp_happen.specs.PlanTexts.{SpellsPlan}
 use Rattle.tp_happen.specs.TaskWords.{readable}

@@ -11,10 +11,10 @@ use Rattle.tp_syntax.specs.Domains.{Domain, SpellsDomain}
 use Rattle.tp_syntax.specs.Problems.{Problem, SpellsProblem}
 use Rattle.tp_ground.specs.Grounding.{IsTask, ground_actions, universe_of}
 use Rattle.tp_ground.specs.ReadBack.{named_body}
-use Rattle.tp_ground.specs.Readable.{AreReadable, are_names}
-use Rattle.tp_ground.specs.Tables.{words_at}
-use Rattle.tp_ground.specs.Words.{Words, same_words}
-use Rattle.tp_ground.specs.declared.task.Task.{Task}
+use Rattle.tp_task.specs.Readable.{AreReadable, are_names}
+use Rattle.tp_task.specs.Tables.{words_at}
+use Rattle.tp_task.specs.Words.{Words, same_words}
+use Rattle.tp_task.specs.declared.task.Task.{Task}
 use Rattle.tp_happen.specs.PlanPrints.{IsReadable, PlansAreRead, plan_text}
 use Rattle.tp_happen.specs.PlanLexemes.{is_bare, lexemes}
 use Rattle.tp_happen.specs.PlanTexts.{IsAccepted, ReadableTask, LinesSpell, SpellsPlan, fault_or, full_lines, lines_in, refusal_from, step_of}

@@ -7,8 +7,8 @@ use Rattle.tp_text.specs.declared.fault.TextFault.{TextFault}
 use Rattle.tp_text.specs.declared.fault.TextFault.TheVariants as text_fault
 use Rattle.tp_ast.specs.declared.fault.SyntaxFault.{SyntaxFault}
 use Rattle.tp_ast.specs.declared.fault.SyntaxFault.TheVariants as syntax_fault
-use Rattle.tp_ground.specs.declared.fault.GroundFault.{GroundFault}
-use Rattle.tp_ground.specs.declared.fault.GroundFault.TheVariants as ground_fault
+use Rattle.tp_task.specs.declared.fault.GroundFault.{GroundFault}
+use Rattle.tp_task.specs.declared.fault.GroundFault.TheVariants as ground_fault
 use Rattle.tp_search.specs.tp_forms.declared.fault.SearchFault.{SearchFault}
 use Rattle.tp_search.specs.tp_forms.declared.fault.SearchFault.TheVariants as search_fault
 use Rattle.tp_files.specs.FaultLines.{Tells}

@@ -1,6 +1,6 @@
 -- The text of what a search came to: the plan, a line for each step, or a line that says why there is none.
 use Rattle.std.specs.Prelude.{◌≡◌, ◌⊎◌, ℕ, List, ◌++◌, Bool, true, false, codes, decimal}
-use Rattle.tp_ground.specs.declared.task.Task.{Task}
+use Rattle.tp_task.specs.declared.task.Task.{Task}
 use Rattle.tp_happen.specs.PlanPrints.{plan_text}
 use Rattle.tp_happen.specs.PlanTexts.{IsAccepted, SpellsPlan}
 use Rattle.tp_happen.specs.Steps.{IsPlan}

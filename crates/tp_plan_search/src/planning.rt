@@ -16,10 +16,11 @@ use crate::stops::{SearchStop, stop_line};
 use std::alloc::Global;
 use tp_device::Sink;
 use tp_files::{FileFault, Files, OUT_OF_ORDER, REFUSED, complain};
-use tp_ground::{Task, actions_are_readable};
+use tp_ground::actions_are_readable;
 use tp_happen::plans_are_read;
 use tp_plan_files::{JudgeFault, task_in};
 use tp_search::{Found, search};
+use tp_task::Task;
 
 /// Writes what a search came to. Answers whether that is a plan.
 fn tell<O: Sink>(found: &Found<'_>, output: &mut O) -> Result<bool, SearchStop>

@@ -9,10 +9,11 @@ ghost use Rattle.tp_program.specs.Stops.{stop_failures};
 
 use crate::stops::{PlanStop, stop_line};
 use std::alloc::Global;
+use std::mem::forget;
 use tp_device::Sink;
 use tp_files::{Files, OUT_OF_ORDER, REFUSED, complain};
-use tp_ground::Task;
 use tp_plan_files::{PlanWords, task_in, verdict_in, write_verdict};
+use tp_task::Task;
 use tp_validate::Verdict;
 
 /// Writes a verdict. Answers whether the plan is valid.
@@ -63,7 +64,12 @@ fn check<N: Files, O: Sink>(
     ensures failures { O.failures output.new ≡ stop_failures (O.failures output.old) result }
 {
     match task_in(alloc, files, words) {
-        Ok(task) => tell_of(alloc, files, words, &task, output),
+        Ok(task) => {
+            let told = tell_of(alloc, files, words, &task, output);
+            // To free it piece by piece takes long, and the program ends here: the host frees all at once.
+            forget(task);
+            told
+        }
         Err(fault) => Err(PlanStop::Judging(fault)),
     }
 }

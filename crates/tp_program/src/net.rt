@@ -16,9 +16,9 @@ use tp_bounds::Limits;
 use tp_deorder::{DeorderFault, deorder};
 use tp_device::{Sink, push_all};
 use tp_files::{Files, OUT_OF_ORDER, REFUSED, complain};
-use tp_ground::Task;
 use tp_net_lines::network_text;
 use tp_plan_files::{PlanWords, task_in, verdict_in, write_invalid};
+use tp_task::Task;
 use tp_validate::{ValidPlan, Verdict};
 
 /// The lines of the network of a validated plan.

@@ -4,16 +4,16 @@ use Rattle.std.specs.List.{list_all, count_by}
 use Rattle.std.proofs.lemmas.Bool.{and_parts, and_from, or_cases, or_left, or_right, cond-true}
 use Rattle.std.proofs.lemmas.List.Recursion.{is_count_by}
 use Rattle.std.proofs.Math.Seq.{take-append_seam}
-use Rattle.tp_ground.specs.declared.events.Cond.{Cond, Row_of-Cond, end_of-Cond, more_of-Cond}
-use Rattle.tp_ground.specs.declared.events.Cond.TheVariants.{Atom, Compare, Not', And', Or', Shared'}
-use Rattle.tp_ground.specs.declared.events.GroundEvent.{GroundEvent}
-use Rattle.tp_ground.specs.declared.events.Body.{Body}
-use Rattle.tp_ground.specs.declared.events.Body.TheVariants.{Instant, Durative}
-use Rattle.tp_ground.specs.Bounds.{In}
-use Rattle.tp_ground.specs.Event.{has}
-use Rattle.tp_ground.specs.State.{State}
-use Rattle.tp_ground.specs.Fits.{event_fits, body_fits}
-use Rattle.tp_ground.specs.Reach.{met, each_met, some_met, IsReach}
+use Rattle.tp_task.specs.declared.events.Cond.{Cond, Row_of-Cond, end_of-Cond, more_of-Cond}
+use Rattle.tp_task.specs.declared.events.Cond.TheVariants.{Atom, Compare, Not', And', Or', Shared'}
+use Rattle.tp_task.specs.declared.events.GroundEvent.{GroundEvent}
+use Rattle.tp_task.specs.declared.events.Body.{Body}
+use Rattle.tp_task.specs.declared.events.Body.TheVariants.{Instant, Durative}
+use Rattle.tp_task.specs.Bounds.{In}
+use Rattle.tp_task.specs.Event.{has}
+use Rattle.tp_task.specs.State.{State}
+use Rattle.tp_task.specs.Fits.{event_fits, body_fits}
+use Rattle.tp_task.specs.Reach.{met, each_met, some_met, IsReach}
 use Rattle.tp_reach.specs.Rounds.{set_of, marked, after_event, after_body, after_round, acts_in, acts_of_bodies, adds_in, adds_fit}
 use Rattle.tp_reach.specs.Adding.{HasAdded, Adds}
 

@@ -3,8 +3,8 @@ use Rattle.std.proofs.Common.{◌≡◌, Bool, true, false, not, ◌&&◌, ◌||
 use Rattle.std.specs.List.{list_all, list_any}
 use mathlib.Core.Former.{Count}
 use mathlib.Core.Bool.{beq}
-use Rattle.tp_ground.specs.declared.events.Cond.{Cond, And, And', Or, Row_of-Cond, end_of-Cond, more_of-Cond, items-the_row-Cond, items_hidden-the_row-Cond-0}
-use Rattle.tp_ground.specs.Reach.{met, each_met, some_met}
+use Rattle.tp_task.specs.declared.events.Cond.{Cond, And, And', Or, Row_of-Cond, end_of-Cond, more_of-Cond, items-the_row-Cond, items_hidden-the_row-Cond-0}
+use Rattle.tp_task.specs.Reach.{met, each_met, some_met}
 use Rattle.tp_reach.specs.Rounds.{over}
 
 abbrev row_of : Cond → (n : Count) × Row_of-Cond n

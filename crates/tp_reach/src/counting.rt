@@ -2,7 +2,7 @@
 //! of its own parts (as in Dowling and Gallier 1984). Nothing is proved of them: they only say where it is worth looking.
 
 use std::alloc::{AllocError, Global};
-use tp_ground::{Body, Cond, GroundEvent};
+use tp_task::{Body, Cond, GroundEvent};
 
 /// What is told once a part of a condition is met: the part that it is in, or its action.
 #[derive(Clone, Copy)]

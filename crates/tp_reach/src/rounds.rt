@@ -2,16 +2,16 @@
 
 ghost use Rattle.std.specs.Prelude.{◌≡◌, length, nat_lt, true, count_by, IfOk, OnOk};
 ghost use Rattle.std.specs.List.{All, list_all};
-ghost use Rattle.tp_ground.specs.Fits.{body_fits, event_fits};
-ghost use Rattle.tp_ground.specs.Reach as spec;
-ghost use Rattle.tp_ground.specs.Reach.{IsReach};
+ghost use Rattle.tp_task.specs.Fits.{body_fits, event_fits};
+ghost use Rattle.tp_task.specs.Reach as spec;
+ghost use Rattle.tp_task.specs.Reach.{IsReach};
 ghost use Rattle.tp_reach.specs.Rounds.{set_of, marked, after_event, after_body, after_round, adds_in, adds_fit, acts_of_bodies};
 ghost use Rattle.tp_reach.specs.Adding.{Adds, IsSettled};
 ghost use Rattle.tp_reach.specs.TaskReach.{acts_of, first_state, GoalIs};
 
 use crate::counting::Counters;
 use std::alloc::{AllocError, Global};
-use tp_ground::{Body, Cond, GroundEvent, Task};
+use tp_task::{Body, Cond, GroundEvent, Task};
 
 fn is_reached(reach: &[bool], atom: u32) -> bool
     ensures { result ≡ set_of reach.now atom }

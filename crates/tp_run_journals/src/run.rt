@@ -2,7 +2,7 @@
 
 ghost use Rattle.std.specs.Prelude.{◌≡◌, ◌≢◌, ◌≤◌, ◌⊎◌, List, [], length, IfOk, IfErr, IfSome};
 ghost use Rattle.tp_bounds.specs.RunLimits.{greatest_limits};
-ghost use Rattle.tp_ground.specs.declared.task.Task.{Task};
+ghost use Rattle.tp_task.specs.declared.task.Task.{Task};
 ghost use Rattle.tp_happen.specs.declared.plans.Step.{Step};
 ghost use Rattle.tp_deorder.specs.Answers.{IsPlanNetOf};
 ghost use Rattle.tp_exec.specs.FromPlan.{CameFrom};
@@ -25,12 +25,12 @@ use tp_bounds::{Limits, PlanNet};
 use tp_deorder::deorder;
 use tp_device::{Sink, Source};
 use tp_files::{Files, OUT_OF_ORDER, REFUSED, complain};
-use tp_ground::Task;
 use tp_logs::Logs;
 use tp_machine::Executive;
 use tp_plan_files::{PlanWords, task_in, verdict_in, write_invalid};
 use tp_plan_runs::{RunStop, tell_run};
 use tp_repair::RepairNet;
+use tp_task::Task;
 use tp_validate::{ValidPlan, Verdict};
 
 /// Answers the commands of the input on the network of a plan, with their journal in the file of a name.

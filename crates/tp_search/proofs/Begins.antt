@@ -3,14 +3,14 @@ use Rattle.std.proofs.Common.{◌≡◌, ℕ, ◌+◌, ◌<◌, Bool, true, fals
 use Rattle.std.specs.List.{AllByRecursion}
 use Rattle.std.specs.Option.{option_map, option_and_then}
 use Rattle.std.proofs.lemmas.Bool.{cases_lt}
-use Rattle.tp_ground.specs.declared.events.GroundEvent.{GroundEvent}
-use Rattle.tp_ground.specs.declared.events.Body.{Body}
-use Rattle.tp_ground.specs.declared.events.Body.TheVariants.{Instant, Durative}
-use Rattle.tp_ground.specs.declared.task.Task.{Task}
-use Rattle.tp_ground.specs.State.{State, holds}
-use Rattle.tp_ground.specs.Event.{interferes, mixes}
-use Rattle.tp_ground.specs.Happens.{EventOfStep, is_defined}
-use Rattle.tp_ground.specs.Bounds.{In}
+use Rattle.tp_task.specs.declared.events.GroundEvent.{GroundEvent}
+use Rattle.tp_task.specs.declared.events.Body.{Body}
+use Rattle.tp_task.specs.declared.events.Body.TheVariants.{Instant, Durative}
+use Rattle.tp_task.specs.declared.task.Task.{Task}
+use Rattle.tp_task.specs.State.{State, holds}
+use Rattle.tp_task.specs.Event.{interferes, mixes}
+use Rattle.tp_task.specs.Happens.{EventOfStep, is_defined}
+use Rattle.tp_task.specs.Bounds.{In}
 use Rattle.tp_happen.specs.declared.faults.Why.{Why}
 use Rattle.tp_happen.specs.declared.faults.Why.TheVariants.{Condition, Undefined, Clash}
 use Rattle.tp_happen.specs.declared.events.Part.TheVariants.{Only}

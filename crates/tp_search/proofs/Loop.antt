@@ -7,13 +7,13 @@ use Rattle.std.proofs.lemmas.Bool.{true≢false}
 use Rattle.tp_happen.specs.Parts.{part_of}
 use Rattle.tp_happen.specs.declared.events.Part.TheVariants.{Only}
 use Rattle.tp_happen.specs.TaskWords.{is_durative}
-use Rattle.tp_ground.specs.Bounds.{In}
-use Rattle.tp_ground.specs.declared.events.Body.{Body}
-use Rattle.tp_ground.specs.declared.events.Body.TheVariants.{Instant, Durative}
-use Rattle.tp_ground.specs.declared.events.GroundEvent.{GroundEvent}
-use Rattle.tp_ground.specs.Event.{interferes}
-use Rattle.tp_ground.specs.declared.task.Task.{Task}
-use Rattle.tp_ground.proofs.Lists.{all_at, all_from}
+use Rattle.tp_task.specs.Bounds.{In}
+use Rattle.tp_task.specs.declared.events.Body.{Body}
+use Rattle.tp_task.specs.declared.events.Body.TheVariants.{Instant, Durative}
+use Rattle.tp_task.specs.declared.events.GroundEvent.{GroundEvent}
+use Rattle.tp_task.specs.Event.{interferes}
+use Rattle.tp_task.specs.declared.task.Task.{Task}
+use Rattle.tp_task.proofs.Lists.{all_at, all_from}
 use Rattle.tp_happen.specs.declared.plans.Step.{Step}
 use Rattle.tp_happen.specs.Steps.{IsPlan, ends_in_time}
 use Rattle.tp_validate.specs.OfTask.{IsValidPlan, IsOfTask, is_step_of, scale_of, begin}

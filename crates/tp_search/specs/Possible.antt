@@ -1,12 +1,12 @@
 -- Which actions can be chosen at tick 0.
 use Rattle.std.specs.Prelude.{◌≡◌, ◌<◌, ℕ, true, List, [], ◌∷◌, length, slice_get, Some}
 use Rattle.std.specs.List.{AllByRecursion}
-use Rattle.tp_ground.specs.declared.task.Task.{Task}
-use Rattle.tp_ground.specs.declared.events.Body.TheVariants.{Instant}
-use Rattle.tp_ground.specs.declared.events.GroundEvent.{GroundEvent}
-use Rattle.tp_ground.specs.Event.{interferes}
-use Rattle.tp_ground.specs.Happens.{EventOfStep}
-use Rattle.tp_ground.specs.Bounds.{In}
+use Rattle.tp_task.specs.declared.task.Task.{Task}
+use Rattle.tp_task.specs.declared.events.Body.TheVariants.{Instant}
+use Rattle.tp_task.specs.declared.events.GroundEvent.{GroundEvent}
+use Rattle.tp_task.specs.Event.{interferes}
+use Rattle.tp_task.specs.Happens.{EventOfStep}
+use Rattle.tp_task.specs.Bounds.{In}
 use Rattle.tp_validate.specs.OfTask.{scale_of, begin}
 use Rattle.tp_search.specs.AtOnce.{CanHappen}
 

@@ -2,7 +2,7 @@
 
 ghost use Rattle.std.specs.Prelude.{◌≡◌, ◌≤◌, ◌<◌, ◌∷◌, ◌++◌, ℕ, [], true, false, if◌then◌else◌, length, slice_index_or, IfOk, MatchOption, OnOk};
 ghost use Rattle.std.specs.List.{AllByRecursion};
-ghost use Rattle.tp_ground.specs.Fits.{event_fits};
+ghost use Rattle.tp_task.specs.Fits.{event_fits};
 ghost use Rattle.tp_happen.specs.Stored.{state_of, first_of};
 ghost use Rattle.tp_validate.specs.OfTask.{IsValidPlan};
 ghost use Rattle.tp_reach.specs.TaskReach.{GoalIs};
@@ -16,10 +16,10 @@ use crate::arena::Arena;
 use crate::found::Found;
 use std::alloc::{AllocError, Global};
 use tp_forms::SearchFault;
-use tp_ground::{ActionId, MOST_STEPS, Task};
 use tp_happen::{
     ApplyFault, Event, EventRef, Outcome, Part, Plan, State, Step, apply, event, interferes,
 };
+use tp_task::{ActionId, MOST_STEPS, Task};
 use tp_validate::{ValidPlan, ValidateFault, Verdict, validate};
 
 // A step at tick 0.

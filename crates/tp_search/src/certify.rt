@@ -9,8 +9,8 @@ ghost use Rattle.tp_search.specs.Plans.{ends_by, is_step_within, EndsBy, is_plan
 
 use std::alloc::Global;
 use tp_forms::SearchFault;
-use tp_ground::{Body, MOST_STEPS, Task};
 use tp_happen::{Plan, Step};
+use tp_task::{Body, MOST_STEPS, Task};
 use tp_validate::{ValidPlan, ValidateFault, Verdict, validate};
 
 // Whether a step ends by a tick.

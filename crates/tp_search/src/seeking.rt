@@ -1,7 +1,7 @@
 //! The search: nodes are taken from a frontier and expanded, up to a budget.
 
 ghost use Rattle.std.specs.Prelude.{◌≡◌, ◌≤◌, [], true, IfOk, IfSome};
-ghost use Rattle.tp_ground.specs.Reach as spec;
+ghost use Rattle.tp_task.specs.Reach as spec;
 ghost use Rattle.tp_validate.specs.OfTask.{IsValidPlan};
 ghost use Rattle.tp_reach.specs.TaskReach.{GoalIs};
 ghost use Rattle.tp_search.specs.Plans.{EndsBy};
@@ -13,9 +13,9 @@ use crate::found::Found;
 use std::alloc::{AllocError, Global};
 use tp_forms::SearchFault;
 use tp_frontier::{Chosen, Frontier};
-use tp_ground::Task;
 use tp_happen::Step;
 use tp_reach::{met, reach};
+use tp_task::Task;
 use tp_validate::ValidPlan;
 
 fn step_of(chosen: &Chosen) -> Step {

@@ -6,9 +6,9 @@ use crate::seeking::{World, task_of};
 use std::alloc::{AllocError, Global};
 use std::process::Abort;
 use std::test::Fail;
-use tp_ground::Task;
 use tp_reach::{goal_in_reach, met, reach};
 use tp_small_worlds::{EMPTY_TANK, MATCH, MATCHES, TANK, TOGGLE};
+use tp_task::Task;
 use tp_text::Scale;
 
 const FUSES: World<'static> = World {

@@ -6,10 +6,11 @@ use std::alloc::{AllocError, Global};
 use std::process::Abort;
 use std::test::Fail;
 use tp_bounds::Limits;
-use tp_ground::{GroundFault, Task, ground};
+use tp_ground::ground;
 use tp_happen::{Step, read_plan};
 use tp_search::{Found, search};
 use tp_syntax::{Domain, Problem, read_domain, read_problem};
+use tp_task::{GroundFault, Task};
 use tp_text::Scale;
 use tp_validate::{ValidPlan, Verdict, validate};
 

@@ -1,9 +1,9 @@
 -- What a whole run says of a plan.
 use Rattle.std.proofs.Common.{◌≡◌, ℕ, suc, ◌-◌, ◌<◌, true, false, List, inl, inr, sym, ap, ◌∙◌, subst, arith, All}
-use Rattle.tp_ground.specs.declared.task.Task.{Task}
-use Rattle.tp_ground.specs.State.{holds}
-use Rattle.tp_ground.specs.Valid.{Placed}
-use Rattle.tp_ground.specs.Verdict.{states, at_moment, at_goal, last_moment}
+use Rattle.tp_task.specs.declared.task.Task.{Task}
+use Rattle.tp_task.specs.State.{holds}
+use Rattle.tp_task.specs.Valid.{Placed}
+use Rattle.tp_task.specs.Verdict.{states, at_moment, at_goal, last_moment}
 use Rattle.tp_happen.specs.declared.plans.Step.{Step}
 use Rattle.tp_happen.specs.Stored.{Stored, state_of}
 use Rattle.tp_happen.specs.Small.{all_small}

@@ -2,12 +2,12 @@
 use Rattle.std.proofs.Common.{◌≡◌, ℕ, ◌+◌, ◌-◌, ◌≤◌, ◌<◌, Bool, true, false, cond, ◌&&◌, not, ◌==◌, List, [], ◌∷◌, ◌++◌, length, get_or, map, Option, Some, None, suc, refl, sym, ap, ap₂, ◌∙◌, subst, arith}
 use Rattle.std.specs.List.{position_from, AllByRecursion, list_all}
 use Rattle.std.proofs.lemmas.Bool.{and_parts, cond-false, not-true}
-use Rattle.tp_ground.specs.declared.events.Body.{Body}
-use Rattle.tp_ground.specs.declared.events.Body.TheVariants.{Instant, Durative}
-use Rattle.tp_ground.specs.Event.{interferes}
-use Rattle.tp_ground.specs.Happens.{EventOfStep, apart}
-use Rattle.tp_ground.specs.Valid.{Planned, Placed, events_of, events_from, count_of}
-use Rattle.tp_ground.specs.Verdict.{pair_or, first_pair}
+use Rattle.tp_task.specs.declared.events.Body.{Body}
+use Rattle.tp_task.specs.declared.events.Body.TheVariants.{Instant, Durative}
+use Rattle.tp_task.specs.Event.{interferes}
+use Rattle.tp_task.specs.Happens.{EventOfStep, apart}
+use Rattle.tp_task.specs.Valid.{Planned, Placed, events_of, events_from, count_of}
+use Rattle.tp_task.specs.Verdict.{pair_or, first_pair}
 use Rattle.tp_happen.specs.Fault as happening
 use Rattle.tp_validate.specs.Places.{here, numbers}
 

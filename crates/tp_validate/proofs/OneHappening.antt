@@ -2,12 +2,12 @@
 use Rattle.std.proofs.Common.{◌≡◌, ℕ, ◌-◌, Bool, true, false, not, ◌&&◌, ◌==◌, List, [], ◌∷◌, get_or, Option, Some, None, refl, ap, ap₂, ◌∙◌, arith}
 use Rattle.std.specs.List.{position_from, AllByRecursion}
 use Rattle.std.proofs.lemmas.Bool.{not_from_true}
-use Rattle.tp_ground.specs.State.{State, holds}
-use Rattle.tp_ground.specs.Event.{mixes}
-use Rattle.tp_ground.specs.Happens.{EventOfStep, is_defined, Happens}
-use Rattle.tp_ground.specs.Valid.{Placed, at}
-use Rattle.tp_ground.specs.Verdict as fault
-use Rattle.tp_ground.specs.Verdict.{Fault, fault_or, first_pair}
+use Rattle.tp_task.specs.State.{State, holds}
+use Rattle.tp_task.specs.Event.{mixes}
+use Rattle.tp_task.specs.Happens.{EventOfStep, is_defined, Happens}
+use Rattle.tp_task.specs.Valid.{Placed, at}
+use Rattle.tp_task.specs.Verdict as fault
+use Rattle.tp_task.specs.Verdict.{Fault, fault_or, first_pair}
 use Rattle.tp_happen.specs.declared.faults.Why.{Why}
 use Rattle.tp_happen.specs.declared.faults.Why.TheVariants.{Condition, Undefined, Clash, Interferes}
 use Rattle.tp_happen.specs.Fault as happening

@@ -2,13 +2,13 @@
 use Rattle.std.proofs.Common.{◌≡◌, ℕ, ◌+◌, Bool, true, false, not, ◌&&◌, ◌==◌, cond, List, [], ◌∷◌, ◌++◌, map, filter, Option, Some, None, ⊎_elim, inl, inr, sym, ap, ◌∙◌, subst}
 use Rattle.std.specs.List.{list_all, position_from}
 use Rattle.std.proofs.lemmas.Bool.{and_left, and_right, and_cases, or_parts, not-false, cond-true}
-use Rattle.tp_ground.specs.declared.events.Body.{Body}
-use Rattle.tp_ground.specs.declared.events.Body.TheVariants.{Instant, Durative}
-use Rattle.tp_ground.specs.State.{State}
-use Rattle.tp_ground.specs.Happens.{EventOfStep, Happens}
-use Rattle.tp_ground.specs.Valid.{Planned, Placed, events_of, events_from, count_of, at}
-use Rattle.tp_ground.specs.Verdict as fault
-use Rattle.tp_ground.specs.Verdict.{Fault, fault_or, is_unlawful, is_broken}
+use Rattle.tp_task.specs.declared.events.Body.{Body}
+use Rattle.tp_task.specs.declared.events.Body.TheVariants.{Instant, Durative}
+use Rattle.tp_task.specs.State.{State}
+use Rattle.tp_task.specs.Happens.{EventOfStep, Happens}
+use Rattle.tp_task.specs.Valid.{Planned, Placed, events_of, events_from, count_of, at}
+use Rattle.tp_task.specs.Verdict as fault
+use Rattle.tp_task.specs.Verdict.{Fault, fault_or, is_unlawful, is_broken}
 use Rattle.tp_happen.specs.declared.faults.Why.{Why}
 use Rattle.tp_happen.specs.Fault.{fault_of}
 use Rattle.tp_happen.specs.Small.{all_small}

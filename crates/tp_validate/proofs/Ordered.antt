@@ -9,8 +9,8 @@ use Rattle.std.proofs.lemmas.List.{get_or_default, take-append-drop, append-nil,
 use Rattle.std.proofs.lemmas.List.Elements.{All-nil, All-cons, All-append, All-filter, All-head, All-tail, All-weaker, filter-append, filter_agree}
 use Rattle.std.proofs.Math.Seq.{drop-append_seam, take-length}
 use Rattle.std.proofs.lemmas.List.Sorted.{IsNonDecreasingBy-from_sort, IsNonDecreasingBy-drop, length_permutation}
-use Rattle.tp_ground.specs.Valid.{Placed}
-use Rattle.tp_ground.specs.Verdict.{last_moment}
+use Rattle.tp_task.specs.Valid.{Placed}
+use Rattle.tp_task.specs.Verdict.{last_moment}
 use Rattle.tp_validate.specs.Places.{here}
 use Rattle.tp_validate.specs.Reached.{IsCovered}
 use Rattle.tp_validate.specs.Agenda.{IsLeft, IsAgenda, IsNextTick}

@@ -3,12 +3,12 @@ use Rattle.std.proofs.Common.{◌≡◌, ℕ, zero, suc, ◌+◌, ◌≤◌, Boo
 use Rattle.std.specs.List.{list_all, slice_get}
 use Rattle.std.specs.Option.{option_to_list}
 use Rattle.std.proofs.lemmas.Bool.{and_parts, and_from, leb-true}
-use Rattle.tp_ground.specs.declared.events.Body.{Body}
-use Rattle.tp_ground.specs.declared.events.Body.TheVariants.{Instant, Durative}
-use Rattle.tp_ground.specs.Fits.{body_fits, event_fits}
-use Rattle.tp_ground.specs.Happens.{EventOfStep}
-use Rattle.tp_ground.specs.Valid.{Planned, Placed, events_of, events_from, count_of, at}
-use Rattle.tp_ground.specs.Verdict.{last_moment}
+use Rattle.tp_task.specs.declared.events.Body.{Body}
+use Rattle.tp_task.specs.declared.events.Body.TheVariants.{Instant, Durative}
+use Rattle.tp_task.specs.Fits.{body_fits, event_fits}
+use Rattle.tp_task.specs.Happens.{EventOfStep}
+use Rattle.tp_task.specs.Valid.{Planned, Placed, events_of, events_from, count_of, at}
+use Rattle.tp_task.specs.Verdict.{last_moment}
 use Rattle.tp_happen.specs.declared.plans.Step.{Step}
 use Rattle.tp_happen.specs.Steps.{ends_in_time}
 use Rattle.tp_validate.specs.OfTask.{step_of, planned}

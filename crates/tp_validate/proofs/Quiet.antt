@@ -2,19 +2,19 @@
 use Rattle.std.proofs.Common.{◌≡◌, ◌≢◌, ℕ, zero, suc, ◌+◌, ◌≤◌, ◌<◌, Bool, true, false, ◌&&◌, ◌==◌, nat_le, nat_lt, List, [], ◌∷◌, Option, Some, None, ⊎_elim, inl, inr, refl, sym, ap, ◌∙◌, subst, arith}
 use Rattle.std.specs.List.{position_from}
 use Rattle.std.proofs.lemmas.Bool.{cases_Bool, cases_lt, and_left, and_right, and_cases, cond-true, cond-false, leb-true, ltb-true, le-leb, lt-ltb, eqb-true, ne_eqb, not_from_true, not-false, true≢false}
-use Rattle.tp_ground.specs.declared.events.Body.{Body}
-use Rattle.tp_ground.specs.declared.events.Body.TheVariants.{Instant, Durative}
-use Rattle.tp_ground.specs.declared.events.Cond.{Cond}
-use Rattle.tp_ground.specs.declared.events.GroundEvent.{GroundEvent}
-use Rattle.tp_ground.specs.State.{State, holds}
-use Rattle.tp_ground.specs.Happens.{Happens, atom_after, number_after}
-use Rattle.tp_ground.specs.Valid.{Planned, Placed, events, events_of, events_from, count_of, at}
-use Rattle.tp_ground.specs.Bounds.{In}
-use Rattle.tp_ground.specs.Verdict as fault
-use Rattle.tp_ground.specs.Verdict.{Fault, states, fault_or, fault_at, is_unlawful, is_broken}
-use Rattle.tp_ground.proofs.Bridge.{plus_zero}
-use Rattle.tp_ground.proofs.Picked.{picked_no}
-use Rattle.tp_ground.proofs.Numbered.{in_left, in_right}
+use Rattle.tp_task.specs.declared.events.Body.{Body}
+use Rattle.tp_task.specs.declared.events.Body.TheVariants.{Instant, Durative}
+use Rattle.tp_task.specs.declared.events.Cond.{Cond}
+use Rattle.tp_task.specs.declared.events.GroundEvent.{GroundEvent}
+use Rattle.tp_task.specs.State.{State, holds}
+use Rattle.tp_task.specs.Happens.{Happens, atom_after, number_after}
+use Rattle.tp_task.specs.Valid.{Planned, Placed, events, events_of, events_from, count_of, at}
+use Rattle.tp_task.specs.Bounds.{In}
+use Rattle.tp_task.specs.Verdict as fault
+use Rattle.tp_task.specs.Verdict.{Fault, states, fault_or, fault_at, is_unlawful, is_broken}
+use Rattle.tp_task.proofs.Bridge.{plus_zero}
+use Rattle.tp_task.proofs.Picked.{picked_no}
+use Rattle.tp_task.proofs.Numbered.{in_left, in_right}
 use Rattle.tp_happen.specs.Bounded.{StaysSmall}
 use Rattle.tp_validate.specs.Tick.{after_of, of_events}
 use Rattle.tp_validate.proofs.Numbers.{numbered}

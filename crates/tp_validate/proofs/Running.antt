@@ -5,11 +5,11 @@ use Rattle.std.specs.List.{filter, Contains, list_all, position_from}
 use Rattle.std.proofs.lemmas.Bool.{cases_Bool, cases_lt, cond-true, cond-false, true≢false, and_left, and_right, and_cases, or_left, or_right, or_cases, and_parts, and_from, ltb-true, lt-ltb, leb-true}
 use Rattle.std.proofs.lemmas.List.{take-append-drop, drop-drop}
 use Rattle.std.proofs.lemmas.List.Elements.{All-nil, All-cons, All-append, All-filter, All-head, All-tail, All-weaker, All-contains, All-contains_itself, Contains-append_left, Contains-append_right, Contains-append_cases, filter_passes}
-use Rattle.tp_ground.specs.declared.events.Body.{Body}
-use Rattle.tp_ground.specs.declared.events.Body.TheVariants.{Instant, Durative}
-use Rattle.tp_ground.specs.State.{State}
-use Rattle.tp_ground.specs.Valid.{Planned}
-use Rattle.tp_ground.specs.Verdict.{is_broken}
+use Rattle.tp_task.specs.declared.events.Body.{Body}
+use Rattle.tp_task.specs.declared.events.Body.TheVariants.{Instant, Durative}
+use Rattle.tp_task.specs.State.{State}
+use Rattle.tp_task.specs.Valid.{Planned}
+use Rattle.tp_task.specs.Verdict.{is_broken}
 use Rattle.tp_validate.specs.Tick.{invariant_small}
 use Rattle.tp_validate.specs.Agenda.{IsRoster, IsRunning, starting_at}
 use Rattle.tp_validate.proofs.Ordered.{filtered, left_all, cut, rest, All-front, tail_is}

@@ -2,13 +2,13 @@
 use Rattle.std.proofs.Common.{◌≡◌, ◌≢◌, ℕ, suc, ◌+◌, ◌-◌, ◌≤◌, ◌<◌, true, List, [], ◌∷◌, length, get_or, Option, Some, None, ⊎_elim, inl, inr, refl, sym, ap, ap₂, ◌∙◌, subst, arith, add-one, All}
 use Rattle.std.specs.List.{list_all}
 use Rattle.std.proofs.lemmas.Bool.{cases_lt}
-use Rattle.tp_ground.specs.declared.task.Task.{Task}
-use Rattle.tp_ground.specs.State.{State}
-use Rattle.tp_ground.specs.Happens.{EventOfStep}
-use Rattle.tp_ground.specs.Fits.{event_fits}
-use Rattle.tp_ground.specs.Valid.{Planned, Placed, events, at}
-use Rattle.tp_ground.specs.Bounds.{In}
-use Rattle.tp_ground.specs.Verdict.{Fault, states, fault_at, last_moment}
+use Rattle.tp_task.specs.declared.task.Task.{Task}
+use Rattle.tp_task.specs.State.{State}
+use Rattle.tp_task.specs.Happens.{EventOfStep}
+use Rattle.tp_task.specs.Fits.{event_fits}
+use Rattle.tp_task.specs.Valid.{Planned, Placed, events, at}
+use Rattle.tp_task.specs.Bounds.{In}
+use Rattle.tp_task.specs.Verdict.{Fault, states, fault_at, last_moment}
 use Rattle.tp_happen.specs.Stored.{Stored, state_of, first_of, fits_in}
 use Rattle.tp_happen.specs.Bounded.{StaysSmall}
 use Rattle.tp_validate.specs.OfTask.{scale_of, begin}

@@ -2,7 +2,7 @@
 use Rattle.std.specs.Prelude.{◌≡◌, ℕ, ◌≤◌, ◌<◌, ◌==◌, List, length, take, drop, ◌+◌}
 use Rattle.std.specs.List.{All, Contains, filter}
 use Rattle.std.specs.List.Sorted.{IsNonDecreasingBy}
-use Rattle.tp_ground.specs.Valid.{Planned, Placed}
+use Rattle.tp_task.specs.Valid.{Planned, Placed}
 
 -- What is left of xs from a moment on, in the order of its moments; those of one moment stand as they do in xs.
 pub record IsLeft {X : Type 0} (n : X → ℕ) (xs : List X) (from : ℕ) (left : List X) : Type 0 where

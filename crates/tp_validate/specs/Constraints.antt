@@ -1,11 +1,11 @@
 -- The numbers of duration constraints.
 use Rattle.std.specs.Prelude.{ℕ, Bool, true, not, ◌||◌, ◌==◌, Some, None, pos, ◌*ℤ◌}
 use Rattle.std.specs.List.{list_all}
-use Rattle.tp_ground.specs.declared.events.Limit.{Limit}
-use Rattle.tp_ground.specs.declared.events.Body.{Body}
-use Rattle.tp_ground.specs.declared.events.Body.TheVariants.{Instant, Durative}
-use Rattle.tp_ground.specs.State.{State, both, value, compares_values}
-use Rattle.tp_ground.specs.Valid.{Planned}
+use Rattle.tp_task.specs.declared.events.Limit.{Limit}
+use Rattle.tp_task.specs.declared.events.Body.{Body}
+use Rattle.tp_task.specs.declared.events.Body.TheVariants.{Instant, Durative}
+use Rattle.tp_task.specs.State.{State, both, value, compares_values}
+use Rattle.tp_task.specs.Valid.{Planned}
 use Rattle.tp_happen.specs.Small.{values_small}
 
 -- a comparison of the duration constraint holds for so many ticks

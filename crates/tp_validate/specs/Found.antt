@@ -1,7 +1,7 @@
 -- What is found at a moment, and what a verdict says.
 use Rattle.std.specs.Prelude.{◌≡◌, ℕ, List, Some, None}
-use Rattle.tp_ground.specs.Valid.{Planned, Placed, at}
-use Rattle.tp_ground.specs.Verdict as verdict
+use Rattle.tp_task.specs.Valid.{Planned, Placed, at}
+use Rattle.tp_task.specs.Verdict as verdict
 use Rattle.tp_happen.specs.Stored.{Stored, state_of, OfOneTask}
 use Rattle.tp_happen.specs.Bounded.{StaysSmall}
 use Rattle.tp_validate.specs.Tick.{after_of, fault_from}

@@ -3,11 +3,11 @@ use Rattle.std.specs.Prelude.{◌≡◌, ℕ, suc, Bool, true, nat_lt, ◌&&◌,
 use Rattle.std.specs.Option.{option_to_list}
 use Rattle.std.specs.List.{list_all}
 use Rattle.tp_text.specs.Scales.{scale_ticks}
-use Rattle.tp_ground.specs.declared.events.Body.{Body}
-use Rattle.tp_ground.specs.declared.task.Task.{Task}
-use Rattle.tp_ground.specs.State.{State}
-use Rattle.tp_ground.specs.Valid.{Planned, Placed, events, IsValid}
-use Rattle.tp_ground.specs.Verdict.{Fault, states, fault_at, last_moment}
+use Rattle.tp_task.specs.declared.events.Body.{Body}
+use Rattle.tp_task.specs.declared.task.Task.{Task}
+use Rattle.tp_task.specs.State.{State}
+use Rattle.tp_task.specs.Valid.{Planned, Placed, events, IsValid}
+use Rattle.tp_task.specs.Verdict.{Fault, states, fault_at, last_moment}
 use Rattle.tp_happen.specs.declared.plans.Step.{Step}
 use Rattle.tp_happen.specs.Stored.{state_of, first_of}
 use Rattle.tp_happen.specs.TaskWords.{is_durative}

@@ -1,7 +1,7 @@
 -- The events of a plan at one moment, and their numbers.
 use Rattle.std.specs.Prelude.{ℕ, ◌==◌, List, map}
 use Rattle.std.specs.List.{filter}
-use Rattle.tp_ground.specs.Valid.{Placed}
+use Rattle.tp_task.specs.Valid.{Placed}
 
 -- the events at a moment
 abbrev pub here : ℕ → List Placed → List Placed

@@ -1,9 +1,9 @@
 -- How far a run has come.
 use Rattle.std.specs.Prelude.{◌≡◌, ℕ, suc, ◌≤◌, ◌<◌, List, Option, Some, None}
 use Rattle.std.specs.List.{All}
-use Rattle.tp_ground.specs.declared.task.Task.{Task}
-use Rattle.tp_ground.specs.Valid.{Planned, Placed, events, at}
-use Rattle.tp_ground.specs.Verdict.{states, fault_at, last_moment}
+use Rattle.tp_task.specs.declared.task.Task.{Task}
+use Rattle.tp_task.specs.Valid.{Planned, Placed, events, at}
+use Rattle.tp_task.specs.Verdict.{states, fault_at, last_moment}
 use Rattle.tp_happen.specs.Stored.{Stored, state_of, first_of, OfOneTask}
 use Rattle.tp_happen.specs.Bounded.{StaysSmall}
 use Rattle.tp_validate.specs.OfTask.{scale_of, begin}

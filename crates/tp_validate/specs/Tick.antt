@@ -1,14 +1,14 @@
 -- What there is to find at one moment of a plan.
 use Rattle.std.specs.Prelude.{◌≡◌, ℕ, ◌+◌, Bool, true, false, not, ◌&&◌, ◌||◌, ◌==◌, nat_le, nat_lt, List, Option, None, ◌⊎◌, slice_index_or}
 use Rattle.std.specs.List.{list_all, position_from}
-use Rattle.tp_ground.specs.declared.events.Body.{Body}
-use Rattle.tp_ground.specs.declared.events.Body.TheVariants.{Instant, Durative}
-use Rattle.tp_ground.specs.State.{State, holds}
-use Rattle.tp_ground.specs.Event.{mixes}
-use Rattle.tp_ground.specs.Happens.{EventOfStep, Happens, is_defined, atom_after, number_after}
-use Rattle.tp_ground.specs.Valid.{Planned, Placed, at}
-use Rattle.tp_ground.specs.Verdict as fault
-use Rattle.tp_ground.specs.Verdict.{Fault, fault_or, first_pair, is_unlawful, is_broken}
+use Rattle.tp_task.specs.declared.events.Body.{Body}
+use Rattle.tp_task.specs.declared.events.Body.TheVariants.{Instant, Durative}
+use Rattle.tp_task.specs.State.{State, holds}
+use Rattle.tp_task.specs.Event.{mixes}
+use Rattle.tp_task.specs.Happens.{EventOfStep, Happens, is_defined, atom_after, number_after}
+use Rattle.tp_task.specs.Valid.{Planned, Placed, at}
+use Rattle.tp_task.specs.Verdict as fault
+use Rattle.tp_task.specs.Verdict.{Fault, fault_or, first_pair, is_unlawful, is_broken}
 use Rattle.tp_happen.specs.Small.{all_small}
 use Rattle.tp_happen.specs.Bounded.{Passes}
 use Rattle.tp_happen.specs.declared.faults.Why.{Why}

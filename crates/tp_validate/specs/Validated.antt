@@ -1,6 +1,6 @@
 -- A validated plan as contracts see it: its task and its steps.
 use Rattle.std.specs.Prelude.{List}
-use Rattle.tp_ground.specs.declared.task.Task.{Task}
+use Rattle.tp_task.specs.declared.task.Task.{Task}
 use Rattle.tp_happen.specs.declared.plans.Step.{Step}
 
 pub record Validated : Type 0 where

@@ -1,8 +1,8 @@
 -- What a verdict on a plan means, and when a number passes the limit before it.
 use Rattle.std.specs.Prelude.{◌≡◌, ℕ, ◌<◌, true, false, List, None, ◌⊎◌}
-use Rattle.tp_ground.specs.declared.task.Task.{Task}
-use Rattle.tp_ground.specs.State.{holds}
-use Rattle.tp_ground.specs.Valid.{at}
+use Rattle.tp_task.specs.declared.task.Task.{Task}
+use Rattle.tp_task.specs.State.{holds}
+use Rattle.tp_task.specs.Valid.{at}
 use Rattle.tp_happen.specs.declared.plans.Step.{Step}
 use Rattle.tp_happen.specs.Small.{all_small}
 use Rattle.tp_happen.specs.Bounded.{StaysSmall}

@@ -3,15 +3,15 @@
 ghost use Rattle.std.specs.Prelude.{◌≡◌, ◌<◌, ◌&&◌, ◌==◌, nat_le, true, false, pos, ◌*ℤ◌, ◌-ℤ◌, ◌≤ℤ◌, length, Some, IfOk, IfSome, OnErr};
 ghost use Rattle.std.specs.List.{list_all, position_from};
 ghost use Rattle.tp_text.specs.Scales.{scale_ticks};
-ghost use Rattle.tp_ground.specs.Verdict as verdict;
+ghost use Rattle.tp_task.specs.Verdict as verdict;
 ghost use Rattle.tp_happen.specs.Small.{is_small, values_small};
 ghost use Rattle.tp_happen.specs.Stored.{state_of};
 ghost use Rattle.tp_validate.specs.Agenda.{starting_at};
 ghost use Rattle.tp_validate.specs.Constraints.{limit_holds, start_small, constraint_small_at};
 
 use crate::placing::PlannedStep;
-use tp_ground::{Body, Limit};
 use tp_happen::{Range, State, compares, constraint_defined, value};
+use tp_task::{Body, Limit};
 use tp_text::Scale;
 
 /// Units of time in ticks.

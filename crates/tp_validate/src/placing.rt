@@ -2,14 +2,14 @@
 
 ghost use Rattle.std.specs.Prelude.{◌≡◌, ℕ, ◌+◌, ◌*◌, ◌<◌, ◌≤◌, ◌++◌, true, nat_le, nat_lt, length, map, option_map, slice_get, slice_index_or, IfOk, OnOk};
 ghost use Rattle.std.specs.List.{list_all};
-ghost use Rattle.tp_ground.specs.Valid.{events, events_of, count_of};
+ghost use Rattle.tp_task.specs.Valid.{events, events_of, count_of};
 ghost use Rattle.tp_validate.specs.OfTask.{plan_of, step_of};
 ghost use Rattle.tp_validate.specs.Places.{numbers};
 
 use std::alloc::{AllocError, Global};
 use std::marker::Model;
-use tp_ground::{Body, GroundEvent, Task};
 use tp_happen::{Event, EventRef, Step};
+use tp_task::{Body, GroundEvent, Task};
 
 /// A step of a plan with what its action does.
 #[derive(Drop)]
@@ -20,8 +20,8 @@ pub struct PlannedStep<'t> {
 }
 
 impl<'t> Model for PlannedStep<'t> {
-    ghost use Rattle.tp_ground.specs.Valid.{Planned};
-    ghost use Rattle.tp_ground.specs.contracts.Body as ground_body;
+    ghost use Rattle.tp_task.specs.Valid.{Planned};
+    ghost use Rattle.tp_task.specs.contracts.Body as ground_body;
     ghost use Rattle.std.specs.Coded.{codes};
 
     ghost Value = { Planned };
@@ -70,8 +70,8 @@ pub struct PlacedEvent<'t> {
 }
 
 impl<'t> Model for PlacedEvent<'t> {
-    ghost use Rattle.tp_ground.specs.Valid.{Placed};
-    ghost use Rattle.tp_ground.specs.contracts.GroundEvent as ground_event;
+    ghost use Rattle.tp_task.specs.Valid.{Placed};
+    ghost use Rattle.tp_task.specs.contracts.GroundEvent as ground_event;
     ghost use Rattle.std.specs.Coded.{codes};
 
     ghost Value = { Placed };

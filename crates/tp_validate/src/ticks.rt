@@ -2,8 +2,8 @@
 
 ghost use Rattle.std.specs.Prelude.{◌≡◌, ◌+◌, ◌<◌, ◌≤◌, true, false, length, IfOk, IfErr, IfSome, OnErr};
 ghost use Rattle.std.specs.List.{list_all, position_from};
-ghost use Rattle.tp_ground.specs.Valid.{events, at};
-ghost use Rattle.tp_ground.specs.Verdict as verdict;
+ghost use Rattle.tp_task.specs.Valid.{events, at};
+ghost use Rattle.tp_task.specs.Verdict as verdict;
 ghost use Rattle.tp_happen.specs.Stored.{state_of, fits_in};
 ghost use Rattle.tp_happen.specs.Fault.{OnRange};
 ghost use Rattle.tp_validate.specs.Agenda.{starting_at, IsRunning};
@@ -14,8 +14,8 @@ ghost use Rattle.tp_validate.specs.Found.{told, IsFound};
 use crate::durations::first_unlawful;
 use crate::placing::{PlacedEvent, PlannedStep, event_refs, number_at};
 use std::alloc::Global;
-use tp_ground::Body;
 use tp_happen::{ApplyFault, Outcome, Range, State, Why, apply, holds};
+use tp_task::Body;
 
 /// Why a plan is not valid, with the number of an event or of a step.
 #[derive(Clone, Copy, Debug, PartialEq, Eq)]

@@ -2,9 +2,9 @@
 
 ghost use Rattle.std.specs.Prelude.{◌≡◌, ◌+◌, ◌<◌, ◌≤◌, nat_le, true, ◌⊎◌, length, IfOk, IfErr, IfSome, MatchOption};
 ghost use Rattle.std.specs.List.{All, list_all};
-ghost use Rattle.tp_ground.specs.Fits.{body_fits};
-ghost use Rattle.tp_ground.specs.Valid.{events};
-ghost use Rattle.tp_ground.specs.Verdict.{last_moment};
+ghost use Rattle.tp_task.specs.Fits.{body_fits};
+ghost use Rattle.tp_task.specs.Valid.{events};
+ghost use Rattle.tp_task.specs.Verdict.{last_moment};
 ghost use Rattle.tp_happen.specs.Fault.{OnRange};
 ghost use Rattle.tp_happen.specs.Steps.{IsPlan};
 ghost use Rattle.tp_validate.specs.OfTask.{IsOfTask, plan_of, IsValidPlan};
@@ -20,8 +20,8 @@ use crate::ticks::{Fault, Judged, judge_tick};
 use std::alloc::{AllocError, Global};
 use std::marker::Model;
 use thiserror::Error;
-use tp_ground::{Task, valid_without_fault};
 use tp_happen::{ApplyFault, Plan, State, Step, holds};
+use tp_task::{Task, valid_without_fault};
 
 /// A plan that is valid for its task, in whose run no number passes 10^15 in absolute value.
 #[derive(Drop)]
@@ -31,7 +31,7 @@ pub struct ValidPlan<'t> {
 }
 
 impl<'t> Model for ValidPlan<'t> {
-    ghost use Rattle.tp_ground.specs.contracts.task.Task as a_task;
+    ghost use Rattle.tp_task.specs.contracts.task.Task as a_task;
     ghost use Rattle.tp_happen.specs.contracts.plans.Step as a_step;
     ghost use Rattle.std.specs.Coded.{codes};
     ghost use Rattle.tp_validate.specs.Validated.{Validated};

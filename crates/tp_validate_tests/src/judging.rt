@@ -6,9 +6,10 @@ use std::alloc::Global;
 use std::process::Abort;
 use std::test::Fail;
 use tp_bounds::Limits;
-use tp_ground::{GroundFault, Task, ground};
+use tp_ground::ground;
 use tp_happen::{Step, read_plan};
 use tp_syntax::{Domain, Problem, read_domain, read_problem};
+use tp_task::{GroundFault, Task};
 use tp_text::Scale;
 use tp_validate::{Fault, Verdict, validate};
 

@@ -6,9 +6,9 @@ use crate::judging::{Row, World, are_judged, is_judged, task_of};
 use std::alloc::{AllocError, Global};
 use std::process::Abort;
 use std::test::Fail;
-use tp_ground::Task;
 use tp_happen::{Plan, read_plan};
 use tp_small_worlds::{CHARGE, EMPTY_TANK, TANK, UNCHARGED};
+use tp_task::Task;
 use tp_text::Scale;
 use tp_validate::{Fault, ValidateFault, validate};
 

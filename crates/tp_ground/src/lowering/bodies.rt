@@ -7,7 +7,7 @@ ghost use Rattle.tp_ast.specs.EffectViews.{effect_view, timed_condition_view, ti
 ghost use Rattle.tp_ast.specs.DomainViews.{body_view};
 ghost use Rattle.tp_ast.specs.Actions.{durative};
 ghost use Rattle.tp_ground.specs.Views.{env_view, universe_view};
-ghost use Rattle.tp_ground.specs.Tables.{Tables};
+ghost use Rattle.tp_task.specs.Tables.{Tables};
 ghost use Rattle.tp_ground.specs.Written.{happening, condition_at, start_in, end_in, instant_in, body_in};
 ghost use Rattle.tp_ground.specs.Mentions.{◌then◌, of_condition, of_start, of_end, of_instant, of_body};
 ghost use Rattle.tp_ground.specs.ReadBack.{named_condition, named_limit, named_event, named_body};
@@ -16,20 +16,19 @@ ghost use Rattle.tp_ground.specs.NumberedEffects.{named_simple_effect, AreSplit}
 ghost use Rattle.tp_ground.specs.Lowered.{Lowers};
 
 use crate::environment::Env;
-use crate::fault::GroundFault;
 use crate::lowering::conditions::condition;
 use crate::lowering::constraints::limits;
 use crate::lowering::effects::NumberedEffect;
 use crate::lowering::parts::joined;
 use crate::universe::Universe;
 use crate::writer::Writer;
-use crate::{Body, Cond, GroundEvent, Limit, NumericEffect};
 use std::alloc::{AllocError, Global};
 use tp_ast::constraint::DurationConstraint;
 use tp_ast::effect::Effect;
 use tp_ast::timed::{TimedCond, TimedEffect};
 use tp_ast::words::TimeSpecifier;
 use tp_ast::words::TimeSpecifier::{AtEnd, AtStart, OverAll};
+use tp_task::{Body, Cond, GroundEvent, GroundFault, Limit, NumericEffect};
 
 // The adds, the deletes and the writes among simple effects.
 struct Changes {

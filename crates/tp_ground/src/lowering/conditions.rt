@@ -7,7 +7,7 @@ ghost use Rattle.tp_ast.specs.ExprViews.{expr_view};
 ghost use Rattle.tp_ast.specs.CondViews.{cond_view};
 ghost use Rattle.tp_ground.specs.Bindings.{object_for, words_in};
 ghost use Rattle.tp_ground.specs.Views.{env_view, universe_view};
-ghost use Rattle.tp_ground.specs.Tables.{Tables, words_at};
+ghost use Rattle.tp_task.specs.Tables.{Tables, words_at};
 ghost use Rattle.tp_ground.specs.Written.{condition_in, same_in, compared_in, either, negation, inner, all_of, any_of, conditions_from};
 ghost use Rattle.tp_ground.specs.Written.{atom as cond_atom};
 ghost use Rattle.tp_ground.specs.Mentions.{an_atom, of_condition, of_each};
@@ -16,9 +16,7 @@ ghost use Rattle.tp_ground.specs.Lowered.{IsLowered, Lowers};
 ghost use Rattle.tp_ground.specs.TermsIn.{terms_in};
 ghost use Rattle.tp_ground.specs.Kept.{Stands};
 
-use crate::Cond;
 use crate::environment::{Env, object_for, words_in};
-use crate::fault::GroundFault;
 use crate::keys::{Objects, objects_in};
 use crate::lowering::expressions::{comparison_of, operand};
 use crate::memory::Kept;
@@ -32,6 +30,7 @@ use tp_ast::expr::Expr;
 use tp_ast::symbols::Typed;
 use tp_ast::term::{Atom, Term};
 use tp_ast::words::Comparison;
+use tp_task::{Cond, GroundFault};
 
 /// The number of an atom.
 pub fn atom(alloc: Global, env: &Env, writer: &mut Writer, atom: &Atom) -> Result<u32, GroundFault>

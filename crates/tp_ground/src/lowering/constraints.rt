@@ -9,13 +9,12 @@ ghost use Rattle.tp_ground.specs.Mentions.{of_limit, of_each};
 ghost use Rattle.tp_ground.specs.ReadBack.{named_limit};
 ghost use Rattle.tp_ground.specs.Lowered.{Lowers};
 
-use crate::Limit;
 use crate::environment::Env;
-use crate::fault::GroundFault;
 use crate::lowering::expressions::{comparison_of, expression};
 use crate::writer::Writer;
 use std::alloc::Global;
 use tp_ast::constraint::DurationConstraint;
+use tp_task::{GroundFault, Limit};
 
 #[cycle(limits)]
 fn all_limits(

@@ -16,19 +16,18 @@ ghost use Rattle.tp_ground.specs.NumberedEffects.{named_simple_effect};
 ghost use Rattle.tp_ground.specs.Lowered.{Lowers};
 
 use crate::environment::Env;
-use crate::fault::GroundFault;
 use crate::lowering::conditions::{atom, condition};
 use crate::lowering::expressions::{expression, fluent};
 use crate::lowering::parts::{Lowerable, joined};
 use crate::universe::Universe;
 use crate::writer::Writer;
-use crate::{Change, Cond, NumericEffect};
 use std::alloc::Global;
 use tp_ast::effect::{Effect, SimpleEffect};
 use tp_ast::expr::Expr;
 use tp_ast::term::Atom;
 use tp_ast::timed::Timed;
 use tp_ast::words::{TimeSpecifier, Writing};
+use tp_task::{Change, Cond, GroundFault, NumericEffect};
 
 /// One change over numbers.
 #[derive(Drop)]

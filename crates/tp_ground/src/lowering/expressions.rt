@@ -5,18 +5,17 @@ ghost use Rattle.tp_ast.specs.Terms.{atom_view};
 ghost use Rattle.tp_ast.specs.ExprViews.{expr_view};
 ghost use Rattle.tp_ground.specs.Bindings.{words_in};
 ghost use Rattle.tp_ground.specs.Views.{env_view};
-ghost use Rattle.tp_ground.specs.Tables.{words_at};
+ghost use Rattle.tp_task.specs.Tables.{words_at};
 ghost use Rattle.tp_ground.specs.Written.{expression_in, comparison_of};
 ghost use Rattle.tp_ground.specs.Mentions.{a_fluent, of_expression};
 ghost use Rattle.tp_ground.specs.ReadBack.{named_expression};
 ghost use Rattle.tp_ground.specs.Lowered.{Lowers};
 
 use crate::environment::{Env, words_in};
-use crate::fault::GroundFault;
 use crate::writer::Writer;
-use crate::{Comparison, Expr};
 use std::alloc::Global;
 use tp_ast::term::Atom;
+use tp_task::{Comparison, Expr, GroundFault};
 
 /// How numbers are compared.
 pub fn comparison_of(comparison: tp_ast::words::Comparison) -> Comparison

@@ -7,13 +7,12 @@ ghost use Rattle.tp_ast.specs.PartViews.{joined_view};
 ghost use Rattle.tp_ast.specs.declared.words.TimeSpecifier as specifiers;
 ghost use Rattle.tp_ground.specs.Bindings as bindings;
 ghost use Rattle.tp_ground.specs.Views.{env_view, universe_view};
-ghost use Rattle.tp_ground.specs.Tables.{Tables};
+ghost use Rattle.tp_task.specs.Tables.{Tables};
 ghost use Rattle.tp_ground.specs.Written.{parts_in, inner};
 ghost use Rattle.tp_ground.specs.Mentions.{Mentions, of_each};
 ghost use Rattle.tp_ground.specs.Lowered.{Lowers};
 
 use crate::environment::Env;
-use crate::fault::GroundFault;
 use crate::rows::rows_of;
 use crate::universe::Universe;
 use crate::writer::Writer;
@@ -21,6 +20,7 @@ use std::alloc::Global;
 use tp_ast::joined::Joined;
 use tp_ast::symbols::Typed;
 use tp_ast::words::TimeSpecifier;
+use tp_task::GroundFault;
 
 /// What may stand inside.
 pub trait Lowerable: Drop {

@@ -1,8 +1,8 @@
 use Rattle.std.proofs.Common.{◌≡◌, ℕ, ◌≤◌, true, nat_lt, List, length, sym, ap₂, ◌∙◌, subst, arith}
 use Rattle.std.specs.List.{list_all}
 use Rattle.tp_bounds.specs.declared.Bound.{Bound}
-use Rattle.tp_ground.specs.Valid.{Planned, events}
-use Rattle.tp_ground.specs.Verdict.{states, last_moment}
+use Rattle.tp_task.specs.Valid.{Planned, events}
+use Rattle.tp_task.specs.Verdict.{states, last_moment}
 use Rattle.tp_validate.specs.OfTask.{scale_of, begin, plan_of}
 use Rattle.tp_validate.proofs.Planning.{planned_few, ends, planned_ends, fits, planned_fits}
 use Rattle.tp_deorder.specs.Answers.{IsNetOf}

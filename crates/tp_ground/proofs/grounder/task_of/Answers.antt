@@ -1,6 +1,6 @@
 use Rattle.std.proofs.Common.{ℕ, ap₂, ◌∙◌}
 use Rattle.std.specs.List.{list_all}
-use Rattle.tp_ground.specs.Fits.{body_fits}
+use Rattle.tp_task.specs.Fits.{body_fits}
 use Rattle.tp_ground.proofs.grounder.task_of.Goals as goal
 
 pub invariant_of-result : goal.invariant_of-result

@@ -1,6 +1,6 @@
 use Rattle.std.proofs.Common.{List, [], ◌∷◌, ◌++◌, Bor, Vec, Global, map, take, string_bytes, sym, ap, ap₂, ◌∙◌, append_assoc}
 use Rattle.tp_ast.specs.Symbols.{Name}
-use Rattle.tp_ground.specs.Words.{Words}
+use Rattle.tp_task.specs.Words.{Words}
 use Rattle.tp_ground.specs.Rows.{product, lists_of}
 use Rattle.tp_ground.proofs.Along.{map_next, map_ended}
 use Rattle.tp_ground.proofs.OnRows.{row_there, within, behind_all}

@@ -3,10 +3,10 @@ use Rattle.std.specs.List.{flat_map}
 use Rattle.std.proofs.lemmas.List.{map-append}
 use Rattle.tp_ast.specs.Symbols.{Name}
 use Rattle.tp_ast.specs.Actions.{Action}
-use Rattle.tp_ground.specs.Words.{Words}
+use Rattle.tp_task.specs.Words.{Words}
 use Rattle.tp_ground.specs.Bindings.{Universe, bindings}
 use Rattle.tp_ground.specs.Grounding.{universe_of, ground_action, ground_actions}
-use Rattle.tp_ground.specs.Readable.{AreReadable}
+use Rattle.tp_task.specs.Readable.{AreReadable}
 use Rattle.tp_ground.proofs.OnSpelled.{spelled_names}
 use Rattle.tp_ground.proofs.OnReadable.{labels_readable}
 use Rattle.tp_ground.proofs.laws.actions_are_readable.Goals as goal

@@ -1,5 +1,5 @@
 use Rattle.std.proofs.Common.{◌≡◌, map, length, string_bytes}
-use Rattle.tp_ground.specs.Words.{same_words}
+use Rattle.tp_task.specs.Words.{same_words}
 use Rattle.tp_ground.proofs.universe.are_same.Given as goal
 
 abbrev pub invariant-pairs : goal.invariant-pairs

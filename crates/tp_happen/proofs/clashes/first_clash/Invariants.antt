@@ -1,7 +1,7 @@
 use Rattle.std.proofs.Common.{◌≡◌, drop}
 use Rattle.std.specs.List.{position_from}
-use Rattle.tp_ground.specs.Event.{mixes}
-use Rattle.tp_ground.specs.Happens.{EventOfStep}
+use Rattle.tp_task.specs.Event.{mixes}
+use Rattle.tp_task.specs.Happens.{EventOfStep}
 use Rattle.tp_happen.proofs.clashes.first_clash.Given as goal
 
 abbrev pub invariant-loop-i : goal.invariant-loop-i

@@ -1,5 +1,5 @@
 use Rattle.std.proofs.Common.{rules, ◌≡◌, ◌<◌, ◌||◌, false, None, length, get_or, ap}
-use Rattle.tp_ground.specs.Event.{mixes_in}
+use Rattle.tp_task.specs.Event.{mixes_in}
 use Rattle.tp_happen.specs.Clashes.{clashes}
 use Rattle.tp_happen.proofs.OnClashes.{blank, go_on}
 use Rattle.tp_happen.proofs.clashes.mixes.Goals as goal

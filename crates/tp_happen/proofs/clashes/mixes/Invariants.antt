@@ -1,6 +1,6 @@
 -- What the writes so far, told by the table, and those that are left mix is what all of them mix.
 use Rattle.std.proofs.Common.{◌≡◌, ◌||◌, None, get_or, drop}
-use Rattle.tp_ground.specs.Event.{mixes_in}
+use Rattle.tp_task.specs.Event.{mixes_in}
 use Rattle.tp_happen.proofs.OnClashes.{some_clashes}
 use Rattle.tp_happen.proofs.clashes.mixes.Given as goal
 

@@ -1,6 +1,6 @@
 -- What is judged so far and what is left give the whole; what is left is small if all is.
 use Rattle.std.proofs.Common.{◌≡◌, drop}
-use Rattle.tp_ground.specs.Truth.{and_both, or_both}
+use Rattle.tp_task.specs.Truth.{and_both, or_both}
 use Rattle.tp_happen.specs.Judged.{judged_all, judged_any, each_small}
 use Rattle.tp_happen.specs.Stored.{state_of}
 use Rattle.tp_happen.proofs.conditions.+judged.Given as goal

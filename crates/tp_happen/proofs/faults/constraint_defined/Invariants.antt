@@ -1,6 +1,6 @@
 use Rattle.std.proofs.Common.{◌≡◌, ◌&&◌, is_some, drop, None}
 use Rattle.std.specs.List.{list_all}
-use Rattle.tp_ground.specs.State.{value}
+use Rattle.tp_task.specs.State.{value}
 use Rattle.tp_happen.specs.Small.{values_small}
 use Rattle.tp_happen.specs.Stored.{state_of}
 use Rattle.tp_happen.proofs.faults.constraint_defined.Given as goal

@@ -1,7 +1,7 @@
 use Rattle.std.proofs.Common.{◌≡◌, drop}
 use Rattle.std.specs.List.{position_from}
-use Rattle.tp_ground.specs.Event.{interferes}
-use Rattle.tp_ground.specs.Happens.{EventOfStep}
+use Rattle.tp_task.specs.Event.{interferes}
+use Rattle.tp_task.specs.Happens.{EventOfStep}
 use Rattle.tp_happen.proofs.faults.first_disturbed.Given as goal
 
 abbrev pub invariant-loop-j : goal.invariant-loop-j

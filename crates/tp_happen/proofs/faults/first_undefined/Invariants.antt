@@ -1,6 +1,6 @@
 use Rattle.std.proofs.Common.{◌≡◌, not, drop}
 use Rattle.std.specs.List.{list_all, position_from}
-use Rattle.tp_ground.specs.Happens.{is_defined}
+use Rattle.tp_task.specs.Happens.{is_defined}
 use Rattle.tp_happen.specs.Stored.{state_of}
 use Rattle.tp_happen.specs.Terms.{terms_small}
 use Rattle.tp_happen.proofs.faults.first_undefined.Given as goal

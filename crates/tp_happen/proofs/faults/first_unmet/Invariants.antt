@@ -1,7 +1,7 @@
 use Rattle.std.proofs.Common.{◌≡◌, not, drop}
 use Rattle.std.specs.List.{list_all, position_from}
-use Rattle.tp_ground.specs.State.{holds}
-use Rattle.tp_ground.specs.Happens.{EventOfStep}
+use Rattle.tp_task.specs.State.{holds}
+use Rattle.tp_task.specs.Happens.{EventOfStep}
 use Rattle.tp_happen.specs.Stored.{state_of}
 use Rattle.tp_happen.specs.Terms.{condition_small}
 use Rattle.tp_happen.proofs.faults.first_unmet.Given as goal

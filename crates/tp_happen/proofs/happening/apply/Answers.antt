@@ -1,8 +1,8 @@
 use Rattle.std.proofs.Common.{not, sym, ◌∙◌, inl}
 use Rattle.std.proofs.lemmas.Result.{MatchResult-from_err, err_from_is_err_and}
-use Rattle.tp_ground.specs.State.{holds}
-use Rattle.tp_ground.specs.Event.{mixes}
-use Rattle.tp_ground.specs.Happens.{EventOfStep, is_defined}
+use Rattle.tp_task.specs.State.{holds}
+use Rattle.tp_task.specs.Event.{mixes}
+use Rattle.tp_task.specs.Happens.{EventOfStep, is_defined}
 use Rattle.tp_happen.specs.Stored.{state_of}
 use Rattle.tp_happen.specs.Bounded.{Passes}
 use Rattle.tp_happen.specs.Fault.{OnRange}

@@ -1,7 +1,7 @@
 use Rattle.std.proofs.Common.{◌≡◌, ◌<◌, true, false, None, length, get_or, All, sym, ap, ◌∙◌, subst}
-use Rattle.tp_ground.specs.Happens.{EventOfStep}
-use Rattle.tp_ground.specs.InOrder.{after_events, after_deletes, after_adds}
-use Rattle.tp_ground.proofs.Sequence.{in_order, atoms_in_order}
+use Rattle.tp_task.specs.Happens.{EventOfStep}
+use Rattle.tp_task.specs.InOrder.{after_events, after_deletes, after_adds}
+use Rattle.tp_task.proofs.Sequence.{in_order, atoms_in_order}
 use Rattle.tp_happen.specs.Bounded.{all_sums_small}
 use Rattle.tp_happen.specs.Stored.{Stored, state_of}
 use Rattle.tp_happen.proofs.NoFault.{fits_adds, fits_deletes, fits_writes}

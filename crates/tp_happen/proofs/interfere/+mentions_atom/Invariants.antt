@@ -1,8 +1,8 @@
 -- What is left mentions it if anything does.
 use Rattle.std.proofs.Common.{◌≡◌, drop}
 use Rattle.std.specs.List.{list_any}
-use Rattle.tp_ground.specs.State.{atoms_in}
-use Rattle.tp_ground.specs.Event.{has}
+use Rattle.tp_task.specs.State.{atoms_in}
+use Rattle.tp_task.specs.Event.{has}
 use Rattle.tp_happen.proofs.interfere.+mentions_atom.Given as goal
 
 abbrev pub invariant-some_mentions_atom-loop-c : goal.invariant-some_mentions_atom-loop-c

@@ -1,8 +1,8 @@
 -- What is left mentions it if anything does.
 use Rattle.std.proofs.Common.{◌≡◌, drop}
 use Rattle.std.specs.List.{list_any}
-use Rattle.tp_ground.specs.State.{fluents_in}
-use Rattle.tp_ground.specs.Event.{has}
+use Rattle.tp_task.specs.State.{fluents_in}
+use Rattle.tp_task.specs.Event.{has}
 use Rattle.tp_happen.proofs.interfere.+mentions_fluent.Given as goal
 
 abbrev pub invariant-some_mentions_fluent-loop-c : goal.invariant-some_mentions_fluent-loop-c

@@ -1,7 +1,7 @@
 use Rattle.std.proofs.Common.{◌∙◌, sym, ap}
 use Rattle.std.specs.List.{list_any}
-use Rattle.tp_ground.specs.State.{fluents_of}
-use Rattle.tp_ground.specs.Event.{has}
+use Rattle.tp_task.specs.State.{fluents_of}
+use Rattle.tp_task.specs.Event.{has}
 use Rattle.tp_happen.proofs.Meets.{has_flat_map}
 use Rattle.tp_happen.proofs.interfere.effects_read.Goals as goal
 

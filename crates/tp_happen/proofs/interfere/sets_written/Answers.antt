@@ -1,6 +1,6 @@
 use Rattle.std.proofs.Common.{◌&&◌, not, ◌∙◌, sym, ap}
 use Rattle.std.specs.List.{list_any}
-use Rattle.tp_ground.specs.Event.{has, is_additive, fluents_written}
+use Rattle.tp_task.specs.Event.{has, is_additive, fluents_written}
 use Rattle.tp_happen.proofs.Meets.{meets_filter}
 use Rattle.tp_happen.proofs.interfere.sets_written.Goals as goal
 

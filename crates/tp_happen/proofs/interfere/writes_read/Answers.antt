@@ -1,6 +1,6 @@
 use Rattle.std.proofs.Common.{◌∙◌, sym, ap}
 use Rattle.std.specs.List.{list_any}
-use Rattle.tp_ground.specs.Event.{has, fluents_read}
+use Rattle.tp_task.specs.Event.{has, fluents_read}
 use Rattle.tp_happen.proofs.Meets.{meets_map}
 use Rattle.tp_happen.proofs.interfere.writes_read.Goals as goal
 

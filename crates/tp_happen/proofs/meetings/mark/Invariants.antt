@@ -1,6 +1,6 @@
 -- The numbers that are left, entered over what is there now, give what all of them give.
 use Rattle.std.proofs.Common.{◌≡◌, ℕ, ◌<◌, Some, None, length, get_or, drop, if◌then◌else◌}
-use Rattle.tp_ground.specs.Event.{has}
+use Rattle.tp_task.specs.Event.{has}
 use Rattle.tp_happen.proofs.meetings.mark.Given as goal
 
 abbrev pub invariant-loop-number : goal.invariant-loop-number

@@ -1,6 +1,6 @@
 use Rattle.std.proofs.Common.{◌≡◌, ◌++◌, drop}
 use Rattle.std.specs.List.{flat_map}
-use Rattle.tp_ground.specs.State.{atoms_in}
+use Rattle.tp_task.specs.State.{atoms_in}
 use Rattle.tp_happen.proofs.mentions.+push_atoms.Given as goal
 
 abbrev pub invariant-push_atoms_of_each-loop-c : goal.invariant-push_atoms_of_each-loop-c

@@ -1,6 +1,6 @@
 use Rattle.std.proofs.Common.{◌≡◌, ◌++◌, drop}
 use Rattle.std.specs.List.{flat_map}
-use Rattle.tp_ground.specs.State.{fluents_of}
+use Rattle.tp_task.specs.State.{fluents_of}
 use Rattle.tp_happen.proofs.mentions.push_limits.Given as goal
 
 abbrev pub invariant-loop-limit : goal.invariant-loop-limit

@@ -1,6 +1,6 @@
 use Rattle.std.proofs.Common.{◌≡◌, ◌++◌, drop, map, not}
 use Rattle.std.specs.List.{filter}
-use Rattle.tp_ground.specs.Event.{is_additive}
+use Rattle.tp_task.specs.Event.{is_additive}
 use Rattle.tp_happen.proofs.mentions.push_set.Given as goal
 
 abbrev pub invariant-loop-effect : goal.invariant-loop-effect

@@ -1,5 +1,5 @@
 use Rattle.std.proofs.Common.{◌≡◌, ℕ, false, get_or, drop}
-use Rattle.tp_ground.specs.InOrder.{after_deletes}
+use Rattle.tp_task.specs.InOrder.{after_deletes}
 use Rattle.tp_happen.proofs.writes.delete_all.Given as goal
 
 abbrev pub invariant-loop-event : goal.invariant-loop-event

@@ -1,7 +1,7 @@
 -- The events that are left, on what is there now, give what all of them give.
 use Rattle.std.proofs.Common.{◌≡◌, ℕ, None, get_or, drop}
 use Rattle.std.specs.List.{list_all}
-use Rattle.tp_ground.specs.InOrder.{after_events}
+use Rattle.tp_task.specs.InOrder.{after_events}
 use Rattle.tp_happen.specs.Bounded.{effects_small, all_sums_small}
 use Rattle.tp_happen.specs.Stored.{state_of}
 use Rattle.tp_happen.proofs.writes.write_all.Given as goal

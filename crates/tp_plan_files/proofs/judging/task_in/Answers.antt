@@ -6,12 +6,12 @@ use Rattle.tp_plan_files.proofs.judging.task_in.Goals as goal
 
 pub returns-clause-named : goal.returns-clause-named
 returns-clause-named g c =
-    IfOk-weaker c.task_with.result _ _ (λ task h. named_task (g.N.Files.held c.args.files.now) (g.N.Files.held c.domain_in.new.files) c.args.words _ task c.in_ok-domain.ensures.spelled c.domain_in.ensures.same h) c.task_with.ensures.named
+    IfOk-weaker c.task_with-task.result _ _ (λ task h. named_task (g.N.Files.held c.args.files.now) (g.N.Files.held c.domain_in.new.files) c.args.words _ task c.in_ok-domain.ensures.spelled c.domain_in.ensures.same h) c.task_with-task.ensures.named
 
 pub returns-clause-cause : goal.returns-clause-cause
 returns-clause-cause g c =
     let held = g.N.Files.held c.args.files.now in
     let later = g.N.Files.held c.domain_in.new.files in
-    IfErr-weaker c.task_with.result _ _ (λ fault h. explains_over later held c.args.words fault c.domain_in.ensures.same h)
-    (c.task_with.ensures.cause
+    IfErr-weaker c.task_with-task.result _ _ (λ fault h. explains_over later held c.args.words fault c.domain_in.ensures.same h)
+    (c.task_with-task.ensures.cause
     (in_over held later c.args.words.domain.now (λ text. SpellsDomain text (domain_view c.in_ok-domain.domain)) (back later held c.domain_in.ensures.same) c.in_ok-domain.ensures.spelled))

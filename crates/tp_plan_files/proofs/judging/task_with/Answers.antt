@@ -4,8 +4,8 @@ use Rattle.tp_syntax.specs.DomainViews.{domain_view, problem_view}
 use Rattle.tp_ground.specs.Grounding.{HasNoTask}
 use Rattle.tp_plan_files.proofs.judging.task_with.Goals as goal
 
-pub returns-clause-cause : goal.returns-clause-cause
-returns-clause-cause g c =
+pub returns-in-Err-clause-cause : goal.returns-in-Err-clause-cause
+returns-in-Err-clause-cause g c =
     λ spelled. (
       domain_view c.args.domain.now,
       problem_view c.in_ok-problem.problem,

@@ -9,15 +9,15 @@ pub returns-in-Ok-clause-said : goal.returns-in-Ok-clause-said
 returns-in-Ok-clause-said g c =
     let held = g.N.Files.held c.args.files.now in
     let later = g.N.Files.held c.task_in.new.files in
-    IfOk-weaker c.tell_of.result _ _ (λ valid h. says_over later held c.args.words _ _ valid c.task_in.ensures.same h)
-    (c.tell_of.ensures.said (task_over held later c.args.words c.in-Ok.task (back later held c.task_in.ensures.same) c.in-Ok.ensures.named))
+    IfOk-weaker c.tell_of-told.result _ _ (λ valid h. says_over later held c.args.words _ _ valid c.task_in.ensures.same h)
+    (c.tell_of-told.ensures.said (task_over held later c.args.words c.in-Ok.task (back later held c.task_in.ensures.same) c.in-Ok.ensures.named))
 
 pub returns-in-Ok-clause-cause : goal.returns-in-Ok-clause-cause
 returns-in-Ok-clause-cause g c =
     let held = g.N.Files.held c.args.files.now in
     let later = g.N.Files.held c.task_in.new.files in
-    IfErr-weaker c.tell_of.result _ _ (λ stop h. stops_over IsVerdictLine (λ _ _ _. ⊥) later held c.args.words _ _ stop c.task_in.ensures.same h)
-    (c.tell_of.ensures.cause (task_over held later c.args.words c.in-Ok.task (back later held c.task_in.ensures.same) c.in-Ok.ensures.named))
+    IfErr-weaker c.tell_of-told.result _ _ (λ stop h. stops_over IsVerdictLine (λ _ _ _. ⊥) later held c.args.words _ _ stop c.task_in.ensures.same h)
+    (c.tell_of-told.ensures.cause (task_over held later c.args.words c.in-Ok.task (back later held c.task_in.ensures.same) c.in-Ok.ensures.named))
 
 pub returns-in-Err-clause-cause : goal.returns-in-Err-clause-cause
 returns-in-Err-clause-cause g c = (c.in-Err.ensures.cause, refl)

@@ -3,7 +3,7 @@ use Rattle.std.proofs.lemmas.Result.{IfErr-weaker, IfOk-weaker}
 use Rattle.tp_plan_files.proofs.NamedLemmas.{back, task_over}
 use Rattle.std.proofs.Common.{ℕ, List}
 use Rattle.tp_bounds.specs.RunLimits.{greatest_limits}
-use Rattle.tp_ground.specs.declared.task.Task.{Task}
+use Rattle.tp_task.specs.declared.task.Task.{Task}
 use Rattle.tp_happen.specs.declared.plans.Step.{Step}
 use Rattle.tp_program.specs.Networks.{IsShownText, PassesNet}
 use Rattle.tp_program.proofs.PlanLemmas.{shows_over, stops_over}

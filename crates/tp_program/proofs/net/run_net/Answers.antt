@@ -1,6 +1,6 @@
 use Rattle.std.proofs.Common.{◌∙◌, ℕ, List}
 use Rattle.tp_bounds.specs.RunLimits.{greatest_limits}
-use Rattle.tp_ground.specs.declared.task.Task.{Task}
+use Rattle.tp_task.specs.declared.task.Task.{Task}
 use Rattle.tp_happen.specs.declared.plans.Step.{Step}
 use Rattle.tp_program.specs.Networks.{IsShownText, PassesNet}
 use Rattle.tp_program.proofs.PlanLemmas.{ends, ends_kept, ends_told, ends_within, part_then}

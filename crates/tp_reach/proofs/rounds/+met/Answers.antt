@@ -1,5 +1,5 @@
 use Rattle.std.proofs.Common.{not, sym, ap, ◌∙◌, arith}
-use Rattle.tp_ground.specs.Reach.{met}
+use Rattle.tp_task.specs.Reach.{met}
 use Rattle.tp_reach.specs.Rounds.{set_of, over}
 use Rattle.tp_reach.proofs.Rows.{met-And, met-Or, over_ended, over_decided, other_than, same_as, twice}
 use Rattle.tp_reach.proofs.rounds.+met.Goals as goal

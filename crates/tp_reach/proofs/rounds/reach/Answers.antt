@@ -1,6 +1,6 @@
 use Rattle.std.proofs.Common.{◌≡◌, ◌++◌, length, take, drop, true, refl, sym, ap, subst, ◌∙◌}
 use Rattle.std.specs.List.{list_all}
-use Rattle.tp_ground.specs.Reach.{IsReach}
+use Rattle.tp_task.specs.Reach.{IsReach}
 use Rattle.tp_reach.specs.Rounds.{set_of, adds_fit, acts_of_bodies}
 use Rattle.tp_reach.specs.Adding.{Adds, HasAdded}
 use Rattle.tp_reach.specs.TaskReach.{acts_of, first_state}

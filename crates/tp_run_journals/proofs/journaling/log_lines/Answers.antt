@@ -1,4 +1,4 @@
-use Rattle.tp_ground.specs.Bounds.{MeetsBounds}
+use Rattle.tp_task.specs.Bounds.{MeetsBounds}
 use Rattle.tp_validate.specs.OfTask.{plan_of, scale_of, state_at}
 use Rattle.tp_deorder.specs.Inequalities.{event_count_of}
 use Rattle.tp_plan_runs.proofs.AnswerLemmas.{transcript_keeps}

@@ -1,8 +1,8 @@
 use Rattle.std.proofs.Common.{◌≡◌, true, not, ◌&&◌, nat_le, None, is_some, List, sym, ap, ◌∙◌}
 use Rattle.std.specs.List.{list_all}
-use Rattle.tp_ground.specs.declared.events.Limit.{Limit}
-use Rattle.tp_ground.specs.State.{value}
-use Rattle.tp_ground.specs.Verdict.{is_unlawful}
+use Rattle.tp_task.specs.declared.events.Limit.{Limit}
+use Rattle.tp_task.specs.State.{value}
+use Rattle.tp_task.specs.Verdict.{is_unlawful}
 use Rattle.tp_happen.specs.Stored.{state_of}
 use Rattle.tp_validate.specs.Constraints.{limit_holds}
 use Rattle.tp_validate.proofs.Lawful.{unlawful_is}

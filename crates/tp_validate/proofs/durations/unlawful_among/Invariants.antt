@@ -1,7 +1,7 @@
 use Rattle.std.proofs.Common.{◌≡◌, ◌&&◌, ◌==◌, drop}
 use Rattle.std.specs.List.{position_from}
-use Rattle.tp_ground.specs.Valid.{Planned}
-use Rattle.tp_ground.specs.Verdict.{is_unlawful}
+use Rattle.tp_task.specs.Valid.{Planned}
+use Rattle.tp_task.specs.Verdict.{is_unlawful}
 use Rattle.tp_happen.specs.Stored.{state_of}
 use Rattle.tp_validate.proofs.durations.unlawful_among.Given as goal
 

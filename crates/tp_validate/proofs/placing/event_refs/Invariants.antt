@@ -1,6 +1,6 @@
 -- What is found so far, and what happens at the rest, is what happens at all.
 use Rattle.std.proofs.Common.{◌≡◌, ◌++◌, drop, map}
-use Rattle.tp_ground.specs.Valid.{Placed}
+use Rattle.tp_task.specs.Valid.{Placed}
 use Rattle.tp_validate.proofs.placing.event_refs.Given as goal
 
 abbrev pub invariant-loop-event : goal.invariant-loop-event

@@ -1,6 +1,6 @@
 -- The events so far, and those of the steps that are left, are all.
 use Rattle.std.proofs.Common.{◌≡◌, ◌≤◌, ◌*◌, ◌++◌, drop}
-use Rattle.tp_ground.specs.Valid.{events, events_from}
+use Rattle.tp_task.specs.Valid.{events, events_from}
 use Rattle.tp_validate.proofs.placing.placed_events.Given as goal
 
 abbrev pub invariant-loop-step : goal.invariant-loop-step

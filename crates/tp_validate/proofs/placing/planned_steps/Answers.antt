@@ -1,5 +1,5 @@
 use Rattle.std.proofs.Common.{◌+◌, ◌++◌, drop, Vec, Global, sym, ap, ◌∙◌}
-use Rattle.tp_ground.specs.Valid.{Planned}
+use Rattle.tp_task.specs.Valid.{Planned}
 use Rattle.tp_validate.specs.OfTask.{planned}
 use Rattle.tp_validate.proofs.AtPlace.{with_one, with_none}
 use Rattle.tp_validate.proofs.placing.planned_steps.Goals as goal

@@ -1,6 +1,6 @@
 use Rattle.std.proofs.Common.{leb, rules}
 use Rattle.std.proofs.lemmas.List.Sorted.{IsPartitionPoint-from_clause, IsPartitionedBy-leb}
-use Rattle.tp_ground.specs.Valid.{Planned}
+use Rattle.tp_task.specs.Valid.{Planned}
 use Rattle.tp_validate.proofs.Ordered.{until, after}
 use Rattle.tp_validate.proofs.rosters.count_started.Goals as goal
 

@@ -2,7 +2,7 @@ use Rattle.std.proofs.Common.{◌+◌, ◌++◌, nat_lt, List, rules, sym, ap, �
 use Rattle.std.specs.List.{filter}
 use Rattle.std.proofs.lemmas.Fn.{filter_same}
 use Rattle.std.proofs.lemmas.List.{append-nil, drop_all}
-use Rattle.tp_ground.specs.Valid.{Planned}
+use Rattle.tp_task.specs.Valid.{Planned}
 use Rattle.tp_validate.proofs.rosters.go_on.Goals as goal
 
 pub returns : goal.returns

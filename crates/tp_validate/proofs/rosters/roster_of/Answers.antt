@@ -1,6 +1,6 @@
 use Rattle.std.proofs.Common.{◌≡◌, rules, refl}
 use Rattle.std.proofs.lemmas.Fn.{always_returns_same}
-use Rattle.tp_ground.specs.Valid.{Planned}
+use Rattle.tp_task.specs.Valid.{Planned}
 use Rattle.tp_validate.proofs.Ordered.{sorted_left}
 use Rattle.tp_validate.proofs.rosters.roster_of.Goals as goal
 

@@ -1,7 +1,7 @@
 use Rattle.std.proofs.Common.{◌≡◌, false, sym, ◌∙◌}
 use Rattle.std.proofs.lemmas.Result.{MatchResult-from_err}
 use Rattle.std.specs.List.{list_all}
-use Rattle.tp_ground.specs.Valid.{Planned}
+use Rattle.tp_task.specs.Valid.{Planned}
 use Rattle.tp_happen.specs.Stored.{state_of}
 use Rattle.tp_validate.specs.Tick.{invariant_small}
 use Rattle.tp_validate.proofs.Running.{none_broken, invariant_fails}

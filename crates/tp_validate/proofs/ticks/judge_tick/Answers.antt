@@ -1,7 +1,7 @@
 use Rattle.std.proofs.Common.{◌≡◌, Some, None, List, refl, sym, ap, ◌∙◌, subst}
 use Rattle.std.proofs.lemmas.Result.{MatchResult-from_err}
-use Rattle.tp_ground.specs.Happens.{EventOfStep, Happens}
-use Rattle.tp_ground.specs.Valid.{Placed, events}
+use Rattle.tp_task.specs.Happens.{EventOfStep, Happens}
+use Rattle.tp_task.specs.Valid.{Placed, events}
 use Rattle.tp_happen.specs.Stored.{state_of, OfOneTask}
 use Rattle.tp_happen.specs.Bounded.{StaysSmall}
 use Rattle.tp_happen.specs.Fault.{Applies, OnNext, OnRange, fault_of}

@@ -1,7 +1,7 @@
 use Rattle.std.proofs.Common.{◌≡◌, ◌≤◌, true, List, length, sym, ◌∙◌, subst, arith}
 use Rattle.std.specs.List.{list_all}
-use Rattle.tp_ground.specs.Valid.{Planned, Placed, events}
-use Rattle.tp_ground.specs.Verdict.{last_moment}
+use Rattle.tp_task.specs.Valid.{Planned, Placed, events}
+use Rattle.tp_task.specs.Verdict.{last_moment}
 use Rattle.tp_happen.specs.Fault.{OnRange}
 use Rattle.tp_validate.specs.declared.verdicts.Ran.{Ran}
 use Rattle.tp_validate.specs.OfTask.{plan_of}

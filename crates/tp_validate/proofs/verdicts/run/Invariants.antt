@@ -1,6 +1,6 @@
 -- The run has come to a moment, the rests of the agenda and of the roster are those from there on, and the bound on the moment falls.
 use Rattle.std.proofs.Common.{◌-◌, ◌≤◌, length, drop}
-use Rattle.tp_ground.specs.Valid.{events}
+use Rattle.tp_task.specs.Valid.{events}
 use Rattle.tp_validate.specs.Agenda.{IsAgenda, IsRoster, IsRunning}
 use Rattle.tp_validate.specs.Reached.{Reached}
 use Rattle.tp_validate.proofs.verdicts.run.Given as goal

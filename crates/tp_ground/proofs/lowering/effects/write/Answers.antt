@@ -1,5 +1,5 @@
 use Rattle.std.proofs.Common.{refl, ap}
-use Rattle.tp_ground.specs.Words.{Words}
+use Rattle.tp_task.specs.Words.{Words}
 use Rattle.tp_ground.specs.Written.{GroundExpression, writes, change_of}
 use Rattle.tp_ground.specs.Mentions.{of_simple_effect, of_expression, a_fluent}
 use Rattle.tp_ground.specs.ReadBack.{named_expression}

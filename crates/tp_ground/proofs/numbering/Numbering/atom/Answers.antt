@@ -1,5 +1,0 @@
-use Rattle.tp_ground.proofs.OnGuesses.{known_words}
-use Rattle.tp_ground.proofs.numbering.Numbering.atom.Goals as goal
-
-pub returns-in-Some-clause-atoms : goal.returns-in-Some-clause-atoms
-returns-in-Some-clause-atoms c = known_words _ _ _ c.in-Some.ensures

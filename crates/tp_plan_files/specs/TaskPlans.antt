@@ -1,0 +1,25 @@
+-- What is written for steps of a task, where domain and problem are spelled by texts.
+use Rattle.std.specs.Prelude.{ℕ, List}
+use Rattle.tp_text.specs.declared.number.Scale.{Scale}
+use Rattle.tp_ast.specs.Domains.{Domain, SpellsDomain}
+use Rattle.tp_ast.specs.Problems.{Problem, SpellsProblem}
+use Rattle.tp_bounds.specs.RunLimits.{RunLimits}
+use Rattle.tp_ground.specs.Grounding.{IsTask}
+use Rattle.tp_task.specs.declared.task.Task.{Task}
+use Rattle.tp_happen.specs.declared.plans.Step.{Step}
+use Rattle.tp_happen.specs.PlanTexts.{SpellsPlan, AreKnown}
+use Rattle.tp_happen.specs.PlanPrints.{plan_text}
+use Rattle.tp_happen.specs.TaskPlans.{EndInTime}
+use Rattle.tp_happen.specs.TaskWords.{readable}
+
+-- The task of a problem that is spelled by texts: what is written for steps of it that end by its horizon spells them.
+abbrev pub TaskPlansAreRead : Type 0
+TaskPlansAreRead =
+    (text other : List ℕ) (d : Domain)
+    (p : Problem) (limits : RunLimits) (scale : Scale) (t : Task) (steps : List Step)
+    → SpellsDomain text d
+    → SpellsProblem d other p
+    → IsTask limits scale d p t
+    → AreKnown (readable t) steps
+    → EndInTime t steps
+    → SpellsPlan (readable t) (plan_text (readable t) steps) steps

@@ -1,0 +1,14 @@
+pub mod State
+pub mod Truth
+pub mod Event
+pub mod Happens
+pub mod Valid
+pub mod Bounds
+pub mod InOrder
+pub mod Reach
+pub mod Verdict
+pub mod Fits
+pub mod Words
+pub mod Labels
+pub mod Tables
+pub mod Readable

@@ -1,0 +1,62 @@
+//! Where words were found before, as guesses: each is looked at before it is believed, so nothing is promised of them.
+
+use std::alloc::{AllocError, Global};
+
+// How many guesses there are: one for each number of 16 bits.
+const SLOTS: usize = 65_536;
+
+/// For words, told by a mix of their ends, the place where such words were found last.
+#[derive(Drop)]
+pub struct Guesses {
+    places: Vec<u32>,
+}
+
+// The last letters of a word.
+fn end_of(word: &str) -> u32 {
+    match word.as_bytes() {
+        [.., a, b, c, d] => u32::from_be_bytes([*a, *b, *c, *d]),
+        [a, b, c] => u32::from_be_bytes([0, *a, *b, *c]),
+        [a, b] => u32::from_be_bytes([0, 0, *a, *b]),
+        [a] => u32::from(*a),
+        [] => 0,
+    }
+}
+
+// Where the guess for words stands.
+fn slot_of(words: &[&str]) -> usize {
+    let mut mixed = 0u32;
+    for word in words {
+        mixed = (mixed.rotate_left(5) ^ end_of(word)).wrapping_mul(0x9E37_79B1);
+    }
+    (mixed >> 16) as usize
+}
+
+impl Guesses {
+    /// No guesses, and no room for any.
+    pub fn new(alloc: Global) -> Self {
+        Guesses {
+            places: Vec::new(alloc),
+        }
+    }
+
+    /// Makes room for guesses where there is none yet.
+    pub fn make_room(&mut self, alloc: Global) -> Result<(), AllocError> {
+        if self.places.is_empty() {
+            self.places = vec![in alloc; 0; SLOTS]?;
+        }
+        Ok(())
+    }
+
+    /// Where these words may stand.
+    pub fn guess(&self, words: &[&str]) -> Option<u32> {
+        self.places.get(slot_of(words)).copied()
+    }
+
+    /// Keeps where these words stand, if there is room.
+    pub fn keep(&mut self, words: &[&str], place: u32) {
+        let slot = slot_of(words);
+        if slot < self.places.len() {
+            self.places[slot] = place;
+        }
+    }
+}

@@ -1,0 +1,172 @@
+//! Words looked up and written out by the numbers of their names.
+
+ghost use Rattle.std.specs.Prelude.{◌≡◌, ◌∷◌, [], ◌++◌, map, length, option_map, slice_get, IfOk, OnOk, slice_index_or, string_bytes, IfSome, ◌+◌, ◌<◌, ◌^◌, true, false, Some, MatchOption};
+ghost use Rattle.std.specs.List.{AllByRecursion, IsDistinct, position_from};
+ghost use Rattle.std.specs.Str.{bytes_eq};
+ghost use Rattle.tp_task.specs.Words.{same_words, text_of_words};
+ghost use Rattle.tp_task.specs.Labels.{named, are_known, AreNamed};
+
+use crate::labels::{Label, Labels};
+use indexmap::IndexSet;
+use smallvec::SmallVec;
+use std::alloc::AllocError;
+
+// Whether a number's name is this word.
+fn is_name(names: &IndexSet<String>, number: usize, word: &str) -> bool
+    ensures { result
+        ≡ bytes_eq word.now (slice_index_or (map string_bytes names.now.keys) number []) }
+{
+    match names.get_index(number) {
+        Some(name) => word == name.as_str(),
+        None => word.is_empty(),
+    }
+}
+
+// Whether numbers' names are these words.
+fn are_names(names: &IndexSet<String>, numbers: &[usize], words: &[&str]) -> bool
+    ensures { result ≡ same_words
+        (map (λ w. w.now) words.now) (named (map string_bytes names.now.keys) numbers.now) }
+{
+    let mut left = words;
+    let mut open = numbers;
+    'pairs: while let [word, more @ ..] = left {
+        let [number, others @ ..] = open else {
+            return false;
+        };
+        if !is_name(names, *number, *word) {
+            return false;
+        }
+        left = more;
+        open = others;
+    }
+    open.is_empty()
+}
+
+// Whether a label has exactly these words: a name and its objects.
+fn is_called(names: &IndexSet<String>, label: &[usize], name: &str, args: &[&str]) -> bool
+    ensures { result ≡ same_words
+        (name.now ∷ map (λ w. w.now) args.now) (named (map string_bytes names.now.keys) label.now) }
+{
+    match label {
+        [first, rest @ ..] => is_name(names, *first, name) && are_names(names, rest, args),
+        [] => false,
+    }
+}
+
+// Where the first label of these words stands: a name and its objects.
+fn find_by_names(
+    names: &IndexSet<String>,
+    labels: &Labels,
+    name: &str,
+    args: &[&str],
+) -> Option<usize>
+    ensures { result ≡ position_from (same_words (name.now ∷ map (λ a. a.now) args.now)) 0
+        (map (named (map string_bytes names.now.keys)) labels.now) }
+{
+    for place in 0..labels.len() {
+        if is_called(names, labels.at(place), name, args) {
+            return Some(place);
+        }
+    }
+    None
+}
+
+// The label of words, a name and its objects; None if one of them has no number.
+fn known_label(
+    names: &IndexSet<String>,
+    name: &str,
+    args: &[&str],
+) -> Result<Option<Label>, AllocError>
+    ensures { IfOk result (λ known. MatchOption known
+        (are_known (map string_bytes names.now.keys)
+        (name.now ∷ map (λ a. a.now) args.now) ≡ false)
+        (λ l. (named (map string_bytes names.now.keys) l.items
+        ≡ name.now ∷ map (λ a. a.now) args.now)
+        × AreNamed (length (map string_bytes names.now.keys)) l.items)) }
+{
+    let Some(first) = names.get_index_of(name) else {
+        return Ok(None);
+    };
+    let mut label = SmallVec::new(*names.allocator());
+    label.push(first)?;
+    for arg in args {
+        let Some(number) = names.get_index_of(*arg) else {
+            return Ok(None);
+        };
+        label.push(number)?;
+    }
+    Ok(Some(label))
+}
+
+/// Where the first label of these words stands: a name and its objects.
+pub fn find(names: &IndexSet<String>, labels: &Labels, name: &str, args: &[&str]) -> Option<usize>
+    requires distinct { IsDistinct bytes_eq (map string_bytes names.now.keys) }
+    requires named { AllByRecursion
+        (AreNamed (length (map string_bytes names.now.keys))) labels.now }
+    ensures { result ≡ position_from (same_words (name.now ∷ map (λ a. a.now) args.now)) 0
+        (map (named (map string_bytes names.now.keys)) labels.now) }
+{
+    match known_label(names, name, args) {
+        Ok(Some(label)) => labels.position(&label),
+        Ok(None) => None,
+        // No memory for the numbers of so many words: the labels are looked at one after another.
+        Err(_) => find_by_names(names, labels, name, args),
+    }
+}
+
+/// Whether there is a label at a number, with exactly these words.
+pub fn has_words_at(names: &IndexSet<String>, labels: &[Label], number: u32, words: &[&str]) -> bool
+    ensures { result ≡ true → slice_get (map (named (map string_bytes names.now.keys))
+        (map (λ l. l.items) labels.now)) number ≡ Some (map (λ w. w.now) words.now) }
+{
+    match labels.get(number as usize) {
+        Some(label) => are_names(names, label.as_slice(), words),
+        None => false,
+    }
+}
+
+/// The words of a label as text, with one space between.
+pub fn text_of(names: &IndexSet<String>, label: &[usize]) -> Result<String, AllocError>
+    ensures { IfOk result
+        (λ s. string_bytes s ≡ text_of_words (named (map string_bytes names.now.keys) label.now)) }
+{
+    let mut text = String::from_str(*names.allocator(), "(")?;
+    if let [first, rest @ ..] = label {
+        push_name(&mut text, names, *first)?;
+        for number in rest {
+            text.push_str(" ")?;
+            push_name(&mut text, names, *number)?;
+        }
+    }
+    text.push_str(")")?;
+    Ok(text)
+}
+
+// The name of a number, after what stands there.
+fn push_name(text: &mut String, names: &IndexSet<String>, number: usize) -> Result<(), AllocError>
+    ensures { OnOk result (string_bytes text.new
+        ≡ string_bytes text.old ++ slice_index_or (map string_bytes names.now.keys) number []) }
+{
+    match names.get_index(number) {
+        Some(name) => text.push_str(name.as_str()),
+        None => Ok(()),
+    }
+}
+
+/// A word of a label.
+pub fn word_of<'a>(names: &'a IndexSet<String>, label: &[usize], place: usize) -> Option<&'a str>
+    requires { AreNamed (length (map string_bytes names.now.keys)) label.now }
+    ensures few { IfSome result (λ _. place + 1 < 2 ^ 64) }
+    ensures word { option_map (λ w. w.now) result
+        ≡ slice_get (named (map string_bytes names.now.keys) label.now) place }
+{
+    // No slice has 2^64 elements.
+    let _count = label.len();
+    match label.get(place) {
+        Some(number) => match names.get_index(*number) {
+            Some(name) => Some(name.as_str()),
+            None => None,
+        },
+        None => None,
+    }
+}
