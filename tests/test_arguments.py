@@ -1,4 +1,6 @@
-"""Calls for help, and words that are refused."""
+"""Calls for help and for the version, and words that are refused."""
+import subprocess
+
 from program import NEVER, Case, call, whole
 
 # words that are refused, and what is said of them
@@ -39,9 +41,8 @@ OTHERS = (
     ("plan d p --journal log", "error: unexpected argument '--journal' found"),
 )
 
-# calls for the version and for the help of the program and of its commands, and what stands in it
+# calls for the help of the program and of its commands, and what stands in it
 HELPS = (
-    (("--version", "-V"), ("tempo rattle-kit-", " logic ")),
     (("--help", "-h", "help"), ("Usage: tempo", "bare", "Examples:", "Exit status: 0 yes")),
     (("bare --help", "help bare"), ("Usage: tempo bare", "network N H", "window E", "--journal <FILE>", "Example:")),
     (
@@ -95,6 +96,13 @@ class Arguments(Case):
             for words in calls:
                 with self.subTest(f"tempo {words}"):
                     self.helps(words, texts)
+
+    def test_the_version_is_that_of_the_kit(self):
+        kit = subprocess.run(["rt", "version"], capture_output=True, check=True).stdout
+        for words in ("--version", "-V"):
+            with self.subTest(f"tempo {words}"):
+                found = call(words)
+                self.assertEqual((found.answers, found.faults, found.status), (b"tempo " + kit, b"", 0))
 
     def test_other_scales_and_horizons_are_refused(self):
         for words, why in OTHERS:

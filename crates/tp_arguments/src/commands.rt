@@ -9,7 +9,7 @@ use clap::{Arg, ArgAction, Command, value_parser};
 use std::alloc::{AllocError, Global};
 
 /// The kit that the program is proved with, as `rt version` tells it.
-const KIT: &str = "rattle-kit-13b logic dac8208d650f15bf";
+const KIT: &str = "rattle-kit-13f logic dac8208d650f15bf";
 
 const ABOUT: &str =
     "Plans over time: judges them, and answers commands on networks of events and bounds";
