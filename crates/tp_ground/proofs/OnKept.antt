@@ -23,7 +23,7 @@ use Rattle.tp_task.specs.declared.events.Cond as conds
 use Rattle.tp_task.specs.declared.events.Cond.{Cond}
 use Rattle.tp_ground.specs.declared.memory.Kept.{Kept}
 use Rattle.tp_task.proofs.Growth.{grows_by_none, with_words_grows, with_all_grows, with_all-longer}
-use Rattle.tp_ground.proofs.OnKnown.{same_words_self}
+use Rattle.tp_task.proofs.OnWords.{same_words_self}
 use Rattle.tp_ground.proofs.OnLowered.{as_written, extends_then}
 use Rattle.tp_ground.proofs.OnTerms.{written_alike}
 

@@ -1,6 +1,6 @@
 use Rattle.std.proofs.Common.{◌≡◌, List, map, string_bytes, sym, ap, ap₂, ◌∙◌, rules}
 use Rattle.tp_ast.specs.Symbols.{Name, Declared}
-use Rattle.tp_ground.proofs.OnKnown.{same_words_are}
+use Rattle.tp_task.proofs.OnWords.{same_words_are}
 use Rattle.tp_ground.proofs.sameness.same_typed.Goals as goal
 
 pub returns-then-eq : goal.returns-then-eq
