@@ -1,14 +1,12 @@
 -- Bindings, and how many there are.
-use Rattle.std.proofs.Common.{◌≡◌, ℕ, zero, suc, ◌+◌, ◌*◌, ◌<◌, ◌≤◌, Bool, true, false, ◌||◌, cond, List, [], ◌∷◌, ◌++◌, map, filter, length, get_or, drop, nat_lt, nat_eq, string_bytes, refl, sym, ap, ◌∙◌, arith, length-append, append_assoc}
-use Rattle.std.proofs.Math.Dec.{eqb-suc-zero}
+use Rattle.std.proofs.Common.{◌≡◌, ℕ, ◌+◌, ◌*◌, ◌<◌, Bool, true, false, cond, List, [], ◌∷◌, ◌++◌, map, filter, length, get_or, drop, string_bytes, refl, sym, ap, ◌∙◌, arith, length-append, append_assoc}
 use Rattle.std.proofs.Math.Nat.{mul_comm, mul_assoc}
-use Rattle.std.specs.List.{flat_map, list_any}
-use Rattle.std.proofs.lemmas.Bool.{ltb-true, ltb-false}
+use Rattle.std.specs.List.{flat_map}
 use Rattle.std.proofs.lemmas.List.{map-append, length-map, at_drop_more}
 use Rattle.std.proofs.lemmas.List.Elements.{filter-append}
 use Rattle.tp_ast.specs.Symbols.{Name, Declared, Parent, typed_view, types_fit}
 use Rattle.tp_ast.specs.declared.symbols.Typed.{Typed}
-use Rattle.tp_ground.specs.Bindings.{Universe, fitting, choices, has_no_choice, bindings}
+use Rattle.tp_ground.specs.Bindings.{Universe, fitting, choices, bindings}
 
 pub fitting-append : (types : List Parent) (xs ys : List Declared) (p : Declared) → fitting types (xs ++ ys) p ≡ fitting types xs p ++ fitting types ys p
 fitting-append types xs ys p =
@@ -49,40 +47,6 @@ length-bindings u p ps = length-under (choices u p) (bindings u ps)
 split : {Y : Type 0} (F : List Typed → Y) (xs : List Typed) (i : ℕ) (x : Typed) → i < length xs → x ≡ get_or xs i x → F (drop i xs) ≡ F (x ∷ drop (i + 1) xs)
 split F xs i x lt item = at_drop_more F xs i x lt ∙ ap (λ y. F (y ∷ drop (i + 1) xs)) (sym item)
 
--- ---- variables that may stand for no object
-
-none_under : (names : List Name) → flat_map (λ n. map (λ r. n ∷ r) []) names ≡ []
-none_under [] = refl
-none_under (n ∷ ns) = none_under ns
-
-without : (names : List Name) (rests : List (List Name)) (b : Bool) → (nat_eq (length names) 0 || b) ≡ true → (b ≡ true → rests ≡ []) → flat_map (λ n. map (λ r. n ∷ r) rests) names ≡ []
-without [] rests b h f = refl
-without (n ∷ ns) rests b h f = ap (λ (rs : List (List Name)). flat_map (λ m. map (λ r. m ∷ r) rs) (n ∷ ns)) (f (ap (λ a. a || b) (sym (eqb-suc-zero (length ns))) ∙ h)) ∙ none_under (n ∷ ns)
-
-pub no_bindings : (u : Universe) (ps : List Declared) → list_any (has_no_choice u) ps ≡ true → bindings u ps ≡ []
-no_bindings u [] h = cc
-no_bindings u (p ∷ ps) h = without (choices u p) (bindings u ps) (list_any (has_no_choice u) ps) h (no_bindings u ps)
-
-with_some : (names : List Name) (rests : List (List Name)) (b : Bool) → (nat_eq (length names) 0 || b) ≡ false → (b ≡ false → 1 ≤ length rests) → 1 ≤ length (flat_map (λ n. map (λ r. n ∷ r) rests) names)
-with_some [] rests b h f = cc
-with_some (n ∷ ns) rests b h f =
-    let le = f (ap (λ a. a || b) (sym (eqb-suc-zero (length ns))) ∙ h) in
-    let whole = length-append (map (λ r. n ∷ r) rests) (flat_map (λ m. map (λ r. m ∷ r) rests) ns) in
-    let front : length (map (λ r. n ∷ r) rests) ≡ length rests = length-map rests (λ r. n ∷ r) in
-    omega (arith, le, whole, front)
-
-pub some_bindings : (u : Universe) (ps : List Declared) → list_any (has_no_choice u) ps ≡ false → 1 ≤ length (bindings u ps)
-some_bindings u [] h = omega arith
-some_bindings u (p ∷ ps) h = with_some (choices u p) (bindings u ps) (list_any (has_no_choice u) ps) h (some_bindings u ps)
-
-second : (a b : Bool) → (a || b) ≡ false → b ≡ false
-second true b h = cc
-second false b h = h
-
-pub choices_on : (u : Universe) (variables : List Typed) (i : ℕ) (x : Typed) → i < length variables → x ≡ get_or variables i x → list_any (has_no_choice u) (map typed_view (drop i variables)) ≡ false → list_any (has_no_choice u) (map typed_view (drop (i + 1) variables)) ≡ false
-choices_on u variables i x lt item h =
-    second (has_no_choice u (typed_view x)) _ (sym (split (λ vs. list_any (has_no_choice u) (map typed_view vs)) variables i x lt item) ∙ h)
-
 -- ---- how many
 
 pub counted_on : (u : Universe) (variables : List Typed) (i : ℕ) (x : Typed) (here count total : ℕ) → i < length variables → x ≡ get_or variables i x → here ≡ length (choices u (typed_view x)) → length (bindings u (map typed_view (drop i variables))) * count ≡ total → length (bindings u (map typed_view (drop (i + 1) variables))) * (here * count) ≡ total
@@ -92,14 +56,3 @@ counted_on u variables i x here count total lt item is so_far =
     ∙ ap (λ k. k * count) (mul_comm left here ∙ ap (λ k. k * left) is ∙ sym (length-bindings u (typed_view x) (map typed_view (drop (i + 1) variables))))
     ∙ ap (λ k. k * count) (sym (split (λ vs. length (bindings u (map typed_view vs))) variables i x lt item))
     ∙ so_far
-
-pub too_many : (most left product total : ℕ) → left * product ≡ total → 1 ≤ left → most < product → most < total
-too_many most zero product total e le lt = absurd (omega (arith, le))
-too_many most (suc left) product total e le lt = omega (arith, e, lt)
-
-pub past : (most p n : ℕ) → n ≡ p → (p < 18446744073709551616 → ⊥) → most < 18446744073709551616 → most < n
-past most p n e big lt = by (nat_lt most n) refl
-  where
-    by : (b : Bool) → nat_lt most n ≡ b → most < n
-    by true h = ltb-true most n h
-    by false h = absurd (big (omega (arith, ltb-false most n h)))

@@ -1,5 +1,5 @@
 -- What variables stand for.
-use Rattle.std.specs.Prelude.{Bool, List, [], ◌∷◌, length, nat_eq, map, filter, if◌then◌else◌, Option, Some, None, unwrap_or}
+use Rattle.std.specs.Prelude.{List, [], ◌∷◌, map, filter, if◌then◌else◌, Option, Some, None, unwrap_or}
 use Rattle.std.specs.List.{flat_map}
 use Rattle.std.specs.Str.{bytes_eq}
 use Rattle.tp_ast.specs.Terms.{Argument, object, variable, Fact}
@@ -22,10 +22,6 @@ choices u p = fitting u.types u.objects p
 abbrev pub bindings : Universe → List Declared → List (List Name)
 bindings u [] = [] ∷ []
 bindings u (p ∷ ps) = flat_map (λ n. map (λ rest. n ∷ rest) (bindings u ps)) (choices u p)
-
--- a variable that may stand for no object
-abbrev pub has_no_choice : Universe → Declared → Bool
-has_no_choice u p = nat_eq (length (choices u p)) 0
 
 pub record Bound : Type 0 where
   pub variable : Name

@@ -1,5 +1,6 @@
 pub mod Great
 pub mod Bindings
+pub mod Counts
 pub mod Views
 pub mod KnownChoices
 pub mod Initially

@@ -1,11 +1,12 @@
 //! The objects, and what variables may stand for.
 
-ghost use Rattle.std.specs.Prelude.{◌≡◌, ◌≤◌, ◌<◌, ◌++◌, ◌∷◌, [], true, map, length, filter, IfOk, OnOk, IfSome, MatchOption, string_bytes};
-ghost use Rattle.std.specs.List.{list_any, list_all};
+ghost use Rattle.std.specs.Prelude.{◌≡◌, ℕ, ◌*◌, ◌≤◌, ◌<◌, ◌++◌, ◌∷◌, [], true, map, length, filter, IfOk, OnOk, IfSome, string_bytes};
+ghost use Rattle.std.specs.List.{list_all};
 ghost use Rattle.tp_ast.specs.Symbols.{typed_view, types_fit};
 ghost use Rattle.tp_types.specs.TypeViews.{types_view};
-ghost use Rattle.tp_ground.specs.Bindings.{fitting, choices, has_no_choice, bindings};
+ghost use Rattle.tp_ground.specs.Bindings.{fitting, choices, bindings};
 ghost use Rattle.tp_ground.specs.Bindings as bindings;
+ghost use Rattle.tp_ground.specs.Counts.{IsCount};
 ghost use Rattle.tp_task.specs.Words.{same_words};
 ghost use Rattle.tp_ground.specs.Views.{universe_view};
 ghost use Rattle.tp_ground.specs.KnownChoices.{of_types, is_known};
@@ -36,6 +37,22 @@ pub fn are_same(left: &[String], right: &[String]) -> bool
     others.is_empty()
 }
 
+// So few lists of types are compared one after another as fast as one of them is looked up.
+const FEW: usize = 4;
+
+// The objects that fit some types, if these types are among those that were looked for.
+fn find_among<'u, 'a>(known: &'u [Known<'a>], types: &[String]) -> Option<&'u [&'a str]>
+    ensures { (u : bindings.Universe) → list_all (is_known u) known.now ≡ true → IfSome result
+        (λ ns. map (λ o. o.now) ns.now ≡ choices u (of_types (map string_bytes types.now))) }
+{
+    for entry in known {
+        if are_same(entry.types, types) {
+            return Some(entry.names.as_slice());
+        }
+    }
+    None
+}
+
 // The objects that fit some types, where they were looked for before.
 fn find_known<'u, 'a>(
     known: &'u [Known<'a>],
@@ -45,6 +62,9 @@ fn find_known<'u, 'a>(
     ensures { (u : bindings.Universe) → list_all (is_known u) known.now ≡ true → IfSome result
         (λ ns. map (λ o. o.now) ns.now ≡ choices u (of_types (map string_bytes types.now))) }
 {
+    if known.len() <= FEW {
+        return find_among(known, types);
+    }
     let first = types.first()?;
     let mut place = *places.get(first.as_str())?;
     for _ in 0..known.len() {
@@ -201,45 +221,30 @@ fn count_choices(universe: &Universe, variable: &Typed) -> usize
     }
 }
 
-fn has_no_choice(universe: &Universe, variable: &Typed) -> bool
-    ensures { result ≡ has_no_choice (universe_view universe.now) (typed_view variable.now) }
+// A count times some more, if that is no more than so many. No count stands for more than that.
+fn times(count: Option<usize>, more: usize, most: usize) -> Option<usize>
+    requires { 0 < more }
+    ensures { (n : ℕ) → IsCount most n count → IsCount most (more * n) result }
 {
-    count_choices(universe, variable) == 0
-}
-
-// Whether one of the variables may stand for no object.
-fn one_has_no_choice(universe: &Universe, variables: &[Typed]) -> bool
-    ensures { result
-        ≡ list_any (has_no_choice (universe_view universe.now)) (map typed_view variables.now) }
-{
-    for variable in variables {
-        if has_no_choice(universe, variable) {
-            return true;
-        }
+    let product = more.checked_mul(count?)?;
+    if product > most {
+        return None;
     }
-    false
+    Some(product)
 }
 
 /// How many bindings variables have, if there are no more than so many.
 pub fn count_bindings(universe: &Universe, variables: &[Typed], most: usize) -> Option<usize>
-    ensures { MatchOption result
-        (most < length (bindings (universe_view universe.now) (map typed_view variables.now)))
-        (λ n. (n ≡ length (bindings (universe_view universe.now) (map typed_view variables.now)))
-        × (n ≤ most)) }
+    ensures { IsCount most
+        (length (bindings (universe_view universe.now) (map typed_view variables.now))) result }
 {
-    if one_has_no_choice(universe, variables) {
-        return Some(0);
-    }
-    if most == 0 {
-        return None;
-    }
-    let mut count = 1usize;
+    let mut count = if most == 0 { None } else { Some(1usize) };
     for variable in variables {
-        let product = count_choices(universe, variable).checked_mul(count)?;
-        if product > most {
-            return None;
+        let choices = count_choices(universe, variable);
+        if choices == 0 {
+            return Some(0);
         }
-        count = product;
+        count = times(count, choices, most);
     }
-    Some(count)
+    count
 }

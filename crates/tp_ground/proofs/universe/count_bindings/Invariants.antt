@@ -1,13 +1,9 @@
-use Rattle.std.proofs.Common.{◌≡◌, ◌*◌, ◌≤◌, false, length, map, drop}
-use Rattle.std.specs.List.{list_any}
+use Rattle.std.proofs.Common.{◌≡◌, ℕ, ◌*◌, length, map, drop}
 use Rattle.tp_ast.specs.Symbols.{typed_view}
-use Rattle.tp_ground.specs.Bindings.{has_no_choice, bindings}
+use Rattle.tp_ground.specs.Bindings.{bindings}
+use Rattle.tp_ground.specs.Counts.{IsCount}
 use Rattle.tp_ground.specs.Views.{universe_view}
 use Rattle.tp_ground.proofs.universe.count_bindings.Given as goal
 
 abbrev pub invariant-loop-variable : goal.invariant-loop-variable
-invariant-loop-variable l = record {
-  counted : length (bindings (universe_view l.universe) (map typed_view (drop l.variable-index l.variables))) * l.count ≡ length (bindings (universe_view l.universe) (map typed_view l.variables));
-  few : l.count ≤ l.most;
-  choices : list_any (has_no_choice (universe_view l.universe)) (map typed_view (drop l.variable-index l.variables)) ≡ false;
-}
+invariant-loop-variable l = (n : ℕ) × (length (bindings (universe_view l.universe) (map typed_view (drop l.variable-index l.variables))) * n ≡ length (bindings (universe_view l.universe) (map typed_view l.variables))) × IsCount l.most n l.count
