@@ -1,6 +1,7 @@
 //! What variables stand for.
 
-ghost use Rattle.std.specs.Prelude.{◌≡◌, option_map, map, IfOk};
+ghost use Rattle.std.specs.Prelude.{◌≡◌, ◌-◌, option_map, map, length, slice_index_or, IfOk};
+ghost use Rattle.std.specs.Str.{bytes_eq};
 ghost use Rattle.tp_ast.specs.Terms.{term_view, atom_view};
 ghost use Rattle.tp_ast.specs.Symbols.{typed_view};
 ghost use Rattle.tp_ground.specs.Bindings.{bound, object_among, object_for, words_in};
@@ -19,6 +20,23 @@ pub enum Env<'e, 'a> {
     Inner(&'e [Typed], &'e [&'a str], &'e Env<'e, 'a>),
 }
 
+// The last letter of a name, 0 where there is none.
+fn end_of(name: &str) -> u8
+    ensures { result ≡ slice_index_or name.now (length name.now - 1) 0 }
+{
+    match name.as_bytes() {
+        [.., last] => *last,
+        [] => 0,
+    }
+}
+
+// Whether two names are the same: most that are not differ in their last letters.
+fn is_same(left: &str, right: &str) -> bool
+    ensures { result ≡ bytes_eq left.now right.now }
+{
+    end_of(left) == end_of(right) && left == right
+}
+
 // The object that one of these variables stands for.
 fn object_among<'a>(variables: &[Typed], objects: &[&'a str], name: &str) -> Option<&'a str>
     ensures { option_map (λ o. o.now) result ≡ object_among
@@ -29,7 +47,7 @@ fn object_among<'a>(variables: &[Typed], objects: &[&'a str], name: &str) -> Opt
         let [object, others @ ..] = left else {
             return None;
         };
-        if variable.name.as_str() == name {
+        if is_same(variable.name.as_str(), name) {
             return Some(*object);
         }
         left = others;
