@@ -193,7 +193,8 @@ fn prepare<'a>(
         (domain_view domain.now) (problem_view problem.now)) (problem_view problem.now).initial
         (problem_view problem.now).goal (domain_view domain.now).actions)
         (mentioned (domain_view domain.now) (problem_view problem.now)) }
-    ensures names { OnOk result (writer.new.tables.actions ≡ writer.old.tables.actions ++ map (λ a. a.words)
+    ensures names { OnOk result (writer.new.tables.actions
+        ≡ writer.old.tables.actions ++ map (λ a. a.words)
         (ground_actions (universe_of (domain_view domain.now) (problem_view problem.now))
         (domain_view domain.now).actions)) }
 {

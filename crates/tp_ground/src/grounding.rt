@@ -65,8 +65,9 @@ pub fn name_actions(
     writer: &mut Writer,
     actions: &[Action],
 ) -> Result<(), AllocError>
-    ensures actions { OnOk result (writer.new.tables.actions ≡ writer.old.tables.actions ++ map (λ a.
-        a.words) (ground_actions (universe_view universe.now) (map action_view actions.now))) }
+    ensures actions { OnOk result (writer.new.tables.actions
+        ≡ writer.old.tables.actions ++ map (λ a. a.words)
+        (ground_actions (universe_view universe.now) (map action_view actions.now))) }
     ensures atoms { writer.new.tables.atoms ≡ writer.old.tables.atoms }
     ensures fluents { writer.new.tables.fluents ≡ writer.old.tables.fluents }
     ensures most { writer.new.tables.most ≡ writer.old.tables.most }

@@ -116,7 +116,8 @@ fn are_words(left: &[&str], right: &[&str]) -> bool
 impl<'a> Kept<'a> {
     // Whether it is seen to be of this condition where its terms stand for these objects.
     fn is_of(&self, cond: &tp_ast::cond::Cond, objects: &[&str]) -> bool
-        ensures { result ≡ true → IsOf self.now (cond_view cond.now) (map (λ o. o.now) objects.now) }
+        ensures { result ≡ true
+            → IsOf self.now (cond_view cond.now) (map (λ o. o.now) objects.now) }
     {
         are_words(&self.objects, objects) && same_condition(self.cond, cond)
     }
@@ -136,7 +137,8 @@ impl<'a> Memory<'a> {
     /// What such a condition was written out to, if that is found.
     pub fn find(&self, cond: &tp_ast::cond::Cond, objects: &[&str]) -> Option<&Kept<'a>>
         ensures there { IfSome result (λ k. Contains self.now.entries.items k.now) }
-        ensures fits { IfSome result (λ k. IsOf k.now (cond_view cond.now) (map (λ o. o.now) objects.now)) }
+        ensures fits { IfSome result
+            (λ k. IsOf k.now (cond_view cond.now) (map (λ o. o.now) objects.now)) }
     {
         let place = *self.places.get(slot_of(cond, objects))?;
         let kept = self.entries.get(place as usize)?;
@@ -179,7 +181,8 @@ impl<'a> Memory<'a> {
     /// Keeps one more, for which others may be forgotten.
     pub fn keep(&mut self, alloc: Global, kept: Kept<'a>) -> Result<(), AllocError>
         ensures ok { OnOk result
-            ((n : ℕ) × (self.new.entries.items ≡ drop n self.old.entries.items ++ kept.entry ∷ [])) }
+            ((n : ℕ) × (self.new.entries.items
+            ≡ drop n self.old.entries.items ++ kept.entry ∷ [])) }
         ensures err { OnErr result
             ((n : ℕ) × (self.new.entries.items ≡ drop n self.old.entries.items)) }
     {
