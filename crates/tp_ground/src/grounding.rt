@@ -122,7 +122,14 @@ pub fn lower_actions<'a>(
 {
     let mut lowered = Vec::new(alloc);
     for action in actions {
-        push_bodies(alloc, universe, writer, &action.parameters, &action.body, &mut lowered)?;
+        push_bodies(
+            alloc,
+            universe,
+            writer,
+            &action.parameters,
+            &action.body,
+            &mut lowered,
+        )?;
     }
     Ok(lowered)
 }

@@ -138,7 +138,9 @@ pub fn push_part<'a, P: Lowerable>(
     match part {
         Joined::And(parts) => push_parts(alloc, universe, env, specifier, writer, parts, into),
         Joined::Forall(variables, inner) => {
-            push_under_each(alloc, universe, env, specifier, writer, variables, inner, into)
+            push_under_each(
+                alloc, universe, env, specifier, writer, variables, inner, into,
+            )
         }
         Joined::One(one) => one.lower(alloc, universe, env, specifier, writer, into),
     }
