@@ -1,5 +1,5 @@
 -- Bodies of ground actions, numbered one after another.
-use Rattle.std.proofs.Common.{◌≡◌, ℕ, ◌+◌, ◌<◌, List, [], ◌∷◌, ◌++◌, length, take, drop, get_or, map, Result, IsErrAnd, Bor, Vec, Global, refl, sym, ap, subst, ◌∙◌, append-nil}
+use Rattle.std.proofs.Common.{◌≡◌, ℕ, ◌+◌, ◌<◌, List, [], ◌∷◌, ◌++◌, length, take, drop, get_or, map, Bor, Vec, Global, refl, sym, ap, subst, ◌∙◌, append-nil}
 use Rattle.std.specs.List.{flat_map}
 use Rattle.std.proofs.lemmas.List.{map-append, take_more, take-append-drop}
 use Rattle.tp_ast.specs.Symbols.{Name, Declared, typed_view}
@@ -13,7 +13,8 @@ use Rattle.tp_ground.specs.Bindings.{Universe, Env, bindings, bound}
 use Rattle.tp_ground.specs.Written.{GroundBody, body_in}
 use Rattle.tp_task.specs.Tables.{Tables}
 use Rattle.tp_ground.specs.Mentions.{Mentions, ◌then◌, of_body, of_each}
-use Rattle.tp_ground.specs.Lowered.{IsLowered, Overflows, Lowers}
+use Rattle.tp_ground.specs.Lowered.{Notes, IsLowered, Overflows}
+use Rattle.tp_ground.specs.Appended.{IsAppended}
 use Rattle.tp_ground.specs.Grounding.{ground_action, ground_actions, of_action}
 use Rattle.tp_ground.specs.declared.environment.Env as code
 use Rattle.tp_ground.specs.declared.environment.Env.{Inner, Empty}
@@ -21,7 +22,8 @@ use Rattle.tp_task.specs.declared.fault.GroundFault.{GroundFault}
 use Rattle.tp_ground.proofs.Along.{next, map_next}
 use Rattle.tp_ground.proofs.OnEntries.{empty_env}
 use Rattle.tp_ground.proofs.OnInner.{inner_env}
-use Rattle.tp_ground.proofs.OnLowered.{then_assoc, of_each-append, of_each_one, lowered_same, lowered_both, overflows_first, overflows_then, failed}
+use Rattle.tp_ground.proofs.OnLowered.{then_assoc, of_each-append, of_each_one, lowered_same, lowered_both, overflows_first, overflows_then}
+use Rattle.tp_ground.proofs.OnAppended.{appended_one, appended_then, appended_same}
 
 module _ {X : Type 0} (of : X → Mentions) (xs : List X) (i : ℕ) (x : X) (lt : i < length xs) (item : x ≡ get_or xs i x) where
   pub each_next : of_each of (take (i + 1) xs) ≡ (of_each of (take i xs) then of x)
@@ -36,31 +38,30 @@ module _ {X : Type 0} (of : X → Mentions) (xs : List X) (i : ℕ) (x : X) (lt 
       ∙ sym (then_assoc (of_each of (take i xs)) (of x) (of_each of (drop (i + 1) xs)))
 
 -- a fault at one that comes after others, in all
-pub each_stopped : {X C Y : Type 0} (named : Tables → C → Y) (of : X → Mentions) (xs : List X) (i : ℕ) (x : X) → i < length xs → x ≡ get_or xs i x → (a b c : WriterView) (r : Result C GroundFault) (e : GroundFault) → IsErrAnd r (λ f. f ≡ e) → {D Z : Type 0} {before : Tables → D → Z} {v : D} {ys : Z} → (y : Y) (all m : Mentions) → all ≡ of_each of xs → m ≡ of x → IsLowered before a b v ys (of_each of (take i xs)) → Overflows b m e → Lowers named a r c y all
-each_stopped named of xs i x lt item a b c r e err y all m is p l h =
-    failed named a c y all r e err
-    (subst (λ n. Overflows a n e) (sym (is ∙ each_whole of xs i x lt item))
-    (overflows_then a b (of_each of (take i xs)) (of x then of_each of (drop (i + 1) xs)) e l.notes
-    (overflows_first b (of x) (of_each of (drop (i + 1) xs)) e (subst (λ n. Overflows b n e) p h))))
+pub each_stopped : {X : Type 0} (of : X → Mentions) (xs : List X) (i : ℕ) (x : X) → i < length xs → x ≡ get_or xs i x → (a b : WriterView) (e : GroundFault) (all m : Mentions) → all ≡ of_each of xs → m ≡ of x → Notes a b (of_each of (take i xs)) → Overflows b m e → Overflows a all e
+each_stopped of xs i x lt item a b e all m is p notes h =
+    subst (λ n. Overflows a n e) (sym (is ∙ each_whole of xs i x lt item))
+    (overflows_then a b (of_each of (take i xs)) (of x then of_each of (drop (i + 1) xs)) e notes
+    (overflows_first b (of x) (of_each of (drop (i + 1) xs)) e (subst (λ n. Overflows b n e) p h)))
 
 module _ {C Y : Type 0} (named : Tables → C → Y) where
   abbrev pub every : Tables → Vec C Global → List Y
   every t v = map (named t) v.items
 
-  module _ {X : Type 0} (of : X → Mentions) (xs : List X) (i : ℕ) (x : X) (lt : i < length xs) (item : x ≡ get_or xs i x) (a b c : WriterView) (v u : Vec C Global) where
-    pub each_push : (g : X → Y) (o : C) (y : Y) (m : Mentions) → u.items ≡ v.items ++ o ∷ [] → y ≡ g x → m ≡ of x → IsLowered every a b v (map g (take i xs)) (of_each of (take i xs)) → IsLowered named b c o y m → IsLowered every a c u (map g (take (i + 1) xs)) (of_each of (take (i + 1) xs))
-    each_push g o y m items p q l k =
-        lowered_same (map g (take (i + 1) xs)) (of_each of (take (i + 1) xs))
+  module _ {X : Type 0} (of : X → Mentions) (xs : List X) (i : ℕ) (x : X) (lt : i < length xs) (item : x ≡ get_or xs i x) (a b c : WriterView) where
+    pub each_push : (u v w : List C) (g : X → Y) (o : C) (y : Y) (m : Mentions) → w ≡ v ++ o ∷ [] → y ≡ g x → m ≡ of x → IsAppended named a b u v (map g (take i xs)) (of_each of (take i xs)) → IsLowered named b c o y m → IsAppended named a c u w (map g (take (i + 1) xs)) (of_each of (take (i + 1) xs))
+    each_push u v w g o y m items p q l k =
+        appended_same named (map g (take (i + 1) xs)) (of_each of (take (i + 1) xs))
         (ap (λ z. map g (take i xs) ++ z ∷ []) p ∙ sym (map_next g xs i x lt item))
         (ap (λ n. of_each of (take i xs) then n) q ∙ sym (each_next of xs i x lt item))
-        (lowered_both (λ (ys : List Y) (z : Y). ys ++ z ∷ []) u (λ t. ap (map (named t)) items ∙ map-append (named t) v.items (o ∷ [])) l k)
+        (appended_then named a b c u v w (map g (take i xs)) (y ∷ []) (of_each of (take i xs)) m l (appended_one named b c v w o y m items k))
 
-    pub each_append : (g : X → List Y) (w : Vec C Global) (ys : List Y) (m : Mentions) → u.items ≡ v.items ++ w.items → ys ≡ g x → m ≡ of x → IsLowered every a b v (flat_map g (take i xs)) (of_each of (take i xs)) → IsLowered every b c w ys m → IsLowered every a c u (flat_map g (take (i + 1) xs)) (of_each of (take (i + 1) xs))
-    each_append g w ys m items p q l k =
+    pub each_append : (v u : Vec C Global) (g : X → List Y) (ys : List Y) (m : Mentions) → ys ≡ g x → m ≡ of x → IsLowered every a b v (flat_map g (take i xs)) (of_each of (take i xs)) → IsAppended named b c v.items u.items ys m → IsLowered every a c u (flat_map g (take (i + 1) xs)) (of_each of (take (i + 1) xs))
+    each_append v u g ys m p q l k =
         lowered_same (flat_map g (take (i + 1) xs)) (of_each of (take (i + 1) xs))
         (ap (λ zs. flat_map g (take i xs) ++ zs) p ∙ sym (next g xs i x lt item))
         (ap (λ n. of_each of (take i xs) then n) q ∙ sym (each_next of xs i x lt item))
-        (lowered_both (λ (zs ws : List Y). zs ++ ws) u (λ t. ap (map (named t)) items ∙ map-append (named t) v.items w.items) l k)
+        (lowered_both (λ (zs ws : List Y). zs ++ ws) u (λ t. ap (map (named t)) k.items ∙ map-append (named t) v.items k.more) l k.lowered)
 
 -- what parameters stand for, and nothing else
 pub plain_env : (vars : Bor (List Typed)) (names : Bor (List (Bor (List ℕ)))) (outer : Bor code.Env) (b : List Name) → outer.now ≡ Empty → map (λ n. n.now) names.now ≡ b → env_view (Inner vars names outer) ≡ bound (map typed_view vars.now) b

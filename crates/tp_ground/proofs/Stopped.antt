@@ -17,8 +17,5 @@ module _ {C X Y : Type 0} (named : Tables → C → Y) (of : Y → Mentions) (xs
   map_stopped f is l h = one_stopped named of a b c v (map f (take i xs)) (map f (drop (i + 1) xs)) all r e err l (f x) (is ∙ map_whole f xs i x lt item) h
 
   -- the same where what is lowered there is told in other words
-  pub flat_stopped_as : (f : X → List Y) (y : List Y) → y ≡ f x → all ≡ flat_map f xs → AllLowered named of a b v (flat_map f (take i xs)) → Overflows b (of_each of y) e → Lowers (all_named named of) a r c all (of_each of all)
-  flat_stopped_as f y p is l h = flat_stopped f is l (subst (λ z. Overflows b (of_each of z) e) p h)
-
   pub map_stopped_as : (f : X → Y) (y : Y) → y ≡ f x → all ≡ map f xs → AllLowered named of a b v (map f (take i xs)) → Overflows b (of y) e → Lowers (all_named named of) a r c all (of_each of all)
   map_stopped_as f y p is l h = map_stopped f is l (subst (λ z. Overflows b (of z) e) p h)

@@ -9,6 +9,7 @@ pub mod Mentions
 pub mod ReadBack
 pub mod WriterViews
 pub mod Lowered
+pub mod Appended
 pub mod TermsIn
 pub mod Kept
 pub mod Found

@@ -9,6 +9,7 @@ ghost use Rattle.tp_ground.specs.Written.{body_in};
 ghost use Rattle.tp_ground.specs.Mentions.{of_body, of_each};
 ghost use Rattle.tp_ground.specs.ReadBack.{named_body};
 ghost use Rattle.tp_ground.specs.Lowered.{Lowers};
+ghost use Rattle.tp_ground.specs.Appended.{Appends};
 ghost use Rattle.tp_ground.specs.Grounding.{ground_actions, of_action};
 ghost use Rattle.tp_ground.specs.Rows.{product, lists_of};
 
@@ -79,16 +80,17 @@ pub fn name_actions(
     Ok(())
 }
 
-// The body of an action under each binding of its parameters.
-fn bodies<'a>(
+// Puts the body of an action under each binding of its parameters at the end of a list.
+fn push_bodies<'a>(
     alloc: Global,
     universe: &Universe<'a>,
     writer: &mut Writer<'a>,
     parameters: &'a [Typed],
     written: &'a tp_ast::action::Body,
-) -> Result<Vec<Body>, GroundFault>
+    into: &mut Vec<Body>,
+) -> Result<(), GroundFault>
     requires { universe_view universe.now ≡ writer.old.universe }
-    ensures { Lowers (λ t v. map (named_body t) v.items) writer.old result writer.new
+    ensures { Appends named_body writer.old result writer.new into.old.items into.new.items
         (map (λ objects. body_in (universe_view universe.now)
         (bound (map typed_view parameters.now) objects) (body_view written.now))
         (bindings (universe_view universe.now) (map typed_view parameters.now)))
@@ -97,26 +99,13 @@ fn bodies<'a>(
         (bindings (universe_view universe.now) (map typed_view parameters.now))) }
 {
     let mut rows = rows_of(alloc, universe, parameters)?;
+    into.reserve(rows.count)?;
     let outside = Env::Empty;
-    let mut lowered = Vec::with_capacity(alloc, rows.count)?;
     for place in 0..rows.count {
         rows.turn_to(place);
         let inner = Env::Inner(&*parameters, &rows.row, &outside);
-        lowered.push(body(alloc, universe, &inner, writer, written)?)?;
+        into.push(body(alloc, universe, &inner, writer, written)?)?;
     }
-    Ok(lowered)
-}
-
-// More bodies after those that there are. Where there are none, no body is copied.
-fn append_bodies(all: &mut Vec<Body>, more: Vec<Body>) -> Result<(), AllocError>
-    ensures { OnOk result (all.new.items ≡ all.old.items ++ more.items) }
-{
-    if all.is_empty() {
-        *all = more;
-        return Ok(());
-    }
-    let mut left = more;
-    all.append(&mut left)?;
     Ok(())
 }
 
@@ -134,8 +123,14 @@ pub fn lower_actions<'a>(
 {
     let mut lowered = Vec::new(alloc);
     for action in actions {
-        let more = bodies(alloc, universe, writer, &action.parameters, &action.body)?;
-        append_bodies(&mut lowered, more)?;
+        push_bodies(
+            alloc,
+            universe,
+            writer,
+            &action.parameters,
+            &action.body,
+            &mut lowered,
+        )?;
     }
     Ok(lowered)
 }

@@ -1,6 +1,6 @@
 //! Effects, and the parts of a durative action at its time specifiers.
 
-ghost use Rattle.std.specs.Prelude.{◌≡◌, ◌∷◌, [], map};
+ghost use Rattle.std.specs.Prelude.{◌≡◌};
 ghost use Rattle.tp_ast.specs.Terms.{atom_view};
 ghost use Rattle.tp_ast.specs.ExprViews.{expr_view};
 ghost use Rattle.tp_ast.specs.CondViews.{cond_view};
@@ -9,8 +9,8 @@ ghost use Rattle.tp_ast.specs.Conditions.{Condition};
 ghost use Rattle.tp_ast.specs.Effects;
 ghost use Rattle.tp_ast.specs.Effects.{writes};
 ghost use Rattle.tp_ground.specs.Views.{env_view, universe_view};
-ghost use Rattle.tp_ground.specs.Written.{GroundCondition, GroundEffect, simple_effect_in, condition_in, change_of, is_specifier, simple_effect_part, condition_part, simple_effects_part};
-ghost use Rattle.tp_ground.specs.Mentions.{of_simple_effect, of_condition, of_each};
+ghost use Rattle.tp_ground.specs.Written.{GroundCondition, GroundEffect, simple_effect_in, change_of, is_specifier, simple_effect_part, condition_part, simple_effects_part};
+ghost use Rattle.tp_ground.specs.Mentions.{of_simple_effect, of_condition};
 ghost use Rattle.tp_ground.specs.ReadBack.{named_condition};
 ghost use Rattle.tp_ground.specs.NumberedEffects.{named_simple_effect};
 ghost use Rattle.tp_ground.specs.Lowered.{Lowers};
@@ -18,7 +18,7 @@ ghost use Rattle.tp_ground.specs.Lowered.{Lowers};
 use crate::environment::Env;
 use crate::lowering::conditions::{atom, condition};
 use crate::lowering::expressions::{expression, fluent};
-use crate::lowering::parts::{Lowerable, joined};
+use crate::lowering::parts::{Lowerable, push_part};
 use crate::universe::Universe;
 use crate::writer::Writer;
 use std::alloc::Global;
@@ -107,24 +107,6 @@ fn is_specifier(left: TimeSpecifier, right: TimeSpecifier) -> bool
     )
 }
 
-fn conjunct<'a>(
-    alloc: Global,
-    universe: &Universe<'a>,
-    env: &Env<'_, 'a>,
-    writer: &mut Writer<'a>,
-    cond: &'a tp_ast::cond::Cond,
-) -> Result<Vec<Cond>, GroundFault>
-    requires { universe_view universe.now ≡ writer.old.universe }
-    ensures { Lowers (λ t v. map (named_condition t) v.items) writer.old result writer.new
-        (condition_in (universe_view universe.now) (env_view env.now) (cond_view cond.now) ∷ [])
-        (of_each of_condition
-        (condition_in (universe_view universe.now) (env_view env.now) (cond_view cond.now) ∷ [])) }
-{
-    let mut one = Vec::with_capacity(alloc, 1)?;
-    one.push(condition(alloc, universe, env, writer, cond)?)?;
-    Ok(one)
-}
-
 impl Lowerable for SimpleEffect {
     type Lowered = NumberedEffect;
 
@@ -147,10 +129,10 @@ impl Lowerable for SimpleEffect {
         env: &Env<'_, 'a>,
         _mark: TimeSpecifier,
         writer: &mut Writer<'a>,
-    ) -> Result<Vec<NumberedEffect>, GroundFault> {
-        let mut one = Vec::with_capacity(alloc, 1)?;
-        one.push(simple_effect(alloc, env, writer, self)?)?;
-        Ok(one)
+        into: &mut Vec<NumberedEffect>,
+    ) -> Result<(), GroundFault> {
+        into.push(simple_effect(alloc, env, writer, self)?)?;
+        Ok(())
     }
 }
 
@@ -176,12 +158,13 @@ impl Lowerable for Timed<tp_ast::cond::Cond> {
         env: &Env<'_, 'a>,
         specifier: TimeSpecifier,
         writer: &mut Writer<'a>,
-    ) -> Result<Vec<Cond>, GroundFault> {
-        if is_specifier(self.specifier, specifier) {
-            conjunct(alloc, universe, env, writer, &self.what)
-        } else {
-            Ok(Vec::new(alloc))
+        into: &mut Vec<Cond>,
+    ) -> Result<(), GroundFault> {
+        if !is_specifier(self.specifier, specifier) {
+            return Ok(());
         }
+        into.push(condition(alloc, universe, env, writer, &self.what)?)?;
+        Ok(())
     }
 }
 
@@ -207,11 +190,11 @@ impl Lowerable for Timed<Effect> {
         env: &Env<'_, 'a>,
         specifier: TimeSpecifier,
         writer: &mut Writer<'a>,
-    ) -> Result<Vec<NumberedEffect>, GroundFault> {
-        if is_specifier(self.specifier, specifier) {
-            joined(alloc, universe, env, specifier, writer, &self.what)
-        } else {
-            Ok(Vec::new(alloc))
+        into: &mut Vec<NumberedEffect>,
+    ) -> Result<(), GroundFault> {
+        if !is_specifier(self.specifier, specifier) {
+            return Ok(());
         }
+        push_part(alloc, universe, env, specifier, writer, &self.what, into)
     }
 }

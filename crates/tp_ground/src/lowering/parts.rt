@@ -11,6 +11,7 @@ ghost use Rattle.tp_task.specs.Tables.{Tables};
 ghost use Rattle.tp_ground.specs.Written.{parts_in, inner};
 ghost use Rattle.tp_ground.specs.Mentions.{Mentions, of_each};
 ghost use Rattle.tp_ground.specs.Lowered.{Lowers};
+ghost use Rattle.tp_ground.specs.Appended.{Appends};
 
 use crate::environment::Env;
 use crate::rows::rows_of;
@@ -43,7 +44,7 @@ pub trait Lowerable: Drop {
     ghost written: { bindings.Universe → specifiers.TimeSpecifier → bindings.Env
         → Seen → List Written };
 
-    /// What it is at a specifier.
+    /// Puts what it is at a specifier at the end of a list.
     fn lower<'a>(
         &'a self,
         alloc: Global,
@@ -51,25 +52,27 @@ pub trait Lowerable: Drop {
         env: &Env<'_, 'a>,
         specifier: TimeSpecifier,
         writer: &mut Writer<'a>,
-    ) -> Result<Vec<Self::Lowered>, GroundFault>
+        into: &mut Vec<Self::Lowered>,
+    ) -> Result<(), GroundFault>
         requires { universe_view universe.now ≡ writer.old.universe }
-        ensures { Lowers (λ t v. map (named t) v.items) writer.old result writer.new (written
+        ensures { Appends named writer.old result writer.new into.old.items into.new.items (written
             (universe_view universe.now) specifier (env_view env.now) (seen self.now))
             (of_each mentions (written
             (universe_view universe.now) specifier (env_view env.now) (seen self.now))) };
 }
 
-#[cycle(joined)]
-fn all_parts<'a, P: Lowerable>(
+#[cycle(push)]
+fn push_parts<'a, P: Lowerable>(
     alloc: Global,
     universe: &Universe<'a>,
     env: &Env<'_, 'a>,
     specifier: TimeSpecifier,
     writer: &mut Writer<'a>,
     parts: &'a [Joined<P>],
-) -> Result<Vec<P::Lowered>, GroundFault>
+    into: &mut Vec<P::Lowered>,
+) -> Result<(), GroundFault>
     requires { universe_view universe.now ≡ writer.old.universe }
-    ensures { Lowers (λ t v. map (P.named t) v.items) writer.old result writer.new
+    ensures { Appends P.named writer.old result writer.new into.old.items into.new.items
         (flat_map (λ p. parts_in (universe_view universe.now) (P.written
         (universe_view universe.now) specifier) (env_view env.now)
         (joined_view P.seen p)) parts.now)
@@ -77,17 +80,15 @@ fn all_parts<'a, P: Lowerable>(
         (universe_view universe.now) specifier) (env_view env.now)
         (joined_view P.seen p)) parts.now)) }
 {
-    let mut lowered = Vec::new(alloc);
     for part in parts {
-        let mut more = joined(alloc, universe, env, specifier, writer, part)?;
-        lowered.append(&mut more)?;
+        push_part(alloc, universe, env, specifier, writer, part, into)?;
     }
-    Ok(lowered)
+    Ok(())
 }
 
-// Parts under each binding of variables.
-#[cycle(joined)]
-fn under_each<'a, P: Lowerable>(
+// Parts under each binding of variables. Room for all bindings is asked for before the first.
+#[cycle(push)]
+fn push_under_each<'a, P: Lowerable>(
     alloc: Global,
     universe: &Universe<'a>,
     env: &Env<'_, 'a>,
@@ -95,9 +96,10 @@ fn under_each<'a, P: Lowerable>(
     writer: &mut Writer<'a>,
     variables: &'a [Typed],
     part: &'a Joined<P>,
-) -> Result<Vec<P::Lowered>, GroundFault>
+    into: &mut Vec<P::Lowered>,
+) -> Result<(), GroundFault>
     requires { universe_view universe.now ≡ writer.old.universe }
-    ensures { Lowers (λ t v. map (P.named t) v.items) writer.old result writer.new
+    ensures { Appends P.named writer.old result writer.new into.old.items into.new.items
         (flat_map (λ e. parts_in (universe_view universe.now)
         (P.written (universe_view universe.now) specifier) e (joined_view P.seen part.now))
         (inner (universe_view universe.now) (env_view env.now) (map typed_view variables.now)))
@@ -106,18 +108,45 @@ fn under_each<'a, P: Lowerable>(
         (inner (universe_view universe.now) (env_view env.now) (map typed_view variables.now)))) }
 {
     let mut rows = rows_of(alloc, universe, variables)?;
-    let mut lowered = Vec::with_capacity(alloc, rows.count)?;
+    into.reserve(rows.count)?;
     for place in 0..rows.count {
         rows.turn_to(place);
         let inner = Env::Inner(&*variables, &rows.row, &*env);
-        let mut more = joined(alloc, universe, &inner, specifier, writer, part)?;
-        lowered.append(&mut more)?;
+        push_part(alloc, universe, &inner, specifier, writer, part, into)?;
     }
-    Ok(lowered)
+    Ok(())
+}
+
+/// Puts the parts at a specifier at the end of a list, each after the one before.
+#[cycle(push)]
+pub fn push_part<'a, P: Lowerable>(
+    alloc: Global,
+    universe: &Universe<'a>,
+    env: &Env<'_, 'a>,
+    specifier: TimeSpecifier,
+    writer: &mut Writer<'a>,
+    part: &'a Joined<P>,
+    into: &mut Vec<P::Lowered>,
+) -> Result<(), GroundFault>
+    requires { universe_view universe.now ≡ writer.old.universe }
+    ensures { Appends P.named writer.old result writer.new into.old.items into.new.items
+        (parts_in (universe_view universe.now) (P.written (universe_view universe.now) specifier)
+        (env_view env.now) (joined_view P.seen part.now))
+        (of_each P.mentions (parts_in (universe_view universe.now) (P.written
+        (universe_view universe.now) specifier) (env_view env.now) (joined_view P.seen part.now))) }
+{
+    match part {
+        Joined::And(parts) => push_parts(alloc, universe, env, specifier, writer, parts, into),
+        Joined::Forall(variables, inner) => {
+            push_under_each(
+                alloc, universe, env, specifier, writer, variables, inner, into,
+            )
+        }
+        Joined::One(one) => one.lower(alloc, universe, env, specifier, writer, into),
+    }
 }
 
 /// The parts at a specifier, each after the one before.
-#[cycle(joined)]
 pub fn joined<'a, P: Lowerable>(
     alloc: Global,
     universe: &Universe<'a>,
@@ -133,11 +162,7 @@ pub fn joined<'a, P: Lowerable>(
         (of_each P.mentions (parts_in (universe_view universe.now) (P.written
         (universe_view universe.now) specifier) (env_view env.now) (joined_view P.seen part.now))) }
 {
-    match part {
-        Joined::And(parts) => all_parts(alloc, universe, env, specifier, writer, parts),
-        Joined::Forall(variables, inner) => {
-            under_each(alloc, universe, env, specifier, writer, variables, inner)
-        }
-        Joined::One(one) => one.lower(alloc, universe, env, specifier, writer),
-    }
+    let mut lowered = Vec::new(alloc);
+    push_part(alloc, universe, env, specifier, writer, part, &mut lowered)?;
+    Ok(lowered)
 }

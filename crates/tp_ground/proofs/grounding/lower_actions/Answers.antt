@@ -11,7 +11,7 @@ use Rattle.tp_ground.specs.Written.{body_in}
 use Rattle.tp_ground.specs.Mentions.{of_body, of_each}
 use Rattle.tp_ground.specs.Grounding.{of_action}
 use Rattle.tp_ground.specs.ReadBack.{named_body}
-use Rattle.tp_ground.proofs.OnLowered.{lowered_same}
+use Rattle.tp_ground.proofs.OnLowered.{lowered_same, failed}
 use Rattle.tp_ground.proofs.OnActions.{every, each_append, each_stopped, bodies_of, bodies_all, mentions_all}
 use Rattle.tp_ground.proofs.grounding.lower_actions.Goals as goal
 
@@ -19,18 +19,19 @@ pub loop-action-preserved : goal.loop-action-preserved
 loop-action-preserved c =
     let u = universe_view c.args.universe.now in
     let x = body_view c.action-item.result.body in
-    each_append named_body (λ (a : Action). of_action u (action_view a)) c.args.actions.now c.loop-action.action-index c.action-item.result c.loop-action-test.true c.action-item.is _ _ _ _ _ (bodies_of u) _ _ _ c.in_ok-append_bodies.ensures
+    each_append named_body (λ (a : Action). of_action u (action_view a)) c.args.actions.now c.loop-action.action-index c.action-item.result c.loop-action-test.true c.action-item.is _ _ _ _ _ (bodies_of u) _ _
     (ap (λ (ps : List Typed). map (λ objects. body_in u (bound (map typed_view ps) objects) x) (bindings u (map typed_view ps))) c.deref.ensures.value)
     (ap (λ (ps : List Typed). of_each (λ objects. of_body u (bound (map typed_view ps) objects) x) (bindings u (map typed_view ps))) c.deref.ensures.value)
-    c.loop-action.invariant c.in_ok-more.ensures
+    c.loop-action.invariant c.in_ok-push_bodies.ensures
 
-pub returns-in_err-more : goal.returns-in_err-more
-returns-in_err-more c =
+pub returns-in_err-push_bodies : goal.returns-in_err-push_bodies
+returns-in_err-push_bodies c =
     let u = universe_view c.args.universe.now in
     let x = body_view c.action-item.result.body in
-    each_stopped (every named_body) (λ (a : Action). of_action u (action_view a)) c.args.actions.now c.loop-action.action-index c.action-item.result c.loop-action-test.true c.action-item.is _ _ _ _ _ c.from_residual.ensures.1 _ _ _ (sym (mentions_all u c.args.actions.now))
+    failed (every named_body) _ _ _ _ _ _ c.from_residual.ensures.1
+    (each_stopped (λ (a : Action). of_action u (action_view a)) c.args.actions.now c.loop-action.action-index c.action-item.result c.loop-action-test.true c.action-item.is _ _ _ _ _ (sym (mentions_all u c.args.actions.now))
     (ap (λ (ps : List Typed). of_each (λ objects. of_body u (bound (map typed_view ps) objects) x) (bindings u (map typed_view ps))) c.deref.ensures.value)
-    c.loop-action.invariant c.in_err-more.ensures
+    c.loop-action.invariant.notes c.in_err-push_bodies.ensures)
 
 pub returns : goal.returns
 returns c =

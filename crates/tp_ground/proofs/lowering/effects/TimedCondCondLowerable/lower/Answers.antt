@@ -1,9 +1,12 @@
-use Rattle.std.proofs.Common.{sym, ◌∙◌}
-use Rattle.tp_ground.specs.Mentions.{of_condition, of_each}
+use Rattle.std.proofs.Common.{refl, sym, ◌∙◌}
+use Rattle.tp_ground.specs.Mentions.{of_condition}
 use Rattle.tp_ground.specs.ReadBack.{named_condition}
-use Rattle.tp_ground.proofs.OnLowered.{all_named, written_as}
 use Rattle.tp_ground.proofs.OnPartLists.{specified}
+use Rattle.tp_ground.proofs.OnAppended.{one_appended, none_appended, unspecified}
 use Rattle.tp_ground.proofs.lowering.effects.TimedCondCondLowerable.lower.Goals as goal
 
-pub returns-then-is_specifier : goal.returns-then-is_specifier
-returns-then-is_specifier c = written_as (all_named named_condition of_condition) (of_each of_condition) _ _ _ _ _ (specified _ _ (sym c.is_specifier.ensures ∙ c.if-is_specifier.true)) c.conjunct.ensures
+pub returns-then-not-is_specifier : goal.returns-then-not-is_specifier
+returns-then-not-is_specifier c = none_appended named_condition of_condition _ _ _ _ (unspecified _ _ (sym c.is_specifier.ensures ∙ c.if-not-is_specifier.true)) refl
+
+pub returns : goal.returns
+returns c = one_appended named_condition of_condition _ _ _ _ _ _ _ (specified _ _ (sym c.is_specifier.ensures ∙ c.if-not-is_specifier.false)) c.in_ok-push.ensures.items c.in_ok-condition.ensures

@@ -1,9 +1,12 @@
-use Rattle.std.proofs.Common.{sym, ◌∙◌}
-use Rattle.tp_ground.specs.Mentions.{of_simple_effect, of_each}
+use Rattle.std.proofs.Common.{refl, sym, ◌∙◌}
+use Rattle.tp_ground.specs.Mentions.{of_simple_effect}
 use Rattle.tp_ground.specs.NumberedEffects.{named_simple_effect}
-use Rattle.tp_ground.proofs.OnLowered.{all_named, written_as}
 use Rattle.tp_ground.proofs.OnPartLists.{specified}
+use Rattle.tp_ground.proofs.OnAppended.{none_appended, appends_as, unspecified}
 use Rattle.tp_ground.proofs.lowering.effects.TimedEffectLowerable.lower.Goals as goal
 
-pub returns-then-is_specifier : goal.returns-then-is_specifier
-returns-then-is_specifier c = written_as (all_named named_simple_effect of_simple_effect) (of_each of_simple_effect) _ _ _ _ _ (specified _ _ (sym c.is_specifier.ensures ∙ c.if-is_specifier.true)) c.joined.ensures
+pub returns-then-not-is_specifier : goal.returns-then-not-is_specifier
+returns-then-not-is_specifier c = none_appended named_simple_effect of_simple_effect _ _ _ _ (unspecified _ _ (sym c.is_specifier.ensures ∙ c.if-not-is_specifier.true)) refl
+
+pub returns : goal.returns
+returns c = appends_as named_simple_effect of_simple_effect _ _ _ _ _ _ _ (specified _ _ (sym c.is_specifier.ensures ∙ c.if-not-is_specifier.false)) c.push_part.ensures
