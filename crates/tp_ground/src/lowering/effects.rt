@@ -122,6 +122,10 @@ impl Lowerable for SimpleEffect {
 
     ghost written = { simple_effect_part };
 
+    fn is_at(&self, _specifier: TimeSpecifier) -> bool {
+        true
+    }
+
     fn lower<'a>(
         &'a self,
         alloc: Global,
@@ -150,6 +154,10 @@ impl Lowerable for Timed<tp_ast::cond::Cond> {
     ghost mentions = { of_condition };
 
     ghost written = { condition_part };
+
+    fn is_at(&self, specifier: TimeSpecifier) -> bool {
+        is_specifier(self.specifier, specifier)
+    }
 
     fn lower<'a>(
         &'a self,
@@ -182,6 +190,10 @@ impl Lowerable for Timed<Effect> {
     ghost mentions = { of_simple_effect };
 
     ghost written = { simple_effects_part };
+
+    fn is_at(&self, specifier: TimeSpecifier) -> bool {
+        is_specifier(self.specifier, specifier)
+    }
 
     fn lower<'a>(
         &'a self,

@@ -44,6 +44,9 @@ pub trait Lowerable: Drop {
     ghost written: { bindings.Universe → specifiers.TimeSpecifier → bindings.Env
         → Seen → List Written };
 
+    /// Whether it is something at a specifier.
+    fn is_at(&self, specifier: TimeSpecifier) -> bool;
+
     /// Puts what it is at a specifier at the end of a list.
     fn lower<'a>(
         &'a self,
@@ -146,6 +149,21 @@ pub fn push_part<'a, P: Lowerable>(
     }
 }
 
+// For how many parts there is to be room: those at the specifier outside of quantifiers.
+fn room_for<P: Lowerable>(part: &Joined<P>, specifier: TimeSpecifier) -> usize {
+    match part {
+        Joined::And(parts) => {
+            let mut room = 0usize;
+            for part in parts {
+                room = room.saturating_add(room_for(part, specifier));
+            }
+            room
+        }
+        Joined::Forall(_, _) => 0,
+        Joined::One(one) => usize::from(one.is_at(specifier)),
+    }
+}
+
 /// The parts at a specifier, each after the one before.
 pub fn joined<'a, P: Lowerable>(
     alloc: Global,
@@ -162,7 +180,7 @@ pub fn joined<'a, P: Lowerable>(
         (of_each P.mentions (parts_in (universe_view universe.now) (P.written
         (universe_view universe.now) specifier) (env_view env.now) (joined_view P.seen part.now))) }
 {
-    let mut lowered = Vec::new(alloc);
+    let mut lowered = Vec::with_capacity(alloc, room_for(part, specifier))?;
     push_part(alloc, universe, env, specifier, writer, part, &mut lowered)?;
     Ok(lowered)
 }
