@@ -1,5 +1,5 @@
 -- One lowering after another, each onto the end of one list.
-use Rattle.std.proofs.Common.{◌≡◌, ℕ, ◌+◌, ◌<◌, List, [], ◌∷◌, ◌++◌, length, take, drop, get_or, map, Bool, true, false, if◌then◌else◌, Result, Ok, Err, IsErrAnd, Vec, Global, sym, ap, subst, ◌∙◌, refl, append_assoc, append-nil}
+use Rattle.std.proofs.Common.{◌≡◌, ℕ, ◌+◌, ◌<◌, List, [], ◌∷◌, ◌++◌, length, take, drop, get_or, map, Bool, false, if◌then◌else◌, Result, Ok, Err, IsErrAnd, Vec, Global, sym, ap, subst, ◌∙◌, refl, append_assoc, append-nil}
 use Rattle.std.specs.List.{flat_map}
 use Rattle.std.proofs.lemmas.List.{map-append}
 use Rattle.tp_task.specs.Tables.{Tables}

@@ -1,11 +1,9 @@
 -- Objects that were looked for before.
-use Rattle.std.proofs.Common.{◌≡◌, ℕ, zero, suc, ◌<◌, Bool, true, false, ◌&&◌, if◌then◌else◌, List, [], ◌∷◌, ◌++◌, map, length, get_or, string_bytes, refl, ap, ap₂, ◌∙◌, arith}
+use Rattle.std.proofs.Common.{◌≡◌, ℕ, zero, suc, ◌<◌, Bool, true, false, ◌&&◌, if◌then◌else◌, List, [], ◌∷◌, ◌++◌, map, length, get_or, string_bytes, refl, ap, ◌∙◌, arith}
 use Rattle.std.specs.List.{list_all}
-use Rattle.std.specs.Str.{bytes_eq}
 use Rattle.std.proofs.lemmas.Bool.{and_from}
-use Rattle.std.proofs.lemmas.Slice.Eq.{bytes_eq-Decides}
 use Rattle.tp_ast.specs.Symbols.{Name}
-use Rattle.tp_task.specs.Words.{Words, same_words}
+use Rattle.tp_task.specs.Words.{same_words}
 use Rattle.tp_task.proofs.OnWords.{same_words_are, same_words_self}
 use Rattle.tp_ground.specs.Bindings.{Universe, choices}
 use Rattle.tp_ground.specs.KnownChoices.{of_types, is_known}

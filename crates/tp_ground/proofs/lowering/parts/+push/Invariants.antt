@@ -1,4 +1,4 @@
-use Rattle.std.proofs.Common.{◌≡◌, ◌++◌, map, take}
+use Rattle.std.proofs.Common.{◌≡◌, map, take}
 use Rattle.std.specs.List.{flat_map}
 use Rattle.tp_ast.specs.Symbols.{typed_view}
 use Rattle.tp_ground.specs.Bindings.{bindings}
