@@ -37,13 +37,24 @@ struct Changes {
     writes: Vec<NumericEffect>,
 }
 
+// For how many writes there is to be room.
+fn count_writes(simple_effects: &[NumberedEffect]) -> usize {
+    let mut count = 0usize;
+    for simple_effect in simple_effects {
+        if let NumberedEffect::Write(_) = simple_effect {
+            count = count.saturating_add(1);
+        }
+    }
+    count
+}
+
 fn split(alloc: Global, simple_effects: Vec<NumberedEffect>) -> Result<Changes, AllocError>
     ensures { IfOk result
         (λ s. AreSplit simple_effects.items s.adds.items s.deletes.items s.writes.items) }
 {
     let mut adds = Vec::new(alloc);
     let mut deletes = Vec::new(alloc);
-    let mut writes = Vec::new(alloc);
+    let mut writes = Vec::with_capacity(alloc, count_writes(&simple_effects))?;
     for simple_effect in simple_effects {
         match simple_effect {
             NumberedEffect::Add(atom) => adds.push(atom)?,

@@ -52,7 +52,7 @@ pub fn limits(
         DurationConstraint::And(constraints) => all_limits(alloc, env, writer, constraints),
         DurationConstraint::Limit(comparison, value) => {
             let value = expression(alloc, env, writer, value)?;
-            let mut one = Vec::new(alloc);
+            let mut one = Vec::with_capacity(alloc, 1)?;
             one.push(Limit {
                 how: comparison_of(*comparison),
                 value,

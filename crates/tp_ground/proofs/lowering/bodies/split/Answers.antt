@@ -4,11 +4,11 @@ use Rattle.std.proofs.lemmas.Iterator.Consumers.{YieldsList-end}
 use Rattle.tp_ground.proofs.OnEvents.{one_add, one_delete, one_write, split_all}
 use Rattle.tp_ground.proofs.lowering.bodies.split.Goals as goal
 
-pub loop-simple_effect-preserved-in-Continue-1 : goal.loop-simple_effect-preserved-in-Continue-1
-loop-simple_effect-preserved-in-Continue-1 c = one_add _ _ _ _ _ c.loop-simple_effect.invariant _ _ c.in-Add.is c.in_ok-push-in-Add.ensures.items
-
 pub loop-simple_effect-preserved-in-Continue-branch-2 : goal.loop-simple_effect-preserved-in-Continue-branch-2
-loop-simple_effect-preserved-in-Continue-branch-2 c = one_delete _ _ _ _ _ c.loop-simple_effect.invariant _ _ c.in-Delete.is c.in_ok-push-in-Delete.ensures.items
+loop-simple_effect-preserved-in-Continue-branch-2 c = one_add _ _ _ _ _ c.loop-simple_effect.invariant _ _ c.in-Add.is c.in_ok-push-in-Add.ensures.items
+
+pub loop-simple_effect-preserved-in-Continue-branch-3 : goal.loop-simple_effect-preserved-in-Continue-branch-3
+loop-simple_effect-preserved-in-Continue-branch-3 c = one_delete _ _ _ _ _ c.loop-simple_effect.invariant _ _ c.in-Delete.is c.in_ok-push-in-Delete.ensures.items
 
 pub loop-simple_effect-preserved : goal.loop-simple_effect-preserved
 loop-simple_effect-preserved c = one_write _ _ _ _ _ c.loop-simple_effect.invariant _ _ c.in-Write.is c.in_ok-push-in-Write.ensures.items

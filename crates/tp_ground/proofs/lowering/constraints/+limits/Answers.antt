@@ -28,5 +28,5 @@ pub limits-returns-in_ok-push-in-Limit : goal.limits-returns-in_ok-push-in-Limit
 limits-returns-in_ok-push-in-Limit t c =
     let how = comparison_of c.in-Limit.comparison in
     as_written (of_each of_limit) _ _ (limit_of (env_view c.args.env.now) c.args.constraint.now c.in-Limit.comparison c.in-Limit.value c.in-Limit.is)
-    (all_push named_limit of_limit _ _ _ c.new-one.result _ _ [] _ _ c.in_ok-push-in-Limit.ensures.items refl (all_none named_limit of_limit _ c.new-one.result c.new-one.ensures.items)
+    (all_push named_limit of_limit _ _ _ c.in_ok-one-in-Limit.one _ _ [] _ _ c.in_ok-push-in-Limit.ensures.items refl (all_none named_limit of_limit _ c.in_ok-one-in-Limit.one c.in_ok-one-in-Limit.ensures.items)
     (lowered_as (λ (v : GroundExpression). record { how = how; value = v }) _ (λ u. ap (λ h. record { how = h; value = named_expression u c.in_ok-value-in-Limit.value }) c.comparison_of.ensures) c.in_ok-value-in-Limit.ensures))
