@@ -346,6 +346,7 @@ def reads(program):
     judged(program, "40,000 types with a constant each", types, problem, "")
     many = f"(define (domain d) (:predicates (p ?x)) (:action a :parameters ({each('?v#', 30_000)}) :precondition (and {each('(p ?v#)', 30_000)}) :effect ()))"
     judged(program, "an action of 30,000 parameters, each in an atom", many, problem, "")
+    judged(program, "the same beside an object that all of them may stand for", many, problem.replace("(:goal", "(:objects o) (:goal"), "")
     name = "t" * 4_000
     judged(program, "100,000 constants of a type of 4,000 letters", f"(define (domain d) (:types {name}) (:constants {each('c#', 100_000)} - {name}))", problem, "")
     judged(program, "100,000 types below one of 4,000 letters", f"(define (domain d) (:types {each('t#', 100_000)} - {name}))", problem, "")
