@@ -19,4 +19,5 @@ pub mod OnKeys
 pub mod OnGuesses
 pub mod OnNumberings
 pub mod OnPlaces
+pub mod OnPushes
 pub mod OnLookups

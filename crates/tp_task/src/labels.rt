@@ -1,6 +1,6 @@
 //! Labels in order, which are found by a table.
 
-ghost use Rattle.std.specs.Prelude.{◌≡◌, ◌∷◌, [], ◌++◌, ◌-◌, map, length, nat_eq, OnOk, OnErr, slice_index_or};
+ghost use Rattle.std.specs.Prelude.{◌≡◌, ◌∷◌, [], ◌++◌, ◌-◌, map, length, nat_eq, IfOk, OnOk, OnErr, slice_index_or};
 ghost use Rattle.std.specs.List.{position_from};
 ghost use Rattle.std.specs.Cmp.Lexicographic.{pointwise};
 
@@ -37,6 +37,14 @@ pub fn label_at<'a>(labels: &'a [Label], place: usize) -> &'a [usize]
         Some(label) => label.as_slice(),
         None => &[],
     }
+}
+
+// The label at a place once more, empty past the end.
+fn copy_at(alloc: Global, labels: &[Label], place: usize) -> Result<Label, AllocError>
+    ensures { IfOk result
+        (λ l. l.items ≡ slice_index_or (map (λ l. l.items) labels.now) place []) }
+{
+    SmallVec::from_slice(alloc, label_at(labels, place))
 }
 
 // Where the first label of these numbers stands among some that are not in a table.
@@ -104,11 +112,16 @@ impl Labels {
         ensures added { OnOk result (self.new ≡ self.old ++ label.items ∷ []) }
         ensures unchanged { OnErr result (self.new ≡ self.old) }
     {
-        if self.more.is_empty() && !self.first.contains(&label) {
-            self.first.insert(label)?;
+        if !self.more.is_empty() {
+            self.more.push(label)?;
             return Ok(());
         }
-        self.more.push(label)?;
+        let (place, is_new) = self.first.insert_full(label)?;
+        if !is_new {
+            // It stands there already.
+            let again = copy_at(*self.first.allocator(), self.first.as_slice(), place)?;
+            self.more.push(again)?;
+        }
         Ok(())
     }
 }

@@ -78,9 +78,23 @@ fn stands_near(names: &IndexSet<String>, near: &[usize], place: usize, name: &st
     }
 }
 
-// The same as `name_number`, but looks first at a place of another label, which costs less than a look-up.
+// The number of a name that stands where one like it was found last.
+fn guessed_name(names: &IndexSet<String>, guesses: &Guesses, name: &str) -> Option<usize>
+    ensures { IfSome result
+        (λ i. slice_get (map string_bytes names.now.keys) i ≡ Some name.now) }
+{
+    let number = guesses.guess(&[name])? as usize;
+    match names.get_index(number) {
+        Some(known) if name == known.as_str() => Some(number),
+        _ => None,
+    }
+}
+
+// The same as `name_number`, but looks first at a place of another label, and where one like it was found last: both cost
+// less than a look-up.
 fn number_near(
     names: &mut IndexSet<String>,
+    guesses: &mut Guesses,
     near: &[usize],
     place: usize,
     name: &str,
@@ -94,12 +108,20 @@ fn number_near(
     if let Some(number) = stands_near(&*names, near, place, name) {
         return Ok(number);
     }
-    name_number(names, name)
+    if let Some(number) = guessed_name(&*names, &*guesses, name) {
+        return Ok(number);
+    }
+    let number = name_number(names, name)?;
+    if let Ok(place) = u32::try_from(number) {
+        guesses.keep(&[name], place);
+    }
+    Ok(number)
 }
 
 // The label of words, which may have names in common with a label near it.
 fn label_of(
     names: &mut IndexSet<String>,
+    guesses: &mut Guesses,
     near: &[usize],
     words: &[&str],
 ) -> Result<Label, AllocError>
@@ -113,7 +135,7 @@ fn label_of(
 {
     let mut label = SmallVec::new(*names.allocator());
     for word in words {
-        let number = number_near(names, near, label.len(), word)?;
+        let number = number_near(names, guesses, near, label.len(), word)?;
         label.push(number)?;
     }
     Ok(label)
@@ -198,7 +220,7 @@ impl Numbering {
         ensures err { IfErr result (CannotNumber self.old.most
             (with_words self.old.atoms (map (λ w. w.now) words.now)) self.old.fluents) }
     {
-        let label = label_of(&mut self.names, &[], words)?;
+        let label = label_of(&mut self.names, &mut self.guesses, &[], words)?;
         place_of(&mut self.atoms, self.most, label, TooManyKind::Atoms)
     }
 
@@ -249,7 +271,7 @@ impl Numbering {
         ensures err { IfErr result (CannotNumber self.old.most self.old.atoms
             (with_words self.old.fluents (map (λ w. w.now) words.now))) }
     {
-        let label = label_of(&mut self.names, &[], words)?;
+        let label = label_of(&mut self.names, &mut self.guesses, &[], words)?;
         place_of(&mut self.fluents, self.most, label, TooManyKind::Fluents)
     }
 
@@ -284,7 +306,8 @@ impl Numbering {
         ensures fluents { self.new.fluents ≡ self.old.fluents }
         ensures most { self.new.most ≡ self.old.most }
     {
-        let label = label_of(&mut self.names, self.actions.last(), words)?;
+        let near = self.actions.last();
+        let label = label_of(&mut self.names, &mut self.guesses, near, words)?;
         self.actions.push(label)?;
         Ok(())
     }
