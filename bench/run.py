@@ -361,10 +361,25 @@ def quantified(program):
     judged(program, "a forall over 64,000,000 bindings, each of its own atom", domain, problem.replace("#", "?a ?b ?c"), "")
     judged(program, "the same over 400 atoms", domain, problem.replace("#", "?a o0 o0"), "")
     judged(program, "a forall over 400^10 bindings", domain, problem.replace("#", "o0 o0 o0").replace("?c)", "?c ?d ?e ?f ?g ?h ?i ?j)"), "")
-    types = f"(:types {each('t#', 2_000)})"
-    action = f"(:action a :parameters ({each('?v# - t#', 2_000)}) :precondition () :effect ())"
-    many = f"(define (problem q) (:domain d) (:objects {each('o#', 20_000)}) (:goal ()))"
-    judged(program, "2,000 parameters of as many types, 20,000 objects", f"(define (domain d) {types} {action})", many, "")
+
+
+def typed_objects(program):
+    """Parameters of many types beside many objects."""
+    action = f"(:action a :parameters ({each('?v# - t#', 20_000)}) :precondition () :effect ())"
+    own = f"(define (problem q) (:domain d) (:objects {each('o# - t#', 20_000)}) (:goal ()))"
+    judged(program, "20,000 parameters of as many types, an object of each", f"(define (domain d) (:types {each('t#', 20_000)}) {action})", own, "")
+    chain = "(:types " + " ".join(f"t{k} - t{k + 1}" for k in range(20_000)) + ")"
+    judged(program, "20,000 parameters of a chain of types, an object of each", f"(define (domain d) {chain} {action})", own, "")
+    one = "(define (problem q) (:domain d) (:objects o - t0) (:goal ()))"
+    judged(program, "20,000 parameters of a chain of types, one object", f"(define (domain d) {chain} {action})", one, "")
+    low = f"(define (problem q) (:domain d) (:objects {each('o# - t0', 60_000)}) (:goal ()))"
+    actions = each("(:action a# :parameters (?x - t# ?y - e) :precondition () :effect ())", 9_000)
+    judged(program, "9,000 actions with a parameter that nothing fits, 60,000 objects", f"(define (domain d) {chain[:-1]} e) {actions})", low, "")
+    kinds = each("(:action a# :parameters (?x - t#) :precondition () :effect ())", 13_000)
+    three = "(define (problem q) (:domain d) (:objects " + " ".join(f"o{k} - t{k % 13_000}" for k in range(39_000)) + ") (:goal ()))"
+    judged(program, "13,000 actions of as many types, three objects of each", f"(define (domain d) (:types {each('t#', 13_000)}) {kinds})", three, "")
+    any_of = f"(:action a :parameters (?x - {either(20_000)}) :precondition () :effect ())"
+    judged(program, "a parameter of any of a chain of 20,000 types, 60,000 objects", f"(define (domain d) {chain} {any_of})", low, "")
 
 
 def changes(program, name, bounds, count):
@@ -528,6 +543,7 @@ def main():
         reads(program)
         worst_reads(program)
         quantified(program)
+        typed_objects(program)
     if "--network" in groups:
         network(program)
     if "--journals" in groups:

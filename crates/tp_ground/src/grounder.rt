@@ -14,15 +14,13 @@ ghost use Rattle.tp_ground.specs.Lowered.{Lowers};
 ghost use Rattle.tp_ground.specs.Grounding.{universe_of, ground_actions, mentioned, IsTask, HasNoTask};
 ghost use Rattle.tp_ground.specs.WriterViews.{with_tables};
 ghost use Rattle.tp_ground.specs.Initially.{true_at, value_at};
-ghost use Rattle.tp_task.specs.declared.fault.GroundFault.TheVariants.{TooMany};
-ghost use Rattle.tp_task.specs.declared.fault.TooManyKind.TheVariants.{Actions};
 ghost use Rattle.tp_ground.specs.WrittenTasks.{written_task, named_task, of_task, IsMade};
 
 use crate::beginning::{NumberedInitial, entries, numbers, truths};
 use crate::environment::Env;
 use crate::grounding::{actions_fit, lower_actions, name_actions};
 use crate::lowering::condition;
-use crate::noting::{note_actions, note_condition};
+use crate::noting::{note_bodies, note_condition};
 use crate::numbers::has_great_number;
 use crate::universe::Universe;
 use crate::writer::Writer;
@@ -33,9 +31,9 @@ use tp_ast::domain::Domain;
 use tp_ast::problem::{Initial, Problem};
 use tp_ast::symbols::Typed;
 use tp_bounds::Limits;
+use tp_objects::objects::Objects;
 use tp_task::{Body, Cond, GroundFault, Numbering, Task, TooManyKind};
 use tp_text::Scale;
-use tp_types::types::Types;
 
 /// The most objects that a problem may have.
 const MOST_OBJECTS: usize = 65_535;
@@ -72,26 +70,10 @@ fn plain_universe<'a>(
         (λ u. universe_view u ≡ universe_of (domain_view domain.now) (problem_view problem.now)) }
 {
     Ok(Universe {
-        types: Types::new(alloc, &domain.types)?,
-        constants: &domain.constants,
-        objects: &problem.objects,
+        objects: Objects::new(alloc, &domain.types, &domain.constants, &problem.objects)?,
         known: Vec::new(alloc),
         places: IndexMap::new(alloc),
     })
-}
-
-fn universe_of<'a>(
-    alloc: Global,
-    domain: &'a Domain,
-    problem: &'a Problem,
-) -> Result<Universe<'a>, AllocError>
-    ensures { IfOk result
-        (λ u. universe_view u ≡ universe_of (domain_view domain.now) (problem_view problem.now)) }
-{
-    let mut universe = plain_universe(alloc, domain, problem)?;
-    note_actions(alloc, &mut universe, &domain.actions)?;
-    note_condition(alloc, &mut universe, &problem.goal)?;
-    Ok(universe)
 }
 
 // What can be told before the types are looked at, whatever the limits.
@@ -112,19 +94,83 @@ fn check(domain: &Domain, problem: &Problem) -> Result<(), GroundFault>
     Ok(())
 }
 
-// Whether there are no more ground actions than there may be.
-fn check_actions(universe: &Universe, domain: &Domain, limits: &Limits) -> Result<(), GroundFault>
+// Whether there are no more ground actions than there may be. The objects for their parameters are known from then on.
+fn check_actions<'a>(
+    alloc: Global,
+    universe: &mut Universe<'a>,
+    domain: &'a Domain,
+    problem: &'a Problem,
+    limits: &Limits,
+) -> Result<(), GroundFault>
+    requires { universe_view universe.old
+        ≡ universe_of (domain_view domain.now) (problem_view problem.now) }
+    ensures universe { universe_view universe.new ≡ universe_view universe.old }
     ensures most { limits.now.actions ≤ 65_535 }
-    ensures few { OnOk result
-        (length (ground_actions (universe_view universe.now) (domain_view domain.now).actions)
-        ≤ limits.now.actions) }
-    ensures err { IfErr result (λ e. (e ≡ TooMany Actions) × (limits.now.actions
-        < length (ground_actions (universe_view universe.now) (domain_view domain.now).actions))) }
+    ensures few { OnOk result (length (ground_actions (universe_of (domain_view domain.now)
+        (problem_view problem.now)) (domain_view domain.now).actions) ≤ limits.now.actions) }
+    ensures err { IfErr result
+        (HasNoTask limits.now (domain_view domain.now) (problem_view problem.now)) }
 {
-    if !actions_fit(universe, &domain.actions, limits.actions()) {
+    let _ = problem;
+    if !actions_fit(alloc, universe, &domain.actions, limits.actions())? {
         return Err(GroundFault::TooMany(TooManyKind::Actions));
     }
     Ok(())
+}
+
+// Looks for the objects that quantified variables may stand for.
+fn note_quantifiers<'a>(
+    alloc: Global,
+    universe: &mut Universe<'a>,
+    domain: &'a Domain,
+    problem: &'a Problem,
+) -> Result<(), AllocError>
+    ensures { universe_view universe.new ≡ universe_view universe.old }
+{
+    note_bodies(alloc, universe, &domain.actions)?;
+    note_condition(alloc, universe, &problem.goal)
+}
+
+// Looks for the objects that variables may stand for, if there are no more ground actions than there may be.
+fn look_around<'a>(
+    alloc: Global,
+    universe: &mut Universe<'a>,
+    domain: &'a Domain,
+    problem: &'a Problem,
+    limits: &Limits,
+) -> Result<(), GroundFault>
+    requires { universe_view universe.old
+        ≡ universe_of (domain_view domain.now) (problem_view problem.now) }
+    ensures universe { universe_view universe.new ≡ universe_view universe.old }
+    ensures most { limits.now.actions ≤ 65_535 }
+    ensures few { OnOk result (length (ground_actions (universe_of (domain_view domain.now)
+        (problem_view problem.now)) (domain_view domain.now).actions) ≤ limits.now.actions) }
+    ensures err { IfErr result
+        (HasNoTask limits.now (domain_view domain.now) (problem_view problem.now)) }
+{
+    check_actions(alloc, universe, domain, problem, limits)?;
+    note_quantifiers(alloc, universe, domain, problem)?;
+    Ok(())
+}
+
+// The types and objects of a problem with few enough ground actions.
+fn universe_within<'a>(
+    alloc: Global,
+    domain: &'a Domain,
+    problem: &'a Problem,
+    limits: &Limits,
+) -> Result<Universe<'a>, GroundFault>
+    ensures ok { IfOk result
+        (λ u. universe_view u ≡ universe_of (domain_view domain.now) (problem_view problem.now)) }
+    ensures most { OnOk result (limits.now.actions ≤ 65_535) }
+    ensures few { OnOk result (length (ground_actions (universe_of (domain_view domain.now)
+        (problem_view problem.now)) (domain_view domain.now).actions) ≤ limits.now.actions) }
+    ensures err { IfErr result
+        (HasNoTask limits.now (domain_view domain.now) (problem_view problem.now)) }
+{
+    let mut universe = plain_universe(alloc, domain, problem)?;
+    look_around(alloc, &mut universe, domain, problem, limits)?;
+    Ok(universe)
 }
 
 // What is said at first, what is asked for, and what can be done, by number.
@@ -301,8 +347,7 @@ fn within<'a>(
     ensures err { IfErr result
         (HasNoTask limits.now (domain_view domain.now) (problem_view problem.now)) }
 {
-    let universe = universe_of(alloc, domain, problem)?;
-    check_actions(&universe, domain, limits)?;
+    let universe = universe_within(alloc, domain, problem, limits)?;
     made(alloc, &universe, domain, problem, limits, scale)
 }
 

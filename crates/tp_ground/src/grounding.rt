@@ -1,6 +1,6 @@
 //! All ground actions of a problem.
 
-ghost use Rattle.std.specs.Prelude.{◌≡◌, ◌++◌, ◌∷◌, map, length, nat_le, OnOk, string_bytes};
+ghost use Rattle.std.specs.Prelude.{◌≡◌, ◌++◌, ◌∷◌, map, length, nat_le, IfOk, OnOk, string_bytes};
 ghost use Rattle.tp_ast.specs.Symbols.{typed_view};
 ghost use Rattle.tp_ast.specs.DomainViews.{action_view, body_view};
 ghost use Rattle.tp_ground.specs.Views.{universe_view};
@@ -16,26 +16,33 @@ ghost use Rattle.tp_ground.specs.Rows.{product, lists_of};
 use crate::environment::Env;
 use crate::lowering::body;
 use crate::rows::{Rows, rows_of};
-use crate::universe::{Universe, count_bindings, with_first};
+use crate::universe::{Universe, count_and_note, refill};
 use crate::writer::Writer;
 use std::alloc::{AllocError, Global};
 use tp_ast::action::Action;
 use tp_ast::symbols::Typed;
 use tp_task::{Body, GroundFault};
 
-/// Whether all actions together have no more bindings than so many.
-pub fn actions_fit(universe: &Universe, actions: &[Action], most: u32) -> bool
-    ensures { result ≡ nat_le
-        (length (ground_actions (universe_view universe.now) (map action_view actions.now))) most }
+/// Whether all actions together have no more bindings than so many. Where they do, the objects that their parameters may
+/// stand for are known from then on.
+pub fn actions_fit<'a>(
+    alloc: Global,
+    universe: &mut Universe<'a>,
+    actions: &'a [Action],
+    most: u32,
+) -> Result<bool, AllocError>
+    ensures fits { IfOk result (λ b. b ≡ nat_le
+        (length (ground_actions (universe_view universe.old) (map action_view actions.now))) most) }
+    ensures universe { universe_view universe.new ≡ universe_view universe.old }
 {
     let mut left = most as usize;
     for action in actions {
-        match count_bindings(universe, &action.parameters, left) {
+        match count_and_note(alloc, universe, &action.parameters, left)? {
             Some(count) => left -= count,
-            None => return false,
+            None => return Ok(false),
         }
     }
-    true
+    Ok(true)
 }
 
 // The words of an action under all bindings, after those of other actions.
@@ -51,9 +58,10 @@ fn push_names(
     ensures fluents { writer.new.tables.fluents ≡ writer.old.tables.fluents }
     ensures most { writer.new.tables.most ≡ writer.old.tables.most }
 {
+    let mut words = Vec::new(alloc);
     for place in 0..rows.count {
         rows.turn_to(place);
-        let words = with_first(alloc, action.name.as_str(), &rows.row)?;
+        refill(&mut words, action.name.as_str(), &rows.row)?;
         writer.push_action(&words)?;
     }
     Ok(())

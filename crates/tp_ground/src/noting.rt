@@ -3,7 +3,7 @@
 ghost use Rattle.std.specs.Prelude.{◌≡◌};
 ghost use Rattle.tp_ground.specs.Views.{universe_view};
 
-use crate::universe::{Universe, note};
+use crate::universe::{Universe, have_choices, note};
 use std::alloc::{AllocError, Global};
 use tp_ast::action::{Action, Body};
 use tp_ast::cond::Cond;
@@ -12,17 +12,22 @@ use tp_ast::joined::Joined;
 use tp_ast::symbols::Typed;
 use tp_ast::timed::Timed;
 
+// Notes variables, unless there is no object for one of them: whether there may be one for each.
 fn note_variables<'a>(
     alloc: Global,
     universe: &mut Universe<'a>,
     variables: &'a [Typed],
-) -> Result<(), AllocError>
+) -> Result<bool, AllocError>
     ensures { universe_view universe.new ≡ universe_view universe.old }
 {
+    // What stands under variables without bindings is never written out.
+    if !have_choices(&*universe, variables) {
+        return Ok(false);
+    }
     for variable in variables {
         note(alloc, universe, variable)?;
     }
-    Ok(())
+    Ok(true)
 }
 
 #[cycle(note_condition)]
@@ -56,7 +61,9 @@ pub fn note_condition<'a>(
             note_condition(alloc, universe, b)
         }
         Cond::Forall(variables, inner) | Cond::Exists(variables, inner) => {
-            note_variables(alloc, universe, variables)?;
+            if !note_variables(alloc, universe, variables)? {
+                return Ok(());
+            }
             note_condition(alloc, universe, inner)
         }
         Cond::Atom(_) | Cond::Same(_, _) | Cond::Compare(_, _, _) => Ok(()),
@@ -94,7 +101,9 @@ fn note_part<'a, P: Noted>(
     match part {
         Joined::And(parts) => note_parts(alloc, universe, parts),
         Joined::Forall(variables, inner) => {
-            note_variables(alloc, universe, variables)?;
+            if !note_variables(alloc, universe, variables)? {
+                return Ok(());
+            }
             note_part(alloc, universe, inner)
         }
         Joined::One(one) => one.note(alloc, universe),
@@ -145,8 +154,8 @@ fn note_body<'a>(
     }
 }
 
-/// Notes the variables of actions: their parameters, and those of their quantifiers.
-pub fn note_actions<'a>(
+/// Notes the variables of the quantifiers of actions that have bindings.
+pub fn note_bodies<'a>(
     alloc: Global,
     universe: &mut Universe<'a>,
     actions: &'a [Action],
@@ -154,8 +163,9 @@ pub fn note_actions<'a>(
     ensures { universe_view universe.new ≡ universe_view universe.old }
 {
     for action in actions {
-        note_variables(alloc, universe, &action.parameters)?;
-        note_body(alloc, universe, &action.body)?;
+        if have_choices(&*universe, &action.parameters) {
+            note_body(alloc, universe, &action.body)?;
+        }
     }
     Ok(())
 }

@@ -1,10 +1,9 @@
 //! The objects, and what variables may stand for.
 
-ghost use Rattle.std.specs.Prelude.{◌≡◌, ℕ, ◌*◌, ◌≤◌, ◌<◌, ◌++◌, ◌∷◌, [], true, map, length, filter, IfOk, OnOk, IfSome, string_bytes};
+ghost use Rattle.std.specs.Prelude.{◌≡◌, ◌↔◌, ℕ, ◌*◌, ◌<◌, ◌∷◌, true, false, map, length, IfOk, OnOk, IfSome, IsTrue, string_bytes};
 ghost use Rattle.std.specs.List.{list_all};
-ghost use Rattle.tp_ast.specs.Symbols.{typed_view, types_fit};
-ghost use Rattle.tp_types.specs.TypeViews.{types_view};
-ghost use Rattle.tp_ground.specs.Bindings.{fitting, choices, bindings};
+ghost use Rattle.tp_ast.specs.Symbols.{typed_view};
+ghost use Rattle.tp_ground.specs.Bindings.{choices, bindings};
 ghost use Rattle.tp_ground.specs.Bindings as bindings;
 ghost use Rattle.tp_ground.specs.Counts.{IsCount};
 ghost use Rattle.tp_task.specs.Words.{same_words};
@@ -16,7 +15,6 @@ pub use crate::objects::Universe;
 use indexmap::IndexMap;
 use std::alloc::{AllocError, Global};
 use tp_ast::symbols::Typed;
-use tp_types::types::{Types, types_fit};
 
 /// Whether two lists of types are the same.
 pub fn are_same(left: &[String], right: &[String]) -> bool
@@ -77,54 +75,6 @@ fn find_known<'u, 'a>(
     None
 }
 
-// How many of these objects fit a variable.
-fn count_fitting(types: &Types, objects: &[Typed], variable: &Typed) -> usize
-    ensures count { result ≡ length
-        (fitting (types_view types.now) (map typed_view objects.now) (typed_view variable.now)) }
-    ensures few { result ≤ length objects.now }
-{
-    let mut count = 0;
-    for object in objects {
-        if types_fit(types, object.type_names(), variable.type_names()) {
-            count += 1;
-        }
-    }
-    count
-}
-
-// The names of those of these objects that fit a variable, after others.
-fn push_fitting<'a>(
-    names: &mut Vec<&'a str>,
-    types: &Types,
-    objects: &'a [Typed],
-    variable: &Typed,
-) -> Result<(), AllocError>
-    ensures { OnOk result (map (λ o. o.now) names.new.items ≡ map (λ o. o.now) names.old.items
-        ++ fitting (types_view types.now) (map typed_view objects.now) (typed_view variable.now)) }
-{
-    for object in objects {
-        if types_fit(types, object.type_names(), variable.type_names()) {
-            names.push(object.name.as_str())?;
-        }
-    }
-    Ok(())
-}
-
-// The objects that a variable may stand for, looked for among all.
-fn all_fitting<'a>(
-    alloc: Global,
-    universe: &Universe<'a>,
-    variable: &Typed,
-) -> Result<Vec<&'a str>, AllocError>
-    ensures { IfOk result (λ v.
-        map (λ o. o.now) v.items ≡ choices (universe_view universe.now) (typed_view variable.now)) }
-{
-    let mut names = Vec::new(alloc);
-    push_fitting(&mut names, &universe.types, universe.constants, variable)?;
-    push_fitting(&mut names, &universe.types, universe.objects, variable)?;
-    Ok(names)
-}
-
 fn copied<'a>(alloc: Global, names: &[&'a str]) -> Result<Vec<&'a str>, AllocError>
     ensures { IfOk result (λ v. map (λ o. o.now) v.items ≡ map (λ o. o.now) names.now) }
 {
@@ -144,7 +94,7 @@ pub fn choices<'a>(
 {
     match find_known(&universe.known, &universe.places, variable.type_names()) {
         Some(names) => copied(alloc, names),
-        None => all_fitting(alloc, universe, variable),
+        None => universe.objects.fitting(alloc, variable.type_names()),
     }
 }
 
@@ -185,30 +135,23 @@ pub fn note<'a>(
     if find_known(&universe.known, &universe.places, variable.type_names()).is_some() {
         return Ok(());
     }
-    let names = all_fitting(alloc, &*universe, variable)?;
+    let names = universe.objects.fitting(alloc, variable.type_names())?;
     keep(universe, variable, names)
 }
 
-/// A name, and then those of a binding.
-pub fn with_first<'a>(
-    alloc: Global,
+/// Makes a list of a name and then those of a binding.
+pub fn refill<'a>(
+    words: &mut Vec<&'a str>,
     name: &'a str,
     rest: &[&'a str],
-) -> Result<Vec<&'a str>, AllocError>
-    ensures { IfOk result (λ v. map (λ o. o.now) v.items ≡ name.now ∷ map (λ o. o.now) rest.now) }
+) -> Result<(), AllocError>
+    ensures { OnOk result
+        (map (λ o. o.now) words.new.items ≡ name.now ∷ map (λ o. o.now) rest.now) }
 {
-    let mut names = Vec::with_capacity(alloc, rest.len().saturating_add(1))?;
-    names.push(name)?;
-    names.extend_from_slice(rest)?;
-    Ok(names)
-}
-
-// How many objects a variable may stand for, looked for among all.
-fn count_all(universe: &Universe, variable: &Typed) -> usize
-    ensures { result ≡ length (choices (universe_view universe.now) (typed_view variable.now)) }
-{
-    count_fitting(&universe.types, universe.constants, variable)
-        + count_fitting(&universe.types, universe.objects, variable)
+    words.clear();
+    words.push(name)?;
+    words.extend_from_slice(rest)?;
+    Ok(())
 }
 
 // How many objects a variable may stand for.
@@ -217,7 +160,7 @@ fn count_choices(universe: &Universe, variable: &Typed) -> usize
 {
     match find_known(&universe.known, &universe.places, variable.type_names()) {
         Some(names) => names.len(),
-        None => count_all(universe, variable),
+        None => universe.objects.count(variable.type_names()),
     }
 }
 
@@ -233,11 +176,39 @@ fn times(count: Option<usize>, more: usize, most: usize) -> Option<usize>
     Some(product)
 }
 
+// Whether there is an object that a variable may stand for.
+fn has_choice(universe: &Universe, variable: &Typed) -> bool
+    ensures { IsTrue result
+        ↔ (0 < length (choices (universe_view universe.now) (typed_view variable.now))) }
+{
+    match find_known(&universe.known, &universe.places, variable.type_names()) {
+        Some(names) => !names.is_empty(),
+        None => universe.objects.some_fits(variable.type_names()),
+    }
+}
+
+/// Whether there is an object for each variable. Where there is none, the variables have no bindings.
+pub fn have_choices(universe: &Universe, variables: &[Typed]) -> bool
+    ensures { result ≡ false
+        → length (bindings (universe_view universe.now) (map typed_view variables.now)) ≡ 0 }
+{
+    for variable in variables {
+        if !has_choice(universe, variable) {
+            return false;
+        }
+    }
+    true
+}
+
 /// How many bindings variables have, if there are no more than so many.
 pub fn count_bindings(universe: &Universe, variables: &[Typed], most: usize) -> Option<usize>
     ensures { IsCount most
         (length (bindings (universe_view universe.now) (map typed_view variables.now))) result }
 {
+    // Variables that have no bindings may have many objects that were never looked for.
+    if !have_choices(universe, variables) {
+        return Some(0);
+    }
     let mut count = if most == 0 { None } else { Some(1usize) };
     for variable in variables {
         let choices = count_choices(universe, variable);
@@ -247,4 +218,51 @@ pub fn count_bindings(universe: &Universe, variables: &[Typed], most: usize) -> 
         count = times(count, choices, most);
     }
     count
+}
+
+// A count times the objects that a variable may stand for, which are known from then on. Where there is no count any
+// more, they are not looked for.
+fn counted<'a>(
+    alloc: Global,
+    universe: &mut Universe<'a>,
+    variable: &'a Typed,
+    count: Option<usize>,
+    most: usize,
+) -> Result<Option<usize>, AllocError>
+    requires { 0 < length (choices (universe_view universe.old) (typed_view variable.now)) }
+    ensures count { IfOk result (λ r. (n : ℕ) → IsCount most n count → IsCount most
+        (length (choices (universe_view universe.old) (typed_view variable.now)) * n) r) }
+    ensures universe { universe_view universe.new ≡ universe_view universe.old }
+{
+    if count.is_none() {
+        return Ok(None);
+    }
+    note(alloc, universe, variable)?;
+    Ok(times(count, count_choices(&*universe, variable), most))
+}
+
+/// As `count_bindings`, but where there are some bindings, and no more than so many, the objects that the variables may
+/// stand for are known from then on.
+pub fn count_and_note<'a>(
+    alloc: Global,
+    universe: &mut Universe<'a>,
+    variables: &'a [Typed],
+    most: usize,
+) -> Result<Option<usize>, AllocError>
+    ensures count { IfOk result (IsCount most
+        (length (bindings (universe_view universe.old) (map typed_view variables.now)))) }
+    ensures universe { universe_view universe.new ≡ universe_view universe.old }
+{
+    // What is looked for here is kept, so not for variables that have no bindings.
+    if !have_choices(&*universe, variables) {
+        return Ok(Some(0));
+    }
+    let mut count = if most == 0 { None } else { Some(1usize) };
+    for variable in variables {
+        if !has_choice(&*universe, variable) {
+            return Ok(Some(0));
+        }
+        count = counted(alloc, universe, variable, count, most)?;
+    }
+    Ok(count)
 }

@@ -38,8 +38,16 @@ pub fn atom(alloc: Global, env: &Env, writer: &mut Writer, atom: &Atom) -> Resul
         (words_in (env_view env.now) (atom_view atom.now))
         (an_atom (words_in (env_view env.now) (atom_view atom.now))) }
 {
-    let words = words_in(alloc, env, atom)?;
-    writer.atom(&words)
+    let name = atom.name.as_str();
+    match atom.terms.as_slice() {
+        [] => writer.atom(&[name]),
+        [first] => writer.atom(&[name, object_for(env, first)]),
+        [first, second] => writer.atom(&[name, object_for(env, first), object_for(env, second)]),
+        _ => {
+            let words = words_in(alloc, env, atom)?;
+            writer.atom(&words)
+        }
+    }
 }
 
 fn fact(alloc: Global, env: &Env, writer: &mut Writer, fact: &Atom) -> Result<Cond, GroundFault>

@@ -20,7 +20,7 @@ loop-place-preserved c =
     let f = λ (ns : List Name). string_bytes c.args.action.now.name ∷ ns in
     let label =
     ap (map (λ (o : Bor Name). o.now)) c.deref-in-loop-place.ensures.value
-    ∙ c.in_ok-words.ensures
+    ∙ c.in_ok-refill.ensures
     ∙ ap₂ (λ (n : Name) (ns : List Name). n ∷ ns) c.as_str.ensures.value (ap (map (λ (o : Bor Name). o.now)) c.deref.ensures.value) in
     record {
       actions =

@@ -1,8 +1,0 @@
-use Rattle.std.proofs.Common.{◌≡◌, ◌++◌, map, drop}
-use Rattle.tp_ast.specs.Symbols.{typed_view}
-use Rattle.tp_types.specs.TypeViews.{types_view}
-use Rattle.tp_ground.specs.Bindings.{fitting}
-use Rattle.tp_ground.proofs.universe.push_fitting.Given as goal
-
-abbrev pub invariant-loop-object : goal.invariant-loop-object
-invariant-loop-object l = map (λ o. o.now) l.names.items ++ fitting (types_view l.types) (map typed_view (drop l.object-index l.objects)) (typed_view l.variable) ≡ map (λ o. o.now) l.initial.names.items ++ fitting (types_view l.types) (map typed_view l.objects) (typed_view l.variable)

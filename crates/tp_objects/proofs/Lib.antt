@@ -1,0 +1,4 @@
+mod OnFitting
+mod OnIndex
+mod OnPlaces
+mod OnNaming

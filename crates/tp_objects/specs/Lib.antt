@@ -1,0 +1,5 @@
+pub mod Declarations
+pub mod Listed
+pub mod Spans
+pub mod Index
+pub mod Places

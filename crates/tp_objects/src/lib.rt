@@ -1,0 +1,18 @@
+//! The objects of a planning task, found by their types.
+//!
+//! - `objects`: the types with all objects, and which of these fit some types
+//! - `walk`: the same, looked for object by object
+//! - `listed`: all objects, by their places
+//! - `spans`, `shelving`, `index`: slots for objects, in which those of a type and of the types below it stand together
+//! - `candidates`, `gather`, `naming`: which objects in some slots fit, the places of all that do, and their names
+#![tactic(auto)]
+
+mod candidates;
+mod gather;
+mod index;
+mod listed;
+mod naming;
+pub mod objects;
+mod shelving;
+mod spans;
+mod walk;

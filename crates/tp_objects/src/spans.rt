@@ -1,0 +1,78 @@
+//! Slots for the objects of each type: those of the types below it lie within its own.
+
+ghost use Rattle.std.specs.Prelude.{◌≡◌, List, map};
+ghost use Rattle.std.specs.List.{list_all};
+ghost use Rattle.tp_ast.specs.Symbols.{Name, parent_view};
+ghost use Rattle.tp_types.specs.Cycles.{type_name};
+ghost use Rattle.tp_types.specs.Tables.{IsTable};
+ghost use Rattle.tp_objects.specs.Spans.{span_of, is_nested};
+
+use std::collections::BTreeMap;
+use tp_ast::types::TypeName;
+use tp_types::cycles::parent_of;
+
+/// The slots from one on, up to another.
+#[derive(Clone, Copy)]
+pub struct Span {
+    pub first: usize,
+    pub end: usize,
+}
+
+/// Where each type stands, and the slots of each type.
+#[derive(Drop)]
+pub struct Spans<'a> {
+    pub places: BTreeMap<&'a str, usize>,
+    pub of_types: Vec<Span>,
+    /// How many slots there are: they are those of `object`.
+    pub slots: usize,
+}
+
+/// The slots of a type, if it is one.
+pub fn span_of(spans: &Spans, name: &str) -> Option<Span>
+    ensures { (ns : List Name) → IsTable spans.now.places ns
+        → result ≡ span_of ns spans.now.of_types.items spans.now.slots name.now }
+{
+    if name == "object" {
+        return Some(Span {
+            first: 0,
+            end: spans.slots,
+        });
+    }
+    let Some(place) = spans.places.get(name) else {
+        return None;
+    };
+    spans.of_types.get(*place).copied()
+}
+
+// Whether the slots of a type lie within those of the one above it.
+fn is_nested(types: &[TypeName], spans: &Spans, name: &str) -> bool
+    requires { IsTable spans.now.places (map type_name types.now) }
+    ensures { result ≡ is_nested (map type_name types.now) (map parent_view types.now)
+        spans.now.of_types.items spans.now.slots name.now }
+{
+    let Some(parent) = parent_of(types, &spans.places, name) else {
+        return false;
+    };
+    let Some(outer) = span_of(spans, parent.as_str()) else {
+        return false;
+    };
+    let Some(inner) = span_of(spans, name) else {
+        return false;
+    };
+    outer.first <= inner.first && inner.end <= outer.end
+}
+
+/// Whether the slots of each type lie within those of the one above it.
+pub fn are_nested(types: &[TypeName], spans: &Spans) -> bool
+    requires { IsTable spans.now.places (map type_name types.now) }
+    ensures { result ≡ list_all
+        (is_nested (map type_name types.now) (map parent_view types.now) spans.now.of_types.items
+        spans.now.slots) (map type_name types.now) }
+{
+    for declared in types {
+        if !is_nested(types, spans, declared.name.as_str()) {
+            return false;
+        }
+    }
+    true
+}
