@@ -6,3 +6,4 @@ pub mod OnMarks
 pub mod OnNames
 pub mod OnAscending
 pub mod OnGuesses
+pub mod OnParents

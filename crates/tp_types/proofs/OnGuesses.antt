@@ -6,17 +6,17 @@ use Rattle.std.specs.Cmp.Lexicographic.{bytes_decides}
 use Rattle.tp_ast.specs.TypedLists.{has_twice}
 use Rattle.tp_types.specs.Tables.{Name, item_of}
 
-or_first : (a b : Bool) → (a || b) ≡ false → a ≡ false
+pub or_first : (a b : Bool) → (a || b) ≡ false → a ≡ false
 or_first false b h = refl
 or_first true b h = absurd (true≢false h)
 
-or_second : (a b : Bool) → (a || b) ≡ false → b ≡ false
+pub or_second : (a b : Bool) → (a || b) ≡ false → b ≡ false
 or_second false b h = h
 or_second true b h = absurd (true≢false h)
 
 module _ {X : Type 0} (named : X → Name) where
   -- a name that none of the items has is not that of the item at a place
-  none_there : (n : Name) (xs : List X) (k : ℕ) (x : X) → list_any (bytes_eq n) (map named xs) ≡ false → slice_get xs k ≡ Some x → bytes_eq n (named x) ≡ false
+  pub none_there : (n : Name) (xs : List X) (k : ℕ) (x : X) → list_any (bytes_eq n) (map named xs) ≡ false → slice_get xs k ≡ Some x → bytes_eq n (named x) ≡ false
   none_there n [] k x none at = cc
   none_there n (y ∷ ys) zero x none at =
       let e : y ≡ x = cc in

@@ -14,6 +14,11 @@ type_name t = string_bytes t.name
 abbrev pub rank_of : List Name → List ℕ → Name → Option ℕ
 rank_of ns ranks t = if bytes_eq t object then Some 0 else (place_of t ns >>= slice_get ranks)
 
+-- that of the parent
+abbrev pub rank_above : List TypeName → List ℕ → Name → Option ℕ
+rank_above ts ranks t =
+    parent_of t (map parent_view ts) >>= rank_of (map type_name ts) ranks
+
 -- above the parent's, and within a limit
 abbrev pub fits_above : Option ℕ → Option ℕ → ℕ → Bool
 fits_above None own limit = false
@@ -22,5 +27,4 @@ fits_above (Some s) (Some r) limit = nat_lt s r && nat_le r limit
 
 abbrev pub is_ranked : List TypeName → List ℕ → Name → Bool
 is_ranked ts ranks t =
-    fits_above (parent_of t (map parent_view ts) >>= rank_of (map type_name ts) ranks)
-    (rank_of (map type_name ts) ranks t) (length ts)
+    fits_above (rank_above ts ranks t) (rank_of (map type_name ts) ranks t) (length ts)

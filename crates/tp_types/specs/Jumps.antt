@@ -1,5 +1,5 @@
 -- Types further up: a way from a type to those above it in few steps.
-use Rattle.std.specs.Prelude.{◌≡◌, ℕ, ◌<◌, ◌≤◌, List, map, length, Bool, true, false, ◌||◌, slice_get, Option, Some, None, option_map}
+use Rattle.std.specs.Prelude.{◌≡◌, ℕ, ◌<◌, ◌≤◌, List, map, length, Bool, true, false, ◌||◌, if◌then◌else◌, nat_lt, slice_get, Option, Some, None, option_map}
 use Rattle.std.specs.Str.{bytes_eq}
 use Rattle.tp_ast.specs.Gives.{◌>>=◌}
 use Rattle.tp_ast.specs.Symbols.{Name, parent_view, parent_of, at_or_below}
@@ -11,6 +11,10 @@ use Rattle.tp_ast.specs.declared.types.TypeName.{TypeName}
 abbrev pub jump_of : List TypeName → List ℕ → Name → Option Name
 jump_of ts jumps t =
     place_of t (map type_name ts) >>= slice_get jumps >>= λ k. option_map type_name (slice_get ts k)
+
+-- the place that is noted for a place, if a type stands there
+abbrev pub jump_from : List TypeName → List ℕ → ℕ → Option ℕ
+jump_from ts jumps k = slice_get jumps k >>= λ j. if nat_lt j (length ts) then Some j else None
 
 abbrev pub is_name : Option Name → Name → Bool
 is_name None j = false

@@ -1,4 +1,5 @@
 pub mod Tables
+pub mod Parents
 pub mod Cycles
 pub mod Jumps
 pub mod TypeTables

@@ -2,11 +2,13 @@
 
 ghost use Rattle.std.specs.Prelude.{◌≡◌, map, length, option_map, string_bytes, true, false, IfOk};
 ghost use Rattle.std.specs.List.{list_all};
-ghost use Rattle.tp_types.specs.Cycles.{type_name, rank_of, is_ranked};
+ghost use Rattle.tp_types.specs.Cycles.{type_name, rank_of, rank_above, is_ranked};
 ghost use Rattle.tp_ast.specs.Domains.{object, no_cycle};
 ghost use Rattle.tp_ast.specs.Symbols.{parent_view, parent_of, at_or_below};
+ghost use Rattle.tp_types.specs.Parents.{AreParents};
 ghost use Rattle.tp_types.specs.Tables.{IsTable};
 
+use crate::parents::{parent_at, parents};
 use crate::table::places;
 use std::alloc::{AllocError, Global};
 use std::collections::BTreeMap;
@@ -87,20 +89,46 @@ pub fn rank_of<'a>(
     ranks.get(*place).copied()
 }
 
+// The rank of a type's parent, which is found by its place.
+fn rank_above<'a>(
+    types: &'a [TypeName],
+    places: &BTreeMap<&'a str, usize>,
+    parents: &[Option<usize>],
+    ranks: &[usize],
+    name: &str,
+) -> Option<usize>
+    requires table { IsTable places.now (map type_name types.now) }
+    requires parents { AreParents places.now types.now parents.now }
+    ensures { result ≡ rank_above types.now ranks.now name.now }
+{
+    let Some(place) = places.get(name) else {
+        return None;
+    };
+    let Some(declared) = types.get(*place) else {
+        return None;
+    };
+    if declared.parent.as_str() == "object" {
+        return Some(0);
+    }
+    let Some(parent) = parent_at(parents, *place) else {
+        return None;
+    };
+    ranks.get(parent).copied()
+}
+
 // Whether a type's rank is above its parent's.
 fn is_ranked<'a>(
     types: &'a [TypeName],
     places: &BTreeMap<&'a str, usize>,
+    parents: &[Option<usize>],
     ranks: &[usize],
     name: &str,
 ) -> bool
-    requires { IsTable places.now (map type_name types.now) }
+    requires table { IsTable places.now (map type_name types.now) }
+    requires parents { AreParents places.now types.now parents.now }
     ensures { result ≡ is_ranked types.now ranks.now name.now }
 {
-    let Some(parent) = parent_of(types, places, name) else {
-        return false;
-    };
-    let Some(above) = rank_of(types, places, ranks, parent.as_str()) else {
+    let Some(above) = rank_above(types, places, parents, ranks, name) else {
         return false;
     };
     let Some(own) = rank_of(types, places, ranks, name) else {
@@ -112,13 +140,15 @@ fn is_ranked<'a>(
 pub fn are_ranked<'a>(
     types: &'a [TypeName],
     places: &BTreeMap<&'a str, usize>,
+    parents: &[Option<usize>],
     ranks: &[usize],
 ) -> bool
-    requires { IsTable places.now (map type_name types.now) }
+    requires table { IsTable places.now (map type_name types.now) }
+    requires parents { AreParents places.now types.now parents.now }
     ensures { result ≡ list_all (is_ranked types.now ranks.now) (map type_name types.now) }
 {
     for declared in types {
-        if !is_ranked(types, places, ranks, declared.name.as_str()) {
+        if !is_ranked(types, places, parents, ranks, declared.name.as_str()) {
             return false;
         }
     }
@@ -126,9 +156,9 @@ pub fn are_ranked<'a>(
 }
 
 // How many steps a type is from `object` or from a type that has a rank, and that rank.
-fn way_up<'a>(
-    types: &'a [TypeName],
-    places: &BTreeMap<&'a str, usize>,
+fn way_up(
+    types: &[TypeName],
+    parents: &[Option<usize>],
     ranks: &[usize],
     start: usize,
 ) -> Option<(usize, usize)> {
@@ -138,37 +168,48 @@ fn way_up<'a>(
         if rank > 0 {
             return Some((steps - 1, rank));
         }
-        let parent = types.get(place)?.parent.as_str();
-        if parent == "object" {
+        if types.get(place)?.parent.as_str() == "object" {
             return Some((steps, 0));
         }
-        place = *places.get(parent)?;
+        place = parent_at(parents, place)?;
     }
     None
 }
 
 // Gives a type and those above it their ranks, down from this one.
-fn rank_up<'a>(
-    types: &'a [TypeName],
-    places: &BTreeMap<&'a str, usize>,
-    ranks: &mut [usize],
-    start: usize,
-    highest: usize,
-) {
+fn rank_up(parents: &[Option<usize>], ranks: &mut [usize], start: usize, highest: usize) {
     let mut place = start;
     for rank in (1..=highest).rev() {
-        let (Some(open), Some(declared)) = (ranks.get_mut(place), types.get(place)) else {
+        let Some(open) = ranks.get_mut(place) else {
             return;
         };
         if *open > 0 {
             return;
         }
         *open = rank;
-        match places.get(declared.parent.as_str()) {
-            Some(next) => place = *next,
+        match parent_at(parents, place) {
+            Some(parent) => place = parent,
             None => return,
         }
     }
+}
+
+// Ranks for types whose parents stand at these places.
+pub fn ranks_by_places(
+    alloc: Global,
+    types: &[TypeName],
+    parents: &[Option<usize>],
+) -> Result<Vec<usize>, AllocError> {
+    let mut ranks = vec![in alloc; 0; types.len()]?;
+    for start in 0..types.len() {
+        match way_up(types, parents, &ranks, start) {
+            Some((steps, rank)) => {
+                rank_up(parents, &mut ranks, start, steps.saturating_add(rank));
+            }
+            None => return Ok(ranks),
+        }
+    }
+    Ok(ranks)
 }
 
 // Ranks for types: steps from `object`, as far as no cycle is met.
@@ -177,16 +218,8 @@ pub fn ranks<'a>(
     types: &'a [TypeName],
     places: &BTreeMap<&'a str, usize>,
 ) -> Result<Vec<usize>, AllocError> {
-    let mut ranks = vec![in alloc; 0; types.len()]?;
-    for start in 0..types.len() {
-        match way_up(types, places, &ranks, start) {
-            Some((steps, rank)) => {
-                rank_up(types, places, &mut ranks, start, steps.saturating_add(rank));
-            }
-            None => return Ok(ranks),
-        }
-    }
-    Ok(ranks)
+    let parents = parents(alloc, types, places)?;
+    ranks_by_places(alloc, types, &parents)
 }
 
 // Whether this type is one that is not below `object`.
@@ -205,8 +238,9 @@ pub fn no_cycle(alloc: Global, types: &[TypeName]) -> Result<bool, AllocError>
     ensures { IfOk result (λ r. r ≡ no_cycle (map parent_view types.now)) }
 {
     let places = places(alloc, types)?;
-    let ranks = ranks(alloc, types, &places)?;
-    if are_ranked(types, &places, &ranks) {
+    let parents = parents(alloc, types, &places)?;
+    let ranks = ranks_by_places(alloc, types, &parents)?;
+    if are_ranked(types, &places, &parents, &ranks) {
         return Ok(true);
     }
     let suspect = ranks.iter().position(|rank| *rank == 0);

@@ -1,14 +1,17 @@
 //! Jumps from types to types further up, by which a climb takes about the logarithm of its height: the jump pointers of
 //! Myers' skew-binary lists (1983), the jump of a type being that of two equal jumps of its parent, or its parent.
 
-ghost use Rattle.std.specs.Prelude.{◌≡◌, map, length, option_map, string_bytes, true, IfSome};
+ghost use Rattle.std.specs.Prelude.{◌≡◌, map, length, option_map, string_bytes, true, false, IfSome};
 ghost use Rattle.std.specs.List.{list_all};
 ghost use Rattle.tp_types.specs.Cycles.{type_name, is_ranked};
-ghost use Rattle.tp_types.specs.Jumps.{jump_of, is_jump, IsAbove};
+ghost use Rattle.tp_types.specs.Jumps.{jump_of, jump_from, is_jump, IsAbove};
 ghost use Rattle.tp_ast.specs.Symbols.{parent_view, at_or_below};
+ghost use Rattle.tp_ast.specs.TypedLists.{has_twice};
+ghost use Rattle.tp_types.specs.Parents.{AreParents};
 ghost use Rattle.tp_types.specs.Tables.{IsTable};
 
 use crate::cycles::{parent_of, rank_of};
+use crate::parents::{parent_at, parents};
 use std::alloc::{AllocError, Global};
 use std::collections::BTreeMap;
 use tp_ast::types::TypeName;
@@ -54,44 +57,68 @@ fn jump_of<'a>(
     Some(&declared.name)
 }
 
-// Whether a type's jump, if it has one, leads to its parent, or where two jumps from the parent lead.
+// Where the jump of the type at a place leads, if to a type that is declared.
+fn jump_from(types: &[TypeName], jumps: &[usize], place: usize) -> Option<usize>
+    ensures { result ≡ jump_from types.now jumps.now place }
+{
+    let Some(jump) = jumps.get(place) else {
+        return None;
+    };
+    if *jump < types.len() {
+        Some(*jump)
+    } else {
+        None
+    }
+}
+
+// Whether a type's jump, if it has one, leads to its parent, or where two jumps from the parent lead. Types that stand at one place
+// are the same, so no names are compared but to find the type.
 fn is_jump<'a>(
     types: &'a [TypeName],
     places: &BTreeMap<&'a str, usize>,
+    parents: &[Option<usize>],
     jumps: &[usize],
     name: &str,
 ) -> bool
-    requires { IsTable places.now (map type_name types.now) }
+    requires table { IsTable places.now (map type_name types.now) }
+    requires parents { AreParents places.now types.now parents.now }
+    requires once { has_twice (map type_name types.now) ≡ false }
     ensures { result ≡ is_jump types.now jumps.now name.now }
 {
-    let Some(jump) = jump_of(types, places, jumps, name) else {
+    let Some(place) = places.get(name) else {
         return true;
     };
-    let Some(parent) = parent_of(types, places, name) else {
+    let Some(jump) = jump_from(types, jumps, *place) else {
+        return true;
+    };
+    let Some(parent) = parent_at(parents, *place) else {
         return false;
     };
-    if parent.as_str() == jump.as_str() {
+    if parent == jump {
         return true;
     }
-    let Some(first) = jump_of(types, places, jumps, parent.as_str()) else {
+    let Some(first) = jump_from(types, jumps, parent) else {
         return false;
     };
-    let Some(second) = jump_of(types, places, jumps, first.as_str()) else {
+    let Some(second) = jump_from(types, jumps, first) else {
         return false;
     };
-    second.as_str() == jump.as_str()
+    second == jump
 }
 
 pub fn are_jumps<'a>(
     types: &'a [TypeName],
     places: &BTreeMap<&'a str, usize>,
+    parents: &[Option<usize>],
     jumps: &[usize],
 ) -> bool
-    requires { IsTable places.now (map type_name types.now) }
+    requires table { IsTable places.now (map type_name types.now) }
+    requires parents { AreParents places.now types.now parents.now }
+    requires once { has_twice (map type_name types.now) ≡ false }
     ensures { result ≡ list_all (is_jump types.now jumps.now) (map type_name types.now) }
 {
     for declared in types {
-        if !is_jump(types, places, jumps, declared.name.as_str()) {
+        if !is_jump(types, places, parents, jumps, declared.name.as_str()) {
             return false;
         }
     }
@@ -120,11 +147,11 @@ fn jump_above(ranks: &[usize], jumps: &[usize], parent: usize) -> usize {
     if near == far { second } else { parent }
 }
 
-/// A place further up for each type, so chosen that a climb takes few steps. A type below `object` alone has none.
-pub fn jumps<'a>(
+/// A place further up for each type whose parent stands at one of these places, so chosen that a climb takes few steps. A type below
+/// `object` alone has none.
+pub fn jumps_by_places(
     alloc: Global,
-    types: &'a [TypeName],
-    places: &BTreeMap<&'a str, usize>,
+    parents: &[Option<usize>],
     ranks: &[usize],
 ) -> Result<Vec<usize>, AllocError> {
     let mut order = Vec::new(alloc);
@@ -132,19 +159,27 @@ pub fn jumps<'a>(
         order.push((*rank, place))?;
     }
     order.sort()?;
-    let mut jumps = vec![in alloc; types.len(); types.len()]?;
+    let mut jumps = vec![in alloc; parents.len(); parents.len()]?;
     for (_, place) in order {
-        let Some(declared) = types.get(place) else {
-            return Ok(jumps);
-        };
-        if let Some(parent) = places.get(declared.parent.as_str()) {
-            let above = jump_above(ranks, &jumps, *parent);
+        if let Some(parent) = parent_at(parents, place) {
+            let above = jump_above(ranks, &jumps, parent);
             if let Some(jump) = jumps.get_mut(place) {
                 *jump = above;
             }
         }
     }
     Ok(jumps)
+}
+
+/// A place further up for each type, by the names of their parents.
+pub fn jumps<'a>(
+    alloc: Global,
+    types: &'a [TypeName],
+    places: &BTreeMap<&'a str, usize>,
+    ranks: &[usize],
+) -> Result<Vec<usize>, AllocError> {
+    let parents = parents(alloc, types, places)?;
+    jumps_by_places(alloc, &parents, ranks)
 }
 
 // A type above another: where a jump leads, unless that is above a rank, or else the parent.

@@ -1,15 +1,20 @@
 //! Types and the order among them.
 
-ghost use Rattle.std.specs.Prelude.{◌≡◌, map, option_map, string_bytes, length, IfOk, IfSome};
+ghost use Rattle.std.specs.Prelude.{◌≡◌, map, option_map, string_bytes, length, false, IfOk, IfSome};
 ghost use Rattle.std.specs.List.{list_any, list_all};
 ghost use Rattle.tp_ast.specs.Symbols.{parent_view, parent_of, at_or_below, types_fit};
+ghost use Rattle.tp_types.specs.Cycles.{type_name};
+ghost use Rattle.tp_types.specs.Parents.{AreParents};
+ghost use Rattle.tp_types.specs.Tables.{IsTable};
+ghost use Rattle.tp_types.specs.TypeTables.{IsTypeTableIfAny};
 ghost use Rattle.tp_types.specs.TypeViews.{types_view};
-ghost use Rattle.tp_ast.specs.TypedLists.{is_type};
+ghost use Rattle.tp_ast.specs.TypedLists.{is_type, has_twice};
 
-use crate::cycles::{are_ranked, parent_of as parent_in, ranks};
-use crate::jumps::{are_jumps, climb, jumps, own_name};
+use crate::cycles::{are_ranked, parent_of as parent_in, ranks_by_places};
+use crate::jumps::{are_jumps, climb, jumps_by_places, own_name};
 use crate::marks::{fit_by_marks, past_shared};
-use crate::table::{Named, places};
+use crate::parents::parents;
+use crate::table::{Named, places, second_named};
 use std::alloc::{AllocError, Global};
 use std::collections::BTreeMap;
 use std::marker::Model;
@@ -44,6 +49,45 @@ impl<'a> Model for Types<'a> {
     ghost invariant = { λ t. IsTypeTableIfAny t.declared.now t.table };
 }
 
+// The table of types whose parents stand at these places. None for types that lead round in a cycle: they have no ranks.
+fn table_above<'a>(
+    alloc: Global,
+    types: &'a [TypeName],
+    places: BTreeMap<&'a str, usize>,
+    parents: &[Option<usize>],
+) -> Result<Option<TypeTable<'a>>, AllocError>
+    requires table { IsTable places (map type_name types.now) }
+    requires parents { AreParents places types.now parents.now }
+    requires once { has_twice (map type_name types.now) ≡ false }
+    ensures { IfOk result (λ t. IsTypeTableIfAny types.now t) }
+{
+    let ranks = ranks_by_places(alloc, types, parents)?;
+    if !are_ranked(types, &places, parents, &ranks) {
+        return Ok(None);
+    }
+    let jumps = jumps_by_places(alloc, parents, &ranks)?;
+    if !are_jumps(types, &places, parents, &jumps) {
+        return Ok(None);
+    }
+    Ok(Some(TypeTable {
+        places,
+        ranks,
+        jumps,
+    }))
+}
+
+// The table of types, unless a name stands twice, or they lead round in a cycle: such types are walked over.
+fn type_table<'a>(alloc: Global, types: &'a [TypeName]) -> Result<Option<TypeTable<'a>>, AllocError>
+    ensures { IfOk result (λ t. IsTypeTableIfAny types.now t) }
+{
+    if second_named(alloc, types)?.is_some() {
+        return Ok(None);
+    }
+    let places = places(alloc, types)?;
+    let parents = parents(alloc, types, &places)?;
+    table_above(alloc, types, places, &parents)
+}
+
 impl<'a> Types<'a> {
     /// Types with no table, for which no memory is wanted: each look-up walks over them.
     pub fn listed(declared: &'a [TypeName]) -> Types<'a>
@@ -59,25 +103,8 @@ impl<'a> Types<'a> {
     pub fn new(alloc: Global, declared: &'a [TypeName]) -> Result<Types<'a>, AllocError>
         ensures { IfOk result (λ t. types_view t ≡ map parent_view declared.now) }
     {
-        let places = places(alloc, declared)?;
-        let ranks = ranks(alloc, declared, &places)?;
-        let jumps = jumps(alloc, declared, &places, &ranks)?;
-        // Types that lead round in a cycle have no ranks: they are walked over.
-        if !are_ranked(declared, &places, &ranks) {
-            return Ok(Types::listed(declared));
-        }
-        if !are_jumps(declared, &places, &jumps) {
-            return Ok(Types::listed(declared));
-        }
-        let table = TypeTable {
-            places,
-            ranks,
-            jumps,
-        };
-        Ok(Types {
-            declared,
-            table: Some(table),
-        })
+        let table = type_table(alloc, declared)?;
+        Ok(Types { declared, table })
     }
 
     fn len(&self) -> usize
