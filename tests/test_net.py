@@ -66,6 +66,22 @@ NETWORKS = (
         "event 0 start 0 (rest)\nevent 1 end 0 (rest)\nbound 0 1 0 -2\nbound 1 0 1 6\n",
         0,
     ),
+    # the order of the first and the last follows from those of each with the one between
+    (
+        LINE,
+        "0: (set)\n1: (set)\n2: (set)\n",
+        NET,
+        "event 0 at 0 (set)\nevent 1 at 1 (set)\nevent 2 at 2 (set)\nbound 0 1 0 -1\nbound 1 2 1 -1\n",
+        0,
+    ),
+    # one drop between the need and the other does not interfere with that one
+    (
+        TOGGLE,
+        "0: (need)\n1: (drop)\n2: (drop)\n",
+        NET,
+        "event 0 at 0 (need)\nevent 1 at 1 (drop)\nevent 2 at 2 (drop)\nbound 0 1 0 -1\nbound 1 2 0 -1\n",
+        0,
+    ),
 )
 
 OTHERS = (
@@ -76,16 +92,26 @@ OTHERS = (
 )
 
 
+def files(named, plan):
+    """The files of a domain, a problem and a plan."""
+    return {"domain": named[0], "problem": named[1], "plan": plan}
+
+
 def sets(count):
-    """The files of a plan of that many steps, a tick apart, that all interfere."""
-    return {"domain": LINE[0], "problem": LINE[1], "plan": "".join(f"{tick}: (set)\n" for tick in range(count))}
+    """A plan of that many steps, a tick apart, that all interfere."""
+    return files(LINE, "".join(f"{tick}: (set)\n" for tick in range(count)))
+
+
+def sides(needs, drops):
+    """A plan of that many steps that need an atom, and that many a tick later that drop it: the pairs from both sides interfere."""
+    return files(TOGGLE, "0: (need)\n" * needs + "1: (drop)\n" * drops)
 
 
 class Net(Case):
     def are_right(self, rows):
         for (domain, problem), plan, words, text, status in rows:
             with self.subTest(f"{plan!r} {words}"):
-                self.comes_to(told_by(text, status), words, {"domain": domain, "problem": problem, "plan": plan})
+                self.comes_to(told_by(text, status), words, files((domain, problem), plan))
 
     def test_networks_of_small_plans(self):
         self.are_right(NETWORKS)
@@ -93,12 +119,18 @@ class Net(Case):
     def test_plans_that_have_no_network(self):
         self.are_right(OTHERS)
 
-    # 362 steps have 65,341 pairs, 363 have 65,703
+    # all 130,816 pairs interfere, and each order of two steps further apart follows from two others
+    def test_as_many_steps_as_a_plan_has_keep_511_bounds(self):
+        events = "".join(f"event {k} at {k} (set)\n" for k in range(512))
+        bounds = "".join(f"bound {k} {k + 1} {k} -1\n" for k in range(511))
+        self.comes_to(told_by(events + bounds, 0), NET, sets(512))
+
+    # 255 * 257 pairs are 65,535, 256 * 256 are one more; nothing stands between two of them
     def test_at_most_65535_bounds(self):
-        with self.subTest("362 steps"):
-            found = call(NET, sets(362))
+        with self.subTest("255 needs, 257 drops"):
+            found = call(NET, sides(255, 257))
             self.assertEqual((found.faults, found.status), (b"", 0))
-            self.assertEqual(found.answers.count(b"\nbound "), 65_341)
-            self.assertTrue(found.answers.endswith(b" -1\n"))
-        with self.subTest("363 steps"):
-            self.comes_to(told_by("fault net 2 too-many\n", 2), NET, sets(363))
+            self.assertEqual(found.answers.count(b"\nbound "), 65_535)
+            self.assertTrue(found.answers.endswith(b"\nbound 65534 511 254 -1\n"))
+        with self.subTest("256 needs, 256 drops"):
+            self.comes_to(told_by("fault net 2 too-many\n", 2), NET, sides(256, 256))

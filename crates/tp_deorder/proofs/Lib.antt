@@ -1,6 +1,8 @@
 pub mod Each
 pub mod Durations
 pub mod Listed
+pub mod Kept
+pub mod OnRows
 pub mod OnSteps
 pub mod OnWalks
 pub mod OnNets

@@ -34,7 +34,7 @@ touches_to first c e h =
     (and_from (not (e.number == first)) (not (e.number == first + 1)) (not_from_false _ (ne_eqb e.number first h.not_start)) (not_from_false _ (ne_eqb e.number (first + 1) h.not_end))) h.writes
 
 module _ (t : ℕ → ℕ) where
-  met_earlier : (a b : ℕ) → Meets t (earlier a b) → t a < t b
+  pub met_earlier : (a b : ℕ) → Meets t (earlier a b) → t a < t b
   met_earlier a b h = omega (arith, ints, h)
 
   earlier_met : (a b : ℕ) → t a < t b → Meets t (earlier a b)
@@ -50,7 +50,7 @@ module _ (t : ℕ → ℕ) where
   abbrev KeepsOrder : List Placed → Type 0
   KeepsOrder es = (a b : Placed) → In a es → In b es → interferes a.timed.event b.timed.event ≡ true → a.moment < b.moment → t a.number < t b.number
 
-  orders_met : (es : List Placed) → KeepsOrder es → MeetsEach t (orders es es)
+  pub orders_met : (es : List Placed) → KeepsOrder es → MeetsEach t (orders es es)
   orders_met es h =
       each_flat t (order_of es) es (λ a i. each_flat t _ es (λ b j. each_if t (comes_before a b) (earlier a.number b.number) (λ e.
       let p = and_parts (nat_lt a.moment b.moment) (interferes a.timed.event b.timed.event) e in

@@ -1,5 +1,5 @@
 -- The list of a sound plan's bounds is its network.
-use Rattle.std.proofs.Common.{◌≡◌, ℕ, zero, suc, ◌+◌, ◌≤◌, List, [], ◌∷◌, length, length-append, refl, map, get_or, sym, ap, subst, inl, inr, arith, Bool, true, false, ◌||◌, nat_lt, Result, Ok, Err, IfOk}
+use Rattle.std.proofs.Common.{◌≡◌, ℕ, zero, suc, ◌+◌, ◌≤◌, List, [], ◌∷◌, length, length-append, refl, map, get_or, sym, subst, arith, Bool, true, false, ◌||◌, nat_lt, Result, Ok, Err, IfOk}
 use Rattle.std.proofs.lemmas.Bool.Decides.{nat_tests}
 use Rattle.std.specs.List.{All, AllByRecursion}
 use Rattle.std.proofs.lemmas.List.Elements.{All-nil, All-cons}
@@ -10,7 +10,7 @@ use Rattle.tp_task.specs.declared.events.Body.{Body}
 use Rattle.tp_task.specs.declared.events.Body.TheVariants.{Instant, Durative}
 use Rattle.tp_task.specs.Valid.{Planned, Placed, events, events_from, events_of, count_of, IsValidRun, IsValid}
 use Rattle.tp_task.specs.Verdict.{last_moment}
-use Rattle.tp_task.specs.Bounds.{In}
+use Rattle.tp_task.specs.Bounds.{In, MeetsBounds}
 use Rattle.tp_task.proofs.Sound.{without_fault}
 use Rattle.tp_task.proofs.Retimed.{retimed_run}
 use Rattle.tp_task.proofs.Own.{own_bounds}
@@ -18,31 +18,30 @@ use Rattle.tp_happen.specs.declared.plans.Step.{Step}
 use Rattle.tp_validate.specs.OfTask.{scale_of, begin, plan_of, state_at}
 use Rattle.tp_validate.specs.Verdict.{IsSound}
 use Rattle.tp_validate.proofs.Numbers.{IsNumbered, numbered}
-use Rattle.tp_bounds.specs.OwnBounds.{IsWithin}
-use Rattle.tp_deorder.specs.Inequalities.{plan_bounds, event_count_of}
+use Rattle.tp_bounds.specs.OwnBounds.{MeetsEach, IsWithin}
+use Rattle.tp_bounds.specs.Schedule.{Meets}
+use Rattle.tp_deorder.specs.Inequalities.{event_count_of}
+use Rattle.tp_deorder.specs.Kept.{net_bounds, AreNumbered}
 use Rattle.tp_deorder.specs.Answers.{IsNetOf, own_ticks}
 use Rattle.tp_deorder.proofs.Listed.{bounds_listed, listed_bounds}
+use Rattle.tp_deorder.proofs.Kept.{all_in_net, net_enough}
+use Rattle.tp_deorder.proofs.OnRows.{read_at}
 use Rattle.tp_deorder.proofs.OnRunPlans.{moved_is}
 use Rattle.tp_deorder.proofs.Suited.{plan_suits}
 use Rattle.tp_bounds.proofs.Schedules.{is_schedule, schedule_is}
 
-abbrev moments : List Placed → List ℕ
-moments es = map (λ (e : Placed). e.moment) es
+are_numbered : (k : ℕ) (es : List Placed) → IsNumbered k es → AreNumbered k es
+are_numbered k [] h = tt
+are_numbered k (e ∷ es) h = (h.0, are_numbered (k + 1) es h.1)
 
-own_at : (k : ℕ) (es : List Placed) → IsNumbered k es → (e : Placed) → In e es → (i : ℕ) → e.number ≡ k + i → get_or (moments es) i 0 ≡ e.moment
-own_at k [] n e j i q = absurd j
-own_at k (x ∷ xs) n e (inl w) zero q = ap (λ (y : Placed). y.moment) (sym w)
-own_at k (x ∷ xs) n e (inl w) (suc i) q = let a : e.number ≡ x.number = ap (λ (y : Placed). y.number) w in absurd (omega (arith, n.0))
-own_at k (x ∷ xs) n e (inr j) zero q = absurd (omega (arith, from (k + 1) xs n.1 e j))
-  where
-    from : (h : ℕ) (ys : List Placed) → IsNumbered h ys → (y : Placed) → In y ys → h ≤ y.number
-    from h [] m y i = absurd i
-    from h (z ∷ zs) m y (inl w) = let a : y.number ≡ z.number = ap (λ (u : Placed). u.number) w in omega (arith, m.0)
-    from h (z ∷ zs) m y (inr i) = omega (arith, from (h + 1) zs m.1 y i)
-own_at k (x ∷ xs) n e (inr j) (suc i) q = own_at (k + 1) xs n.1 e j i (omega arith)
+pub plan_numbered : (plan : List Planned) → AreNumbered 0 (events plan)
+plan_numbered plan = are_numbered 0 (events plan) (numbered 0 plan)
 
 own_is : (plan : List Planned) (e : Placed) → In e (events plan) → own_ticks plan e.number ≡ e.moment
-own_is plan e j = own_at 0 (events plan) (numbered 0 plan) e j e.number (omega arith)
+own_is plan e j = read_at (λ (x : Placed). x.moment) 0 0 (events plan) (plan_numbered plan) e j e.number (omega arith)
+
+abbrev moments : List Placed → List ℕ
+moments es = map (λ (e : Placed). e.moment) es
 
 own_by : (es : List Placed) (i : ℕ) → get_or (moments es) i 0 ≤ last_moment es
 own_by [] i = omega arith
@@ -61,7 +60,7 @@ module _ (t : Task) (steps : List Step) (horizon : ℕ) (s : IsSound t steps) (l
   n = event_count_of plan
 
   abbrev bs : List Bound
-  bs = plan_bounds horizon (scale_of t) (state_at t steps) plan
+  bs = net_bounds horizon (scale_of t) (state_at t steps) plan
 
   run : IsValidRun (scale_of t) (begin t) t.goal plan (state_at t steps)
   run = without_fault (scale_of t) (begin t) t.goal plan s.clear s.reached
@@ -69,19 +68,26 @@ module _ (t : Task) (steps : List Step) (horizon : ℕ) (s : IsSound t steps) (l
   within : IsWithin n horizon (own_ticks plan)
   within e k = omega (arith, own_by (events plan) e)
 
+  met : (m : ℕ → ℕ) → IsWithin n horizon m → MeetsBounds (scale_of t) (state_at t steps) plan m → MeetsEach m bs
+  met m w h = all_in_net (Meets m) horizon (scale_of t) (state_at t steps) plan (bounds_listed m horizon (scale_of t) (state_at t steps) plan w h)
+
+  keeps : (m : ℕ → ℕ) → IsWithin n horizon m → MeetsEach m bs → MeetsBounds (scale_of t) (state_at t steps) plan m
+  keeps m w h = listed_bounds m horizon (scale_of t) (state_at t steps) plan w (net_enough m horizon (scale_of t) (state_at t steps) plan h)
+
   pub net_of : IsNetOf t steps horizon bs
   net_of =
       record {
         exact = λ m. (
-          λ h. let p = schedule_is n horizon m bs h in (p.0, listed_bounds m horizon (scale_of t) (state_at t steps) plan p.0 p.1),
-          λ h. is_schedule n horizon m bs h.0 (bounds_listed m horizon (scale_of t) (state_at t steps) plan h.0 h.1),
+          λ h. let p = schedule_is n horizon m bs h in (p.0, keeps m p.0 p.1),
+          λ h. is_schedule n horizon m bs h.0 (met m h.0 h.1),
         );
         own = is_schedule n horizon (own_ticks plan) bs within
-            (bounds_listed (own_ticks plan) horizon (scale_of t) (state_at t steps) plan within (own_bounds (scale_of t) (begin t) t.goal plan (state_at t steps) run (own_ticks plan) (own_is plan)));
+            (met (own_ticks plan) within (own_bounds (scale_of t) (begin t) t.goal plan (state_at t steps) run (own_ticks plan) (own_is plan)));
         valid = λ m h. let p = schedule_is n horizon m bs h in
             subst (λ (ps : List Planned). IsValid (scale_of t) (begin t) t.goal ps) (sym (moved_is t.actions.items m 0 steps))
-            (_, retimed_run (scale_of t) (begin t) t.goal plan (state_at t steps) run m (listed_bounds m horizon (scale_of t) (state_at t steps) plan p.0 p.1));
-        suit = λ h. all_of (SuitsNet n) bs (plan_suits horizon (scale_of t) (state_at t steps) plan h l run.steps);
+            (_, retimed_run (scale_of t) (begin t) t.goal plan (state_at t steps) run m (keeps m p.0 p.1));
+        suit = λ h. all_of (SuitsNet n) bs
+            (all_in_net (SuitsNet n) horizon (scale_of t) (state_at t steps) plan (plan_suits horizon (scale_of t) (state_at t steps) plan h l run.steps));
       }
 
 pub ok_weaker : {A E : Type 0} (r : Result A E) (P Q : A → Type 0) → ((a : A) → P a → Q a) → IfOk r P → IfOk r Q

@@ -1,5 +1,6 @@
 pub mod Spans
 pub mod Inequalities
+pub mod Kept
 pub mod Answers
 pub mod RunPlans
 pub mod EventTexts

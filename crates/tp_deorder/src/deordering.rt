@@ -10,7 +10,8 @@ ghost use Rattle.tp_happen.specs.Steps.{IsPlan};
 ghost use Rattle.tp_validate.specs.Verdict.{IsSound};
 ghost use Rattle.tp_validate.specs.OfTask.{scale_of, begin, plan_of};
 ghost use Rattle.tp_deorder.specs.Spans.{plan_ticks};
-ghost use Rattle.tp_deorder.specs.Inequalities.{orders, steps_by, plan_bounds, bound_count, event_count_of};
+ghost use Rattle.tp_deorder.specs.Inequalities.{comes_before, steps_by, bound_count, event_count_of};
+ghost use Rattle.tp_deorder.specs.Kept.{kept_orders, net_bounds, AreNumbered};
 ghost use Rattle.tp_deorder.specs.Answers.{OnTooMany, PassesLimits, IsNetOf, IsPlanNetOf};
 
 use crate::DeorderFault;
@@ -38,14 +39,16 @@ fn note_all(
     requires each { length kept.now ≡ length steps.now }
     requires least { All (λ w. pos 0 ≤ℤ w.least) kept.now }
     requires ends { All (λ p. p.moment + p.duration ≤ 1000000000) steps.now }
-    ensures ok { IfOk result (λ v. v.items
-        ≡ orders events.now events.now ++ steps_by horizon events.now 0 steps.now kept.now) }
+    requires numbered { AreNumbered 0 events.now }
+    ensures ok { IfOk result (λ v. v.items ≡ kept_orders comes_before events.now events.now
+        ++ steps_by horizon events.now 0 steps.now kept.now) }
     ensures few { IfOk result (λ v. length v.items ≤ most) }
-    ensures err { IfErr result (λ e. OnTooMany e (most < length
-        (orders events.now events.now ++ steps_by horizon events.now 0 steps.now kept.now))) }
+    ensures err { IfErr result (λ e. OnTooMany e
+        (most < length (kept_orders comes_before events.now events.now
+        ++ steps_by horizon events.now 0 steps.now kept.now))) }
 {
     let mut bounds = Vec::new(alloc);
-    note_orders(&mut bounds, events)?;
+    note_orders(alloc, &mut bounds, events, most)?;
     note_steps(alloc, &mut bounds, events, steps, kept, horizon, most)?;
     if bounds.len() > most as usize {
         return Err(DeorderFault::TooMany);
@@ -90,7 +93,7 @@ fn bounds_of(
     requires clear { (m : ℕ) → fault_at (scale_of task.now) (begin task.now) steps.now m ≡ None }
     requires small { (m : ℕ) → StaysSmall (scale_of task.now) (states
         (scale_of task.now) (begin task.now) (events steps.now) m) (at m (events steps.now)) }
-    ensures ok { IfOk result (λ v. v.items ≡ plan_bounds horizon (scale_of task.now)
+    ensures ok { IfOk result (λ v. v.items ≡ net_bounds horizon (scale_of task.now)
         (states (scale_of task.now) (begin task.now) (events steps.now)) steps.now) }
     ensures few { IfOk result (λ v. length v.items ≤ most) }
     ensures err { IfErr result (λ e. OnTooMany e (most < bound_count steps.now)) }
@@ -172,8 +175,10 @@ fn net_within(
 /// of a run at each of them is valid. TooMany where the plan has more events or bounds than the limits allow, or ends past
 /// their horizon.
 ///
-/// It looks at each pair of events, and for each durative step at each event and each pair of those that write into its
-/// invariant. Which bounds express the schedules is this function's own choice.
+/// It asks each pair of events once whether they interfere, and leaves out the order of two where an event between them
+/// interferes with both, since it follows from two others: for each pair in order it looks through the events behind the first
+/// up to one that stands between, at most the cube of the events in looks at a table. For each durative step it looks at each
+/// event and each pair of those that write into its invariant. Which bounds express the schedules is this function's own choice.
 pub fn deorder(
     alloc: Global,
     plan: &ValidPlan<'_>,

@@ -2,6 +2,7 @@
 //!
 //! - `walk`: how many ticks each step may take, by the states that the plan's run goes through
 //! - `spans`: how many ticks a duration constraint allows in a state
+//! - `marks`: which events come before which that they interfere with
 //! - `orders`: bounds that keep the order of interfering events
 //! - `invariants`: bounds that keep what writes into an invariant in its place
 //! - `steps`: bounds that keep the steps' lengths and their invariants
@@ -24,6 +25,7 @@ ghost use Rattle.tp_deorder.specs.Inequalities.{plan_bounds, event_count_of};
 mod deordering;
 mod event_texts;
 mod invariants;
+mod marks;
 mod orders;
 mod spans;
 mod steps;

@@ -65,11 +65,31 @@ fn networks_of_the_small_worlds(rt: HostRuntime) -> Result<(), Fail> {
             "0: (rest) [4]",
             "event 0 start 0 (rest)\nevent 1 end 0 (rest)\nbound 0 1 0 -2\nbound 1 0 1 6\n",
         ),
+        // The order of the first and the last follows from those of each with the one between, however they are numbered.
         (
             LINES,
             "0: (set)\n1: (set)\n2: (set)",
             "event 0 at 0 (set)\nevent 1 at 1 (set)\nevent 2 at 2 (set)\n\
-             bound 0 1 0 -1\nbound 1 2 0 -1\nbound 2 2 1 -1\n",
+             bound 0 1 0 -1\nbound 1 2 1 -1\n",
+        ),
+        (
+            LINES,
+            "2: (set)\n0: (set)\n1: (set)",
+            "event 0 at 0 (set)\nevent 1 at 1 (set)\nevent 2 at 2 (set)\n\
+             bound 0 2 1 -1\nbound 1 0 2 -1\n",
+        ),
+        // What is between two events and interferes with one of them alone keeps no order of theirs.
+        (
+            SWITCHES,
+            "0: (need)\n1: (drop)\n2: (drop)",
+            "event 0 at 0 (need)\nevent 1 at 1 (drop)\nevent 2 at 2 (drop)\n\
+             bound 0 1 0 -1\nbound 1 2 0 -1\n",
+        ),
+        (
+            SWITCHES,
+            "0: (need)\n1: (need)\n2: (drop)",
+            "event 0 at 0 (need)\nevent 1 at 1 (need)\nevent 2 at 2 (drop)\n\
+             bound 0 2 0 -1\nbound 1 2 1 -1\n",
         ),
     ];
     for (world, plan, lines) in rows {

@@ -115,7 +115,7 @@ fn count_valid(
 
 #[test]
 fn each_schedule_in_a_box_makes_a_valid_plan(rt: HostRuntime) -> Result<(), Fail> {
-    let rows: [(World<'_>, &str, &[(&str, &[usize])], u32, usize); 7] = [
+    let rows: [(World<'_>, &str, &[(&str, &[usize])], u32, usize); 8] = [
         // The match may be lit at 0, 1 or 2, and the fuse be begun at four moments of its light.
         (
             FUSES,
@@ -149,6 +149,14 @@ fn each_schedule_in_a_box_makes_a_valid_plan(rt: HostRuntime) -> Result<(), Fail
         ),
         (CHARGES, "0: (charge) [4]", &[("(charge)", &[0, 1])], 8, 5),
         (CHARGES, "0: (rest) [4]", &[("(rest)", &[0, 1])], 8, 25),
+        // Both drops behind the need: 4 * 4 + 3 * 3 + 2 * 2 + 1.
+        (
+            SWITCHES,
+            "0: (need)\n1: (drop)\n2: (drop)",
+            &[("(need)", &[0]), ("(drop)", &[1]), ("(drop)", &[2])],
+            4,
+            30,
+        ),
         // Three of six moments.
         (
             LINES,

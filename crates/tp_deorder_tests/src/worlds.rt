@@ -1,5 +1,7 @@
 //! Plans of the small worlds, and their networks.
 
+ghost use Rattle.std.specs.Prelude.{◌≤◌};
+
 use std::alloc::Global;
 use std::test::Fail;
 use tp_bounds::{Limits, PlanNet};
@@ -46,16 +48,25 @@ pub(crate) const LINES: World<'static> = World {
     problem: UNSET,
 };
 
-fn task_in(alloc: Global, domain: &Domain, world: World<'_>) -> Result<Task, Fail> {
+fn task_in(alloc: Global, domain: &Domain, world: World<'_>, horizon: u32) -> Result<Task, Fail>
+    requires { horizon ≤ 1000000000 }
+{
     let problem = read_problem(alloc, world.problem, domain)?;
-    let limits = Limits::greatest(100);
+    let limits = Limits::greatest(horizon);
     Ok(ground(alloc, domain, &problem, &limits, Scale::One)?)
 }
 
-/// The task of a world, under the greatest limits and a horizon of 100 ticks.
-pub(crate) fn task_of(alloc: Global, world: World<'_>) -> Result<Task, Fail> {
+/// The task of a world, under the greatest limits and a horizon.
+pub(crate) fn task_until(alloc: Global, world: World<'_>, horizon: u32) -> Result<Task, Fail>
+    requires { horizon ≤ 1000000000 }
+{
     let domain = read_domain(alloc, world.domain)?;
-    task_in(alloc, &domain, world)
+    task_in(alloc, &domain, world, horizon)
+}
+
+/// The same under a horizon of 100 ticks.
+pub(crate) fn task_of(alloc: Global, world: World<'_>) -> Result<Task, Fail> {
+    task_until(alloc, world, 100)
 }
 
 /// The network of a valid plan of a task.

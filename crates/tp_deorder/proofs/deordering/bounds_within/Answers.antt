@@ -6,7 +6,8 @@ use Rattle.tp_task.specs.Verdict.{states, last_moment}
 use Rattle.tp_validate.specs.OfTask.{scale_of, begin, plan_of}
 use Rattle.tp_validate.proofs.Planning.{planned_few, ends, planned_ends, fits, planned_fits}
 use Rattle.tp_deorder.specs.Answers.{IsNetOf}
-use Rattle.tp_deorder.specs.Inequalities.{plan_bounds, event_count_of}
+use Rattle.tp_deorder.specs.Inequalities.{event_count_of}
+use Rattle.tp_deorder.specs.Kept.{net_bounds}
 use Rattle.tp_deorder.proofs.OnNets.{net_of, ok_weaker, always_ok, not_past, not_more, counted}
 use Rattle.tp_deorder.proofs.deordering.bounds_within.Goals as goal
 
@@ -37,7 +38,7 @@ pub returns-clause-net : goal.returns-clause-net
 returns-clause-net c =
     let t = c.args.task.now in
     let h = c.args.limits.now.horizon in
-    let same = ap₂ (λ (k : ℕ) (ps : List Planned). plan_bounds k (scale_of t) (states (scale_of t) (begin t) (events ps)) ps) c.horizon.ensures.horizon (c.deref-2.ensures.value ∙ c.in_ok-planned.ensures) in
+    let same = ap₂ (λ (k : ℕ) (ps : List Planned). net_bounds k (scale_of t) (states (scale_of t) (begin t) (events ps)) ps) c.horizon.ensures.horizon (c.deref-2.ensures.value ∙ c.in_ok-planned.ensures) in
     let within : last_moment (events (plan_of t c.args.steps.now)) ≤ h =
     subst (λ (ps : List Planned). last_moment (events ps) ≤ h) (c.deref.ensures.value ∙ c.in_ok-planned.ensures)
     (not_past (nat_lt c.args.limits.now.events (length (events c.deref.result.now))) h (last_moment (events c.deref.result.now)) (sym c.in_ok-passes.ensures.ok ∙ c.if-branch.false)) in
