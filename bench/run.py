@@ -1,15 +1,16 @@
 #!/usr/bin/env python3
 """Times `tempo bare` on long lists of commands, `tempo check` on large plans, tasks and texts, `tempo plan` on problems that
-spend its budget, and journals: lists of commands with and without one, and its audit. It prints numbers and judges nothing.
+spend its budget, `tempo split` on large networks, and journals: lists of commands with and without one, and its audit. It prints
+numbers and judges nothing.
 
-    bench/run.py [--full] [--check | --network | --plan | --journals] [PROGRAM]
+    bench/run.py [--full] [--check | --network | --plan | --journals | --split] [PROGRAM]
 
 PROGRAM is a built `tempo`; without it, the program is proved and built by `rt run` first. `--full` also brings 65,535 bounds into
 force, and dispatches 1,024 events one tick after another, which takes minutes; `--check` times plans, tasks and texts alone,
-`--network` lists of commands alone, `--plan` searches alone, `--journals` journals and runs of plans alone. Each list is read from a
-file by a process of its own; the times of single
-commands are from writing the command to reading its answer, the mean of all of them. A verdict's time is that of the whole
-process, the best of three, or where one takes seconds the first; its memory is the greatest that the process held.
+`--network` lists of commands alone, `--plan` searches alone, `--journals` journals and runs of plans alone, `--split` networks that
+are split among agents alone. Each list is read from a file by a process of its own; the times of single commands are from writing
+the command to reading its answer, the mean of all of them. A verdict's time is that of the whole process, the best of three, or
+where one takes seconds the first; its memory is the greatest that the process held.
 """
 import os
 import pathlib
@@ -135,10 +136,11 @@ def loose(count):
     return lines
 
 
-def judged(program, name, domain, problem, plan, command="check", options=()):
-    """A verdict on a plan, or what another command makes of it: the first words that it writes. No plan: there are two files."""
+def judged(program, name, domain, problem, plan, command="check", options=(), owners=None):
+    """A verdict on a plan, or what another command makes of it: the first words that it writes. No plan: there are two files; with
+    agents: four."""
     with tempfile.TemporaryDirectory() as room:
-        texts = {"domain": domain, "problem": problem, "plan": plan}
+        texts = {"domain": domain, "problem": problem, "plan": plan, "owners": owners}
         files = [pathlib.Path(room, part) for part, text in texts.items() if text is not None]
         for file in files:
             file.write_text(texts[file.name])
@@ -327,6 +329,7 @@ def worst_reads(program):
     judged(program, "70,000 variables of a list of 100,000 types", run, problem, "")
     name = "t" * 300_000
     judged(program, "60,000 constants of a type of 300,000 letters", f"(define (domain d) (:types {name}) (:constants {each('c#', 60_000)} - {name}))", problem, "")
+    judged(program, "50,000 types below one of 300,000 letters", f"(define (domain d) (:types {each('t#', 50_000)} - {name}))", problem, "")
     names = " ".join(colliding(20_000))
     judged(program, "20,000 constants whose names collide", f"(define (domain d) (:constants {names}))", problem, "")
     judged(program, "20,000 types whose names collide", f"(define (domain d) (:types {names}))", problem, "")
@@ -531,10 +534,33 @@ def journals(program):
     kept(program, "the same with 16,384 windows", rounds_of_visits(), texts)
 
 
+SHIFTED = "(define (problem q) (:domain shifts) (:init (open)) (:goal ()))"
+SHIFTS = """(define (domain shifts) (:predicates (open))
+ (:durative-action look :parameters () :duration (and (>= ?duration 2) (<= ?duration 9)) :condition (at start (open)) :effect ())
+ (:durative-action shut :parameters () :duration (and (>= ?duration 2) (<= ?duration 9)) :effect (at start (not (open))))
+ (:durative-action rest :parameters () :duration (and (>= ?duration 2) (<= ?duration 9)) :effect ()))
+"""
+
+
+def splits(program):
+    """Networks that are split among agents, with the time that the network takes alone."""
+    agents = {"1,024 agents": lambda k: 1023 - k, "512 agents": lambda k: k // 2, "two agents": lambda k: k // 2 % 2, "two agents, event by event": lambda k: k % 2}
+    # each look comes before each shut, and none before another, which makes nearly as many bounds as there may be
+    plan = "0: (look) [5]\n" * 250 + "1: (shut) [5]\n" * 256 + "1: (rest) [5]\n" * 6
+    both = (
+        ("1,024 events and 65,024 bounds", (SHIFTS, SHIFTED, plan), {**agents, "one agent": lambda k: 0}),
+        ("512 visits", (PLACES, places_problem(), visits()), {"32 robots": lambda k: k // 2 % ROBOTS, **agents}),
+    )
+    for name, texts, owners in both:
+        judged(program, f"the network of {name}", *texts, "net")
+        for count, owner in owners.items():
+            judged(program, f"that network split among {count}", *texts, "split", owners=" ".join(str(owner(k)) for k in range(1024)))
+
+
 def main():
     words = [word for word in sys.argv[1:] if not word.startswith("--")]
     program = pathlib.Path(words[0]).resolve() if words else built()
-    groups = {"--plan", "--check", "--network", "--journals"}
+    groups = {"--plan", "--check", "--network", "--journals", "--split"}
     groups = groups & {*sys.argv} or groups
     if "--plan" in groups:
         searches(program)
@@ -548,6 +574,8 @@ def main():
         network(program)
     if "--journals" in groups:
         journals(program)
+    if "--split" in groups:
+        splits(program)
     if "--full" in sys.argv:
         whole_run(program, "chain from its end", chain_from_its_end())
         changes(program, "dense", dense(chain(), MOST_BOUNDS - 20), 5)

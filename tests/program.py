@@ -207,6 +207,12 @@ def differences(wanted, found):
     return told
 
 
+def many_calls(test):
+    """Marks a test that makes hundreds of calls: `scripts/refused-memory` leaves it out."""
+    test.many_calls = True
+    return test
+
+
 class Case(unittest.TestCase):
     """A test that calls the program."""
 

@@ -5,7 +5,8 @@ from program import NEVER, Case, call, whole
 
 # words that are refused, and what is said of them
 REFUSED = (
-    ("split", "error: unrecognized subcommand 'split'"),
+    ("join", "error: unrecognized subcommand 'join'"),
+    ("splits d p l o", "error: unrecognized subcommand 'splits'"),
     ("plan d", "<PROBLEM>"),
     ("audit", "<LOG>"),
     ("Bare", "error: unrecognized subcommand 'Bare'"),
@@ -16,6 +17,11 @@ REFUSED = (
     ("check d p", "<PLAN>"),
     ("net d p", "<PLAN>"),
     ("run d p", "<PLAN>"),
+    ("split", "<DOMAIN>"),
+    ("split d p", "<PLAN>"),
+    ("split d p l", "<OWNERS>"),
+    ("split d p l o x", "error: unexpected argument 'x' found"),
+    ("split d p l o --journal log", "error: unexpected argument '--journal' found"),
     ("audit log d", ""),
     ("audit log d p", ""),
     ("audit log --scale 7", ""),
@@ -24,10 +30,10 @@ REFUSED = (
     ("net d p l --journal log", "error: unexpected argument '--journal' found"),
     ("check d p l o", "error: unexpected argument 'o' found"),
     ("''", "error: "),
-    ("help split", "error: "),
+    ("help join", "error: "),
 )
 
-# options that no call of `check` or `plan` may have
+# options that no call of `check`, `split` or `plan` may have
 OTHERS = (
     ("check d p l --scale 0", ""),
     ("check d p l --scale 7", ""),
@@ -35,6 +41,9 @@ OTHERS = (
     ("check d p l --horizon 1000000001", ""),
     ("check d p l --horizon -1", ""),
     ("check d p l --budget 5", "error: unexpected argument '--budget' found"),
+    ("split d p l o --scale 7", ""),
+    ("split d p l o --horizon 1000000001", "1000000001 is not in 0..=1000000000"),
+    ("split d p l o --budget 5", "error: unexpected argument '--budget' found"),
     ("plan d p --scale 7", ""),
     ("plan d p --horizon 1000000001", "1000000001 is not in 0..=1000000000"),
     ("plan d p --budget 1000001", "1000001 is not in 0..=1000000"),
@@ -43,7 +52,7 @@ OTHERS = (
 
 # calls for the help of the program and of its commands, and what stands in it
 HELPS = (
-    (("--help", "-h", "help"), ("Usage: tempo", "bare", "Examples:", "Exit status: 0 yes")),
+    (("--help", "-h", "help"), ("Usage: tempo", "bare", "split", "Examples:", "Exit status: 0 yes")),
     (("bare --help", "help bare"), ("Usage: tempo bare", "network N H", "window E", "--journal <FILE>", "Example:")),
     (
         ("check --help", "help check"),
@@ -65,6 +74,19 @@ HELPS = (
     (
         ("plan --help", "help plan"),
         ("Usage: tempo plan", "unreachable", "exhausted", "spent B", "--budget", "100000", "--horizon", "--scale", "Example:"),
+    ),
+    (
+        ("split --help", "help split"),
+        (
+            "Usage: tempo split",
+            "<OWNERS>",
+            "interval E LO HI",
+            "one to four digits",
+            "--scale",
+            "--horizon",
+            "Exit status: 0 for the intervals",
+            "Example:",
+        ),
     ),
     (("audit --help", "help audit"), ("Usage: tempo audit", "[DOMAIN]", "audit ok N", "wrong N", "--horizon", "Examples:")),
 )

@@ -1,7 +1,7 @@
 """Commands on a network of bounds alone: worked examples, runs that come to a fault, and texts at the edges of a line."""
 import re
 
-from program import Case, broken, byte_by_byte, told, whole
+from program import Case, broken, byte_by_byte, many_calls, told, whole
 
 # names, and commands with the answers that they get, at the right
 EXAMPLES = (
@@ -274,18 +274,14 @@ LINES = (
     (257, "\nwindow 0\n", "refused line\nwindow 0 5\n"),
 )
 
-# readers that give so many bytes a call, and fail after so many bytes, and how many bytes are answered
-READS = (
-    (1, 30, 8),
-    (1000, 30, 8),
-    (1, 25, 8),
-    (1000, 24, 0),
-    (1, 14, 0),
-    (1, 54, 41),
-)
+# how many bytes a reader gives a call that fails behind some of them
+PACES = (1, 1000)
 
-# how many bytes a writer takes in all before it fails: none, within a line, and all of one line, of two and of three
-WRITES = (0, 11, 3, 16, 28)
+
+def answered(count):
+    """The answers to the commands that are whole in the first so many bytes, of which the first line is the head."""
+    lines = COMMANDS[:count].count("\n")
+    return "".join(ANSWERS.splitlines(keepends=True)[: max(0, lines - 1)])
 
 
 def columns(name, text):
@@ -332,14 +328,17 @@ class Bare(Case):
         for count, after, answers in LINES:
             self.shows(f"{count} blanks and {after!r}", "network 1 5\n" + count * " " + after, answers)
 
-    def test_after_a_failed_read_the_lines_before_it_are_answered(self):
-        for most, count, answered in READS:
-            with self.subTest(f"{count} bytes, {most} a call"):
-                wanted = told(ANSWERS[:answered], "fault script 1 read\n", 3)
-                self.comes_to(wanted, "bare", given=broken(COMMANDS[:count], most))
+    @many_calls
+    def test_behind_each_byte_a_failed_read_leaves_the_answers_to_the_lines_before_it(self):
+        for most in PACES:
+            for count in range(len(COMMANDS) + 1):
+                with self.subTest(f"{count} bytes, {most} a call"):
+                    wanted = told(answered(count), "fault script 1 read\n", 3)
+                    self.comes_to(wanted, "bare", given=broken(COMMANDS[:count], most))
 
-    def test_after_a_failed_write_a_first_part_of_the_answers_is_written(self):
-        for room in WRITES:
+    @many_calls
+    def test_at_each_byte_a_failed_write_leaves_a_first_part_of_the_answers(self):
+        for room in range(len(ANSWERS)):
             with self.subTest(f"{room} bytes"):
                 wanted = told(ANSWERS[:room], "fault script 2 write\n", 3)
                 self.comes_to(wanted, "bare", given=whole(COMMANDS), room=room)

@@ -1,5 +1,5 @@
 """Journals that commands on a network of bounds alone, and runs of plans, leave in a file, worked by hand, and their audits."""
-from program import FOLDER, LOG, Case, broken, byte_by_byte, told, whole, world
+from program import FOLDER, LOG, Case, broken, byte_by_byte, many_calls, told, whole, world
 
 BARE = "bare --journal night.log"
 
@@ -138,6 +138,16 @@ class Journals(Case):
 
     def test_journals_of_commands_that_come_byte_by_byte(self):
         self.leave(byte_by_byte)
+
+    # an answer goes out for each pair that is whole in the file, behind the three lines of the head
+    @many_calls
+    def test_at_each_byte_a_full_journal_holds_back_the_answer_of_its_last_pair(self):
+        for room in range(len(JOURNAL)):
+            with self.subTest(f"{room} bytes"):
+                pairs = max(0, JOURNAL[:room].count("\n") - 3) // 2
+                answers = "".join(ANSWERS.splitlines(keepends=True)[:pairs])
+                wanted = told(answers, "fault script 6 log\n", 3, JOURNAL[:room])
+                self.comes_to(wanted, BARE, given=whole(COMMANDS), log_room=room)
 
     def test_journals_that_were_kept_are_journals(self):
         for journal, answers in ((JOURNAL, "audit ok 7\n"), (LATE_JOURNAL, "audit ok 4\n")):

@@ -14,13 +14,13 @@ use Rattle.clap.proofs.WalkLemmas.{one_text-rows}
 use Rattle.std.specs.Str.Parse.{digits_value, without_leading_plus}
 use Rattle.clap.specs.declared.parser.matches.Found.{Found}
 use Rattle.tp_arguments.specs.Commands.{tempo_app}
-use Rattle.tp_arguments.specs.Requests.{AskForOneThing, AsksBy, AsksFor, NamesBare, Spells, TellsText, command_name, domain_name, journal_name}
+use Rattle.tp_arguments.specs.Requests.{AskForOneThing, AsksBy, AsksFor, NamesBare, Spells, TellsText, command_name, domain_name, journal_name, owners_name}
 use Rattle.tp_text.specs.Scales.{scale_ticks}
 use Rattle.tp_text.specs.declared.number.Scale.TheVariants.{One}
 use Rattle.tp_plan_files.specs.declared.plan_words.PlanWords.{PlanWords}
 use Rattle.tp_plan_search.specs.declared.search_words.SearchWords.{SearchWords}
 use Rattle.tp_arguments.specs.declared.requests.Request.{Request}
-use Rattle.tp_arguments.specs.declared.requests.Request.TheVariants.{Bare, BareLog, Check, Net, Run, RunLog, Plan, Audit, PlanAudit, Help}
+use Rattle.tp_arguments.specs.declared.requests.Request.TheVariants.{Bare, BareLog, Check, Net, Run, RunLog, Plan, Audit, PlanAudit, Split, Help}
 
 module _ {Z : Type 0} where
   none_rows : (s : Option (Box SubCommand Z)) → option_map (λ b. (out-SubCommand (box_value b)).name.now) s ≡ None → subcommand_rows s ≡ None
@@ -58,6 +58,7 @@ asks_by words named (RunLog w log) free is h = (free, subst (λ n. AsksBy n (Run
 asks_by words named (Plan w) free is h = (free, subst (λ n. AsksBy n (Plan w)) is h)
 asks_by words named (Audit log) free is h = (free, subst (λ n. AsksBy n (Audit log)) is h)
 asks_by words named (PlanAudit log w) free is h = (free, subst (λ n. AsksBy n (PlanAudit log w)) is h)
+asks_by words named (Split w owners) free is h = (free, subst (λ n. AsksBy n (Split w owners)) is h)
 asks_by words named (Help text) free is h = absurd h
 
 -- an error that is a call for help or for the version
@@ -203,6 +204,26 @@ plan_audit_words w v domain problem plan scale horizon log = (
   ),
 )
 
+-- the file of the agents behind those of a plan
+pub split_words : (w : PlanWords) (v : SearchWords) → w.domain.now ≡ codes "d" → w.problem.now ≡ codes "p" → w.plan.now ≡ codes "l" → scale_ticks w.scale ≡ 1000 → w.horizon ≡ 1000000 → v.domain.now ≡ codes "o" → AsksFor (codes "split" ∷ codes "d" ∷ codes "p" ∷ codes "--scale" ∷ codes "1000" ∷ codes "l" ∷ codes "o" ∷ []) (Split w v.domain)
+unfolding clap_on_literals
+split_words w v domain problem plan scale horizon owners = (
+  refl,
+  (
+    _,
+    refl,
+    ap Some (sym owners),
+    record {
+      domain = ap Some (sym domain);
+      problem = ap Some (sym problem);
+      plan = ap Some (sym plan);
+      scale = (codes "1000", refl, sym scale);
+      horizon = (codes "1000000", refl, sym horizon);
+      within = omega (arith, horizon);
+    },
+  ),
+)
+
 -- the two files, the budget that is given, and the scale and the horizon where none are given
 pub plan_words : (w : SearchWords) → w.domain.now ≡ codes "d" → w.problem.now ≡ codes "p" → scale_ticks w.scale ≡ 1 → w.horizon ≡ 1000000 → w.budget ≡ 7 → AsksFor (codes "plan" ∷ codes "d" ∷ codes "p" ∷ codes "--budget" ∷ codes "7" ∷ []) (Plan w)
 unfolding clap_on_literals
@@ -271,6 +292,14 @@ abbrev named_domain : Option (Text × List Row) → Option Text
 named_domain None = None
 named_domain (Some named) = domain_of named.0 (first_of (codes "DOMAIN") named.1)
 
+-- the file of the agents, of the command that takes one
+abbrev owners_of : Text → Option Text → Option Text
+owners_of name given = if nat_eq (first_letter name) 115 then given else None
+
+abbrev named_owners : Option (Text × List Row) → Option Text
+named_owners None = None
+named_owners (Some named) = owners_of named.0 (first_of (codes "OWNERS") named.1)
+
 bare_command_is : (named : Option (Text × List Row)) → NamesBare named → Some (codes "bare") ≡ Some (named_command named)
 bare_command_is None h = refl
 bare_command_is (Some named) h = ap Some (sym h.0)
@@ -282,6 +311,10 @@ bare_journal_is (Some named) h = sym (ap₂ journal_of h.0 h.1)
 bare_domain_is : (named : Option (Text × List Row)) → NamesBare named → None ≡ named_domain named
 bare_domain_is None h = refl
 bare_domain_is (Some named) h = sym (ap (λ name. domain_of name (first_of (codes "DOMAIN") named.1)) h.0)
+
+bare_owners_is : (named : Option (Text × List Row)) → NamesBare named → None ≡ named_owners named
+bare_owners_is None h = refl
+bare_owners_is (Some named) h = sym (ap (λ name. owners_of name (first_of (codes "OWNERS") named.1)) h.0)
 
 command_is : (named : Option (Text × List Row)) (name : Text) (rows : List Row) → named ≡ Some (name, rows) → Some name ≡ Some (named_command named)
 command_is named name rows is = ap Some (sym (ap named_command is))
@@ -300,6 +333,7 @@ asks_command words (RunLog w log) h = free_is _ _ _ h.0 (command_is _ (codes "ru
 asks_command words (Plan w) h = free_is _ _ _ h.0 (command_is _ (codes "plan") h.1.0 h.1.1)
 asks_command words (Audit log) h = free_is _ _ _ h.0 (command_is _ (codes "audit") h.1.0 h.1.1)
 asks_command words (PlanAudit log w) h = free_is _ _ _ h.0 (command_is _ (codes "audit") h.1.0 h.1.1)
+asks_command words (Split w owners) h = free_is _ _ _ h.0 (command_is _ (codes "split") h.1.0 h.1.1)
 asks_command words (Help text) h = help_is _ _ h
 
 -- and its journal goes to the file that they name
@@ -313,6 +347,7 @@ asks_journal words (RunLog w log) h = free_is _ _ _ h.0 (journal_is _ (codes "ru
 asks_journal words (Plan w) h = free_is _ _ _ h.0 (journal_is _ (codes "plan") h.1.0 None h.1.1 refl)
 asks_journal words (Audit log) h = free_is _ _ _ h.0 (journal_is _ (codes "audit") h.1.0 None h.1.1 refl)
 asks_journal words (PlanAudit log w) h = free_is _ _ _ h.0 (journal_is _ (codes "audit") h.1.0 None h.1.1 refl)
+asks_journal words (Split w owners) h = free_is _ _ _ h.0 (journal_is _ (codes "split") h.1.0 None h.1.1 refl)
 asks_journal words (Help text) h = help_is _ _ h
 
 domain_is : (named : Option (Text × List Row)) (name : Text) (rows : List Row) (t : Option Text) → named ≡ Some (name, rows) → t ≡ named_domain (Some (name, rows)) → t ≡ named_domain named
@@ -329,7 +364,25 @@ asks_domain words (RunLog w log) h = free_is _ _ _ h.0 (domain_is _ (codes "run"
 asks_domain words (Plan w) h = free_is _ _ _ h.0 (domain_is _ (codes "plan") h.1.0 _ h.1.1 (sym h.1.2.domain))
 asks_domain words (Audit log) h = free_is _ _ _ h.0 (domain_is _ (codes "audit") h.1.0 None h.1.1 (sym h.1.3))
 asks_domain words (PlanAudit log w) h = free_is _ _ _ h.0 (domain_is _ (codes "audit") h.1.0 _ h.1.1 (sym h.1.3.domain))
+asks_domain words (Split w owners) h = free_is _ _ _ h.0 (domain_is _ (codes "split") h.1.0 _ h.1.1 (sym h.1.3.domain))
 asks_domain words (Help text) h = help_is _ _ h
+
+owners_is : (named : Option (Text × List Row)) (name : Text) (rows : List Row) (t : Option Text) → named ≡ Some (name, rows) → t ≡ named_owners (Some (name, rows)) → t ≡ named_owners named
+owners_is named name rows t is same = same ∙ sym (ap named_owners is)
+
+-- and of the agents in the file that they name
+asks_owners : (words : List Text) (r : Request) → AsksFor words r → owners_name r ≡ when_free (fault_of tempo_app words) (named_owners (subcommand_of tempo_app words))
+asks_owners words Bare h = free_is _ _ _ h.0 (bare_owners_is _ h.1)
+asks_owners words (BareLog log) h = free_is _ _ _ h.0 (owners_is _ (codes "bare") h.1.0 None h.1.1 refl)
+asks_owners words (Check w) h = free_is _ _ _ h.0 (owners_is _ (codes "check") h.1.0 None h.1.1 refl)
+asks_owners words (Net w) h = free_is _ _ _ h.0 (owners_is _ (codes "net") h.1.0 None h.1.1 refl)
+asks_owners words (Run w) h = free_is _ _ _ h.0 (owners_is _ (codes "run") h.1.0 None h.1.1 refl)
+asks_owners words (RunLog w log) h = free_is _ _ _ h.0 (owners_is _ (codes "run") h.1.0 None h.1.1 refl)
+asks_owners words (Plan w) h = free_is _ _ _ h.0 (owners_is _ (codes "plan") h.1.0 None h.1.1 refl)
+asks_owners words (Audit log) h = free_is _ _ _ h.0 (owners_is _ (codes "audit") h.1.0 None h.1.1 refl)
+asks_owners words (PlanAudit log w) h = free_is _ _ _ h.0 (owners_is _ (codes "audit") h.1.0 None h.1.1 refl)
+asks_owners words (Split w owners) h = free_is _ _ _ h.0 (owners_is _ (codes "split") h.1.0 _ h.1.1 (sym h.1.2))
+asks_owners words (Help text) h = help_is _ _ h
 
 -- no words ask for two kinds of things
 pub distinct : (words : List Text) → AskForOneThing words
@@ -338,4 +391,5 @@ distinct words =
       command = λ r s one other. asks_command words r one ∙ sym (asks_command words s other);
       journal = λ r s one other. asks_journal words r one ∙ sym (asks_journal words s other);
       domain = λ r s one other. asks_domain words r one ∙ sym (asks_domain words s other);
+      owners = λ r s one other. asks_owners words r one ∙ sym (asks_owners words s other);
     }

@@ -91,6 +91,10 @@ audit_app =
     let log = with_rule (new_app (codes "audit")) (file_rule (codes "LOG")) in
     with_rule (with_rule (with_others log) scale_rule) horizon_rule
 
+-- the files of a plan, and that of the agents of its events
+abbrev pub split_app : App
+split_app = with_rule (plan_app (new_app (codes "split"))) (file_rule (codes "OWNERS"))
+
 -- the program's words begin after its name, and it tells its version
 abbrev pub start_app : App
 start_app =
@@ -109,5 +113,9 @@ network_app = with_subcommand judging_app net_app.top
 abbrev pub planning_app : App
 planning_app = with_subcommand (with_subcommand network_app run_app.top) search_app.top
 
+-- and with the one that audits journals
+abbrev pub auditing_app : App
+auditing_app = with_subcommand planning_app audit_app.top
+
 abbrev pub tempo_app : App
-tempo_app = with_subcommand planning_app audit_app.top
+tempo_app = with_subcommand auditing_app split_app.top

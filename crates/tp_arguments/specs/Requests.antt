@@ -10,13 +10,13 @@ use Rattle.tp_arguments.specs.Commands.{tempo_app}
 use Rattle.tp_plan_files.specs.declared.plan_words.PlanWords.{PlanWords}
 use Rattle.tp_plan_search.specs.declared.search_words.SearchWords.{SearchWords}
 use Rattle.tp_arguments.specs.declared.requests.Request.{Request}
-use Rattle.tp_arguments.specs.declared.requests.Request.TheVariants.{Bare, BareLog, Check, Net, Run, RunLog, Plan, Audit, PlanAudit, Help}
+use Rattle.tp_arguments.specs.declared.requests.Request.TheVariants.{Bare, BareLog, Check, Net, Run, RunLog, Plan, Audit, PlanAudit, Split, Help}
 
 -- the text is there, and its digits make the number
 abbrev pub Spells : Option Text → ℕ → Type 0
 Spells text n = (t : Text) × (text ≡ Some t) × (digits_value 10 (without_leading_plus t) ≡ n)
 
--- the values of `check`, `net`, `run` and `audit`, or their defaults
+-- the values of `check`, `net`, `run`, `audit` and `split`, or their defaults
 pub record IsPlanWords (rows : List Row) (w : PlanWords) : Type 0 where
   pub domain : first_of (codes "DOMAIN") rows ≡ Some w.domain.now
   pub problem : first_of (codes "PROBLEM") rows ≡ Some w.problem.now
@@ -68,6 +68,9 @@ AsksBy named (Audit log) =
 AsksBy named (PlanAudit log w) =
     (rows : List Row) × (named ≡ Some (codes "audit", rows))
     × (first_of (codes "LOG") rows ≡ Some log.now) × IsPlanWords rows w
+AsksBy named (Split w owners) =
+    (rows : List Row) × (named ≡ Some (codes "split", rows))
+    × (first_of (codes "OWNERS") rows ≡ Some owners.now) × IsPlanWords rows w
 AsksBy named (Help text) = ⊥
 
 -- a parse that ends so gives a text that was called for
@@ -96,6 +99,8 @@ AsksFor words (Audit log) =
     (fault_of tempo_app words ≡ []) × AsksBy (subcommand_of tempo_app words) (Audit log)
 AsksFor words (PlanAudit log w) =
     (fault_of tempo_app words ≡ []) × AsksBy (subcommand_of tempo_app words) (PlanAudit log w)
+AsksFor words (Split w owners) =
+    (fault_of tempo_app words ≡ []) × AsksBy (subcommand_of tempo_app words) (Split w owners)
 
 -- the words ask for no answers to commands: for something else, or for nothing
 pub record AsksForNoCommands (words : List Text) : Type 0 where
@@ -115,6 +120,7 @@ command_name (RunLog w log) = Some (codes "run")
 command_name (Plan w) = Some (codes "plan")
 command_name (Audit log) = Some (codes "audit")
 command_name (PlanAudit log w) = Some (codes "audit")
+command_name (Split w owners) = Some (codes "split")
 command_name (Help text) = None
 
 -- the file for a journal
@@ -128,6 +134,7 @@ journal_name (RunLog w log) = Some log.now
 journal_name (Plan w) = None
 journal_name (Audit log) = None
 journal_name (PlanAudit log w) = None
+journal_name (Split w owners) = None
 journal_name (Help text) = None
 
 -- the file of a domain
@@ -141,12 +148,29 @@ domain_name (RunLog w log) = Some w.domain.now
 domain_name (Plan w) = Some w.domain.now
 domain_name (Audit log) = None
 domain_name (PlanAudit log w) = Some w.domain.now
+domain_name (Split w owners) = Some w.domain.now
 domain_name (Help text) = None
 
--- words ask for one kind of thing at most: for one command, with one file for a journal or none, and one of a domain or none, or for help
+-- the file of the agents
+abbrev pub owners_name : Request → Option Text
+owners_name Bare = None
+owners_name (BareLog log) = None
+owners_name (Check w) = None
+owners_name (Net w) = None
+owners_name (Run w) = None
+owners_name (RunLog w log) = None
+owners_name (Plan w) = None
+owners_name (Audit log) = None
+owners_name (PlanAudit log w) = None
+owners_name (Split w owners) = Some owners.now
+owners_name (Help text) = None
+
+-- words ask for one kind of thing at most: for one command, with one file for a journal or none, one of a domain or none, and one
+-- of agents or none, or for help
 pub record AskForOneThing (words : List Text) : Type 0 where
   pub command : (r s : Request) → AsksFor words r → AsksFor words s
       → command_name r ≡ command_name s
   pub journal : (r s : Request) → AsksFor words r → AsksFor words s
       → journal_name r ≡ journal_name s
   pub domain : (r s : Request) → AsksFor words r → AsksFor words s → domain_name r ≡ domain_name s
+  pub owners : (r s : Request) → AsksFor words r → AsksFor words s → owners_name r ≡ owners_name s

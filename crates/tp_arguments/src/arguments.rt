@@ -144,6 +144,15 @@ fn audit_asked<'w>(matches: &ArgMatches<'w>) -> Option<Request<'w>>
     }
 }
 
+/// What `split` asks for.
+fn split_asked<'w>(matches: &ArgMatches<'w>) -> Option<Request<'w>>
+    ensures { IfSome result (AsksBy (Some (codes "split", rows_of (found_of matches.now)))) }
+{
+    let plan = plan_words(matches)?;
+    let owners = word(matches, "OWNERS")?;
+    Some(Request::Split(plan, owners))
+}
+
 /// What a command with its values asks for.
 fn asked_by<'w>(name: &str, matches: &ArgMatches<'w>) -> Result<Request<'w>, NoRequest>
     ensures asked { IfOk result (AsksBy (Some (name.now, rows_of (found_of matches.now)))) }
@@ -176,6 +185,11 @@ fn asked_by<'w>(name: &str, matches: &ArgMatches<'w>) -> Result<Request<'w>, NoR
     }
     if name == "audit" {
         if let Some(request) = audit_asked(matches) {
+            return Ok(request);
+        }
+    }
+    if name == "split" {
+        if let Some(request) = split_asked(matches) {
             return Ok(request);
         }
     }
@@ -298,8 +312,17 @@ pub fn plan_audit_calls()
         ∷ codes "1000" ∷ []) (Request.PlanAudit v.domain w) }
 {}
 
-/// Words ask for one kind of thing at most: for one command, with one file for a journal or none, and one of a domain or none, or for
-/// help.
+/// The file of the agents behind those of a plan.
+pub fn split_calls()
+    ensures { (w : PlanWords) → (v : SearchWords) → w.domain.now ≡ codes "d"
+        → w.problem.now ≡ codes "p" → w.plan.now ≡ codes "l"
+        → scale_ticks w.scale ≡ 1000 → w.horizon ≡ 1000000 → v.domain.now ≡ codes "o"
+        → AsksFor (codes "split" ∷ codes "d" ∷ codes "p" ∷ codes "--scale" ∷ codes "1000"
+        ∷ codes "l" ∷ codes "o" ∷ []) (Request.Split w v.domain) }
+{}
+
+/// Words ask for one kind of thing at most: for one command, with one file for a journal or none, one of a domain or none, and one of
+/// agents or none, or for help.
 pub fn requests_are_distinct()
     ensures { (words : List (List ℕ)) → AskForOneThing words }
 {}

@@ -3,7 +3,7 @@
 ghost use Rattle.std.specs.Prelude.{◌≡◌, false, IfOk, codes};
 ghost use Rattle.clap.specs.Words.{app_of, new_app, rule_of, with_subcommand};
 ghost use Rattle.clap.specs.declared.builder.command.Command.TheViews.{out-Command as fields_of};
-ghost use Rattle.tp_arguments.specs.Commands.{audit_app, bare_app, budget_rule, check_app, file_rule, horizon_rule, journal_rule, judging_app, net_app, network_app, other_rule, plan_app, planning_app, run_app, scale_rule, search_app, start_app, tempo_app, with_others};
+ghost use Rattle.tp_arguments.specs.Commands.{audit_app, auditing_app, bare_app, budget_rule, check_app, file_rule, horizon_rule, journal_rule, judging_app, net_app, network_app, other_rule, plan_app, planning_app, run_app, scale_rule, search_app, split_app, start_app, tempo_app, with_others};
 
 use clap::{Arg, ArgAction, Command, value_parser};
 use std::alloc::{AllocError, Global};
@@ -26,7 +26,8 @@ Examples:
   tempo net domain.pddl problem.pddl plan.txt
   printf 'dispatch 0\\nadvance 3\\ndispatch 1\\n' | tempo run domain.pddl problem.pddl plan.txt
   printf 'dispatch 0\\n' | tempo run domain.pddl problem.pddl plan.txt --journal night.log
-  tempo audit night.log domain.pddl problem.pddl plan.txt";
+  tempo audit night.log domain.pddl problem.pddl plan.txt
+  tempo split domain.pddl problem.pddl plan.txt owners.txt";
 
 const BARE_ABOUT: &str = "Answers commands on a network of events and bounds";
 
@@ -152,6 +153,30 @@ Examples:
   tempo audit night.log domain.pddl problem.pddl plan.txt
 print
   audit ok 7";
+
+const SPLIT_ABOUT: &str =
+    "Prints intervals within which no agent of a valid plan needs to know of the others";
+
+const SPLIT_HELP: &str =
+    "Reads a domain and a problem of PDDL 2.1 and a plan, as `check` does, and from OWNERS the number of the agent of each event,
+in the order of the events that `net` prints: whole numbers of one to four digits between blanks, at most 1023. For a valid
+plan it prints
+
+  interval E LO HI   for each event that a bound of the plan's network joins with another agent's event
+
+Whatever tick from LO to HI the agents choose for these events, each for its own, every bound that joins two agents' events is
+met: an agent need only keep the other bounds of its events, and within its intervals it can. For a plan that is not valid it
+prints the line that `check` prints.
+
+Exit status: 0 for the intervals, also where there are none, 1 for a plan that is not valid, 2 refused input, 3 memory or a
+device.
+
+Example:
+  printf '0 1\\n' >owners.txt
+  tempo split domain.pddl problem.pddl plan.txt owners.txt --horizon 100
+prints
+  interval 0 0 0
+  interval 1 2 6";
 
 /// A file that has to be named.
 fn file_argument<'a>(alloc: Global, id: &'a str, help: &'a str) -> Arg<'a>
@@ -340,6 +365,18 @@ fn audit_command<'a>(alloc: Global) -> Result<Command<'a>, AllocError>
         .arg(horizon_option(alloc))
 }
 
+/// The command `split`.
+fn split_command<'a>(alloc: Global) -> Result<Command<'a>, AllocError>
+    ensures app { IfOk result (λ c. app_of c ≡ split_app) }
+    ensures local { IfOk result (λ c. (fields_of c).has_globals ≡ false) }
+{
+    plan_command(alloc, plan_start(alloc, "split", SPLIT_ABOUT, SPLIT_HELP))?.arg(file_argument(
+        alloc,
+        "OWNERS",
+        "The file of the numbers of the events' agents",
+    ))
+}
+
 /// The program before it has commands. Its words begin after its name.
 fn tempo_start<'a>(alloc: Global) -> Result<Command<'a>, AllocError>
     ensures { IfOk result (λ c. app_of c ≡ start_app) }
@@ -385,10 +422,18 @@ fn planning_command<'a>(alloc: Global) -> Result<Command<'a>, AllocError>
     running_command(alloc)?.subcommand(search)
 }
 
+/// The same with the command that audits journals.
+fn auditing_command<'a>(alloc: Global) -> Result<Command<'a>, AllocError>
+    ensures { IfOk result (λ c. app_of c ≡ auditing_app) }
+{
+    let audit = audit_command(alloc)?;
+    planning_command(alloc)?.subcommand(audit)
+}
+
 /// The program with all its commands.
 pub fn tempo_command<'a>(alloc: Global) -> Result<Command<'a>, AllocError>
     ensures { IfOk result (λ c. app_of c ≡ tempo_app) }
 {
-    let audit = audit_command(alloc)?;
-    planning_command(alloc)?.subcommand(audit)
+    let split = split_command(alloc)?;
+    auditing_command(alloc)?.subcommand(split)
 }

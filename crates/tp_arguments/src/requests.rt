@@ -24,6 +24,8 @@ pub enum Request<'w> {
     Audit(&'w str),
     /// The audit of the journal in a file, of commands on the network of a plan.
     PlanAudit(&'w str, PlanWords<'w>),
+    /// The intervals of the events of a plan, among agents whose numbers are in the file of a name.
+    Split(PlanWords<'w>, &'w str),
     /// A text of help, or the version.
     Help(String),
 }

@@ -6,7 +6,8 @@ ghost use Rattle.tp_bounds.specs.Setting.{event_count, fixed_at, lag_of, floor_o
 ghost use Rattle.tp_bounds.specs.Reasons.{at_most, at_least, is_open, bound_of};
 ghost use Rattle.tp_bounds.specs.Changes.{fresh, with_bound, without_bound, asking, at_moment, with_fixed, with_lag};
 ghost use Rattle.tp_bounds.specs.Held.{held, AreInRange};
-ghost use Rattle.tp_bounds.specs.Lawful.{Suits};
+ghost use Rattle.tp_bounds.specs.InOrder.{IsNth};
+ghost use Rattle.tp_bounds.specs.Lawful.{Suits, IsLawful};
 
 use crate::{Bound, BoundId, Edge, MOST_EVENTS, MOST_HORIZON, MOST_LAG, Point};
 use std::alloc::{AllocError, Global};
@@ -151,14 +152,16 @@ impl Setting {
         self.clock.saturating_sub(self.lag(e))
     }
 
-    /// How many events there are.
-    pub(crate) fn events(&self) -> u16
-        ensures { result ≡ event_count self.now }
+    /// How many events there are: they are numbered from 0. It takes no memory.
+    pub fn events(&self) -> u16
+        ensures count { result ≡ event_count self.now }
+        ensures lawful { IsLawful self.now }
     {
         self.fixed.len() as u16
     }
 
-    pub(crate) fn horizon(&self) -> u32
+    /// The last moment at which an event may happen, in ticks. It takes no memory.
+    pub fn horizon(&self) -> u32
         ensures { result ≡ self.now.horizon }
     {
         self.horizon
@@ -171,12 +174,38 @@ impl Setting {
         self.fixed.get(e as usize).copied().flatten()
     }
 
-    /// The bounds in force, by identifier.
-    pub(crate) fn in_force(&self) -> &BTreeMap<u32, Bound>
+    /// The bounds in force, by identifier. It takes no memory.
+    pub fn in_force(&self) -> &BTreeMap<u32, Bound>
         ensures bounds { held result.now.entries ≡ self.now.bounds }
+        ensures entries { map.entries self.now.bounds ≡ result.now.entries }
         ensures weights { AreInRange (held result.now.entries) }
     {
+        // this call tells that the identifiers rise
+        let _count = self.bounds.len();
         &self.bounds
+    }
+
+    /// The bound in force than which `k` others have a lower identifier, and its identifier: the bounds in force are told by
+    /// rising identifier, as `k` rises from 0. It takes no memory, and `k` steps along the bounds.
+    pub fn nth(&self, k: usize) -> Option<(BoundId, Bound)>
+        ensures { IsNth self.now.bounds k result }
+    {
+        let (id, bound) = self.bounds.iter().nth(k)?;
+        Some((BoundId(*id), *bound))
+    }
+
+    /// Another setting that is the same. It takes time in the bounds in force and the events.
+    pub fn copy(&self) -> Result<Setting, AllocError>
+        ensures { IfOk result (λ copy. copy ≡ self.now) }
+    {
+        Ok(Setting {
+            horizon: self.horizon,
+            clock: self.clock,
+            bounds: self.bounds.clone()?,
+            fixed: self.fixed.clone()?,
+            lags: self.lags.clone()?,
+            proposed: self.proposed,
+        })
     }
 
     /// The bound that is asked for.

@@ -154,6 +154,7 @@ fn plan_in<N: Files>(
     ensures of_task { IfOk result (IsOfTask task.now) }
     ensures cause { IsNamedTask (N.held files.old) words.entry task.now
         → IfErr result (Explains (N.held files.old) words.entry) }
+    ensures same { (other : List ℕ) → N.held files.new other ≡ N.held files.old other }
 {
     match open_text(alloc, files, words.plan) {
         Ok(text) => match read_plan(alloc, text.as_str(), task) {
@@ -179,6 +180,7 @@ pub fn verdict_in<'t, N: Files>(
         × IsNamedPlan (N.held files.old) words.entry task.now steps × IsVerdict task.now steps v) }
     ensures cause { IsNamedTask (N.held files.old) words.entry task.now
         → IfErr result (Explains (N.held files.old) words.entry) }
+    ensures same { (other : List ℕ) → N.held files.new other ≡ N.held files.old other }
 {
     let plan = plan_in(alloc, files, words, task)?;
     match validate(alloc, task, plan) {

@@ -27,6 +27,7 @@ use Rattle.tp_plan_audits.specs.PlanAudits.{IsPlanFound, SaysFound, SaysPlanJour
 use Rattle.tp_run_journals.specs.LogFile.{LogFile, log_file}
 use Rattle.tp_run_journals.specs.RunJournals.{LogsInNone, LogsInPlan, LogsToNone, LogsToPlan}
 use Rattle.tp_plan_search.specs.Searches.{SaysNoPlan, SearchesPart, WritesPlan}
+use Rattle.tp_plan_splits.specs.Splits.{SplitsPart, WritesPlan as WritesIntervals, WritesSome, WritesSplit}
 use Rattle.tp_plan_search.specs.declared.search_words.SearchWords.{SearchWords}
 use Rattle.tp_program.specs.CallFiles.{CallFiles}
 use Rattle.tp_program.specs.Checks.{SaysPart, SaysValid}
@@ -38,7 +39,7 @@ use Rattle.tp_arguments.specs.Requests.{AsksFor, AsksForNoCommands}
 use Rattle.tp_program.specs.Streams.{Ends, HandsOn, Runs, TellsSome}
 use Rattle.tp_plan_files.specs.declared.plan_words.PlanWords.{PlanWords}
 use Rattle.tp_arguments.specs.declared.requests.Request.{Request}
-use Rattle.tp_arguments.specs.declared.requests.Request.TheVariants.{Bare, BareLog, Check, Net, Run, RunLog, Plan, Audit, PlanAudit, Help}
+use Rattle.tp_arguments.specs.declared.requests.Request.TheVariants.{Bare, BareLog, Check, Net, Run, RunLog, Plan, Audit, PlanAudit, Split, Help}
 
 -- what was appended there was appended here
 abbrev pub Shift : Option (List ℕ) → Option (List ℕ) → Option (List ℕ) → Option (List ℕ) → Type 0
@@ -404,6 +405,21 @@ plan_audit_part_over held w input a b c d over (inr h) =
     (λ head. SaysInvalidPart held w c d ⊎ RunsNamed held w (WritesFound w head input c d))
     (λ head is. part_under held w head input a b c d over is) h)
 
+intervals_over : (task : Task) (steps : List Step) (horizon : ℕ) (owners-held a b c d : Option (List ℕ)) → Shift a b c d → WritesIntervals task steps horizon owners-held a b → WritesIntervals task steps horizon owners-held c d
+intervals_over task steps horizon owners-held a b c d over h = (h.0, h.1, over _ h.2)
+
+some_intervals_over : (task : Task) (steps : List Step) (horizon : ℕ) (owners-held a b c d : Option (List ℕ)) → Shift a b c d → WritesSome task steps horizon owners-held a b → WritesSome task steps horizon owners-held c d
+some_intervals_over task steps horizon owners-held a b c d over h = (h.0, h.1, part_over a b c d _ over h.2)
+
+split_over : (held : List ℕ → Option (List ℕ)) (w : PlanWords) (owners : List ℕ) (a b c d : Option (List ℕ)) → Shift a b c d → WritesSplit held w owners a b → WritesSplit held w owners c d
+split_over held w owners a b c d over h = (h.0, h.1, h.2, h.3, intervals_over h.0 h.1 w.horizon (held owners) a b c d over h.4)
+
+split_part_over : (held : List ℕ → Option (List ℕ)) (w : PlanWords) (owners : List ℕ) (a b c d : Option (List ℕ)) → Shift a b c d → SplitsPart held w owners a b → SplitsPart held w owners c d
+split_part_over held w owners a b c d over (inl none) = inl (over _ none)
+split_part_over held w owners a b c d over (inr (inl h)) = inr (inl (invalid_part_over held w a b c d over h))
+split_part_over held w owners a b c d over (inr (inr h)) =
+    inr (inr (h.0, h.1, h.2, h.3, some_intervals_over h.0 h.1 w.horizon (held owners) a b c d over h.4))
+
 done_over : (request : Request) (files : CallFiles) (input a b c d : Option (List ℕ)) → Shift a b c d → IsDone request files input a b → IsDone request files input c d
 done_over Bare files input a b c d over h = all_over input a b c d over h
 done_over (BareLog log) files input a b c d over h = (logs_over input a b c d files.blank files.kept over h.0, h.1)
@@ -414,6 +430,7 @@ done_over (RunLog w log) files input a b c d over h = run_log_over files w log.n
 done_over (Plan w) files input a b c d over h = plan_over files.held w a b c d over h
 done_over (Audit log) files input a b c d over h = journal_over (files.held log.now) a b c d over h
 done_over (PlanAudit log w) files input a b c d over h = plan_journal_over files.held w (files.held log.now) a b c d over h
+done_over (Split w owners) files input a b c d over h = split_over files.held w owners.now a b c d over h
 done_over (Help text) files input a b c d over h = over _ h
 
 part_done_over : (request : Request) (files : CallFiles) (input a b c d : Option (List ℕ)) → Shift a b c d → IsPartDone request files input a b → IsPartDone request files input c d
@@ -426,6 +443,7 @@ part_done_over (RunLog w log) files input a b c d over h = runs_part_over files.
 part_done_over (Plan w) files input a b c d over h = searches_part_over files.held w a b c d over h
 part_done_over (Audit log) files input a b c d over h = audit_part_over (files.held log.now) a b c d over h
 part_done_over (PlanAudit log w) files input a b c d over h = plan_audit_part_over files.held w (files.held log.now) a b c d over h
+part_done_over (Split w owners) files input a b c d over h = split_part_over files.held w owners.now a b c d over h
 part_done_over (Help text) files input a b c d over h = part_over a b c d _ over h
 
 pub does_over : (words : List (List ℕ)) (files : CallFiles) (input a b c d : Option (List ℕ)) → Shift a b c d → DoesWhatIsAsked words files input a b → DoesWhatIsAsked words files input c d
@@ -442,6 +460,7 @@ said_over (RunLog w log) files input a b c d over h = run_log_none_over files w 
 said_over (Plan w) files input a b c d over h = no_plan_over files.held w a b c d over h
 said_over (Audit log) files input a b c d over h = wrong_over (files.held log.now) a b c d over h
 said_over (PlanAudit log w) files input a b c d over h = plan_no_over files.held w (files.held log.now) a b c d over h
+said_over (Split w owners) files input a b c d over h = invalid_over files.held w a b c d over h
 said_over (Help text) files input a b c d over h = absurd h
 
 pub no_over : (words : List (List ℕ)) (files : CallFiles) (input a b c d : Option (List ℕ)) → Shift a b c d → AnswersNo words files input a b → AnswersNo words files input c d

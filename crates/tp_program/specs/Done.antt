@@ -9,6 +9,7 @@ use Rattle.tp_plan_audits.specs.PlanAudits.{SaysPlanJournal, SaysPlanNo, WritesA
 use Rattle.tp_plan_runs.specs.Invalid.{SaysInvalid}
 use Rattle.tp_plan_runs.specs.Runs.{RunsPart, RunsToNone, RunsToPlan}
 use Rattle.tp_plan_search.specs.Searches.{SaysNoPlan, SearchesPart, WritesPlan}
+use Rattle.tp_plan_splits.specs.Splits.{SplitsPart, WritesSplit}
 use Rattle.tp_run_journals.specs.LogFile.{log_file}
 use Rattle.tp_run_journals.specs.RunJournals.{LogsToNone, LogsToPlan}
 use Rattle.tp_program.specs.CallFiles.{CallFiles}
@@ -17,11 +18,12 @@ use Rattle.tp_program.specs.Journaled.{LogsSome, LogsTo}
 use Rattle.tp_program.specs.Networks.{ShowsNetwork, ShowsPart}
 use Rattle.tp_arguments.specs.Requests.{AsksFor}
 use Rattle.tp_arguments.specs.declared.requests.Request.{Request}
-use Rattle.tp_arguments.specs.declared.requests.Request.TheVariants.{Bare, BareLog, Check, Net, Run, RunLog, Plan, Audit, PlanAudit, Help}
+use Rattle.tp_arguments.specs.declared.requests.Request.TheVariants.{Bare, BareLog, Check, Net, Run, RunLog, Plan, Audit, PlanAudit, Split, Help}
 
 -- all commands of the input were answered; the same, and their journal is in the file that was named for it; the plan is valid and that was
 -- written; its network was written; all commands of the input were answered on that network, and the plan of the run was written; a valid
--- plan of the problem was written; the file of a journal is one, and that was written; or the help was written
+-- plan of the problem was written; the file of a journal is one, and that was written; the intervals of a valid plan's events were written;
+-- or the help was written
 abbrev pub IsDone : Request → CallFiles → Option (List ℕ) → Option (List ℕ)
     → Option (List ℕ) → Type 0
 IsDone Bare files input held now = AnswersAll input held now
@@ -35,6 +37,7 @@ IsDone (Plan w) files input held now = WritesPlan files.held w held now
 IsDone (Audit log) files input held now = SaysJournal (files.held log.now) held now
 IsDone (PlanAudit log w) files input held now =
     SaysPlanJournal files.held w (files.held log.now) held now
+IsDone (Split w owners) files input held now = WritesSplit files.held w owners.now held now
 IsDone (Help text) files input held now = Appends held now (string_bytes text)
 
 -- the words ask for something, and it was done
@@ -59,9 +62,10 @@ IsAnsweredNo (Plan w) files input held now = SaysNoPlan files.held w held now
 IsAnsweredNo (Audit log) files input held now = SaysWrong (files.held log.now) held now
 IsAnsweredNo (PlanAudit log w) files input held now =
     SaysPlanNo files.held w (files.held log.now) held now
+IsAnsweredNo (Split w owners) files input held now = SaysInvalid files.held w held now
 IsAnsweredNo (Help text) files input held now = ⊥
 
--- the words ask for the verdict on a plan, for its network, for its run, for a plan or for an audit, and the answer is no
+-- the words ask for the verdict on a plan, for its network, for its run, for its split, for a plan or for an audit, and the answer is no
 pub record AnswersNo (words : List (List ℕ)) (files : CallFiles)
     (input held now : Option (List ℕ)) : Type 0 where
   pub request : Request
@@ -81,6 +85,7 @@ IsPartDone (Plan w) files input held now = SearchesPart files.held w held now
 IsPartDone (Audit log) files input held now = SaysAuditPart (files.held log.now) held now
 IsPartDone (PlanAudit log w) files input held now =
     WritesAuditPart files.held w (files.held log.now) held now
+IsPartDone (Split w owners) files input held now = SplitsPart files.held w owners.now held now
 IsPartDone (Help text) files input held now = AppendsPart held now (string_bytes text)
 
 -- nothing was written, or the words ask for something, and some first part of it was written

@@ -9,6 +9,7 @@ use Rattle.tp_log_audits.specs.Bare.{EndsBareAudit}
 use Rattle.tp_plan_audits.specs.PlanAudits.{EndsPlanAudit}
 use Rattle.tp_plan_runs.specs.Runs.{EndsRun}
 use Rattle.tp_plan_search.specs.SearchStops.{EndsSearch}
+use Rattle.tp_plan_splits.specs.Splits.{EndsSplit}
 use Rattle.tp_run_journals.specs.LogFile.{log_file}
 use Rattle.tp_run_journals.specs.RunJournals.{EndsRunLog}
 use Rattle.tp_program.specs.CallFiles.{CallFiles}
@@ -16,7 +17,7 @@ use Rattle.tp_program.specs.Checks.{EndsCheck}
 use Rattle.tp_program.specs.Networks.{EndsNet}
 use Rattle.tp_arguments.specs.Requests.{AsksFor}
 use Rattle.tp_arguments.specs.declared.requests.Request.{Request}
-use Rattle.tp_arguments.specs.declared.requests.Request.TheVariants.{Bare, BareLog, Check, Net, Run, RunLog, Plan, Audit, PlanAudit, Help}
+use Rattle.tp_arguments.specs.declared.requests.Request.TheVariants.{Bare, BareLog, Check, Net, Run, RunLog, Plan, Audit, PlanAudit, Split, Help}
 
 -- there was no memory for the words
 pub record LacksMemory (status : ℕ) (held held-now : Option (List ℕ)) (output output-now : ℕ)
@@ -78,6 +79,10 @@ EndsRequest (PlanAudit log w) files input status held held-now output output-now
     failures-now now
     = EndsPlanAudit files.held w log.now status (files.held log.now) held held-now output output-now
     failures before failures-now now
+EndsRequest (Split w owners) files input status held held-now output output-now failures before
+    failures-now now
+    = EndsSplit files.held w owners.now status held held-now output output-now failures before
+    failures-now now
 EndsRequest
     (Help text) files input status held held-now output output-now failures before failures-now now
     = StopsHelp (string_bytes text) status held held-now failures before failures-now now

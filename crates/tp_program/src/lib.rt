@@ -1,7 +1,7 @@
 //! The program `tempo`: a network of events and bounds, and commands on it, come in as lines, and the answers go out as lines; or
 //! the plan in a file is judged, and the verdict goes out, or the network of all its schedules, or
 //! commands on that network are answered, and the plan of the run goes out; or a plan is searched for;
-//! or the journal in a file is audited.
+//! or the journal in a file is audited; or the plan's network is split among agents, and their intervals go out.
 //!
 //! - `words`: the doing of what the words of a call ask for, over any files, reader and writers
 //! - `check`: the judging of the plan in a file
@@ -13,7 +13,7 @@
 //! The words of a call are read by `tp_arguments`. Commands on a network of bounds alone are those of `tp_bare`, those with a journal
 //! of `tp_bare_journals`, files and fault lines those of `tp_files`, tasks and verdicts of files those of `tp_plan_files`, runs of
 //! plans those of `tp_plan_runs`, those with a journal of `tp_run_journals`, searches those of `tp_plan_search`, audits those of
-//! `tp_log_audits` and `tp_plan_audits`.
+//! `tp_log_audits` and `tp_plan_audits`, splits those of `tp_plan_splits`.
 #![tactic(auto)]
 
 mod check;
@@ -29,5 +29,6 @@ pub use streams::{Ended, Refused, refuse_streams, run_streams};
 pub use tp_arguments::{
     NoRequest, Request, audit_calls, bare_calls, bare_log_calls, check_calls, net_calls,
     plan_audit_calls, plan_calls, read_words, requests_are_distinct, run_calls, run_log_calls,
+    split_calls,
 };
 pub use words::run_words;

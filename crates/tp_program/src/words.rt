@@ -24,6 +24,7 @@ use tp_logs::Logs;
 use tp_plan_audits::run_plan_audit;
 use tp_plan_runs::run_run;
 use tp_plan_search::run_plan;
+use tp_plan_splits::run_split;
 use tp_run_journals::run_run_journal;
 
 /// Does what the words ask for. Answers the exit status, and for another than 0 and 1 writes one fault line.
@@ -93,6 +94,9 @@ pub fn run_words<N: Files + Logs, I: Source + Drop, O: Sink, F: Sink>(
         Ok(Request::PlanAudit(log, plan)) => run_plan_audit(
             alloc, files, log, plan, output, faults,
         ),
+        Ok(Request::Split(plan, owners)) => {
+            run_split(alloc, files, plan, owners, output, faults)
+        }
         Ok(Request::Help(text)) => show(text.as_str(), output, faults),
         Err(NoRequest::Words(text)) => refuse_words(text, faults),
         Err(NoRequest::Memory) => complain(

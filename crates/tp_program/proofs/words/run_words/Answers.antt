@@ -1,7 +1,7 @@
 use Rattle.std.proofs.Common.{◌∙◌, List, ℕ, arith, inl, inr, refl, subst}
 use Rattle.tp_device.proofs.Parts.{appends_none}
 use Rattle.tp_files.specs.FaultLines.{Tells}
-use Rattle.tp_arguments.specs.declared.requests.Request.TheVariants.{Bare, BareLog, Check, Net, Run, RunLog, Plan, Audit, PlanAudit, Help}
+use Rattle.tp_arguments.specs.declared.requests.Request.TheVariants.{Bare, BareLog, Check, Net, Run, RunLog, Plan, Audit, PlanAudit, Split, Help}
 use Rattle.tp_program.specs.CallFiles.{call_files}
 use Rattle.tp_program.specs.Endings.{StopsHelp}
 use Rattle.tp_program.proofs.StreamLemmas.{logs_part}
@@ -95,6 +95,11 @@ pub returns-in-Ok-PlanAudit-clause-stopped : goal.returns-in-Ok-PlanAudit-clause
 returns-in-Ok-PlanAudit-clause-stopped g c =
     λ two.
     inr (inr (PlanAudit c.in-Ok-PlanAudit.log c.in-Ok-PlanAudit.plan, rw c.in-Ok-PlanAudit.field-0-is at c.in-Ok-PlanAudit.ensures.asked, c.run_plan_audit.ensures.stopped two))
+
+pub returns-in-Ok-Split-clause-stopped : goal.returns-in-Ok-Split-clause-stopped
+returns-in-Ok-Split-clause-stopped g c =
+    λ two.
+    inr (inr (Split c.in-Ok-Split.plan c.in-Ok-Split.owners, rw c.in-Ok-Split.field-0-is at c.in-Ok-Split.ensures.asked, c.run_split.ensures.stopped two))
 
 pub returns-in-Ok-Help-clause-stopped : goal.returns-in-Ok-Help-clause-stopped
 returns-in-Ok-Help-clause-stopped g c =

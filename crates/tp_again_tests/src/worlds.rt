@@ -1,0 +1,49 @@
+//! The small domains and problems, and their tasks.
+
+use std::alloc::Global;
+use std::test::Fail;
+use tp_bounds::Limits;
+use tp_ground::ground;
+use tp_small_worlds::{CHARGE, EMPTY_TANK, MATCH, MATCHES, TANK, TOGGLE, TOGGLED, UNCHARGED};
+use tp_syntax::{Domain, read_domain, read_problem};
+use tp_task::Task;
+use tp_text::Scale;
+
+/// A domain and a problem.
+#[derive(Clone, Copy)]
+pub(crate) struct World<'a> {
+    pub(crate) domain: &'a str,
+    pub(crate) problem: &'a str,
+}
+
+pub(crate) const FUSES: World<'static> = World {
+    domain: MATCH,
+    problem: MATCHES,
+};
+
+pub(crate) const SWITCHES: World<'static> = World {
+    domain: TOGGLE,
+    problem: TOGGLED,
+};
+
+pub(crate) const TANKS: World<'static> = World {
+    domain: TANK,
+    problem: EMPTY_TANK,
+};
+
+pub(crate) const CHARGES: World<'static> = World {
+    domain: CHARGE,
+    problem: UNCHARGED,
+};
+
+fn task_in(alloc: Global, domain: &Domain, problem: &str) -> Result<Task, Fail> {
+    let problem = again!(read_problem(alloc, problem, domain))?;
+    let limits = Limits::greatest(100);
+    Ok(again!(ground(alloc, domain, &problem, &limits, Scale::One))?)
+}
+
+/// The task of a world, up to 100 ticks.
+pub(crate) fn task_of(alloc: Global, world: World<'_>) -> Result<Task, Fail> {
+    let domain = again!(read_domain(alloc, world.domain))?;
+    task_in(alloc, &domain, world.problem)
+}

@@ -1,0 +1,17 @@
+pub mod Apart
+pub mod InForce
+pub mod Lists
+pub mod Ends
+pub mod Fitting
+pub mod OnSettings
+pub mod Gathered
+pub mod Rows
+pub mod Places
+pub mod Told
+pub mod Decoupling
+pub mod OnParts
+pub mod Words
+pub mod Kept
+pub mod Joins
+pub mod Inner
+pub mod PartNets

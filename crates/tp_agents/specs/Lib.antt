@@ -1,0 +1,10 @@
+pub mod Owners
+pub mod Texts
+pub mod Crosses
+pub mod Intervals
+pub mod Parts
+pub mod Splits
+pub mod Joined
+pub mod Decoupled
+pub mod Interleaved
+pub mod Answers

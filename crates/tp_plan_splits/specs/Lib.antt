@@ -1,0 +1,4 @@
+pub mod Divides
+pub mod IntervalLines
+pub mod Splits
+pub mod Stops
