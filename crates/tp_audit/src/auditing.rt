@@ -407,7 +407,8 @@ fn take_pair<N: Net, R: Source>(
 /// a time, and for what the commands take. The executive is dropped.
 ///
 /// # Errors
-/// `Line(n)` where line n is the first that breaks the format, or does not end within 2^32 bytes;
+/// `Line(n)` where line n is the first that breaks the format, or does not end within the bytes
+/// that the lines may take, 2^32 unless they were made with another limit;
 /// `Wrong(n)` where the lines before are a journal and the machine does not allow that answer;
 /// `Head` for the head of another executive; `Memory` where a growth is refused; `Read` where the
 /// reader fails.

@@ -240,7 +240,7 @@ fn take_turn<N: Net, R: Source, W: Sink, V: Sink>(
 ///
 /// # Errors
 /// `Read` where the reader fails, `Write` where `answers` does, `Log` where `log` does; `TooLong` where the reader has more
-/// than 2^32 bytes.
+/// bytes than the lines may take, 2^32 unless they were made with another limit.
 pub fn journal<N: Net, R: Source, W: Sink, V: Sink>(
     executive: &mut Executive<N>,
     lines: &mut Lines<R>,
