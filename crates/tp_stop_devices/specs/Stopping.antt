@@ -1,5 +1,5 @@
 -- Where a device stops, and what contracts see of devices that do.
-use Rattle.std.specs.Prelude.{ℕ, ◌-◌, min, nat_eq, if◌then◌else◌, List, Option, Some, None, Result, Ok, Err}
+use Rattle.std.specs.Prelude.{ℕ, ◌-◌, min, nat_eq, if◌then◌else◌, List, length, Option, Some, None, Result, Ok, Err}
 use Rattle.tp_stop_devices.specs.declared.stops.Stop.{Stop}
 use Rattle.tp_stop_devices.specs.declared.stops.Stop.TheVariants.{Never, Bytes, Call}
 
@@ -26,6 +26,10 @@ pub record Giving : Type 0 where
   pub most : ℕ
   pub stop : Stop
   pub failures : ℕ
+
+-- how many bytes a call may give into a buffer of so many
+abbrev pub room_of : Giving → ℕ → ℕ
+room_of g buffer = min (min g.most buffer) (length g.left)
 
 -- a sink: the bytes that it holds, how many a call takes at most, where it stops, how often it has failed
 pub record Taking : Type 0 where

@@ -1,6 +1,6 @@
 //! Bytes that are written.
 
-ghost use Rattle.std.specs.Prelude.{◌≡◌, ◌<◌, ◌≤◌, length, min, Some, None, IfOk, MatchResult};
+ghost use Rattle.std.specs.Prelude.{◌≡◌, ◌<◌, ◌≤◌, length, max, min, Some, None, IfOk, MatchResult};
 ghost use Rattle.std.specs.Io.KnownBytes.{WriteAppends};
 ghost use Rattle.tp_device.specs.Bytes.{failures_after};
 ghost use Rattle.tp_stop_devices.specs.Stopping.{Taking, share_of, stop_after, passed};
@@ -36,17 +36,16 @@ impl<L: Ledger> Model for StopSink<L> {
 }
 
 impl<L: Ledger> StopSink<L> {
-    /// The text, behind which a call takes at most `most` bytes. Its failures are counted in the blank ledger.
+    /// The text, behind which a call takes at most `most` bytes, or one where that is 0. Its failures are counted in the blank ledger.
     pub fn new(text: Vec<u8>, most: usize, stop: Stop, blank: Blank) -> Self
-        requires most { 0 < most }
         requires name { blank.name ≡ L.name }
         requires parts { blank.parts ≡ L.parts }
         requires some { 0 < blank.parts }
-        ensures { result ≡ record { held = text.items; most = most; stop = stop; failures = 0 } }
+        ensures { result ≡ record { held = text.items; most = max most 1; stop = stop; failures = 0 } }
     {
         StopSink {
             text,
-            most,
+            most: most.max(1),
             stop,
             failed: FailureCount::new(blank),
         }

@@ -1,9 +1,9 @@
 //! Bytes that are read.
 
-ghost use Rattle.std.specs.Prelude.{◌≡◌, ◌<◌, ◌≤◌, length, min, Some, None, IfOk, MatchResult};
+ghost use Rattle.std.specs.Prelude.{◌≡◌, ◌<◌, ◌≤◌, length, max, Some, None, IfOk, MatchResult};
 ghost use Rattle.std.specs.Io.KnownBytes.{ReadConsumes};
 ghost use Rattle.tp_device.specs.Bytes.{failures_after};
-ghost use Rattle.tp_stop_devices.specs.Stopping.{Giving, share_of, stop_after, passed};
+ghost use Rattle.tp_stop_devices.specs.Stopping.{Giving, room_of, share_of, stop_after, passed};
 
 use crate::stops::Stop;
 use std::marker::Model;
@@ -36,17 +36,16 @@ impl<'a, L: Ledger> Model for StopSource<'a, L> {
 }
 
 impl<'a, L: Ledger> StopSource<'a, L> {
-    /// These bytes, of which a call gives at most `most`. Its failures are counted in the blank ledger.
+    /// These bytes, of which a call gives at most `most`, or one where that is 0. Its failures are counted in the blank ledger.
     pub fn new(bytes: &'a [u8], most: usize, stop: Stop, blank: Blank) -> Self
-        requires most { 0 < most }
         requires name { blank.name ≡ L.name }
         requires parts { blank.parts ≡ L.parts }
         requires some { 0 < blank.parts }
-        ensures { result ≡ record { left = bytes.now; most = most; stop = stop; failures = 0 } }
+        ensures { result ≡ record { left = bytes.now; most = max most 1; stop = stop; failures = 0 } }
     {
         StopSource {
             bytes,
-            most,
+            most: most.max(1),
             stop,
             failed: FailureCount::new(blank),
         }
@@ -66,10 +65,9 @@ impl<L: Ledger> Source for StopSource<'_, L> {
         ensures within { IfOk result (λ n. n ≤ length buffer.old) }
         ensures bytes { ReadConsumes (Some self.old.left) (Some self.new.left) result buffer.new }
         ensures cause { self.new.failures ≡ failures_after self.old.failures result }
-        ensures share { let most = min (min self.old.most (length buffer.old)) (length self.old.left) in
-            MatchResult result
-            (λ n. share_of self.old.stop most ≡ Some n)
-            (λ _. share_of self.old.stop most ≡ None) }
+        ensures share { MatchResult result
+            (λ n. share_of self.old.stop (room_of self.old (length buffer.old)) ≡ Some n)
+            (λ _. share_of self.old.stop (room_of self.old (length buffer.old)) ≡ None) }
         ensures stop { self.new.stop ≡ stop_after self.old.stop (passed result) }
         ensures most { self.new.most ≡ self.old.most }
     {

@@ -89,7 +89,7 @@ pub(crate) fn source_of<L: Ledger>(bytes: &[u8], device: Device, blank: Blank) -
     requires parts { blank.parts ≡ L.parts }
     requires some { 0 < blank.parts }
 {
-    StopSource::new(bytes, device.pace.max(1), device.stop, blank)
+    StopSource::new(bytes, device.pace, device.stop, blank)
 }
 
 /// A sink behind an empty text.
@@ -98,7 +98,7 @@ pub(crate) fn sink_of<L: Ledger>(alloc: Global, device: Device, blank: Blank) ->
     requires parts { blank.parts ≡ L.parts }
     requires some { 0 < blank.parts }
 {
-    StopSink::new(Vec::new(alloc), device.pace.max(1), device.stop, blank)
+    StopSink::new(Vec::new(alloc), device.pace, device.stop, blank)
 }
 
 /// An executive over the network of the head.
