@@ -13,7 +13,6 @@ use Rattle.tp_bounds.specs.declared.Bound.{Bound}
 use Rattle.tp_bounds.specs.declared.plan_nets.PlanNet.{PlanNet}
 use Rattle.tp_task.specs.declared.task.Task.{Task}
 use Rattle.tp_happen.specs.declared.plans.Step.{Step}
-use Rattle.tp_validate.specs.Answers.{IsVerdict}
 use Rattle.tp_validate.specs.OfTask.{IsValidPlan, plan_of}
 use Rattle.tp_validate.specs.declared.verdicts.Verdict.{Verdict}
 use Rattle.tp_validate.specs.declared.verdicts.Verdict.TheVariants.{Valid, Invalid}
@@ -29,10 +28,11 @@ use Rattle.tp_files.specs.declared.files.FileFault.TheVariants as file_fault
 use Rattle.tp_plan_files.specs.Named.{IsIn, IsNamedPlan}
 use Rattle.tp_plan_files.specs.declared.plan_words.PlanWords.{PlanWords}
 use Rattle.tp_plan_files.proofs.NamedLemmas.{Same, explains_over, plan_over}
-use Rattle.tp_plan_runs.proofs.RunLemmas.{invalid_over, invalid_part_over}
+use Rattle.tp_plan_runs.specs.Runs.{RunsNamed}
+use Rattle.tp_plan_runs.proofs.RunLemmas.{Judged, invalid_over, invalid_part_over}
 use Rattle.tp_plan_runs.proofs.StatusLemmas.{IsStatus, judge_is, network_is, three, two}
 use Rattle.tp_plan_splits.specs.Divides.{IsMisread, IsMistold, StopsAmong, StopsDividing, StopsPlan, net_setting}
-use Rattle.tp_plan_splits.specs.Splits.{EndsSplit, IsSoOfNamed, Splits, SplitsPart, StopsSplit, StopsTelling, StopsWriting, TellsSplit, WritesPlan, WritesSome}
+use Rattle.tp_plan_splits.specs.Splits.{EndsSplit, Splits, SplitsPart, StopsSplit, StopsTelling, StopsWriting, TellsSplit, WritesPlan, WritesSome}
 use Rattle.tp_plan_splits.specs.Stops.{split_failures, split_status, split_text}
 use Rattle.tp_plan_splits.specs.declared.stops.SplitStop.{SplitStop}
 use Rattle.tp_plan_splits.specs.declared.stops.SplitStop.TheVariants.{Judging, Network, Setting as NoSetting, OwnersFile, Owner, Memory, Conflict, Write}
@@ -96,10 +96,6 @@ module _ (task : Task) (steps : List Step) (horizon : ℕ) (net : PlanNet) (is_n
 
 -- ---- from a verdict to the words
 
--- the steps of the plan that the words name, and their verdict
-abbrev pub Judged : (List ℕ → Option (List ℕ)) → PlanWords → Task → Verdict → Type 0
-Judged held w task verdict = (steps : List Step) × IsNamedPlan held w task steps × IsVerdict task steps verdict
-
 pub splits_named : (held : List ℕ → Option (List ℕ)) (w : PlanWords) (owners : List ℕ) (task : Task) (verdict : Verdict) (before now : Option (List ℕ)) (valid : Bool) → Judged held w task verdict → TellsSplit verdict w.horizon (held owners) before now valid → Splits held w owners before now valid
 splits_named held w owners task (Valid plan) before now valid judged h =
     subst (Splits held w owners before now) (sym h.0) (
@@ -135,7 +131,7 @@ stops_named held w owners task (Invalid plan tick why) before now stop judged h 
 
 -- ---- the same of files that hold the same
 
-named_over : (a b : List ℕ → Option (List ℕ)) (w : PlanWords) (owners : List ℕ) (is : Option (List ℕ) → Task → List Step → Type 0) → Same a b → IsSoOfNamed a w (is (a owners)) → IsSoOfNamed b w (is (b owners))
+named_over : (a b : List ℕ → Option (List ℕ)) (w : PlanWords) (owners : List ℕ) (is : Option (List ℕ) → Task → List Step → Type 0) → Same a b → RunsNamed a w (is (a owners)) → RunsNamed b w (is (b owners))
 named_over a b w owners is same h = (h.0, h.1, plan_over a b w h.0 h.1 same h.2, h.3, subst (λ held. is held h.0 h.1) (same owners) h.4)
 
 pub splits_over : (a b : List ℕ → Option (List ℕ)) (w : PlanWords) (owners : List ℕ) (before now : Option (List ℕ)) (valid : Bool) → Same a b → Splits a w owners before now valid → Splits b w owners before now valid

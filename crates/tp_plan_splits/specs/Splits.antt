@@ -4,15 +4,14 @@ use Rattle.std.specs.Io.KnownBytes.{Appends}
 use Rattle.tp_device.specs.Bytes.{AppendsPart}
 use Rattle.tp_task.specs.declared.task.Task.{Task}
 use Rattle.tp_happen.specs.declared.plans.Step.{Step}
-use Rattle.tp_validate.specs.OfTask.{IsValidPlan}
 use Rattle.tp_validate.specs.declared.verdicts.Verdict.{Verdict}
 use Rattle.tp_validate.specs.declared.verdicts.Verdict.TheVariants.{Valid, Invalid}
 use Rattle.tp_files.specs.FaultLines.{Tells}
 use Rattle.tp_plan_files.specs.Causes.{Explains}
-use Rattle.tp_plan_files.specs.Named.{IsNamedPlan}
 use Rattle.tp_plan_files.specs.VerdictLines.{invalid_line}
 use Rattle.tp_plan_files.specs.declared.plan_words.PlanWords.{PlanWords}
 use Rattle.tp_plan_runs.specs.Invalid.{SaysInvalid, SaysInvalidPart}
+use Rattle.tp_plan_runs.specs.Runs.{RunsNamed}
 use Rattle.tp_plan_splits.specs.Divides.{DividesPlan, StopsPlan}
 use Rattle.tp_plan_splits.specs.Stops.{split_failures, split_status, split_text}
 use Rattle.tp_plan_splits.specs.declared.stops.SplitStop.{SplitStop}
@@ -61,19 +60,12 @@ StopsTelling (Valid plan) horizon owners_held before now stop =
 StopsTelling (Invalid plan tick why) horizon owners_held before now stop =
     (stop ≡ Write) × AppendsPart before now (invalid_line tick why)
 
--- the plan that the words name is valid, and this is so of it
-abbrev pub IsSoOfNamed : (List ℕ → Option (List ℕ)) → PlanWords → (Task → List Step → Type 0)
-    → Type 0
-IsSoOfNamed held w is =
-    (task : Task) × (steps : List Step) × IsNamedPlan held w task steps × IsValidPlan task steps
-    × is task steps
-
 -- the plan that the words name is valid, and the intervals into which its network is split among the agents in the file of that name
 -- were written
 abbrev pub WritesSplit : (List ℕ → Option (List ℕ)) → PlanWords → List ℕ → Option (List ℕ)
     → Option (List ℕ) → Type 0
 WritesSplit held w owners before now =
-    IsSoOfNamed held w (λ task steps. WritesPlan task steps w.horizon (held owners) before now)
+    RunsNamed held w (λ task steps. WritesPlan task steps w.horizon (held owners) before now)
 
 -- they were written, or the first fault of a plan that is not valid
 abbrev pub Splits : (List ℕ → Option (List ℕ)) → PlanWords → List ℕ → Option (List ℕ)
@@ -86,27 +78,27 @@ abbrev pub StopsSplit : (List ℕ → Option (List ℕ)) → PlanWords → List 
     → Option (List ℕ) → SplitStop → Type 0
 StopsSplit held w owners before now (Judging fault) = Explains held w fault × (now ≡ before)
 StopsSplit held w owners before now (Network fault) =
-    IsSoOfNamed held w (λ task steps. StopsPlan task steps w.horizon (held owners) (Network fault))
+    RunsNamed held w (λ task steps. StopsPlan task steps w.horizon (held owners) (Network fault))
     × (now ≡ before)
 StopsSplit held w owners before now Setting = now ≡ before
 StopsSplit held w owners before now (OwnersFile fault) =
-    IsSoOfNamed held w (λ task steps.
+    RunsNamed held w (λ task steps.
     StopsPlan task steps w.horizon (held owners) (OwnersFile fault)) × (now ≡ before)
 StopsSplit held w owners before now (Owner e) =
-    IsSoOfNamed held w (λ task steps. StopsPlan task steps w.horizon (held owners) (Owner e))
+    RunsNamed held w (λ task steps. StopsPlan task steps w.horizon (held owners) (Owner e))
     × (now ≡ before)
 StopsSplit held w owners before now Memory = now ≡ before
 StopsSplit held w owners before now Conflict = ⊥
 StopsSplit held w owners before now Write =
     SaysInvalidPart held w before now
-    ⊎ IsSoOfNamed held w (λ task steps. WritesSome task steps w.horizon (held owners) before now)
+    ⊎ RunsNamed held w (λ task steps. WritesSome task steps w.horizon (held owners) before now)
 
 -- nothing was written, or a first part of what is written of the plan that the words name
 abbrev pub SplitsPart : (List ℕ → Option (List ℕ)) → PlanWords → List ℕ → Option (List ℕ)
     → Option (List ℕ) → Type 0
 SplitsPart held w owners before now =
     Appends before now [] ⊎ (SaysInvalidPart held w before now
-    ⊎ IsSoOfNamed held w (λ task steps. WritesSome task steps w.horizon (held owners) before now))
+    ⊎ RunsNamed held w (λ task steps. WritesSome task steps w.horizon (held owners) before now))
 
 -- It stopped so with that status, and that was told. A failed write is one that the count of failures tells of.
 pub record EndsSplit (held : List ℕ → Option (List ℕ)) (w : PlanWords) (owners : List ℕ)
