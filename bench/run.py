@@ -262,6 +262,15 @@ def yard_problem():
     return f"(define (problem q) (:domain yard) (:objects {objects}) (:init {each('(idle t#)', 59)} (free g3)) (:goal (at t0 p0)))"
 
 
+def orders(program):
+    """Networks of plans whose events all interfere: 512 in a row, and 1,024 that are numbered from the last to the first."""
+    problem = "(define (problem q) (:domain line) (:init (= (x) 0)) (:goal ()))"
+    once = "(define (domain line) (:functions (x)) (:action set :effect (assign (x) 1)))"
+    judged(program, "the network of 512 steps in a row that interfere", once, problem, "".join(f"{k}: (set)\n" for k in range(512)), "net")
+    twice = "(define (domain line) (:functions (x)) (:durative-action set :parameters () :duration (= ?duration 1) :effect (and (at start (assign (x) 1)) (at end (assign (x) 2)))))"
+    judged(program, "that of 1,024 such events, numbered backwards", twice, problem, "".join(f"{2 * k}: (set) [1]\n" for k in reversed(range(512))), "net")
+
+
 def checks(program):
     """Verdicts on large plans, tasks and texts."""
     domain, problem = wide(1000)
@@ -272,6 +281,7 @@ def checks(program):
     judged(program, "512 steps at one tick, on the same task", PLACES, problem, marks())
     judged(program, "no step, on the same task", PLACES, problem, "")
     judged(program, "the network of 512 steps side by side, on the same task", PLACES, problem, visits(), "net")
+    orders(program)
     at_once(program)
     judged(program, "59,319 ground actions of three objects, one step", TRIPLES, triples_problem(39), "0: (a o0 o1 o2)\n")
     last = "".join(f"{k}: (a o39 o39 o39)\n" for k in range(512))
