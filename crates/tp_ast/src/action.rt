@@ -1,7 +1,7 @@
 //! Actions.
 
 use crate::cond::Cond;
-use crate::constraint::DurationConstraint;
+use crate::constraint::DurationRule;
 use crate::effect::Effect;
 use crate::symbols::Typed;
 use crate::timed::{TimedCond, TimedEffect};
@@ -16,7 +16,7 @@ pub enum Body {
     },
     /// It has a start, an end and the time between them.
     Durative {
-        duration: DurationConstraint,
+        duration: DurationRule,
         condition: TimedCond,
         effect: TimedEffect,
     },

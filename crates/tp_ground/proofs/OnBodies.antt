@@ -3,7 +3,7 @@ use Rattle.std.proofs.Common.{◌≡◌, List, [], map, Result, IsErrAnd, Vec, G
 use Rattle.tp_ast.specs.ConstraintViews.{constraint_view}
 use Rattle.tp_ast.specs.EffectViews.{timed_condition_view, timed_effect_view}
 use Rattle.tp_ast.specs.DomainViews.{body_view}
-use Rattle.tp_ast.specs.declared.constraint.DurationConstraint.{DurationConstraint}
+use Rattle.tp_ast.specs.declared.constraint.DurationRule.{DurationRule}
 use Rattle.tp_ast.specs.declared.joined.Joined.{Joined}
 use Rattle.tp_ast.specs.declared.timed.Timed.{Timed}
 use Rattle.tp_ast.specs.declared.effect.SimpleEffect.{SimpleEffect}
@@ -76,7 +76,7 @@ pub instant_lowered : (a b : WriterView) (e : GroundEvent) (h : GroundHappening)
 instant_lowered a b e h m l = lowered_as instant (Instant e) (λ t. refl) l
 
 -- a durative action, its ends and its invariant numbered one after another
-module _ (u : Universe) (env : Env) (x : syntax.Body) (r : DurationConstraint) (c : Joined (Timed syntax_conds.Cond)) (f : Joined (Timed (Joined SimpleEffect))) (is : x ≡ bodies.Durative r c f) where
+module _ (u : Universe) (env : Env) (x : syntax.Body) (r : DurationRule) (c : Joined (Timed syntax_conds.Cond)) (f : Joined (Timed (Joined SimpleEffect))) (is : x ≡ bodies.Durative r c f) where
   abbrev of_ends : Mentions
   of_ends = of_start u env (constraint_view r) (timed_condition_view c) (timed_effect_view f) then of_end u env (timed_condition_view c) (timed_effect_view f)
 

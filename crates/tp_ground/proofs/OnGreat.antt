@@ -12,8 +12,8 @@ use Rattle.tp_ast.specs.declared.joined.Joined as joins
 use Rattle.tp_ast.specs.declared.joined.Joined.{Joined}
 use Rattle.tp_ast.specs.Effects.{all_constraints, constraints_in}
 use Rattle.tp_ast.specs.ConstraintViews.{constraint_view}
-use Rattle.tp_ast.specs.declared.constraint.DurationConstraint as the_constraints
-use Rattle.tp_ast.specs.declared.constraint.DurationConstraint.{DurationConstraint}
+use Rattle.tp_ast.specs.declared.constraint.DurationRule as the_constraints
+use Rattle.tp_ast.specs.declared.constraint.DurationRule.{DurationRule}
 use Rattle.tp_ground.specs.Great.{great_condition, great_conditions, great_part, great_parts, great_constraint, great_constraints}
 
 -- a loop that has seen none so far sees none
@@ -47,15 +47,15 @@ module _ {A B : Type 0} (seen : A → B) (great : B → Bool) where
   pub great_parts_And : (c : Joined A) (v : Vec (Joined A) Global) (cs : List (Joined A)) (b : Bool) → c ≡ joins.And v → cs ≡ v.items → b ≡ list_any (λ p. great_part great (joined_view seen p)) cs → b ≡ great_part great (joined_view seen c)
   great_parts_And c v cs b is items found = found ∙ sym (great_each_part cs) ∙ ap (λ (ds : List (Joined A)). great_parts great (parts (map (joined_view seen) ds))) items ∙ sym (ap (λ d. great_part great (joined_view seen d)) is ∙ ap (great_part great) (part_And v))
 
-pub constraint_And : (v : Vec DurationConstraint Global) → constraint_view (the_constraints.And v) ≡ all_constraints (constraints_in (map constraint_view v.items))
+pub constraint_And : (v : Vec DurationRule Global) → constraint_view (the_constraints.And v) ≡ all_constraints (constraints_in (map constraint_view v.items))
 constraint_And v = search (rules, the_constraints.the_lemmas)
 
-great_each_constraint : (rs : List DurationConstraint) → great_constraints (constraints_in (map constraint_view rs)) ≡ list_any (λ r. great_constraint (constraint_view r)) rs
+great_each_constraint : (rs : List DurationRule) → great_constraints (constraints_in (map constraint_view rs)) ≡ list_any (λ r. great_constraint (constraint_view r)) rs
 great_each_constraint [] = refl
 great_each_constraint (r ∷ rs) = ap (λ b. great_constraint (constraint_view r) || b) (great_each_constraint rs)
 
-pub great_constraints_And : (c : DurationConstraint) (v : Vec DurationConstraint Global) (cs : List DurationConstraint) (b : Bool) → c ≡ the_constraints.And v → cs ≡ v.items → b ≡ list_any (λ r. great_constraint (constraint_view r)) cs → b ≡ great_constraint (constraint_view c)
-great_constraints_And c v cs b is items found = found ∙ sym (great_each_constraint cs) ∙ ap (λ (ds : List DurationConstraint). great_constraints (constraints_in (map constraint_view ds))) items ∙ sym (ap (λ d. great_constraint (constraint_view d)) is ∙ ap great_constraint (constraint_And v))
+pub great_constraints_And : (c : DurationRule) (v : Vec DurationRule Global) (cs : List DurationRule) (b : Bool) → c ≡ the_constraints.And v → cs ≡ v.items → b ≡ list_any (λ r. great_constraint (constraint_view r)) cs → b ≡ great_constraint (constraint_view c)
+great_constraints_And c v cs b is items found = found ∙ sym (great_each_constraint cs) ∙ ap (λ (ds : List DurationRule). great_constraints (constraints_in (map constraint_view ds))) items ∙ sym (ap (λ d. great_constraint (constraint_view d)) is ∙ ap great_constraint (constraint_And v))
 
 pub any_map : {X Y : Type 0} (p : Y → Bool) (f : X → Y) (xs : List X) → list_any p (map f xs) ≡ list_any (λ x. p (f x)) xs
 any_map p f [] = refl

@@ -14,8 +14,8 @@ use Rattle.tp_ast.specs.declared.expr.Expr.{Expr}
 use Rattle.tp_ast.specs.declared.symbols.Typed.{Typed}
 use Rattle.tp_ast.specs.declared.joined.Joined as joins
 use Rattle.tp_ast.specs.declared.joined.Joined.{Joined}
-use Rattle.tp_ast.specs.declared.constraint.DurationConstraint as the_constraints
-use Rattle.tp_ast.specs.declared.constraint.DurationConstraint.{DurationConstraint}
+use Rattle.tp_ast.specs.declared.constraint.DurationRule as the_constraints
+use Rattle.tp_ast.specs.declared.constraint.DurationRule.{DurationRule}
 use Rattle.tp_ground.specs.Bindings.{Universe, Env, bound}
 use Rattle.tp_ground.specs.Written.{parts_in, all_parts_in, inner, limits_in, all_limits_in, comparison_of, expression_in}
 
@@ -53,18 +53,18 @@ part_under u read seen vs env p b = parts_in u read (bound vs b ++ env) (joined_
 abbrev pub part_in : {A B C : Type 0} → Universe → (Env → B → List C) → (A → B) → Joined A → Env → List C
 part_in u read seen p env = parts_in u read env (joined_view seen p)
 
-module _ (env : Env) (x : DurationConstraint) where
-  constraint_And : (v : Vec DurationConstraint Global) → constraint_view (the_constraints.And v) ≡ all_constraints (constraints_in (map constraint_view v.items))
+module _ (env : Env) (x : DurationRule) where
+  constraint_And : (v : Vec DurationRule Global) → constraint_view (the_constraints.And v) ≡ all_constraints (constraints_in (map constraint_view v.items))
   constraint_And v = search (rules, the_constraints.the_lemmas)
 
   constraint_Limit : (op : Comparison) (y : Expr) → constraint_view (the_constraints.Limit op y) ≡ constraint op (expr_view y)
   constraint_Limit op y = search (rules, the_constraints.the_lemmas)
 
-  each_constraint : (rs : List DurationConstraint) → all_limits_in env (constraints_in (map constraint_view rs)) ≡ flat_map (λ r. limits_in env (constraint_view r)) rs
+  each_constraint : (rs : List DurationRule) → all_limits_in env (constraints_in (map constraint_view rs)) ≡ flat_map (λ r. limits_in env (constraint_view r)) rs
   each_constraint [] = refl
   each_constraint (r ∷ rs) = ap (λ ls. limits_in env (constraint_view r) ++ ls) (each_constraint rs) ∙ sym (flat_map-cons (λ r. limits_in env (constraint_view r)) r rs)
 
-  pub limits_of : (v : Vec DurationConstraint Global) (rs : List DurationConstraint) → x ≡ the_constraints.And v → rs ≡ v.items → limits_in env (constraint_view x) ≡ flat_map (λ r. limits_in env (constraint_view r)) rs
+  pub limits_of : (v : Vec DurationRule Global) (rs : List DurationRule) → x ≡ the_constraints.And v → rs ≡ v.items → limits_in env (constraint_view x) ≡ flat_map (λ r. limits_in env (constraint_view r)) rs
   limits_of v rs is items = ap (λ y. limits_in env (constraint_view y)) is ∙ ap (limits_in env) (constraint_And v) ∙ each_constraint v.items ∙ ap (flat_map (λ r. limits_in env (constraint_view r))) (sym items)
 
   pub limit_of : (op : Comparison) (y : Expr) → x ≡ the_constraints.Limit op y → limits_in env (constraint_view x) ≡ record { how = comparison_of op; value = expression_in env (expr_view y) } ∷ []

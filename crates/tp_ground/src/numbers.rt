@@ -14,7 +14,7 @@ ghost use Rattle.tp_ground.specs.Great.{is_great, great_expression, great_condit
 
 use tp_ast::action::{Action, Body};
 use tp_ast::cond::Cond;
-use tp_ast::constraint::DurationConstraint;
+use tp_ast::constraint::DurationRule;
 use tp_ast::domain::Domain;
 use tp_ast::effect::{Effect, SimpleEffect};
 use tp_ast::expr::Expr;
@@ -147,7 +147,7 @@ impl Numbers for Timed<Effect> {
 }
 
 #[cycle(constraint_is_great)]
-fn some_constraint_is_great(constraints: &[DurationConstraint]) -> bool
+fn some_constraint_is_great(constraints: &[DurationRule]) -> bool
     ensures { result ≡ list_any (λ r. great_constraint (constraint_view r)) constraints.now }
 {
     for constraint in constraints {
@@ -159,12 +159,12 @@ fn some_constraint_is_great(constraints: &[DurationConstraint]) -> bool
 }
 
 #[cycle(constraint_is_great)]
-fn constraint_is_great(constraint: &DurationConstraint) -> bool
+fn constraint_is_great(constraint: &DurationRule) -> bool
     ensures { result ≡ great_constraint (constraint_view constraint.now) }
 {
     match constraint {
-        DurationConstraint::And(constraints) => some_constraint_is_great(constraints),
-        DurationConstraint::Limit(_, value) => expression_is_great(value),
+        DurationRule::And(constraints) => some_constraint_is_great(constraints),
+        DurationRule::Limit(_, value) => expression_is_great(value),
     }
 }
 

@@ -24,7 +24,7 @@ use Rattle.tp_ast.specs.declared.symbols.Typed.{Typed}
 use Rattle.tp_ast.specs.declared.cond.Cond.{Cond}
 use Rattle.tp_ast.specs.declared.effect.SimpleEffect.{SimpleEffect}
 use Rattle.tp_ast.specs.declared.timed.Timed.{Timed}
-use Rattle.tp_ast.specs.declared.constraint.DurationConstraint.{DurationConstraint}
+use Rattle.tp_ast.specs.declared.constraint.DurationRule.{DurationRule}
 use Rattle.tp_ast.specs.declared.action.Body.{Body}
 use Rattle.tp_ast.specs.declared.action.Body.TheVariants.{Instant, Durative}
 use Rattle.tp_ast.proofs.OnParts.{and_view, forall_view}
@@ -144,7 +144,7 @@ instant_text b c e is =
     ap (λ (l : List ℕ). codes " :precondition " ++ (shape_text (condition_shape (cond_view c)) ++ (codes " :effect " ++ l))) (sym (append-nil (shape_text (effect_shape (effect_view e)))))
     ∙ ap (λ (d : Body). more_text (body_shapes (body_view d))) (sym is)
 
-pub durative_text : (b : Body) (r : DurationConstraint) (c : Joined (Timed Cond)) (e : Joined (Timed (Joined SimpleEffect))) → b ≡ Durative r c e → codes " :duration " ++ (shape_text (constraint_shape (constraint_view r)) ++ more_text (timed_shapes (timed_condition_view c) (timed_effect_view e))) ≡ more_text (body_shapes (body_view b))
+pub durative_text : (b : Body) (r : DurationRule) (c : Joined (Timed Cond)) (e : Joined (Timed (Joined SimpleEffect))) → b ≡ Durative r c e → codes " :duration " ++ (shape_text (constraint_shape (constraint_view r)) ++ more_text (timed_shapes (timed_condition_view c) (timed_effect_view e))) ≡ more_text (body_shapes (body_view b))
 durative_text b r c e is = ap (λ (d : Body). more_text (body_shapes (body_view d))) (sym is)
 
 pub action_text : (w n f : List ℕ) → (40 ∷ (w ++ 32 ∷ [])) ++ (n ++ (f ++ 41 ∷ 10 ∷ [])) ≡ (40 ∷ ((w ++ 32 ∷ (n ++ f)) ++ 41 ∷ [])) ++ 10 ∷ []

@@ -21,7 +21,7 @@ ghost use Rattle.tp_print.specs.DomainTexts.{Took, item_text, operands_text, spe
 
 use itoa::Buffer;
 use tp_ast::cond::Cond;
-use tp_ast::constraint::DurationConstraint;
+use tp_ast::constraint::DurationRule;
 use tp_ast::effect::{Effect, SimpleEffect};
 use tp_ast::expr::Expr;
 use tp_ast::joined::Joined;
@@ -473,10 +473,7 @@ impl Printed for Timed<Effect> {
 
 // Duration constraints, each after a space.
 #[cycle(print_constraint)]
-fn print_constraints<W: Sink>(
-    writer: &mut W,
-    constraints: &[DurationConstraint],
-) -> Result<(), Failed>
+fn print_constraints<W: Sink>(writer: &mut W, constraints: &[DurationRule]) -> Result<(), Failed>
     ensures bytes { OnOk result (Took (W.held writer.old)
         (W.held writer.new)
         (more_text (constraint_shapes (constraints_in (map constraint_view constraints.now))))) }
@@ -490,22 +487,19 @@ fn print_constraints<W: Sink>(
 }
 
 #[cycle(print_constraint)]
-pub fn print_constraint<W: Sink>(
-    writer: &mut W,
-    constraint: &DurationConstraint,
-) -> Result<(), Failed>
+pub fn print_constraint<W: Sink>(writer: &mut W, constraint: &DurationRule) -> Result<(), Failed>
     ensures bytes { OnOk result (Took
         (W.held writer.old) (W.held writer.new)
         (shape_text (constraint_shape (constraint_view constraint.now)))) }
     ensures cause { W.failures writer.new ≡ failures_after (W.failures writer.old) result }
 {
     match constraint {
-        DurationConstraint::And(constraints) => {
+        DurationRule::And(constraints) => {
             put(writer, b"(and")?;
             print_constraints(writer, constraints)?;
             put(writer, b")")
         }
-        DurationConstraint::Limit(comparison, value) => {
+        DurationRule::Limit(comparison, value) => {
             put(writer, b"(")?;
             put(writer, comparison_word(*comparison))?;
             put(writer, b" ?duration ")?;

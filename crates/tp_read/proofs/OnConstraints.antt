@@ -8,18 +8,18 @@ use Rattle.tp_ast.specs.Symbols.{Declared, Symbols}
 use Rattle.tp_ast.specs.Words.{constraint_form_of}
 use Rattle.tp_ast.specs.Effects.{Constraint, all_constraints, no_constraints, constraints_in, limited, is_start, constraint_of, constraints_of, start_constraint, only_constraint}
 use Rattle.tp_ast.specs.ConstraintViews.{constraint_view}
-use Rattle.tp_ast.specs.declared.constraint.DurationConstraint as the_constraints
-use Rattle.tp_ast.specs.declared.constraint.DurationConstraint.{DurationConstraint, the_lemmas}
+use Rattle.tp_ast.specs.declared.constraint.DurationRule as the_constraints
+use Rattle.tp_ast.specs.declared.constraint.DurationRule.{DurationRule, the_lemmas}
 use Rattle.tp_ast.specs.declared.words.ConstraintForm.{ConstraintForm}
 use Rattle.tp_ast.specs.declared.words.ConstraintForm.TheVariants.{And, At, Limit}
 use Rattle.tp_ast.proofs.Loops.{IsEach}
 use Rattle.tp_ast.proofs.OnLists.{peel}
 
-pub and_view : (v : Vec DurationConstraint Global) → constraint_view (the_constraints.And v) ≡ all_constraints (constraints_in (map constraint_view v.items))
+pub and_view : (v : Vec DurationRule Global) → constraint_view (the_constraints.And v) ≡ all_constraints (constraints_in (map constraint_view v.items))
 and_view v = search (rules, the_lemmas)
 
-pub and_none : (v : Vec DurationConstraint Global) → v.items ≡ [] → all_constraints no_constraints ≡ constraint_view (the_constraints.And v)
-and_none v none = sym (and_view v ∙ ap (λ (rs : List DurationConstraint). all_constraints (constraints_in (map constraint_view rs))) none)
+pub and_none : (v : Vec DurationRule Global) → v.items ≡ [] → all_constraints no_constraints ≡ constraint_view (the_constraints.And v)
+and_none v none = sym (and_view v ∙ ap (λ (rs : List DurationRule). all_constraints (constraints_in (map constraint_view rs))) none)
 
 module _ (σ : Symbols) (scope : List Declared) where
   pub each_constraint : IsEach (λ (t : Tree). constraint_of σ scope (shape_of t)) (λ ts. constraints_of σ scope (shapes ts))

@@ -11,7 +11,7 @@ ghost use Rattle.tp_ast.specs.Words.{duration_comparison};
 
 use crate::expr::read_value;
 use std::alloc::Global;
-use tp_ast::constraint::DurationConstraint;
+use tp_ast::constraint::DurationRule;
 use tp_ast::expr::Expr;
 use tp_ast::fault::{LeftOutPart, SyntaxFault};
 use tp_ast::words::{
@@ -60,7 +60,7 @@ fn limited(
     word: &Token,
     args: &[Tree],
     at: u32,
-) -> Result<DurationConstraint, SyntaxFault>
+) -> Result<DurationRule, SyntaxFault>
     ensures { Gives constraint_view result (limited
         (symbols_view symbols.now) (scope_view scope.now) word.now.text.now (shapes args.now)) }
 {
@@ -74,7 +74,7 @@ fn limited(
         return Err(SyntaxFault::Shape(at));
     }
     let value = read_value(alloc, value, symbols, scope, false, at)?;
-    Ok(DurationConstraint::Limit(comparison, value))
+    Ok(DurationRule::Limit(comparison, value))
 }
 
 // A duration constraint behind the word `at`: `start`, and one more, which is kept alone.
@@ -85,7 +85,7 @@ fn read_start(
     symbols: &Symbols,
     scope: &Scope,
     at: u32,
-) -> Result<DurationConstraint, SyntaxFault>
+) -> Result<DurationRule, SyntaxFault>
     ensures { Gives constraint_view result
         (start_constraint (symbols_view symbols.now) (scope_view scope.now) (shapes args.now)) }
 {
@@ -121,7 +121,7 @@ fn read_constraints(
     symbols: &Symbols,
     scope: &Scope,
     at: u32,
-) -> Result<Vec<DurationConstraint>, SyntaxFault>
+) -> Result<Vec<DurationRule>, SyntaxFault>
     ensures { Gives (λ v. map constraint_view v.items) result
         (constraints_of (symbols_view symbols.now) (scope_view scope.now) (shapes trees.now)) }
 {
@@ -140,7 +140,7 @@ pub fn read_constraint(
     symbols: &Symbols,
     scope: &Scope,
     at: u32,
-) -> Result<DurationConstraint, SyntaxFault>
+) -> Result<DurationRule, SyntaxFault>
     ensures { Gives constraint_view result
         (constraint_of (symbols_view symbols.now) (scope_view scope.now) (shape_of tree.now)) }
 {
@@ -149,7 +149,7 @@ pub fn read_constraint(
         Tree::List { items, span } => (items.as_slice(), span.start),
     };
     let [first, args @ ..] = items else {
-        return Ok(DurationConstraint::And(Vec::new(alloc)));
+        return Ok(DurationRule::And(Vec::new(alloc)));
     };
     let Tree::Word(word) = first else {
         return Err(SyntaxFault::Shape(at));
@@ -157,7 +157,7 @@ pub fn read_constraint(
     match constraint_form_of(word.text) {
         ConstraintForm::And => {
             let constraints = read_constraints(alloc, args, symbols, scope, at)?;
-            Ok(DurationConstraint::And(constraints))
+            Ok(DurationRule::And(constraints))
         }
         ConstraintForm::At => read_start(alloc, args, symbols, scope, at),
         ConstraintForm::Limit => limited(alloc, symbols, scope, word, args, at),

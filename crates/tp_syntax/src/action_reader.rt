@@ -22,7 +22,7 @@ use crate::fields::{Field, find_field, read_fields};
 use std::alloc::Global;
 use tp_ast::action::{Action, Body};
 use tp_ast::cond::Cond;
-use tp_ast::constraint::DurationConstraint;
+use tp_ast::constraint::DurationRule;
 use tp_ast::effect::Effect;
 use tp_ast::fault::SyntaxFault;
 use tp_ast::joined::Joined;
@@ -96,7 +96,7 @@ fn duration(
     scope: &Scope,
     fields: &[Field],
     at: u32,
-) -> Result<DurationConstraint, SyntaxFault>
+) -> Result<DurationRule, SyntaxFault>
     ensures { Gives constraint_view result (duration_field
         (symbols_view symbols.now) (scope_view scope.now) (map field_view fields.now)) }
 {

@@ -24,7 +24,7 @@ pub use domain_reader::read_domain;
 pub use problem::read_problem;
 pub use tp_ast::action::{Action, Body};
 pub use tp_ast::cond::Cond;
-pub use tp_ast::constraint::DurationConstraint;
+pub use tp_ast::constraint::DurationRule;
 pub use tp_ast::domain::Domain;
 pub use tp_ast::effect::{Effect, SimpleEffect};
 pub use tp_ast::expr::Expr;

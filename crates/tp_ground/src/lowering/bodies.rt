@@ -23,7 +23,7 @@ use crate::lowering::parts::joined;
 use crate::universe::Universe;
 use crate::writer::Writer;
 use std::alloc::{AllocError, Global};
-use tp_ast::constraint::DurationConstraint;
+use tp_ast::constraint::DurationRule;
 use tp_ast::effect::Effect;
 use tp_ast::timed::{TimedCond, TimedEffect};
 use tp_ast::words::TimeSpecifier;
@@ -118,7 +118,7 @@ fn start<'a>(
     universe: &Universe<'a>,
     env: &Env<'_, 'a>,
     writer: &mut Writer<'a>,
-    duration: &'a DurationConstraint,
+    duration: &'a DurationRule,
     condition: &'a TimedCond,
     effect: &'a TimedEffect,
 ) -> Result<GroundEvent, GroundFault>
@@ -185,7 +185,7 @@ fn ends_of<'a>(
     universe: &Universe<'a>,
     env: &Env<'_, 'a>,
     writer: &mut Writer<'a>,
-    duration: &'a DurationConstraint,
+    duration: &'a DurationRule,
     condition: &'a TimedCond,
     effect: &'a TimedEffect,
 ) -> Result<Ends, GroundFault>
@@ -212,7 +212,7 @@ fn durative<'a>(
     universe: &Universe<'a>,
     env: &Env<'_, 'a>,
     writer: &mut Writer<'a>,
-    duration: &'a DurationConstraint,
+    duration: &'a DurationRule,
     condition: &'a TimedCond,
     effect: &'a TimedEffect,
 ) -> Result<Body, GroundFault>

@@ -13,7 +13,7 @@ use crate::environment::Env;
 use crate::lowering::expressions::{comparison_of, expression};
 use crate::writer::Writer;
 use std::alloc::Global;
-use tp_ast::constraint::DurationConstraint;
+use tp_ast::constraint::DurationRule;
 use tp_task::{GroundFault, Limit};
 
 #[cycle(limits)]
@@ -21,7 +21,7 @@ fn all_limits(
     alloc: Global,
     env: &Env,
     writer: &mut Writer,
-    constraints: &[DurationConstraint],
+    constraints: &[DurationRule],
 ) -> Result<Vec<Limit>, GroundFault>
     ensures { Lowers (λ t v. map (named_limit t) v.items) writer.old result writer.new
         (flat_map (λ r. limits_in (env_view env.now) (constraint_view r)) constraints.now)
@@ -42,15 +42,15 @@ pub fn limits(
     alloc: Global,
     env: &Env,
     writer: &mut Writer,
-    constraint: &DurationConstraint,
+    constraint: &DurationRule,
 ) -> Result<Vec<Limit>, GroundFault>
     ensures { Lowers (λ t v. map (named_limit t) v.items) writer.old result writer.new
         (limits_in (env_view env.now) (constraint_view constraint.now))
         (of_each of_limit (limits_in (env_view env.now) (constraint_view constraint.now))) }
 {
     match constraint {
-        DurationConstraint::And(constraints) => all_limits(alloc, env, writer, constraints),
-        DurationConstraint::Limit(comparison, value) => {
+        DurationRule::And(constraints) => all_limits(alloc, env, writer, constraints),
+        DurationRule::Limit(comparison, value) => {
             let value = expression(alloc, env, writer, value)?;
             let mut one = Vec::with_capacity(alloc, 1)?;
             one.push(Limit {

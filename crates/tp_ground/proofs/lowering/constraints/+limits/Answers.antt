@@ -1,6 +1,6 @@
 use Rattle.std.proofs.Common.{[], refl, ap}
 use Rattle.tp_ast.specs.ConstraintViews.{constraint_view}
-use Rattle.tp_ast.specs.declared.constraint.DurationConstraint.{DurationConstraint}
+use Rattle.tp_ast.specs.declared.constraint.DurationRule.{DurationRule}
 use Rattle.tp_ground.specs.Views.{env_view}
 use Rattle.tp_ground.specs.Written.{GroundExpression, comparison_of, limits_in}
 use Rattle.tp_ground.specs.Mentions.{of_limit, of_each}
@@ -13,12 +13,12 @@ use Rattle.tp_ground.proofs.lowering.constraints.+limits.Goals as goal
 
 pub all_limits-returns-in_err-more : goal.all_limits-returns-in_err-more
 all_limits-returns-in_err-more t c =
-    let f = λ (r : DurationConstraint). limits_in (env_view c.args.env.now) (constraint_view r) in
+    let f = λ (r : DurationRule). limits_in (env_view c.args.env.now) (constraint_view r) in
     flat_stopped named_limit of_limit c.args.constraints.now c.loop-constraint.constraint-index c.constraint-item.result c.loop-constraint-test.true c.constraint-item.is _ _ _ _ _ _ _ c.from_residual.ensures.1 f refl c.loop-constraint.invariant c.in_err-more.ensures
 
 pub all_limits-loop-constraint-preserved : goal.all_limits-loop-constraint-preserved
 all_limits-loop-constraint-preserved t c =
-    let f = λ (r : DurationConstraint). limits_in (env_view c.args.env.now) (constraint_view r) in
+    let f = λ (r : DurationRule). limits_in (env_view c.args.env.now) (constraint_view r) in
     all_append named_limit of_limit _ _ _ _ _ _ _ (f c.constraint-item.result) _ c.in_ok-append.ensures.items (next f c.args.constraints.now c.loop-constraint.constraint-index c.constraint-item.result c.loop-constraint-test.true c.constraint-item.is) c.loop-constraint.invariant c.in_ok-more.ensures
 
 pub limits-returns-in-And : goal.limits-returns-in-And
