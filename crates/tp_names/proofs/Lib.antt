@@ -5,3 +5,4 @@ pub mod OnTypedLists
 pub mod OnSignatures
 pub mod OnTypes
 pub mod OnDeclared
+pub mod OnRowViews

@@ -136,3 +136,22 @@ knows_same ks js ns is known = subst (λ (ls : List (Bor (List ℕ))). Knows ls 
 
 pub knows_put : (ks js : List (Bor (List ℕ))) (k : Bor (List ℕ)) (ts : List TypeName) (i : ℕ) (t : TypeName) → js ≡ insert_key same_text ks k → i < length ts → t ≡ get_or ts i t → k.now ≡ string_bytes t.name → Knows ks (object ∷ names (take i ts)) → Knows js (object ∷ names (take (i + 1) ts))
 knows_put ks js k ts i t grown lt at is known = knows_same js _ (object ∷ names (take (i + 1) ts)) grown (knows_next ks k ts i t lt at is known)
+
+-- ---- parents that are known before they are mentioned
+
+or_true : (a b : Bool) → b ≡ true → (a || b) ≡ true
+or_true true b h = refl
+or_true false b h = h
+
+pub mention_skipped : (done : List TypeName) (ks : List (Bor (List ℕ))) (k : Bor (List ℕ)) (p : Parent) (ps : List Parent) → p.parent ≡ k.now → has_key k.now ks ≡ true → to_mention done ks ps ≡ to_mention done ks (p ∷ ps)
+mention_skipped done ks k p ps is known = mention_kept done ks ks k p ps (sym (ap (λ b. cond b ks (ks ++ k ∷ [])) known)) is known
+
+pub key_put : (ks js : List (Bor (List ℕ))) (k : Bor (List ℕ)) → js ≡ insert_key same_text ks k → has_key k.now js ≡ true
+key_put ks js k grown = ap (has_key k.now) grown ∙ key_inserted k.now ks k ∙ or_true (has_key k.now ks) _ ((bytes_decides k.now k.now).1 refl)
+
+pub object_known : (ks : List (Bor (List ℕ))) (ns : List Name) → Knows ks (object ∷ ns) → has_key object ks ≡ true
+object_known ks ns known = known object ∙ ap (λ b. b || list_any (bytes_eq object) ns) ((bytes_decides object object).1 refl)
+
+pub not_true_is : (b : Bool) → not b ≡ true → b ≡ false
+not_true_is true h = cc
+not_true_is false h = refl

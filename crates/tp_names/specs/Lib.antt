@@ -1,3 +1,4 @@
+pub mod RowViews
 pub mod VariableTables
 pub mod SignatureViews
 pub mod SymbolViews

@@ -4,6 +4,7 @@ ghost use Rattle.std.specs.Prelude.{◌≡◌, ◌&&◌, ◌∷◌, [], ◌++◌
 ghost use Rattle.tp_text.specs.Trees.{shape_of};
 ghost use Rattle.tp_ast.specs.Terms.{shapes};
 ghost use Rattle.tp_ast.specs.Symbols.{typed_view};
+ghost use Rattle.tp_names.specs.RowViews.{HaveRows};
 ghost use Rattle.tp_types.specs.TypeViews.{types_view};
 ghost use Rattle.std.specs.Option.{is_some};
 ghost use Rattle.tp_ast.specs.Gives.{Gives, provided};
@@ -138,41 +139,72 @@ fn object_type(alloc: Global) -> Result<Vec<String>, AllocError>
     Ok(types)
 }
 
-// Gives each of some names these types, which they share.
+// Gives a name these types, which others may share.
+fn push_typed(
+    done: &mut Vec<Typed>,
+    rows: &mut Vec<bool>,
+    name: &String,
+    types: &Rc<Vec<String>>,
+    mark: bool,
+) -> Result<(), AllocError>
+    ensures items { OnOk result (map typed_view done.new.items ≡ map typed_view done.old.items
+        ++ given (map string_bytes types.now.value.items) (string_bytes name.now) ∷ []) }
+    ensures rows { OnOk result (rows.new.items ≡ rows.old.items ++ mark ∷ []) }
+{
+    let name = name.clone()?;
+    let types = types.clone()?;
+    done.push(Typed { name, types })?;
+    rows.push(mark)?;
+    Ok(())
+}
+
+// Gives each of some names these types, which they share: all but the first are marked.
 fn give(
     alloc: Global,
     done: &mut Vec<Typed>,
+    rows: &mut Vec<bool>,
     names: &[String],
     types: Vec<String>,
 ) -> Result<(), AllocError>
-    ensures { OnOk result (map typed_view done.new.items ≡ map typed_view done.old.items
+    ensures items { OnOk result (map typed_view done.new.items ≡ map typed_view done.old.items
         ++ map (given (map string_bytes types.items)) (map string_bytes names.now)) }
+    ensures rows { OnOk result (HaveRows rows.old.items (map typed_view done.old.items)
+        → HaveRows rows.new.items (map typed_view done.new.items)) }
 {
     let shared = Rc::new(alloc, types)?;
+    let mut mark = false;
     for name in names {
-        let name = name.clone()?;
-        let types = shared.clone()?;
-        done.push(Typed { name, types })?;
+        push_typed(done, rows, name, &shared, mark)?;
+        mark = true;
     }
     Ok(())
 }
 
 // Gives names behind which no type stands the type of all objects. Where there are none, as in most lists, nothing is made.
-fn give_object(alloc: Global, done: &mut Vec<Typed>, names: &[String]) -> Result<(), AllocError>
-    ensures { OnOk result (map typed_view done.new.items ≡ map typed_view done.old.items
+fn give_object(
+    alloc: Global,
+    done: &mut Vec<Typed>,
+    rows: &mut Vec<bool>,
+    names: &[String],
+) -> Result<(), AllocError>
+    ensures items { OnOk result (map typed_view done.new.items ≡ map typed_view done.old.items
         ++ map (given (codes "object" ∷ [])) (map string_bytes names.now)) }
+    ensures rows { OnOk result (HaveRows rows.old.items (map typed_view done.old.items)
+        → HaveRows rows.new.items (map typed_view done.new.items)) }
 {
     if names.is_empty() {
         return Ok(());
     }
     let object = object_type(alloc)?;
-    give(alloc, done, names, object)
+    give(alloc, done, rows, names, object)
 }
 
-/// The items of a typed list, and whether each of their types is declared.
+/// The items of a typed list, marks on those that share their types with the one before them, and whether each of their types
+/// is declared.
 #[derive(Drop)]
 pub struct Listed {
     pub items: Vec<Typed>,
+    pub rows: Vec<bool>,
     pub are_declared: bool,
 }
 
@@ -197,8 +229,10 @@ pub fn typed_items(
         (λ l. map typed_view l.items.items) result (typed_list items (shapes trees.now)) }
     ensures declared { IfOk result (λ l. l.are_declared ≡ list_all
         (λ d. list_all (is_type (types_view types.now)) d.types) (map typed_view l.items.items)) }
+    ensures rows { IfOk result (λ l. HaveRows l.rows.items (map typed_view l.items.items)) }
 {
     let mut done = Vec::new(alloc);
+    let mut rows = Vec::new(alloc);
     let mut are_declared = true;
     let mut waiting = Vec::new(alloc);
     let mut rest = trees;
@@ -212,7 +246,7 @@ pub fn typed_items(
             };
             let kinds = type_at(alloc, items, kind, at)?;
             are_declared = declared_too(are_declared, types, kinds.as_slice());
-            give(alloc, &mut done, &waiting, kinds)?;
+            give(alloc, &mut done, &mut rows, &waiting, kinds)?;
             waiting = Vec::new(alloc);
             rest = more;
         } else {
@@ -220,25 +254,12 @@ pub fn typed_items(
             rest = others;
         }
     }
-    give_object(alloc, &mut done, &waiting)?;
+    give_object(alloc, &mut done, &mut rows, &waiting)?;
     Ok(Listed {
         items: done,
+        rows,
         are_declared,
     })
-}
-
-/// The items of a typed list, with their types. The list that has these members is at `at`.
-pub fn typed_list(
-    alloc: Global,
-    items: Items,
-    trees: &[Tree],
-    at: u32,
-) -> Result<Vec<Typed>, SyntaxFault>
-    ensures { Gives (λ v. map typed_view v.items) result (typed_list items (shapes trees.now)) }
-{
-    let none = Types::listed(&[]);
-    let listed = typed_items(alloc, &none, items, trees, at)?;
-    Ok(listed.items)
 }
 
 // The number of the first item whose name stands before it, too.
@@ -329,6 +350,7 @@ fn declared(
     let Listed {
         items,
         are_declared,
+        ..
     } = listed;
     if let Some(number) = named_again(alloc, &items)? {
         return Err(SyntaxFault::Twice(item_place(trees, number, at)));

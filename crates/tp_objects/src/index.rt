@@ -3,7 +3,9 @@
 ghost use Rattle.std.specs.Prelude.{◌≡◌, map, true, IfOk};
 ghost use Rattle.tp_ast.specs.Symbols.{parent_view, typed_view};
 ghost use Rattle.tp_types.specs.Cycles.{type_name};
+ghost use Rattle.tp_types.specs.Parents.{ArePlaced};
 ghost use Rattle.tp_types.specs.Tables.{IsTable};
+ghost use Rattle.tp_types.specs.TypeViews.{types_view};
 ghost use Rattle.tp_objects.specs.Listed.{listed_view};
 ghost use Rattle.tp_objects.specs.Index.{IsShelved, AreShelved, IsIndexIfAny};
 
@@ -14,6 +16,7 @@ use std::alloc::{AllocError, Global};
 use tp_ast::symbols::Typed;
 use tp_ast::types::TypeName;
 use tp_types::table::places;
+use tp_types::types::Types;
 
 /// The slots of each type, and the place of the object in each slot.
 #[derive(Drop)]
@@ -73,16 +76,18 @@ fn are_shelved(types: &[TypeName], index: &Index, listed: Listed, positions: &[u
 // The index that slots for objects make, if they are what they are taken for.
 fn checked<'a>(
     types: &'a [TypeName],
+    parents: &[Option<usize>],
     spans: Spans<'a>,
     listed: Listed,
     slots: Vec<usize>,
     positions: &[usize],
 ) -> Option<Index<'a>>
-    requires { IsTable spans.places (map type_name types.now) }
+    requires table { IsTable spans.places (map type_name types.now) }
+    requires parents { ArePlaced types.now parents.now }
     ensures { IsIndexIfAny (map parent_view types.now) (listed_view listed.entry) result }
 {
     let index = Index { spans, slots };
-    if !are_nested(types, &index.spans) {
+    if !are_nested(types, parents, &index.spans) {
         return None;
     }
     if !are_shelved(types, &index, listed, positions) {
@@ -91,17 +96,19 @@ fn checked<'a>(
     Some(index)
 }
 
-/// Where the objects of each type stand, if each object has one type that leads up to `object`.
-pub fn make_index<'a>(
+// The index of objects, where it is known where the parents of types stand.
+fn index_above<'a>(
     alloc: Global,
     types: &'a [TypeName],
+    parents: &[Option<usize>],
     listed: Listed,
 ) -> Result<Option<Index<'a>>, AllocError>
+    requires { ArePlaced types.now parents.now }
     ensures { IfOk result (λ x. IsIndexIfAny
         (map parent_view types.now) (listed_view listed.entry) x) }
 {
     let places = places(alloc, types)?;
-    let Some(shelving) = shelve(alloc, types, &places, listed.constants, listed.objects)? else {
+    let Some(shelving) = shelve(alloc, types, &places, parents, listed)? else {
         return Ok(None);
     };
     let spans = Spans {
@@ -109,5 +116,27 @@ pub fn make_index<'a>(
         of_types: shelving.of_types,
         slots: shelving.slots.len(),
     };
-    Ok(checked(types, spans, listed, shelving.slots, &shelving.positions))
+    Ok(checked(
+        types,
+        parents,
+        spans,
+        listed,
+        shelving.slots,
+        &shelving.positions,
+    ))
+}
+
+/// Where the objects of each type stand, if each object has one type that leads up to `object`.
+pub fn make_index<'a>(
+    alloc: Global,
+    types: &Types<'a>,
+    listed: Listed,
+) -> Result<Option<Index<'a>>, AllocError>
+    ensures { IfOk result (λ x. IsIndexIfAny
+        (types_view types.now) (listed_view listed.entry) x) }
+{
+    match types.parents() {
+        Some(parents) => index_above(alloc, types.declared(), parents, listed),
+        None => Ok(None),
+    }
 }

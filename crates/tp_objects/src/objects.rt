@@ -86,9 +86,10 @@ impl<'a> Objects<'a> {
         }) }
     {
         let listed = Listed { constants, objects };
-        let index = make_index(alloc, types, listed)?;
+        let types = Types::new(alloc, types)?;
+        let index = make_index(alloc, &types, listed)?;
         Ok(Objects {
-            types: Types::new(alloc, types)?,
+            types,
             listed,
             index,
         })

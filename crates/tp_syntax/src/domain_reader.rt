@@ -10,6 +10,7 @@ ghost use Rattle.tp_names.specs.SignatureViews.{predicates_in, functions_in};
 ghost use Rattle.tp_syntax.specs.SectionViews.{section_body_view, Adds, action_kind, actions_once, domain_symbols};
 ghost use Rattle.tp_syntax.specs.Refusals.{IsRefusedDomain};
 ghost use Rattle.tp_names.specs.SymbolViews.{symbols_view};
+ghost use Rattle.tp_types.specs.Parents.{ArePlaced};
 ghost use Rattle.tp_types.specs.TypeViews.{types_view};
 ghost use Rattle.tp_ast.specs.Symbols.{typed_view, parent_view, signature_view};
 ghost use Rattle.tp_ast.specs.Terms.{shapes};
@@ -25,12 +26,11 @@ use tp_ast::action::Action;
 use tp_ast::domain::Domain;
 use tp_ast::fault::{SyntaxFault, text_fault, tree_fault};
 use tp_ast::symbols::{Signature, Typed};
-use tp_ast::types::TypeName;
 use tp_ast::words::Section;
 use tp_names::head::{defined, named, requirements_in};
 use tp_names::signatures::{functions_in, predicates_in};
 use tp_names::symbols::Symbols;
-use tp_names::type_reader::types_in;
+use tp_names::type_reader::{PlacedTypes, types_in};
 use tp_names::typed::{objects_in, place};
 use tp_text::{Tree, read_tree};
 use tp_types::lookup::Lookup;
@@ -118,9 +118,10 @@ fn requirements(alloc: Global, parts: &[SectionItem<Section>]) -> Result<Vec<Str
     requirements_in(alloc, part.body, part.at)
 }
 
-fn types(alloc: Global, parts: &[SectionItem<Section>]) -> Result<Vec<TypeName>, SyntaxFault>
-    ensures { Gives (λ v. map parent_view v.items) result
+fn types(alloc: Global, parts: &[SectionItem<Section>]) -> Result<PlacedTypes, SyntaxFault>
+    ensures types { Gives (λ p. map parent_view p.types.items) result
         (types_in (section sections.Types (map section_body_view parts.now))) }
+    ensures parents { IfOk result (λ p. ArePlaced p.types.items p.parents.items) }
 {
     let part = find_section(Section::Types, parts);
     types_in(alloc, part.body, part.at)
@@ -192,8 +193,8 @@ fn domain_with(
         (domain_with (string_bytes name) (map section_body_view parts.now)) }
 {
     let requirements = requirements(alloc, parts)?;
-    let types = types(alloc, parts)?;
-    let known = Types::new(alloc, &types)?;
+    let PlacedTypes { types, parents } = types(alloc, parts)?;
+    let known = Types::above(alloc, &types, parents)?;
     let constants = constants(alloc, &known, parts)?;
     let predicates = predicates(alloc, &known, parts)?;
     let functions = functions(alloc, &known, parts)?;

@@ -9,6 +9,7 @@ ghost use Rattle.tp_syntax.specs.Limits.{NestsUpTo};
 ghost use Rattle.tp_ast.specs.Terms.{shapes};
 ghost use Rattle.tp_ast.specs.Symbols.{typed_view};
 ghost use Rattle.tp_names.specs.SymbolViews.{symbols_view};
+ghost use Rattle.tp_types.specs.TypeViews.{types_view};
 ghost use Rattle.tp_ast.specs.Problems.{initial_of, section, goal_in, new_objects, stated, symbols_with, problem_with, own_name, problem_of, SpellsProblem, IsRefusedProblem};
 ghost use Rattle.tp_ast.specs.CondViews.{cond_view};
 ghost use Rattle.tp_ast.specs.DomainViews.{initial_view, domain_view, problem_view};
@@ -73,15 +74,16 @@ fn named_again(
 #[tactic(auto, unfolding(tp_ast::specs::Problems::new_objects))]
 fn new_objects(
     alloc: Global,
+    types: &Types,
     domain: &Domain,
     trees: &[Tree],
     at: u32,
 ) -> Result<Vec<Typed>, SyntaxFault>
+    requires { types_view types.now ≡ (domain_view domain.now).types }
     ensures { Gives (λ v. map typed_view v.items) result
         (new_objects (domain_view domain.now) (shapes trees.now)) }
 {
-    let types = Types::new(alloc, &domain.types)?;
-    let objects = objects_in(alloc, &types, trees, at)?;
+    let objects = objects_in(alloc, types, trees, at)?;
     if let Some(number) = named_again(alloc, &domain.constants, &objects)? {
         let object = number.saturating_sub(domain.constants.len());
         return Err(SyntaxFault::Twice(item_place(trees, object, at)));
@@ -159,13 +161,14 @@ fn stated(
 // What a domain declares, and these objects.
 fn symbols_with<'d>(
     alloc: Global,
+    types: Types<'d>,
     domain: &'d Domain,
     objects: &'d [Typed],
 ) -> Result<Symbols<'d>, AllocError>
+    requires { types_view types ≡ (domain_view domain.now).types }
     ensures { IfOk result
         (λ s. symbols_view s ≡ symbols_with (domain_view domain.now) (map typed_view objects.now)) }
 {
-    let types = Types::new(alloc, &domain.types)?;
     let constants = Lookup::new(alloc, &domain.constants)?;
     let objects = Lookup::new(alloc, objects)?;
     with_signatures(
@@ -178,17 +181,19 @@ fn symbols_with<'d>(
     )
 }
 
-fn stated_of(
+fn stated_of<'d>(
     alloc: Global,
-    domain: &Domain,
-    objects: &[Typed],
+    types: Types<'d>,
+    domain: &'d Domain,
+    objects: &'d [Typed],
     parts: &[SectionItem<ProblemSection>],
     at: u32,
 ) -> Result<(Vec<Initial>, Cond), SyntaxFault>
+    requires { types_view types ≡ (domain_view domain.now).types }
     ensures { Gives (λ r. (map initial_view r.0.items, cond_view r.1)) result (stated (symbols_with
         (domain_view domain.now) (map typed_view objects.now)) (map section_body_view parts.now)) }
 {
-    let symbols = symbols_with(alloc, domain, objects)?;
+    let symbols = symbols_with(alloc, types, domain, objects)?;
     stated(alloc, &symbols, parts, at)
 }
 
@@ -207,8 +212,9 @@ fn problem_with(
     let words = find_section(ProblemSection::Requirements, parts, at);
     let _words = requirements_in(alloc, words.body, words.at)?;
     let listed = find_section(ProblemSection::Objects, parts, at);
-    let objects = new_objects(alloc, domain, listed.body, listed.at)?;
-    let (initial, goal) = stated_of(alloc, domain, &objects, parts, at)?;
+    let types = Types::new(alloc, &domain.types)?;
+    let objects = new_objects(alloc, &types, domain, listed.body, listed.at)?;
+    let (initial, goal) = stated_of(alloc, types, domain, &objects, parts, at)?;
     Ok(Problem {
         name,
         objects,

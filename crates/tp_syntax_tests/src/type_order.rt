@@ -4,8 +4,9 @@ use std::alloc::{AllocError, Global};
 use std::rc::Rc;
 use std::test::Fail;
 use tp_syntax::{TypeName, Types, types_fit};
-use tp_types::cycles::ranks;
-use tp_types::jumps::jumps;
+use tp_types::cycles::ranks_by_places;
+use tp_types::jumps::jumps_by_places;
+use tp_types::parents::parents;
 use tp_types::table::places;
 
 fn below(alloc: Global, name: &str, parent: &str) -> Result<TypeName, AllocError> {
@@ -47,8 +48,9 @@ fn jump_to(ranks: &[usize], jumps: &[usize], wanted: &[usize]) -> bool {
 
 fn chain_jumps(alloc: Global, chain: &[TypeName], wanted: &[usize]) -> Result<bool, AllocError> {
     let places = places(alloc, chain)?;
-    let ranks = ranks(alloc, chain, &places)?;
-    let jumps = jumps(alloc, chain, &places, &ranks)?;
+    let parents = parents(alloc, chain, &places)?;
+    let ranks = ranks_by_places(alloc, chain, &parents)?;
+    let jumps = jumps_by_places(alloc, &parents, &ranks)?;
     Ok(jump_to(&ranks, &jumps, wanted))
 }
 

@@ -7,3 +7,4 @@ pub mod OnNames
 pub mod OnAscending
 pub mod OnGuesses
 pub mod OnParents
+pub mod OnRows

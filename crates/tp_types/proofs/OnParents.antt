@@ -11,26 +11,14 @@ use Rattle.tp_ast.specs.Symbols.{parent_view, parent_of}
 use Rattle.tp_ast.specs.Domains.{object}
 use Rattle.tp_ast.specs.TypedLists.{has_twice}
 use Rattle.tp_types.specs.Tables.{Name, Table, place_of, found, IsTable}
-use Rattle.tp_types.specs.Cycles.{type_name, rank_of, rank_above}
-use Rattle.tp_types.specs.Parents.{parent_name, AreParents, parent_at}
+use Rattle.tp_types.specs.Cycles.{type_name}
+use Rattle.tp_types.specs.Parents.{parent_name, AreParents, ArePlaced, parent_at}
 use Rattle.tp_types.specs.Jumps.{jump_of, jump_from, is_name, leads_up, is_jump}
 use Rattle.tp_ast.specs.declared.types.TypeName.{TypeName}
 use Rattle.tp_types.proofs.OnCycles.{at_the_place, no_place}
 use Rattle.tp_types.proofs.OnGuesses.{none_there, or_first, or_second}
 
--- ---- ranks of parents
-
-pub rank_above_at : (ts : List TypeName) (ranks : List ℕ) (t : Name) (k : ℕ) (o : Option TypeName) → place_of t (map type_name ts) ≡ Some k → slice_get ts k ≡ o → rank_above ts ranks t ≡ (option_map parent_name o >>= rank_of (map type_name ts) ranks)
-rank_above_at ts ranks t k o is at = ap (λ (p : Option Name). p >>= rank_of (map type_name ts) ranks) (at_the_place ts t k o is at)
-
-pub rank_by_place : (ns : List Name) (ranks : List ℕ) (q : Name) (o : Option ℕ) → bytes_eq q object ≡ false → place_of q ns ≡ o → rank_of ns ranks q ≡ (o >>= slice_get ranks)
-rank_by_place ns ranks q o apart is = ap (λ (b : Bool). cond b (Some 0) (place_of q ns >>= slice_get ranks)) apart ∙ ap (λ (p : Option ℕ). p >>= slice_get ranks) is
-
-pub rank_of_object : (ns : List Name) (ranks : List ℕ) (q : Name) → bytes_eq q object ≡ true → rank_of ns ranks q ≡ Some 0
-rank_of_object ns ranks q is = ap (λ (b : Bool). cond b (Some 0) (place_of q ns >>= slice_get ranks)) is
-
-pub no_rank_above : (ts : List TypeName) (ranks : List ℕ) (t : Name) → place_of t (map type_name ts) ≡ None → rank_above ts ranks t ≡ None
-no_rank_above ts ranks t none = ap (λ (p : Option Name). p >>= rank_of (map type_name ts) ranks) (no_place ts t none)
+-- ---- what is noted of parents
 
 -- what is noted of the parent of a type at a place
 pub noted_at : (table : Table) (ts : List TypeName) (parents : List (Option ℕ)) (k : ℕ) (o : Option TypeName) → AreParents table ts parents → slice_get ts k ≡ o → slice_get parents k ≡ option_map (λ (t : TypeName). found table (parent_name t)) o
@@ -39,13 +27,40 @@ noted_at table ts parents k o are at =
     ∙ slice_get-map (λ (t : TypeName). found table (parent_name t)) ts k
     ∙ ap (option_map (λ (t : TypeName). found table (parent_name t))) at
 
--- the rank of a parent that is not `object`
-pub rank_above_by : (table : Table) (ts : List TypeName) (parents : List (Option ℕ)) (ranks : List ℕ) (t : Name) (k : ℕ) (d : TypeName) (up : Option ℕ) → IsTable table (map type_name ts) → AreParents table ts parents → found table t ≡ Some k → slice_get ts k ≡ Some d → bytes_eq (parent_name d) object ≡ false → parent_at parents k ≡ up → rank_above ts ranks t ≡ (up >>= slice_get ranks)
-rank_above_by table ts parents ranks t k d up is_table are is at apart above =
-    let q = parent_name d in
-    rank_above_at ts ranks t k (Some d) (sym (is_table t) ∙ is) at
-    ∙ rank_by_place (map type_name ts) ranks q (place_of q (map type_name ts)) apart refl
-    ∙ ap (λ (p : Option ℕ). p >>= slice_get ranks) (sym (is_table q) ∙ sym (ap (λ (p : Option (Option ℕ)). p >>= λ i. i) (noted_at table ts parents k (Some d) are at)) ∙ above)
+module _ (table : Table) (ts : List TypeName) (parents : List (Option ℕ)) (is_table : IsTable table (map type_name ts)) where
+  by_names : map (λ (t : TypeName). found table (parent_name t)) ts ≡ map (λ (t : TypeName). place_of (parent_name t) (map type_name ts)) ts
+  by_names = λ i. map (λ (t : TypeName). is_table (parent_name t) i) ts
+
+  pub placed : AreParents table ts parents → ArePlaced ts parents
+  placed are = are ∙ by_names
+
+  pub found_there : ArePlaced ts parents → AreParents table ts parents
+  found_there are = are ∙ sym by_names
+
+-- What is kept of types by their places, beside what is kept of `object`: ranks, for one.
+module _ {A : Type 0} (whole : A) (kept : List A) (ts : List TypeName) where
+  abbrev pub kept_of : Name → Option A
+  kept_of q = cond (bytes_eq q object) (Some whole) (place_of q (map type_name ts) >>= slice_get kept)
+
+  pub above_at_place : (t : Name) (k : ℕ) (o : Option TypeName) → place_of t (map type_name ts) ≡ Some k → slice_get ts k ≡ o → (parent_of t (map parent_view ts) >>= kept_of) ≡ (option_map parent_name o >>= kept_of)
+  above_at_place t k o is at = ap (λ (p : Option Name). p >>= kept_of) (at_the_place ts t k o is at)
+
+  kept_at : (q : Name) (o : Option ℕ) → bytes_eq q object ≡ false → place_of q (map type_name ts) ≡ o → kept_of q ≡ (o >>= slice_get kept)
+  kept_at q o apart is = ap (λ (b : Bool). cond b (Some whole) (place_of q (map type_name ts) >>= slice_get kept)) apart ∙ ap (λ (p : Option ℕ). p >>= slice_get kept) is
+
+  pub kept_of_object : (q : Name) → bytes_eq q object ≡ true → kept_of q ≡ Some whole
+  kept_of_object q is = ap (λ (b : Bool). cond b (Some whole) (place_of q (map type_name ts) >>= slice_get kept)) is
+
+  pub none_above : (t : Name) → place_of t (map type_name ts) ≡ None → (parent_of t (map parent_view ts) >>= kept_of) ≡ None
+  none_above t none = ap (λ (p : Option Name). p >>= kept_of) (no_place ts t none)
+
+  -- of a parent that is not `object`
+  pub above_by_place : (table : Table) (parents : List (Option ℕ)) (t : Name) (k : ℕ) (d : TypeName) (up : Option ℕ) → IsTable table (map type_name ts) → AreParents table ts parents → found table t ≡ Some k → slice_get ts k ≡ Some d → bytes_eq (parent_name d) object ≡ false → parent_at parents k ≡ up → (parent_of t (map parent_view ts) >>= kept_of) ≡ (up >>= slice_get kept)
+  above_by_place table parents t k d up is_table are is at apart above =
+      let q = parent_name d in
+      above_at_place t k (Some d) (sym (is_table t) ∙ is) at
+      ∙ kept_at q (place_of q (map type_name ts)) apart refl
+      ∙ ap (λ (p : Option ℕ). p >>= slice_get kept) (sym (is_table q) ∙ sym (ap (λ (p : Option (Option ℕ)). p >>= λ i. i) (noted_at table ts parents k (Some d) are at)) ∙ above)
 
 -- ---- a name and its place, where no name stands twice
 

@@ -1,5 +1,6 @@
 pub mod Tables
 pub mod Parents
+pub mod Rows
 pub mod Cycles
 pub mod Jumps
 pub mod TypeTables

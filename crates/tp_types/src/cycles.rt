@@ -212,16 +212,6 @@ pub fn ranks_by_places(
     Ok(ranks)
 }
 
-// Ranks for types: steps from `object`, as far as no cycle is met.
-pub fn ranks<'a>(
-    alloc: Global,
-    types: &'a [TypeName],
-    places: &BTreeMap<&'a str, usize>,
-) -> Result<Vec<usize>, AllocError> {
-    let parents = parents(alloc, types, places)?;
-    ranks_by_places(alloc, types, &parents)
-}
-
 // Whether this type is one that is not below `object`.
 fn is_apart<'a>(types: &'a [TypeName], places: &BTreeMap<&'a str, usize>, suspect: usize) -> bool
     requires { IsTable places.now (map type_name types.now) }
@@ -233,19 +223,33 @@ fn is_apart<'a>(types: &'a [TypeName], places: &BTreeMap<&'a str, usize>, suspec
     }
 }
 
+/// Whether each type is below `object`. The places are those of the types and of their parents.
+pub fn no_cycle_by_places<'a>(
+    alloc: Global,
+    types: &'a [TypeName],
+    places: &BTreeMap<&'a str, usize>,
+    parents: &[Option<usize>],
+) -> Result<bool, AllocError>
+    requires table { IsTable places.now (map type_name types.now) }
+    requires parents { AreParents places.now types.now parents.now }
+    ensures { IfOk result (λ r. r ≡ no_cycle (map parent_view types.now)) }
+{
+    let ranks = ranks_by_places(alloc, types, parents)?;
+    if are_ranked(types, places, parents, &ranks) {
+        return Ok(true);
+    }
+    let suspect = ranks.iter().position(|rank| *rank == 0);
+    if is_apart(types, places, suspect.unwrap_or(0)) {
+        return Ok(false);
+    }
+    Ok(are_below_object(types, places))
+}
+
 /// Whether each type is below `object`.
 pub fn no_cycle(alloc: Global, types: &[TypeName]) -> Result<bool, AllocError>
     ensures { IfOk result (λ r. r ≡ no_cycle (map parent_view types.now)) }
 {
     let places = places(alloc, types)?;
     let parents = parents(alloc, types, &places)?;
-    let ranks = ranks_by_places(alloc, types, &parents)?;
-    if are_ranked(types, &places, &parents, &ranks) {
-        return Ok(true);
-    }
-    let suspect = ranks.iter().position(|rank| *rank == 0);
-    if is_apart(types, &places, suspect.unwrap_or(0)) {
-        return Ok(false);
-    }
-    Ok(are_below_object(types, &places))
+    no_cycle_by_places(alloc, types, &places, &parents)
 }

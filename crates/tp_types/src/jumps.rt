@@ -11,7 +11,7 @@ ghost use Rattle.tp_types.specs.Parents.{AreParents};
 ghost use Rattle.tp_types.specs.Tables.{IsTable};
 
 use crate::cycles::{parent_of, rank_of};
-use crate::parents::{parent_at, parents};
+use crate::parents::parent_at;
 use std::alloc::{AllocError, Global};
 use std::collections::BTreeMap;
 use tp_ast::types::TypeName;
@@ -169,17 +169,6 @@ pub fn jumps_by_places(
         }
     }
     Ok(jumps)
-}
-
-/// A place further up for each type, by the names of their parents.
-pub fn jumps<'a>(
-    alloc: Global,
-    types: &'a [TypeName],
-    places: &BTreeMap<&'a str, usize>,
-    ranks: &[usize],
-) -> Result<Vec<usize>, AllocError> {
-    let parents = parents(alloc, types, places)?;
-    jumps_by_places(alloc, &parents, ranks)
 }
 
 // A type above another: where a jump leads, unless that is above a rank, or else the parent.

@@ -2,6 +2,7 @@
 //!
 //! - `names`, `once`, `table`, `lookup`: names in an order, names that stand once, where they stand, what they were declared as
 //! - `guesses`: where names may stand
+//! - `rows`: items that are as the ones before them
 //! - `parents`: where the parents of types stand
 //! - `cycles`, `jumps`: whether types lead back to themselves, and jumps up their order
 //! - `marks`, `types`: whether types fit
@@ -15,5 +16,6 @@ pub mod marks;
 pub mod names;
 pub mod once;
 pub mod parents;
+pub mod rows;
 pub mod table;
 pub mod types;

@@ -1,9 +1,12 @@
 //! Where the parents of types stand: each is looked up by its name once, so that all further steps go from place to place.
 
-ghost use Rattle.std.specs.Prelude.{◌≡◌, IfOk};
-ghost use Rattle.tp_types.specs.Parents.{AreParents, parent_at};
+ghost use Rattle.std.specs.Prelude.{◌≡◌, map, true, IfOk};
+ghost use Rattle.tp_ast.specs.Domains.{object};
+ghost use Rattle.tp_types.specs.Parents.{AreParents, parent_at, parent_name};
+ghost use Rattle.tp_types.specs.Rows.{AreRows};
 ghost use Rattle.tp_types.specs.Tables.{found};
 
+use crate::rows::is_marked;
 use std::alloc::{AllocError, Global};
 use std::collections::BTreeMap;
 use tp_ast::types::TypeName;
@@ -40,6 +43,42 @@ pub fn parents<'a>(
         let parent = declared.parent.as_str();
         place = place_after(places, name, place, parent);
         name = parent;
+        parents.push(place)?;
+    }
+    Ok(parents)
+}
+
+// Where the parent of a type stands, given where that of the type before does: they are one if the type is marked.
+fn place_in_row(
+    places: &BTreeMap<&str, usize>,
+    mark: bool,
+    place: Option<usize>,
+    declared: &TypeName,
+) -> Option<usize>
+    requires { mark ≡ true → place ≡ found places.now (parent_name declared.now) }
+    ensures { result ≡ found places.now (parent_name declared.now) }
+{
+    if mark {
+        return place;
+    }
+    places.get(declared.parent.as_str()).copied()
+}
+
+/// As `parents`, where marks tell which types have the parent of the one before them (the first, that of `object`): no name of such a
+/// parent is looked at.
+pub fn parents_by_rows<'a>(
+    alloc: Global,
+    types: &'a [TypeName],
+    places: &BTreeMap<&str, usize>,
+    marks: &[bool],
+) -> Result<Vec<Option<usize>>, AllocError>
+    requires { AreRows marks.now object (map parent_name types.now) }
+    ensures { IfOk result (λ v. AreParents places.now types.now v.items) }
+{
+    let mut parents = Vec::new(alloc);
+    let mut place = places.get("object").copied();
+    for (number, declared) in types.iter().enumerate() {
+        place = place_in_row(places, is_marked(marks, number), place, declared);
         parents.push(place)?;
     }
     Ok(parents)

@@ -4,7 +4,7 @@ ghost use Rattle.std.specs.Prelude.{◌≡◌, map, option_map, string_bytes, le
 ghost use Rattle.std.specs.List.{list_any, list_all};
 ghost use Rattle.tp_ast.specs.Symbols.{parent_view, parent_of, at_or_below, types_fit};
 ghost use Rattle.tp_types.specs.Cycles.{type_name};
-ghost use Rattle.tp_types.specs.Parents.{AreParents};
+ghost use Rattle.tp_types.specs.Parents.{AreParents, ArePlaced};
 ghost use Rattle.tp_types.specs.Tables.{IsTable};
 ghost use Rattle.tp_types.specs.TypeTables.{IsTypeTableIfAny};
 ghost use Rattle.tp_types.specs.TypeViews.{types_view};
@@ -28,10 +28,11 @@ pub struct Types<'a> {
     table: Option<TypeTable<'a>>,
 }
 
-// Where each type stands, its rank, and the place of a type further up.
+// Where each type stands, where its parent does, its rank, and the place of a type further up.
 #[derive(Drop)]
 pub struct TypeTable<'a> {
     pub places: BTreeMap<&'a str, usize>,
+    pub parents: Vec<Option<usize>>,
     pub ranks: Vec<usize>,
     pub jumps: Vec<usize>,
 }
@@ -49,43 +50,56 @@ impl<'a> Model for Types<'a> {
     ghost invariant = { λ t. IsTypeTableIfAny t.declared.now t.table };
 }
 
-// The table of types whose parents stand at these places. None for types that lead round in a cycle: they have no ranks.
+// The table of types whose parents stand at these places. None where a name stands twice, or for types that lead round in a cycle,
+// which have no ranks: such types are walked over.
 fn table_above<'a>(
     alloc: Global,
     types: &'a [TypeName],
     places: BTreeMap<&'a str, usize>,
-    parents: &[Option<usize>],
+    parents: Vec<Option<usize>>,
 ) -> Result<Option<TypeTable<'a>>, AllocError>
     requires table { IsTable places (map type_name types.now) }
-    requires parents { AreParents places types.now parents.now }
-    requires once { has_twice (map type_name types.now) ≡ false }
-    ensures { IfOk result (λ t. IsTypeTableIfAny types.now t) }
-{
-    let ranks = ranks_by_places(alloc, types, parents)?;
-    if !are_ranked(types, &places, parents, &ranks) {
-        return Ok(None);
-    }
-    let jumps = jumps_by_places(alloc, parents, &ranks)?;
-    if !are_jumps(types, &places, parents, &jumps) {
-        return Ok(None);
-    }
-    Ok(Some(TypeTable {
-        places,
-        ranks,
-        jumps,
-    }))
-}
-
-// The table of types, unless a name stands twice, or they lead round in a cycle: such types are walked over.
-fn type_table<'a>(alloc: Global, types: &'a [TypeName]) -> Result<Option<TypeTable<'a>>, AllocError>
+    requires parents { AreParents places types.now parents.items }
     ensures { IfOk result (λ t. IsTypeTableIfAny types.now t) }
 {
     if second_named(alloc, types)?.is_some() {
         return Ok(None);
     }
+    let ranks = ranks_by_places(alloc, types, &parents)?;
+    if !are_ranked(types, &places, &parents, &ranks) {
+        return Ok(None);
+    }
+    let jumps = jumps_by_places(alloc, &parents, &ranks)?;
+    if !are_jumps(types, &places, &parents, &jumps) {
+        return Ok(None);
+    }
+    Ok(Some(TypeTable {
+        places,
+        parents,
+        ranks,
+        jumps,
+    }))
+}
+
+fn type_table<'a>(alloc: Global, types: &'a [TypeName]) -> Result<Option<TypeTable<'a>>, AllocError>
+    ensures { IfOk result (λ t. IsTypeTableIfAny types.now t) }
+{
     let places = places(alloc, types)?;
     let parents = parents(alloc, types, &places)?;
-    table_above(alloc, types, places, &parents)
+    table_above(alloc, types, places, parents)
+}
+
+// The same, where it is known where parents stand.
+fn type_table_above<'a>(
+    alloc: Global,
+    types: &'a [TypeName],
+    parents: Vec<Option<usize>>,
+) -> Result<Option<TypeTable<'a>>, AllocError>
+    requires { ArePlaced types.now parents.items }
+    ensures { IfOk result (λ t. IsTypeTableIfAny types.now t) }
+{
+    let places = places(alloc, types)?;
+    table_above(alloc, types, places, parents)
 }
 
 impl<'a> Types<'a> {
@@ -105,6 +119,36 @@ impl<'a> Types<'a> {
     {
         let table = type_table(alloc, declared)?;
         Ok(Types { declared, table })
+    }
+
+    /// As `new`, where it is known where parents stand: no name of a parent is looked for.
+    pub fn above(
+        alloc: Global,
+        declared: &'a [TypeName],
+        parents: Vec<Option<usize>>,
+    ) -> Result<Types<'a>, AllocError>
+        requires { ArePlaced declared.now parents.items }
+        ensures { IfOk result (λ t. types_view t ≡ map parent_view declared.now) }
+    {
+        let table = type_table_above(alloc, declared, parents)?;
+        Ok(Types { declared, table })
+    }
+
+    /// The types, as they are declared.
+    pub fn declared(&self) -> &'a [TypeName]
+        ensures { result.now ≡ self.now }
+    {
+        self.declared
+    }
+
+    /// Where the parent of each type stands, if there is a table: it takes no time.
+    pub fn parents(&self) -> Option<&[Option<usize>]>
+        ensures { IfSome result (λ ps. ArePlaced self.now ps.now) }
+    {
+        match &self.table {
+            Some(table) => Some(table.parents.as_slice()),
+            None => None,
+        }
     }
 
     fn len(&self) -> usize

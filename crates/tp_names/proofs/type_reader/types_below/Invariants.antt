@@ -1,7 +1,12 @@
-use Rattle.std.proofs.Common.{◌≡◌, map, take}
+use Rattle.std.proofs.Common.{◌≡◌, map, take, string_bytes}
 use Rattle.tp_ast.specs.Symbols.{parent_view, typed_view}
-use Rattle.tp_ast.specs.Domains.{type_below}
+use Rattle.tp_ast.specs.Domains.{object, type_below}
+use Rattle.tp_types.specs.Rows.{last_of}
+use Rattle.tp_names.proofs.OnRowViews.{parent_below}
 use Rattle.tp_names.proofs.type_reader.types_below.Given as goal
 
-abbrev pub invariant-loop-item : goal.invariant-loop-item
-invariant-loop-item l = map parent_view l.types.items ≡ map type_below (map typed_view (take l.item-index l.items))
+abbrev pub invariant-loop-place : goal.invariant-loop-place
+invariant-loop-place l = record {
+  types : map parent_view l.types.items ≡ map (λ i. type_below (typed_view i)) (take l.place l.items);
+  last : string_bytes l.parent.value ≡ last_of object (map parent_below (take l.place l.items));
+}

@@ -1,4 +1,4 @@
-use Rattle.std.proofs.Common.{ℕ, [], ◌∷◌, ◌++◌, List, String, Global, Some, map, string_bytes, refl, ap, sym, ◌∙◌}
+use Rattle.std.proofs.Common.{[], ◌∷◌, ◌++◌, List, String, Global, map, string_bytes, refl, ap, sym, ◌∙◌}
 use Rattle.std.specs.Prelude.{codes}
 use Rattle.std.proofs.lemmas.List.{map-append}
 use Rattle.std.proofs.lemmas.Result.{err_from_is_err_and}
@@ -10,6 +10,7 @@ use Rattle.std.specs.List.{list_all}
 use Rattle.tp_ast.specs.declared.symbols.Typed.{Typed}
 use Rattle.tp_ast.specs.TypedLists.{is_type}
 use Rattle.tp_types.specs.TypeViews.{types_view}
+use Rattle.tp_names.proofs.OnRowViews.{no_rows}
 use Rattle.tp_names.proofs.OnDeclared.{all_declared, run_declared, last_declared}
 use Rattle.tp_names.proofs.typed.typed_items.Goals as goal
 
@@ -17,6 +18,7 @@ pub runs-init : goal.runs-init
 runs-init c = record {
   items = begins c.args.items _ _ _ (ap (map typed_view) c.new-done.ensures.items) (ap (map string_bytes) c.new-waiting.ensures.items);
   declared = ap (λ (ds : List Typed). all_declared (types_view c.args.types.now) (map typed_view ds)) (sym c.new-done.ensures.items);
+  rows = no_rows _ _ c.new-rows.ensures.items (ap (map typed_view) c.new-done.ensures.items);
 }
 
 pub returns-in_default-others-clause-items : goal.returns-in_default-others-clause-items
@@ -33,7 +35,7 @@ pub runs-preserved-then-is_dash : goal.runs-preserved-then-is_dash
 runs-preserved-then-is_dash c =
     let kinds = map string_bytes c.in_ok-kinds.kinds.items in
     let some = some_names c.args.items c.runs.waiting c.if-is_empty.ensures in
-    let grown = c.in_ok-give.ensures ∙ ap (λ (ss : List (String Global)). map typed_view c.runs.done.items ++ map (given kinds) (map string_bytes ss)) c.deref.ensures.value in
+    let grown = c.in_ok-give.ensures.items ∙ ap (λ (ss : List (String Global)). map typed_view c.runs.done.items ++ map (given kinds) (map string_bytes ss)) c.deref.ensures.value in
     record {
       items =
           dash_goes_on c.args.items _ _ c.runs.rest.now c.first-item.result _ c.in-len1-up.len_at_least c.first-item.is c.runs.invariant.items _ c.kind-item.result kinds _ _ refl
@@ -42,6 +44,7 @@ runs-preserved-then-is_dash c =
       declared =
           run_declared (types_view c.args.types.now) kinds (map typed_view c.runs.done.items) _ (map string_bytes c.runs.waiting.items) c.runs.are_declared _ some c.runs.invariant.declared
           (c.declared_too-are_declared.ensures ∙ ap (λ (ss : List (String Global)). c.runs.are_declared && list_all (is_type (types_view c.args.types.now)) (map string_bytes ss)) c.as_slice.ensures.value) grown;
+      rows = c.in_ok-give.ensures.rows c.runs.invariant.rows;
     }
 
 pub returns-in_err-item_at-clause-items : goal.returns-in_err-item_at-clause-items
@@ -55,15 +58,19 @@ runs-preserved c = record {
       item_goes_on c.args.items _ _ c.runs.rest.now c.first-item.result _ c.in-len1-up.len_at_least c.first-item.is c.runs.invariant.items _ _ (sym c.is_dash.ensures ∙ c.if-is_dash.false) c.in_ok-item_at.ensures
       (ap (map string_bytes) c.in_ok-push.ensures.items ∙ map-append string_bytes _ _);
   declared = c.runs.invariant.declared;
+  rows = c.runs.invariant.rows;
 }
 
 pub returns-clause-items : goal.returns-clause-items
 returns-clause-items c = over c.args.items _ _ _ c.runs.rest.now _ c.in_default.len_below c.runs.invariant.items (
-    c.in_ok-give_object.ensures
+    c.in_ok-give_object.ensures.items
     ∙ ap (λ (ss : List (String Global)). map typed_view c.runs.done.items ++ map (given (codes "object" ∷ [])) (map string_bytes ss)) c.deref-2.ensures.value)
 
 pub returns-clause-declared : goal.returns-clause-declared
 returns-clause-declared c =
     last_declared (types_view c.args.types.now) (map typed_view c.runs.done.items) _ (map string_bytes c.runs.waiting.items) c.runs.are_declared c.runs.invariant.declared (
-    c.in_ok-give_object.ensures
+    c.in_ok-give_object.ensures.items
     ∙ ap (λ (ss : List (String Global)). map typed_view c.runs.done.items ++ map (given (codes "object" ∷ [])) (map string_bytes ss)) c.deref-2.ensures.value)
+
+pub returns-clause-rows : goal.returns-clause-rows
+returns-clause-rows c = c.in_ok-give_object.ensures.rows c.runs.invariant.rows
