@@ -1,4 +1,6 @@
+pub mod OnPrinters
 pub mod OnPrinting
+pub mod OnPrintingForms
 pub mod OnPrintingWords
 pub mod OnPrintingLists
 pub mod OnPrintingNumbers

@@ -1,11 +1,5 @@
--- What a writer takes, one part after another.
-use Rattle.std.proofs.Common.{◌≡◌, ℕ, ◌+◌, ◌<◌, ◌≤◌, List, [], ◌∷◌, ◌++◌, length, drop, get_or, map, codes, eqb, true, false, Vec, Box, Global, Option, Result, Ok, Err, refl, sym, ap, ◌∙◌, subst, append_assoc, append-nil}
-use Rattle.std.specs.Prelude.{OnOk}
-use Rattle.std.proofs.lemmas.List.{at_drop_more, at_drop_all}
-use Rattle.tp_device.specs.declared.Failed.{Failed}
-use Rattle.tp_device.specs.Bytes.{Writes}
-use Rattle.tp_device.proofs.Parts.{appends_more, appends_none}
-use Rattle.std.specs.Io.KnownBytes.{Appends}
+-- Texts of trees, in the parts that are written.
+use Rattle.std.proofs.Common.{◌≡◌, ℕ, List, [], ◌∷◌, ◌++◌, length, map, codes, eqb, true, false, Vec, Box, Global, refl, sym, ap, ◌∙◌, subst, append_assoc, append-nil}
 use Rattle.tp_text.specs.Shapes.{Shape, leaf, node, Shapes, no_shapes, shape}
 use Rattle.tp_text.specs.Texts.{shape_text, more_text}
 use Rattle.tp_ast.specs.Symbols.{typed_view}
@@ -17,7 +11,7 @@ use Rattle.tp_ast.specs.EffectViews.{effect_view, timed_condition_view, timed_ef
 use Rattle.tp_ast.specs.DomainViews.{body_view}
 use Rattle.tp_ast.specs.Domains.{Domain}
 use Rattle.tp_print.specs.Printing.{headed, one_shape, two_shapes, name_shapes, field_before, condition_shape, effect_shape, constraint_shape, timed_shapes, body_shapes, typed_shapes, type_shapes, signature_shapes, joined_shape, part_shapes, action_shapes, section_before, section_shapes, name_shape}
-use Rattle.tp_print.specs.DomainTexts.{Took, lines_text, section_line, declarations_text, domain_text}
+use Rattle.tp_print.specs.DomainTexts.{lines_text, section_line, declarations_text, domain_text}
 use Rattle.tp_ast.specs.declared.joined.Joined as joineds
 use Rattle.tp_ast.specs.declared.joined.Joined.{Joined}
 use Rattle.tp_ast.specs.declared.symbols.Typed.{Typed}
@@ -29,40 +23,7 @@ use Rattle.tp_ast.specs.declared.action.Body.{Body}
 use Rattle.tp_ast.specs.declared.action.Body.TheVariants.{Instant, Durative}
 use Rattle.tp_ast.proofs.OnParts.{and_view, forall_view}
 
-pub took_none : {a : Option (List ℕ)} → Took a a []
-took_none {a} = record { held = appends_none a }
-
-pub took_more : {a b c : Option (List ℕ)} {xs ys : List ℕ} → Took a b xs → Took b c ys → Took a c (xs ++ ys)
-took_more {a} {b} {c} {xs} {ys} first more = record { held = appends_more a b c xs ys first.held more.held }
-
-pub took_is : {a b : Option (List ℕ)} (xs ys : List ℕ) → xs ≡ ys → Took a b xs → Took a b ys
-took_is {a} {b} xs ys is h = subst (λ zs. Took a b zs) is h
-
--- the last part may fail
-pub and_then : {T : Type 0} {a b : Option (List ℕ)} {xs : List ℕ} (c : Option (List ℕ)) (ys : List ℕ) (r : Result T Failed) → Took a b xs → OnOk r (Took b c ys) → OnOk r (Took a c (xs ++ ys))
-and_then c ys (Ok x) first more = took_more first more
-and_then c ys (Err e) first more = tt
-
-pub ok_is : {T : Type 0} (a b : Option (List ℕ)) (xs ys : List ℕ) (r : Result T Failed) → xs ≡ ys → OnOk r (Took a b xs) → OnOk r (Took a b ys)
-ok_is a b xs ys (Ok x) is h = took_is xs ys is h
-ok_is a b xs ys (Err e) is h = tt
-
-pub took_writes : {T : Type 0} (a b : Option (List ℕ)) (xs : List ℕ) (r : Result T Failed) → Writes a b xs r → OnOk r (Took a b xs)
-took_writes a b xs (Ok x) h = record { held = h }
-took_writes a b xs (Err e) h = tt
-
--- A list whose items are written one after another.
-module _ {X : Type 0} (text : List X → List ℕ) (one : X → List ℕ) where
-  pub goes_on : {a b c : Option (List ℕ)} (xs : List X) (i : ℕ) (x : X) → ((y : X) (ys : List X) → text (y ∷ ys) ≡ one y ++ text ys) → i < length xs → x ≡ get_or xs i x → Took b c (one x) → ((new : Option (List ℕ)) → Took b new (text (drop i xs)) → Took a new (text xs)) → (new : Option (List ℕ)) → Took c new (text (drop (i + 1) xs)) → Took a new (text xs)
-  goes_on {a} {b} {c} xs i x each lt item first so_far new rest =
-      so_far new (took_is (one x ++ text (drop (i + 1) xs)) (text (drop i xs)) (ap (λ (y : X). one y ++ text (drop (i + 1) xs)) item ∙ sym (at_drop_more text xs i x lt ∙ each (get_or xs i x) (drop (i + 1) xs))) (took_more first rest))
-
-  pub ends : {a b : Option (List ℕ)} (xs : List X) (i : ℕ) → text [] ≡ [] → length xs ≤ i → ((new : Option (List ℕ)) → Took b new (text (drop i xs)) → Took a new (text xs)) → Took a b (text xs)
-  ends {a} {b} xs i none le so_far = so_far b (took_is [] (text (drop i xs)) (sym (at_drop_all text xs i le ∙ none)) took_none)
-
--- ---- texts of trees
-
-two_text : (s t : Shape) → more_text (two_shapes s t) ++ 41 ∷ [] ≡ 32 ∷ (shape_text s ++ 32 ∷ (shape_text t ++ 41 ∷ []))
+pub two_text : (s t : Shape) → more_text (two_shapes s t) ++ 41 ∷ [] ≡ 32 ∷ (shape_text s ++ 32 ∷ (shape_text t ++ 41 ∷ []))
 two_text s t =
     ap (λ (l : List ℕ). 32 ∷ l) (append_assoc (shape_text s) (32 ∷ (shape_text t ++ [])) (41 ∷ []) ∙ ap (λ (l : List ℕ). shape_text s ++ 32 ∷ (l ++ 41 ∷ [])) (append-nil (shape_text t)))
 
@@ -157,7 +118,3 @@ action_text w n f =
     ∙ ap (λ (l : List ℕ). w ++ 32 ∷ l) (append_assoc n f (41 ∷ 10 ∷ []))
     )
     )
-
-pub ok_held : {T : Type 0} (a b : Option (List ℕ)) (xs : List ℕ) (r : Result T Failed) → OnOk r (Took a b xs) → OnOk r (Appends a b xs)
-ok_held a b xs (Ok x) h = h.held
-ok_held a b xs (Err e) h = tt

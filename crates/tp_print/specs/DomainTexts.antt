@@ -1,6 +1,5 @@
 -- The one text of a domain.
-use Rattle.std.specs.Prelude.{ℕ, List, [], ◌∷◌, ◌++◌, codes, Option}
-use Rattle.std.specs.Io.KnownBytes.{Appends}
+use Rattle.std.specs.Prelude.{ℕ, List, [], ◌∷◌, ◌++◌, codes}
 use Rattle.tp_text.specs.Shapes.{Shape, Shapes, no_shapes, shape}
 use Rattle.tp_text.specs.Texts.{shape_text}
 use Rattle.tp_ast.specs.Domains.{Domain, SpellsDomain}
@@ -38,10 +37,6 @@ operands_text s t = 32 ∷ (shape_text s ++ 32 ∷ (shape_text t ++ 41 ∷ []))
 -- a time specifier's words behind '('
 abbrev pub specifier_text : TimeSpecifier → List ℕ
 specifier_text m = 40 ∷ (specifier_word m ++ 32 ∷ (specifier_place m ++ 32 ∷ []))
-
--- a writer that tells its bytes took these
-pub record Took (old new : Option (List ℕ)) (bytes : List ℕ) : Type 0 where
-  pub held : Appends old new bytes
 
 -- '(define (domain NAME)', the sections and actions, ')'
 abbrev pub domain_text : Domain → List ℕ

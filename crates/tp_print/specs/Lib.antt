@@ -1,2 +1,3 @@
+pub mod Printers
 pub mod Printing
 pub mod DomainTexts

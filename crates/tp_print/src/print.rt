@@ -1,18 +1,19 @@
 //! The one spelling of a domain. Nothing here takes memory.
 
-ghost use Rattle.std.specs.Prelude.{◌≡◌, [], ◌∷◌, ◌++◌, map, codes, string_bytes, OnOk};
-ghost use Rattle.std.specs.Io.KnownBytes.{Appends};
-ghost use Rattle.tp_device.specs.Bytes.{failures_after};
+ghost use Rattle.std.specs.Prelude.{◌≡◌, [], ◌∷◌, ◌++◌, map, codes, string_bytes};
+ghost use Rattle.tp_device.specs.Bytes.{Writes, failures_after};
 ghost use Rattle.tp_text.specs.Texts.{shape_text, more_text};
 ghost use Rattle.tp_ast.specs.Symbols.{typed_view, parent_view, signature_view};
 ghost use Rattle.tp_ast.specs.EffectViews.{timed_condition_view, timed_effect_view};
 ghost use Rattle.tp_ast.specs.DomainViews.{body_view, action_view, domain_view};
+ghost use Rattle.tp_print.specs.Printers.{Prints};
 ghost use Rattle.tp_print.specs.Printing.{name_shapes, typed_shapes, timed_shapes, body_shapes, body_word, field_shapes, action_shape, action_shapes, type_shapes, signature_shape, signature_shapes, name_shape};
-ghost use Rattle.tp_print.specs.DomainTexts.{Took, lines_text, section_line, declarations_text, domain_text, IsSpelledAgain};
+ghost use Rattle.tp_print.specs.DomainTexts.{lines_text, section_line, declarations_text, domain_text, IsSpelledAgain};
 
 use crate::print_parts::{
-    print_cond, print_constraint, print_items, print_joined, print_names, print_variables, put,
+    print_cond, print_constraint, print_items, print_joined, print_names, print_variables,
 };
+use crate::printer::Printer;
 use tp_ast::action::{Action, Body};
 use tp_ast::domain::Domain;
 use tp_ast::symbols::{Signature, Typed};
@@ -21,58 +22,52 @@ use tp_ast::types::TypeName;
 use tp_device::{Failed, Sink};
 
 // Conditions and effects at their time specifiers, each behind its word.
-fn print_timed<W: Sink>(
-    writer: &mut W,
-    condition: &TimedCond,
-    effect: &TimedEffect,
-) -> Result<(), Failed>
-    ensures bytes { OnOk result (Took (W.held writer.old) (W.held writer.new) (more_text
-        (timed_shapes (timed_condition_view condition.now) (timed_effect_view effect.now)))) }
-    ensures cause { W.failures writer.new ≡ failures_after (W.failures writer.old) result }
+fn print_timed<W: Sink>(out: &mut Printer<W>, condition: &TimedCond, effect: &TimedEffect)
+    ensures { Prints W.held W.failures out.old out.new
+        (more_text
+        (timed_shapes (timed_condition_view condition.now) (timed_effect_view effect.now))) }
 {
-    put(writer, b" :condition ")?;
-    print_joined(writer, condition)?;
-    put(writer, b" :effect ")?;
-    print_joined(writer, effect)
+    out.put(b" :condition ");
+    print_joined(out, condition);
+    out.put(b" :effect ");
+    print_joined(out, effect);
 }
 
 // The fields behind an action's parameters.
-fn print_body<W: Sink>(writer: &mut W, body: &Body) -> Result<(), Failed>
-    ensures bytes { OnOk result (Took
-        (W.held writer.old) (W.held writer.new) (more_text (body_shapes (body_view body.now)))) }
-    ensures cause { W.failures writer.new ≡ failures_after (W.failures writer.old) result }
+fn print_body<W: Sink>(out: &mut Printer<W>, body: &Body)
+    ensures { Prints W.held W.failures out.old out.new
+        (more_text (body_shapes (body_view body.now))) }
 {
     match body {
         Body::Instant {
             precondition,
             effect,
         } => {
-            put(writer, b" :precondition ")?;
-            print_cond(writer, precondition)?;
-            put(writer, b" :effect ")?;
-            print_joined(writer, effect)
+            out.put(b" :precondition ");
+            print_cond(out, precondition);
+            out.put(b" :effect ");
+            print_joined(out, effect);
         }
         Body::Durative {
             duration,
             condition,
             effect,
         } => {
-            put(writer, b" :duration ")?;
-            print_constraint(writer, duration)?;
-            print_timed(writer, condition, effect)
+            out.put(b" :duration ");
+            print_constraint(out, duration);
+            print_timed(out, condition, effect);
         }
     }
 }
 
 // An action's fields.
-fn print_fields<W: Sink>(writer: &mut W, action: &Action) -> Result<(), Failed>
-    ensures bytes { OnOk result (Took (W.held writer.old)
-        (W.held writer.new) (more_text (field_shapes (action_view action.now)))) }
-    ensures cause { W.failures writer.new ≡ failures_after (W.failures writer.old) result }
+fn print_fields<W: Sink>(out: &mut Printer<W>, action: &Action)
+    ensures { Prints W.held W.failures out.old out.new
+        (more_text (field_shapes (action_view action.now))) }
 {
-    put(writer, b" :parameters ")?;
-    print_variables(writer, &action.parameters)?;
-    print_body(writer, &action.body)
+    out.put(b" :parameters ");
+    print_variables(out, &action.parameters);
+    print_body(out, &action.body);
 }
 
 // An action's word behind '(', with a space after it.
@@ -85,178 +80,165 @@ fn action_word(body: &Body) -> &'static [u8]
     }
 }
 
-fn print_action<W: Sink>(writer: &mut W, action: &Action) -> Result<(), Failed>
-    ensures bytes { OnOk result (Took (W.held writer.old)
-        (W.held writer.new) (shape_text (action_shape (action_view action.now)) ++ 10 ∷ [])) }
-    ensures cause { W.failures writer.new ≡ failures_after (W.failures writer.old) result }
+fn print_action<W: Sink>(out: &mut Printer<W>, action: &Action)
+    ensures { Prints W.held W.failures out.old out.new
+        (shape_text (action_shape (action_view action.now)) ++ 10 ∷ []) }
 {
-    put(writer, action_word(&action.body))?;
-    put(writer, action.name.as_bytes())?;
-    print_fields(writer, action)?;
-    put(writer, b")\n")
+    out.put(action_word(&action.body));
+    out.put(action.name.as_bytes());
+    print_fields(out, action);
+    out.put(b")\n");
 }
 
 // Actions, each on a line of its own.
-fn print_actions<W: Sink>(writer: &mut W, actions: &[Action]) -> Result<(), Failed>
-    ensures bytes { OnOk result (Took (W.held writer.old)
-        (W.held writer.new) (lines_text (action_shapes (map action_view actions.now)))) }
-    ensures cause { W.failures writer.new ≡ failures_after (W.failures writer.old) result }
+fn print_actions<W: Sink>(out: &mut Printer<W>, actions: &[Action])
+    ensures { Prints W.held W.failures out.old out.new
+        (lines_text (action_shapes (map action_view actions.now))) }
 {
     for action in actions {
-        print_action(writer, action)?;
+        print_action(out, action);
     }
-    Ok(())
 }
 
 // Types with those above them, each after a space.
-fn print_parents<W: Sink>(writer: &mut W, types: &[TypeName]) -> Result<(), Failed>
-    ensures bytes { OnOk result (Took (W.held writer.old)
-        (W.held writer.new) (more_text (type_shapes (map parent_view types.now)))) }
-    ensures cause { W.failures writer.new ≡ failures_after (W.failures writer.old) result }
+fn print_parents<W: Sink>(out: &mut Printer<W>, types: &[TypeName])
+    ensures { Prints W.held W.failures out.old out.new
+        (more_text (type_shapes (map parent_view types.now))) }
 {
     for declared in types {
-        put(writer, b" ")?;
-        put(writer, declared.name.as_bytes())?;
-        put(writer, b" - ")?;
-        put(writer, declared.parent.as_bytes())?;
+        out.put(b" ");
+        out.put(declared.name.as_bytes());
+        out.put(b" - ");
+        out.put(declared.parent.as_bytes());
     }
-    Ok(())
 }
 
-fn print_signature<W: Sink>(writer: &mut W, signature: &Signature) -> Result<(), Failed>
-    ensures bytes { OnOk result (Took
-        (W.held writer.old) (W.held writer.new)
-        (shape_text (signature_shape (signature_view signature.now)))) }
-    ensures cause { W.failures writer.new ≡ failures_after (W.failures writer.old) result }
+fn print_signature<W: Sink>(out: &mut Printer<W>, signature: &Signature)
+    ensures { Prints W.held W.failures out.old out.new
+        (shape_text (signature_shape (signature_view signature.now))) }
 {
-    put(writer, b"(")?;
-    put(writer, signature.name.as_bytes())?;
-    print_items(writer, &signature.parameters)?;
-    put(writer, b")")
+    out.put(b"(");
+    out.put(signature.name.as_bytes());
+    print_items(out, &signature.parameters);
+    out.put(b")");
 }
 
 // Predicates or functions, each after a space.
-fn print_signatures<W: Sink>(writer: &mut W, signatures: &[Signature]) -> Result<(), Failed>
-    ensures bytes { OnOk result (Took (W.held writer.old)
-        (W.held writer.new) (more_text (signature_shapes (map signature_view signatures.now)))) }
-    ensures cause { W.failures writer.new ≡ failures_after (W.failures writer.old) result }
+fn print_signatures<W: Sink>(out: &mut Printer<W>, signatures: &[Signature])
+    ensures { Prints W.held W.failures out.old out.new
+        (more_text (signature_shapes (map signature_view signatures.now))) }
 {
     for signature in signatures {
-        put(writer, b" ")?;
-        print_signature(writer, signature)?;
+        out.put(b" ");
+        print_signature(out, signature);
     }
-    Ok(())
 }
 
-fn print_requirements<W: Sink>(writer: &mut W, words: &[String]) -> Result<(), Failed>
-    ensures bytes { OnOk result (Took (W.held writer.old) (W.held writer.new)
-        (section_line (codes ":requirements") (name_shapes (map string_bytes words.now)))) }
-    ensures cause { W.failures writer.new ≡ failures_after (W.failures writer.old) result }
+fn print_requirements<W: Sink>(out: &mut Printer<W>, words: &[String])
+    ensures { Prints W.held W.failures out.old out.new
+        (section_line (codes ":requirements") (name_shapes (map string_bytes words.now))) }
 {
     if words.is_empty() {
-        return Ok(());
+        return;
     }
-    put(writer, b"(:requirements")?;
-    print_names(writer, words)?;
-    put(writer, b")\n")
+    out.put(b"(:requirements");
+    print_names(out, words);
+    out.put(b")\n");
 }
 
-fn print_type_section<W: Sink>(writer: &mut W, types: &[TypeName]) -> Result<(), Failed>
-    ensures bytes { OnOk result (Took (W.held writer.old) (W.held writer.new)
-        (section_line (codes ":types") (type_shapes (map parent_view types.now)))) }
-    ensures cause { W.failures writer.new ≡ failures_after (W.failures writer.old) result }
+fn print_type_section<W: Sink>(out: &mut Printer<W>, types: &[TypeName])
+    ensures { Prints W.held W.failures out.old out.new
+        (section_line (codes ":types") (type_shapes (map parent_view types.now))) }
 {
     if types.is_empty() {
-        return Ok(());
+        return;
     }
-    put(writer, b"(:types")?;
-    print_parents(writer, types)?;
-    put(writer, b")\n")
+    out.put(b"(:types");
+    print_parents(out, types);
+    out.put(b")\n");
 }
 
-fn print_constants<W: Sink>(writer: &mut W, constants: &[Typed]) -> Result<(), Failed>
-    ensures bytes { OnOk result (Took (W.held writer.old) (W.held writer.new)
-        (section_line (codes ":constants") (typed_shapes (map typed_view constants.now)))) }
-    ensures cause { W.failures writer.new ≡ failures_after (W.failures writer.old) result }
+fn print_constants<W: Sink>(out: &mut Printer<W>, constants: &[Typed])
+    ensures { Prints W.held W.failures out.old out.new
+        (section_line (codes ":constants") (typed_shapes (map typed_view constants.now))) }
 {
     if constants.is_empty() {
-        return Ok(());
+        return;
     }
-    put(writer, b"(:constants")?;
-    print_items(writer, constants)?;
-    put(writer, b")\n")
+    out.put(b"(:constants");
+    print_items(out, constants);
+    out.put(b")\n");
 }
 
-fn print_predicates<W: Sink>(writer: &mut W, signatures: &[Signature]) -> Result<(), Failed>
-    ensures bytes { OnOk result (Took (W.held writer.old) (W.held writer.new)
-        (section_line (codes ":predicates")
-        (signature_shapes (map signature_view signatures.now)))) }
-    ensures cause { W.failures writer.new ≡ failures_after (W.failures writer.old) result }
+fn print_predicates<W: Sink>(out: &mut Printer<W>, signatures: &[Signature])
+    ensures { Prints W.held W.failures out.old out.new
+        (section_line
+        (codes ":predicates") (signature_shapes (map signature_view signatures.now))) }
 {
     if signatures.is_empty() {
-        return Ok(());
+        return;
     }
-    put(writer, b"(:predicates")?;
-    print_signatures(writer, signatures)?;
-    put(writer, b")\n")
+    out.put(b"(:predicates");
+    print_signatures(out, signatures);
+    out.put(b")\n");
 }
 
-fn print_functions<W: Sink>(writer: &mut W, signatures: &[Signature]) -> Result<(), Failed>
-    ensures bytes { OnOk result (Took (W.held writer.old) (W.held writer.new)
-        (section_line (codes ":functions")
-        (signature_shapes (map signature_view signatures.now)))) }
-    ensures cause { W.failures writer.new ≡ failures_after (W.failures writer.old) result }
+fn print_functions<W: Sink>(out: &mut Printer<W>, signatures: &[Signature])
+    ensures { Prints W.held W.failures out.old out.new
+        (section_line (codes ":functions") (signature_shapes (map signature_view signatures.now))) }
 {
     if signatures.is_empty() {
-        return Ok(());
+        return;
     }
-    put(writer, b"(:functions")?;
-    print_signatures(writer, signatures)?;
-    put(writer, b")\n")
+    out.put(b"(:functions");
+    print_signatures(out, signatures);
+    out.put(b")\n");
 }
 
 // The sections that declare something.
-fn print_declarations<W: Sink>(writer: &mut W, domain: &Domain) -> Result<(), Failed>
-    ensures bytes { OnOk result (Took
-        (W.held writer.old) (W.held writer.new) (declarations_text (domain_view domain.now))) }
-    ensures cause { W.failures writer.new ≡ failures_after (W.failures writer.old) result }
+fn print_declarations<W: Sink>(out: &mut Printer<W>, domain: &Domain)
+    ensures { Prints W.held W.failures out.old out.new
+        (declarations_text (domain_view domain.now)) }
 {
-    print_requirements(writer, &domain.requirements)?;
-    print_type_section(writer, &domain.types)?;
-    print_constants(writer, &domain.constants)?;
-    print_predicates(writer, &domain.predicates)?;
-    print_functions(writer, &domain.functions)
+    print_requirements(out, &domain.requirements);
+    print_type_section(out, &domain.types);
+    print_constants(out, &domain.constants);
+    print_predicates(out, &domain.predicates);
+    print_functions(out, &domain.functions);
 }
 
 // The line that a domain begins with.
-fn print_name<W: Sink>(writer: &mut W, domain: &Domain) -> Result<(), Failed>
-    ensures bytes { OnOk result (Took (W.held writer.old) (W.held writer.new)
-        (codes "(define " ++ (shape_text (name_shape (domain_view domain.now)) ++ 10 ∷ []))) }
-    ensures cause { W.failures writer.new ≡ failures_after (W.failures writer.old) result }
+fn print_name<W: Sink>(out: &mut Printer<W>, domain: &Domain)
+    ensures { Prints W.held W.failures out.old out.new
+        (codes "(define " ++ (shape_text (name_shape (domain_view domain.now)) ++ 10 ∷ [])) }
 {
-    put(writer, b"(define (domain ")?;
-    put(writer, domain.name.as_bytes())?;
-    put(writer, b")\n")
+    out.put(b"(define (domain ");
+    out.put(domain.name.as_bytes());
+    out.put(b")\n");
 }
 
-fn print_lines<W: Sink>(writer: &mut W, domain: &Domain) -> Result<(), Failed>
-    ensures bytes { OnOk result
-        (Took (W.held writer.old) (W.held writer.new) (domain_text (domain_view domain.now))) }
-    ensures cause { W.failures writer.new ≡ failures_after (W.failures writer.old) result }
+fn print_lines<W: Sink>(out: &mut Printer<W>, domain: &Domain)
+    ensures { Prints W.held W.failures out.old out.new (domain_text (domain_view domain.now)) }
 {
-    print_name(writer, domain)?;
-    print_declarations(writer, domain)?;
-    print_actions(writer, &domain.actions)?;
-    put(writer, b")\n")
+    print_name(out, domain);
+    print_declarations(out, domain);
+    print_actions(out, &domain.actions);
+    out.put(b")\n");
 }
 
-/// Writes the one spelling of a domain. It takes no memory. What is written of a domain that some text spells spells it too.
-/// Where the writer fails, it has taken some first part.
+/// Writes the one spelling of a domain. What is written of a domain that some text spells spells it too. It takes no memory,
+/// and time in proportion to the domain, also where the writer fails.
+///
+/// # Errors
+///
+/// The writer's first failure. It has then taken some first part of the spelling, and is handed nothing more.
 pub fn print_domain<W: Sink>(domain: &Domain, writer: &mut W) -> Result<(), Failed>
     ensures spells { IsSpelledAgain (domain_view domain.now) }
-    ensures bytes { OnOk result
-        (Appends (W.held writer.old) (W.held writer.new) (domain_text (domain_view domain.now))) }
+    ensures bytes { Writes
+        (W.held writer.old) (W.held writer.new) (domain_text (domain_view domain.now)) result }
     ensures cause { W.failures writer.new ≡ failures_after (W.failures writer.old) result }
 {
-    print_lines(writer, domain)
+    let mut out = Printer::new(writer);
+    print_lines(&mut out, domain);
+    out.outcome()
 }

@@ -1,9 +1,8 @@
 //! The spellings of what stands in a domain: names, terms, expressions, conditions, effects, duration constraints.
 //! Nothing here takes memory.
 
-ghost use Rattle.std.specs.Prelude.{◌≡◌, [], ◌∷◌, ◌++◌, map, string_bytes, OnOk};
+ghost use Rattle.std.specs.Prelude.{◌≡◌, [], ◌∷◌, ◌++◌, map, string_bytes};
 ghost use Rattle.std.specs.Fmt.{signed_decimal};
-ghost use Rattle.tp_device.specs.Bytes.{failures_after};
 ghost use Rattle.tp_text.specs.Shapes.{Shape, node};
 ghost use Rattle.tp_text.specs.Texts.{shape_text, more_text};
 ghost use Rattle.tp_ast.specs.Terms.{term_view, atom_view};
@@ -16,9 +15,11 @@ ghost use Rattle.tp_ast.specs.PartViews.{joined_view};
 ghost use Rattle.tp_ast.specs.Effects.{constraints_in, writes};
 ghost use Rattle.tp_ast.specs.EffectViews.{simple_effect_view, effect_view, timed_view};
 ghost use Rattle.tp_ast.specs.ConstraintViews.{constraint_view};
+ghost use Rattle.tp_print.specs.Printers.{Prints};
 ghost use Rattle.tp_print.specs.Printing.{argument_shape, argument_shapes, fact_shape, name_shapes, types_shape, typed_shapes, expression_shape, comparison_word, condition_shape, condition_shapes, joined_shape, part_shapes, writing_word, simple_effect_shape, effect_shape, timed_shape, constraint_shape, constraint_shapes};
-ghost use Rattle.tp_print.specs.DomainTexts.{Took, item_text, operands_text, specifier_text};
+ghost use Rattle.tp_print.specs.DomainTexts.{item_text, operands_text, specifier_text};
 
+use crate::printer::Printer;
 use itoa::Buffer;
 use tp_ast::cond::Cond;
 use tp_ast::constraint::DurationRule;
@@ -29,167 +30,145 @@ use tp_ast::symbols::Typed;
 use tp_ast::term::{Atom, Term};
 use tp_ast::timed::Timed;
 use tp_ast::words::{Comparison, TimeSpecifier, Writing};
-use tp_device::{Failed, Sink, push_all};
-
-// Hands over some bytes.
-pub fn put<W: Sink>(writer: &mut W, bytes: &[u8]) -> Result<(), Failed>
-    ensures bytes { OnOk result (Took (W.held writer.old) (W.held writer.new) bytes.now) }
-    ensures cause { W.failures writer.new ≡ failures_after (W.failures writer.old) result }
-{
-    push_all(writer, bytes)
-}
+use tp_device::Sink;
 
 // Names, each after a space.
-pub fn print_names<W: Sink>(writer: &mut W, names: &[String]) -> Result<(), Failed>
-    ensures bytes { OnOk result (Took (W.held writer.old)
-        (W.held writer.new) (more_text (name_shapes (map string_bytes names.now)))) }
-    ensures cause { W.failures writer.new ≡ failures_after (W.failures writer.old) result }
+pub fn print_names<W: Sink>(out: &mut Printer<W>, names: &[String])
+    ensures { Prints W.held W.failures out.old out.new
+        (more_text (name_shapes (map string_bytes names.now))) }
 {
     for name in names {
-        put(writer, b" ")?;
-        put(writer, name.as_bytes())?;
+        out.put(b" ");
+        out.put(name.as_bytes());
     }
-    Ok(())
 }
 
 // The type of an item, or the choice that it has.
-fn print_types<W: Sink>(writer: &mut W, types: &[String]) -> Result<(), Failed>
-    ensures bytes { OnOk result (Took (W.held writer.old)
-        (W.held writer.new) (shape_text (types_shape (map string_bytes types.now)))) }
-    ensures cause { W.failures writer.new ≡ failures_after (W.failures writer.old) result }
+fn print_types<W: Sink>(out: &mut Printer<W>, types: &[String])
+    ensures { Prints W.held W.failures out.old out.new
+        (shape_text (types_shape (map string_bytes types.now))) }
 {
     if let [only] = types {
-        return put(writer, only.as_bytes());
+        out.put(only.as_bytes());
+        return;
     }
-    put(writer, b"(either")?;
-    print_names(writer, types)?;
-    put(writer, b")")
+    out.put(b"(either");
+    print_names(out, types);
+    out.put(b")");
 }
 
 // A name with its types.
-fn print_item<W: Sink>(writer: &mut W, item: &Typed) -> Result<(), Failed>
-    ensures bytes { OnOk result
-        (Took (W.held writer.old) (W.held writer.new) (item_text (typed_view item.now))) }
-    ensures cause { W.failures writer.new ≡ failures_after (W.failures writer.old) result }
+fn print_item<W: Sink>(out: &mut Printer<W>, item: &Typed)
+    ensures { Prints W.held W.failures out.old out.new (item_text (typed_view item.now)) }
 {
-    put(writer, item.name.as_bytes())?;
-    put(writer, b" - ")?;
-    print_types(writer, item.type_names())
+    out.put(item.name.as_bytes());
+    out.put(b" - ");
+    print_types(out, item.type_names());
 }
 
 // A typed list, each item after a space.
-pub fn print_items<W: Sink>(writer: &mut W, items: &[Typed]) -> Result<(), Failed>
-    ensures bytes { OnOk result (Took (W.held writer.old)
-        (W.held writer.new) (more_text (typed_shapes (map typed_view items.now)))) }
-    ensures cause { W.failures writer.new ≡ failures_after (W.failures writer.old) result }
+pub fn print_items<W: Sink>(out: &mut Printer<W>, items: &[Typed])
+    ensures { Prints W.held W.failures out.old out.new
+        (more_text (typed_shapes (map typed_view items.now))) }
 {
     for item in items {
-        put(writer, b" ")?;
-        print_item(writer, item)?;
+        out.put(b" ");
+        print_item(out, item);
     }
-    Ok(())
 }
 
 // Variables in parentheses.
-pub fn print_variables<W: Sink>(writer: &mut W, items: &[Typed]) -> Result<(), Failed>
-    ensures bytes { OnOk result (Took (W.held writer.old)
-        (W.held writer.new) (shape_text (node (typed_shapes (map typed_view items.now))))) }
-    ensures cause { W.failures writer.new ≡ failures_after (W.failures writer.old) result }
+pub fn print_variables<W: Sink>(out: &mut Printer<W>, items: &[Typed])
+    ensures { Prints W.held W.failures out.old out.new
+        (shape_text (node (typed_shapes (map typed_view items.now)))) }
 {
     let [first, rest @ ..] = items else {
-        return put(writer, b"()");
+        out.put(b"()");
+        return;
     };
-    put(writer, b"(")?;
-    print_item(writer, first)?;
-    print_items(writer, rest)?;
-    put(writer, b")")
+    out.put(b"(");
+    print_item(out, first);
+    print_items(out, rest);
+    out.put(b")");
 }
 
-fn print_term<W: Sink>(writer: &mut W, term: &Term) -> Result<(), Failed>
-    ensures bytes { OnOk result (Took (W.held writer.old)
-        (W.held writer.new) (shape_text (argument_shape (term_view term.now)))) }
-    ensures cause { W.failures writer.new ≡ failures_after (W.failures writer.old) result }
+fn print_term<W: Sink>(out: &mut Printer<W>, term: &Term)
+    ensures { Prints W.held W.failures out.old out.new
+        (shape_text (argument_shape (term_view term.now))) }
 {
     match term {
-        Term::Object(name) => put(writer, name.as_bytes()),
-        Term::Variable(name) => put(writer, name.as_bytes()),
+        Term::Object(name) => out.put(name.as_bytes()),
+        Term::Variable(name) => out.put(name.as_bytes()),
     }
 }
 
 // Terms, each after a space.
-fn print_terms<W: Sink>(writer: &mut W, terms: &[Term]) -> Result<(), Failed>
-    ensures bytes { OnOk result (Took (W.held writer.old)
-        (W.held writer.new) (more_text (argument_shapes (map term_view terms.now)))) }
-    ensures cause { W.failures writer.new ≡ failures_after (W.failures writer.old) result }
+fn print_terms<W: Sink>(out: &mut Printer<W>, terms: &[Term])
+    ensures { Prints W.held W.failures out.old out.new
+        (more_text (argument_shapes (map term_view terms.now))) }
 {
     for term in terms {
-        put(writer, b" ")?;
-        print_term(writer, term)?;
+        out.put(b" ");
+        print_term(out, term);
     }
-    Ok(())
 }
 
-fn print_atom<W: Sink>(writer: &mut W, atom: &Atom) -> Result<(), Failed>
-    ensures bytes { OnOk result (Took
-        (W.held writer.old) (W.held writer.new) (shape_text (fact_shape (atom_view atom.now)))) }
-    ensures cause { W.failures writer.new ≡ failures_after (W.failures writer.old) result }
+fn print_atom<W: Sink>(out: &mut Printer<W>, atom: &Atom)
+    ensures { Prints W.held W.failures out.old out.new
+        (shape_text (fact_shape (atom_view atom.now))) }
 {
-    put(writer, b"(")?;
-    put(writer, atom.name.as_bytes())?;
-    print_terms(writer, &atom.terms)?;
-    put(writer, b")")
+    out.put(b"(");
+    out.put(atom.name.as_bytes());
+    print_terms(out, &atom.terms);
+    out.put(b")");
 }
 
-fn print_number<W: Sink>(writer: &mut W, number: i64) -> Result<(), Failed>
-    ensures bytes { OnOk result
-        (Took (W.held writer.old) (W.held writer.new) (signed_decimal number)) }
-    ensures cause { W.failures writer.new ≡ failures_after (W.failures writer.old) result }
+fn print_number<W: Sink>(out: &mut Printer<W>, number: i64)
+    ensures { Prints W.held W.failures out.old out.new (signed_decimal number) }
 {
     let mut buffer = Buffer::new();
-    put(writer, buffer.format(number).as_bytes())
+    out.put(buffer.format(number).as_bytes());
 }
 
 // The last operand after a space, and the end of its list.
 #[cycle(print_expr)]
-fn print_last_operand<W: Sink>(writer: &mut W, expr: &Expr) -> Result<(), Failed>
-    ensures bytes { OnOk result (Took (W.held writer.old) (W.held writer.new)
-        (32 ∷ (shape_text (expression_shape (expr_view expr.now)) ++ 41 ∷ []))) }
-    ensures cause { W.failures writer.new ≡ failures_after (W.failures writer.old) result }
+fn print_last_operand<W: Sink>(out: &mut Printer<W>, expr: &Expr)
+    ensures { Prints W.held W.failures out.old out.new
+        (32 ∷ (shape_text (expression_shape (expr_view expr.now)) ++ 41 ∷ [])) }
 {
-    put(writer, b" ")?;
-    print_expr(writer, expr)?;
-    put(writer, b")")
+    out.put(b" ");
+    print_expr(out, expr);
+    out.put(b")");
 }
 
 #[cycle(print_expr)]
-fn print_expr<W: Sink>(writer: &mut W, expr: &Expr) -> Result<(), Failed>
-    ensures bytes { OnOk result (Took (W.held writer.old)
-        (W.held writer.new) (shape_text (expression_shape (expr_view expr.now)))) }
-    ensures cause { W.failures writer.new ≡ failures_after (W.failures writer.old) result }
+fn print_expr<W: Sink>(out: &mut Printer<W>, expr: &Expr)
+    ensures { Prints W.held W.failures out.old out.new
+        (shape_text (expression_shape (expr_view expr.now))) }
 {
     match expr {
-        Expr::Number(number) => print_number(writer, *number),
-        Expr::Fluent(atom) => print_atom(writer, atom),
+        Expr::Number(number) => print_number(out, *number),
+        Expr::Fluent(atom) => print_atom(out, atom),
         Expr::Sum(a, b) => {
-            put(writer, b"(+ ")?;
-            print_expr(writer, a)?;
-            print_last_operand(writer, b)
+            out.put(b"(+ ");
+            print_expr(out, a);
+            print_last_operand(out, b);
         }
         Expr::Negated(a) => {
-            put(writer, b"(-")?;
-            print_last_operand(writer, a)
+            out.put(b"(-");
+            print_last_operand(out, a);
         }
         Expr::Difference(a, b) => {
-            put(writer, b"(- ")?;
-            print_expr(writer, a)?;
-            print_last_operand(writer, b)
+            out.put(b"(- ");
+            print_expr(out, a);
+            print_last_operand(out, b);
         }
         Expr::Product(a, b) => {
-            put(writer, b"(* ")?;
-            print_expr(writer, a)?;
-            print_last_operand(writer, b)
+            out.put(b"(* ");
+            print_expr(out, a);
+            print_last_operand(out, b);
         }
-        Expr::Duration => put(writer, b"?duration"),
+        Expr::Duration => out.put(b"?duration"),
     }
 }
 
@@ -206,114 +185,102 @@ fn comparison_word(comparison: Comparison) -> &'static [u8]
 }
 
 // Two operands, each after a space, and the end of their list.
-fn print_operands<W: Sink>(writer: &mut W, a: &Expr, b: &Expr) -> Result<(), Failed>
-    ensures bytes { OnOk result (Took (W.held writer.old) (W.held writer.new)
-        (operands_text (expression_shape (expr_view a.now)) (expression_shape (expr_view b.now)))) }
-    ensures cause { W.failures writer.new ≡ failures_after (W.failures writer.old) result }
+fn print_operands<W: Sink>(out: &mut Printer<W>, a: &Expr, b: &Expr)
+    ensures { Prints W.held W.failures out.old out.new
+        (operands_text (expression_shape (expr_view a.now)) (expression_shape (expr_view b.now))) }
 {
-    put(writer, b" ")?;
-    print_expr(writer, a)?;
-    print_last_operand(writer, b)
+    out.put(b" ");
+    print_expr(out, a);
+    print_last_operand(out, b);
 }
 
 // Two numbers compared.
-fn print_comparison<W: Sink>(
-    writer: &mut W,
-    comparison: Comparison,
-    a: &Expr,
-    b: &Expr,
-) -> Result<(), Failed>
-    ensures bytes { OnOk result (Took (W.held writer.old) (W.held writer.new)
-        (shape_text (condition_shape (compared comparison (expr_view a.now) (expr_view b.now))))) }
-    ensures cause { W.failures writer.new ≡ failures_after (W.failures writer.old) result }
+fn print_comparison<W: Sink>(out: &mut Printer<W>, comparison: Comparison, a: &Expr, b: &Expr)
+    ensures { Prints W.held W.failures out.old out.new
+        (shape_text (condition_shape (compared comparison (expr_view a.now) (expr_view b.now)))) }
 {
-    put(writer, b"(")?;
-    put(writer, comparison_word(comparison))?;
-    print_operands(writer, a, b)
+    out.put(b"(");
+    out.put(comparison_word(comparison));
+    print_operands(out, a, b);
 }
 
 // The condition that two terms are the same object.
-fn print_same<W: Sink>(writer: &mut W, a: &Term, b: &Term) -> Result<(), Failed>
-    ensures bytes { OnOk result (Took (W.held writer.old) (W.held writer.new)
-        (shape_text (condition_shape (same (term_view a.now) (term_view b.now))))) }
-    ensures cause { W.failures writer.new ≡ failures_after (W.failures writer.old) result }
+fn print_same<W: Sink>(out: &mut Printer<W>, a: &Term, b: &Term)
+    ensures { Prints W.held W.failures out.old out.new
+        (shape_text (condition_shape (same (term_view a.now) (term_view b.now)))) }
 {
-    put(writer, b"(= ")?;
-    print_term(writer, a)?;
-    put(writer, b" ")?;
-    print_term(writer, b)?;
-    put(writer, b")")
+    out.put(b"(= ");
+    print_term(out, a);
+    out.put(b" ");
+    print_term(out, b);
+    out.put(b")");
 }
 
 // Conditions, each after a space.
 #[cycle(print_cond)]
-fn print_conds<W: Sink>(writer: &mut W, conds: &[Cond]) -> Result<(), Failed>
-    ensures bytes { OnOk result (Took (W.held writer.old)
-        (W.held writer.new) (more_text (condition_shapes (conditions (map cond_view conds.now))))) }
-    ensures cause { W.failures writer.new ≡ failures_after (W.failures writer.old) result }
+fn print_conds<W: Sink>(out: &mut Printer<W>, conds: &[Cond])
+    ensures { Prints W.held W.failures out.old out.new
+        (more_text (condition_shapes (conditions (map cond_view conds.now)))) }
 {
     for cond in conds {
-        put(writer, b" ")?;
-        print_cond(writer, cond)?;
+        out.put(b" ");
+        print_cond(out, cond);
     }
-    Ok(())
 }
 
 // Conditions behind a word, and the end of their list.
 #[cycle(print_cond)]
-fn print_junction<W: Sink>(writer: &mut W, word: &[u8], conds: &[Cond]) -> Result<(), Failed>
-    ensures bytes { OnOk result (Took (W.held writer.old) (W.held writer.new) (word.now
-        ++ (more_text (condition_shapes (conditions (map cond_view conds.now))) ++ 41 ∷ []))) }
-    ensures cause { W.failures writer.new ≡ failures_after (W.failures writer.old) result }
+fn print_junction<W: Sink>(out: &mut Printer<W>, word: &[u8], conds: &[Cond])
+    ensures { Prints W.held W.failures out.old out.new
+        (word.now
+        ++ (more_text (condition_shapes (conditions (map cond_view conds.now))) ++ 41 ∷ [])) }
 {
-    put(writer, word)?;
-    print_conds(writer, conds)?;
-    put(writer, b")")
+    out.put(word);
+    print_conds(out, conds);
+    out.put(b")");
 }
 
 // The last condition of a list after a space, and the list's end.
 #[cycle(print_cond)]
-fn print_last_cond<W: Sink>(writer: &mut W, cond: &Cond) -> Result<(), Failed>
-    ensures bytes { OnOk result (Took (W.held writer.old)
-        (W.held writer.new) (32 ∷ (shape_text (condition_shape (cond_view cond.now)) ++ 41 ∷ []))) }
-    ensures cause { W.failures writer.new ≡ failures_after (W.failures writer.old) result }
+fn print_last_cond<W: Sink>(out: &mut Printer<W>, cond: &Cond)
+    ensures { Prints W.held W.failures out.old out.new
+        (32 ∷ (shape_text (condition_shape (cond_view cond.now)) ++ 41 ∷ [])) }
 {
-    put(writer, b" ")?;
-    print_cond(writer, cond)?;
-    put(writer, b")")
+    out.put(b" ");
+    print_cond(out, cond);
+    out.put(b")");
 }
 
 #[cycle(print_cond)]
-pub fn print_cond<W: Sink>(writer: &mut W, cond: &Cond) -> Result<(), Failed>
-    ensures bytes { OnOk result (Took (W.held writer.old)
-        (W.held writer.new) (shape_text (condition_shape (cond_view cond.now)))) }
-    ensures cause { W.failures writer.new ≡ failures_after (W.failures writer.old) result }
+pub fn print_cond<W: Sink>(out: &mut Printer<W>, cond: &Cond)
+    ensures { Prints W.held W.failures out.old out.new
+        (shape_text (condition_shape (cond_view cond.now))) }
 {
     match cond {
-        Cond::And(conds) => print_junction(writer, b"(and", conds),
-        Cond::Or(conds) => print_junction(writer, b"(or", conds),
+        Cond::And(conds) => print_junction(out, b"(and", conds),
+        Cond::Or(conds) => print_junction(out, b"(or", conds),
         Cond::Not(inner) => {
-            put(writer, b"(not")?;
-            print_last_cond(writer, inner)
+            out.put(b"(not");
+            print_last_cond(out, inner);
         }
         Cond::Imply(a, b) => {
-            put(writer, b"(imply ")?;
-            print_cond(writer, a)?;
-            print_last_cond(writer, b)
+            out.put(b"(imply ");
+            print_cond(out, a);
+            print_last_cond(out, b);
         }
         Cond::Forall(variables, inner) => {
-            put(writer, b"(forall ")?;
-            print_variables(writer, variables)?;
-            print_last_cond(writer, inner)
+            out.put(b"(forall ");
+            print_variables(out, variables);
+            print_last_cond(out, inner);
         }
         Cond::Exists(variables, inner) => {
-            put(writer, b"(exists ")?;
-            print_variables(writer, variables)?;
-            print_last_cond(writer, inner)
+            out.put(b"(exists ");
+            print_variables(out, variables);
+            print_last_cond(out, inner);
         }
-        Cond::Atom(atom) => print_atom(writer, atom),
-        Cond::Same(a, b) => print_same(writer, a, b),
-        Cond::Compare(comparison, a, b) => print_comparison(writer, *comparison, a, b),
+        Cond::Atom(atom) => print_atom(out, atom),
+        Cond::Same(a, b) => print_same(out, a, b),
+        Cond::Compare(comparison, a, b) => print_comparison(out, *comparison, a, b),
     }
 }
 
@@ -327,46 +294,41 @@ pub trait Printed {
     // The tree that is printed.
     ghost tree: { Seen → Shape };
 
-    fn print<W: Sink>(&self, writer: &mut W) -> Result<(), Failed>
-        ensures bytes { OnOk result
-            (Took (W.held writer.old) (W.held writer.new) (shape_text (tree (seen self.now)))) }
-        ensures cause { W.failures writer.new ≡ failures_after (W.failures writer.old) result };
+    fn print<W: Sink>(&self, out: &mut Printer<W>)
+        ensures { Prints W.held W.failures out.old out.new (shape_text (tree (seen self.now))) };
 }
 
 // Parts, each after a space.
 #[cycle(print_joined)]
-fn print_parts<P: Printed, W: Sink>(writer: &mut W, members: &[Joined<P>]) -> Result<(), Failed>
-    ensures bytes { OnOk result (Took (W.held writer.old) (W.held writer.new)
-        (more_text (part_shapes P.tree (parts (map (joined_view P.seen) members.now))))) }
-    ensures cause { W.failures writer.new ≡ failures_after (W.failures writer.old) result }
+fn print_parts<P: Printed, W: Sink>(out: &mut Printer<W>, members: &[Joined<P>])
+    ensures { Prints W.held W.failures out.old out.new
+        (more_text (part_shapes P.tree (parts (map (joined_view P.seen) members.now)))) }
 {
     for part in members {
-        put(writer, b" ")?;
-        print_joined(writer, part)?;
+        out.put(b" ");
+        print_joined(out, part);
     }
-    Ok(())
 }
 
 #[cycle(print_joined)]
-pub fn print_joined<P: Printed, W: Sink>(writer: &mut W, joined: &Joined<P>) -> Result<(), Failed>
-    ensures bytes { OnOk result (Took (W.held writer.old)
-        (W.held writer.new) (shape_text (joined_shape P.tree (joined_view P.seen joined.now)))) }
-    ensures cause { W.failures writer.new ≡ failures_after (W.failures writer.old) result }
+pub fn print_joined<P: Printed, W: Sink>(out: &mut Printer<W>, joined: &Joined<P>)
+    ensures { Prints W.held W.failures out.old out.new
+        (shape_text (joined_shape P.tree (joined_view P.seen joined.now))) }
 {
     match joined {
         Joined::And(parts) => {
-            put(writer, b"(and")?;
-            print_parts(writer, parts)?;
-            put(writer, b")")
+            out.put(b"(and");
+            print_parts(out, parts);
+            out.put(b")");
         }
         Joined::Forall(variables, inner) => {
-            put(writer, b"(forall ")?;
-            print_variables(writer, variables)?;
-            put(writer, b" ")?;
-            print_joined(writer, inner)?;
-            put(writer, b")")
+            out.put(b"(forall ");
+            print_variables(out, variables);
+            out.put(b" ");
+            print_joined(out, inner);
+            out.put(b")");
         }
-        Joined::One(part) => part.print(writer),
+        Joined::One(part) => part.print(out),
     }
 }
 
@@ -382,32 +344,27 @@ fn writing_word(writing: Writing) -> &'static [u8]
 }
 
 // A fluent and its value, each after a space, and the end of their list.
-fn print_target<W: Sink>(writer: &mut W, fluent: &Atom, value: &Expr) -> Result<(), Failed>
-    ensures bytes { OnOk result (Took (W.held writer.old) (W.held writer.new) (operands_text
-        (fact_shape (atom_view fluent.now)) (expression_shape (expr_view value.now)))) }
-    ensures cause { W.failures writer.new ≡ failures_after (W.failures writer.old) result }
+fn print_target<W: Sink>(out: &mut Printer<W>, fluent: &Atom, value: &Expr)
+    ensures { Prints W.held W.failures out.old out.new
+        (operands_text
+        (fact_shape (atom_view fluent.now)) (expression_shape (expr_view value.now))) }
 {
-    put(writer, b" ")?;
-    print_atom(writer, fluent)?;
-    put(writer, b" ")?;
-    print_expr(writer, value)?;
-    put(writer, b")")
+    out.put(b" ");
+    print_atom(out, fluent);
+    out.put(b" ");
+    print_expr(out, value);
+    out.put(b")");
 }
 
 // A fluent's new value.
-fn print_write<W: Sink>(
-    writer: &mut W,
-    writing: Writing,
-    fluent: &Atom,
-    value: &Expr,
-) -> Result<(), Failed>
-    ensures bytes { OnOk result (Took (W.held writer.old) (W.held writer.new) (shape_text
-        (simple_effect_shape (writes writing (atom_view fluent.now) (expr_view value.now))))) }
-    ensures cause { W.failures writer.new ≡ failures_after (W.failures writer.old) result }
+fn print_write<W: Sink>(out: &mut Printer<W>, writing: Writing, fluent: &Atom, value: &Expr)
+    ensures { Prints W.held W.failures out.old out.new
+        (shape_text
+        (simple_effect_shape (writes writing (atom_view fluent.now) (expr_view value.now)))) }
 {
-    put(writer, b"(")?;
-    put(writer, writing_word(writing))?;
-    print_target(writer, fluent, value)
+    out.put(b"(");
+    out.put(writing_word(writing));
+    print_target(out, fluent, value);
 }
 
 impl Printed for SimpleEffect {
@@ -417,16 +374,16 @@ impl Printed for SimpleEffect {
 
     ghost tree = { simple_effect_shape };
 
-    fn print<W: Sink>(&self, writer: &mut W) -> Result<(), Failed> {
+    fn print<W: Sink>(&self, out: &mut Printer<W>) {
         match self {
-            SimpleEffect::Add(atom) => print_atom(writer, atom),
+            SimpleEffect::Add(atom) => print_atom(out, atom),
             SimpleEffect::Delete(atom) => {
-                put(writer, b"(not ")?;
-                print_atom(writer, atom)?;
-                put(writer, b")")
+                out.put(b"(not ");
+                print_atom(out, atom);
+                out.put(b")");
             }
             SimpleEffect::Write(writing, fluent, value) => {
-                print_write(writer, *writing, fluent, value)
+                print_write(out, *writing, fluent, value);
             }
         }
     }
@@ -450,10 +407,10 @@ impl Printed for Timed<Cond> {
 
     ghost tree = { timed_shape condition_shape };
 
-    fn print<W: Sink>(&self, writer: &mut W) -> Result<(), Failed> {
-        put(writer, specifier_words(self.specifier))?;
-        print_cond(writer, &self.what)?;
-        put(writer, b")")
+    fn print<W: Sink>(&self, out: &mut Printer<W>) {
+        out.put(specifier_words(self.specifier));
+        print_cond(out, &self.what);
+        out.put(b")");
     }
 }
 
@@ -464,47 +421,42 @@ impl Printed for Timed<Effect> {
 
     ghost tree = { timed_shape effect_shape };
 
-    fn print<W: Sink>(&self, writer: &mut W) -> Result<(), Failed> {
-        put(writer, specifier_words(self.specifier))?;
-        print_joined(writer, &self.what)?;
-        put(writer, b")")
+    fn print<W: Sink>(&self, out: &mut Printer<W>) {
+        out.put(specifier_words(self.specifier));
+        print_joined(out, &self.what);
+        out.put(b")");
     }
 }
 
 // Duration constraints, each after a space.
 #[cycle(print_constraint)]
-fn print_constraints<W: Sink>(writer: &mut W, constraints: &[DurationRule]) -> Result<(), Failed>
-    ensures bytes { OnOk result (Took (W.held writer.old)
-        (W.held writer.new)
-        (more_text (constraint_shapes (constraints_in (map constraint_view constraints.now))))) }
-    ensures cause { W.failures writer.new ≡ failures_after (W.failures writer.old) result }
+fn print_constraints<W: Sink>(out: &mut Printer<W>, constraints: &[DurationRule])
+    ensures { Prints W.held W.failures out.old out.new
+        (more_text (constraint_shapes (constraints_in (map constraint_view constraints.now)))) }
 {
     for constraint in constraints {
-        put(writer, b" ")?;
-        print_constraint(writer, constraint)?;
+        out.put(b" ");
+        print_constraint(out, constraint);
     }
-    Ok(())
 }
 
 #[cycle(print_constraint)]
-pub fn print_constraint<W: Sink>(writer: &mut W, constraint: &DurationRule) -> Result<(), Failed>
-    ensures bytes { OnOk result (Took
-        (W.held writer.old) (W.held writer.new)
-        (shape_text (constraint_shape (constraint_view constraint.now)))) }
-    ensures cause { W.failures writer.new ≡ failures_after (W.failures writer.old) result }
+pub fn print_constraint<W: Sink>(out: &mut Printer<W>, constraint: &DurationRule)
+    ensures { Prints W.held W.failures out.old out.new
+        (shape_text (constraint_shape (constraint_view constraint.now))) }
 {
     match constraint {
         DurationRule::And(constraints) => {
-            put(writer, b"(and")?;
-            print_constraints(writer, constraints)?;
-            put(writer, b")")
+            out.put(b"(and");
+            print_constraints(out, constraints);
+            out.put(b")");
         }
         DurationRule::Limit(comparison, value) => {
-            put(writer, b"(")?;
-            put(writer, comparison_word(*comparison))?;
-            put(writer, b" ?duration ")?;
-            print_expr(writer, value)?;
-            put(writer, b")")
+            out.put(b"(");
+            out.put(comparison_word(*comparison));
+            out.put(b" ?duration ");
+            print_expr(out, value);
+            out.put(b")");
         }
     }
 }

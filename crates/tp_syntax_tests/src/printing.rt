@@ -230,3 +230,32 @@ fn a_failure_of_the_writer_is_answered(rt: HostRuntime) -> Result<(), Fail> {
     assert!(rt; needs(&domain, 39));
     Ok(())
 }
+
+/// Whether a room of so many bytes makes printing fail, and is left with the first bytes of the text.
+fn is_cut_off(alloc: Global, domain: &Domain, text: &[u8], length: usize) -> Result<bool, Fail> {
+    let mut room = vec![in alloc; 0u8; length]?;
+    let printed = print_to::<Brand, _>(domain, room.as_mut_slice(), Blank::new(1));
+    Ok(printed == Err(Failed) && text.starts_with(room.as_slice()))
+}
+
+/// Whether a domain's text is cut off at the end of each room that is too short.
+fn is_cut_off_anywhere(alloc: Global, domain: &Domain, text: &str) -> Result<bool, Fail> {
+    for length in 0..text.len() {
+        if !is_cut_off(alloc, domain, text.as_bytes(), length)? {
+            return Ok(false);
+        }
+    }
+    Ok(true)
+}
+
+#[test]
+fn what_was_written_before_a_failure_is_a_first_part(rt: HostRuntime) -> Result<(), Fail> {
+    let domain = read_domain(
+        rt.alloc(),
+        "(define (domain d) (:predicates (p ?x)) (:action a :parameters (?x) :effect (p ?x)))",
+    )?;
+    let text =
+        "(define (domain d)\n(:predicates (p ?x - object))\n(:action a :parameters (?x - object) :precondition (and) :effect (p ?x))\n)\n";
+    assert!(rt; is_cut_off_anywhere(rt.alloc(), &domain, text)?);
+    Ok(())
+}

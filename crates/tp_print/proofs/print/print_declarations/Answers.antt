@@ -1,9 +1,9 @@
-use Rattle.tp_print.proofs.OnPrinting.{and_then}
+use Rattle.tp_print.proofs.OnPrinters.{prints_more}
 use Rattle.tp_print.proofs.print.print_declarations.Goals as goal
 
-pub returns-clause-bytes : goal.returns-clause-bytes
-returns-clause-bytes g c =
-    and_then _ _ _ (rw c.deref.ensures.value at c.in_ok-print_requirements.ensures.bytes)
-    (and_then _ _ _ (rw c.deref-2.ensures.value at c.in_ok-print_type_section.ensures.bytes)
-    (and_then _ _ _ (rw c.deref-3.ensures.value at c.in_ok-print_constants.ensures.bytes)
-    (and_then _ _ _ (rw c.deref-4.ensures.value at c.in_ok-print_predicates.ensures.bytes) (rw c.deref-5.ensures.value at c.print_functions.ensures.bytes))))
+pub returns : goal.returns
+returns g c =
+    prints_more (rw c.deref.ensures.value at c.print_requirements.ensures)
+    (prints_more (rw c.deref-2.ensures.value at c.print_type_section.ensures)
+    (prints_more (rw c.deref-3.ensures.value at c.print_constants.ensures)
+    (prints_more (rw c.deref-4.ensures.value at c.print_predicates.ensures) (rw c.deref-5.ensures.value at c.print_functions.ensures))))

@@ -1,10 +1,10 @@
-use Rattle.std.proofs.Common.{map, codes, refl, sym, ◌∙◌}
+use Rattle.std.proofs.Common.{refl, sym, map, codes, ◌∙◌}
 use Rattle.tp_ast.specs.Symbols.{parent_view}
 use Rattle.tp_print.specs.Printing.{type_shapes}
-use Rattle.tp_print.proofs.OnPrinting.{ok_is, and_then, section_is}
+use Rattle.tp_print.proofs.OnPrinters.{prints_more, prints_as}
+use Rattle.tp_print.proofs.OnPrinting.{section_is}
 use Rattle.tp_print.proofs.print.print_type_section.Goals as goal
 
-pub returns-clause-bytes : goal.returns-clause-bytes
-returns-clause-bytes g c =
-    ok_is _ _ _ _ _ (section_is (codes ":types") (λ xs. type_shapes (map parent_view xs)) c.args.types.now (sym c.is_empty.ensures ∙ c.if-is_empty.false) (λ x ys. (_, _, refl)))
-    (and_then _ _ _ c.in_ok-put.ensures.bytes (and_then _ _ _ c.in_ok-print_parents.ensures.bytes c.put-2.ensures.bytes))
+pub returns : goal.returns
+returns g c =
+    prints_as (prints_more c.put.ensures (prints_more c.print_parents.ensures c.put-2.ensures)) (section_is (codes ":types") (λ xs. type_shapes (map parent_view xs)) c.args.types.now (sym c.is_empty.ensures ∙ c.if-is_empty.false) (λ x ys. (_, _, refl)))
