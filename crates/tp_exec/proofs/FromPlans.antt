@@ -2,18 +2,13 @@
 use Rattle.std.proofs.Common.{◌≡◌, ℕ, zero, suc, ◌+◌, ◌-◌, ◌<◌, ◌≤◌, ◌==◌, ◌||◌, nat_lt, nat_le, true, false, inl, inr, List, [], ◌∷◌, ◌++◌, length, drop, get_or, slice_get, append-nil, append_assoc, add-one, drop-cons, ◌*◌, Option, Some, None, option_map, refl, sym, ap, subst, ◌∙◌, arith}
 use Rattle.std.specs.Option.{option_to_list}
 use Rattle.std.specs.List.{list_all}
-use Rattle.std.specs.Ordering.{nat_cmp}
-use Rattle.std.specs.FinMap.{get, get-empty}
 use Rattle.std.proofs.lemmas.Bool.{and_from, cases_lt}
 use Rattle.std.proofs.lemmas.Bool.Decides.{nat_tests}
 use Rattle.tp_bounds.specs.declared.Bound.{Bound}
 use Rattle.tp_bounds.specs.declared.plan_nets.PlanNet.{PlanNet}
 use Rattle.tp_bounds.specs.RunLimits.{RunLimits}
 use Rattle.tp_bounds.specs.Setting.{Setting, event_count, fixed_at}
-use Rattle.tp_bounds.specs.Schedule.{IsSchedule, HasSchedule}
-use Rattle.tp_bounds.specs.OwnBounds.{with_bounds, IsWithin, MeetsEach}
-use Rattle.tp_bounds.proofs.Numbering.{in_force_each, others_stay}
-use Rattle.tp_bounds.proofs.Schedules.{is_schedule, schedule_is}
+use Rattle.tp_bounds.specs.Schedule.{HasSchedule}
 use Rattle.tp_deorder.specs.tp_task.declared.events.Body.{Body}
 use Rattle.tp_deorder.specs.tp_task.declared.events.Body.TheVariants.{Instant, Durative}
 use Rattle.tp_deorder.specs.tp_task.declared.task.Task.{Task}
@@ -36,11 +31,11 @@ use Rattle.tp_machine.specs.declared.command.Command.{Command}
 use Rattle.tp_machine.specs.declared.command.Answer.{Answer}
 use Rattle.tp_machine.specs.Machine.{Machine, IsFresh, plan_machine}
 use Rattle.tp_machine.specs.Run.{Run}
-use Rattle.tp_machine.specs.OwnBounds.{MeetsOwn, IsDone, moment_or_zero, dispatched_at, AreDispatched}
+use Rattle.tp_machine.specs.OwnBounds.{IsDone, moment_or_zero, dispatched_at, AreDispatched}
 use Rattle.tp_bounds.specs.Lawful.{IsLawful}
 use Rattle.tp_exec.specs.FromPlan.{CameFrom, TellsSteps, TellsPlan}
-use Rattle.tp_machine.proofs.OwnBounds.{unused_behind, same_events, schedule_with}
 use Rattle.tp_machine.proofs.Keeping.{IsUnderWay, done_as_wanted, run_keeps, run_under_way}
+use Rattle.tp_exec.proofs.OwnSchedules.{start_keeps, start_under_way}
 
 -- ---- the steps of a run
 
@@ -200,45 +195,22 @@ module _ (t : Task) (steps : List Step) (l limits : RunLimits) (n : PlanNet) (s 
   until : s.horizon ≡ l.horizon
   until = horizon ∙ net.horizon
 
-  -- a bound in force is one of the own ones
-  own_below : (id : ℕ) (b : Bound) → get (with_bounds s 0 bounds).bounds id ≡ Some b → id < length bounds
-  own_below id b g =
-      elim (cases_lt id (length bounds)) [
-        | inl lt ↦ lt
-        | inr ge ↦ absurd (let f : None ≡ Some b = sym (unused_behind s fresh bounds id ge) ∙ g in (let e : ⊥ = cc in e))
-      ]
-
-  meets_each : (u : ℕ → ℕ) → MeetsOwn start u → MeetsEach u bounds
-  meets_each u own =
-      in_force_each u s 0 bounds (λ id b g. absurd (let f : None ≡ Some b = sym (ap (λ m. get m id) fresh.no_bounds ∙ get-empty nat_cmp id) ∙ g in (let e : ⊥ = cc in e)))
-      (λ id b g. own id b (own_below id b g) g)
-
   pub start_came : CameFrom t steps start
   start_came =
+      let k = start_keeps (event_count_of (plan_of t steps)) l.horizon bounds s limits fresh count_is until in
       record {
-        count = same_events s 0 bounds ∙ count_is;
-        first = omega arith;
-        schedules = λ kept u within own.
-            let w : IsWithin (event_count_of (plan_of t steps)) l.horizon u = λ e lt. subst (λ h. u e ≤ h) (ap (λ (r : Setting). r.horizon) (others_stay s 0 bounds) ∙ until) (within e lt) in
-            ((net.net.exact u).0 (is_schedule (event_count_of (plan_of t steps)) l.horizon u bounds w (meets_each u own))).1;
+        count = k.count;
+        first = k.first;
+        schedules = λ kept u within own. ((net.net.exact u).0 (k.schedules kept u within own)).1;
       }
 
-  pub start_under_way : IsUnderWay start.setting
-  start_under_way =
-      let u = own_ticks (plan_of t steps) in
-      let w = schedule_is (event_count_of (plan_of t steps)) l.horizon u bounds net.net.own in
-      let within : IsWithin (event_count s) s.horizon u = λ e lt. subst (λ h. u e ≤ h) (sym until) (w.0 e (subst (λ c. e < c) count_is lt)) in
-      subst IsUnderWay (sym (others_stay s 0 bounds))
-      (record {
-        in_time = omega (arith, fresh.start);
-        past = λ e k f. absurd (let x : None ≡ Some k = sym (fresh.no_past e) ∙ f in (let g : ⊥ = cc in g));
-        possible = (u, subst (λ r. IsSchedule r u) (others_stay s 0 bounds) (schedule_with s fresh u bounds within w.1));
-      })
+  pub start_possible : IsUnderWay start.setting
+  start_possible = start_under_way (event_count_of (plan_of t steps)) l.horizon bounds s limits fresh count_is until (own_ticks (plan_of t steps), net.net.own)
 
   -- each run from there that is done, none of the own bounds being withdrawn, is a valid plan
   pub completed_valid : (commands : List Command) (answers : List Answer) (new : Machine) → IsSound t steps → Run start commands answers new → IsDone new.setting → new.kind ≡ Kept → IsValidPlan t (run_steps t (dispatched_at new.setting) steps)
   completed_valid commands answers new sound run done kept =
-      run_is_valid t steps new sound (run_keeps _ _ commands answers start new start_came run) (run_under_way commands answers start new start_under_way run) done kept
+      run_is_valid t steps new sound (run_keeps _ _ commands answers start new start_came run) (run_under_way commands answers start new start_possible run) done kept
 
 -- ---- moments in a list
 

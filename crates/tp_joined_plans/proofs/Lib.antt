@@ -1,0 +1,2 @@
+pub mod PartReports
+pub mod NetsInForce

@@ -1,0 +1,3 @@
+pub mod PartRuns
+pub mod NetsInForce
+pub mod JoinedPlans
