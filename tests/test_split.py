@@ -94,6 +94,7 @@ SPELLINGS = (
     "0 0 1 1\n",
     "\n\n 0\t0\r\n\t1 \n1  ",
     "0\r\n0\r\n1\r\n1\r\n",
+    "\f0\v0\v\f1\f1\v",
     "0000 00 0001 001",
     "0 0 1 1" + (1_048_576 - 7) * " ",
 )
@@ -114,9 +115,7 @@ MISOWNED = (
     ("0 0 1 00001", 3),
     ("0 0 1 1 ; who", 4),
     ("0 0 1 \u00e9", 3),
-    # other blanks of the host are none here
-    ("0 0 1\f1", 2),
-    ("0 0 1\v1", 2),
+    # a blank outside of ASCII is none
     ("0\u00a00 1 1", 0),
     # the first event at fault, be it that its agent's number is too great or that it has none
     ("1024 0", 0),

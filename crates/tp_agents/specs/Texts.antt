@@ -6,9 +6,9 @@ use Rattle.std.specs.Str.Parse.{digits_value}
 use Rattle.tp_agents.specs.declared.fault.SplitFault.{SplitFault}
 use Rattle.tp_agents.specs.declared.fault.SplitFault.TheVariants.{Memory, Owner, Conflict}
 
--- space, tab, line feed or carriage return
+-- space, or one of tab, line feed, vertical tab, form feed and carriage return
 abbrev pub is_blank : ℕ → Bool
-is_blank b = b == 32 || b == 9 || b == 10 || b == 13
+is_blank b = b == 32 || (nat_le 9 b && nat_le b 13)
 
 -- what stands between the blanks
 abbrev pub words_of : List ℕ → List (List ℕ)

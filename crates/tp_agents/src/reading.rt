@@ -13,7 +13,7 @@ use std::alloc::Global;
 fn is_blank(b: u8) -> bool
     ensures { result ≡ is_blank b }
 {
-    b == b' ' || b == b'\t' || b == b'\n' || b == b'\r'
+    b == b' ' || (b'\t' <= b && b <= b'\r')
 }
 
 fn all_digits(word: &[u8]) -> bool
@@ -54,7 +54,8 @@ fn other_word(before: usize) -> SplitFault
     }
 }
 
-/// The agents of events, by event: whole numbers of one to four digits between blanks. It reads each byte once.
+/// The agents of events, by event: whole numbers of one to four digits between blanks, which are those of planning texts. It
+/// reads each byte once.
 ///
 /// # Errors
 /// `Owner` of the first word that is no such number, counted from 0; `Memory`.

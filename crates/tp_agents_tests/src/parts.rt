@@ -71,12 +71,14 @@ const ROWS: [(World, &[u16], &[Part]); 4] = [
 ];
 
 fn has_texts(network: &PlanNet, texts: &[&str]) -> bool {
+    let mut e = 0u16;
+    for wanted in texts {
+        if e as usize >= network.events.len() || network.event_text(e) != *wanted {
+            return false;
+        }
+        e = e.wrapping_add(1);
+    }
     network.events.len() == texts.len()
-        && network
-            .events
-            .iter()
-            .zip(texts)
-            .all(|(text, wanted)| text.as_str() == *wanted)
 }
 
 fn has_bounds(network: &PlanNet, bounds: &[Triple]) -> bool {

@@ -5,13 +5,14 @@ use std::test::Fail;
 use tp_agents::{SplitFault, read_owners};
 
 /// A text and the agents that it spells.
-const READ: [(&str, &[u16]); 6] = [
+const READ: [(&str, &[u16]); 7] = [
     (" 0 1\t2\n", &[0, 1, 2]),
     ("", &[]),
     (" \t\r\n", &[]),
     ("0007", &[7]),
     ("1023 1024 9999", &[1_023, 1_024, 9_999]),
     ("3\r\n3\r\n", &[3, 3]),
+    ("\u{b}4\u{c}5\u{b}\u{c}", &[4, 5]),
 ];
 
 /// A text, and the first of its words, counted from 0, that is no number.

@@ -4,7 +4,7 @@ ghost use Rattle.std.specs.Prelude.{◌≡◌, ℕ, length, IsTrue};
 ghost use Rattle.tp_agents.specs.Owners.{events_of};
 ghost use Rattle.tp_agents.specs.Joined.{FitParts};
 
-use super::settings::{EMPTY, FREE, LAMP, MATCH, World, split_world};
+use super::settings::{EMPTY, FREE, LAMP, MATCH, PAIR, World, split_world};
 use std::alloc::{AllocError, Global};
 use std::test::Fail;
 use tp_agents::{Split, join_runs, part};
@@ -222,6 +222,38 @@ fn runs_apart_make_one_of_the_whole(rt: HostRuntime) -> Result<(), Fail> {
         for order in ORDERS {
             assert!(rt; again!(is_so(rt.alloc(), &split, case, order))?, "{order}");
         }
+    }
+    Ok(())
+}
+
+/// The orders of one command of agent 0 and two of agent 1.
+const PAIR_ORDERS: [&str; 3] = ["011", "101", "110"];
+
+/// Whether two agents of an event each, which the first dispatches at once and the second at 7, in this order, make a run.
+fn pair_is_so(alloc: Global, split: &Split, order: &str) -> Result<bool, AllocError> {
+    let (Some(mut first), Some(mut second)) = (start(alloc, split, 0)?, start(alloc, split, 1)?)
+    else {
+        return Ok(false);
+    };
+    let mut later = [Advance(7), Dispatch(0)].iter();
+    for turn in order.bytes() {
+        let went = if turn == b'0' {
+            takes(&mut first, Dispatch(0))
+        } else {
+            goes_on(&mut second, later.next())
+        };
+        if !went {
+            return Ok(false);
+        }
+    }
+    both_join_to(alloc, split, &first, &second, Some(&[0, 7]))
+}
+
+#[test]
+fn two_events_apart_are_joined(rt: HostRuntime) -> Result<(), Fail> {
+    let split = again!(split_world(rt.alloc(), PAIR, &[0, 1]))?;
+    for order in PAIR_ORDERS {
+        assert!(rt; again!(pair_is_so(rt.alloc(), &split, order))?, "{order}");
     }
     Ok(())
 }

@@ -62,6 +62,13 @@ pub const LAMP: World = World {
     ],
 };
 
+/// Two events, the second at least 2 ticks after the first.
+pub const PAIR: World = World {
+    events: 2,
+    horizon: 10,
+    bounds: &[(E1, E0, -2)],
+};
+
 /// Two events of which each may happen at any moment.
 pub const FREE: World = World {
     events: 2,

@@ -3,7 +3,7 @@
 ghost use Rattle.tp_agents.specs.Splits.{IsUnbegun};
 
 use super::settings::{
-    E0, EMPTY, FREE, LAMP, MATCH, ORIGIN, World, owners_of, setting_of, split_world,
+    E0, EMPTY, FREE, LAMP, MATCH, ORIGIN, PAIR, World, owners_of, setting_of, split_world,
 };
 use std::alloc::Global;
 use std::test::Fail;
@@ -14,7 +14,7 @@ use tp_bounds::{Setting, check_reason};
 type Intervals = &'static [Option<(u32, u32)>];
 
 /// A world, the agents of its events, how many agents there are, and the intervals.
-const ROWS: [(World, &[u16], u16, Intervals); 6] = [
+const ROWS: [(World, &[u16], u16, Intervals); 7] = [
     (
         MATCH,
         &[0, 0, 1, 1],
@@ -34,6 +34,7 @@ const ROWS: [(World, &[u16], u16, Intervals); 6] = [
         2,
         &[Some((0, 0)), Some((3, 20)), Some((0, 20)), Some((0, 2))],
     ),
+    (PAIR, &[0, 1], 2, &[Some((0, 0)), Some((2, 10))]),
     (FREE, &[0, 2], 3, &[None, None]),
     (EMPTY, &[], 0, &[]),
 ];

@@ -145,3 +145,20 @@ fn two_events_each_before_the_other(rt: HostRuntime) -> Result<(), Fail> {
     assert!(rt; check_schedule(&setting, &[5, 4]) == Err(Broken::Proposed));
     Ok(())
 }
+
+/// The one bound of two events apart, told by its place, and nothing behind it.
+fn is_told_first(alloc: Global) -> Result<bool, AllocError> {
+    let setting = two_apart(alloc)?;
+    let bound = Bound {
+        from: Point::Event(1),
+        to: Point::Event(0),
+        w: -2,
+    };
+    Ok(setting.nth(0) == Some((BoundId(0), bound)) && setting.nth(1).is_none())
+}
+
+#[test]
+fn a_bound_is_told_by_its_place(rt: HostRuntime) -> Result<(), Fail> {
+    assert!(rt; is_told_first(rt.alloc())?);
+    Ok(())
+}
