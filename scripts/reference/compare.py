@@ -12,6 +12,9 @@ from cases import kind_of
 
 
 def main():
+    if {"-h", "--help"} & {*sys.argv[1:]}:
+        print(__doc__.strip())
+        sys.exit()
     folder, program = Path(sys.argv[1]), sys.argv[2:]
     bad = other = place = count = 0
     for row in (folder / "expected.tsv").read_text().splitlines():

@@ -9,6 +9,9 @@ from pathlib import Path
 
 
 def main():
+    if {"-h", "--help"} & {*sys.argv[1:]}:
+        print(__doc__.strip())
+        sys.exit()
     folder, program = Path(sys.argv[1]), sys.argv[2:]
     bad = count = 0
     for row in (folder / "searches.tsv").read_text().splitlines():

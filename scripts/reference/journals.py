@@ -298,6 +298,9 @@ def audit(data, network=None, horizon=None):
 
 
 def main():
+    if {"-h", "--help"} & {*sys.argv[1:]}:
+        print(__doc__.strip())
+        sys.exit()
     if len(sys.argv) not in (2, 4):
         sys.exit(__doc__)
     with open(sys.argv[1], "rb") as file:
