@@ -21,18 +21,18 @@ use Rattle.tp_task.specs.declared.events.GroundEvent.{GroundEvent}
 use Rattle.tp_task.specs.declared.events.Body.{Body}
 use Rattle.tp_task.specs.declared.events.Body.TheVariants.{Instant, Durative}
 
-abbrev are_words : Words → Bool
+abbrev pub are_words : Words → Bool
 are_words [] = false
 are_words (w ∷ ws) = true
 
-abbrev has_words : GroundEffect → Bool
+abbrev pub has_words : GroundEffect → Bool
 has_words (adds w) = are_words w
 has_words (deletes w) = are_words w
 has_words (writes w) = are_words w.fluent
 
 -- ---- numbers of words that are not empty are in range
 
-in_range : (ws : List Words) (i : ℕ) → are_words (words_at ws i) ≡ true → i < length ws
+pub in_range : (ws : List Words) (i : ℕ) → are_words (words_at ws i) ≡ true → i < length ws
 in_range [] i h = cc
 in_range (w ∷ ws) zero h = omega arith
 in_range (w ∷ ws) (suc i) h = let k : i < length ws = in_range ws i h in omega arith
@@ -71,7 +71,7 @@ simple_effect_ok u m env (effects.adds f) = refl
 simple_effect_ok u m env (effects.deletes f) = refl
 simple_effect_ok u m env (effects.writes w f x) = refl
 
-simple_effects_ok : (u : Universe) (env : Env) (e : Effect) → list_all has_words (simple_effects_in u env e) ≡ true
+pub simple_effects_ok : (u : Universe) (env : Env) (e : Effect) → list_all has_words (simple_effects_in u env e) ≡ true
 simple_effects_ok u env e = parts_ok has_words u (simple_effect_part u AtStart) (simple_effect_ok u AtStart) env e
 
 timed_ok : (u : Universe) (m : TimeSpecifier) (env : Env) (t : Timed Effect) → list_all has_words (simple_effects_part u m env t) ≡ true
@@ -81,22 +81,22 @@ timed_ok u m env t = by (is_specifier t.specifier m)
     by true = simple_effects_ok u env t.what
     by false = refl
 
-simple_effects_at_ok : (u : Universe) (m : TimeSpecifier) (env : Env) (e : Joined (Timed Effect)) → list_all has_words (simple_effects_at u m env e) ≡ true
+pub simple_effects_at_ok : (u : Universe) (m : TimeSpecifier) (env : Env) (e : Joined (Timed Effect)) → list_all has_words (simple_effects_at u m env e) ≡ true
 simple_effects_at_ok u m env e = parts_ok has_words u (simple_effects_part u m) (timed_ok u m) env e
 
-added_ok : (os : List GroundEffect) → list_all has_words os ≡ true → list_all are_words (added os) ≡ true
+pub added_ok : (os : List GroundEffect) → list_all has_words os ≡ true → list_all are_words (added os) ≡ true
 added_ok [] h = refl
 added_ok (adds w ∷ os) h = let p = and_parts (are_words w) (list_all has_words os) h in and_from (are_words w) _ p.0 (added_ok os p.1)
 added_ok (deletes w ∷ os) h = added_ok os (and_parts (are_words w) (list_all has_words os) h).1
 added_ok (writes w ∷ os) h = added_ok os (and_parts (are_words w.fluent) (list_all has_words os) h).1
 
-deleted_ok : (os : List GroundEffect) → list_all has_words os ≡ true → list_all are_words (deleted os) ≡ true
+pub deleted_ok : (os : List GroundEffect) → list_all has_words os ≡ true → list_all are_words (deleted os) ≡ true
 deleted_ok [] h = refl
 deleted_ok (adds w ∷ os) h = deleted_ok os (and_parts (are_words w) (list_all has_words os) h).1
 deleted_ok (deletes w ∷ os) h = let p = and_parts (are_words w) (list_all has_words os) h in and_from (are_words w) _ p.0 (deleted_ok os p.1)
 deleted_ok (writes w ∷ os) h = deleted_ok os (and_parts (are_words w.fluent) (list_all has_words os) h).1
 
-written_ok : (os : List GroundEffect) → list_all has_words os ≡ true → list_all (λ w. are_words w.fluent) (written os) ≡ true
+pub written_ok : (os : List GroundEffect) → list_all has_words os ≡ true → list_all (λ w. are_words w.fluent) (written os) ≡ true
 written_ok [] h = refl
 written_ok (adds w ∷ os) h = written_ok os (and_parts (are_words w) (list_all has_words os) h).1
 written_ok (deletes w ∷ os) h = written_ok os (and_parts (are_words w) (list_all has_words os) h).1

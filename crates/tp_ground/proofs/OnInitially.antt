@@ -19,7 +19,7 @@ use Rattle.tp_ground.specs.declared.beginning.NumberedInitial.TheVariants as num
 words_equiv : IsEquivalence same_words
 words_equiv = lists_equiv nat_list_eq_equiv
 
-same_words-Decides : (v w : Words) → Decides (same_words v w) (v ≡ w)
+pub same_words-Decides : (v w : Words) → Decides (same_words v w) (v ≡ w)
 same_words-Decides v w = slice_eq-Decides bytes_eq-Decides v w (same_words v w) refl
 
 with_words_distinct : (known : List Words) (w : Words) → IsDistinct same_words known → IsDistinct same_words (with_words known w)
@@ -39,7 +39,7 @@ differs [] x h j lt e = omega arith
 differs (y ∷ ys) x h zero lt e = true≢false (sym ((same_words-Decides x y).1 e) ∙ h.0)
 differs (y ∷ ys) x h (suc j) lt e = differs ys x h.1 j (omega arith) e
 
-apart : (ns : List Words) → IsDistinct same_words ns → (i j : ℕ) → i < length ns → j < length ns → get_or ns i [] ≡ get_or ns j [] → i ≡ j
+pub apart : (ns : List Words) → IsDistinct same_words ns → (i j : ℕ) → i < length ns → j < length ns → get_or ns i [] ≡ get_or ns j [] → i ≡ j
 apart [] d i j hi hj e = absurd (omega arith)
 apart (x ∷ xs) d zero zero hi hj e = refl
 apart (x ∷ xs) d zero (suc j) hi hj e = absurd (differs xs x (IsDistinct-head same_words x xs d) j (omega arith) e)
@@ -47,7 +47,7 @@ apart (x ∷ xs) d (suc i) zero hi hj e = absurd (differs xs x (IsDistinct-head 
 apart (x ∷ xs) d (suc i) (suc j) hi hj e = ap suc (apart xs (IsDistinct-tail same_words x xs d) i j (omega arith) (omega arith) e)
 
 -- words at two numbers are the same exactly where the numbers are
-same_number : (ns : List Words) → IsDistinct same_words ns → (i j : ℕ) → i < length ns → j < length ns → same_words (get_or ns i []) (get_or ns j []) ≡ nat_eq i j
+pub same_number : (ns : List Words) → IsDistinct same_words ns → (i j : ℕ) → i < length ns → j < length ns → same_words (get_or ns i []) (get_or ns j []) ≡ nat_eq i j
 same_number ns d i j hi hj = by (nat_eq i j) refl
   where
     by : (b : Bool) → nat_eq i j ≡ b → same_words (get_or ns i []) (get_or ns j []) ≡ b

@@ -134,6 +134,34 @@ module _ {X : Type 0} (name : X → Name) (rests : X → List Words) where
       all_append P (map (λ r. name x ∷ r) (rests x)) (flat_map (λ x. map (λ r. name x ∷ r) (rests x)) xs)
       (all_map (λ r. name x ∷ r) AreOwn P (λ r are. step (name x) r h.0 are) (rests x) (each x)) (own_blocks P step each xs h.1)
 
+-- ---- labels of which some are kept
+
+module _ {Y : Type 0} (label : Y → Words) (keep : Y → Bool) where
+  all_few : (P : Words → Type 0) (ys : List Y) → AllByRecursion P (map label ys) → AllByRecursion P (map label (filter keep ys))
+  all_few P [] h = tt
+  all_few P (y ∷ ys) h = by (keep y) h.0 (all_few P ys h.1)
+    where
+      by : (b : Bool) → P (label y) → AllByRecursion P (map label (filter keep ys)) → AllByRecursion P (map label (cond b (y ∷ filter keep ys) (filter keep ys)))
+      by true first rest = (first, rest)
+      by false first rest = rest
+
+  once_few : (ys : List Y) → Once (map label ys) → Once (map label (filter keep ys))
+  unfolding Once Apart
+  once_few [] o = tt
+  once_few (y ∷ ys) o = by (keep y) (all_few (λ v. same_words v (label y) ≡ false) ys o.0) (once_few ys o.1)
+    where
+      by : (b : Bool) → AllByRecursion (λ v. same_words v (label y) ≡ false) (map label (filter keep ys)) → Once (map label (filter keep ys)) → Once (map label (cond b (y ∷ filter keep ys) (filter keep ys)))
+      by true first rest = (first, rest)
+      by false first rest = rest
+
+-- labels of names, each of which stands once, are found where they stand
+readable_of : (ls : List Words) → Once ls → AllByRecursion IsOwnLabel ls → AreReadable ls
+readable_of ls once own = record {
+  names = λ i lt. (all_at IsOwnLabel ls i [] own lt).names;
+  lower = λ i lt. (all_at IsOwnLabel ls i [] own lt).lower;
+  found = λ i lt. found ls once i 0 lt ∙ ap Some (let e : 0 + i ≡ i = omega arith in e);
+}
+
 -- ---- the objects of a variable
 
 themselves : (ns : List Name) → map (λ n. n) ns ≡ ns
@@ -203,8 +231,10 @@ module _ (u : Universe) (own : AllByRecursion IsOwnName (map (λ o. o.name) u.ob
 
     pub labels_readable : AreReadable (flat_map (λ a. map (λ os. name a ∷ os) (bindings u (parameters a))) as_)
     unfolding labels
-    labels_readable = record {
-      names = λ i lt. (all_at IsOwnLabel labels i [] all_own lt).names;
-      lower = λ i lt. (all_at IsOwnLabel labels i [] all_own lt).lower;
-      found = λ i lt. found labels all_once i 0 lt ∙ ap Some (let e : 0 + i ≡ i = omega arith in e);
-    }
+    labels_readable = readable_of labels all_once all_own
+
+    pub kept_readable : {Y : Type 0} (label : Y → Words) (keep : Y → Bool) (ys : List Y) → map label ys ≡ flat_map (λ a. map (λ os. name a ∷ os) (bindings u (parameters a))) as_ → AreReadable (map label (filter keep ys))
+    unfolding labels
+    kept_readable label keep ys e =
+        readable_of (map label (filter keep ys)) (once_few label keep ys (subst Once (sym e) all_once))
+        (all_few label keep IsOwnLabel ys (subst (AllByRecursion IsOwnLabel) (sym e) all_own))

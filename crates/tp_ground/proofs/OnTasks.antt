@@ -1,5 +1,5 @@
 -- What is written out of a problem, numbered one after another, and the task of it.
-use Rattle.std.proofs.Common.{◌≡◌, ◌<◌, ◌≤◌, true, false, None, List, [], ◌∷◌, ◌++◌, length, map, Result, Ok, Err, IfErr, IsErrAnd, Vec, Global, refl, sym, ap, ap₂, subst, ◌∙◌, arith, append-nil}
+use Rattle.std.proofs.Common.{◌≡◌, ℕ, ◌<◌, ◌≤◌, true, false, None, List, [], ◌∷◌, ◌++◌, length, map, Result, Ok, Err, IfErr, IsErrAnd, Vec, Global, refl, sym, ap, ap₂, subst, ◌∙◌, arith, append-nil}
 use Rattle.std.specs.List.{AllByRecursion, IsDistinct, list_all}
 use Rattle.std.proofs.lemmas.Bool.{and_from}
 use Rattle.std.proofs.lemmas.List.{length-map, get_or-map}
@@ -20,10 +20,12 @@ use Rattle.tp_ground.specs.Bindings.{Universe, Env, bindings, bound}
 use Rattle.tp_task.specs.Fits.{body_fits}
 use Rattle.tp_task.specs.Tables.{Tables, CannotNumber}
 use Rattle.tp_ground.specs.Written.{GroundCondition, GroundBody, GroundAction, condition_in, body_in}
-use Rattle.tp_ground.specs.Mentions.{Mentions, of_condition, of_each}
+use Rattle.tp_ground.specs.Mentions.{Mentions, ◌then◌, of_condition, of_each}
 use Rattle.tp_ground.specs.ReadBack.{named_condition, named_body}
 use Rattle.tp_ground.specs.Initially.{GroundInitial, initial_in, of_initial, named_initial, is_initially_true, initial_value}
 use Rattle.tp_ground.specs.Lowered.{Notes, Extends, IsLowered, Overflows, Lowers}
+use Rattle.tp_ground.specs.Reached.{Instance, IsTaskOf, action_of, mentioned_of}
+use Rattle.tp_ground.specs.Instances.{written_with}
 use Rattle.tp_ground.specs.Grounding.{universe_of, ground_action, ground_actions, of_action, mentioned, IsTask, HasNoTask}
 use Rattle.tp_ground.specs.WrittenTasks.{WrittenTask, written_task, named_task, of_task, IsMade}
 use Rattle.tp_ground.specs.declared.environment.Env.{Empty}
@@ -56,20 +58,23 @@ all_bodies t v = map (named_body t) v.items
 abbrev named_pair : Tables → Vec NumberedInitial Global × Cond → List GroundInitial × GroundCondition
 named_pair t p = (map (named_initial t) p.0.items, named_condition t p.1)
 
-module _ (u : Universe) (is : List Initial) (c : Condition) (each : List Action) where
+module _ (u : Universe) (is : List Initial) (c : Condition) (third : Mentions) (bodies : List GroundBody) where
   abbrev first : Mentions
   first = of_each of_initial (map initial_in (map initial_view is))
 
   abbrev second : Mentions
   second = of_condition (condition_in u [] c)
 
-  abbrev third : Mentions
-  third = of_each (of_action u) (map action_view each)
-
   abbrev told : List GroundInitial
   told = map (λ i. initial_in (initial_view i)) is
 
-  pub entries_stopped : (a : WriterView) (e : GroundFault) → Overflows a (of_each of_initial told) e → Overflows a (of_task u (map initial_view is) c (map action_view each)) e
+  abbrev all : Mentions
+  all = first then second then third
+
+  abbrev written : WrittenTask
+  written = record { initial = map initial_in (map initial_view is); goal = condition_in u [] c; bodies = bodies }
+
+  pub entries_stopped : (a : WriterView) (e : GroundFault) → Overflows a (of_each of_initial told) e → Overflows a all e
   entries_stopped a e h = at_first a first second third e (subst (λ (es : List GroundInitial). Overflows a (of_each of_initial es) e) (entries_view is) h)
 
   entries_noted : (a b : WriterView) → Notes a b (of_each of_initial told) → Notes a b first
@@ -78,15 +83,15 @@ module _ (u : Universe) (is : List Initial) (c : Condition) (each : List Action)
   goal_noted : (a b : WriterView) → Notes a b (of_condition (condition_in u (env_view Empty) c)) → Notes a b second
   goal_noted a b l = subst (λ (env : Env). Notes a b (of_condition (condition_in u env c))) empty_env l
 
-  pub goal_stopped : (a b : WriterView) (e : GroundFault) → Notes a b (of_each of_initial told) → Overflows b (of_condition (condition_in u (env_view Empty) c)) e → Overflows a (of_task u (map initial_view is) c (map action_view each)) e
+  pub goal_stopped : (a b : WriterView) (e : GroundFault) → Notes a b (of_each of_initial told) → Overflows b (of_condition (condition_in u (env_view Empty) c)) e → Overflows a all e
   goal_stopped a b e l h = at_second a first second third e b (entries_noted a b l) (subst (λ (env : Env). Overflows b (of_condition (condition_in u env c)) e) empty_env h)
 
-  pub actions_stopped : (a b d : WriterView) (e : GroundFault) → Notes a b (of_each of_initial told) → Notes b d (of_condition (condition_in u (env_view Empty) c)) → Overflows d third e → Overflows a (of_task u (map initial_view is) c (map action_view each)) e
+  pub actions_stopped : (a b d : WriterView) (e : GroundFault) → Notes a b (of_each of_initial told) → Notes b d (of_condition (condition_in u (env_view Empty) c)) → Overflows d third e → Overflows a all e
   actions_stopped a b d e l k h = at_third a first second third e b d (entries_noted a b l) (goal_noted b d k) h
 
-  pub task_lowered : (a b d w : WriterView) (es : Vec NumberedInitial Global) (g : Cond) (bs : Vec Body Global) (x : LoweredTask) → x ≡ record { entries = es; goal = g; actions = bs } → IsLowered all_entries a b es told (of_each of_initial told) → IsLowered named_condition b d g (condition_in u (env_view Empty) c) (of_condition (condition_in u (env_view Empty) c)) → IsLowered all_bodies d w bs (map (λ y. y.body) (ground_actions u (map action_view each))) third → IsLowered named_task a w x (written_task u (map initial_view is) c (map action_view each)) (of_task u (map initial_view is) c (map action_view each))
+  pub task_lowered : (a b d w : WriterView) (es : Vec NumberedInitial Global) (g : Cond) (bs : Vec Body Global) (x : LoweredTask) → x ≡ record { entries = es; goal = g; actions = bs } → IsLowered all_entries a b es told (of_each of_initial told) → IsLowered named_condition b d g (condition_in u (env_view Empty) c) (of_condition (condition_in u (env_view Empty) c)) → IsLowered all_bodies d w bs bodies third → IsLowered named_task a w x written all
   task_lowered a b d w es g bs x is_x l k h =
-      subst (λ (y : LoweredTask). IsLowered named_task a w y (written_task u (map initial_view is) c (map action_view each)) (of_task u (map initial_view is) c (map action_view each))) (sym is_x)
+      subst (λ (y : LoweredTask). IsLowered named_task a w y written all) (sym is_x)
       (lowered_both (λ (p : List GroundInitial × GroundCondition) (q : List GroundBody). record { initial = p.0; goal = p.1; bodies = q }) (record { entries = es; goal = g; actions = bs }) (λ t. refl)
       (lowered_both {named = named_pair} (λ (p : List GroundInitial) (q : GroundCondition). (p, q)) (es, g) (λ t. refl)
       (lowered_same _ first (entries_view is) (ap (of_each of_initial) (entries_view is)) l)
@@ -102,7 +107,7 @@ module _ (a b : WriterView) (r : Result LoweredTask GroundFault) (c : Condition)
 
 -- ---- what the actions change is there
 
-abbrev IsWritten : Universe → GroundBody → Type 0
+abbrev pub IsWritten : Universe → GroundBody → Type 0
 IsWritten u y = (env : Env) × ((a : actions.Body) × (y ≡ body_in u env a))
 
 module _ (u : Universe) where
@@ -114,7 +119,7 @@ module _ (u : Universe) where
   all_written [] = tt
   all_written (a ∷ each) = written_one a (bindings u a.parameters) (ground_actions u each) (all_written each)
 
-  fit : (t : Tables) (bs : List Body) (ys : List GroundBody) → AllByRecursion (IsWritten u) ys → map (named_body t) bs ≡ ys → list_all (body_fits (length t.atoms) (length t.fluents)) bs ≡ true
+  pub fit : (t : Tables) (bs : List Body) (ys : List GroundBody) → AllByRecursion (IsWritten u) ys → map (named_body t) bs ≡ ys → list_all (body_fits (length t.atoms) (length t.fluents)) bs ≡ true
   fit t [] ys h e = refl
   fit t (b ∷ bs) [] h e = cc
   fit t (b ∷ bs) (y ∷ ys) h e =
@@ -122,66 +127,70 @@ module _ (u : Universe) where
       let rest : map (named_body t) bs ≡ ys = cc in
       and_from _ _ (body_fits_of t b u h.0.0 h.0.1.0 (here ∙ h.0.1.1)) (fit t bs ys h.1 rest)
 
-  pub bodies_fit : (t : Tables) (bs : List Body) (each : List actions.Action) → map (named_body t) bs ≡ map (λ g. g.body) (ground_actions u each) → list_all (body_fits (length t.atoms) (length t.fluents)) bs ≡ true
-  bodies_fit t bs each e = fit t bs (map (λ g. g.body) (ground_actions u each)) (all_written each) e
-
 -- ---- the task
 
 -- tables to which only actions came
 pub same_extend : (a b : Tables) → b.atoms ≡ a.atoms → b.fluents ≡ a.fluents → Extends a b
 same_extend a b atoms fluents = record { atoms = ([], atoms ∙ sym (append-nil a.atoms)); fluents = ([], fluents ∙ sym (append-nil a.fluents)) }
 
-module _ (limits : RunLimits) (scale : Scale) (d : Domain) (p : Problem) (none new : WriterView) (later : Tables) (l : LoweredTask)
+-- what was written out, with these bodies
+abbrev pub written_bodies : Domain → Problem → List GroundBody → WrittenTask
+written_bodies d p bodies = record { initial = map initial_in p.initial; goal = condition_in (universe_of d p) [] p.goal; bodies = bodies }
+
+module _ (limits : RunLimits) (scale : Scale) (d : Domain) (p : Problem) (bodies : List GroundBody) (labels : List Words) (m : Mentions) (none new : WriterView) (later : Tables) (l : LoweredTask)
     (empty : none.tables ≡ record { atoms = []; fluents = []; actions = []; most = limits.atoms })
-    (lowered : IsLowered named_task none new l (written_task (universe_of d p) p.initial p.goal d.actions) (mentioned d p))
-    (names : later.actions ≡ new.tables.actions ++ map (λ a. a.words) (ground_actions (universe_of d p) d.actions))
+    (lowered : IsLowered named_task none new l (written_bodies d p bodies) m)
+    (names : later.actions ≡ new.tables.actions ++ labels)
     (atoms : later.atoms ≡ new.tables.atoms) (fluents : later.fluents ≡ new.tables.fluents) (most : later.most ≡ new.tables.most) where
-  pub said : named_task later l ≡ written_task (universe_of d p) p.initial p.goal d.actions
+  said : named_task later l ≡ written_bodies d p bodies
   said = lowered.says later (same_extend new.tables later atoms fluents)
 
-  bodies : map (named_body later) l.actions.items ≡ map (λ a. a.body) (ground_actions (universe_of d p) d.actions)
-  bodies = ap (λ (w : WrittenTask). w.bodies) said
+  all_said : map (named_body later) l.actions.items ≡ bodies
+  all_said = ap (λ (w : WrittenTask). w.bodies) said
 
   entries : map (named_initial later) l.entries.items ≡ map initial_in p.initial
   entries = ap (λ (w : WrittenTask). w.initial) said
 
-  all_names : later.actions ≡ map (λ a. a.words) (ground_actions (universe_of d p) d.actions)
-  all_names = names ∙ ap (λ (ws : List Words). ws ++ map (λ a. a.words) (ground_actions (universe_of d p) d.actions)) (lowered.notes.actions ∙ ap (λ (t : Tables). t.actions) empty)
+  all_names : later.actions ≡ labels
+  all_names = names ∙ ap (λ (ws : List Words). ws ++ labels) (lowered.notes.actions ∙ ap (λ (t : Tables). t.actions) empty)
 
-  all_atoms : later.atoms ≡ firsts (mentioned d p).atoms
-  all_atoms = atoms ∙ lowered.notes.atoms ∙ ap (λ (t : Tables). with_all t.atoms (mentioned d p).atoms) empty
+  all_atoms : later.atoms ≡ firsts m.atoms
+  all_atoms = atoms ∙ lowered.notes.atoms ∙ ap (λ (t : Tables). with_all t.atoms m.atoms) empty
 
-  all_fluents : later.fluents ≡ firsts (mentioned d p).fluents
-  all_fluents = fluents ∙ lowered.notes.fluents ∙ ap (λ (t : Tables). with_all t.fluents (mentioned d p).fluents) empty
+  all_fluents : later.fluents ≡ firsts m.fluents
+  all_fluents = fluents ∙ lowered.notes.fluents ∙ ap (λ (t : Tables). with_all t.fluents m.fluents) empty
 
-  how_many : length l.actions.items ≡ length (ground_actions (universe_of d p) d.actions)
-  how_many = sym (length-map l.actions.items (named_body later)) ∙ ap length bodies ∙ length-map (ground_actions (universe_of d p) d.actions) (λ a. a.body)
+  pub how_many : length l.actions.items ≡ length bodies
+  how_many = sym (length-map l.actions.items (named_body later)) ∙ ap length all_said
 
-  pub few_here : length (ground_actions (universe_of d p) d.actions) ≤ 65_535 → length l.actions.items ≤ 65_535
-  few_here h = let e : length l.actions.items ≡ length (ground_actions (universe_of d p) d.actions) = how_many in omega arith
+  pub few_of : length bodies ≤ 65_535 → length l.actions.items ≤ 65_535
+  few_of h = let e : length l.actions.items ≡ length bodies = how_many in omega arith
 
   most_atoms : later.most ≡ limits.atoms
   most_atoms = most ∙ lowered.notes.most ∙ ap (λ (t : Tables). t.most) empty
 
-  pub few_atoms : length later.atoms ≤ later.most → length (firsts (mentioned d p).atoms) ≤ limits.atoms
-  few_atoms h = let e : length later.atoms ≡ length (firsts (mentioned d p).atoms) = ap length all_atoms in let m = most_atoms in omega arith
+  pub within_most : (n : ℕ) → n ≤ later.most → n ≤ limits.atoms
+  within_most n h = let m = most_atoms in omega arith
 
-  pub few_fluents : length later.fluents ≤ later.most → length (firsts (mentioned d p).fluents) ≤ limits.atoms
-  few_fluents h = let e : length later.fluents ≡ length (firsts (mentioned d p).fluents) = ap length all_fluents in let m = most_atoms in omega arith
+  pub atoms_of : length later.atoms ≤ later.most → length (firsts m.atoms) ≤ limits.atoms
+  atoms_of h = let e : length later.atoms ≡ length (firsts m.atoms) = ap length all_atoms in let k = most_atoms in omega arith
 
-  pub fits_here : list_all (body_fits (length later.atoms) (length later.fluents)) l.actions.items ≡ true
-  fits_here = bodies_fit (universe_of d p) later l.actions.items d.actions bodies
+  pub fluents_of : length later.fluents ≤ later.most → length (firsts m.fluents) ≤ limits.atoms
+  fluents_of h = let e : length later.fluents ≡ length (firsts m.fluents) = ap length all_fluents in let k = most_atoms in omega arith
 
-  pub named_here : length later.actions ≡ length l.actions.items
-  named_here = ap length all_names ∙ length-map (ground_actions (universe_of d p) d.actions) (λ a. a.words) ∙ sym how_many
+  pub fits_of : AllByRecursion (IsWritten (universe_of d p)) bodies → list_all (body_fits (length later.atoms) (length later.fluents)) l.actions.items ≡ true
+  fits_of h = fit (universe_of d p) later l.actions.items bodies h all_said
+
+  pub named_of : length labels ≡ length bodies → length later.actions ≡ length l.actions.items
+  named_of h = ap length all_names ∙ h ∙ sym how_many
 
   atoms_distinct : IsDistinct same_words later.atoms
   unfolding IsDistinct
-  atoms_distinct = subst (IsDistinct same_words) (sym all_atoms) (with_all_distinct [] (mentioned d p).atoms tt)
+  atoms_distinct = subst (IsDistinct same_words) (sym all_atoms) (with_all_distinct [] m.atoms tt)
 
   fluents_distinct : IsDistinct same_words later.fluents
   unfolding IsDistinct
-  fluents_distinct = subst (IsDistinct same_words) (sym all_fluents) (with_all_distinct [] (mentioned d p).fluents tt)
+  fluents_distinct = subst (IsDistinct same_words) (sym all_fluents) (with_all_distinct [] m.fluents tt)
 
   module _ (t : Task) (made : IsMade limits scale later l t) where
     atoms_then : t.initial_atoms.items ≡ map (is_initially_true (map initial_in p.initial)) later.atoms
@@ -204,18 +213,116 @@ module _ (limits : RunLimits) (scale : Scale) (d : Domain) (p : Problem) (none n
         ∙ value_there later fluents_distinct j below l.entries.items p.initial entries
         ∙ sym (get_or-map (initial_value (map initial_in p.initial)) later.fluents j [] None below))
 
-    pub is_task : IsTask limits scale d p t
-    is_task = record {
-      same_limits = made.same_limits;
-      same_scale = made.same_scale;
-      atoms = ap (λ (n : Tables). n.atoms) made.same_numbering ∙ all_atoms;
-      fluents = ap (λ (n : Tables). n.fluents) made.same_numbering ∙ all_fluents;
-      names = ap (λ (n : Tables). n.actions) made.same_numbering ∙ all_names;
-      bodies = ap₂ (λ (n : Tables) (v : Vec Body Global). map (named_body n) v.items) made.same_numbering made.same_actions ∙ bodies;
-      goal = ap₂ (λ (n : Tables) (g : Cond). named_condition n g) made.same_numbering made.same_goal ∙ ap (λ (w : WrittenTask). w.goal) said;
-      initial_atoms = atoms_then ∙ sym (ap (λ (n : Tables). map (is_initially_true (map initial_in p.initial)) n.atoms) made.same_numbering);
-      initial_numbers = numbers_then ∙ sym (ap (λ (n : Tables). map (initial_value (map initial_in p.initial)) n.fluents) made.same_numbering);
-    }
+    pub same_atoms : t.numbering.atoms ≡ firsts m.atoms
+    same_atoms = ap (λ (n : Tables). n.atoms) made.same_numbering ∙ all_atoms
+
+    pub same_fluents : t.numbering.fluents ≡ firsts m.fluents
+    same_fluents = ap (λ (n : Tables). n.fluents) made.same_numbering ∙ all_fluents
+
+    pub same_names : t.numbering.actions ≡ labels
+    same_names = ap (λ (n : Tables). n.actions) made.same_numbering ∙ all_names
+
+    pub same_bodies : map (named_body t.numbering) t.actions.items ≡ bodies
+    same_bodies = ap₂ (λ (n : Tables) (v : Vec Body Global). map (named_body n) v.items) made.same_numbering made.same_actions ∙ all_said
+
+    pub same_goal : named_condition t.numbering t.goal ≡ condition_in (universe_of d p) [] p.goal
+    same_goal = ap₂ (λ (n : Tables) (g : Cond). named_condition n g) made.same_numbering made.same_goal ∙ ap (λ (w : WrittenTask). w.goal) said
+
+    pub same_truths : t.initial_atoms.items ≡ map (is_initially_true (map initial_in p.initial)) t.numbering.atoms
+    same_truths = atoms_then ∙ sym (ap (λ (n : Tables). map (is_initially_true (map initial_in p.initial)) n.atoms) made.same_numbering)
+
+    pub same_values : t.initial_numbers.items ≡ map (initial_value (map initial_in p.initial)) t.numbering.fluents
+    same_values = numbers_then ∙ sym (ap (λ (n : Tables). map (initial_value (map initial_in p.initial)) n.fluents) made.same_numbering)
+
+-- of all ground actions
+module _ (limits : RunLimits) (scale : Scale) (d : Domain) (p : Problem) (none new : WriterView) (later : Tables) (l : LoweredTask)
+    (empty : none.tables ≡ record { atoms = []; fluents = []; actions = []; most = limits.atoms })
+    (lowered : IsLowered named_task none new l (written_task (universe_of d p) p.initial p.goal d.actions) (mentioned d p))
+    (names : later.actions ≡ new.tables.actions ++ map (λ a. a.words) (ground_actions (universe_of d p) d.actions))
+    (atoms : later.atoms ≡ new.tables.atoms) (fluents : later.fluents ≡ new.tables.fluents) (most : later.most ≡ new.tables.most) where
+  abbrev every_action : List GroundAction
+  every_action = ground_actions (universe_of d p) d.actions
+
+  abbrev bodies : List GroundBody
+  bodies = map (λ a. a.body) every_action
+
+  abbrev labels : List Words
+  labels = map (λ a. a.words) every_action
+
+  as_many : length bodies ≡ length every_action
+  as_many = length-map every_action (λ a. a.body)
+
+  pub few_here : length every_action ≤ 65_535 → length l.actions.items ≤ 65_535
+  few_here h = few_of limits scale d p bodies labels (mentioned d p) none new later l empty lowered names atoms fluents most (let e = as_many in omega arith)
+
+  pub few_atoms : length later.atoms ≤ later.most → length (firsts (mentioned d p).atoms) ≤ limits.atoms
+  few_atoms h = atoms_of limits scale d p bodies labels (mentioned d p) none new later l empty lowered names atoms fluents most h
+
+  pub few_fluents : length later.fluents ≤ later.most → length (firsts (mentioned d p).fluents) ≤ limits.atoms
+  few_fluents h = fluents_of limits scale d p bodies labels (mentioned d p) none new later l empty lowered names atoms fluents most h
+
+  pub fits_here : list_all (body_fits (length later.atoms) (length later.fluents)) l.actions.items ≡ true
+  fits_here = fits_of limits scale d p bodies labels (mentioned d p) none new later l empty lowered names atoms fluents most (all_written (universe_of d p) d.actions)
+
+  pub named_here : length later.actions ≡ length l.actions.items
+  named_here = named_of limits scale d p bodies labels (mentioned d p) none new later l empty lowered names atoms fluents most (length-map every_action (λ a. a.words) ∙ sym as_many)
+
+  pub is_task : (t : Task) → IsMade limits scale later l t → IsTask limits scale d p t
+  is_task t made = record {
+    same_limits = made.same_limits;
+    same_scale = made.same_scale;
+    atoms = same_atoms limits scale d p bodies labels (mentioned d p) none new later l empty lowered names atoms fluents most t made;
+    fluents = same_fluents limits scale d p bodies labels (mentioned d p) none new later l empty lowered names atoms fluents most t made;
+    names = same_names limits scale d p bodies labels (mentioned d p) none new later l empty lowered names atoms fluents most t made;
+    bodies = same_bodies limits scale d p bodies labels (mentioned d p) none new later l empty lowered names atoms fluents most t made;
+    goal = same_goal limits scale d p bodies labels (mentioned d p) none new later l empty lowered names atoms fluents most t made;
+    initial_atoms = same_truths limits scale d p bodies labels (mentioned d p) none new later l empty lowered names atoms fluents most t made;
+    initial_numbers = same_values limits scale d p bodies labels (mentioned d p) none new later l empty lowered names atoms fluents most t made;
+  }
+
+-- of some ground actions
+module _ (limits : RunLimits) (scale : Scale) (d : Domain) (p : Problem) (is : List Instance) (none new : WriterView) (later : Tables) (l : LoweredTask)
+    (empty : none.tables ≡ record { atoms = []; fluents = []; actions = []; most = limits.atoms })
+    (lowered : IsLowered named_task none new l (written_with (universe_of d p) p.initial p.goal is) (mentioned_of d p is))
+    (names : later.actions ≡ new.tables.actions ++ map (λ i. (action_of (universe_of d p) i).words) is)
+    (atoms : later.atoms ≡ new.tables.atoms) (fluents : later.fluents ≡ new.tables.fluents) (most : later.most ≡ new.tables.most) where
+  abbrev some_bodies : List GroundBody
+  some_bodies = map (λ i. (action_of (universe_of d p) i).body) is
+
+  abbrev some_labels : List Words
+  some_labels = map (λ i. (action_of (universe_of d p) i).words) is
+
+  written_some : (js : List Instance) → AllByRecursion (IsWritten (universe_of d p)) (map (λ i. (action_of (universe_of d p) i).body) js)
+  written_some [] = tt
+  written_some (i ∷ js) = ((bound i.action.parameters i.objects, (i.action.body, refl)), written_some js)
+
+  as_many_of : length some_bodies ≡ length is
+  as_many_of = length-map is (λ i. (action_of (universe_of d p) i).body)
+
+  pub few_some : length is ≤ 65_535 → length l.actions.items ≤ 65_535
+  few_some h = few_of limits scale d p some_bodies some_labels (mentioned_of d p is) none new later l empty lowered names atoms fluents most (let e = as_many_of in omega arith)
+
+  pub some_within : (n : ℕ) → n ≤ later.most → n ≤ limits.atoms
+  some_within n h = within_most limits scale d p some_bodies some_labels (mentioned_of d p is) none new later l empty lowered names atoms fluents most n h
+
+  pub fits_some : list_all (body_fits (length later.atoms) (length later.fluents)) l.actions.items ≡ true
+  fits_some = fits_of limits scale d p some_bodies some_labels (mentioned_of d p is) none new later l empty lowered names atoms fluents most (written_some is)
+
+  pub named_some : length later.actions ≡ length l.actions.items
+  named_some = named_of limits scale d p some_bodies some_labels (mentioned_of d p is) none new later l empty lowered names atoms fluents most (length-map is (λ i. (action_of (universe_of d p) i).words) ∙ sym as_many_of)
+
+  pub is_task_of : (t : Task) → IsMade limits scale later l t → IsTaskOf limits scale d p is t
+  is_task_of t made = record {
+    same_limits = made.same_limits;
+    same_scale = made.same_scale;
+    atoms = same_atoms limits scale d p some_bodies some_labels (mentioned_of d p is) none new later l empty lowered names atoms fluents most t made;
+    fluents = same_fluents limits scale d p some_bodies some_labels (mentioned_of d p is) none new later l empty lowered names atoms fluents most t made;
+    names = same_names limits scale d p some_bodies some_labels (mentioned_of d p is) none new later l empty lowered names atoms fluents most t made;
+    bodies = same_bodies limits scale d p some_bodies some_labels (mentioned_of d p is) none new later l empty lowered names atoms fluents most t made;
+    goal = same_goal limits scale d p some_bodies some_labels (mentioned_of d p is) none new later l empty lowered names atoms fluents most t made;
+    initial_atoms = same_truths limits scale d p some_bodies some_labels (mentioned_of d p is) none new later l empty lowered names atoms fluents most t made;
+    initial_numbers = same_values limits scale d p some_bodies some_labels (mentioned_of d p is) none new later l empty lowered names atoms fluents most t made;
+  }
 
 -- what cannot be numbered is too much
 pub overflowed : (limits : RunLimits) (d : Domain) (p : Problem) (none : WriterView) (e : GroundFault) → none.tables ≡ record { atoms = []; fluents = []; actions = []; most = limits.atoms } → Overflows none (mentioned d p) e → HasNoTask limits d p e
@@ -234,6 +341,6 @@ pub names_then : (new later : List Words) (u v : Universe) (each bs : List Actio
 names_then new later u v each bs p q e = e ∙ ap₂ (λ (w : Universe) (xs : List Action). new ++ map (λ a. a.words) (ground_actions w (map action_view xs))) p q
 
 -- a fault that was passed on
-pub not_made : {X : Type 0} (limits : RunLimits) (d : Domain) (p : Problem) (r : Result X GroundFault) (f : GroundFault) → IsErrAnd r (λ e. e ≡ f) → HasNoTask limits d p f → IfErr r (HasNoTask limits d p)
-not_made limits d p (Ok x) f is h = absurd is
-not_made limits d p (Err e) f is h = subst (λ g. HasNoTask limits d p g) (sym is) h
+pub not_made : {X : Type 0} (Why : GroundFault → Type 0) (r : Result X GroundFault) (f : GroundFault) → IsErrAnd r (λ e. e ≡ f) → Why f → IfErr r Why
+not_made Why (Ok x) f is h = absurd is
+not_made Why (Err e) f is h = subst Why (sym is) h

@@ -16,6 +16,8 @@ pub mod Found
 pub mod NumberedEffects
 pub mod NumberedEnds
 pub mod Grounding
+pub mod Reached
+pub mod Instances
 pub mod WrittenTasks
 pub mod OwnNames
 pub mod Rows

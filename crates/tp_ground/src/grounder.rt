@@ -60,8 +60,8 @@ fn has_too_many_objects(constants: &[Typed], objects: &[Typed]) -> bool
     constants.len() + objects.len() > MOST_OBJECTS
 }
 
-// The types and objects, before anything is looked for among them.
-fn plain_universe<'a>(
+/// The types and objects, before anything is looked for among them.
+pub fn plain_universe<'a>(
     alloc: Global,
     domain: &'a Domain,
     problem: &'a Problem,
@@ -76,8 +76,8 @@ fn plain_universe<'a>(
     })
 }
 
-// What can be told before the types are looked at, whatever the limits.
-fn check(domain: &Domain, problem: &Problem) -> Result<(), GroundFault>
+/// What can be told before the types are looked at, whatever the limits.
+pub fn check(domain: &Domain, problem: &Problem) -> Result<(), GroundFault>
     ensures numbers { OnOk result
         (has_great_number (domain_view domain.now) (problem_view problem.now) ≡ false) }
     ensures objects { OnOk result (nat_lt 65_535 (length
@@ -118,8 +118,8 @@ fn check_actions<'a>(
     Ok(())
 }
 
-// Looks for the objects that quantified variables may stand for.
-fn note_quantifiers<'a>(
+/// Looks for the objects that quantified variables may stand for.
+pub fn note_quantifiers<'a>(
     alloc: Global,
     universe: &mut Universe<'a>,
     domain: &'a Domain,
@@ -270,7 +270,8 @@ fn beginning_of(
     Ok(Beginning { truths, numbers })
 }
 
-fn task_of(
+/// The task of what is lowered.
+pub fn task_of(
     alloc: Global,
     limits: Limits,
     scale: Scale,

@@ -3,6 +3,7 @@
 //! - `objects`, `universe`, `noting`, `rows`: the objects, what variables may stand for, and their bindings
 //! - `environment`, `lowering`: conditions, expressions, effects and bodies grounded under a binding
 //! - `numbers`, `beginning`, `grounding`, `grounder`: numbers past the limit, the initial state, all ground actions, the task
+//! - `instances`, `reached`: all bindings, and the task of those that the relaxed reach keeps
 //! - `laws`: what holds of the tasks that are made
 #![tactic(auto)]
 
@@ -10,6 +11,7 @@ mod beginning;
 mod environment;
 mod grounder;
 mod grounding;
+mod instances;
 mod keys;
 mod laws;
 mod lowering;
@@ -17,6 +19,7 @@ mod memory;
 mod noting;
 mod numbers;
 mod objects;
+mod reached;
 mod rows;
 mod sameness;
 mod shortness;
@@ -24,6 +27,7 @@ mod universe;
 mod writer;
 
 pub use grounder::ground;
-pub use laws::actions_are_readable;
+pub use laws::{actions_are_readable, reached_actions_are_readable};
 pub use numbers::has_great_number;
+pub use reached::ground_reached;
 pub use tp_task::{GroundFault, Task, TooManyKind};

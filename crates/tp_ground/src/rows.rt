@@ -86,7 +86,15 @@ fn begun<'a>(alloc: Global, lists: Vec<Vec<&'a str>>, count: usize) -> Result<Ro
     Ok(Rows { lists, row, count })
 }
 
-/// The bindings of variables, none of them made yet. Where there are 2^64 or more, memory is refused at once.
+// Asks for the room of more rows than can be told, which is refused.
+fn too_many<'a>(alloc: Global) -> Result<Rows<'a>, AllocError>
+    ensures { IfOk result (λ _. ⊥) }
+{
+    let _room: Vec<u8> = Vec::with_capacity(alloc, usize::MAX)?;
+    Err(AllocError)
+}
+
+/// The bindings of variables, none of them made yet. Where there are 2^64 or more, room is asked for as many bytes, and refused.
 pub fn rows_of<'a>(
     alloc: Global,
     universe: &Universe<'a>,
@@ -96,7 +104,7 @@ pub fn rows_of<'a>(
         ≡ bindings (universe_view universe.now) (map typed_view variables.now)) }
 {
     match count_bindings(universe, variables, usize::MAX) {
-        None => Err(AllocError),
+        None => too_many(alloc),
         // No list is made: many variables may have many objects each.
         Some(0) => begun(alloc, no_name(alloc)?, 0),
         Some(count) => begun(alloc, lists_of(alloc, universe, variables)?, count),

@@ -75,7 +75,8 @@ fn find_known<'u, 'a>(
     None
 }
 
-fn copied<'a>(alloc: Global, names: &[&'a str]) -> Result<Vec<&'a str>, AllocError>
+/// The same names in a list of their own.
+pub fn copied<'a>(alloc: Global, names: &[&'a str]) -> Result<Vec<&'a str>, AllocError>
     ensures { IfOk result (λ v. map (λ o. o.now) v.items ≡ map (λ o. o.now) names.now) }
 {
     let mut copy = Vec::new(alloc);

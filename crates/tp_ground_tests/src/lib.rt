@@ -10,6 +10,8 @@ mod limits;
 #[cfg(test)]
 mod numbering;
 #[cfg(test)]
+mod reach;
+#[cfg(test)]
 mod support;
 #[cfg(test)]
 mod tasks;

@@ -3,7 +3,7 @@
 use std::alloc::{AllocError, Global};
 use std::test::Fail;
 use tp_bounds::Limits;
-use tp_ground::ground;
+use tp_ground::{ground, ground_reached};
 use tp_syntax::{Domain, read_domain, read_problem};
 use tp_task::{ActionId, AtomId, GroundFault, Task};
 use tp_text::Scale;
@@ -24,6 +24,19 @@ pub fn task_within(
         .ok()
         .ok_or("no problem")?;
     Ok(ground(alloc, domain, &problem, limits, Scale::One))
+}
+
+/// The same of the actions alone that the relaxed reach keeps.
+pub fn reached_within(
+    alloc: Global,
+    domain: &Domain,
+    problem: &str,
+    limits: &Limits,
+) -> Result<Result<Task, GroundFault>, Fail> {
+    let problem = read_problem(alloc, problem, domain)
+        .ok()
+        .ok_or("no problem")?;
+    Ok(ground_reached(alloc, domain, &problem, limits, Scale::One))
 }
 
 /// What a task tells: how many actions, atoms and fluents it has, some of its actions and atoms as text, which atoms are true
@@ -121,6 +134,24 @@ pub fn are_told(
 ) -> Result<bool, Fail> {
     let domain = domain(alloc, domain_text)?;
     is_told(alloc, &domain, problem, &Limits::greatest(100), told)
+}
+
+// The same of a domain that is lent.
+fn is_kept(alloc: Global, domain: &Domain, problem: &str, told: &Told) -> Result<bool, Fail> {
+    let task = reached_within(alloc, domain, problem, &Limits::greatest(100))?;
+    let task = task.ok().ok_or("no task")?;
+    Ok(tells(&task, told)?)
+}
+
+/// Whether the task of the actions alone that the relaxed reach keeps tells these.
+pub fn are_kept(
+    alloc: Global,
+    domain_text: &str,
+    problem: &str,
+    told: &Told,
+) -> Result<bool, Fail> {
+    let domain = domain(alloc, domain_text)?;
+    is_kept(alloc, &domain, problem, told)
 }
 
 /// What is told where nothing is asked.

@@ -134,7 +134,7 @@ marked_only xs (b ∷ as') a h =
 -- what is met by a set is met by a larger one
 module _ (r o : ℕ → Bool) (sub : (a : ℕ) → r a ≡ true → o a ≡ true) where
   mutual
-    met_more : (b : Bool) (c : Cond) → met r b c ≡ true → met o b c ≡ true
+    pub met_more : (b : Bool) (c : Cond) → met r b c ≡ true → met o b c ≡ true
     met_more true (Atom a) h = sub a h
     met_more false (Atom a) h = refl
     met_more true (Compare how x y) h = refl

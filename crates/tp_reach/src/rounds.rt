@@ -191,8 +191,10 @@ fn settle(reach: &mut [bool], actions: &[Body])
     }
 }
 
-// What the events of actions can add, added.
-fn complete(alloc: Global, reach: &mut [bool], actions: &[Body]) -> Result<(), AllocError>
+/// Adds to a set of atoms what the events of actions can add, until none of them has more to add. Each atom that they add
+/// is among those that there are. It costs the sizes of all conditions and adds, a few times. Out of memory leaves a set
+/// that may have some of it.
+pub fn saturate(alloc: Global, reach: &mut [bool], actions: &[Body]) -> Result<(), AllocError>
     requires { list_all (adds_fit (length reach.old)) actions.now ≡ true }
     ensures adds { OnOk result (Adds (acts_of_bodies actions.now) reach.old reach.new) }
     ensures settled { OnOk result (IsSettled (acts_of_bodies actions.now) reach.new) }
@@ -209,7 +211,7 @@ pub fn reach(alloc: Global, task: &Task) -> Result<Vec<bool>, AllocError>
         (λ v. IsReach (first_state task.now) (acts_of task.now) (set_of v.items)) }
 {
     let mut atoms = Vec::from_slice(alloc, &task.initial_atoms)?;
-    complete(alloc, atoms.as_mut_slice(), &task.actions)?;
+    saturate(alloc, atoms.as_mut_slice(), &task.actions)?;
     Ok(atoms)
 }
 

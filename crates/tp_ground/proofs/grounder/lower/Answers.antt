@@ -1,5 +1,8 @@
-use Rattle.std.proofs.Common.{refl}
+use Rattle.std.proofs.Common.{map, refl}
 use Rattle.tp_ast.specs.CondViews.{cond_view}
+use Rattle.tp_ast.specs.DomainViews.{action_view}
+use Rattle.tp_ground.specs.Mentions.{of_each}
+use Rattle.tp_ground.specs.Grounding.{ground_actions, of_action}
 use Rattle.tp_ground.specs.Views.{universe_view}
 use Rattle.tp_ground.specs.WrittenTasks.{named_task}
 use Rattle.tp_ground.proofs.OnLowered.{failed}
@@ -7,13 +10,13 @@ use Rattle.tp_ground.proofs.OnTasks.{entries_stopped, goal_stopped, actions_stop
 use Rattle.tp_ground.proofs.grounder.lower.Goals as goal
 
 pub returns-in_err-entries : goal.returns-in_err-entries
-returns-in_err-entries c = failed named_task _ _ _ _ _ _ c.from_residual.ensures.1 (entries_stopped (universe_view c.args.universe.now) c.args.initial.now (cond_view c.args.goal.now) c.args.actions.now c.args.writer.now _ c.in_err-entries.ensures)
+returns-in_err-entries c = failed named_task _ _ _ _ _ _ c.from_residual.ensures.1 (entries_stopped (universe_view c.args.universe.now) c.args.initial.now (cond_view c.args.goal.now) (of_each (of_action (universe_view c.args.universe.now)) (map action_view c.args.actions.now)) (map (λ a. a.body) (ground_actions (universe_view c.args.universe.now) (map action_view c.args.actions.now))) c.args.writer.now _ c.in_err-entries.ensures)
 
 pub returns-in_err-goal : goal.returns-in_err-goal
-returns-in_err-goal c = failed named_task _ _ _ _ _ _ c.from_residual-in_err-goal.ensures.1 (goal_stopped (universe_view c.args.universe.now) c.args.initial.now (cond_view c.args.goal.now) c.args.actions.now c.args.writer.now _ _ c.in_ok-entries.ensures.notes c.in_err-goal.ensures)
+returns-in_err-goal c = failed named_task _ _ _ _ _ _ c.from_residual-in_err-goal.ensures.1 (goal_stopped (universe_view c.args.universe.now) c.args.initial.now (cond_view c.args.goal.now) (of_each (of_action (universe_view c.args.universe.now)) (map action_view c.args.actions.now)) (map (λ a. a.body) (ground_actions (universe_view c.args.universe.now) (map action_view c.args.actions.now))) c.args.writer.now _ _ c.in_ok-entries.ensures.notes c.in_err-goal.ensures)
 
 pub returns-in_err-actions : goal.returns-in_err-actions
-returns-in_err-actions c = failed named_task _ _ _ _ _ _ c.from_residual-in_err-actions.ensures.1 (actions_stopped (universe_view c.args.universe.now) c.args.initial.now (cond_view c.args.goal.now) c.args.actions.now c.args.writer.now _ _ _ c.in_ok-entries.ensures.notes c.in_ok-goal.ensures.notes c.in_err-actions.ensures)
+returns-in_err-actions c = failed named_task _ _ _ _ _ _ c.from_residual-in_err-actions.ensures.1 (actions_stopped (universe_view c.args.universe.now) c.args.initial.now (cond_view c.args.goal.now) (of_each (of_action (universe_view c.args.universe.now)) (map action_view c.args.actions.now)) (map (λ a. a.body) (ground_actions (universe_view c.args.universe.now) (map action_view c.args.actions.now))) c.args.writer.now _ _ _ c.in_ok-entries.ensures.notes c.in_ok-goal.ensures.notes c.in_err-actions.ensures)
 
 pub returns : goal.returns
-returns c = task_lowered (universe_view c.args.universe.now) c.args.initial.now (cond_view c.args.goal.now) c.args.actions.now _ _ _ _ _ _ _ _ refl c.in_ok-entries.ensures c.in_ok-goal.ensures c.in_ok-actions.ensures
+returns c = task_lowered (universe_view c.args.universe.now) c.args.initial.now (cond_view c.args.goal.now) (of_each (of_action (universe_view c.args.universe.now)) (map action_view c.args.actions.now)) (map (λ a. a.body) (ground_actions (universe_view c.args.universe.now) (map action_view c.args.actions.now))) _ _ _ _ _ _ _ _ refl c.in_ok-entries.ensures c.in_ok-goal.ensures c.in_ok-actions.ensures

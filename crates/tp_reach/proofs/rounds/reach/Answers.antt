@@ -7,8 +7,8 @@ use Rattle.tp_reach.specs.TaskReach.{acts_of, first_state}
 use Rattle.tp_reach.proofs.Adding.{all_adds, reached, front}
 use Rattle.tp_reach.proofs.rounds.reach.Goals as goal
 
-pub complete-requires : goal.complete-requires
-complete-requires c =
+pub saturate-requires : goal.saturate-requires
+saturate-requires c =
     let t = c.args.task.now in
     let e : c.as_mut_slice.result.now ≡ t.initial_atoms.items = c.as_mut_slice.ensures.value ∙ (c.in_ok-atoms.ensures.items ∙ c.deref.ensures.value) in
     subst (λ bs. list_all (adds_fit (length c.as_mut_slice.result.now)) bs ≡ true) (sym c.deref-2.ensures.value)
@@ -18,8 +18,8 @@ pub returns : goal.returns
 returns c =
     let t = c.args.task.now in
     let e : c.as_mut_slice.result.now ≡ t.initial_atoms.items = c.as_mut_slice.ensures.value ∙ (c.in_ok-atoms.ensures.items ∙ c.deref.ensures.value) in
-    let whole : take c.in_ok-atoms.atoms.len (c.complete.new.reach ++ drop (length c.complete.new.reach) c.in_ok-atoms.atoms.items) ≡ c.complete.new.reach = front c.in_ok-atoms.atoms.len c.complete.new.reach (drop (length c.complete.new.reach) c.in_ok-atoms.atoms.items) (c.in_ok-atoms.atoms.ok.0 ∙ (ap length (sym c.as_mut_slice.ensures.value) ∙ sym c.complete.auto.reach)) in
+    let whole : take c.in_ok-atoms.atoms.len (c.saturate.new.reach ++ drop (length c.saturate.new.reach) c.in_ok-atoms.atoms.items) ≡ c.saturate.new.reach = front c.in_ok-atoms.atoms.len c.saturate.new.reach (drop (length c.saturate.new.reach) c.in_ok-atoms.atoms.items) (c.in_ok-atoms.atoms.ok.0 ∙ (ap length (sym c.as_mut_slice.ensures.value) ∙ sym c.saturate.auto.reach)) in
     subst (λ xs. IsReach (first_state t) (acts_of t) (set_of xs)) (sym whole)
-    (reached (first_state t) (acts_of t) t.initial_atoms.items c.complete.new.reach (λ a. refl)
-    (subst (λ xs. Adds (acts_of t) xs c.complete.new.reach) e (subst (λ bs. Adds (acts_of_bodies bs) c.as_mut_slice.result.now c.complete.new.reach) c.deref-2.ensures.value c.in_ok-complete.ensures.adds))
-    (subst (λ bs. HasAdded (acts_of_bodies bs) (set_of c.complete.new.reach)) c.deref-2.ensures.value c.in_ok-complete.ensures.settled))
+    (reached (first_state t) (acts_of t) t.initial_atoms.items c.saturate.new.reach (λ a. refl)
+    (subst (λ xs. Adds (acts_of t) xs c.saturate.new.reach) e (subst (λ bs. Adds (acts_of_bodies bs) c.as_mut_slice.result.now c.saturate.new.reach) c.deref-2.ensures.value c.in_ok-saturate.ensures.adds))
+    (subst (λ bs. HasAdded (acts_of_bodies bs) (set_of c.saturate.new.reach)) c.deref-2.ensures.value c.in_ok-saturate.ensures.settled))

@@ -1,0 +1,35 @@
+use Rattle.std.proofs.Common.{◌≡◌, List, [], ◌∷◌, ◌++◌, map, filter, refl, sym, ap, ap₂, ◌∙◌, subst}
+use Rattle.std.specs.List.{flat_map}
+use Rattle.std.proofs.lemmas.List.{map-append}
+use Rattle.tp_ast.specs.Symbols.{Name}
+use Rattle.tp_ast.specs.Actions.{Action}
+use Rattle.tp_task.specs.Words.{Words}
+use Rattle.tp_ground.specs.Bindings.{Universe, bindings}
+use Rattle.tp_ground.specs.Grounding.{universe_of}
+use Rattle.tp_ground.specs.Reached.{Instance, instances, action_of, is_kept}
+use Rattle.tp_task.specs.Readable.{AreReadable}
+use Rattle.tp_ground.proofs.OnSpelled.{spelled_names}
+use Rattle.tp_ground.proofs.OnReadable.{kept_readable}
+use Rattle.tp_ground.proofs.laws.reached_actions_are_readable.Goals as goal
+
+module _ (u : Universe) where
+  abbrev words_of : Instance → Words
+  words_of i = (action_of u i).words
+
+  words_one : (a : Action) (bs : List (List Name)) → map words_of (map (λ os. record { action = a; objects = os }) bs) ≡ map (λ os. a.name ∷ os) bs
+  words_one a [] = refl
+  words_one a (b ∷ bs) = ap (λ (ws : List Words). (a.name ∷ b) ∷ ws) (words_one a bs)
+
+  words_all : (as_ : List Action) → map words_of (instances u as_) ≡ flat_map (λ a. map (λ os. a.name ∷ os) (bindings u a.parameters)) as_
+  words_all [] = refl
+  words_all (a ∷ as_) =
+      map-append words_of (map (λ os. record { action = a; objects = os }) (bindings u a.parameters)) (instances u as_)
+      ∙ ap₂ (λ (xs ys : List Words). xs ++ ys) (words_one a (bindings u a.parameters)) (words_all as_)
+
+pub returns : goal.returns
+returns c = λ text other d p limits scale t h k is.
+    let own = spelled_names d p h.0 k.0 h.2 k.2 in
+    let u = universe_of d p in
+    let keep = λ (i : Instance). is_kept is.are_kept.reach (action_of u i).body in
+    subst AreReadable (sym (is.task.names ∙ ap (map (words_of u)) is.are_kept.are))
+    (kept_readable u own.objects own.objects_once (λ a. a.name) (λ a. a.parameters) d.actions own.actions own.actions_once (words_of u) keep (instances u d.actions) (words_all u d.actions))

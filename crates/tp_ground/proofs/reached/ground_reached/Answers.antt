@@ -1,0 +1,10 @@
+use Rattle.tp_ast.specs.DomainViews.{domain_view, problem_view}
+use Rattle.tp_ground.specs.Reached.{HasNoReachedTask}
+use Rattle.tp_ground.proofs.OnTasks.{not_made}
+use Rattle.tp_ground.proofs.OnFlags.{whatever_the_limits}
+use Rattle.tp_ground.proofs.reached.ground_reached.Goals as goal
+
+pub returns-in_err-check-clause-err : goal.returns-in_err-check-clause-err
+returns-in_err-check-clause-err c =
+    not_made (HasNoReachedTask c.args.limits.now (domain_view c.args.domain.now) (problem_view c.args.problem.now)) _ _ c.from_residual.ensures.1
+    (whatever_the_limits (domain_view c.args.domain.now) (problem_view c.args.problem.now) _ c.in_err-check.ensures.err c.args.limits.now)

@@ -1,0 +1,180 @@
+//! Actions with the objects that their parameters stand for: all of them, some of them, and what is written out of them.
+
+ghost use Rattle.std.specs.Prelude.{◌≡◌, ◌++◌, ◌∷◌, Bool, map, filter, length, IfOk, OnOk};
+ghost use Rattle.tp_ast.specs.Symbols.{typed_view};
+ghost use Rattle.tp_ast.specs.DomainViews.{action_view, body_view};
+ghost use Rattle.tp_ground.specs.Views.{universe_view};
+ghost use Rattle.tp_ground.specs.Bindings.{bound, bindings};
+ghost use Rattle.tp_ground.specs.Written.{body_in};
+ghost use Rattle.tp_ground.specs.Mentions.{of_body, of_each};
+ghost use Rattle.tp_ground.specs.ReadBack.{named_body};
+ghost use Rattle.tp_ground.specs.Lowered.{Lowers};
+ghost use Rattle.tp_ground.specs.Reached as reached;
+ghost use Rattle.tp_ground.specs.Reached.{instances, action_of, of_instance};
+ghost use Rattle.tp_ground.specs.Instances.{instance_view};
+ghost use Rattle.tp_ground.specs.Rows.{product, lists_of};
+
+use crate::environment::Env;
+use crate::lowering::body;
+use crate::rows::{Rows, rows_of};
+use crate::universe::{Universe, copied, refill};
+use crate::writer::Writer;
+use std::alloc::{AllocError, Global};
+use tp_ast::action::Action;
+use tp_ast::symbols::Typed;
+use tp_task::{Body, GroundFault};
+
+/// An action, and the objects that its parameters stand for.
+#[derive(Drop)]
+pub struct Instance<'a> {
+    pub action: &'a Action,
+    pub objects: Vec<&'a str>,
+}
+
+// Puts the bindings of an action at the end of a list.
+fn push_rows<'a>(
+    alloc: Global,
+    action: &'a Action,
+    rows: &mut Rows<'a>,
+    into: &mut Vec<Instance<'a>>,
+) -> Result<(), AllocError>
+    ensures { OnOk result (map instance_view into.new.items ≡ map instance_view into.old.items
+        ++ map (λ ns. record { action = action_view action.now; objects = ns })
+        (product (lists_of rows.old.lists.items))) }
+{
+    for place in 0..rows.count {
+        rows.turn_to(place);
+        let objects = copied(alloc, &rows.row)?;
+        into.push(Instance { action, objects })?;
+    }
+    Ok(())
+}
+
+/// All type-correct bindings of all actions, in order.
+pub fn all_instances<'a>(
+    alloc: Global,
+    universe: &Universe<'a>,
+    actions: &'a [Action],
+) -> Result<Vec<Instance<'a>>, AllocError>
+    ensures { IfOk result (λ v. map instance_view v.items
+        ≡ instances (universe_view universe.now) (map action_view actions.now)) }
+{
+    let mut all = Vec::new(alloc);
+    for action in actions {
+        let mut rows = rows_of(alloc, universe, &action.parameters)?;
+        push_rows(alloc, action, &mut rows, &mut all)?;
+    }
+    Ok(all)
+}
+
+// The body of an action where its parameters stand for some objects.
+fn lower_under<'a>(
+    alloc: Global,
+    universe: &Universe<'a>,
+    writer: &mut Writer<'a>,
+    parameters: &'a [Typed],
+    objects: &[&'a str],
+    written: &'a tp_ast::action::Body,
+) -> Result<Body, GroundFault>
+    requires { universe_view universe.now ≡ writer.old.universe }
+    ensures { Lowers named_body writer.old result writer.new (body_in (universe_view universe.now)
+        (bound (map typed_view parameters.now) (map (λ o. o.now) objects.now))
+        (body_view written.now)) (of_body (universe_view universe.now)
+        (bound (map typed_view parameters.now) (map (λ o. o.now) objects.now))
+        (body_view written.now)) }
+{
+    let outside = Env::Empty;
+    let inner = Env::Inner(parameters, objects, &outside);
+    body(alloc, universe, &inner, writer, written)
+}
+
+fn lower_one<'a>(
+    alloc: Global,
+    universe: &Universe<'a>,
+    writer: &mut Writer<'a>,
+    instance: &Instance<'a>,
+) -> Result<Body, GroundFault>
+    requires { universe_view universe.now ≡ writer.old.universe }
+    ensures { Lowers named_body writer.old result writer.new
+        (action_of (universe_view universe.now) (instance_view instance.now)).body
+        (of_instance (universe_view universe.now) (instance_view instance.now)) }
+{
+    let action = instance.action;
+    lower_under(
+        alloc,
+        universe,
+        writer,
+        &action.parameters,
+        &instance.objects,
+        &action.body,
+    )
+}
+
+/// The bodies of some instances, in order.
+pub fn lower_instances<'a>(
+    alloc: Global,
+    universe: &Universe<'a>,
+    writer: &mut Writer<'a>,
+    some: &[Instance<'a>],
+) -> Result<Vec<Body>, GroundFault>
+    requires { universe_view universe.now ≡ writer.old.universe }
+    ensures { Lowers (λ t v. map (named_body t) v.items) writer.old result writer.new
+        (map (λ i. (action_of (universe_view universe.now) i).body) (map instance_view some.now))
+        (of_each (of_instance (universe_view universe.now)) (map instance_view some.now)) }
+{
+    let mut lowered = Vec::with_capacity(alloc, some.len())?;
+    for instance in some {
+        lowered.push(lower_one(alloc, universe, writer, instance)?)?;
+    }
+    Ok(lowered)
+}
+
+/// The words of some instances, in order.
+pub fn name_instances(
+    alloc: Global,
+    writer: &mut Writer,
+    some: &[Instance],
+) -> Result<(), AllocError>
+    ensures actions { OnOk result (writer.new.tables.actions ≡ writer.old.tables.actions
+        ++ map (λ i. i.action.name ∷ i.objects) (map instance_view some.now)) }
+    ensures atoms { writer.new.tables.atoms ≡ writer.old.tables.atoms }
+    ensures fluents { writer.new.tables.fluents ≡ writer.old.tables.fluents }
+    ensures most { writer.new.tables.most ≡ writer.old.tables.most }
+{
+    let mut words = Vec::new(alloc);
+    for instance in some {
+        refill(&mut words, instance.action.name.as_str(), &instance.objects)?;
+        writer.push_action(&words)?;
+    }
+    Ok(())
+}
+
+fn copy_of<'a>(alloc: Global, instance: &Instance<'a>) -> Result<Instance<'a>, AllocError>
+    ensures { IfOk result (λ i. instance_view i ≡ instance_view instance.now) }
+{
+    let objects = copied(alloc, &instance.objects)?;
+    Ok(Instance {
+        action: instance.action,
+        objects,
+    })
+}
+
+/// The instances that are flagged, in order.
+pub fn flagged<'a>(
+    alloc: Global,
+    all: &[Instance<'a>],
+    flags: &[bool],
+) -> Result<Vec<Instance<'a>>, AllocError>
+    requires { length flags.now ≡ length all.now }
+    ensures { IfOk result (λ v. (test : reached.Instance → Bool)
+        → flags.now ≡ map test (map instance_view all.now)
+        → map instance_view v.items ≡ filter test (map instance_view all.now)) }
+{
+    let mut kept = Vec::new(alloc);
+    for place in 0..all.len() {
+        if flags[place] {
+            kept.push(copy_of(alloc, &all[place])?)?;
+        }
+    }
+    Ok(kept)
+}

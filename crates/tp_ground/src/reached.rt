@@ -1,0 +1,349 @@
+//! The task of the ground actions that can be met at all: those with an event whose condition is met in the relaxed reach.
+
+ghost use Rattle.std.specs.Prelude.{◌≡◌, ◌≤◌, ◌<◌, ◌++◌, ◌∷◌, true, false, map, length, nat_lt, IfOk, IfErr, OnOk};
+ghost use Rattle.std.specs.List.{list_all};
+ghost use Rattle.tp_ast.specs.CondViews.{cond_view};
+ghost use Rattle.tp_ast.specs.DomainViews.{initial_view, domain_view, problem_view};
+ghost use Rattle.tp_task.specs.Words.{firsts};
+ghost use Rattle.tp_task.specs.Tables.{CannotNumber};
+ghost use Rattle.tp_reach.specs.Rounds.{set_of, adds_fit};
+ghost use Rattle.tp_ground.specs.Views.{universe_view};
+ghost use Rattle.tp_ground.specs.Great.{has_great_number};
+ghost use Rattle.tp_ground.specs.Initially.{initial_in};
+ghost use Rattle.tp_ground.specs.Lowered.{IsLowered, Lowers};
+ghost use Rattle.tp_ground.specs.Grounding.{universe_of};
+ghost use Rattle.tp_ground.specs.WriterViews.{with_tables};
+ghost use Rattle.tp_ground.specs.WrittenTasks.{named_task};
+ghost use Rattle.tp_ground.specs.Reached.{AreKept, IsTaskOf, IsReachedTask, HasNoReachedTask, mentioned_of};
+ghost use Rattle.tp_ground.specs.Instances.{instance_view, written_with, of_task_with, has_met, AreMet, AreReached, AreFlags};
+
+use crate::beginning::{entries, truths};
+use crate::environment::Env;
+use crate::grounder::{LoweredTask, check, note_quantifiers, plain_universe, task_of};
+use crate::instances::{Instance, all_instances, flagged, lower_instances, name_instances};
+use crate::lowering::condition;
+use crate::universe::{Universe, count_bindings};
+use crate::writer::Writer;
+use std::alloc::{AllocError, Global};
+use tp_ast::action::Action;
+use tp_ast::domain::Domain;
+use tp_ast::problem::{Initial, Problem};
+use tp_ast::symbols::Typed;
+use tp_bounds::Limits;
+use tp_reach::{met, saturate};
+use tp_task::{Body, GroundFault, Numbering, Task, TooManyKind};
+use tp_text::Scale;
+
+/// For so many bytes there has to be room for each binding of an action before any is written out: mostly more than one takes.
+const ROOM: usize = 4_096;
+
+// How many bindings some more parameters have after those before, or as many as can be told.
+fn count_more(universe: &Universe, parameters: &[Typed], before: usize) -> usize {
+    match count_bindings(universe, parameters, usize::MAX) {
+        Some(count) => before.saturating_add(count),
+        None => usize::MAX,
+    }
+}
+
+// Asks for the room of what all bindings of all actions are written out to, and gives it back.
+fn ask_for_room(alloc: Global, universe: &Universe, actions: &[Action]) -> Result<(), AllocError> {
+    let mut count = 0usize;
+    for action in actions {
+        count = count_more(universe, &action.parameters, count);
+    }
+    let _room: Vec<u8> = Vec::with_capacity(alloc, count.saturating_mul(ROOM))?;
+    Ok(())
+}
+
+// The types and objects of a problem whose actions can all be written out.
+fn universe_of_all<'a>(
+    alloc: Global,
+    domain: &'a Domain,
+    problem: &'a Problem,
+) -> Result<Universe<'a>, AllocError>
+    ensures { IfOk result
+        (λ u. universe_view u ≡ universe_of (domain_view domain.now) (problem_view problem.now)) }
+{
+    let mut universe = plain_universe(alloc, domain, problem)?;
+    ask_for_room(alloc, &universe, &domain.actions)?;
+    note_quantifiers(alloc, &mut universe, domain, problem)?;
+    Ok(universe)
+}
+
+// What is said at first, what is asked for, and what some instances do, by number.
+fn lower_with<'a>(
+    alloc: Global,
+    universe: &Universe<'a>,
+    writer: &mut Writer<'a>,
+    initial: &'a [Initial],
+    goal: &'a tp_ast::cond::Cond,
+    some: &[Instance<'a>],
+) -> Result<LoweredTask, GroundFault>
+    requires { universe_view universe.now ≡ writer.old.universe }
+    ensures { Lowers named_task writer.old result writer.new
+        (written_with (universe_view universe.now) (map initial_view initial.now)
+        (cond_view goal.now) (map instance_view some.now))
+        (of_task_with (universe_view universe.now) (map initial_view initial.now)
+        (cond_view goal.now) (map instance_view some.now)) }
+{
+    let entries = entries(alloc, writer, initial)?;
+    let goal = condition(alloc, universe, &Env::Empty, writer, goal)?;
+    let actions = lower_instances(alloc, universe, writer, some)?;
+    Ok(LoweredTask {
+        entries,
+        goal,
+        actions,
+    })
+}
+
+fn lower_problem<'a>(
+    alloc: Global,
+    universe: &Universe<'a>,
+    writer: &mut Writer<'a>,
+    problem: &'a Problem,
+    some: &[Instance<'a>],
+) -> Result<LoweredTask, GroundFault>
+    requires { universe_view universe.now ≡ writer.old.universe }
+    ensures { Lowers named_task writer.old result writer.new
+        (written_with (universe_view universe.now) (problem_view problem.now).initial
+        (problem_view problem.now).goal (map instance_view some.now))
+        (of_task_with (universe_view universe.now) (problem_view problem.now).initial
+        (problem_view problem.now).goal (map instance_view some.now)) }
+{
+    lower_with(
+        alloc,
+        universe,
+        writer,
+        &problem.initial,
+        &problem.goal,
+        some,
+    )
+}
+
+// ---- which are kept
+
+// Whether an action has an event whose condition is met.
+fn is_met(reach: &[bool], body: &Body) -> bool
+    ensures { result ≡ has_met (set_of reach.now) body.now }
+{
+    match body {
+        Body::Instant(only) => met(reach, true, &only.condition),
+        Body::Durative(start, end, _) => {
+            met(reach, true, &start.condition) || met(reach, true, &end.condition)
+        }
+    }
+}
+
+fn are_met(alloc: Global, reach: &[bool], bodies: &[Body]) -> Result<Vec<bool>, AllocError>
+    ensures { IfOk result (λ v. v.items ≡ map (has_met (set_of reach.now)) bodies.now) }
+{
+    let mut flags = Vec::with_capacity(alloc, bodies.len())?;
+    for body in bodies {
+        flags.push(is_met(reach, body))?;
+    }
+    Ok(flags)
+}
+
+// Which bodies have an event whose condition is met in what their events can add to some atoms.
+fn are_met_from(alloc: Global, reach: &mut [bool], bodies: &[Body]) -> Result<Vec<bool>, AllocError>
+    requires { list_all (adds_fit (length reach.old)) bodies.now ≡ true }
+    ensures { IfOk result (λ v. AreMet reach.old bodies.now v.items) }
+{
+    saturate(alloc, reach, bodies)?;
+    are_met(alloc, reach, bodies)
+}
+
+fn are_reached(alloc: Global, count: usize, lowered: &LoweredTask) -> Result<Vec<bool>, AllocError>
+    requires { list_all (adds_fit count) lowered.now.actions.items ≡ true }
+    ensures { IfOk result (λ v. AreReached count lowered.now v.items) }
+{
+    let mut reach = truths(alloc, count, &lowered.entries)?;
+    are_met_from(alloc, reach.as_mut_slice(), &lowered.actions)
+}
+
+// What some instances do, by number, with as many numbers as it takes.
+fn lower_freely<'a>(
+    alloc: Global,
+    universe: &Universe<'a>,
+    writer: &mut Writer<'a>,
+    problem: &'a Problem,
+    some: &[Instance<'a>],
+) -> Result<LoweredTask, AllocError>
+    requires { universe_view universe.now ≡ writer.old.universe }
+    ensures { IfOk result (λ l. IsLowered named_task writer.old writer.new l
+        (written_with (universe_view universe.now) (problem_view problem.now).initial
+        (problem_view problem.now).goal (map instance_view some.now))
+        (of_task_with (universe_view universe.now) (problem_view problem.now).initial
+        (problem_view problem.now).goal (map instance_view some.now))) }
+{
+    match lower_problem(alloc, universe, writer, problem, some) {
+        Ok(lowered) => Ok(lowered),
+        Err(_) => Err(AllocError),
+    }
+}
+
+// Which of some instances have an event whose condition is met in their relaxed reach.
+fn flags_of<'a>(
+    alloc: Global,
+    universe: &Universe<'a>,
+    domain: &'a Domain,
+    problem: &'a Problem,
+    some: &[Instance<'a>],
+) -> Result<Vec<bool>, AllocError>
+    requires { universe_view universe.now
+        ≡ universe_of (domain_view domain.now) (problem_view problem.now) }
+    ensures { IfOk result (λ v. AreFlags (universe_view universe.now)
+        (map initial_in (problem_view problem.now).initial) (map instance_view some.now) v.items) }
+{
+    let mut writer = Writer::new(alloc, domain, problem, u32::MAX);
+    let lowered = lower_freely(alloc, universe, &mut writer, problem, some)?;
+    let numbering = writer.into_numbering();
+    are_reached(alloc, numbering.atom_count(), &lowered)
+}
+
+// The ground actions that the relaxed reach keeps.
+fn kept_instances<'a>(
+    alloc: Global,
+    universe: &Universe<'a>,
+    domain: &'a Domain,
+    problem: &'a Problem,
+) -> Result<Vec<Instance<'a>>, AllocError>
+    requires { universe_view universe.now
+        ≡ universe_of (domain_view domain.now) (problem_view problem.now) }
+    ensures { IfOk result (λ v. AreKept (domain_view domain.now) (problem_view problem.now)
+        (map instance_view v.items)) }
+{
+    let all = all_instances(alloc, universe, &domain.actions)?;
+    let flags = flags_of(alloc, universe, domain, problem, &all)?;
+    flagged(alloc, &all, &flags)
+}
+
+// ---- the task
+
+// All that is mentioned by number, and then the words of some instances.
+fn prepare_with<'a>(
+    alloc: Global,
+    universe: &Universe<'a>,
+    writer: &mut Writer<'a>,
+    problem: &'a Problem,
+    some: &[Instance<'a>],
+) -> Result<LoweredTask, GroundFault>
+    requires { universe_view universe.now ≡ writer.old.universe }
+    ensures lowered { Lowers named_task writer.old result
+        (with_tables writer.old writer.new.tables)
+        (written_with (universe_view universe.now) (problem_view problem.now).initial
+        (problem_view problem.now).goal (map instance_view some.now))
+        (of_task_with (universe_view universe.now) (problem_view problem.now).initial
+        (problem_view problem.now).goal (map instance_view some.now)) }
+    ensures names { OnOk result (writer.new.tables.actions ≡ writer.old.tables.actions
+        ++ map (λ i. i.action.name ∷ i.objects) (map instance_view some.now)) }
+{
+    let lowered = lower_problem(alloc, universe, writer, problem, some)?;
+    name_instances(alloc, writer, some)?;
+    Ok(lowered)
+}
+
+// The task of some instances.
+fn task_with<'a>(
+    alloc: Global,
+    universe: &Universe<'a>,
+    domain: &'a Domain,
+    problem: &'a Problem,
+    some: &[Instance<'a>],
+    limits: &Limits,
+    scale: Scale,
+) -> Result<Task, GroundFault>
+    requires of_problem { universe_view universe.now
+        ≡ universe_of (domain_view domain.now) (problem_view problem.now) }
+    requires few { length some.now ≤ 65_535 }
+    ensures ok { IfOk result (IsTaskOf limits.now scale (domain_view domain.now)
+        (problem_view problem.now) (map instance_view some.now)) }
+    ensures atoms { IfOk result (λ t. length t.numbering.atoms ≤ limits.now.atoms) }
+    ensures fluents { IfOk result (λ t. length t.numbering.fluents ≤ limits.now.atoms) }
+    ensures err { IfErr result (CannotNumber limits.now.atoms
+        (firsts (mentioned_of (domain_view domain.now) (problem_view problem.now)
+        (map instance_view some.now)).atoms)
+        (firsts (mentioned_of (domain_view domain.now) (problem_view problem.now)
+        (map instance_view some.now)).fluents)) }
+{
+    let mut writer = Writer::new(alloc, domain, problem, limits.atoms());
+    let lowered = prepare_with(alloc, universe, &mut writer, problem, some)?;
+    Ok(task_of(alloc, *limits, scale, writer.into_numbering(), lowered)?)
+}
+
+// The task of the instances that the relaxed reach keeps, if they are no more than there may be.
+fn kept_task<'a>(
+    alloc: Global,
+    universe: &Universe<'a>,
+    domain: &'a Domain,
+    problem: &'a Problem,
+    kept: &[Instance<'a>],
+    limits: &Limits,
+    scale: Scale,
+) -> Result<Task, GroundFault>
+    requires of_problem { universe_view universe.now
+        ≡ universe_of (domain_view domain.now) (problem_view problem.now) }
+    requires kept { AreKept (domain_view domain.now) (problem_view problem.now)
+        (map instance_view kept.now) }
+    ensures ok { IfOk result
+        (IsReachedTask limits.now scale (domain_view domain.now) (problem_view problem.now)) }
+    ensures atoms { IfOk result (λ t. length t.numbering.atoms ≤ limits.now.atoms) }
+    ensures fluents { IfOk result (λ t. length t.numbering.fluents ≤ limits.now.atoms) }
+    ensures few { IfOk result (λ t. length t.numbering.actions ≤ limits.now.actions) }
+    ensures err { IfErr result
+        (HasNoReachedTask limits.now (domain_view domain.now) (problem_view problem.now)) }
+{
+    if kept.len() > limits.actions() as usize {
+        return Err(GroundFault::TooMany(TooManyKind::Actions));
+    }
+    task_with(alloc, universe, domain, problem, kept, limits, scale)
+}
+
+// The task of a problem whose numbers and objects are in range.
+fn reached_within(
+    alloc: Global,
+    domain: &Domain,
+    problem: &Problem,
+    limits: &Limits,
+    scale: Scale,
+) -> Result<Task, GroundFault>
+    ensures ok { IfOk result
+        (IsReachedTask limits.now scale (domain_view domain.now) (problem_view problem.now)) }
+    ensures atoms { IfOk result (λ t. length t.numbering.atoms ≤ limits.now.atoms) }
+    ensures fluents { IfOk result (λ t. length t.numbering.fluents ≤ limits.now.atoms) }
+    ensures few { IfOk result (λ t. length t.numbering.actions ≤ limits.now.actions) }
+    ensures err { IfErr result
+        (HasNoReachedTask limits.now (domain_view domain.now) (problem_view problem.now)) }
+{
+    let universe = universe_of_all(alloc, domain, problem)?;
+    let kept = kept_instances(alloc, &universe, domain, problem)?;
+    kept_task(alloc, &universe, domain, problem, &kept, limits, scale)
+}
+
+/// The task of a problem of a domain, as `ground` gives it, but with only the ground actions that can ever be of use: those
+/// with an event whose condition is met in the relaxed reach (the delete relaxation of Bonet and Geffner 2001), in the same
+/// order. Atoms, fluents and actions are counted as far as what is kept mentions them. All type-correct bindings are
+/// written out once to find these, whatever the limits, so it takes time and memory in what all of them write out. Before
+/// that it asks for 4,096 bytes for each of them, and gives them back, so that more than memory holds are refused at once.
+pub fn ground_reached(
+    alloc: Global,
+    domain: &Domain,
+    problem: &Problem,
+    limits: &Limits,
+    scale: Scale,
+) -> Result<Task, GroundFault>
+    ensures ok { IfOk result
+        (IsReachedTask limits.now scale (domain_view domain.now) (problem_view problem.now)) }
+    ensures atoms { IfOk result (λ t. length t.numbering.atoms ≤ limits.now.atoms) }
+    ensures fluents { IfOk result (λ t. length t.numbering.fluents ≤ limits.now.atoms) }
+    ensures few { IfOk result (λ t. length t.numbering.actions ≤ limits.now.actions) }
+    ensures numbers { OnOk result
+        (has_great_number (domain_view domain.now) (problem_view problem.now) ≡ false) }
+    ensures objects { OnOk result (nat_lt 65_535 (length
+        ((domain_view domain.now).constants ++ (problem_view problem.now).objects)) ≡ false) }
+    ensures err { IfErr result
+        (HasNoReachedTask limits.now (domain_view domain.now) (problem_view problem.now)) }
+{
+    check(domain, problem)?;
+    reached_within(alloc, domain, problem, limits, scale)
+}
