@@ -303,6 +303,16 @@ def alike():
     return domain, f"(define (problem q) (:domain d) (:objects {each('o#_same', 250)}) (:init) (:goal ()))"
 
 
+def short_names(count):
+    """So many names as short as they can be."""
+    letters, later = "abcdefghijklmnopqrstuvwxyz", "abcdefghijklmnopqrstuvwxyz0123456789"
+    names, last = [], list(letters)
+    while len(names) < count:
+        names += last
+        last = [name + letter for name in last for letter in later]
+    return names[:count]
+
+
 def asking(declared, atoms):
     """A domain that declares something, with one action that asks for atoms."""
     return f"(define (domain d) {declared} (:action a :precondition (and {atoms}) :effect ()))"
@@ -317,6 +327,12 @@ def asked(types, atoms):
     """A domain in which a variable of any of so many types stands for one of any of them, in so many atoms."""
     declared = f"(:types {each('t#', types)}) (:predicates (p ?x - {either(types)}))"
     return f"(define (domain d) {declared} (:action a :parameters (?y - {either(types)}) :precondition (and {each('(p ?y)', atoms)}) :effect ()))"
+
+
+def two_orders(names, atoms):
+    """As `asked`, where the variable's types stand in the other order."""
+    declared = f"(:types {' '.join(names)}) (:predicates (p ?x - (either {' '.join(reversed(names))})))"
+    return f"(define (domain d) {declared} (:action a :parameters (?y - (either {' '.join(names)})) :precondition (and {'(p ?y) ' * atoms}) :effect ()))"
 
 
 def colliding(count):
@@ -340,6 +356,13 @@ def worst_reads(program):
     name = "t" * 300_000
     judged(program, "60,000 constants of a type of 300,000 letters", f"(define (domain d) (:types {name}) (:constants {each('c#', 60_000)} - {name}))", problem, "")
     judged(program, "50,000 types below one of 300,000 letters", f"(define (domain d) (:types {each('t#', 50_000)} - {name}))", problem, "")
+    below = " ".join(short_names(115_000))
+    judged(program, "115,000 types below one of 500,000 letters", f"(define (domain d) (:types {below} - {'t' * 500_000}))", problem, "")
+    kinds = short_names(14_000)
+    judged(program, "100 atoms over two lists of 14,000 types, in two orders", two_orders(kinds, 100), problem, "")
+    kinds = " ".join(short_names(50_000))
+    of_any = f"(:types {kinds}) (:constants c - {kinds.split()[-1]}) (:predicates (p ?x - (either {kinds})))"
+    judged(program, "100 atoms of a constant over a list of 50,000 types", asking(of_any, "(p c) " * 100), problem, "")
     names = " ".join(colliding(20_000))
     judged(program, "20,000 constants whose names collide", f"(define (domain d) (:constants {names}))", problem, "")
     judged(program, "20,000 types whose names collide", f"(define (domain d) (:types {names}))", problem, "")
@@ -454,12 +477,28 @@ def many_goals(count):
     return domain, f"(define (problem q) (:domain lamps) (:objects {each('l#', count)}) (:init) (:goal (and {goal})))"
 
 
+ROADS = """(define (domain roads) (:requirements :typing) (:types place)
+ (:predicates (at ?x - place) (road ?x ?y ?z - place))
+ (:action go :parameters (?a ?b ?c - place) :precondition (and (at ?a) (road ?a ?b ?c))
+  :effect (and (at ?b) (not (at ?a)))))
+"""
+
+
+def roads(count):
+    """A chain of so many places: the cube of them bindings, of which one for each place is in reach."""
+    places = " ".join(f"o{i}" for i in range(count))
+    chain = " ".join(f"(road o{i} o{i + 1} o0)" for i in range(count - 1))
+    return ROADS, f"(define (problem p) (:domain roads) (:objects {places} - place) (:init (at o0) {chain}) (:goal (at o9)))\n"
+
+
 def searches(program):
     judged(program, "a plan of one visit, 4,000 atoms, 8,000 actions", PLACES, places_problem(), None, "plan")
     judged(program, "40 lamps, no plan, a budget of 1,000,000", *lamps(40), None, "plan", ("--budget", "1000000"))
     judged(program, "12 lamps, no plan, until no node is left", *lamps(12), None, "plan", ("--budget", "1000000"))
     judged(program, "a ring of 250 lamps: 62,500 actions, 250 of which can start", *ring(250), None, "plan", ("--budget", "1000"))
     judged(program, "a goal of 5,001 conjuncts, a budget of 300", *many_goals(5000), None, "plan", ("--budget", "300"))
+    judged(program, "90 places: 729,000 bindings, 89 in reach", *roads(90), None, "plan")
+    judged(program, "400 places: 64,000,000 bindings, for which there is no room", *roads(400), None, "plan")
 
 
 def once(words, source, sink):
@@ -568,6 +607,9 @@ def splits(program):
 
 
 def main():
+    if {"-h", "--help"} & {*sys.argv[1:]}:
+        print(__doc__.strip())
+        sys.exit()
     words = [word for word in sys.argv[1:] if not word.startswith("--")]
     program = pathlib.Path(words[0]).resolve() if words else built()
     groups = {"--plan", "--check", "--network", "--journals", "--split"}

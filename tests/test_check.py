@@ -23,6 +23,9 @@ SUPPLY = (SUPPLY_DOMAIN, SUPPLY_PROBLEM)
 # an empty plan reaches this goal
 MET = (world("TOGGLE"), "(define (problem p) (:domain toggle) (:init (p)) (:goal (p)))")
 
+# no switch is there: what needs it is no action that `tempo plan` looks at
+UNSWITCHED = (world("TOGGLE"), "(define (problem p) (:domain toggle) (:init) (:goal (done)))")
+
 # one number of this problem is past 10^15
 GREAT = (
     SUPPLY_DOMAIN,
@@ -128,6 +131,8 @@ class Check(Case):
     def test_an_empty_plan_is_judged_by_its_goal(self):
         with self.subTest("a goal that is not met"):
             self.writes(TOGGLE, "", CALL, "invalid 0 goal\n")
+        with self.subTest("an action out of reach"):
+            self.writes(UNSWITCHED, "0: (need)\n", CALL, "invalid 0 condition 0\n")
         with self.subTest("a goal that is met"):
             self.writes(MET, "", CALL, "valid\n")
 

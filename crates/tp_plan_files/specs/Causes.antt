@@ -38,3 +38,15 @@ Explains held w (faults.Plan fault) =
 Explains held w faults.Memory = Unit {0}
 Explains held w faults.Range =
     (t : task.Task) × (steps : List Step) × IsNamedPlan held w t steps × PassesIn t steps
+
+-- a fault of a domain or of a problem, or of their files
+abbrev pub IsTextFault : JudgeFault → Type 0
+IsTextFault (faults.DomainFile fault) = Unit {0}
+IsTextFault (faults.Domain fault) = Unit {0}
+IsTextFault (faults.ProblemFile fault) = Unit {0}
+IsTextFault (faults.Problem fault) = Unit {0}
+IsTextFault (faults.Task fault) = ⊥
+IsTextFault (faults.PlanFile fault) = ⊥
+IsTextFault (faults.Plan fault) = ⊥
+IsTextFault faults.Memory = ⊥
+IsTextFault faults.Range = ⊥

@@ -9,7 +9,7 @@ ghost use Rattle.tp_happen.specs.TaskWords.{readable};
 ghost use Rattle.tp_happen.specs.declared.plans.Step.{Step};
 ghost use Rattle.tp_validate.specs.Answers.{IsVerdict};
 ghost use Rattle.tp_validate.specs.OfTask.{IsOfTask};
-ghost use Rattle.tp_plan_files.specs.Causes.{Explains};
+ghost use Rattle.tp_plan_files.specs.Causes.{Explains, IsTextFault};
 ghost use Rattle.tp_plan_files.specs.Named.{IsIn, IsNamedPlan, IsNamedTask, IsTaskWith};
 
 use crate::plan_words::PlanWords;
@@ -46,14 +46,18 @@ pub enum JudgeFault {
     Range,
 }
 
-/// The domain in the file that the words name.
-fn domain_in<N: Files>(
+/// The domain in the file that the words name. The cost is that of reading the text.
+///
+/// # Errors
+/// The first fault of the file and its text.
+pub fn domain_in<N: Files>(
     alloc: Global,
     files: &mut N,
     words: PlanWords<'_>,
 ) -> Result<Domain, JudgeFault>
     ensures spelled { IfOk result (λ d. IsIn (N.held files.old words.entry.domain.now) (λ text.
         SpellsDomain text (domain_view d))) }
+    ensures kind { IfErr result IsTextFault }
     ensures cause { IfErr result (Explains (N.held files.old) words.entry) }
     ensures same { (other : List ℕ) → N.held files.new other ≡ N.held files.old other }
 {
@@ -66,8 +70,11 @@ fn domain_in<N: Files>(
     }
 }
 
-/// The problem of a domain in the file that the words name.
-fn problem_in<N: Files>(
+/// The problem of a domain in the file that the words name. The cost is that of reading the text.
+///
+/// # Errors
+/// The first fault of the file and its text.
+pub fn problem_in<N: Files>(
     alloc: Global,
     files: &mut N,
     words: PlanWords<'_>,
@@ -75,6 +82,7 @@ fn problem_in<N: Files>(
 ) -> Result<Problem, JudgeFault>
     ensures spelled { IfOk result (λ p. IsIn (N.held files.old words.entry.problem.now) (λ text.
         SpellsProblem (domain_view domain.now) text (problem_view p))) }
+    ensures kind { IfErr result IsTextFault }
     ensures cause { IsIn (N.held files.old words.entry.domain.now) (λ text. SpellsDomain text
         (domain_view domain.now)) → IfErr result (Explains (N.held files.old) words.entry) }
     ensures same { (other : List ℕ) → N.held files.new other ≡ N.held files.old other }

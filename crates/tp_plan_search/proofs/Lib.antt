@@ -1,3 +1,5 @@
 pub mod AnswerLemmas
 pub mod ReadBack
 pub mod StopLemmas
+pub mod TaskLemmas
+pub mod OnAll

@@ -5,11 +5,12 @@ use Rattle.std.specs.List.{AllByRecursion, list_all, position_from}
 use Rattle.std.proofs.lemmas.Bool.{and_parts}
 use Rattle.std.proofs.lemmas.Bool.Decides.{nat_tests}
 use Rattle.std.proofs.lemmas.List.{length-map}
-use Rattle.tp_bounds.specs.RunLimits.{RunLimits, greatest_limits}
+use Rattle.tp_bounds.specs.RunLimits.{RunLimits}
 use Rattle.tp_text.specs.declared.number.Scale.{Scale}
 use Rattle.tp_syntax.specs.Domains.{Domain, SpellsDomain}
 use Rattle.tp_syntax.specs.Problems.{Problem, SpellsProblem}
 use Rattle.tp_ground.specs.Grounding.{IsTask, ground_actions, universe_of}
+use Rattle.tp_ground.specs.Reached.{IsReachedTask, action_of as reached_action}
 use Rattle.tp_ground.specs.ReadBack.{named_body}
 use Rattle.tp_task.specs.Readable.{AreReadable, are_names}
 use Rattle.tp_task.specs.Tables.{words_at}
@@ -23,12 +24,14 @@ use Rattle.tp_happen.specs.TaskWords.{action_of, readable}
 use Rattle.tp_happen.specs.declared.plans.Step.{Step}
 use Rattle.tp_validate.specs.OfTask.{IsOfTask, is_step_of}
 use Rattle.tp_search.specs.Plans.{EndsBy, ends_by}
-use Rattle.tp_plan_files.specs.Named.{IsNamedTask}
-use Rattle.tp_plan_files.specs.declared.plan_words.PlanWords.{PlanWords}
 
--- the words of each action of a task that texts spell are names, by which it is found again
+-- the words of each action of a task that texts spell are names, by which it is found again: of the actions in reach, and of all
 abbrev pub ActionsAreReadable : Type 0
 ActionsAreReadable =
+    (text other : List ℕ) (d : Domain) (p : Problem) (limits : RunLimits) (scale : Scale) (t : Task) → SpellsDomain text d → SpellsProblem d other p → IsReachedTask limits scale d p t → AreReadable t.numbering.actions
+
+abbrev pub AllAreReadable : Type 0
+AllAreReadable =
     (text other : List ℕ) (d : Domain) (p : Problem) (limits : RunLimits) (scale : Scale) (t : Task) → SpellsDomain text d → SpellsProblem d other p → IsTask limits scale d p t → AreReadable t.numbering.actions
 
 action_is : (actions : List Words) (w : Words) (i : ℕ) → are_names w ≡ true → position_from (same_words w) 0 actions ≡ Some i → action_of actions w ≡ Some (record { 0 = i })
@@ -67,14 +70,24 @@ module _ (task : Task) (horizon : ℕ) (can_be_read : AreReadable task.numbering
       let e = and_parts (ends_by horizon s) (list_all (ends_by horizon) steps) ends in
       (step_read s a.0 e.0, steps_read steps a.1 e.1)
 
-as_many : (limits : RunLimits) (scale : Scale) (d : Domain) (p : Problem) (task : Task) → IsTask limits scale d p task → length task.actions.items ≡ length task.numbering.actions
-as_many limits scale d p task is =
-    let all = ground_actions (universe_of d p) d.actions in
-    sym (length-map task.actions.items (named_body task.numbering))
-    ∙ ap length is.bodies
-    ∙ length-map all (λ a. a.body)
-    ∙ sym (length-map all (λ a. a.words))
-    ∙ sym (ap length is.names)
+module _ (limits : RunLimits) (scale : Scale) (d : Domain) (p : Problem) (task : Task) where
+  pub as_many : IsReachedTask limits scale d p task → length task.actions.items ≡ length task.numbering.actions
+  as_many is =
+      let u = universe_of d p in
+      sym (length-map task.actions.items (named_body task.numbering))
+      ∙ ap length is.task.bodies
+      ∙ length-map is.kept (λ i. (reached_action u i).body)
+      ∙ sym (length-map is.kept (λ i. (reached_action u i).words))
+      ∙ sym (ap length is.task.names)
+
+  pub as_many_of_all : IsTask limits scale d p task → length task.actions.items ≡ length task.numbering.actions
+  as_many_of_all is =
+      let all = ground_actions (universe_of d p) d.actions in
+      sym (length-map task.actions.items (named_body task.numbering))
+      ∙ ap length is.bodies
+      ∙ length-map all (λ a. a.body)
+      ∙ sym (length-map all (λ a. a.words))
+      ∙ sym (ap length is.names)
 
 -- ---- lines that spell steps, at most 512, are not refused
 
@@ -100,11 +113,7 @@ none_refused task (l ∷ ls) n count steps spells few = one_line task l ls (none
 pub plan_accepted : (task : ReadableTask) (text : List ℕ) (steps : List Step) → SpellsPlan task text steps → length steps ≤ 512 → IsAccepted task text
 plan_accepted task text steps spells few = none_refused task (lines_in text) 1 0 steps spells (omega arith)
 
--- the plan of a task that words name, which ends by their horizon
-pub plan_read : PlansAreRead → ActionsAreReadable → (held : List ℕ → Option (List ℕ)) (w : PlanWords) (task : Task) → w.horizon ≤ 1000000000 → IsNamedTask held w task → (steps : List Step) → IsOfTask task steps → EndsBy w.horizon steps → SpellsPlan (readable task) (plan_text (readable task) steps) steps
-plan_read read can_be_read held w task within named steps are ends =
-    read (readable task) steps (omega arith)
-    (steps_read task w.horizon
-    (can_be_read named.domain_in.0 named.problem_in.0 named.domain named.problem (greatest_limits w.horizon) w.scale task named.domain_in.2 named.problem_in.2 named.task_of)
-    (as_many (greatest_limits w.horizon) w.scale named.domain named.problem task named.task_of)
-    (ap (λ (l : RunLimits). l.horizon) named.task_of.same_limits) within steps are ends)
+-- the plan of a task whose actions are told by their words, which ends by its horizon
+pub plan_read : PlansAreRead → (task : Task) (horizon : ℕ) → AreReadable task.numbering.actions → length task.actions.items ≡ length task.numbering.actions → task.limits.horizon ≡ horizon → horizon ≤ 1000000000 → (steps : List Step) → IsOfTask task steps → EndsBy horizon steps → SpellsPlan (readable task) (plan_text (readable task) steps) steps
+plan_read read task horizon can_be_read same limit within steps are ends =
+    read (readable task) steps (omega arith) (steps_read task horizon can_be_read same limit within steps are ends)

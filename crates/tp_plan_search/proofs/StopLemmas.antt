@@ -18,8 +18,10 @@ use Rattle.tp_files.specs.declared.files.FileFault.TheVariants as file_fault
 use Rattle.tp_plan_files.specs.JudgeLines.{ground_status, judge_status, syntax_status, text_status}
 use Rattle.tp_plan_files.specs.declared.judging.JudgeFault.{JudgeFault}
 use Rattle.tp_plan_files.specs.declared.judging.JudgeFault.TheVariants as judge_fault
-use Rattle.tp_plan_search.specs.Searches.{SearchesPart}
-use Rattle.tp_plan_search.specs.SearchStops.{EndsSearch, IsTaskFault, StopsSearch, search_status, stop_failures, stop_status, stop_text}
+use Rattle.tp_plan_search.specs.Searches.{SearchesPart, task_words}
+use Rattle.tp_plan_files.specs.declared.plan_words.PlanWords.{PlanWords}
+use Rattle.tp_plan_search.specs.SearchTasks.{ExplainsTask}
+use Rattle.tp_plan_search.specs.SearchStops.{EndsSearch, StopsSearch, search_status, stop_failures, stop_status, stop_text}
 use Rattle.tp_plan_search.specs.declared.search_words.SearchWords.{SearchWords}
 use Rattle.tp_plan_search.specs.declared.stops.SearchStop.{SearchStop}
 use Rattle.tp_plan_search.specs.declared.stops.SearchStop.TheVariants.{Files, Searching, Write}
@@ -55,16 +57,16 @@ ground_most ground_fault.Memory = omega arith
 ground_most (ground_fault.TooMany kind) = omega arith
 ground_most ground_fault.Range = omega arith
 
-files_most : (fault : JudgeFault) → IsTaskFault fault → judge_status fault ≤ 3
-files_most (judge_fault.DomainFile fault) is = file_most fault
-files_most (judge_fault.Domain fault) is = syntax_most fault
-files_most (judge_fault.ProblemFile fault) is = file_most fault
-files_most (judge_fault.Problem fault) is = syntax_most fault
-files_most (judge_fault.Task fault) is = ground_most fault
-files_most (judge_fault.PlanFile fault) is = absurd is
-files_most (judge_fault.Plan fault) is = absurd is
-files_most judge_fault.Memory is = absurd is
-files_most judge_fault.Range is = absurd is
+files_most : (held : List ℕ → Option (List ℕ)) (w : PlanWords) (fault : JudgeFault) → ExplainsTask held w fault → judge_status fault ≤ 3
+files_most held w (judge_fault.DomainFile fault) is = file_most fault
+files_most held w (judge_fault.Domain fault) is = syntax_most fault
+files_most held w (judge_fault.ProblemFile fault) is = file_most fault
+files_most held w (judge_fault.Problem fault) is = syntax_most fault
+files_most held w (judge_fault.Task fault) is = ground_most fault
+files_most held w (judge_fault.PlanFile fault) is = absurd is
+files_most held w (judge_fault.Plan fault) is = absurd is
+files_most held w judge_fault.Memory is = absurd is
+files_most held w judge_fault.Range is = absurd is
 
 search_most : (fault : SearchFault) → search_status fault ≤ 3
 search_most search_fault.Memory = omega arith
@@ -74,7 +76,7 @@ search_most search_fault.Range = omega arith
 
 module _ (held : List ℕ → Option (List ℕ)) (w : SearchWords) (before now : Option (List ℕ)) where
   stop_most : (stop : SearchStop) → StopsSearch held w before now stop → stop_status stop ≤ 3
-  stop_most (Files fault) h = files_most fault h.0
+  stop_most (Files fault) h = files_most held (task_words w) fault h.0
   stop_most (Searching fault) h = search_most fault
   stop_most Write h = omega arith
 
@@ -82,12 +84,12 @@ module _ (held : List ℕ → Option (List ℕ)) (w : SearchWords) (before now :
   ends_within status stop h is = subst (λ n. n ≤ 3) (sym is) (stop_most stop h)
 
   pub part_then : (stop : SearchStop) → StopsSearch held w before now stop → SearchesPart held w before now
-  part_then (Files fault) h = inl (subst (λ n. Appends before n []) (sym h.2) (appends_none before))
+  part_then (Files fault) h = inl (subst (λ n. Appends before n []) (sym h.1) (appends_none before))
   part_then (Searching fault) h = inl (subst (λ n. Appends before n []) (sym h.1) (appends_none before))
   part_then Write h = inr h
 
   kept_then : (stop : SearchStop) → StopsSearch held w before now stop → stop_status stop ≡ 2 → now ≡ before
-  kept_then (Files fault) h two = h.2
+  kept_then (Files fault) h two = h.1
   kept_then (Searching fault) h two = h.1
   kept_then Write h two = cc
 

@@ -4,27 +4,12 @@ use Rattle.tp_task.specs.declared.task.Task.{Task}
 use Rattle.tp_search.specs.tp_forms.declared.fault.SearchFault.{SearchFault}
 use Rattle.tp_search.specs.tp_forms.declared.fault.SearchFault.TheVariants as search
 use Rattle.tp_files.specs.FaultLines.{Tells, fault_line}
-use Rattle.tp_plan_files.specs.Causes.{Explains}
 use Rattle.tp_plan_files.specs.JudgeLines.{judge_status, judge_text}
-use Rattle.tp_plan_files.specs.Named.{IsNamedTask}
-use Rattle.tp_plan_files.specs.declared.judging.JudgeFault.{JudgeFault}
-use Rattle.tp_plan_files.specs.declared.judging.JudgeFault.TheVariants as judge
+use Rattle.tp_plan_search.specs.SearchTasks.{ExplainsTask, IsSearchTask}
 use Rattle.tp_plan_search.specs.Searches.{SearchesSome, task_words}
 use Rattle.tp_plan_search.specs.declared.search_words.SearchWords.{SearchWords}
 use Rattle.tp_plan_search.specs.declared.stops.SearchStop.{SearchStop}
 use Rattle.tp_plan_search.specs.declared.stops.SearchStop.TheVariants.{Files, Searching, Write}
-
--- a fault of a domain, a problem or their task, and so of no plan
-abbrev pub IsTaskFault : JudgeFault → Type 0
-IsTaskFault (judge.DomainFile fault) = Unit {0}
-IsTaskFault (judge.Domain fault) = Unit {0}
-IsTaskFault (judge.ProblemFile fault) = Unit {0}
-IsTaskFault (judge.Problem fault) = Unit {0}
-IsTaskFault (judge.Task fault) = Unit {0}
-IsTaskFault (judge.PlanFile fault) = ⊥
-IsTaskFault (judge.Plan fault) = ⊥
-IsTaskFault judge.Memory = ⊥
-IsTaskFault judge.Range = ⊥
 
 abbrev pub search_status : SearchFault → ℕ
 search_status search.Memory = 3
@@ -56,9 +41,9 @@ stop_failures n (Err Write) = n + 1
 abbrev pub StopsSearch : (List ℕ → Option (List ℕ)) → SearchWords → Option (List ℕ)
     → Option (List ℕ) → SearchStop → Type 0
 StopsSearch held w before now (Files fault) =
-    IsTaskFault fault × Explains held (task_words w) fault × (now ≡ before)
+    ExplainsTask held (task_words w) fault × (now ≡ before)
 StopsSearch held w before now (Searching fault) =
-    ((task : Task) × IsNamedTask held (task_words w) task) × (now ≡ before)
+    ((task : Task) × IsSearchTask held (task_words w) task) × (now ≡ before)
 StopsSearch held w before now Write = SearchesSome held w before now
 
 -- It stopped so with that status, and that was told. A failed write is one that the count of failures tells of.

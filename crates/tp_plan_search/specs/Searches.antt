@@ -2,9 +2,11 @@
 use Rattle.std.specs.Prelude.{ℕ, List, [], Option, Bool, true, false, ◌⊎◌}
 use Rattle.std.specs.Io.KnownBytes.{Appends}
 use Rattle.tp_device.specs.Bytes.{AppendsPart}
+use Rattle.tp_bounds.specs.RunLimits.{greatest_limits}
+use Rattle.tp_ground.specs.Grounding.{IsTask}
 use Rattle.tp_task.specs.declared.task.Task.{Task}
-use Rattle.tp_plan_files.specs.Named.{IsNamedTask}
 use Rattle.tp_plan_files.specs.declared.plan_words.PlanWords.{PlanWords}
+use Rattle.tp_plan_search.specs.SearchTasks.{IsSearchTask}
 use Rattle.tp_plan_search.specs.FoundText.{IsNoPlanLine, IsPlanText}
 use Rattle.tp_plan_search.specs.declared.search_words.SearchWords.{SearchWords}
 
@@ -24,8 +26,13 @@ pub record WritesPlan (held : List ℕ → Option (List ℕ)) (w : SearchWords)
     (before now : Option (List ℕ)) : Type 0 where
   pub task : Task
   pub text : List ℕ
-  pub named : IsNamedTask held (task_words w) task
+  pub named : IsSearchTask held (task_words w) task
   pub plan : IsPlanText task w.horizon text
+  -- and it is one of the task of all ground actions, where there is that task within the limits
+  pub of_all :
+      (all : Task)
+      → IsTask (greatest_limits w.horizon) w.scale named.domain named.problem all
+      → IsPlanText all w.horizon text
   pub written : Appends before now text
 
 -- no plan was found within the budget, and it was written why
@@ -33,8 +40,13 @@ pub record SaysNoPlan (held : List ℕ → Option (List ℕ)) (w : SearchWords)
     (before now : Option (List ℕ)) : Type 0 where
   pub task : Task
   pub line : List ℕ
-  pub named : IsNamedTask held (task_words w) task
+  pub named : IsSearchTask held (task_words w) task
   pub why : IsNoPlanLine task w.budget line
+  -- and it is so of the task of all ground actions, where there is that task within the limits
+  pub of_all :
+      (all : Task)
+      → IsTask (greatest_limits w.horizon) w.scale named.domain named.problem all
+      → IsNoPlanLine all w.budget line
   pub written : Appends before now line
 
 -- the answer is whether a plan was written
@@ -52,7 +64,7 @@ pub record SearchesSome (held : List ℕ → Option (List ℕ)) (w : SearchWords
     (before now : Option (List ℕ)) : Type 0 where
   pub task : Task
   pub text : List ℕ
-  pub named : IsNamedTask held (task_words w) task
+  pub named : IsSearchTask held (task_words w) task
   pub is : IsSearchText task w.budget w.horizon text
   pub part : AppendsPart before now text
 

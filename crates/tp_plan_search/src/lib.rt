@@ -2,6 +2,7 @@
 //!
 //! - `search_words`: the names of the files, how time is measured, and the budget
 //! - `found_text`: the text of what a search came to
+//! - `tasks`: the task of the domain and the problem in files
 //! - `stops`: why there is no answer, and the line of it
 //! - `planning`: all of it, of the files that words name
 #![tactic(auto)]
@@ -10,6 +11,7 @@ mod found_text;
 mod planning;
 mod search_words;
 mod stops;
+mod tasks;
 
 pub use planning::run_plan;
 pub use search_words::SearchWords;

@@ -2,23 +2,23 @@
 
 ghost use Rattle.std.specs.Prelude.{◌≡◌, ◌≢◌, ◌≤◌, ℕ, List, [], Option, IfOk, IfErr};
 ghost use Rattle.tp_files.specs.FaultLines.{TellsFault};
-ghost use Rattle.tp_plan_files.specs.Causes.{Explains};
-ghost use Rattle.tp_plan_files.specs.Named.{IsNamedTask};
-ghost use Rattle.tp_plan_files.specs.declared.plan_words.PlanWords.{PlanWords};
 ghost use Rattle.tp_plan_search.specs.FoundText.{IsFoundOfTask};
-ghost use Rattle.tp_plan_search.specs.SearchStops.{EndsSearch, IsTaskFault, StopsSearch, stop_failures};
+ghost use Rattle.tp_plan_search.specs.SearchStops.{EndsSearch, StopsSearch, stop_failures};
+ghost use Rattle.tp_plan_search.specs.SearchTasks.{ExplainsTask, IsSearchTask};
 ghost use Rattle.tp_plan_search.specs.Searches.{SaysNoPlan, Searches, SearchesPart, WritesPlan, task_words};
 ghost use Rattle.tp_plan_search.specs.Telling.{StopsTelling, TellsFound};
 
 use crate::found_text::write_found;
 use crate::search_words::SearchWords;
 use crate::stops::{SearchStop, stop_line};
+use crate::tasks::task_in;
 use std::alloc::Global;
 use tp_device::Sink;
-use tp_files::{FileFault, Files, OUT_OF_ORDER, REFUSED, complain};
-use tp_ground::actions_are_readable;
+use tp_files::{Files, OUT_OF_ORDER, REFUSED, complain};
+use tp_ground::{actions_are_readable, reached_actions_are_readable};
 use tp_happen::plans_are_read;
-use tp_plan_files::{JudgeFault, task_in};
+use tp_plan_files::JudgeFault;
+use tp_same_plans::{same_goal_is_in_reach, same_plans_are_valid};
 use tp_search::{Found, search};
 use tp_task::Task;
 
@@ -43,31 +43,21 @@ fn search_of<O: Sink>(
     output: &mut O,
 ) -> Result<bool, SearchStop>
     requires { words.horizon ≤ 1000000000 }
-    ensures said { (held : List ℕ → Option (List ℕ)) → IsNamedTask held (task_words words.entry)
+    ensures said { (held : List ℕ → Option (List ℕ)) → IsSearchTask held (task_words words.entry)
         task.now → IfOk result (Searches held words.entry (O.held output.old) (O.held output.new)) }
     ensures cause { (held : List ℕ → Option (List ℕ))
-        → IsNamedTask held (task_words words.entry) task.now
+        → IsSearchTask held (task_words words.entry) task.now
         → IfErr result (StopsSearch held words.entry (O.held output.old) (O.held output.new)) }
     ensures failures { O.failures output.new ≡ stop_failures (O.failures output.old) result }
 {
     plans_are_read();
     actions_are_readable();
+    reached_actions_are_readable();
+    same_plans_are_valid();
+    same_goal_is_in_reach();
     match search(alloc, task, words.budget, words.horizon) {
         Ok(found) => tell(&found, output),
         Err(fault) => Err(SearchStop::Searching(fault)),
-    }
-}
-
-/// The fault of files in which no plan stands. None is told of a plan; there memory may have been wanting.
-fn task_fault(fault: JudgeFault) -> JudgeFault
-    ensures kind { IsTaskFault result }
-    ensures cause { (held : List ℕ → Option (List ℕ)) → (w : PlanWords) → Explains held w fault
-        → Explains held w result }
-{
-    match fault {
-        JudgeFault::PlanFile(_) | JudgeFault::Plan(_) => JudgeFault::DomainFile(FileFault::Memory),
-        JudgeFault::Memory | JudgeFault::Range => JudgeFault::DomainFile(FileFault::Memory),
-        other => other,
     }
 }
 
@@ -78,14 +68,10 @@ fn task_of<N: Files>(
     words: SearchWords<'_>,
 ) -> Result<Task, JudgeFault>
     requires { words.horizon ≤ 1000000000 }
-    ensures named { IfOk result (IsNamedTask (N.held files.old) (task_words words.entry)) }
-    ensures kind { IfErr result IsTaskFault }
-    ensures cause { IfErr result (Explains (N.held files.old) (task_words words.entry)) }
+    ensures named { IfOk result (IsSearchTask (N.held files.old) (task_words words.entry)) }
+    ensures cause { IfErr result (ExplainsTask (N.held files.old) (task_words words.entry)) }
 {
-    match task_in(alloc, files, words.task_words()) {
-        Ok(task) => Ok(task),
-        Err(fault) => Err(task_fault(fault)),
-    }
+    task_in(alloc, files, words.task_words())
 }
 
 /// Searches for a plan of the task that the words name, and writes it, or why there is none. Answers whether there is one.
@@ -112,7 +98,8 @@ fn plan<N: Files, O: Sink>(
 /// format; or the line `unreachable`, `exhausted` or `spent N` where none was found. Answers the exit status: 0 for a plan, 1 where
 /// none was found, and for another writes one fault line.
 ///
-/// The cost is that of reading both texts, of grounding and of the search.
+/// The search is of the task that `ground_reached` makes: no more actions than its relaxed reach keeps. The cost is that of reading
+/// both texts, of that grounding and of the search.
 pub fn run_plan<N: Files, O: Sink, F: Sink>(
     alloc: Global,
     files: &mut N,

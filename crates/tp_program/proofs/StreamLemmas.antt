@@ -183,10 +183,10 @@ runs_part_over files w input a b c d over (inr (inr h)) =
     inr (inr (h.0, h.1, h.2, h.3, writes_part_over h.0 h.1 w.horizon input a b c d over h.4))
 
 plan_over : (files : List ℕ → Option (List ℕ)) (w : SearchWords) (a b c d : Option (List ℕ)) → Shift a b c d → WritesPlan files w a b → WritesPlan files w c d
-plan_over files w a b c d over h = record { task = h.task; text = h.text; named = h.named; plan = h.plan; written = over _ h.written }
+plan_over files w a b c d over h = record { task = h.task; text = h.text; named = h.named; plan = h.plan; of_all = h.of_all; written = over _ h.written }
 
 no_plan_over : (files : List ℕ → Option (List ℕ)) (w : SearchWords) (a b c d : Option (List ℕ)) → Shift a b c d → SaysNoPlan files w a b → SaysNoPlan files w c d
-no_plan_over files w a b c d over h = record { task = h.task; line = h.line; named = h.named; why = h.why; written = over _ h.written }
+no_plan_over files w a b c d over h = record { task = h.task; line = h.line; named = h.named; why = h.why; of_all = h.of_all; written = over _ h.written }
 
 searches_part_over : (files : List ℕ → Option (List ℕ)) (w : SearchWords) (a b c d : Option (List ℕ)) → Shift a b c d → SearchesPart files w a b → SearchesPart files w c d
 searches_part_over files w a b c d over (inl none) = inl (over _ none)

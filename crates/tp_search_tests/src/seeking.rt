@@ -6,7 +6,7 @@ use std::alloc::{AllocError, Global};
 use std::process::Abort;
 use std::test::Fail;
 use tp_bounds::Limits;
-use tp_ground::ground;
+use tp_ground::{ground, ground_reached};
 use tp_happen::{Step, read_plan};
 use tp_search::{Found, search};
 use tp_syntax::{Domain, Problem, read_domain, read_problem};
@@ -51,6 +51,33 @@ pub(crate) fn task_of(alloc: Global, world: World<'_>) -> Result<Task, Fail>
 {
     let domain = read_domain(alloc, world.domain)?;
     task_in(alloc, &domain, world)
+}
+
+fn kept(
+    alloc: Global,
+    domain: &Domain,
+    problem: &Problem,
+    world: World<'_>,
+) -> Result<Task, GroundFault>
+    requires { world.horizon ≤ 1000000000 }
+{
+    let limits = Limits::greatest(world.horizon);
+    ground_reached(alloc, domain, problem, &limits, world.scale)
+}
+
+fn kept_in(alloc: Global, domain: &Domain, world: World<'_>) -> Result<Task, Fail>
+    requires { world.horizon ≤ 1000000000 }
+{
+    let problem = read_problem(alloc, world.problem, domain)?;
+    Ok(kept(alloc, domain, &problem, world)?)
+}
+
+/// The task of a world with the actions alone that the relaxed reach keeps, under the greatest limits.
+pub(crate) fn kept_of(alloc: Global, world: World<'_>) -> Result<Task, Fail>
+    requires { world.horizon ≤ 1000000000 }
+{
+    let domain = read_domain(alloc, world.domain)?;
+    kept_in(alloc, &domain, world)
 }
 
 fn push_step(text: &mut String, task: &Task, step: &Step) -> Result<(), Fail> {

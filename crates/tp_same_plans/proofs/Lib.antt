@@ -1,0 +1,10 @@
+mod OnLists
+mod ByWords
+mod OnNamed
+mod OnEffects
+mod OnRuns
+mod OnTables
+mod OnSteps
+mod OnReached
+mod OnSame
+mod OnGoal

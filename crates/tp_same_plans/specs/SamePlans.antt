@@ -1,0 +1,47 @@
+-- Two tasks with the same plans, where the actions of steps are taken by their words.
+use Rattle.std.specs.Prelude.{◌≡◌, true, List, [], ◌∷◌, ◌↔◌, slice_get}
+use Rattle.tp_task.specs.declared.task.Task.{Task}
+use Rattle.tp_task.specs.Tables.{words_at}
+use Rattle.tp_happen.specs.declared.plans.Step.{Step}
+use Rattle.tp_happen.specs.PlanPrints.{plan_text}
+use Rattle.tp_happen.specs.TaskWords.{is_durative, readable}
+use Rattle.tp_validate.specs.OfTask.{IsOfTask, IsValidPlan, is_step_of}
+
+-- Steps at the same tick, as long, and of actions of the same words.
+pub record IsSameStep (t u : Task) (m n : Step) : Type 0 where
+  pub tick : m.tick ≡ n.tick
+  pub duration : m.duration ≡ n.duration
+  pub action : words_at t.numbering.actions m.action.0 ≡ words_at u.numbering.actions n.action.0
+
+-- step by step
+abbrev pub AreSameSteps : Task → Task → List Step → List Step → Type 0
+AreSameSteps t u [] [] = Unit {0}
+AreSameSteps t u [] (n ∷ ns) = ⊥
+AreSameSteps t u (m ∷ ms) [] = ⊥
+AreSameSteps t u (m ∷ ms) (n ∷ ns) = IsSameStep t u m n × AreSameSteps t u ms ns
+
+-- The plans that are valid for one task are those that are valid for the other, which may have fewer actions.
+pub record HaveSamePlans (t u : Task) : Type 0 where
+  -- the same steps are valid for both, or for neither
+  pub same :
+      (ms ns : List Step)
+      → IsOfTask t ms → IsOfTask u ns
+      → AreSameSteps t u ms ns → IsValidPlan t ms ↔ IsValidPlan u ns
+  -- the steps of a valid plan of the one are steps of the other
+  pub kept :
+      (ms : List Step)
+      → IsOfTask t ms → IsValidPlan t ms
+      → (ns : List Step) × IsOfTask u ns × AreSameSteps t u ms ns
+  -- each step of the other is one of the one
+  pub wide :
+      (ns : List Step) → IsOfTask u ns → (ms : List Step) × IsOfTask t ms × AreSameSteps t u ms ns
+  -- the same step is durative for both, or for neither
+  pub lasting :
+      (m n : Step)
+      → is_step_of t m ≡ true → is_step_of u n ≡ true
+      → IsSameStep t u m n → is_durative (slice_get t.actions.items m.action.0) ≡ is_durative (slice_get u.actions.items n.action.0)
+  -- the same steps are written as the same text
+  pub told :
+      (ms ns : List Step)
+      → IsOfTask t ms → IsOfTask u ns
+      → AreSameSteps t u ms ns → plan_text (readable t) ms ≡ plan_text (readable u) ns
