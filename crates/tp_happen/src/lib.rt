@@ -6,7 +6,7 @@
 //! - `events`, `lending`: events, and how a task lends them
 //! - `interfere`: when two events interfere
 //! - `faults`, `clashes`: the first fault of a happening
-//! - `meetings`, `mentions`: the first two events that interfere, by tables
+//! - `mentions`, `meetings`: what events mention, and the first two that interfere, by tables
 //! - `writes`: the effects of events, written one after another
 //! - `happening`: all of it together, `apply`
 //! - `plans`: plans and their steps
@@ -39,6 +39,8 @@ pub use forms::forms_are_written;
 pub use happening::{ApplyFault, apply};
 pub use interfere::{interferes, uses_duration, writes_into};
 pub use lending::event;
+pub use meetings::Meeting;
+pub use mentions::{atoms_of, fluents_of};
 pub use plans::{Plan, Step};
 pub use printing::{plans_are_read, print_plan};
 pub use reading::{PlanFault, read_plan};

@@ -9,16 +9,16 @@ ghost use Rattle.tp_happen.specs.Meetings.{done, met, meet, pair_by, earlier, fi
 
 use crate::faults::first_of_pairs;
 use crate::mentions::{push_atoms, push_read, push_set, push_written};
-use crate::{EventRef, State};
+use crate::{Event, EventRef, State};
 use std::alloc::{AllocError, Global};
 use tp_task::GroundEvent;
 
 /// So many events with so many effects are compared in pairs.
 const FEW: usize = 16;
 
-/// What one of two events that interfere does to an atom or a fluent, and what the other does with it.
+/// A way in which two events interfere: what one of them does to an atom or a fluent, and what the other does with it.
 #[derive(Clone, Copy)]
-pub(crate) enum Meeting {
+pub enum Meeting {
     ChangedAndAsked,
     AddedAndDeleted,
     WrittenAndRead,
@@ -66,6 +66,22 @@ fn met(alloc: Global, way: Meeting, event: &GroundEvent) -> Result<Vec<u32>, All
     let mut numbers = Vec::new(alloc);
     push_met(way, event, &mut numbers)?;
     Ok(numbers)
+}
+
+impl Event<'_> {
+    /// The atoms or fluents to which it does what the first of two events does in that way.
+    pub fn done(&self, alloc: Global, way: Meeting) -> Result<Vec<u32>, AllocError>
+        ensures { IfOk result (λ v. v.items ≡ done way self.now) }
+    {
+        done(alloc, way, self.body)
+    }
+
+    /// The atoms or fluents with which it does what the other one does.
+    pub fn met(&self, alloc: Global, way: Meeting) -> Result<Vec<u32>, AllocError>
+        ensures { IfOk result (λ v. v.items ≡ met way self.now) }
+    {
+        met(alloc, way, self.body)
+    }
 }
 
 fn earlier(a: Option<usize>, b: Option<usize>) -> Option<usize>

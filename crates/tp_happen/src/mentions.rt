@@ -7,7 +7,7 @@ ghost use Rattle.tp_task.specs.Event as spec;
 ghost use Rattle.tp_task.specs.Event.{fluents_read};
 
 use crate::interfere::is_additive;
-use std::alloc::AllocError;
+use std::alloc::{AllocError, Global};
 use tp_task::{Cond, Expr, GroundEvent, Limit, NumericEffect};
 
 /// Appends the atoms that a condition mentions.
@@ -84,6 +84,24 @@ fn push_fluents_in_each(conds: &[Cond], into: &mut Vec<u32>) -> Result<(), Alloc
         push_fluents_in(c, into)?;
     }
     Ok(())
+}
+
+/// The atoms that a condition mentions, once for each mention.
+pub fn atoms_of(alloc: Global, cond: &Cond) -> Result<Vec<u32>, AllocError>
+    ensures { IfOk result (λ v. v.items ≡ atoms_in cond.now) }
+{
+    let mut atoms = Vec::new(alloc);
+    push_atoms(cond, &mut atoms)?;
+    Ok(atoms)
+}
+
+/// The fluents that a condition mentions, once for each mention.
+pub fn fluents_of(alloc: Global, cond: &Cond) -> Result<Vec<u32>, AllocError>
+    ensures { IfOk result (λ v. v.items ≡ fluents_in cond.now) }
+{
+    let mut fluents = Vec::new(alloc);
+    push_fluents_in(cond, &mut fluents)?;
+    Ok(fluents)
 }
 
 fn push_values(effects: &[NumericEffect], into: &mut Vec<u32>) -> Result<(), AllocError>
