@@ -25,7 +25,8 @@ COMMANDS = {
     "happened": rf"happened {NUMBER} {NUMBER}",
     "report": r"report",
 }
-EDGE = r"(?:b[0-9]+|new|past[0-9]+[+-]|now[0-9]+|end[0-9]+)"
+EVENT = r"(0|[1-9][0-9]{0,3}|[1-5][0-9]{4}|6[0-4][0-9]{3}|65[0-4][0-9]{2}|655[0-2][0-9]|6553[0-5])"
+EDGE = rf"(?:b{NUMBER}|new|past{EVENT}[+-]|now{EVENT}|end{EVENT})"
 NAMES = ("event", "done", "bound", "weight", "back", "moment", "full", "spent", "memory", "line")
 ANSWERS = (r"ok", rf"bound {NUMBER}", rf"window {NUMBER} {NUMBER}", rf"report {NUMBER} (bare|kept|altered)( {NUMBER}!?)*", rf"refused ({'|'.join(NAMES)})", rf"refused conflict( {EDGE})+")
 # the commands that may want memory: all but window

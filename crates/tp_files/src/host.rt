@@ -1,6 +1,6 @@
 //! The files of the host, and the words of its call.
 
-ghost use Rattle.std.specs.Prelude.{◌≡◌, None, drop, if◌then◌else◌};
+ghost use Rattle.std.specs.Prelude.{◌≡◌, None, drop};
 ghost use Rattle.tp_files.specs.Calls.{call_status, call_text};
 ghost use Rattle.tp_files.specs.FaultLines.{Tells, fault_text};
 
@@ -12,11 +12,11 @@ use std::rt::{Env, Files as HostFileSystem};
 use std::{env, fs};
 use tp_device::{Failed, Sink, Source};
 
-/// A file of the host that is read. Once a read has failed, there is nothing more in it.
+/// A file of the host that is read. Behind 2^64 - 1 reads that failed there is nothing more in it.
 #[derive(Drop)]
 pub struct HostFile<R: Read> {
     reader: R,
-    failed: bool,
+    failures: u64,
 }
 
 impl<R: Read> HostFile<R> {
@@ -24,7 +24,7 @@ impl<R: Read> HostFile<R> {
     pub fn new(reader: R) -> Self {
         HostFile {
             reader,
-            failed: false,
+            failures: 0,
         }
     }
 }
@@ -33,16 +33,16 @@ impl<R: Read> Source for HostFile<R> {
     // What a file of the host holds is not told.
     ghost left = { λ _. None };
 
-    ghost failures = { λ s. if s.failed then 1 else 0 };
+    ghost failures = { λ s. s.failures };
 
     fn pull(&mut self, buffer: &mut [u8]) -> Result<usize, Failed> {
-        if self.failed {
+        if self.failures == u64::MAX {
             return Ok(0);
         }
         match self.reader.read(buffer) {
             Ok(count) => Ok(count),
             Err(_) => {
-                self.failed = true;
+                self.failures += 1;
                 Err(Failed)
             }
         }

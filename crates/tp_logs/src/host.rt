@@ -1,6 +1,6 @@
 //! Journal files of the host.
 
-ghost use Rattle.std.specs.Prelude.{None, if◌then◌else◌};
+ghost use Rattle.std.specs.Prelude.{None};
 
 use crate::logs::Logs;
 use std::fs;
@@ -9,11 +9,11 @@ use std::rt::Files as HostFileSystem;
 use tp_device::{Failed, Sink};
 
 /// A file of the host that is written. Each push is a write of the host's, and none is kept back. What the file holds is not
-/// told. Once a write has failed, or took none of some bytes, no more goes to the file.
+/// told. A write that fails, or takes none of some bytes, counts as a failure; behind 2^64 - 1 of them no more goes to the file.
 #[derive(Drop)]
 pub struct HostLog<W: Write> {
     writer: W,
-    failed: bool,
+    failures: u64,
 }
 
 impl<W: Write> HostLog<W> {
@@ -21,7 +21,7 @@ impl<W: Write> HostLog<W> {
     pub fn new(writer: W) -> Self {
         HostLog {
             writer,
-            failed: false,
+            failures: 0,
         }
     }
 }
@@ -30,16 +30,16 @@ impl<W: Write> Sink for HostLog<W> {
     // What a file of the host holds is not told.
     ghost held = { λ _. None };
 
-    ghost failures = { λ s. if s.failed then 1 else 0 };
+    ghost failures = { λ s. s.failures };
 
     fn push(&mut self, bytes: &[u8]) -> Result<usize, Failed> {
-        if self.failed {
+        if self.failures == u64::MAX {
             return Ok(bytes.len());
         }
         match self.writer.write(bytes) {
             Ok(count) if count != 0 || bytes.is_empty() => Ok(count),
             _ => {
-                self.failed = true;
+                self.failures += 1;
                 Err(Failed)
             }
         }
