@@ -22,7 +22,7 @@ use crate::environment::Env;
 use crate::grounder::{LoweredTask, check, note_quantifiers, plain_universe, task_of};
 use crate::instances::{Instance, all_instances, flagged, lower_instances, name_instances};
 use crate::lowering::condition;
-use crate::universe::{Universe, count_bindings};
+use crate::universe::{Universe, count_and_note};
 use crate::writer::Writer;
 use std::alloc::{AllocError, Global};
 use tp_ast::action::Action;
@@ -37,21 +37,42 @@ use tp_text::Scale;
 /// For so many bytes there has to be room for each binding of an action before any is written out: mostly more than one takes.
 const ROOM: usize = 4_096;
 
-// How many bindings some more parameters have after those before, or as many as can be told.
-fn count_more(universe: &Universe, parameters: &[Typed], before: usize) -> usize {
-    match count_bindings(universe, parameters, usize::MAX) {
-        Some(count) => before.saturating_add(count),
-        None => usize::MAX,
+// How many bindings some more parameters have after those before, or as many as can be told. The objects that they may
+// stand for are known from then on.
+fn count_more<'a>(
+    alloc: Global,
+    universe: &mut Universe<'a>,
+    parameters: &'a [Typed],
+    before: usize,
+) -> Result<usize, AllocError>
+    ensures { universe_view universe.new ≡ universe_view universe.old }
+{
+    match count_and_note(alloc, universe, parameters, usize::MAX)? {
+        Some(count) => Ok(before.saturating_add(count)),
+        None => Ok(usize::MAX),
     }
 }
 
-// Asks for the room of what all bindings of all actions are written out to, and gives it back.
-fn ask_for_room(alloc: Global, universe: &Universe, actions: &[Action]) -> Result<(), AllocError> {
+// Asks for the room of what so many bindings are written out to, and gives it back.
+fn ask_for(alloc: Global, count: usize) -> Result<(), AllocError> {
+    let _room: Vec<u8> = Vec::with_capacity(alloc, count.saturating_mul(ROOM))?;
+    Ok(())
+}
+
+// Asks for the room of what all bindings of all actions are written out to. What is known of objects before an answer takes
+// a small part of what was asked for.
+fn ask_for_room<'a>(
+    alloc: Global,
+    universe: &mut Universe<'a>,
+    actions: &'a [Action],
+) -> Result<(), AllocError>
+    ensures { universe_view universe.new ≡ universe_view universe.old }
+{
     let mut count = 0usize;
     for action in actions {
-        count = count_more(universe, &action.parameters, count);
+        count = count_more(alloc, universe, &action.parameters, count)?;
+        ask_for(alloc, count)?;
     }
-    let _room: Vec<u8> = Vec::with_capacity(alloc, count.saturating_mul(ROOM))?;
     Ok(())
 }
 
@@ -65,7 +86,7 @@ fn universe_of_all<'a>(
         (λ u. universe_view u ≡ universe_of (domain_view domain.now) (problem_view problem.now)) }
 {
     let mut universe = plain_universe(alloc, domain, problem)?;
-    ask_for_room(alloc, &universe, &domain.actions)?;
+    ask_for_room(alloc, &mut universe, &domain.actions)?;
     note_quantifiers(alloc, &mut universe, domain, problem)?;
     Ok(universe)
 }
