@@ -34,8 +34,12 @@ use tp_reach::{met, saturate};
 use tp_task::{Body, GroundFault, Numbering, Task, TooManyKind};
 use tp_text::Scale;
 
-/// For so many bytes there has to be room for each binding of an action before any is written out: mostly more than one takes.
+/// For so many bytes there has to be room for each binding of an action behind the first `FEW` before any is written out: mostly
+/// more than one takes.
 const ROOM: usize = 4_096;
+
+// For so many bindings no room is asked for: all actions that a task may have.
+const FEW: usize = 65_535;
 
 // How many bindings some more parameters have after those before, or as many as can be told. The objects that they may
 // stand for are known from then on.
@@ -53,14 +57,15 @@ fn count_more<'a>(
     }
 }
 
-// Asks for the room of what so many bindings are written out to, and gives it back.
+// Asks for the room of what so many bindings are written out to, but for a few, and gives it back.
 fn ask_for(alloc: Global, count: usize) -> Result<(), AllocError> {
-    let _room: Vec<u8> = Vec::with_capacity(alloc, count.saturating_mul(ROOM))?;
+    let many = count.saturating_sub(FEW);
+    let _room: Vec<u8> = Vec::with_capacity(alloc, many.saturating_mul(ROOM))?;
     Ok(())
 }
 
-// Asks for the room of what all bindings of all actions are written out to. What is known of objects before an answer takes
-// a small part of what was asked for.
+// Asks for the room of what all bindings of all actions are written out to: action after action, so that what is known of
+// objects by then takes little beside it.
 fn ask_for_room<'a>(
     alloc: Global,
     universe: &mut Universe<'a>,
@@ -345,7 +350,8 @@ fn reached_within(
 /// with an event whose condition is met in the relaxed reach (the delete relaxation of Bonet and Geffner 2001), in the same
 /// order. Atoms, fluents and actions are counted as far as what is kept mentions them. All type-correct bindings are
 /// written out once to find these, whatever the limits, so it takes time and memory in what all of them write out. Before
-/// that it asks for 4,096 bytes for each of them, and gives them back, so that more than memory holds are refused at once.
+/// that it asks for 4,096 bytes for each of them behind the 65,535th, and gives them back, so that many more than memory holds
+/// are refused at once; what a binding writes out beyond that, as by a quantifier, is not foreseen.
 pub fn ground_reached(
     alloc: Global,
     domain: &Domain,
