@@ -1,0 +1,3 @@
+pub mod TestLemmas
+pub mod WordLemmas
+pub mod SetLemmas
