@@ -263,12 +263,25 @@ def yard_problem():
 
 
 def orders(program):
-    """Networks of plans whose events all interfere: 512 in a row, and 1,024 that are numbered from the last to the first."""
+    """Networks of plans whose events all interfere: 512 in a row, and 1,024 that are numbered from the last to the first; and
+    of events that mention many atoms, or write into long invariants."""
     problem = "(define (problem q) (:domain line) (:init (= (x) 0)) (:goal ()))"
     once = "(define (domain line) (:functions (x)) (:action set :effect (assign (x) 1)))"
     judged(program, "the network of 512 steps in a row that interfere", once, problem, "".join(f"{k}: (set)\n" for k in range(512)), "net")
     twice = "(define (domain line) (:functions (x)) (:durative-action set :parameters () :duration (= ?duration 1) :effect (and (at start (assign (x) 1)) (at end (assign (x) 2)))))"
     judged(program, "that of 1,024 such events, numbered backwards", twice, problem, "".join(f"{2 * k}: (set) [1]\n" for k in reversed(range(512))), "net")
+    domain, problem = crowd("(a ?x)", "(b ?x)", 3_000, "(a ?x)")
+    judged(program, "that of 512 steps that mention 6,000 atoms each", domain, problem, "".join(f"{k}: (act)\n" for k in range(512)), "net")
+    domain, problem = watch(3_000)
+    judged(program, "that of 511 steps that write into an invariant of 3,000 atoms", domain, problem, "0: (watch) [600]\n" + "".join(f"{k}: (touch)\n" for k in range(1, 512)), "net")
+
+
+def watch(count):
+    """A step whose invariant asks for so many atoms or another one each, and one that adds them."""
+    domain = """(define (domain watch) (:predicates (a ?x) (b ?x))
+ (:durative-action watch :parameters () :duration (>= ?duration 1) :condition (over all (forall (?x) (or (a ?x) (b ?x)))) :effect ())
+ (:action touch :effect (forall (?x) (b ?x))))"""
+    return domain, f"(define (problem q) (:domain watch) (:objects {each('o#', count)}) (:init {each('(a o#)', count)}) (:goal ()))"
 
 
 def checks(program):
@@ -281,6 +294,8 @@ def checks(program):
     judged(program, "512 steps at one tick, on the same task", PLACES, problem, marks())
     judged(program, "no step, on the same task", PLACES, problem, "")
     judged(program, "the network of 512 steps side by side, on the same task", PLACES, problem, visits(), "net")
+    domain, problem = watch(10_000)
+    judged(program, "512 steps side by side whose invariants ask for 20,000 atoms", domain, problem, "".join(f"{k}: (watch) [600]\n" for k in range(512)))
     orders(program)
     at_once(program)
     judged(program, "59,319 ground actions of three objects, one step", TRIPLES, triples_problem(39), "0: (a o0 o1 o2)\n")
@@ -498,6 +513,9 @@ def searches(program):
     judged(program, "a ring of 250 lamps: 62,500 actions, 250 of which can start", *ring(250), None, "plan", ("--budget", "1000"))
     judged(program, "a goal of 5,001 conjuncts, a budget of 300", *many_goals(5000), None, "plan", ("--budget", "300"))
     judged(program, "90 places: 729,000 bindings, 89 in reach", *roads(90), None, "plan")
+    kinds = each("(:action a# :parameters (?x - t#) :effect (g))", 13_000)
+    three = "(define (problem q) (:domain d) (:objects " + " ".join(f"o{k} - t{k % 13_000}" for k in range(39_000)) + ") (:init) (:goal (g)))"
+    judged(program, "13,000 actions of as many types, three objects of each", f"(define (domain d) (:types {each('t#', 13_000)}) (:predicates (g)) {kinds})", three, None, "plan")
     judged(program, "400 places: 64,000,000 bindings, for which there is no room", *roads(400), None, "plan")
 
 
