@@ -8,4 +8,5 @@ pub mod Judging
 pub mod Lawful
 pub mod AtPlace
 pub mod Ordered
-pub mod Running
+pub mod Starting
+pub mod Untouched

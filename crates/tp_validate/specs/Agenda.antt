@@ -1,6 +1,6 @@
 -- The events and the steps of a plan in the order of their moments, gone through tick after tick.
-use Rattle.std.specs.Prelude.{◌≡◌, ℕ, ◌≤◌, ◌<◌, ◌==◌, List, length, take, drop, ◌+◌}
-use Rattle.std.specs.List.{All, Contains, filter}
+use Rattle.std.specs.Prelude.{◌≡◌, ℕ, ◌≤◌, ◌<◌, ◌==◌, List, length, take, drop}
+use Rattle.std.specs.List.{All, filter}
 use Rattle.std.specs.List.Sorted.{IsNonDecreasingBy}
 use Rattle.tp_task.specs.Valid.{Planned, Placed}
 
@@ -28,9 +28,3 @@ IsRoster ps from roster = IsLeft (λ p. p.moment) ps from roster
 -- the steps that start at a moment
 abbrev pub starting_at : ℕ → List Planned → List Planned
 starting_at m ps = filter (λ p. p.moment == m) ps
-
--- All steps of a plan that start before a moment and end no earlier; none is another's, and each ends no earlier.
-pub record IsRunning (ps : List Planned) (from : ℕ) (running : List Planned) : Type 0 where
-  pub known : All (Contains ps) running
-  pub unended : All (λ p. from ≤ p.moment + p.duration) running
-  pub covers : All (λ p. p.moment < from → from ≤ p.moment + p.duration → Contains running p) ps

@@ -3,13 +3,15 @@
 //! - `placing`: the steps of a plan with what their actions do, and their events
 //! - `agenda`: the events in the order of their moments, tick after tick
 //! - `durations`: whether a step's duration is lawful
-//! - `rosters`: the steps in the order of their starts, and those that run
+//! - `rosters`: the steps in the order of their starts
+//! - `mentions`: the steps into whose invariants the events of a tick write
 //! - `ticks`: what happens at one tick, or the first fault there
 //! - `verdicts`: tick after tick, `validate`
 #![tactic(auto)]
 
 mod agenda;
 mod durations;
+mod mentions;
 mod placing;
 mod rosters;
 mod ticks;

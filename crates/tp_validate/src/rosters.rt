@@ -1,7 +1,7 @@
-//! The steps of a plan in the order of their starts, and those that run at a tick.
+//! The steps of a plan in the order of their starts.
 
-ghost use Rattle.std.specs.Prelude.{◌≡◌, ◌+◌, ◌<◌, ◌≤◌, ◌++◌, nat_lt, length, take, drop, IfOk, OnOk};
-ghost use Rattle.std.specs.List.{All, filter};
+ghost use Rattle.std.specs.Prelude.{◌≡◌, ◌<◌, ◌≤◌, length, take, drop, IfOk};
+ghost use Rattle.std.specs.List.{All};
 ghost use Rattle.std.specs.List.Sorted.{IsNonDecreasingBy};
 ghost use Rattle.tp_validate.specs.Agenda.{IsRoster};
 
@@ -25,20 +25,4 @@ pub fn count_started(roster: &[PlannedStep<'_>], moment: u32) -> usize
     ensures after { All (λ p. moment < p.moment) (drop result roster.now) }
 {
     roster.partition_point(|step| step.start() <= moment)
-}
-
-/// Adds the steps that start at a tick to those that run, and takes away those that end by then.
-pub fn go_on<'t>(
-    running: &mut Vec<PlannedStep<'t>>,
-    starting: &[PlannedStep<'t>],
-    moment: u32,
-) -> Result<(), AllocError>
-    ensures { OnOk result (running.new.items
-        ≡ filter (λ p. nat_lt moment (p.moment + p.duration)) (running.old.items ++ starting.now)) }
-{
-    for step in starting {
-        running.push(step.again())?;
-    }
-    running.retain(|step| step.ends_after(moment));
-    Ok(())
 }

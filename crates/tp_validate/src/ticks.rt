@@ -1,20 +1,23 @@
 //! What happens at one tick of a plan, or the first fault there.
 
-ghost use Rattle.std.specs.Prelude.{◌≡◌, ◌+◌, ◌<◌, ◌≤◌, true, false, length, IfOk, IfErr, IfSome, OnErr};
+ghost use Rattle.std.specs.Prelude.{◌≡◌, ◌<◌, ◌≤◌, ◌==◌, ◌||◌, true, false, length, IfOk, IfErr, IfSome, OnErr};
 ghost use Rattle.std.specs.List.{list_all, position_from};
 ghost use Rattle.tp_task.specs.Valid.{events, at};
 ghost use Rattle.tp_task.specs.Verdict as verdict;
 ghost use Rattle.tp_happen.specs.Stored.{state_of, fits_in};
 ghost use Rattle.tp_happen.specs.Fault.{OnRange};
-ghost use Rattle.tp_validate.specs.Agenda.{starting_at, IsRunning};
+ghost use Rattle.tp_number_sets.specs.Sets.{has_number};
+ghost use Rattle.tp_validate.specs.Agenda.{starting_at};
 ghost use Rattle.tp_validate.specs.Places.{here, numbers};
 ghost use Rattle.tp_validate.specs.Tick.{renumbered, invariant_small, PassesAt};
+ghost use Rattle.tp_validate.specs.Touched.{HoldsSoFar, HasTouched, AreKept};
 ghost use Rattle.tp_validate.specs.Found.{told, IsFound};
 
 use crate::durations::first_unlawful;
 use crate::placing::{PlacedEvent, PlannedStep, event_refs, number_at};
 use std::alloc::Global;
 use tp_happen::{ApplyFault, Outcome, Range, State, Why, apply, holds};
+use tp_number_sets::NumberSet;
 use tp_task::Body;
 
 /// Why a plan is not valid, with the number of an event or of a step.
@@ -69,12 +72,43 @@ fn is_broken(after: &State, step: &PlannedStep<'_>, moment: u32) -> Result<bool,
     }
 }
 
-// The first of some steps whose invariant runs past a moment and does not hold after it.
-fn broken_among(
+// Whether a step's invariant may have changed at a moment: it starts there, or its place is in the set.
+fn is_in_question(touched: &NumberSet, step: &PlannedStep<'_>, place: usize, moment: u32) -> bool
+    ensures { result ≡ (step.now.moment == moment || has_number touched.now place) }
+{
+    step.tick == moment || touched.contains(place)
+}
+
+// The same as `is_broken`, where the invariant of a step that is not in question is known to be kept.
+fn is_now_broken(
+    after: &State,
+    step: &PlannedStep<'_>,
+    in_question: bool,
+    moment: u32,
+) -> Result<bool, Range>
+    requires { in_question ≡ false
+        → verdict.is_broken (state_of after.now) moment step.now step.now.body ≡ false }
+    ensures ok { IfOk result
+        (λ r. r ≡ verdict.is_broken (state_of after.now) moment step.now step.now.body) }
+    ensures err { OnErr result
+        (invariant_small (state_of after.now) moment step.now step.now.body ≡ false) }
+{
+    if in_question {
+        is_broken(after, step, moment)
+    } else {
+        Ok(false)
+    }
+}
+
+// The first step whose invariant runs past a moment and does not hold after it. Only the invariants of steps that start
+// there, or whose places are in the set, are evaluated.
+fn first_broken(
     after: &State,
     steps: &[PlannedStep<'_>],
+    touched: &NumberSet,
     moment: u32,
 ) -> Result<Option<usize>, Range>
+    requires { AreKept (state_of after.now) moment touched.now steps.now }
     ensures ok { IfOk result (λ r. r
         ≡ position_from (λ p. verdict.is_broken (state_of after.now) moment p p.body) 0 steps.now) }
     ensures place { IfOk result (λ r. IfSome r (λ i. i < length steps.now)) }
@@ -82,47 +116,29 @@ fn broken_among(
         (list_all (λ p. invariant_small (state_of after.now) moment p p.body) steps.now ≡ false) }
 {
     for (i, step) in steps.iter().enumerate() {
-        if is_broken(after, step, moment)? {
+        let in_question = is_in_question(touched, step, i, moment);
+        if is_now_broken(after, step, in_question, moment)? {
             return Ok(Some(i));
         }
     }
     Ok(None)
 }
 
-// The first step whose invariant runs past a moment and does not hold after it. It is looked for among all only where one
-// of those that run is such a step.
-fn first_broken(
-    after: &State,
-    steps: &[PlannedStep<'_>],
-    running: &[PlannedStep<'_>],
-    moment: u32,
-) -> Result<Option<usize>, Range>
-    requires running { IsRunning steps.now (moment + 1) running.now }
-    ensures ok { IfOk result (λ r. r
-        ≡ position_from (λ p. verdict.is_broken (state_of after.now) moment p p.body) 0 steps.now) }
-    ensures place { IfOk result (λ r. IfSome r (λ i. i < length steps.now)) }
-    ensures err { OnErr result
-        (list_all (λ p. invariant_small (state_of after.now) moment p p.body) steps.now ≡ false) }
-{
-    match broken_among(after, running, moment)? {
-        Some(_) => broken_among(after, steps, moment),
-        None => Ok(None),
-    }
-}
-
-/// What the events of a tick make of the state before it, or the first fault there.
+/// What the events of a tick make of the state before it, or the first fault there. Of the steps that ran before it, it
+/// evaluates the invariants of those in `touched`, which has all into whose invariants an event there writes.
 pub fn judge_tick(
     alloc: Global,
     state: &State,
     steps: &[PlannedStep<'_>],
     starting: &[PlannedStep<'_>],
-    running: &[PlannedStep<'_>],
+    touched: &NumberSet,
     there: &[PlacedEvent<'_>],
     moment: u32,
 ) -> Result<Judged, ApplyFault>
     requires few { length steps.now ≤ 512 }
     requires starting { starting_at moment starting.now ≡ starting_at moment steps.now }
-    requires running { IsRunning steps.now (moment + 1) running.now }
+    requires held { HoldsSoFar (state_of state.now) moment steps.now }
+    requires touched { HasTouched steps.now there.now touched.now }
     requires there { there.now ≡ here moment (events steps.now) }
     requires fits { list_all (fits_in state.now) (at moment (events steps.now)) ≡ true }
     ensures found { IfOk result (IsFound state.now moment steps.now (events steps.now)) }
@@ -135,7 +151,7 @@ pub fn judge_tick(
     let happening = event_refs(alloc, there)?;
     match apply(alloc, state, &happening)? {
         Outcome::Fails(place, why) => Ok(Judged::Faulty(named(there, place, why))),
-        Outcome::Next(next) => match first_broken(&next, steps, running, moment)? {
+        Outcome::Next(next) => match first_broken(&next, steps, touched, moment)? {
             Some(step) => Ok(Judged::Faulty(Fault::OverAll(step as u16))),
             None => Ok(Judged::Next(next)),
         },

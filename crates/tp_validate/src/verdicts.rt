@@ -10,12 +10,14 @@ ghost use Rattle.tp_happen.specs.Steps.{IsPlan};
 ghost use Rattle.tp_validate.specs.OfTask.{IsOfTask, plan_of, IsValidPlan};
 ghost use Rattle.tp_validate.specs.Verdict.{IsSound, PassesIn};
 ghost use Rattle.tp_validate.specs.Agenda.{IsAgenda, IsRoster};
+ghost use Rattle.tp_validate.specs.Touched.{HasMentions};
 ghost use Rattle.tp_validate.specs.Reached.{IsRan, PassesBy};
 ghost use Rattle.tp_validate.specs.Answers.{IsFirst, IsVerdict, IsFault};
 
 use crate::agenda::{agenda_of, next_tick};
+use crate::mentions::{Mentions, mentions_of, touched_by};
 use crate::placing::{PlacedEvent, PlannedStep, placed_events, planned_steps};
-use crate::rosters::{count_started, go_on, roster_of};
+use crate::rosters::{count_started, roster_of};
 use crate::ticks::{Fault, Judged, judge_tick};
 use std::alloc::{AllocError, Global};
 use std::marker::Model;
@@ -99,6 +101,7 @@ fn run(
     steps: &[PlannedStep<'_>],
     roster: &[PlannedStep<'_>],
     agenda: &[PlacedEvent<'_>],
+    mentions: &Mentions,
 ) -> Result<Ran, ApplyFault>
     requires few { length steps.now ≤ 512 }
     requires roster { IsRoster steps.now 0 roster.now }
@@ -106,6 +109,7 @@ fn run(
     requires fits { list_all (λ p. body_fits (length task.now.initial_atoms.items)
         (length task.now.initial_numbers.items) p.body) steps.now ≡ true }
     requires ends { last_moment (events steps.now) ≤ 1000000000 }
+    requires mentions { HasMentions steps.now (length steps.now) mentions.now }
     ensures ran { IfOk result (IsRan task.now steps.now) }
     ensures range { IfErr result (λ e. OnRange e (PassesBy task.now steps.now)) }
 {
@@ -113,13 +117,12 @@ fn run(
     let mut from = 0;
     let mut done = 0;
     let mut started = 0;
-    let mut running = Vec::new(alloc);
     while let Some(tick) = next_tick(&agenda[done..]) {
         let moment = tick.moment;
         let waiting = &roster[started..];
         let (starting, _) = waiting.split_at(count_started(waiting, moment));
-        go_on(&mut running, starting, moment)?;
-        match judge_tick(alloc, &state, steps, starting, &running, tick.there, moment)? {
+        let touched = touched_by(alloc, mentions, tick.there)?;
+        match judge_tick(alloc, &state, steps, starting, &touched, tick.there, moment)? {
             Judged::Faulty(why) => return Ok(Ran::Faulty(moment, why)),
             Judged::Next(next) => state = next,
         }
@@ -155,6 +158,25 @@ fn roster_in<'t>(
     roster_of(planned)
 }
 
+// Carries out the steps of a plan, up to the first fault or to the last event.
+fn carry_out_steps(
+    alloc: Global,
+    task: &Task,
+    steps: &[Step],
+    planned: &[PlannedStep<'_>],
+    mentions: &Mentions,
+) -> Result<Ran, ApplyFault>
+    requires plan { IsPlan steps.now }
+    requires planned { planned.now ≡ plan_of task.now steps.now }
+    requires mentions { HasMentions planned.now (length planned.now) mentions.now }
+    ensures ran { IfOk result (IsRan task.now (plan_of task.now steps.now)) }
+    ensures range { IfErr result (λ e. OnRange e (PassesBy task.now (plan_of task.now steps.now))) }
+{
+    let agenda = agenda_in(alloc, planned)?;
+    let roster = roster_in(alloc, task, steps)?;
+    run(alloc, task, planned, &roster, &agenda, mentions)
+}
+
 // Carries out a plan, up to its first fault or to its last event.
 fn carry_out(alloc: Global, task: &Task, steps: &[Step]) -> Result<Ran, ApplyFault>
     requires { IsPlan steps.now }
@@ -162,9 +184,8 @@ fn carry_out(alloc: Global, task: &Task, steps: &[Step]) -> Result<Ran, ApplyFau
     ensures range { IfErr result (λ e. OnRange e (PassesBy task.now (plan_of task.now steps.now))) }
 {
     let planned = planned_steps(alloc, task, steps)?;
-    let agenda = agenda_in(alloc, &planned)?;
-    let roster = roster_in(alloc, task, steps)?;
-    run(alloc, task, &planned, &roster, &agenda)
+    let mentions = mentions_of(alloc, &planned)?;
+    carry_out_steps(alloc, task, steps, &planned, &mentions)
 }
 
 // The tick of the first fault and why, None for a plan that has none.
@@ -186,7 +207,9 @@ fn judge(alloc: Global, task: &Task, steps: &[Step]) -> Result<Option<(u32, Faul
     }
 }
 
-/// Judges a plan of a task: whether it is valid, or its first fault by tick, kind and number.
+/// Judges a plan of a task: whether it is valid, or its first fault by tick, kind and number. Takes the time of each mention
+/// of an event and of an invariant once, and at each tick that of a copy of the state, and of the invariants that begin
+/// there or that something there writes into.
 pub fn validate<'t>(alloc: Global, task: &'t Task, plan: Plan) -> Result<Verdict<'t>, ValidateFault>
     requires { IsOfTask task.now plan }
     ensures verdict { IfOk result (IsVerdict task.now plan) }

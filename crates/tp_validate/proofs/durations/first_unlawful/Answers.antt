@@ -5,7 +5,7 @@ use Rattle.tp_task.specs.Valid.{Planned}
 use Rattle.tp_task.specs.Verdict.{is_unlawful}
 use Rattle.tp_happen.specs.Stored.{state_of}
 use Rattle.tp_validate.specs.Constraints.{start_small, constraint_small_at}
-use Rattle.tp_validate.proofs.Running.{none_starts, start_fails}
+use Rattle.tp_validate.proofs.Starting.{none_starts, start_fails}
 use Rattle.tp_validate.proofs.durations.first_unlawful.Goals as goal
 
 pub returns-in_err-unlawful_among-clause-err : goal.returns-in_err-unlawful_among-clause-err

@@ -10,6 +10,7 @@ use Rattle.tp_validate.specs.Places.{numbers}
 use Rattle.tp_validate.specs.Tick.{renumbered, PassesAt}
 use Rattle.tp_validate.proofs.Numbers.{numbered, times}
 use Rattle.tp_validate.proofs.OneMoment.{failing, is_after, going_on, constraint_range, invariant_range}
+use Rattle.tp_validate.proofs.Untouched.{kept}
 use Rattle.tp_validate.proofs.ticks.judge_tick.Goals as goal
 
 pub returns-in_err-step-clause-range : goal.returns-in_err-step-clause-range
@@ -36,6 +37,14 @@ returns-in_err-step-in-Next-clause-range c =
     (subst (λ (ts : List EventOfStep). Happens s.scale (state_of s) ts (state_of c.in-Next.next)) (c.deref.ensures.value ∙ (c.in_ok-happening.ensures ∙ ap times c.requires.there))
     (subst (λ o. Applies s c.deref.result.now o) c.in-Next.is c.in_ok-place.ensures.ok))
     c.in_err-step-in-Next.ensures.err))
+
+pub first_broken-requires : goal.first_broken-requires
+first_broken-requires c =
+    let s = c.args.state.now in
+    kept s.scale (state_of s) (state_of c.in-Next.next) c.args.there.now
+    (subst (λ (ts : List EventOfStep). Happens s.scale (state_of s) ts (state_of c.in-Next.next)) (c.deref.ensures.value ∙ c.in_ok-happening.ensures)
+    (subst (λ o. Applies s c.deref.result.now o) c.in-Next.is c.in_ok-place.ensures.ok))
+    c.args.moment c.args.steps.now c.args.touched.now c.requires.held c.requires.touched
 
 pub returns-in-Some-2-clause-found : goal.returns-in-Some-2-clause-found
 returns-in-Some-2-clause-found c =

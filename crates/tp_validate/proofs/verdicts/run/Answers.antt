@@ -3,10 +3,10 @@ use Rattle.std.proofs.lemmas.Result.{err_from_is_err_and}
 use Rattle.tp_task.specs.Valid.{Planned, events}
 use Rattle.tp_happen.proofs.Answered.{on_range_weaker}
 use Rattle.tp_validate.specs.Found.{IsFound, told}
-use Rattle.tp_validate.specs.Agenda.{IsRunning}
-use Rattle.tp_validate.proofs.Running.{in_order_after, starts_after, begun_after, none_runs}
+use Rattle.tp_validate.proofs.Starting.{in_order_after, starts_after, begun_after}
 use Rattle.tp_validate.proofs.Ordered.{turn_after, rest_after, within_after, all_done_after}
-use Rattle.tp_validate.proofs.Runs.{before, fault_here, passes_here, fits_here, next}
+use Rattle.tp_validate.proofs.Runs.{before, held_here, fault_here, passes_here, fits_here, next}
+use Rattle.tp_validate.proofs.Untouched.{has_touched}
 use Rattle.tp_validate.proofs.verdicts.run.Goals as goal
 
 pub judge_tick-requires-clause-there : goal.judge_tick-requires-clause-there
@@ -18,16 +18,17 @@ count_started-requires c = in_order_after c.args.steps.now c.loop-tick.from c.ar
 pub judge_tick-requires-clause-starting : goal.judge_tick-requires-clause-starting
 judge_tick-requires-clause-starting c =
     let t = turn_after (events c.args.steps.now) c.loop-tick.from c.args.agenda.now c.loop-tick.done c.loop-tick.invariant.left c.in-Some.tick.moment c.in-Some.tick.there.now c.in-Some.ensures in
-    let s = starts_after c.args.steps.now c.loop-tick.from c.args.roster.now c.loop-tick.started c.loop-tick.invariant.waiting c.loop-tick.running.items c.loop-tick.invariant.running c.in-Some.tick.moment t.onward c.count_started.result
+    let s = starts_after c.args.steps.now c.loop-tick.from c.args.roster.now c.loop-tick.started c.loop-tick.invariant.waiting c.in-Some.tick.moment t.onward c.count_started.result
     c.split_at.result.0.now c.split_at.ensures.front c.split_at.ensures.front_len c.count_started.ensures.until c.count_started.ensures.after in
     s.starts
 
-pub judge_tick-requires-clause-running : goal.judge_tick-requires-clause-running
-judge_tick-requires-clause-running c =
+pub judge_tick-requires-clause-held : goal.judge_tick-requires-clause-held
+judge_tick-requires-clause-held c =
     let t = turn_after (events c.args.steps.now) c.loop-tick.from c.args.agenda.now c.loop-tick.done c.loop-tick.invariant.left c.in-Some.tick.moment c.in-Some.tick.there.now c.in-Some.ensures in
-    let s = starts_after c.args.steps.now c.loop-tick.from c.args.roster.now c.loop-tick.started c.loop-tick.invariant.waiting c.loop-tick.running.items c.loop-tick.invariant.running c.in-Some.tick.moment t.onward c.count_started.result
-    c.split_at.result.0.now c.split_at.ensures.front c.split_at.ensures.front_len c.count_started.ensures.until c.count_started.ensures.after in
-    subst (λ (ps : List Planned). IsRunning c.args.steps.now (c.in-Some.tick.moment + 1) ps) (sym (c.deref.ensures.value ∙ c.in_ok-go_on.ensures)) s.runs
+    held_here c.args.task.now c.args.steps.now c.loop-tick.from c.in-Some.tick.moment c.loop-tick.state c.loop-tick.invariant.reached t.onward t.covered
+
+pub judge_tick-requires-clause-touched : goal.judge_tick-requires-clause-touched
+judge_tick-requires-clause-touched c = has_touched c.args.steps.now c.args.mentions.now c.in-Some.tick.there.now c.in_ok-touched.touched c.requires.mentions c.in_ok-touched.ensures
 
 pub judge_tick-requires-clause-fits : goal.judge_tick-requires-clause-fits
 judge_tick-requires-clause-fits c =
@@ -53,7 +54,7 @@ returns-in-Faulty-clause-ran c =
 pub loop-tick-preserved : goal.loop-tick-preserved
 loop-tick-preserved c =
     let t = turn_after (events c.args.steps.now) c.loop-tick.from c.args.agenda.now c.loop-tick.done c.loop-tick.invariant.left c.in-Some.tick.moment c.in-Some.tick.there.now c.in-Some.ensures in
-    let s = starts_after c.args.steps.now c.loop-tick.from c.args.roster.now c.loop-tick.started c.loop-tick.invariant.waiting c.loop-tick.running.items c.loop-tick.invariant.running c.in-Some.tick.moment t.onward c.count_started.result
+    let s = starts_after c.args.steps.now c.loop-tick.from c.args.roster.now c.loop-tick.started c.loop-tick.invariant.waiting c.in-Some.tick.moment t.onward c.count_started.result
     c.split_at.result.0.now c.split_at.ensures.front c.split_at.ensures.front_len c.count_started.ensures.until c.count_started.ensures.after in
     record {
       reached = next c.args.task.now c.args.steps.now c.loop-tick.from c.in-Some.tick.moment c.loop-tick.state c.loop-tick.invariant.reached t.onward t.covered c.in-Next.next t.last
@@ -61,9 +62,8 @@ loop-tick-preserved c =
       left = rest_after (events c.args.steps.now) c.loop-tick.from c.args.agenda.now c.loop-tick.done c.loop-tick.invariant.left c.in-Some.tick.moment c.in-Some.tick.there.now t;
       within = within_after (events c.args.steps.now) c.loop-tick.from c.args.agenda.now c.loop-tick.done c.loop-tick.invariant.left c.in-Some.tick.moment c.in-Some.tick.there.now c.loop-tick.invariant.within t;
       waiting = s.rest;
-      begun = begun_after c.args.steps.now c.loop-tick.from c.args.roster.now c.loop-tick.started c.loop-tick.invariant.waiting c.loop-tick.running.items c.loop-tick.invariant.running c.in-Some.tick.moment t.onward c.count_started.result
+      begun = begun_after c.args.steps.now c.loop-tick.from c.args.roster.now c.loop-tick.started c.loop-tick.invariant.waiting c.in-Some.tick.moment t.onward c.count_started.result
           c.split_at.result.0.now c.split_at.ensures.front c.split_at.ensures.front_len c.count_started.ensures.until c.count_started.ensures.after c.loop-tick.invariant.begun;
-      running = subst (λ (ps : List Planned). IsRunning c.args.steps.now (c.in-Some.tick.moment + 1) ps) (sym c.in_ok-go_on.ensures) s.runs;
     }
 
 pub overflow_add-from : goal.overflow_add-from
@@ -83,5 +83,4 @@ loop-tick-init c =
       within = omega arith;
       waiting = c.requires.roster;
       begun = omega arith;
-      running = subst (λ (ps : List Planned). IsRunning c.args.steps.now 0 ps) (sym c.new-running.ensures.items) (none_runs c.args.steps.now);
     }

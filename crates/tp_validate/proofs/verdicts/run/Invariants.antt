@@ -1,7 +1,7 @@
 -- The run has come to a moment, the rests of the agenda and of the roster are those from there on, and the bound on the moment falls.
 use Rattle.std.proofs.Common.{◌-◌, ◌≤◌, length, drop}
 use Rattle.tp_task.specs.Valid.{events}
-use Rattle.tp_validate.specs.Agenda.{IsAgenda, IsRoster, IsRunning}
+use Rattle.tp_validate.specs.Agenda.{IsAgenda, IsRoster}
 use Rattle.tp_validate.specs.Reached.{Reached}
 use Rattle.tp_validate.proofs.verdicts.run.Given as goal
 
@@ -13,7 +13,6 @@ invariant-loop-tick l =
       within : l.done ≤ length l.agenda;
       waiting : IsRoster l.steps l.from (drop l.started l.roster);
       begun : l.started ≤ length l.roster;
-      running : IsRunning l.steps l.from l.running.items;
     }
 
 abbrev pub decreases-loop-tick : goal.decreases-loop-tick

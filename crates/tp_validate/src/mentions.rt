@@ -1,0 +1,140 @@
+//! Which steps' invariants the events of a tick write into, by indexes of what the invariants mention.
+
+ghost use Rattle.std.specs.Prelude.{◌≡◌, ℕ, ◌==◌, ◌&&◌, ◌||◌, length, IfOk, OnOk};
+ghost use Rattle.std.specs.List.{list_any};
+ghost use Rattle.tp_task.specs.State.{atoms_in, fluents_in};
+ghost use Rattle.tp_task.specs.Event.{has};
+ghost use Rattle.tp_happen.specs.Meetings.{done};
+ghost use Rattle.tp_number_sets.specs.Sets.{has_number, is_met};
+ghost use Rattle.tp_validate.specs.Touched.{invariant_atoms, invariant_fluents, HasMentions, reaches};
+
+use crate::placing::{PlacedEvent, PlannedStep};
+use std::alloc::{AllocError, Global};
+use tp_happen::{Event, Meeting, atoms_of, fluents_of};
+use tp_number_sets::{Index, NumberSet};
+use tp_task::{Body, Cond};
+
+/// By atom and by fluent, the places of the steps whose invariants mention it.
+#[derive(Drop)]
+pub struct Mentions {
+    atoms: Index,
+    fluents: Index,
+}
+
+fn enter_atoms(
+    alloc: Global,
+    index: &mut Index,
+    invariant: &Cond,
+    place: usize,
+) -> Result<(), AllocError>
+    ensures { OnOk result ((x k : ℕ) → is_met index.new x k
+        ≡ (is_met index.old x k || (has (atoms_in invariant.now) x && k == place))) }
+{
+    let atoms = atoms_of(alloc, invariant)?;
+    index.enter(&atoms, place)
+}
+
+fn enter_fluents(
+    alloc: Global,
+    index: &mut Index,
+    invariant: &Cond,
+    place: usize,
+) -> Result<(), AllocError>
+    ensures { OnOk result ((x k : ℕ) → is_met index.new x k
+        ≡ (is_met index.old x k || (has (fluents_in invariant.now) x && k == place))) }
+{
+    let fluents = fluents_of(alloc, invariant)?;
+    index.enter(&fluents, place)
+}
+
+// Enters a step at what its invariant mentions.
+fn enter(
+    alloc: Global,
+    mentions: &mut Mentions,
+    step: &PlannedStep<'_>,
+    place: usize,
+) -> Result<(), AllocError>
+    ensures atoms { OnOk result ((x k : ℕ) → is_met mentions.new.atoms x k
+        ≡ (is_met mentions.old.atoms x k || (has (invariant_atoms step.now.body) x && k == place))) }
+    ensures fluents { OnOk result ((x k : ℕ) → is_met mentions.new.fluents x k
+        ≡ (is_met mentions.old.fluents x k || (has (invariant_fluents step.now.body) x && k == place))) }
+{
+    match step.body {
+        Body::Instant(_) => Ok(()),
+        Body::Durative(_, _, invariant) => {
+            enter_atoms(alloc, &mut mentions.atoms, invariant, place)?;
+            enter_fluents(alloc, &mut mentions.fluents, invariant, place)
+        }
+    }
+}
+
+/// What the invariants of steps mention. Takes the time of all their mentions.
+pub fn mentions_of(alloc: Global, steps: &[PlannedStep<'_>]) -> Result<Mentions, AllocError>
+    ensures { IfOk result (HasMentions steps.now (length steps.now)) }
+{
+    let mut mentions = Mentions {
+        atoms: Index::new(alloc),
+        fluents: Index::new(alloc),
+    };
+    for (place, step) in steps.iter().enumerate() {
+        enter(alloc, &mut mentions, step, place)?;
+    }
+    Ok(mentions)
+}
+
+// Adds to a set those that an index has at what an event does.
+fn meet(
+    alloc: Global,
+    index: &Index,
+    event: &Event<'_>,
+    way: Meeting,
+    into: &mut NumberSet,
+) -> Result<(), AllocError>
+    ensures { OnOk result ((k : ℕ) → has_number into.new k
+        ≡ (has_number into.old k || list_any (λ x. is_met index.now x k) (done way event.now))) }
+{
+    let numbers = event.done(alloc, way)?;
+    index.meet(&numbers, into)
+}
+
+// Adds to a set the steps into whose invariants an event writes.
+fn touch(
+    alloc: Global,
+    mentions: &Mentions,
+    event: &Event<'_>,
+    into: &mut NumberSet,
+) -> Result<(), AllocError>
+    ensures { OnOk result ((k : ℕ) → has_number into.new k
+        ≡ (has_number into.old k || reaches mentions.now event.now k)) }
+{
+    meet(
+        alloc,
+        &mentions.atoms,
+        event,
+        Meeting::ChangedAndAsked,
+        into,
+    )?;
+    meet(
+        alloc,
+        &mentions.fluents,
+        event,
+        Meeting::WrittenAndRead,
+        into,
+    )
+}
+
+/// The places of the steps into whose invariants some events write.
+pub fn touched_by(
+    alloc: Global,
+    mentions: &Mentions,
+    there: &[PlacedEvent<'_>],
+) -> Result<NumberSet, AllocError>
+    ensures { IfOk result (λ s. (k : ℕ) → has_number s k
+        ≡ list_any (λ e. reaches mentions.now e.timed.event k) there.now) }
+{
+    let mut touched = NumberSet::new(alloc);
+    for event in there {
+        touch(alloc, mentions, &event.event(), &mut touched)?;
+    }
+    Ok(touched)
+}
