@@ -102,7 +102,7 @@ Behind the answers it prints `plan` and the plan of the run, each step at its mo
 network is kept. That plan is valid. For a plan that is not valid it prints the line that `check` prints.
 
 With `--journal FILE` each command and its answer go to the file before the answer goes out; `tempo audit FILE` with the same
-three files judges it.
+three files, scale and horizon judges it.
 
 Exit status: 0 a plan of the run was printed, 1 there is none, 2 refused input, 3 memory or a device.
 

@@ -11,15 +11,15 @@ use tp_objects::objects::Objects;
 #[derive(Drop)]
 pub struct Universe<'a> {
     pub objects: Objects<'a>,
-    /// What was looked for before, and where the last of those stands whose first type has a name.
+    /// What was looked for before, and where the last of those stands whose types have a mix.
     pub known: Vec<Known<'a>>,
-    pub places: IndexMap<&'a str, usize>,
+    pub places: IndexMap<u64, usize>,
     ghost right: { list_all
         (is_known (record { types = objects.types; objects = objects.objects })) known.items
         ≡ true },
 }
 
-/// The objects that fit some types, and where the one before stands whose first type has the same name.
+/// The objects that fit some types, and where the one before stands whose types have the same mix.
 #[derive(Drop)]
 pub struct Known<'a> {
     pub types: &'a [String],

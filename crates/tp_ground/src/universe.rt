@@ -35,6 +35,25 @@ pub fn are_same(left: &[String], right: &[String]) -> bool
     others.is_empty()
 }
 
+// A mix of what was mixed before and the last letters of a word, by the steps of FNV-1a.
+fn mixed(before: u64, word: &str) -> u64 {
+    let letters = word.as_bytes();
+    let mut mixed = before ^ 0x2f;
+    for letter in &letters[letters.len().saturating_sub(32)..] {
+        mixed = (mixed ^ u64::from(*letter)).wrapping_mul(0x0000_0100_0000_01b3);
+    }
+    mixed
+}
+
+// A mix of the names of types: lists with one mix are compared one after another.
+fn mix_of(types: &[String]) -> u64 {
+    let mut mix = 0xcbf2_9ce4_8422_2325;
+    for name in types {
+        mix = mixed(mix, name.as_str());
+    }
+    mix
+}
+
 // So few lists of types are compared one after another as fast as one of them is looked up.
 const FEW: usize = 4;
 
@@ -54,7 +73,7 @@ fn find_among<'u, 'a>(known: &'u [Known<'a>], types: &[String]) -> Option<&'u [&
 // The objects that fit some types, where they were looked for before.
 fn find_known<'u, 'a>(
     known: &'u [Known<'a>],
-    places: &IndexMap<&'a str, usize>,
+    places: &IndexMap<u64, usize>,
     types: &[String],
 ) -> Option<&'u [&'a str]>
     ensures { (u : bindings.Universe) → list_all (is_known u) known.now ≡ true → IfSome result
@@ -63,8 +82,7 @@ fn find_known<'u, 'a>(
     if known.len() <= FEW {
         return find_among(known, types);
     }
-    let first = types.first()?;
-    let mut place = *places.get(first.as_str())?;
+    let mut place = *places.get(&mix_of(types))?;
     for _ in 0..known.len() {
         let entry = known.get(place)?;
         if are_same(entry.types, types) {
@@ -110,13 +128,9 @@ fn keep<'a>(
     ensures { universe_view universe.new ≡ universe_view universe.old }
 {
     let types = variable.type_names();
-    let Some(first) = types.first() else {
-        return Ok(());
-    };
-    let before = universe.places.get(first.as_str()).copied();
-    universe
-        .places
-        .insert(first.as_str(), universe.known.len())?;
+    let mix = mix_of(types);
+    let before = universe.places.get(&mix).copied();
+    universe.places.insert(mix, universe.known.len())?;
     universe.known.push(Known {
         types,
         names,

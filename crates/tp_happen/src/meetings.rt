@@ -11,10 +11,13 @@ use crate::faults::first_of_pairs;
 use crate::mentions::{push_atoms, push_read, push_set, push_written};
 use crate::{Event, EventRef, State};
 use std::alloc::{AllocError, Global};
-use tp_task::GroundEvent;
+use tp_task::{Cond, Expr, GroundEvent};
 
 /// So many events with so many effects are compared in pairs.
 const FEW: usize = 16;
+
+/// If what they ask and work out has no more than so many parts.
+const SHORT: usize = 4_096;
 
 /// A way in which two events interfere: what one of them does to an atom or a fluent, and what the other does with it.
 #[derive(Clone, Copy)]
@@ -244,17 +247,76 @@ fn first_by_tables(
     Ok(sooner(changed, sooner(added, sooner(written, set))))
 }
 
-/// Whether the events are few and have few effects, so that it is cheaper to compare them in pairs than to make tables.
+/// What is left of a number of parts behind those of an expression.
+fn behind_value(value: &Expr, parts: usize) -> usize {
+    if parts == 0 {
+        return 0;
+    }
+    match value {
+        Expr::Number(_) | Expr::Duration | Expr::Fluent(_) => parts - 1,
+        Expr::Negated(x) => behind_value(x, parts - 1),
+        Expr::Sum(x, y) | Expr::Difference(x, y) | Expr::Product(x, y) => {
+            behind_value(y, behind_value(x, parts - 1))
+        }
+    }
+}
+
+/// The same of a condition.
+#[cycle(behind_condition)]
+fn behind_condition(cond: &Cond, parts: usize) -> usize {
+    if parts == 0 {
+        return 0;
+    }
+    match cond {
+        Cond::Atom(_) => parts - 1,
+        Cond::Compare(_, x, y) => behind_value(y, behind_value(x, parts - 1)),
+        Cond::Not(c) => behind_condition(c, parts - 1),
+        Cond::And(cs) => behind_conditions(cs, parts - 1),
+        Cond::Or(cs) => behind_conditions(cs, parts - 1),
+        Cond::Shared(c) => behind_condition(c, parts - 1),
+    }
+}
+
+#[cycle(behind_condition)]
+fn behind_conditions(conds: &[Cond], parts: usize) -> usize {
+    let mut left = parts;
+    for c in conds {
+        if left == 0 {
+            return 0;
+        }
+        left = behind_condition(c, left);
+    }
+    left
+}
+
+/// The same of all that an event asks and works out.
+fn behind_event(event: &GroundEvent, parts: usize) -> usize {
+    let mut left = behind_condition(&event.condition, parts);
+    for effect in &event.writes {
+        left = behind_value(&effect.value, left);
+    }
+    for limit in &event.constraint {
+        left = behind_value(&limit.value, left);
+    }
+    left
+}
+
+/// Whether the events are few, have few effects and ask little, so that it is cheaper to compare them in pairs than to make tables.
 fn do_little(events: &[EventRef<'_>]) -> bool {
+    if events.len() > FEW {
+        return false;
+    }
     let mut effects: usize = 0;
+    let mut left = SHORT;
     for event in events {
         let body = event.body();
         effects = effects
             .saturating_add(body.adds.len())
             .saturating_add(body.deletes.len())
             .saturating_add(body.writes.len());
+        left = behind_event(body, left);
     }
-    events.len() <= FEW && effects <= FEW
+    effects <= FEW && left > 0
 }
 
 /// The first two events that interfere. Takes the time of the conditions and effects of the events, and the time and

@@ -69,6 +69,14 @@ fn continuous_place(tree: &Tree) -> Option<u32> {
     None
 }
 
+// Whether a tree is the word for the time that runs on.
+fn is_time(tree: &Tree) -> bool {
+    match tree {
+        Tree::Word(token) => is_word(token.text, "#t"),
+        Tree::List { .. } => false,
+    }
+}
+
 // What is wrong with the list at `at` that begins with the word and has no specifier.
 fn unspecified_fault(word: &Token, args: &[Tree], at: u32) -> SyntaxFault {
     if is_word(word.text, "preference") {
@@ -78,6 +86,9 @@ fn unspecified_fault(word: &Token, args: &[Tree], at: u32) -> SyntaxFault {
         return SyntaxFault::LeftOut(at, LeftOutPart::When);
     }
     for tree in args {
+        if is_time(tree) {
+            return SyntaxFault::LeftOut(at, LeftOutPart::Continuous);
+        }
         if let Some(place) = continuous_place(tree) {
             return SyntaxFault::LeftOut(place, LeftOutPart::Continuous);
         }
