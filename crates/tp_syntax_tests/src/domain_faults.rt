@@ -209,7 +209,7 @@ fn section_fault(
 }
 
 // One text or more for each construct that is left out.
-const LEFT_OUT: [(&str, LeftOutPart); 18] = [
+const LEFT_OUT: [(&str, LeftOutPart); 19] = [
     ("(:action a :effect ^(when (p) (q)))", LeftOutPart::When),
     (
         "(:durative-action a :duration () :effect (at end ^(when (p) (q))))",
@@ -249,6 +249,10 @@ const LEFT_OUT: [(&str, LeftOutPart); 18] = [
     ),
     (
         "(:durative-action a :duration () :effect (increase (f) ^(* #t 1)))",
+        LeftOutPart::Continuous,
+    ),
+    (
+        "(:durative-action a :duration () :effect ^(increase (f) #t))",
         LeftOutPart::Continuous,
     ),
     ("^(:derived (p) (q))", LeftOutPart::Derived),
