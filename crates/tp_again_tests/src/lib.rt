@@ -7,6 +7,7 @@
 //! - `tasks`: what is told of a task, and happenings
 //! - `plans`: plans that are read, judged, looked for, and freed from their order
 //! - `runs`: executives over the networks of plans
+//! - `plans_of_runs`: the plans of completed runs
 //! - `networks`: settings, and executives over both networks for all bounds
 //! - `journals`: heads of journals, and audits
 #![tactic(auto)]
@@ -28,6 +29,8 @@ mod journals;
 mod networks;
 #[cfg(test)]
 mod plans;
+#[cfg(test)]
+mod plans_of_runs;
 #[cfg(test)]
 mod runs;
 #[cfg(test)]

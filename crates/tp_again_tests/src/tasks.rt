@@ -5,7 +5,7 @@ ghost use Rattle.std.specs.List.{list_all};
 ghost use Rattle.tp_happen.specs.Stored.{fits_in};
 ghost use Rattle.tp_again_tests.specs.OfTask.{has_event};
 
-use crate::worlds::{CHARGES, FUSES, SWITCHES, TANKS, World, task_of};
+use crate::worlds::{CHARGES, FUSES, SWITCHES, TANKS, World, kept_of, task_of};
 use std::alloc::Global;
 use std::test::Fail;
 use tp_happen::{ApplyFault, EventRef, Outcome, Part, State, apply, event};
@@ -27,6 +27,18 @@ fn tells_first(alloc: Global, world: World<'_>, action: &str, atom: &str) -> Res
 fn texts_of_actions_and_atoms(rt: HostRuntime) -> Result<(), Fail> {
     assert!(rt; tells_first(rt.alloc(), FUSES, "(light-match m1)", "(unused m1)")?);
     assert!(rt; tells_first(rt.alloc(), SWITCHES, "(need)", "(p)")?);
+    Ok(())
+}
+
+fn tells_kept(alloc: Global, world: World<'_>, action: &str, atom: &str) -> Result<bool, Fail> {
+    let task = kept_of(alloc, world)?;
+    tells(&task, action, atom)
+}
+
+#[test]
+fn texts_of_actions_in_reach(rt: HostRuntime) -> Result<(), Fail> {
+    assert!(rt; tells_kept(rt.alloc(), FUSES, "(light-match m1)", "(unused m1)")?);
+    assert!(rt; tells_kept(rt.alloc(), SWITCHES, "(need)", "(p)")?);
     Ok(())
 }
 
