@@ -1,6 +1,7 @@
 pub mod Spans
 pub mod Inequalities
 pub mod Kept
+pub mod Places
 pub mod Answers
 pub mod RunPlans
 pub mod EventTexts

@@ -175,7 +175,9 @@ fn net_within(
 /// of a run at each of them is valid. TooMany where the plan has more events or bounds than the limits allow, or ends past
 /// their horizon.
 ///
-/// It asks each pair of events once whether they interfere, and leaves out the order of two where an event between them
+/// It finds which events interfere, and which write into an invariant, by indexes from atoms and fluents to events: it goes over
+/// each mention of an event once for each way in which two interfere, and over each of an invariant once, and takes a step for
+/// each 64 events at each thing that an event changes, and at each that an invariant mentions and an event changes. It leaves out the order of two events where one between them
 /// interferes with both, since it follows from two others: for each pair in order it looks through the events behind the first
 /// up to one that stands between, at most the cube of the events in looks at a table. For each durative step it looks at each
 /// event and each pair of those that write into its invariant. Which bounds express the schedules is this function's own choice.

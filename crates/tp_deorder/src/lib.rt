@@ -2,8 +2,10 @@
 //!
 //! - `walk`: how many ticks each step may take, by the states that the plan's run goes through
 //! - `spans`: how many ticks a duration constraint allows in a state
+//! - `disturbing`: which events disturb which, by who mentions what
 //! - `marks`: which events come before which that they interfere with
 //! - `orders`: bounds that keep the order of interfering events
+//! - `writers`: which events write into a condition, by what they change
 //! - `invariants`: bounds that keep what writes into an invariant in its place
 //! - `steps`: bounds that keep the steps' lengths and their invariants
 //! - `event_texts`: the texts of the events
@@ -23,6 +25,7 @@ ghost use Rattle.tp_bounds.specs.OwnBounds.{setting_of, IsWithin};
 ghost use Rattle.tp_deorder.specs.Inequalities.{plan_bounds, event_count_of};
 
 mod deordering;
+mod disturbing;
 mod event_texts;
 mod invariants;
 mod marks;
@@ -30,6 +33,7 @@ mod orders;
 mod spans;
 mod steps;
 mod walk;
+mod writers;
 
 pub use deordering::deorder;
 pub use event_texts::has_two;

@@ -3,5 +3,5 @@ use Rattle.std.proofs.Common.{◌≡◌, take}
 use Rattle.tp_deorder.specs.Kept.{marks_of}
 use Rattle.tp_deorder.proofs.marks.marks_of.Given as goal
 
-abbrev pub invariant-loop-c : goal.invariant-loop-c
-invariant-loop-c l = l.marks.items ≡ marks_of (take l.c-index l.events) l.b
+abbrev pub invariant-loop-i : goal.invariant-loop-i
+invariant-loop-i l = l.marks.items ≡ marks_of (take l.i l.events) l.b
