@@ -33,6 +33,20 @@ ROWS = (
     ("journal 2\nnetwork 0 0\nbare\n", "audit ok 0\n", "", 0),
     # a network that came from a plan
     ("journal 2\nnetwork 1 5\nown 0\n> window 0\n< window 0 5\n", "", "fault journal 5 head\n", 2),
+    # the same, whatever stands behind its head: no question, an answer, one without an end, one that is too long
+    ("journal 2\nnetwork 1 5\nown 0\n> foo\n", "", "fault journal 5 head\n", 2),
+    ("journal 2\nnetwork 1 5\nown 0\n< ok\n", "", "fault journal 5 head\n", 2),
+    ("journal 2\nnetwork 1 5\nown 0\n> window 0", "", "fault journal 5 head\n", 2),
+    ("journal 2\nnetwork 1 5\nown 0\n> " + 16_383 * "w" + "\n", "", "fault journal 5 head\n", 2),
+    # a line that begins otherwise is one of the head
+    ("journal 2\nnetwork 1 5\nown 0\nwindow 0\n", "", "fault journal 3 line 4\n", 2),
+    ("journal 2\nnetwork 1 5\nown 0\nlag 0 3", "", "fault journal 3 line 4\n", 2),
+    ("journal 2\nnetwork 1 5\nown 0\n" + 16_385 * "w" + "\n", "", "fault journal 3 line 4\n", 2),
+    # no question behind a right head
+    ("journal 1\nnetwork 2 100\nbare\n> foo\n", "", "fault journal 3 line 4\n", 2),
+    ("journal 1\nnetwork 2 100\nbare\n< ok\n", "", "fault journal 3 line 4\n", 2),
+    ("journal 1\nnetwork 2 100\nbare\n> window 0", "", "fault journal 3 line 4\n", 2),
+    ("journal 1\nnetwork 2 100\nbare\n> " + 16_383 * "w" + "\n", "", "fault journal 3 line 4\n", 2),
     # an event that is reported late
     (
         "journal 2\nnetwork 2 10\nbare\nlag 0 3\n> add o 0 2\n< bound 0\n> advance 6\n"

@@ -112,6 +112,16 @@ RUNS = (
 
 HEAD = "fault journal 5 head\n"
 
+# a right head of the run whose plan is printed, and one with another bound, each with no question behind it
+UNASKED = RUN_JOURNAL.partition("> ")[0] + "> foo\n"
+
+OTHER_BOUND = UNASKED.replace("bound 0 1 0 -5", "bound 0 1 0 -4")
+
+# no question behind the head of a network of bounds alone, and a line that is none of a head
+FOO = "journal 1\nnetwork 2 100\nbare\n> foo\n"
+
+WINDOW = "journal 1\nnetwork 2 100\nbare\nwindow 0\n"
+
 # what an audit is called, its words, the files of the plan, the journal, answers, fault line, and exit status
 AUDITS = (
     ("a run whose plan is printed", AUDIT, WATCHED, RUN_JOURNAL, "audit ok 8\n", "", 0),
@@ -122,6 +132,11 @@ AUDITS = (
     ("with another plan", AUDIT, RESTED, RUN_JOURNAL, "", HEAD, 2),
     # the head is looked at before the files of the plan, and the plan before the rest
     ("a head and a domain at fault", AUDIT, TORN, "journal 3\n", "", "fault journal 3 line 1\n", 2),
+    ("no question behind a head, and no domain", AUDIT, {}, FOO, "", "fault file 1 read domain\n", 3),
+    ("a line that is none of a head, and no domain", AUDIT, {}, WINDOW, "", "fault journal 3 line 4\n", 2),
+    ("no question behind the head", AUDIT, WATCHED, UNASKED, "", "fault journal 3 line 11\n", 2),
+    ("no question behind another head", AUDIT, WATCHED, OTHER_BOUND, "", HEAD, 2),
+    ("no question behind a head of bounds alone", AUDIT, WATCHED, FOO, "", HEAD, 2),
     ("another head, and a plan that is not valid", AUDIT, CHARGED, RUN_JOURNAL, "invalid 0 duration 0\n", "", 1),
 )
 

@@ -1,14 +1,14 @@
 -- Bytes as lines, each with its end: there is one way to take them apart.
 use Rattle.std.proofs.Common.{◌≡◌, ◌≢◌, inl, inr, ℕ, suc, ◌+◌, ◌<◌, ◌≤◌, List, [], ◌∷◌, ◌++◌, length, take, drop, get_or, Option, Some, None, ap, sym, subst, ◌∙◌, append_assoc, append-nil, length-append, arith}
 use Rattle.std.proofs.lemmas.Grind.{common_steps}
-use Rattle.std.specs.Io.KnownBytes.{Consumes}
+use Rattle.std.specs.Io.KnownBytes.{Consumes, IsAtEnd}
 use Rattle.std.specs.Prelude.{IfSome}
 use Rattle.tp_script.specs.Pending.{Reading}
 use Rattle.tp_script.specs.Reading.{Free, EndsLine, TakesWhole}
 use Rattle.tp_script.specs.Transcript.{lines_of}
 use Rattle.tp_script.proofs.ServeLemmas.{line_first}
 use Rattle.tp_journal.specs.Journal.{longest_line}
-use Rattle.tp_audit.specs.Auditing.{TakesOne, IsTorn}
+use Rattle.tp_audit.specs.Auditing.{TakesOne, TakesOpen, IsTorn, IsLong}
 
 pub cancel : (xs ys zs : List ℕ) → xs ++ ys ≡ xs ++ zs → ys ≡ zs
 cancel [] ys zs e = e
@@ -36,40 +36,58 @@ no_end (x ∷ xs) (y ∷ ys) s p e = let t : xs ≡ ys ++ 10 ∷ s = cc in no_en
 some_bytes : (xs : List ℕ) → 0 < length xs → xs ≢ []
 some_bytes xs lt is = let n : length xs ≡ 0 = ap length is in let f : ⊥ = omega (arith, n) in f
 
-long_is_torn : (xs zs line text : List ℕ) → xs ≡ text ++ zs → Free line → EndsLine line text (Some zs) → longest_line < length line → IsTorn xs
-long_is_torn xs zs line text is free (inl with) long =
-    let whole : xs ≡ line ++ 10 ∷ zs = is ∙ (ap (λ t. t ++ zs) with ∙ append_assoc line (10 ∷ []) zs) in
-    let n : length xs ≡ length line + length (10 ∷ zs) = ap length whole ∙ length-append line (10 ∷ zs) in (
-      some_bytes xs (omega (arith, n)),
-      λ other more are alone. (let same : line ≡ other = (one_line line other zs more free alone (sym whole ∙ are)).0 in subst (λ l. longest_line < length l) same long),
+-- ---- what stands first where no whole line does
+
+pub if_some : (P Q : List ℕ → Type 0) (o : Option (List ℕ)) → ((xs : List ℕ) → P xs → Q xs) → IfSome o P → IfSome o Q
+if_some P Q None f h = tt
+if_some P Q (Some xs) f h = f xs h
+
+-- a line's bytes without an end are no more than those of the first line that has one
+within : (part other more rest : List ℕ) → Free part → part ++ more ≡ other ++ 10 ∷ rest → length part ≤ length other
+within [] other more rest p e = omega arith
+within (x ∷ xs) [] more rest p e = absurd (let h : x ≡ 10 = cc in p 0 0 (omega arith) h)
+within (x ∷ xs) (y ∷ ys) more rest p e =
+    let t : xs ++ more ≡ ys ++ 10 ∷ rest = cc in
+    let n : length xs ≤ length ys = within xs ys more rest (λ k d lt. p (suc k) d (omega arith)) t in omega (arith, n)
+
+pub long_breaks : (left : List ℕ) → IsLong left → IsTorn left
+long_breaks left h =
+    let n : length left ≡ length h.0 + length h.1 = ap length h.2 ∙ length-append h.0 h.1 in (
+      some_bytes left (omega (arith, n, h.4)),
+      λ other more are alone. (let w : length h.0 ≤ length other = within h.0 other h.1 more h.3 (sym h.2 ∙ are) in omega (arith, w, h.4)),
     )
-long_is_torn xs zs line text is free (inr without) long =
-    let whole : xs ≡ line = is ∙ (ap (λ t. text ++ t) without.2 ∙ (append-nil text ∙ without.0)) in
-    let n : length xs ≡ length line = ap length whole in
-    (some_bytes xs (omega (arith, n)), λ other more are alone. absurd (no_end line other more free (sym whole ∙ are)))
 
-open_is_torn : (xs zs line text : List ℕ) → xs ≡ text ++ zs → Free line → EndsLine line text (Some zs) → length text ≢ length line + 1 → IsTorn xs
-open_is_torn xs zs line text is free (inl with) apart = absurd (apart (ap length with ∙ length-append line (10 ∷ [])))
-open_is_torn xs zs line text is free (inr without) apart =
-    let whole : xs ≡ line = is ∙ (ap (λ t. text ++ t) without.2 ∙ (append-nil text ∙ without.0)) in
-    let n : length xs ≡ length line = ap length whole in
-    (some_bytes xs (omega (arith, n)), λ other more are alone. absurd (no_end line other more free (sym whole ∙ are)))
+long_at : (a c : Option (List ℕ)) (line text : List ℕ) → Consumes a c text → Free line → EndsLine line text c → longest_line < length line → IfSome a IsLong
+long_at None c line text took free ends long = tt
+long_at (Some xs) None line text took free ends long = absurd took
+long_at (Some xs) (Some zs) line text took free (inl with) long = (line, 10 ∷ zs, took ∙ (ap (λ t. t ++ zs) with ∙ append_assoc line (10 ∷ []) zs), free, long)
+long_at (Some xs) (Some zs) line text took free (inr without) long = (line, zs, took ∙ ap (λ t. t ++ zs) without.0, free, long)
 
-long_from : (a c : Option (List ℕ)) (line text : List ℕ) → Consumes a c text → Free line → EndsLine line text c → longest_line < length line → IfSome a IsTorn
-long_from None c line text took free ends long = tt
-long_from (Some xs) None line text took free ends long = absurd took
-long_from (Some xs) (Some zs) line text took free ends long = long_is_torn xs zs line text took free ends long
+pub long_left : (old new : Reading) (line : List ℕ) → TakesWhole old new line → longest_line < length line → IfSome old.rest IsLong
+long_left old new line t long = long_at old.rest new.rest line t.text t.took t.free t.ends long
 
-open_from : (a c : Option (List ℕ)) (line text : List ℕ) → Consumes a c text → Free line → EndsLine line text c → length text ≢ length line + 1 → IfSome a IsTorn
-open_from None c line text took free ends apart = tt
-open_from (Some xs) None line text took free ends apart = absurd took
-open_from (Some xs) (Some zs) line text took free ends apart = open_is_torn xs zs line text took free ends apart
+pub no_line : (line : List ℕ) → Free line → 0 < length line → IsTorn line
+no_line line free some = (some_bytes line some, λ other more are alone. absurd (no_end line other more free are))
 
-pub long_torn : (old new : Reading) (line : List ℕ) → TakesWhole old new line → longest_line < length line → IfSome old.rest IsTorn
-long_torn old new line t long = long_from old.rest new.rest line t.text t.took t.free t.ends long
+open_at : (P : List ℕ → Type 0) (a c : Option (List ℕ)) (line : List ℕ) → Consumes a c line → IsAtEnd c → P line → IfSome a P
+open_at P None c line took over h = tt
+open_at P (Some xs) None line took over h = absurd took
+open_at P (Some xs) (Some zs) line took over h = subst P (sym (took ∙ (ap (λ t. line ++ t) over ∙ append-nil line))) h
 
-pub open_torn : (old new : Reading) (line : List ℕ) → TakesWhole old new line → new.taken ≢ old.taken + (length line + 1) → IfSome old.rest IsTorn
-open_torn old new line t apart = open_from old.rest new.rest line t.text t.took t.free t.ends (λ is. apart (t.counted ∙ ap (λ n. old.taken + n) is))
+-- what holds of the last bytes holds of what was left
+pub open_left : (P : List ℕ → Type 0) (old new : Reading) (line : List ℕ) → TakesOpen old new line → P line → IfSome old.rest P
+open_left P old new line t h = open_at P old.rest new.rest line t.took t.over h
+
+pub open_breaks : (old new : Reading) (line : List ℕ) → TakesOpen old new line → IfSome old.rest IsTorn
+open_breaks old new line t = open_left IsTorn old new line t (no_line line t.free t.some)
+
+open_by : (old new : Reading) (line text : List ℕ) → Consumes old.rest new.rest text → Free line → EndsLine line text new.rest → length text ≢ length line + 1 → TakesOpen old new line
+open_by old new line text took free (inl with) apart = absurd (apart (ap length with ∙ length-append line (10 ∷ [])))
+open_by old new line text took free (inr without) apart =
+    record { took = subst (λ xs. Consumes old.rest new.rest xs) without.0 took; free = free; some = without.1; over = without.2 }
+
+pub whole_open : (old new : Reading) (line : List ℕ) → TakesWhole old new line → new.taken ≢ old.taken + (length line + 1) → TakesOpen old new line
+whole_open old new line t apart = open_by old new line t.text t.took t.free t.ends (λ is. apart (t.counted ∙ ap (λ n. old.taken + n) is))
 
 ended : (c : Option (List ℕ)) (line text : List ℕ) → EndsLine line text c → length text ≡ length line + 1 → text ≡ line ++ 10 ∷ []
 ended c line text (inl with) is = with

@@ -63,7 +63,7 @@ lags_keep version events least None next is = absurd (let f : ⊥ = cc in f)
 lags_keep version events least (Some p) next is =
     chosen (nat_eq version 2 && may_lag events least p) (Lag version events (p.0 + 1)) next None version refl (none_is next version) is
 
-keeps : (place : Place) (version : ℕ) (line : List ℕ) (next : Place) → head_version place ≡ Some version → head_place place line ≡ Some next → head_version next ≡ head_version place
+pub keeps : (place : Place) (version : ℕ) (line : List ℕ) (next : Place) → head_version place ≡ Some version → head_place place line ≡ Some next → head_version next ≡ head_version place
 keeps Start version line next names is = absurd (let f : ⊥ = cc in f)
 keeps (Network v) version line next names is = mapped (λ (p : ℕ × ℕ). Kind v p.0) (network_of line) next v (λ p. refl) is
 keeps (Kind v n) version line next names is =

@@ -1,31 +1,127 @@
 -- What the lines of a head tell, one after another.
-use Rattle.std.proofs.Common.{◌≡◌, inl, inr, ℕ, ◌+◌, List, [], ◌∷◌, ◌++◌, length, Option, Some, None, refl, ap, sym, subst, ◌∙◌, append_assoc, append-nil, arith}
-use Rattle.std.specs.Prelude.{Result, Ok, Err, IfSome}
+use Rattle.std.proofs.Common.{◌≡◌, inl, inr, ℕ, ◌+◌, ◌<◌, List, [], ◌∷◌, ◌++◌, length, Option, Some, None, refl, ap, sym, subst, ◌∙◌, append_assoc, append-nil, length-append, arith}
+use Rattle.std.specs.Prelude.{◌⊎◌, true, false, is_some, Result, Ok, Err, IfSome}
+use Rattle.std.specs.Io.KnownBytes.{IsAtEnd}
 use Rattle.std.specs.Option.{option_map, option_and_then, option_to_list}
 use Rattle.std.proofs.lemmas.List.{length_push}
 use Rattle.tp_script.specs.Pending.{Reading}
+use Rattle.tp_script.proofs.LineLemmas.{consumes_more}
 use Rattle.tp_journal.specs.Journal.{text_of}
 use Rattle.tp_audit.specs.declared.form.Place.{Place}
-use Rattle.tp_audit.specs.declared.form.Place.TheVariants.{Start, Network}
+use Rattle.tp_audit.specs.declared.form.Place.TheVariants.{Start, Network, Kind, Own, Lag, Question, Reply}
 use Rattle.tp_audit.specs.declared.faults.AuditFault.{AuditFault}
 use Rattle.tp_audit.specs.declared.faults.AuditFault.TheVariants.{Memory, Read, Line, Wrong, Head}
 use Rattle.tp_audit.specs.declared.faults.JournalHead.{JournalHead}
 use Rattle.tp_audit.specs.declared.telling.Told.{Told}
 use Rattle.tp_audit.specs.declared.telling.Step.{Step}
 use Rattle.tp_audit.specs.declared.telling.Step.TheVariants.{On, Done}
-use Rattle.tp_audit.specs.Form.{version_of, next_place, place_after}
-use Rattle.tp_audit.specs.Auditing.{TakesOne, IsBehind, head_version, EndsHead, TakesVersion}
-use Rattle.tp_audit.specs.Telling.{nothing_told, tell, new_lag, told_or, told_after, lags_or, lags_after, MatchesAny, TurnsAny, IsHeadTold, TellsHead}
-use Rattle.tp_audit.proofs.Heads.{behind_none, behind_more, place_more, start_next, known, took_line, took_none, breaks_line}
+use Rattle.tp_audit.specs.Form.{version_of, is_of_pair, head_place, next_place, place_after, may_end}
+use Rattle.tp_audit.specs.Auditing.{TakesOne, TakesOpen, Ends, IsTorn, IsLong, IsCut, IsBehind, BreaksAt, BreaksLine, head_version, NoNext, TakesVersion}
+use Rattle.tp_audit.specs.Telling.{nothing_told, tell, new_lag, told_or, told_after, lags_or, lags_after, is_in_head, EndsNot, StopsAt, MatchesPart, MatchesAny, BreaksIn, EndsIn, TurnsAny, IsHeadTold, TellsHead, BreaksHead, StaysInHead}
+use Rattle.tp_audit.proofs.LineLemmas.{if_some, long_breaks, no_line, open_left}
+use Rattle.tp_audit.proofs.Places.{keeps, no_question_next}
+use Rattle.tp_audit.proofs.Heads.{behind_none, behind_more, place_more, start_next, known}
 
-pub step_of : (place : Place) (version : ℕ) (line : List ℕ) (number : ℕ) (old new : Reading) (r : Result Step AuditFault) → line ≡ new.line → TakesOne old new new.line → MatchesAny place version line number r → TurnsAny place version number old new r
-step_of place version line number old new (Ok (On next)) is took m = (took, subst (λ l. next_place place l ≡ Some next) is m.0, m.1)
-step_of place version line number old new (Ok Done) is took m = (m.0, inr (line, subst (TakesOne old new) (sym is) took, m.1))
-step_of place version line number old new (Err Memory) is took m = tt
-step_of place version line number old new (Err Read) is took m = absurd m
-step_of place version line number old new (Err (Line n)) is took m = (m.0, inr (inr (line, subst (TakesOne old new) (sym is) took, m.1)))
-step_of place version line number old new (Err (Wrong n)) is took m = absurd m
-step_of place version line number old new (Err Head) is took m = absurd m
+-- ---- where a head ends
+
+-- the first byte of a line tells it, whatever follows
+pair_some : (line left : List ℕ) → 0 < length line → is_of_pair (line ++ left) ≡ is_of_pair line
+pair_some [] left some = absurd (let f : ⊥ = omega arith in f)
+pair_some (b ∷ bs) left some = refl
+
+pair_line : (line left : List ℕ) → is_of_pair ((line ++ 10 ∷ []) ++ left) ≡ is_of_pair line
+pair_line [] left = refl
+pair_line (b ∷ bs) left = refl
+
+named : (o : Option ℕ) → is_some o ≡ true → (version : ℕ) × (o ≡ Some version)
+named None is = absurd (let f : ⊥ = cc in f)
+named (Some v) is = (v, refl)
+
+in_head : (place : Place) → is_some (head_version place) ≡ true → is_in_head place ≡ true
+in_head Start is = absurd (let f : ⊥ = cc in f)
+in_head (Network v) is = refl
+in_head (Kind v n) is = refl
+in_head (Own v n id k) is = refl
+in_head (Lag v n least) is = refl
+in_head (Question v) is = absurd (let f : ⊥ = cc in f)
+in_head (Reply v) is = absurd (let f : ⊥ = cc in f)
+
+pub keeps_name : (place next : Place) (line : List ℕ) → is_some (head_version place) ≡ true → head_place place line ≡ Some next → head_version next ≡ head_version place
+keeps_name place next line is goes = let n = named (head_version place) is in keeps place n.0 line next n.1 goes
+
+pub no_pair : (place : Place) (line : List ℕ) → is_some (head_version place) ≡ true → may_end place ≡ false → is_of_pair line ≡ true → next_place place line ≡ None
+no_pair place line is early pair = let n = named (head_version place) is in no_question_next place n.0 line n.1 early pair
+
+not_by : (place : Place) (line left shown : List ℕ) → is_some (head_version place) ≡ true → is_of_pair left ≡ is_of_pair line → (may_end place ≡ false) ⊎ (is_of_pair line ≡ false) → EndsNot place left shown
+not_by place line left shown names same h = (in_head place names, elim h [ inl early ↦ inl early | inr other ↦ inr (inl (same ∙ other)) ])
+
+not_long : (place : Place) (left shown : List ℕ) → is_some (head_version place) ≡ true → IsLong left → (may_end place ≡ false) ⊎ (is_of_pair shown ≡ false) → EndsNot place left shown
+not_long place left shown names long h = (in_head place names, elim h [ inl early ↦ inl early | inr other ↦ inr (inr (long, other)) ])
+
+-- a whole line
+whole_of : (place : Place) (number : ℕ) (old new : Reading) (r : Result Step AuditFault) → is_some (head_version place) ≡ true → TakesOne old new new.line → MatchesAny place new.line number r → TurnsAny place number old new r
+whole_of place number old new (Ok (On next)) names took m = (took, m.0, m.1)
+whole_of place number old new (Ok Done) names took m =
+    known (EndsIn place new.line) old.rest new.rest (new.line ++ 10 ∷ []) took.took (λ left is. ((m.0, inr (inl (pair_line new.line left ∙ m.1))), inr m.1))
+whole_of place number old new (Err Memory) names took m = absurd m
+whole_of place number old new (Err Read) names took m = absurd m
+whole_of place number old new (Err (Line n)) names took m = (
+  m.1.0,
+  inl (known (BreaksIn place new.line) old.rest new.rest (new.line ++ 10 ∷ []) took.took (λ left is. (inr (inr (new.line, left, append_assoc new.line (10 ∷ []) left, took.free, m.0)), not_by place new.line ((new.line ++ 10 ∷ []) ++ left) new.line names (pair_line new.line left) m.1.1))),
+)
+whole_of place number old new (Err (Wrong n)) names took m = absurd m
+whole_of place number old new (Err Head) names took m = absurd m
+
+pub step_of : (place : Place) (line : List ℕ) (number : ℕ) (old new : Reading) (r : Result Step AuditFault) → is_some (head_version place) ≡ true → line ≡ new.line → TakesOne old new new.line → MatchesAny place line number r → TurnsAny place number old new r
+step_of place line number old new r names is took m = whole_of place number old new r names took (subst (λ l. MatchesAny place l number r) is m)
+
+-- the last bytes, without an end
+open_of : (place : Place) (number : ℕ) (old new : Reading) (r : Result Step AuditFault) → is_some (head_version place) ≡ true → TakesOpen old new new.line → MatchesPart place new.line number r → TurnsAny place number old new r
+open_of place number old new (Ok (On next)) names took m = absurd m
+open_of place number old new (Ok Done) names took m = open_left (EndsIn place new.line) old new new.line took ((m.0, inr (inl m.1)), inr m.1)
+open_of place number old new (Err Memory) names took m = absurd m
+open_of place number old new (Err Read) names took m = absurd m
+open_of place number old new (Err (Line n)) names took m = (
+  m.0,
+  inl (open_left (BreaksIn place new.line) old new new.line took (inr (inl (no_line new.line took.free took.some)), not_by place new.line new.line new.line names refl m.1)),
+)
+open_of place number old new (Err (Wrong n)) names took m = absurd m
+open_of place number old new (Err Head) names took m = absurd m
+
+pub part_of : (place : Place) (line : List ℕ) (number : ℕ) (old new : Reading) (r : Result Step AuditFault) → is_some (head_version place) ≡ true → line ≡ new.line → TakesOpen old new new.line → MatchesPart place line number r → TurnsAny place number old new r
+part_of place line number old new r names is took m = open_of place number old new r names took (subst (λ l. MatchesPart place l number r) is m)
+
+-- a line of too many bytes
+long_of : (place : Place) (number : ℕ) (old new : Reading) (r : Result Step AuditFault) → is_some (head_version place) ≡ true → IfSome old.rest IsLong → MatchesPart place new.line number r → TurnsAny place number old new r
+long_of place number old new (Ok (On next)) names long m = absurd m
+long_of place number old new (Ok Done) names long m = if_some IsLong (EndsIn place new.line) old.rest (λ left is. ((m.0, inr (inr is)), inr m.1)) long
+long_of place number old new (Err Memory) names long m = absurd m
+long_of place number old new (Err Read) names long m = absurd m
+long_of place number old new (Err (Line n)) names long m = (
+  m.0,
+  inl (if_some IsLong (BreaksIn place new.line) old.rest (λ left is. (inr (inl (long_breaks left is)), not_long place left new.line names is m.1)) long),
+)
+long_of place number old new (Err (Wrong n)) names long m = absurd m
+long_of place number old new (Err Head) names long m = absurd m
+
+pub shown_of : (place : Place) (line : List ℕ) (number : ℕ) (old new : Reading) (r : Result Step AuditFault) → is_some (head_version place) ≡ true → line ≡ new.line → IfSome old.rest IsLong → MatchesPart place line number r → TurnsAny place number old new r
+shown_of place line number old new r names is long m = long_of place number old new r names long (subst (λ l. MatchesPart place l number r) is m)
+
+-- nothing
+over_at : (P : List ℕ → Type 0) (old new : Reading) → Ends old new → P [] → IfSome old.rest P
+over_at P old new e h = known P old.rest new.rest [] e.took (λ left is. subst P (sym (is_nil new.rest left is e.over)) h)
+  where
+    is_nil : (c : Option (List ℕ)) (left : List ℕ) → c ≡ Some left → IsAtEnd c → left ≡ []
+    is_nil None left is over = absurd (let f : ⊥ = cc in f)
+    is_nil (Some xs) left is over = let same : xs ≡ left = cc in sym same ∙ over
+
+pub over_done : (place : Place) (number : ℕ) (old new : Reading) → Ends old new → may_end place ≡ true → TurnsAny place number old new (Ok Done)
+over_done place number old new e end = over_at (EndsIn place new.line) old new e ((end, inl refl), inl refl)
+
+pub over_line : (place : Place) (number : ℕ) (old new : Reading) → is_some (head_version place) ≡ true → Ends old new → may_end place ≡ false → TurnsAny place number old new (Err (Line number))
+over_line place number old new names e early = (refl, inl (over_at (BreaksIn place new.line) old new e (inl (refl, early), (in_head place names, inl early))))
+
+-- ---- what is told
 
 told_by : (o : Option Place) (f g : Place → Told) (t u : Told) (r : Place) → o ≡ Some r → f r ≡ u → told_or (option_map f o) t ≡ u
 told_by None f g t u r is h = absurd (let x : ⊥ = cc in x)
@@ -102,55 +198,112 @@ told_more start mid new version count place next told after lags with line h t i
       lags_are = lags_push (Network version) place next h.more line h.reached is ∙ (ap (λ ls. ls ++ option_to_list (new_lag place line)) h.lags_are ∙ sym adds);
     }
 
-head_told : (start mid : Reading) (head : JournalHead) (count : ℕ) (place : Place) (left : List ℕ) (h : ToldSoFar start mid head.version count place (record { events = head.events; horizon = head.horizon; own = head.own }) head.lags.items) → EndsHead place head.version left → IsHeadTold (text_of (h.first ∷ h.more) ++ left) head
-head_told start mid head count place left h ends =
-    record {
-      first = h.first;
-      more = h.more;
-      left = left;
-      place = place;
-      reached = whole_place h.first h.more head.version place h.first_is h.reached;
-      free = h.behind.free;
-      short = h.behind.short;
-      bytes_are = refl;
-      ends = ends;
-      version = h.first_is;
-      told = h.told_is;
-      lags = h.lags_are;
-    }
+done_as : (start mid new : Reading) (head : JournalHead) (count : ℕ) (place : Place) → ToldSoFar start mid head.version count place (record { events = head.events; horizon = head.horizon; own = head.own }) head.lags.items → IfSome mid.rest (EndsIn place new.line) → StaysInHead start new (Ok head)
+done_as start mid new head count place h ends =
+    known (λ bytes. (told : IsHeadTold bytes head) × StopsAt told.left new.line) start.rest mid.rest (text_of (h.first ∷ h.more)) h.behind.took
+    (λ left is. (let p = subst (λ o. IfSome o (EndsIn place new.line)) is ends in (
+      record {
+        first = h.first;
+        more = h.more;
+        left = left;
+        place = place;
+        reached = whole_place h.first h.more head.version place h.first_is h.reached;
+        free = h.behind.free;
+        short = h.behind.short;
+        bytes_are = refl;
+        names = h.names;
+        ends = p.0;
+        version = h.first_is;
+        told = h.told_is;
+        lags = h.lags_are;
+      },
+      p.1,
+    )))
 
-done_as : (start mid new : Reading) (head : JournalHead) (count : ℕ) (place : Place) → ToldSoFar start mid head.version count place (record { events = head.events; horizon = head.horizon; own = head.own }) head.lags.items → TurnsAny place head.version (count + 1) mid new (Ok Done) → IfSome start.rest (λ bytes. IsHeadTold bytes head)
-done_as start mid new head count place h turn =
-    known (λ bytes. IsHeadTold bytes head) start.rest mid.rest (text_of (h.first ∷ h.more)) h.behind.took
-    (λ left is. head_told start mid head count place left h
-    (elim turn.1 [
-      | inl e ↦ (turn.0, inl (took_none mid.rest new.rest left is e.took e.over))
-      | inr t ↦ (let m = took_line mid.rest new.rest left t.0 is t.1.took in (turn.0, inr (t.0, m.0, t.2.0, m.1, t.1.free, t.2.1)))
-    ]))
-
-pub told_done : (start mid new : Reading) (head : JournalHead) (version count : ℕ) (place : Place) (told : Told) (lags : List (ℕ × ℕ)) → ToldSoFar start mid version count place told lags → TurnsAny place version (count + 1) mid new (Ok Done) → head.version ≡ version → told ≡ record { events = head.events; horizon = head.horizon; own = head.own } → head.lags.items ≡ lags → IfSome start.rest (λ bytes. IsHeadTold bytes head)
+pub told_done : (start mid new : Reading) (head : JournalHead) (version count : ℕ) (place : Place) (told : Told) (lags : List (ℕ × ℕ)) → ToldSoFar start mid version count place told lags → TurnsAny place (count + 1) mid new (Ok Done) → head.version ≡ version → told ≡ record { events = head.events; horizon = head.horizon; own = head.own } → head.lags.items ≡ lags → StaysInHead start new (Ok head)
 told_done start mid new head version count place told lags h turn named tells keeps =
     done_as start mid new head count place
     (subst (λ ls. ToldSoFar start mid head.version count place (record { events = head.events; horizon = head.horizon; own = head.own }) ls) (sym keeps)
     (subst (λ t. ToldSoFar start mid head.version count place t lags) tells (subst (λ v. ToldSoFar start mid v count place told lags) (sym named) h)))
-    (subst (λ v. TurnsAny place v (count + 1) mid new (Ok Done)) (sym named) turn)
+    turn
 
 pub told_is_head : (head : JournalHead) (told : Told) → head.events ≡ told.events → head.horizon ≡ told.horizon → head.own ≡ told.own → told ≡ record { events = head.events; horizon = head.horizon; own = head.own }
 told_is_head head told a b c =
     let f : ℕ → ℕ → Option ℕ → Told = λ e h o. record { events = e; horizon = h; own = o } in
     ap (λ e. f e told.horizon told.own) (sym a) ∙ (ap (λ h. f head.events h told.own) (sym b) ∙ ap (λ o. f head.events head.horizon o) (sym c))
 
-pub told_fails : (start mid new : Reading) (version count : ℕ) (place : Place) (told : Told) (lags : List (ℕ × ℕ)) (fault : AuditFault) → ToldSoFar start mid version count place told lags → TurnsAny place version (count + 1) mid new (Err fault) → TellsHead start new (Err fault)
-told_fails start mid new version count place told lags Memory h turn = tt
-told_fails start mid new version count place told lags Read h turn = tt
-told_fails start mid new version count place told lags (Line n) h turn =
-    breaks_line start mid new (h.first ∷ h.more) place (count + 1) n h.behind (whole_place h.first h.more version place h.first_is h.reached) (omega (arith, h.counted)) turn
-told_fails start mid new version count place told lags (Wrong n) h turn = absurd turn
-told_fails start mid new version count place told lags Head h turn = absurd turn
+-- ---- a head that is broken
 
-pub version_fault : (start mid : Reading) (fault : AuditFault) → TakesVersion start mid (Err fault) → TellsHead start mid (Err fault)
-version_fault start mid Memory h = tt
-version_fault start mid Read h = tt
-version_fault start mid (Line n) h = breaks_line start start mid [] Start 1 n (behind_none start) refl refl h
-version_fault start mid (Wrong n) h = absurd h
-version_fault start mid Head h = absurd h
+-- line n was wanted behind lines of a head, and breaks it
+breaks_head : (start mid new : Reading) (seen : List (List ℕ)) (place : Place) (count n : ℕ) → IsBehind start mid seen → place_after Start seen ≡ Some place → is_in_head place ≡ true → count ≡ length seen → (n ≡ count + 1) × (IfSome mid.rest (BreaksIn place new.line) ⊎ IsCut mid new) → BreaksHead start new n
+breaks_head start mid new seen place count n b reached head counted h =
+    elim h.1 [
+      | inl broken ↦
+          inl (known (λ bytes. (broken : BreaksAt bytes n) × EndsNot broken.place broken.left new.line) start.rest mid.rest (text_of seen) b.took
+          (λ left is. (let p = subst (λ o. IfSome o (BreaksIn place new.line)) is broken in (record { before = seen; left = left; place = place; reached = reached; free = b.free; short = b.short; bytes_are = refl; number = h.0 ∙ ap (λ k. k + 1) counted; breaks = p.0 }, p.1))))
+      | inr cut ↦
+          inr (
+            record {
+              before = seen;
+              part = cut.0.text;
+              place = place;
+              reached = reached;
+              free = b.free;
+              free_part = cut.0.free;
+              took = consumes_more start.rest mid.rest new.rest (text_of seen) cut.0.text b.took cut.0.took;
+              number = h.0 ∙ ap (λ k. k + 1) counted;
+              more = cut.1;
+              counted = omega (arith, b.counted, cut.0.counted, length-append (text_of seen) cut.0.text);
+              all = cut.2;
+            },
+            head,
+          )
+    ]
+
+told_breaks : (start mid new : Reading) (version count n : ℕ) (place : Place) (told : Told) (lags : List (ℕ × ℕ)) → ToldSoFar start mid version count place told lags → TurnsAny place (count + 1) mid new (Err (Line n)) → BreaksHead start new n
+told_breaks start mid new version count n place told lags h turn =
+    breaks_head start mid new (h.first ∷ h.more) place count n h.behind (whole_place h.first h.more version place h.first_is h.reached) (in_head place (ap is_some h.names)) (omega (arith, h.counted)) turn
+
+pub stays_in : (start mid new : Reading) (version count : ℕ) (place : Place) (told : Told) (lags : List (ℕ × ℕ)) (fault : AuditFault) → ToldSoFar start mid version count place told lags → TurnsAny place (count + 1) mid new (Err fault) → StaysInHead start new (Err fault)
+stays_in start mid new version count place told lags Memory h turn = tt
+stays_in start mid new version count place told lags Read h turn = tt
+stays_in start mid new version count place told lags (Line n) h turn = told_breaks start mid new version count n place told lags h turn
+stays_in start mid new version count place told lags (Wrong n) h turn = absurd turn
+stays_in start mid new version count place told lags Head h turn = absurd turn
+
+any_break : (start new : Reading) (n : ℕ) → BreaksHead start new n → BreaksLine start new n
+any_break start new n (inl h) =
+    inl (if_some (λ bytes. (broken : BreaksAt bytes n) × EndsNot broken.place broken.left new.line) (λ bytes. BreaksAt bytes n) start.rest (λ bytes b. b.0) h)
+any_break start new n (inr h) = inr h.0
+
+pub stays_told : (start new : Reading) (r : Result JournalHead AuditFault) → StaysInHead start new r → TellsHead start new r
+stays_told start new (Ok head) h =
+    if_some (λ bytes. (told : IsHeadTold bytes head) × StopsAt told.left new.line) (λ bytes. IsHeadTold bytes head) start.rest (λ bytes told. told.0) h
+stays_told start new (Err Memory) h = tt
+stays_told start new (Err Read) h = tt
+stays_told start new (Err (Line n)) h = any_break start new n h
+stays_told start new (Err (Wrong n)) h = absurd h
+stays_told start new (Err Head) h = absurd h
+
+-- line 1
+first_breaks : (start new : Reading) (n : ℕ) → NoNext Start start new 1 n → BreaksHead start new n
+first_breaks start new n h = breaks_head start start new [] Start 0 n (behind_none start) refl refl refl (
+  h.0,
+  elim h.1 [
+    | inl cut ↦ elim cut [ inl torn ↦ inl (if_some IsTorn (BreaksIn Start new.line) start.rest (λ left t. (inr (inl t), first left)) torn) | inr c ↦ inr c ]
+    | inr stop ↦ elim stop [
+      | inl over ↦ inl (over_at (BreaksIn Start new.line) start new over.0 (inl (refl, refl), first []))
+      | inr line ↦ inl (known (BreaksIn Start new.line) start.rest new.rest (line.0 ++ 10 ∷ []) line.1.took (λ left is. (inr (inr (line.0, left, append_assoc line.0 (10 ∷ []) left, line.1.free, line.2)), first ((line.0 ++ 10 ∷ []) ++ left))))
+    ]
+  ],
+)
+  where
+    first : (left : List ℕ) → EndsNot Start left new.line
+    first left = (refl, inl refl)
+
+pub version_stays : (start mid : Reading) (fault : AuditFault) → TakesVersion start mid (Err fault) → StaysInHead start mid (Err fault)
+version_stays start mid Memory h = tt
+version_stays start mid Read h = tt
+version_stays start mid (Line n) h = first_breaks start mid n h
+version_stays start mid (Wrong n) h = absurd h
+version_stays start mid Head h = absurd h

@@ -19,6 +19,8 @@ use Rattle.tp_audit.specs.declared.faults.AuditFault.TheVariants.{Memory, Read, 
 use Rattle.tp_audit.specs.declared.faults.Audited.{Audited}
 use Rattle.tp_audit.specs.declared.auditing.Found.{Found}
 use Rattle.tp_audit.specs.declared.auditing.Found.TheVariants.{Whole, Over}
+use Rattle.tp_audit.specs.declared.auditing.Piece.{Piece}
+use Rattle.tp_audit.specs.declared.auditing.Piece.TheVariants.{Whole as WholePiece, Open, Long, Over as NoPiece}
 use Rattle.tp_audit.specs.declared.auditing.Turn.{Turn}
 use Rattle.tp_audit.specs.declared.auditing.Turn.TheVariants.{Goes, Asks, Stops}
 use Rattle.tp_audit.specs.declared.auditing.Headed.{Headed}
@@ -45,9 +47,33 @@ IsTorn left =
     (left ≢ [])
     × ((line more : List ℕ) → left ≡ line ++ 10 ∷ more → Free line → longest_line < length line)
 
+-- a line of too many bytes stands first
+abbrev pub IsLong : List ℕ → Type 0
+IsLong left =
+    (part : List ℕ) × (more : List ℕ) × (left ≡ part ++ more) × Free part
+    × (longest_line < length part)
+
+-- the last bytes were taken, which no end of a line follows
+pub record TakesOpen (old new : Reading) (line : List ℕ) : Type 0 where
+  pub took : Consumes old.rest new.rest line
+  pub free : Free line
+  pub some : 0 < length line
+  pub over : IsAtEnd new.rest
+
 -- part of a line was taken, as many bytes as may be, and more are left
 abbrev pub IsCut : Reading → Reading → Type 0
 IsCut old new = TakesPart old new × HasMore new.rest × (new.taken ≡ new.most)
+
+abbrev pub TakesPiece : Reading → Reading → ℕ → Result Piece AuditFault → Type 0
+TakesPiece old new number (Ok WholePiece) = TakesOne old new new.line
+TakesPiece old new number (Ok Open) = TakesOpen old new new.line
+TakesPiece old new number (Ok Long) = IfSome old.rest IsLong
+TakesPiece old new number (Ok NoPiece) = Ends old new
+TakesPiece old new number (Err Memory) = ⊥
+TakesPiece old new number (Err Read) = Unit {0}
+TakesPiece old new number (Err (Line n)) = (n ≡ number) × IsCut old new
+TakesPiece old new number (Err (Wrong n)) = ⊥
+TakesPiece old new number (Err Head) = ⊥
 
 abbrev pub TakesNext : Reading → Reading → ℕ → Result Found AuditFault → Type 0
 TakesNext old new number (Ok Whole) = TakesOne old new new.line

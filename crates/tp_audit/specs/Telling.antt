@@ -1,11 +1,10 @@
 -- What the lines of a head tell.
-use Rattle.std.specs.Prelude.{◌≡◌, ◌⊎◌, ℕ, ◌≤◌, true, List, [], ◌∷◌, ◌++◌, length, Option, Some, None, IfSome, Result, Ok, Err}
+use Rattle.std.specs.Prelude.{◌≡◌, ◌⊎◌, ℕ, ◌≤◌, Bool, true, false, List, [], ◌∷◌, ◌++◌, length, Option, Some, None, IfSome, Result, Ok, Err}
 use Rattle.std.specs.List.{All}
 use Rattle.std.specs.Option.{option_map, option_to_list}
 use Rattle.tp_script.specs.Pending.{Reading}
 use Rattle.tp_script.specs.Reading.{Free}
 use Rattle.tp_journal.specs.Journal.{text_of, longest_line}
-use Rattle.tp_audit.specs.declared.form.Asked.{Asked}
 use Rattle.tp_audit.specs.declared.form.Place.{Place}
 use Rattle.tp_audit.specs.declared.form.Place.TheVariants.{Start, Network, Kind, Own, Lag, Question, Reply}
 use Rattle.tp_audit.specs.declared.faults.AuditFault.{AuditFault}
@@ -14,8 +13,8 @@ use Rattle.tp_audit.specs.declared.faults.JournalHead.{JournalHead}
 use Rattle.tp_audit.specs.declared.telling.Told.{Told}
 use Rattle.tp_audit.specs.declared.telling.Step.{Step}
 use Rattle.tp_audit.specs.declared.telling.Step.TheVariants.{On, Done}
-use Rattle.tp_audit.specs.Form.{version_of, network_of, own_count_of, lag_of, question_of, next_place, place_after, may_end}
-use Rattle.tp_audit.specs.Auditing.{TakesOne, Ends, head_version, EndsHead, NoNext, BreaksLine}
+use Rattle.tp_audit.specs.Form.{version_of, network_of, own_count_of, lag_of, is_of_pair, next_place, place_after, may_end}
+use Rattle.tp_audit.specs.Auditing.{TakesOne, IsLong, IsCut, head_version, Breaks, BreaksAt, CutsAt, BreaksLine}
 
 -- nothing is told
 abbrev pub nothing_told : Told
@@ -69,36 +68,81 @@ lags_after place (line ∷ lines) =
     option_to_list (new_lag place line)
     ++ lags_or (option_map (λ next. lags_after next lines) (next_place place line))
 
+-- ---- where a head ends
+
+-- the lines so far are of a head
+abbrev pub is_in_head : Place → Bool
+is_in_head Start = true
+is_in_head (Network version) = true
+is_in_head (Kind version events) = true
+is_in_head (Own version events id count) = true
+is_in_head (Lag version events least) = true
+is_in_head (Question version) = false
+is_in_head (Reply version) = false
+
+-- a head ends there: nothing is left; or what is left begins as a line of a pair does, or with a line of too many bytes
+abbrev pub EndsTold : Place → List ℕ → Type 0
+EndsTold place left =
+    (may_end place ≡ true) × ((left ≡ []) ⊎ ((is_of_pair left ≡ true) ⊎ IsLong left))
+
+-- nothing is left, or the line that is shown begins as one of a pair does
+abbrev pub StopsAt : List ℕ → List ℕ → Type 0
+StopsAt left shown = (left ≡ []) ⊎ (is_of_pair shown ≡ true)
+
+-- no head ends there: it may not; or what is left begins otherwise, where the line is too long as far as it is shown
+abbrev pub EndsNot : Place → List ℕ → List ℕ → Type 0
+EndsNot place left shown =
+    (is_in_head place ≡ true) × ((may_end place ≡ false) ⊎ ((is_of_pair left ≡ false)
+    ⊎ (IsLong left × (is_of_pair shown ≡ false))))
+
 -- ---- line by line
 
--- what a line is behind the lines of a head: one more of it, a question behind it, or no line of the format
-abbrev pub MatchesAny : Place → ℕ → List ℕ → ℕ → Result Step AuditFault → Type 0
-MatchesAny place version line number (Ok (On next)) =
-    (next_place place line ≡ Some next) × (head_version next ≡ Some version)
-MatchesAny place version line number (Ok Done) =
-    (may_end place ≡ true) × ((asked : Asked) × (question_of version line ≡ Some asked))
-MatchesAny place version line number (Err Memory) = Unit {0}
-MatchesAny place version line number (Err Read) = ⊥
-MatchesAny place version line number (Err (Line n)) = (n ≡ number) × (next_place place line ≡ None)
-MatchesAny place version line number (Err (Wrong n)) = ⊥
-MatchesAny place version line number (Err Head) = ⊥
+-- what a line is behind the lines of a head, whatever stands behind its first byte: the end of the head, or no end of it
+abbrev pub MatchesPart : Place → List ℕ → ℕ → Result Step AuditFault → Type 0
+MatchesPart place line number (Ok (On next)) = ⊥
+MatchesPart place line number (Ok Done) = (may_end place ≡ true) × (is_of_pair line ≡ true)
+MatchesPart place line number (Err Memory) = ⊥
+MatchesPart place line number (Err Read) = ⊥
+MatchesPart place line number (Err (Line n)) =
+    (n ≡ number) × ((may_end place ≡ false) ⊎ (is_of_pair line ≡ false))
+MatchesPart place line number (Err (Wrong n)) = ⊥
+MatchesPart place line number (Err Head) = ⊥
 
-abbrev pub TurnsAny : Place → ℕ → ℕ → Reading → Reading → Result Step AuditFault → Type 0
-TurnsAny place version number old new (Ok (On next)) =
+-- what a line is behind the lines of a head: one more of it, one that begins as that of a pair behind it, or no line of the format
+abbrev pub MatchesAny : Place → List ℕ → ℕ → Result Step AuditFault → Type 0
+MatchesAny place line number (Ok (On next)) =
+    (next_place place line ≡ Some next) × (head_version next ≡ head_version place)
+MatchesAny place line number (Ok Done) = MatchesPart place line number (Ok Done)
+MatchesAny place line number (Err Memory) = ⊥
+MatchesAny place line number (Err Read) = ⊥
+MatchesAny place line number (Err (Line n)) =
+    (next_place place line ≡ None) × MatchesPart place line number (Err (Line n))
+MatchesAny place line number (Err (Wrong n)) = ⊥
+MatchesAny place line number (Err Head) = ⊥
+
+-- what is left breaks the format at once, and no head ends there
+abbrev pub BreaksIn : Place → List ℕ → List ℕ → Type 0
+BreaksIn place shown left = Breaks place left × EndsNot place left shown
+
+-- a head ends there, as far as the line is shown
+abbrev pub EndsIn : Place → List ℕ → List ℕ → Type 0
+EndsIn place shown left = EndsTold place left × StopsAt left shown
+
+abbrev pub TurnsAny : Place → ℕ → Reading → Reading → Result Step AuditFault → Type 0
+TurnsAny place number old new (Ok (On next)) =
     TakesOne old new new.line × (next_place place new.line ≡ Some next)
-    × (head_version next ≡ Some version)
-TurnsAny place version number old new (Ok Done) =
-    (may_end place ≡ true) × (Ends old new ⊎ ((line : List ℕ) × TakesOne old new line
-    × ((asked : Asked) × (question_of version line ≡ Some asked))))
-TurnsAny place version number old new (Err Memory) = Unit {0}
-TurnsAny place version number old new (Err Read) = Unit {0}
-TurnsAny place version number old new (Err (Line n)) = NoNext place old new number n
-TurnsAny place version number old new (Err (Wrong n)) = ⊥
-TurnsAny place version number old new (Err Head) = ⊥
+    × (head_version next ≡ head_version place)
+TurnsAny place number old new (Ok Done) = IfSome old.rest (EndsIn place new.line)
+TurnsAny place number old new (Err Memory) = ⊥
+TurnsAny place number old new (Err Read) = Unit {0}
+TurnsAny place number old new (Err (Line n)) =
+    (n ≡ number) × (IfSome old.rest (BreaksIn place new.line) ⊎ IsCut old new)
+TurnsAny place number old new (Err (Wrong n)) = ⊥
+TurnsAny place number old new (Err Head) = ⊥
 
 -- ---- a head
 
--- the bytes begin with a head of the format, which tells this, and behind which nothing is left, or a question stands
+-- the bytes begin with a head of the format, which tells this, and which ends there, whatever follows
 pub record IsHeadTold (bytes : List ℕ) (head : JournalHead) : Type 0 where
   pub first : List ℕ
   pub more : List (List ℕ)
@@ -108,7 +152,8 @@ pub record IsHeadTold (bytes : List ℕ) (head : JournalHead) : Type 0 where
   pub free : All Free (first ∷ more)
   pub short : All (λ line. length line ≤ longest_line) (first ∷ more)
   pub bytes_are : bytes ≡ text_of (first ∷ more) ++ left
-  pub ends : EndsHead place head.version left
+  pub names : head_version place ≡ Some head.version
+  pub ends : EndsTold place left
   pub version : version_of first ≡ Some head.version
   pub told : told_after (Network head.version) nothing_told more ≡ record {
     events = head.events;
@@ -124,3 +169,20 @@ TellsHead start after (Err Read) = Unit {0}
 TellsHead start after (Err (Line n)) = BreaksLine start after n
 TellsHead start after (Err (Wrong n)) = ⊥
 TellsHead start after (Err Head) = ⊥
+
+-- Line n of the bytes is wanted in a head, and breaks the format: no head ends at the line before
+abbrev pub BreaksHead : Reading → Reading → ℕ → Type 0
+BreaksHead start after n =
+    IfSome start.rest (λ bytes. (broken : BreaksAt bytes n)
+    × EndsNot broken.place broken.left after.line) ⊎ ((cut : CutsAt start after n)
+    × (is_in_head cut.place ≡ true))
+
+-- no more than the head was judged: nothing is left behind it, or the line there begins as one of a pair does; or a line of it is broken
+abbrev pub StaysInHead : Reading → Reading → Result JournalHead AuditFault → Type 0
+StaysInHead start after (Ok head) =
+    IfSome start.rest (λ bytes. (told : IsHeadTold bytes head) × StopsAt told.left after.line)
+StaysInHead start after (Err Memory) = Unit {0}
+StaysInHead start after (Err Read) = Unit {0}
+StaysInHead start after (Err (Line n)) = BreaksHead start after n
+StaysInHead start after (Err (Wrong n)) = ⊥
+StaysInHead start after (Err Head) = ⊥

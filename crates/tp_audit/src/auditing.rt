@@ -7,7 +7,7 @@ ghost use Rattle.tp_journal.specs.Journal.{IsHead, IsVersion, head_of, lags_of};
 ghost use Rattle.tp_journal.specs.Sound.{IsSound};
 ghost use Rattle.tp_journal.specs.Writing.{IsNewExecutive};
 ghost use Rattle.tp_audit.specs.Form.{may_end, is_of_pair, is_reply};
-ghost use Rattle.tp_audit.specs.Auditing.{HasFew, TakesNext, TakesVersion, head_version, BeginsWithLine, Matches, TurnsHead, Heads, IsReplyJudged, TakesReply, TakesQuestion, TakesPair, Audits, audit_failures};
+ghost use Rattle.tp_audit.specs.Auditing.{HasFew, TakesPiece, TakesNext, TakesVersion, head_version, BeginsWithLine, Matches, TurnsHead, Heads, IsReplyJudged, TakesReply, TakesQuestion, TakesPair, Audits, audit_failures};
 
 use crate::faults::{AuditFault, Audited};
 use crate::form::{Asked, Place, head_place, is_reply, read_question, read_version};
@@ -27,10 +27,23 @@ pub(crate) enum Found {
     Over,
 }
 
-/// Takes the line of that number.
-pub(crate) fn take_line<R: Source>(lines: &mut Lines<R>, number: u64) -> Result<Found, AuditFault>
+/// What stands first of what is left.
+#[derive(Clone, Copy)]
+pub(crate) enum Piece {
+    /// A line, with its end.
+    Whole,
+    /// The last bytes, which no end of a line follows.
+    Open,
+    /// A line of too many bytes.
+    Long,
+    /// Nothing.
+    Over,
+}
+
+/// Takes what stands where the line of that number is wanted.
+pub(crate) fn take_piece<R: Source>(lines: &mut Lines<R>, number: u64) -> Result<Piece, AuditFault>
     requires { lines.old.longest ≡ 16_384 }
-    ensures takes { TakesNext lines.old lines.new number result }
+    ensures takes { TakesPiece lines.old lines.new number result }
     ensures limits { SameLimits lines.old lines.new }
     ensures read { lines.new.failures ≡ audit_failures lines.old.failures result }
 {
@@ -38,15 +51,31 @@ pub(crate) fn take_line<R: Source>(lines: &mut Lines<R>, number: u64) -> Result<
     match lines.next_line() {
         Err(LineFault::Read) => Err(AuditFault::Read),
         Err(LineFault::TooLong) => Err(AuditFault::Line(number)),
-        Ok(Next::End) => Ok(Found::Over),
-        Ok(Next::Long) => Err(AuditFault::Line(number)),
+        Ok(Next::End) => Ok(Piece::Over),
+        Ok(Next::Long) => Ok(Piece::Long),
         Ok(Next::Line) => {
             if lines.taken() - before == lines.line().len() as u64 + 1 {
-                Ok(Found::Whole)
+                Ok(Piece::Whole)
             } else {
-                Err(AuditFault::Line(number))
+                Ok(Piece::Open)
             }
         }
+    }
+}
+
+/// Takes the line of that number.
+pub(crate) fn take_line<R: Source>(lines: &mut Lines<R>, number: u64) -> Result<Found, AuditFault>
+    requires { lines.old.longest ≡ 16_384 }
+    ensures takes { TakesNext lines.old lines.new number result }
+    ensures limits { SameLimits lines.old lines.new }
+    ensures read { lines.new.failures ≡ audit_failures lines.old.failures result }
+{
+    match take_piece(lines, number) {
+        Err(fault) => Err(fault),
+        Ok(Piece::Whole) => Ok(Found::Whole),
+        Ok(Piece::Over) => Ok(Found::Over),
+        Ok(Piece::Open) => Err(AuditFault::Line(number)),
+        Ok(Piece::Long) => Err(AuditFault::Line(number)),
     }
 }
 

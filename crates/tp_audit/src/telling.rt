@@ -1,15 +1,15 @@
 //! The head of a journal, as its lines tell it, whatever executive it is of.
 
-ghost use Rattle.std.specs.Prelude.{◌≡◌, ◌++◌, true, Some, OnOk};
+ghost use Rattle.std.specs.Prelude.{◌≡◌, ◌++◌, true, is_some, OnOk};
 ghost use Rattle.std.specs.Option.{option_to_list};
 ghost use Rattle.tp_script.specs.Reading.{SameLimits};
 ghost use Rattle.tp_audit.specs.Auditing.{audit_failures, head_version};
 ghost use Rattle.tp_audit.specs.Form.{is_of_pair, own_count_of};
-ghost use Rattle.tp_audit.specs.Telling.{tell, new_lag, MatchesAny, TurnsAny, TellsHead};
+ghost use Rattle.tp_audit.specs.Telling.{tell, new_lag, MatchesPart, MatchesAny, TurnsAny, TellsHead, StaysInHead};
 
-use crate::auditing::{Found, may_end, take_line, take_version};
+use crate::auditing::{Piece, may_end, take_piece, take_version};
 use crate::faults::{AuditFault, JournalHead};
-use crate::form::{Place, head_place, read_lag, read_network, read_own_count, read_question};
+use crate::form::{Place, head_place, read_lag, read_network, read_own_count};
 use std::alloc::{AllocError, Global};
 use tp_device::Source;
 use tp_journal::begins_with;
@@ -101,41 +101,34 @@ enum Step {
     Done,
 }
 
-/// What a line of a pair is behind the lines of a head.
-fn match_pair(
-    alloc: Global,
-    line: &[u8],
-    place: Place,
-    version: u8,
-    number: u64,
-) -> Result<Step, AuditFault>
-    requires names { head_version place ≡ Some version }
-    requires pair { is_of_pair line.now ≡ true }
-    ensures { MatchesAny place version line.now number result }
+/// Whether a line begins as one of a pair does.
+fn is_of_pair(line: &[u8]) -> bool
+    ensures { result ≡ is_of_pair line.now }
+{
+    begins_with(line, b">") || begins_with(line, b"<")
+}
+
+/// What a line is behind the lines of a head, as far as its first byte tells.
+fn match_part(line: &[u8], place: Place, number: u64) -> Result<Step, AuditFault>
+    ensures { MatchesPart place line.now number result }
 {
     if !may_end(place) {
         return Err(AuditFault::Line(number));
     }
-    match read_question(alloc, version, line) {
-        Err(_) => Err(AuditFault::Memory),
-        Ok(None) => Err(AuditFault::Line(number)),
-        Ok(Some(_)) => Ok(Step::Done),
+    if is_of_pair(line) {
+        Ok(Step::Done)
+    } else {
+        Err(AuditFault::Line(number))
     }
 }
 
 /// What a line is behind the lines of a head.
-fn match_any(
-    alloc: Global,
-    line: &[u8],
-    place: Place,
-    version: u8,
-    number: u64,
-) -> Result<Step, AuditFault>
-    requires names { head_version place ≡ Some version }
-    ensures { MatchesAny place version line.now number result }
+fn match_any(line: &[u8], place: Place, number: u64) -> Result<Step, AuditFault>
+    requires names { is_some (head_version place) ≡ true }
+    ensures { MatchesAny place line.now number result }
 {
-    if begins_with(line, b">") || begins_with(line, b"<") {
-        return match_pair(alloc, line, place, version, number);
+    if is_of_pair(line) {
+        return match_part(line, place, number);
     }
     match head_place(place, line) {
         Some(next) => Ok(Step::On(next)),
@@ -144,34 +137,30 @@ fn match_any(
 }
 
 /// Takes a line behind the lines of a head.
-fn take_any<R: Source>(
-    alloc: Global,
-    lines: &mut Lines<R>,
-    place: Place,
-    version: u8,
-    number: u64,
-) -> Result<Step, AuditFault>
+fn take_any<R: Source>(lines: &mut Lines<R>, place: Place, number: u64) -> Result<Step, AuditFault>
     requires longest { lines.old.longest ≡ 16_384 }
-    requires names { head_version place ≡ Some version }
-    ensures turns { TurnsAny place version number lines.old lines.new result }
+    requires names { is_some (head_version place) ≡ true }
+    ensures turns { TurnsAny place number lines.old lines.new result }
     ensures limits { SameLimits lines.old lines.new }
     ensures read { lines.new.failures ≡ audit_failures lines.old.failures result }
 {
-    match take_line(lines, number) {
+    match take_piece(lines, number) {
         Err(fault) => Err(fault),
-        Ok(Found::Over) => {
+        Ok(Piece::Over) => {
             if may_end(place) {
                 Ok(Step::Done)
             } else {
                 Err(AuditFault::Line(number))
             }
         }
-        Ok(Found::Whole) => match_any(alloc, lines.line(), place, version, number),
+        Ok(Piece::Whole) => match_any(lines.line(), place, number),
+        Ok(Piece::Open) => match_part(lines.line(), place, number),
+        Ok(Piece::Long) => match_part(lines.line(), place, number),
     }
 }
 
-/// Reads the head of a journal, and the question behind it, if there is one. It takes memory for
-/// the lags and for that question, and reads each line twice.
+/// Reads the head of a journal, and no more: a line that begins with `>` or `<` ends it, whatever
+/// else the line holds. It takes memory for the lags, and reads each line of the head twice.
 ///
 /// # Errors
 /// `Line(n)` where line n is the first that breaks the format, or does not end within 2^32 bytes;
@@ -182,6 +171,7 @@ pub fn journal_head<R: Source>(
 ) -> Result<JournalHead, AuditFault>
     requires longest { lines.old.longest ≡ 16_384 }
     ensures head { TellsHead lines.old lines.new result }
+    ensures alone { StaysInHead lines.old lines.new result }
     ensures longest { lines.new.longest ≡ lines.old.longest }
     ensures most { lines.new.most ≡ lines.old.most }
     ensures read { lines.new.failures ≡ audit_failures lines.old.failures result }
@@ -200,7 +190,7 @@ pub fn journal_head<R: Source>(
     let mut count = 1u64;
     'head: loop {
         let _taken = lines.taken();
-        match take_any(alloc, lines, place, version, count + 1) {
+        match take_any(lines, place, count + 1) {
             Err(fault) => return Err(fault),
             Ok(Step::Done) => {
                 return Ok(head_told(version, told, lags));

@@ -226,3 +226,66 @@ fn heads_of_both_versions(rt: HostRuntime) {
     assert!(rt; headed(alloc, SEVEN, 1, (2, 100), None, &[]));
     assert!(rt; headed(alloc, own, 2, (4, 50), Some(2), &[(1, 3), (3, 4)]));
 }
+
+/// The fault of the head of a journal, if it has one.
+fn head_fault(alloc: Global, text: &[u8]) -> Option<AuditFault> {
+    match head_over::<Brand>(alloc, text, Blank::new(1)) {
+        Ok(Err(fault)) => Some(fault),
+        _ => None,
+    }
+}
+
+/// Whether the head of a network of one event and 5 ticks ends before these bytes, or has that fault.
+fn behind_head(alloc: Global, rest: &[u8], wanted: Option<AuditFault>) -> bool {
+    let mut text = Vec::new(alloc);
+    if text
+        .extend_from_slice(b"journal 2\nnetwork 1 5\nbare\n")
+        .is_err()
+    {
+        return false;
+    }
+    if text.extend_from_slice(rest).is_err() {
+        return false;
+    }
+    match wanted {
+        None => headed(alloc, text.as_slice(), 2, (1, 5), None, &[]),
+        _ => head_fault(alloc, text.as_slice()) == wanted,
+    }
+}
+
+/// A line that begins as one of a pair does ends a head, whatever else it holds; one that begins otherwise is one of the head.
+#[test]
+fn what_stands_behind_a_head(rt: HostRuntime) {
+    let broken = Some(AuditFault::Line(4));
+    let tables: [(&'static [u8], Option<AuditFault>); 10] = [
+        (b"", None),
+        (b"> foo\n", None),
+        (b"> happened 0 0\n", None),
+        (b">\n", None),
+        (b"< ok\n", None),
+        (b"> window 0", None),
+        (b"foo\n", broken),
+        (b"\n", broken),
+        (b"lag 0 3", broken),
+        (b"lag 0 0\n", broken),
+    ];
+    for (rest, wanted) in &tables {
+        assert!(rt; behind_head(rt.alloc(), rest, *wanted));
+    }
+}
+
+/// Whether a line of 16,385 bytes that begins with this one ends a head, or has that fault.
+fn long_behind_head(alloc: Global, first: u8, wanted: Option<AuditFault>) -> bool {
+    match vec![in alloc; first; 16_385] {
+        Ok(line) => behind_head(alloc, line.as_slice(), wanted),
+        Err(_) => false,
+    }
+}
+
+/// The same of lines that are too long.
+#[test]
+fn what_too_long_a_line_is_behind_a_head(rt: HostRuntime) {
+    assert!(rt; long_behind_head(rt.alloc(), b'>', None));
+    assert!(rt; long_behind_head(rt.alloc(), b'<', None));
+    assert!(rt; long_behind_head(rt.alloc(), b'w', Some(AuditFault::Line(4))));
+}

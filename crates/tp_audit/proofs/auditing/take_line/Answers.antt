@@ -1,15 +1,14 @@
-use Rattle.std.proofs.Common.{◌≢◌, ◌+◌, inl, refl, ap, length, arith}
-use Rattle.tp_audit.proofs.LineLemmas.{long_torn, open_torn}
+use Rattle.std.proofs.Common.{inl, refl}
+use Rattle.tp_audit.specs.Auditing.{IsLong, IsTorn}
+use Rattle.tp_audit.proofs.LineLemmas.{if_some, long_breaks, open_breaks}
 use Rattle.tp_audit.proofs.auditing.take_line.Goals as goal
+
+pub returns-in-Ok-Open-clause-takes : goal.returns-in-Ok-Open-clause-takes
+returns-in-Ok-Open-clause-takes g c =
+    let took = rw c.in-Ok-Open.field-0-is at c.in-Ok-Open.ensures.takes in
+    (refl, inl (open_breaks c.args.lines.now c.take_piece.new.lines c.take_piece.new.lines.line took))
 
 pub returns-in-Ok-Long-clause-takes : goal.returns-in-Ok-Long-clause-takes
 returns-in-Ok-Long-clause-takes g c =
-    let took = rw c.in-Ok-Long.field-0-is at c.in-Ok-Long.ensures.line in
-    let gt = rw (c.in-Ok-Long.ensures.limits.longest, c.requires) at took.2 in
-    (refl, inl (long_torn c.args.lines.now c.next_line.new.self took.0 took.1 gt))
-
-pub returns-else-taken-before-clause-takes : goal.returns-else-taken-before-clause-takes
-returns-else-taken-before-clause-takes g c =
-    let took = rw c.in-Ok-Line.field-0-is at c.in-Ok-Line.ensures.line in
-    let ne : c.next_line.new.self.taken ≢ c.args.lines.now.taken + (length c.next_line.new.self.line + 1) = λ is. c.if-taken-before.false (omega (arith, is, c.taken.ensures, c.taken-before.ensures, ap length c.line.ensures)) in
-    (refl, inl (open_torn c.args.lines.now c.next_line.new.self c.next_line.new.self.line took.0 ne))
+    let long = rw c.in-Ok-Long.field-0-is at c.in-Ok-Long.ensures.takes in
+    (refl, inl (if_some IsLong IsTorn c.args.lines.now.rest long_breaks long))
