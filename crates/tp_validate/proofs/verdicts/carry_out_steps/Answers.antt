@@ -1,4 +1,4 @@
-use Rattle.std.proofs.Common.{◌≡◌, ◌≤◌, true, List, length, sym, ◌∙◌, subst, arith}
+use Rattle.std.proofs.Common.{◌≡◌, ◌≤◌, true, List, length, sym, subst, arith}
 use Rattle.std.specs.List.{list_all}
 use Rattle.tp_task.specs.Valid.{Planned, Placed, events}
 use Rattle.tp_task.specs.Verdict.{last_moment}

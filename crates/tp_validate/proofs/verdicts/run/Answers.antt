@@ -1,6 +1,6 @@
-use Rattle.std.proofs.Common.{List, sym, ◌∙◌, ◌+◌, subst, arith, rules}
+use Rattle.std.proofs.Common.{subst, arith, rules}
 use Rattle.std.proofs.lemmas.Result.{err_from_is_err_and}
-use Rattle.tp_task.specs.Valid.{Planned, events}
+use Rattle.tp_task.specs.Valid.{events}
 use Rattle.tp_happen.proofs.Answered.{on_range_weaker}
 use Rattle.tp_validate.specs.Found.{IsFound, told}
 use Rattle.tp_validate.proofs.Starting.{in_order_after, starts_after, begun_after}
