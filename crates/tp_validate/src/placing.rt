@@ -1,6 +1,6 @@
 //! The steps of a plan with what their actions do, and their events in order.
 
-ghost use Rattle.std.specs.Prelude.{◌≡◌, ℕ, ◌+◌, ◌*◌, ◌<◌, ◌≤◌, ◌++◌, true, nat_le, nat_lt, length, map, option_map, slice_get, slice_index_or, IfOk, OnOk};
+ghost use Rattle.std.specs.Prelude.{◌≡◌, ℕ, ◌+◌, ◌*◌, ◌<◌, ◌≤◌, ◌++◌, true, nat_le, length, map, option_map, slice_get, slice_index_or, IfOk, OnOk};
 ghost use Rattle.std.specs.List.{list_all};
 ghost use Rattle.tp_task.specs.Valid.{events, events_of, count_of};
 ghost use Rattle.tp_validate.specs.OfTask.{plan_of, step_of};
@@ -37,24 +37,6 @@ impl<'t> PlannedStep<'t> {
         ensures { result ≡ self.now.moment }
     {
         self.tick
-    }
-
-    /// Whether it ends after a moment.
-    pub fn ends_after(&self, moment: u32) -> bool
-        ensures { result ≡ nat_lt moment (self.now.moment + self.now.duration) }
-    {
-        moment < self.tick || moment - self.tick < self.duration
-    }
-
-    /// The same step once more.
-    pub fn again(&self) -> PlannedStep<'t>
-        ensures { result ≡ self.now }
-    {
-        PlannedStep {
-            tick: self.tick,
-            duration: self.duration,
-            body: self.body,
-        }
     }
 }
 
