@@ -159,12 +159,13 @@ fn take_any<R: Source>(lines: &mut Lines<R>, place: Place, number: u64) -> Resul
     }
 }
 
-/// Reads the head of a journal, and no more: a line that begins with `>` or `<` ends it, whatever
-/// else the line holds. It takes memory for the lags, and reads each line of the head twice.
+/// Reads the head of a journal, and no more: where a head may end, a line that begins with `>` or
+/// `<` ends it, whatever else the line holds. It takes memory for the lags, and reads each line of
+/// the head twice.
 ///
 /// # Errors
-/// `Line(n)` where line n is the first that breaks the format, or does not end within 2^32 bytes;
-/// `Memory` where a growth is refused; `Read` where the reader fails.
+/// `Line(n)` where line n is wanted in the head and is the first that breaks the format, or does not
+/// end within 2^32 bytes; `Memory` where a growth is refused; `Read` where the reader fails.
 pub fn journal_head<R: Source>(
     alloc: Global,
     lines: &mut Lines<R>,
