@@ -263,6 +263,9 @@ def head_of(lines):
             raise Broken
         lags.append((event, lag))
         last = event
+    if lines.rest and lines.rest[:1] not in (b">", b"<"):
+        lines.number += 1
+        raise Broken
     return version, events, horizon, own, lags
 
 
