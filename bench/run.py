@@ -273,7 +273,7 @@ def orders(program):
     domain, problem = crowd("(a ?x)", "(b ?x)", 3_000, "(a ?x)")
     judged(program, "that of 512 steps that mention 6,000 atoms each", domain, problem, "".join(f"{k}: (act)\n" for k in range(512)), "net")
     domain, problem = watch(3_000)
-    judged(program, "that of 511 steps that write into an invariant of 3,000 atoms", domain, problem, "0: (watch) [600]\n" + "".join(f"{k}: (touch)\n" for k in range(1, 512)), "net")
+    judged(program, "that of 300 steps that write into an invariant of 6,000 atoms", domain, problem, "0: (watch) [600]\n" + "".join(f"{k}: (touch)\n" for k in range(1, 301)), "net")
 
 
 def watch(count):
