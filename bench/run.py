@@ -506,12 +506,30 @@ def roads(count):
     return ROADS, f"(define (problem p) (:domain roads) (:objects {places} - place) (:init (at o0) {chain}) (:goal (at o9)))\n"
 
 
+def comparisons(places, count):
+    """Actions that all raise one number, one for each pair of so many objects, and a goal of so many comparisons of it."""
+    domain = "(define (domain sums) (:functions (sum)) (:action raise :parameters (?x ?y) :precondition () :effect (increase (sum) 1)))"
+    goal = " ".join(f"(>= (sum) {k % 3})" for k in range(count))
+    return domain, f"(define (problem q) (:domain sums) (:objects {each('o#', places)}) (:init (= (sum) 0)) (:goal (and {goal})))"
+
+
+def painters(count, places):
+    """Actions that read the same atoms and change as many of their own, and a goal that only one that never can start would meet."""
+    paint = "(:action a# :precondition (and (not (d#)) (forall (?x) (q ?x))) :effect (and (d#) (forall (?x) (r# ?x))))"
+    domain = f"""(define (domain painters) (:predicates (g) (q ?x) {each('(d#) (r# ?x)', count)})
+ {each(paint, count)}
+ (:action z :precondition (and (d0) (not (d0))) :effect (g)))"""
+    return domain, f"(define (problem q) (:domain painters) (:objects {each('o#', places)}) (:init {each('(q o#)', places)}) (:goal (g)))"
+
+
 def searches(program):
     judged(program, "a plan of one visit, 4,000 atoms, 8,000 actions", PLACES, places_problem(), None, "plan")
     judged(program, "40 lamps, no plan, a budget of 1,000,000", *lamps(40), None, "plan", ("--budget", "1000000"))
     judged(program, "12 lamps, no plan, until no node is left", *lamps(12), None, "plan", ("--budget", "1000000"))
     judged(program, "a ring of 250 lamps: 62,500 actions, 250 of which can start", *ring(250), None, "plan", ("--budget", "1000"))
     judged(program, "a goal of 5,001 conjuncts, a budget of 300", *many_goals(5000), None, "plan", ("--budget", "300"))
+    judged(program, "20,000 comparisons of a number that 62,500 actions raise", *comparisons(250, 20_000), None, "plan", ("--budget", "0"))
+    judged(program, "10 actions of 600 atoms each, until no node is left", *painters(10, 600), None, "plan", ("--budget", "1000000"))
     judged(program, "90 places: 729,000 bindings, 89 in reach", *roads(90), None, "plan")
     kinds = each("(:action a# :parameters (?x - t#) :effect (g))", 13_000)
     three = "(define (problem q) (:domain d) (:objects " + " ".join(f"o{k} - t{k % 13_000}" for k in range(39_000)) + ") (:init) (:goal (g)))"

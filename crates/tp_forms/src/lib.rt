@@ -3,7 +3,7 @@
 //! - `state`: the state at hand, a bit an atom
 //! - `values`: expressions and conditions in it
 //! - `forms`: a task by lists of places
-//! - `index`: the actions that wait for an atom, the conjuncts that an action touches
+//! - `index`: the actions that wait for an atom, what an action changes and the conjuncts that mention it
 //! - `marks`: what the events of a tick mention, change, read and write
 //! - `effects`: what an event does
 //! - `durations`: the least lawful duration
@@ -23,6 +23,6 @@ pub use durations::{least_duration, units_of};
 pub use effects::carry_out;
 pub use fault::SearchFault;
 pub use forms::{Action, CondForm, EventForm, Forms};
-pub use index::{Lists, Waiting, touched, waiting_for};
+pub use index::{Lists, Touches, Waiting, touched, waiting_for};
 pub use marks::Marks;
 pub use state::{Places, SearchState, Span, part, small};

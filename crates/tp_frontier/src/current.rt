@@ -1,12 +1,13 @@
 //! The node at hand.
 
 use crate::known::{Known, push_copy};
+use crate::listed::Listed;
 use crate::store::{Running, Start};
 use std::alloc::{AllocError, Global};
 use tp_forms::{EventForm, Marks, SearchFault, SearchState, carry_out};
 
 /// The node at hand: the steps that run past its tick, the events of its tick, which conjuncts its state meets, as far as
-/// they were looked at, how many it lacks, and the state's number once it is kept.
+/// they were looked at, how many it lacks, those that the start looked at may change, and the state's number once it is kept.
 #[derive(Drop)]
 pub struct Current {
     pub running: Vec<Running>,
@@ -14,6 +15,7 @@ pub struct Current {
     pub chain: Vec<Start>,
     pub met: Vec<Option<bool>>,
     pub lacking: usize,
+    changed: Listed,
     pub values: Vec<Option<i64>>,
     pub kept: Option<u32>,
 }
@@ -22,12 +24,14 @@ impl Current {
     // For states of so many conjuncts.
     pub fn new(alloc: Global, conjuncts: usize) -> Result<Self, AllocError> {
         let met = Vec::from_elem(alloc, None, conjuncts)?;
+        let changed = Listed::new(alloc, conjuncts)?;
         Ok(Current {
             running: Vec::new(alloc),
             events: Vec::new(alloc),
             chain: Vec::new(alloc),
             met,
             lacking: 0,
+            changed,
             values: Vec::new(alloc),
             kept: None,
         })
@@ -110,31 +114,11 @@ impl Current {
         self.lacking = lacking;
     }
 
-    // Looks at those of some conjuncts that were not looked at in the state at hand.
-    fn look_at(
-        &mut self,
-        known: &Known<'_>,
-        state: &SearchState,
-        conjuncts: &[u32],
-    ) -> Result<(), SearchFault> {
-        for conjunct in conjuncts {
-            self.look_at_one(known, state, *conjunct)?;
-        }
-        Ok(())
-    }
-
-    fn look_at_one(
-        &mut self,
-        known: &Known<'_>,
-        state: &SearchState,
-        conjunct: u32,
-    ) -> Result<(), SearchFault> {
-        if let Some(met) = self.met.get_mut(conjunct as usize) {
-            if met.is_none() {
-                *met = Some(known.conjunct_holds(state, conjunct)?);
-            }
-        }
-        Ok(())
+    // Lists the conjuncts that an action's first event may change.
+    fn list_changed(&mut self, known: &Known<'_>, action: u32) -> Result<(), AllocError> {
+        self.changed.clear();
+        self.changed.add_touched(&known.by_atoms, action)?;
+        self.changed.add_touched(&known.by_fluents, action)
     }
 
     fn is_met(&self, conjunct: u32) -> bool {
@@ -144,15 +128,10 @@ impl Current {
         }
     }
 
-    // How many conjuncts are lacking once these may have changed.
-    fn lacking_after(
-        &self,
-        known: &Known<'_>,
-        state: &SearchState,
-        changed: &[u32],
-    ) -> Result<usize, SearchFault> {
+    // How many conjuncts are lacking once those listed may have changed.
+    fn lacking_after(&self, known: &Known<'_>, state: &SearchState) -> Result<usize, SearchFault> {
         let mut count = self.lacking;
-        for conjunct in changed {
+        for conjunct in self.changed.numbers() {
             let now = known.conjunct_holds(state, *conjunct)?;
             let before = self.is_met(*conjunct);
             if now && !before {
@@ -172,14 +151,19 @@ impl Current {
         event_form: &EventForm<'_>,
         start: Start,
     ) -> Result<usize, SearchFault> {
-        let changed = known.touched.of(start.action);
-        if changed.is_empty() && event_form.event.writes.is_empty() {
+        self.list_changed(known, start.action)?;
+        if self.changed.numbers().is_empty() && event_form.event.writes.is_empty() {
             return Ok(self.lacking);
         }
-        self.look_at(known, state, changed)?;
+        look_at(
+            known,
+            state,
+            self.changed.numbers(),
+            self.met.as_mut_slice(),
+        )?;
         let units = known.units(start.duration);
         carry_out(&known.forms, state, event_form, units, &mut self.values)?;
-        let lacking = self.lacking_after(known, state, changed)?;
+        let lacking = self.lacking_after(known, state)?;
         state.undo();
         Ok(lacking)
     }
@@ -224,6 +208,33 @@ impl Current {
         runs.sort_unstable();
         Ok(runs)
     }
+}
+
+// Looks at those of some conjuncts that were not looked at in the state at hand.
+fn look_at(
+    known: &Known<'_>,
+    state: &SearchState,
+    conjuncts: &[u32],
+    met: &mut [Option<bool>],
+) -> Result<(), SearchFault> {
+    for conjunct in conjuncts {
+        look_at_one(known, state, *conjunct, met)?;
+    }
+    Ok(())
+}
+
+fn look_at_one(
+    known: &Known<'_>,
+    state: &SearchState,
+    conjunct: u32,
+    met: &mut [Option<bool>],
+) -> Result<(), SearchFault> {
+    if let Some(met) = met.get_mut(conjunct as usize) {
+        if met.is_none() {
+            *met = Some(known.conjunct_holds(state, conjunct)?);
+        }
+    }
+    Ok(())
 }
 
 fn running_from(start: Start) -> Running {

@@ -1,10 +1,11 @@
-//! What the search looks up: the task's forms, the actions that wait for an atom, and the conjuncts that an action touches.
+//! What the search looks up: the task's forms, the actions that wait for an atom, what an action changes, and the conjuncts
+//! that mention that.
 
 use crate::store::{Running, Start};
 use std::alloc::{AllocError, Global};
 use tp_forms::{
-    Action, CondForm, EventForm, Forms, Lists, Marks, SearchFault, SearchState, Waiting, carry_out,
-    least_duration, touched, units_of, waiting_for,
+    Action, CondForm, EventForm, Forms, Marks, SearchFault, SearchState, Touches, Waiting,
+    carry_out, least_duration, touched, units_of, waiting_for,
 };
 use tp_task::Task;
 use tp_text::Scale;
@@ -16,7 +17,8 @@ pub struct Known<'t> {
     pub horizon: u32,
     pub forms: Forms<'t>,
     pub waiting: Waiting,
-    pub touched: Lists,
+    pub by_atoms: Touches,
+    pub by_fluents: Touches,
 }
 
 impl<'t> Known<'t> {
@@ -222,13 +224,15 @@ impl<'t> Known<'t> {
         horizon: u32,
     ) -> Result<Self, AllocError> {
         let waiting = waiting_for(alloc, &forms, state)?;
-        let touched = touched(alloc, &forms)?;
+        let by_atoms = touched(alloc, &forms, true)?;
+        let by_fluents = touched(alloc, &forms, false)?;
         Ok(Known {
             scale: task.scale,
             horizon,
             forms,
             waiting,
-            touched,
+            by_atoms,
+            by_fluents,
         })
     }
 }

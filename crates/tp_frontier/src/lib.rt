@@ -4,6 +4,7 @@
 //! - `store`: nodes, moments, states; the waits made so far, by hash
 //! - `queues`: the nodes still to be taken
 //! - `known`: what the search looks up
+//! - `listed`: the conjuncts that an event may change
 //! - `current`: the node at hand
 //! - `frontier`: taking and expanding
 #![tactic(auto)]
@@ -11,6 +12,7 @@
 mod current;
 mod frontier;
 mod known;
+mod listed;
 mod queues;
 mod store;
 

@@ -8,3 +8,4 @@ pub mod Loop
 pub mod Expanding
 mod Begins
 mod Within
+pub mod Listed

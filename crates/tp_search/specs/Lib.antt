@@ -6,4 +6,5 @@ pub mod Chains
 pub mod Possible
 pub mod Children
 pub mod Running
+pub mod Rows
 pub use Rattle.tp_forms.specs as tp_forms

@@ -1,24 +1,25 @@
 //! The plans of instantaneous steps at tick 0.
 
-ghost use Rattle.std.specs.Prelude.{◌≡◌, ◌≤◌, ◌<◌, ◌∷◌, ◌++◌, ℕ, [], true, false, if◌then◌else◌, length, slice_index_or, IfOk, MatchOption, OnOk};
+ghost use Rattle.std.specs.Prelude.{◌≡◌, ◌≤◌, ◌<◌, ◌∷◌, ℕ, [], true, false, List, length, slice_index_or, IfOk, MatchOption, OnOk};
 ghost use Rattle.std.specs.List.{AllByRecursion};
 ghost use Rattle.tp_task.specs.Fits.{event_fits};
 ghost use Rattle.tp_happen.specs.Stored.{state_of, first_of};
 ghost use Rattle.tp_validate.specs.OfTask.{IsValidPlan};
 ghost use Rattle.tp_reach.specs.TaskReach.{GoalIs};
 ghost use Rattle.tp_search.specs.AtOnce.{CanHappen};
-ghost use Rattle.tp_search.specs.Possible.{CanBegin, Interferes, IsApart, AreCandidates, alone};
+ghost use Rattle.tp_task.specs.Bounds.{In};
+ghost use Rattle.tp_search.specs.Possible.{CanBegin, IsApart, AreCandidates, alone};
+ghost use Rattle.tp_search.specs.Rows.{AreRows};
 ghost use Rattle.tp_search.specs.Children.{IsNode, HasChildren};
 ghost use Rattle.tp_search.specs.Running.{step_at, steps_at};
 ghost use Rattle.tp_search.specs.Answers.{IsAnswer};
 
 use crate::arena::Arena;
 use crate::found::Found;
+use crate::rows::{Rows, push_if};
 use std::alloc::{AllocError, Global};
 use tp_forms::SearchFault;
-use tp_happen::{
-    ApplyFault, Event, EventRef, Outcome, Part, Plan, State, Step, apply, event, interferes,
-};
+use tp_happen::{ApplyFault, Event, EventRef, Outcome, Part, Plan, State, Step, apply, event};
 use tp_task::{ActionId, MOST_STEPS, Task};
 use tp_validate::{ValidPlan, ValidateFault, Verdict, validate};
 
@@ -106,16 +107,6 @@ fn can_begin(alloc: Global, task: &Task, state: &State, action: u32) -> Result<b
     }
 }
 
-fn push_if(found: &mut Vec<u32>, action: u32, wanted: bool) -> Result<(), AllocError>
-    ensures { OnOk result
-        (found.new.items ≡ (if wanted then found.old.items ++ action ∷ [] else found.old.items)) }
-{
-    if wanted {
-        found.push(action)?;
-    }
-    Ok(())
-}
-
 fn push_candidates(
     alloc: Global,
     task: &Task,
@@ -144,24 +135,13 @@ fn candidates(alloc: Global, task: &Task) -> Result<Vec<u32>, SearchFault>
     Ok(found)
 }
 
-// Whether two actions are one event each, and these interfere.
-fn interfere(task: &Task, one: u32, other: u32) -> bool
-    ensures { result ≡ true → Interferes task.now one other }
-{
-    let first = event(task, ActionId(one), Part::Only);
-    let second = event(task, ActionId(other), Part::Only);
-    match (first, second) {
-        (Some(a), Some(b)) => interferes(&a, &b),
-        _ => false,
-    }
-}
-
 // Whether an action interferes with none of those that are chosen.
-fn is_apart(task: &Task, chosen: &[u32], action: u32) -> bool
-    ensures { result ≡ false → ¬ IsApart task.now chosen.now action }
+fn is_apart(rows: &Rows, task: &Task, chosen: &[u32], action: u32) -> bool
+    ensures { (among : List ℕ) → AreRows task.now among rows.now.rows.items → In action among
+        → result ≡ false → ¬ IsApart task.now chosen.now action }
 {
     for other in chosen {
-        if interfere(task, *other, action) {
+        if rows.meet(task, *other, action) {
             return false;
         }
     }
@@ -171,6 +151,7 @@ fn is_apart(task: &Task, chosen: &[u32], action: u32) -> bool
 // The child of a node that chooses an action next, if it is not before the first and interferes with none chosen.
 fn add_child(
     arena: &mut Arena,
+    rows: &Rows,
     task: &Task,
     node: u32,
     chosen: &[u32],
@@ -182,18 +163,19 @@ fn add_child(
     requires is_node { IsNode (length task.now.actions.items) chosen.now }
     requires room { length chosen.now < 512 }
     requires action { action < length task.now.actions.items }
-    ensures { OnOk result
-        (HasChildren task.now first (action ∷ []) chosen.now arena.old arena.new) }
+    ensures { OnOk result ((among : List ℕ) → AreRows task.now among rows.now.rows.items
+        → In action among → HasChildren task.now first (action ∷ []) chosen.now arena.old arena.new) }
 {
-    if action < first || !is_apart(task, chosen, action) {
+    if action < first || !is_apart(rows, task, chosen, action) {
         return Ok(());
     }
     arena.add(node, action)
 }
 
-// Expands a node: for each candidate from the first on that can join it, the node that chooses it next.
-fn expand(
+// For each candidate from the first on that can join a node, the node that chooses it next.
+fn add_children(
     arena: &mut Arena,
+    rows: &Rows,
     task: &Task,
     candidates: &[u32],
     node: u32,
@@ -204,6 +186,7 @@ fn expand(
     requires chosen { chosen.now ≡ slice_index_or arena.old node [] }
     requires is_node { IsNode (length task.now.actions.items) chosen.now }
     requires actions { AllByRecursion (λ a. a < length task.now.actions.items) candidates.now }
+    requires rows { AreRows task.now candidates.now rows.now.rows.items }
     ensures { OnOk result
         (HasChildren task.now first candidates.now chosen.now arena.old arena.new) }
 {
@@ -211,9 +194,32 @@ fn expand(
         return Ok(());
     }
     for action in candidates {
-        add_child(arena, task, node, chosen, first, *action)?;
+        add_child(arena, rows, task, node, chosen, first, *action)?;
     }
     Ok(())
+}
+
+// Expands a node; which candidates interfere with the last one chosen is asked before, if it was not.
+fn expand(
+    arena: &mut Arena,
+    rows: &mut Rows,
+    task: &Task,
+    candidates: &[u32],
+    node: u32,
+    chosen: &[u32],
+    first: u32,
+) -> Result<(), AllocError>
+    requires known { node < length arena.old }
+    requires chosen { chosen.now ≡ slice_index_or arena.old node [] }
+    requires is_node { IsNode (length task.now.actions.items) chosen.now }
+    requires actions { AllByRecursion (λ a. a < length task.now.actions.items) candidates.now }
+    requires rows { AreRows task.now candidates.now rows.old.rows.items }
+    ensures children { OnOk result
+        (HasChildren task.now first candidates.now chosen.now arena.old arena.new) }
+    ensures rows { OnOk result (AreRows task.now candidates.now rows.new.rows.items) }
+{
+    rows.ask_last(task, candidates, chosen)?;
+    add_children(arena, rows, task, candidates, node, chosen, first)
 }
 
 // Takes nodes in the order in which they were made, until one is a plan or the budget is spent.
@@ -221,11 +227,13 @@ fn run<'t>(
     alloc: Global,
     task: &'t Task,
     candidates: &[u32],
+    rows: &mut Rows,
     budget: u32,
     horizon: u32,
 ) -> Result<Found<'t>, SearchFault>
     requires in_reach { GoalIs task.now true }
     requires all { AreCandidates task.now (length task.now.actions.items) candidates.now }
+    requires rows { AreRows task.now candidates.now rows.old.rows.items }
     ensures { IfOk result (IsAnswer task.now budget horizon) }
 {
     let mut arena = Arena::new(alloc);
@@ -238,7 +246,7 @@ fn run<'t>(
             return Ok(Found::Spent(expanded));
         }
         let first = first_after(&chosen);
-        expand(&mut arena, task, candidates, expanded, &chosen, first)?;
+        expand(&mut arena, rows, task, candidates, expanded, &chosen, first)?;
         expanded += 1;
     }
     Ok(Found::Exhausted)
@@ -255,5 +263,6 @@ pub fn plan_at_once<'t>(
     ensures { IfOk result (IsAnswer task.now budget horizon) }
 {
     let candidates = candidates(alloc, task)?;
-    run(alloc, task, &candidates, budget, horizon)
+    let mut rows = Rows::new(alloc, task.actions.len())?;
+    run(alloc, task, &candidates, &mut rows, budget, horizon)
 }

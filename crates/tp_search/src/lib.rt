@@ -3,7 +3,7 @@
 //! - `found`: what a search answers
 //! - `seeking`: nodes taken from a frontier and expanded, `search`
 //! - `certify`: what is found is judged by the validator
-//! - `at_once`, `arena`: plans of instantaneous steps at tick 0, looked at where no node is left
+//! - `at_once`, `arena`, `rows`: plans of instantaneous steps at tick 0, looked at where no node is left
 //! - `laws`: what is known of plans, whatever the search does
 #![tactic(auto)]
 
@@ -12,6 +12,7 @@ mod at_once;
 mod certify;
 mod found;
 mod laws;
+mod rows;
 mod seeking;
 
 pub use arena::{Arena, Node};

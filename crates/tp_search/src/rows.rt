@@ -1,0 +1,156 @@
+//! Which actions interfere with a candidate after them: asked once for each pair.
+
+ghost use Rattle.std.specs.Prelude.{◌≡◌, ◌<◌, ℕ, [], List, true, false, if◌then◌else◌, ◌∷◌, ◌++◌, IfOk, OnOk};
+ghost use Rattle.std.specs.List.{Contains};
+ghost use Rattle.std.specs.List.Sorted.{IsNonDecreasing};
+ghost use Rattle.tp_task.specs.declared.task.Task.{Task};
+ghost use Rattle.tp_task.specs.Bounds.{In};
+ghost use Rattle.tp_search.specs.Possible.{Interferes};
+ghost use Rattle.tp_search.specs.Rows.{OthersInterfere, IsRow, AreUnknown, AreRows};
+
+use std::alloc::{AllocError, Global};
+use tp_happen::{Part, event, interferes};
+use tp_task::{ActionId, Task};
+
+/// Of an action, once it was asked: the candidates after it that do not interfere with it, sorted.
+#[derive(Drop)]
+pub struct Row {
+    known: bool,
+    apart: Vec<u32>,
+}
+
+/// A row for each action, by number.
+#[derive(Drop)]
+pub struct Rows {
+    alloc: Global,
+    rows: Vec<Row>,
+}
+
+// Whether two actions are one event each, and these interfere.
+fn interfere(task: &Task, one: u32, other: u32) -> bool
+    ensures { result ≡ true → Interferes task.now one other }
+{
+    let first = event(task, ActionId(one), Part::Only);
+    let second = event(task, ActionId(other), Part::Only);
+    match (first, second) {
+        (Some(a), Some(b)) => interferes(&a, &b),
+        _ => false,
+    }
+}
+
+/// A number more, if it is wanted.
+pub fn push_if(found: &mut Vec<u32>, number: u32, wanted: bool) -> Result<(), AllocError>
+    ensures { OnOk result
+        (found.new.items ≡ (if wanted then found.old.items ++ number ∷ [] else found.old.items)) }
+{
+    if wanted {
+        found.push(number)?;
+    }
+    Ok(())
+}
+
+// Whether a candidate comes after an action and does not interfere with it.
+fn is_free(task: &Task, action: u32, candidate: u32) -> bool
+    ensures { result ≡ false → action < candidate → Interferes task.now action candidate }
+{
+    action < candidate && !interfere(task, action, candidate)
+}
+
+// Lists the candidates after an action that do not interfere with it.
+fn push_free(
+    task: &Task,
+    candidates: &[u32],
+    action: u32,
+    into: &mut Vec<u32>,
+) -> Result<(), AllocError>
+    requires { into.old.items ≡ [] }
+    ensures { OnOk result (OthersInterfere task.now candidates.now action into.new.items) }
+{
+    for candidate in candidates {
+        let wanted = is_free(task, action, *candidate);
+        push_if(into, *candidate, wanted)?;
+    }
+    Ok(())
+}
+
+// The row of an action.
+fn row_of(alloc: Global, task: &Task, candidates: &[u32], action: u32) -> Result<Row, AllocError>
+    ensures { IfOk result (λ r. IsRow task.now candidates.now action r.apart.items) }
+{
+    let mut apart = Vec::new(alloc);
+    push_free(task, candidates, action, &mut apart)?;
+    apart.sort_unstable();
+    Ok(Row { known: true, apart })
+}
+
+// Rows of which none was asked.
+fn unknown_rows(alloc: Global, count: usize) -> Result<Vec<Row>, AllocError>
+    ensures { IfOk result (λ v. AreUnknown v.items) }
+{
+    let mut rows = Vec::new(alloc);
+    for _ in 0..count {
+        rows.push(Row {
+            known: false,
+            apart: Vec::new(alloc),
+        })?;
+    }
+    Ok(rows)
+}
+
+// Whether sorted numbers have a number.
+#[tactic(auto, using(crate::proofs::Listed::not_listed))]
+fn has(numbers: &[u32], number: u32) -> bool
+    ensures { IsNonDecreasing numbers.now → result ≡ false → ¬ Contains numbers.now number }
+{
+    numbers.binary_search(&number).is_ok()
+}
+
+impl Rows {
+    /// Rows for so many actions, of which none was asked.
+    #[tactic(auto, using(crate::proofs::Listed::rows_unknown))]
+    pub fn new(alloc: Global, count: usize) -> Result<Self, AllocError>
+        ensures { IfOk result (λ r. (t : Task) (among : List ℕ) → AreRows t among r.rows.items) }
+    {
+        let rows = unknown_rows(alloc, count)?;
+        Ok(Rows { alloc, rows })
+    }
+
+    // Asks which candidates after an action interfere with it, if it was not asked.
+    fn ask(&mut self, task: &Task, candidates: &[u32], action: u32) -> Result<(), AllocError>
+        requires { AreRows task.now candidates.now self.old.rows.items }
+        ensures { OnOk result (AreRows task.now candidates.now self.new.rows.items) }
+    {
+        let at = action as usize;
+        if at < self.rows.len() && !self.rows[at].known {
+            self.rows[at] = row_of(self.alloc, task, candidates, action)?;
+        }
+        Ok(())
+    }
+
+    /// Asks for the row of the last one chosen, if it was not asked.
+    pub fn ask_last(
+        &mut self,
+        task: &Task,
+        candidates: &[u32],
+        chosen: &[u32],
+    ) -> Result<(), AllocError>
+        requires { AreRows task.now candidates.now self.old.rows.items }
+        ensures { OnOk result (AreRows task.now candidates.now self.new.rows.items) }
+    {
+        match chosen.last() {
+            Some(last) => self.ask(task, candidates, *last),
+            None => Ok(()),
+        }
+    }
+
+    /// Whether an action and a candidate are one event each, and these interfere: looked up where it was asked.
+    pub fn meet(&self, task: &Task, action: u32, candidate: u32) -> bool
+        ensures { (among : List ℕ) → AreRows task.now among self.now.rows.items → In candidate among
+            → result ≡ true → Interferes task.now action candidate }
+    {
+        match self.rows.get(action as usize) {
+            Some(row) if row.known && action < candidate => !has(&row.apart, candidate),
+            _ => interfere(task, action, candidate),
+        }
+    }
+}
