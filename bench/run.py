@@ -270,8 +270,8 @@ def orders(program):
     judged(program, "the network of 512 steps in a row that interfere", once, problem, "".join(f"{k}: (set)\n" for k in range(512)), "net")
     twice = "(define (domain line) (:functions (x)) (:durative-action set :parameters () :duration (= ?duration 1) :effect (and (at start (assign (x) 1)) (at end (assign (x) 2)))))"
     judged(program, "that of 1,024 such events, numbered backwards", twice, problem, "".join(f"{2 * k}: (set) [1]\n" for k in reversed(range(512))), "net")
-    domain, problem = crowd("(a ?x)", "(b ?x)", 3_000, "(a ?x)")
-    judged(program, "that of 512 steps that mention 6,000 atoms each", domain, problem, "".join(f"{k}: (act)\n" for k in range(512)), "net")
+    domain, problem = crowd("(a ?x)", "(b ?x)", 30_000, "(a ?x)")
+    judged(program, "that of 512 steps, 30,000 atoms asked, 30,000 added", domain, problem, "".join(f"{k}: (act)\n" for k in range(512)), "net")
     domain, problem = watch(3_000)
     judged(program, "that of 300 steps that write into an invariant of 6,000 atoms", domain, problem, "0: (watch) [600]\n" + "".join(f"{k}: (touch)\n" for k in range(1, 301)), "net")
 
