@@ -60,7 +60,7 @@ fn plan_of(
     commands: &[Command],
 ) -> Result<Option<Plan>, AllocError>
     requires { CameFrom plan.now.task plan.now.steps executive.old }
-    ensures { OnOk result (TellsPlan plan.now.task plan.now.steps executive.new) }
+    ensures { IfOk result (TellsPlan plan.now.task plan.now.steps executive.new) }
 {
     carry_out(alloc, plan, executive, commands)?;
     again!(run_plan(executive, plan))
