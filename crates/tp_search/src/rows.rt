@@ -56,29 +56,28 @@ fn is_free(task: &Task, action: u32, candidate: u32) -> bool
     action < candidate && !interfere(task, action, candidate)
 }
 
-// Lists the candidates after an action that do not interfere with it.
-fn push_free(
+// The candidates after an action that do not interfere with it.
+fn free_after(
+    alloc: Global,
     task: &Task,
     candidates: &[u32],
     action: u32,
-    into: &mut Vec<u32>,
-) -> Result<(), AllocError>
-    requires { into.old.items ≡ [] }
-    ensures { OnOk result (OthersInterfere task.now candidates.now action into.new.items) }
+) -> Result<Vec<u32>, AllocError>
+    ensures { IfOk result (λ v. OthersInterfere task.now candidates.now action v.items) }
 {
+    let mut free = Vec::new(alloc);
     for candidate in candidates {
         let wanted = is_free(task, action, *candidate);
-        push_if(into, *candidate, wanted)?;
+        push_if(&mut free, *candidate, wanted)?;
     }
-    Ok(())
+    Ok(free)
 }
 
 // The row of an action.
 fn row_of(alloc: Global, task: &Task, candidates: &[u32], action: u32) -> Result<Row, AllocError>
     ensures { IfOk result (λ r. IsRow task.now candidates.now action r.apart.items) }
 {
-    let mut apart = Vec::new(alloc);
-    push_free(task, candidates, action, &mut apart)?;
+    let mut apart = free_after(alloc, task, candidates, action)?;
     apart.sort_unstable();
     Ok(Row { known: true, apart })
 }

@@ -2,7 +2,7 @@ use Rattle.std.proofs.Common.{◌++◌, ◌∷◌, [], take, get_or, sym, subst,
 use Rattle.std.proofs.lemmas.List.{take_more, take_all}
 use Rattle.tp_search.specs.Rows.{OthersInterfere}
 use Rattle.tp_search.proofs.Listed.{more_others}
-use Rattle.tp_search.proofs.rows.push_free.Goals as goal
+use Rattle.tp_search.proofs.rows.free_after.Goals as goal
 
 pub loop-candidate-preserved : goal.loop-candidate-preserved
 loop-candidate-preserved c =
@@ -13,10 +13,10 @@ loop-candidate-preserved c =
     let now = c.push_if.new.found.items in
     subst (λ xs. OthersInterfere t xs a now) (sym (take_more among i 0 (omega arith)))
     (subst (OthersInterfere t (take i among ++ get_or among i 0 ∷ []) a) (sym c.in_ok-push_if.ensures)
-    (more_others t (take i among) a (get_or among i 0) c.loop-candidate.into.items c.is_free-wanted.result c.is_free-wanted.ensures c.loop-candidate.invariant))
+    (more_others t (take i among) a (get_or among i 0) c.loop-candidate.free.items c.is_free-wanted.result c.is_free-wanted.ensures c.loop-candidate.invariant))
 
 pub returns : goal.returns
 returns c =
     let among = c.args.candidates.now in
     let i = c.loop-candidate.candidate-index in
-    subst (λ xs. OthersInterfere c.args.task.now xs c.args.action c.loop-candidate.into.items) (take_all i among (omega (arith, c.loop-candidate-test.false))) c.loop-candidate.invariant
+    subst (λ xs. OthersInterfere c.args.task.now xs c.args.action c.loop-candidate.free.items) (take_all i among (omega (arith, c.loop-candidate-test.false))) c.loop-candidate.invariant
