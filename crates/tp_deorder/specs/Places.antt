@@ -33,11 +33,13 @@ IsIndexOf numbers es index =
 -- the event at place i meets the one at place n in that way, and disturbs it
 abbrev pub meets_at : Meeting → List Placed → ℕ → ℕ → Bool
 meets_at way es i n =
-    passes_at (λ (a : Placed). passes_at (λ (b : Placed). meets (done way a.timed.event) (met way b.timed.event)) es n) es i
+    passes_at (λ (a : Placed). passes_at (λ (b : Placed). meets
+    (done way a.timed.event) (met way b.timed.event)) es n) es i
 
 abbrev pub disturbs_at : List Placed → ℕ → ℕ → Bool
 disturbs_at es i n =
-    passes_at (λ (a : Placed). passes_at (λ (b : Placed). disturbs a.timed.event b.timed.event) es n) es i
+    passes_at (λ (a : Placed). passes_at (λ (b : Placed).
+    disturbs a.timed.event b.timed.event) es n) es i
 
 -- The set at the place of each event has the places of those that it disturbs.
 abbrev pub IsDisturbing : List Placed → List NumberSet → Type 0

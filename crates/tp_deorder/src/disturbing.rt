@@ -21,7 +21,8 @@ fn enter_met(
     place: usize,
 ) -> Result<(), AllocError>
     ensures { OnOk result ((x n : ℕ) → is_met index.new x n
-        ≡ (is_met index.old x n || (has (meetings.met way event.now.timed.event) x && n == place))) }
+        ≡ (is_met index.old x n
+        || (has (meetings.met way event.now.timed.event) x && n == place))) }
 {
     let met = event.event().met(alloc, way)?;
     index.enter(&met, place)
@@ -63,7 +64,8 @@ fn add_each(
 ) -> Result<(), AllocError>
     requires { length sets.old ≡ length events.now }
     ensures { OnOk result ((i n : ℕ) → has_at sets.new i n ≡ (has_at sets.old i n
-        || passes_at (λ e. mentions_any index.now (meetings.done way e.timed.event) n) events.now i)) }
+        || passes_at (λ e. mentions_any index.now (meetings.done way e.timed.event) n)
+        events.now i)) }
 {
     for (i, event) in events.iter().enumerate() {
         add_met(alloc, index, way, event, &mut sets[i])?;

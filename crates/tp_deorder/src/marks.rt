@@ -18,7 +18,8 @@ fn comes_before(
     j: usize,
     b: &PlacedEvent<'_>,
 ) -> bool
-    ensures { result ≡ (nat_lt a.now.moment b.now.moment && (has_at sets.now i j || has_at sets.now j i)) }
+    ensures { result ≡ (nat_lt a.now.moment b.now.moment
+        && (has_at sets.now i j || has_at sets.now j i)) }
 {
     a.moment() < b.moment() && (disturbs(sets, i, j) || disturbs(sets, j, i))
 }

@@ -32,7 +32,8 @@ fn enter_done(
     place: usize,
 ) -> Result<(), AllocError>
     ensures { OnOk result ((x n : ℕ) → is_met index.new x n
-        ≡ (is_met index.old x n || (has (meetings.done way event.now.timed.event) x && n == place))) }
+        ≡ (is_met index.old x n
+        || (has (meetings.done way event.now.timed.event) x && n == place))) }
 {
     let done = event.event().done(alloc, way)?;
     index.enter(&done, place)

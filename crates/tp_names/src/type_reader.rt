@@ -287,7 +287,8 @@ fn types_from(
 /// The types of the section at `at`, all but `object`. What types that were given one parent together share is looked at once.
 #[tactic(auto, unfolding(tp_ast::specs::Domains::types_in))]
 pub fn types_in(alloc: Global, trees: &[Tree], at: u32) -> Result<PlacedTypes, SyntaxFault>
-    ensures types { Gives (λ p. map parent_view p.types.items) result (types_in (shapes trees.now)) }
+    ensures types { Gives (λ p. map parent_view p.types.items) result
+        (types_in (shapes trees.now)) }
     ensures parents { IfOk result (λ p. ArePlaced p.types.items p.parents.items) }
 {
     let none = Types::listed(&[]);

@@ -164,7 +164,8 @@ fn add_child(
     requires room { length chosen.now < 512 }
     requires action { action < length task.now.actions.items }
     ensures { OnOk result ((among : List ℕ) → AreRows task.now among rows.now.rows.items
-        → In action among → HasChildren task.now first (action ∷ []) chosen.now arena.old arena.new) }
+        → In action among
+        → HasChildren task.now first (action ∷ []) chosen.now arena.old arena.new) }
 {
     if action < first || !is_apart(rows, task, chosen, action) {
         return Ok(());

@@ -55,9 +55,11 @@ fn enter(
     place: usize,
 ) -> Result<(), AllocError>
     ensures atoms { OnOk result ((x k : ℕ) → is_met mentions.new.atoms x k
-        ≡ (is_met mentions.old.atoms x k || (has (invariant_atoms step.now.body) x && k == place))) }
+        ≡ (is_met mentions.old.atoms x k
+        || (has (invariant_atoms step.now.body) x && k == place))) }
     ensures fluents { OnOk result ((x k : ℕ) → is_met mentions.new.fluents x k
-        ≡ (is_met mentions.old.fluents x k || (has (invariant_fluents step.now.body) x && k == place))) }
+        ≡ (is_met mentions.old.fluents x k
+        || (has (invariant_fluents step.now.body) x && k == place))) }
 {
     match step.body {
         Body::Instant(_) => Ok(()),
