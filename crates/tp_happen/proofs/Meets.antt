@@ -34,9 +34,6 @@ written_is e f = has_map (λ w. w.fluent) e.writes.items f
 pub touches_is : (a b : GroundEvent) → meets (a.adds.items ++ a.deletes.items) (atoms_in b.condition) ≡ (list_any (λ x. has (atoms_in b.condition) x) a.adds.items || list_any (λ x. has (atoms_in b.condition) x) a.deletes.items)
 touches_is a b = list_any-append _ a.adds.items a.deletes.items
 
-pub changes_is : (e : GroundEvent) (c : Cond) → meets (e.adds.items ++ e.deletes.items) (atoms_in c) ≡ (list_any (λ x. has (atoms_in c) x) e.adds.items || list_any (λ x. has (atoms_in c) x) e.deletes.items)
-changes_is e c = list_any-append _ e.adds.items e.deletes.items
-
 pub has_append : (xs ys : List ℕ) (n : ℕ) → has (xs ++ ys) n ≡ (has xs n || has ys n)
 has_append xs ys n = list_any-append _ xs ys
 

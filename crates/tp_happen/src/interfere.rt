@@ -230,33 +230,6 @@ pub fn interferes(first: &Event<'_>, second: &Event<'_>) -> bool
     interfere(first.body, second.body)
 }
 
-/// Whether an event adds or deletes an atom that a condition mentions.
-#[tactic(auto, using(crate::proofs::Meets::changes_is))]
-fn changes_atoms(event: &GroundEvent, cond: &Cond) -> bool
-    ensures { result ≡ meets (event.now.adds.items ++ event.now.deletes.items) (atoms_in cond.now) }
-{
-    some_is_mentioned(&event.adds, cond) || some_is_mentioned(&event.deletes, cond)
-}
-
-fn some_is_compared(effects: &[NumericEffect], cond: &Cond) -> bool
-    ensures { result ≡ list_any (λ w. has (fluents_in cond.now) w.fluent) effects.now }
-{
-    effects.iter().any(|w| mentions_fluent(cond, w.fluent))
-}
-
-fn changes_fluents(event: &GroundEvent, cond: &Cond) -> bool
-    ensures { result ≡ meets (fluents_written event.now) (fluents_in cond.now) }
-{
-    some_is_compared(&event.writes, cond)
-}
-
-/// Whether an event writes an atom or a fluent that a condition mentions.
-pub fn writes_into(event: &Event<'_>, cond: &Cond) -> bool
-    ensures { result ≡ bounds.writes_into event.now cond.now }
-{
-    changes_atoms(event.body, cond) || changes_fluents(event.body, cond)
-}
-
 /// Whether an effect of an event mentions the duration.
 pub fn uses_duration(event: &Event<'_>) -> bool
     ensures { result ≡ bounds.uses_duration event.now }

@@ -37,7 +37,7 @@ pub use events::{Event, EventRef, Part};
 pub use faults::{Outcome, Why, constraint_defined};
 pub use forms::forms_are_written;
 pub use happening::{ApplyFault, apply};
-pub use interfere::{interferes, uses_duration, writes_into};
+pub use interfere::{interferes, uses_duration};
 pub use lending::event;
 pub use meetings::Meeting;
 pub use mentions::{atoms_of, fluents_of};

@@ -8,8 +8,8 @@ use crate::worlds::{CHARGES, FUSES, SWITCHES, TANKS, World, task_of};
 use std::alloc::Global;
 use std::process::Abort;
 use std::test::Fail;
-use tp_happen::{Part, State, Why, event, interferes, uses_duration, writes_into};
-use tp_task::{ActionId, AtomId, Body, FluentId, Task};
+use tp_happen::{Part, State, Why, event, interferes, uses_duration};
+use tp_task::{ActionId, AtomId, FluentId, Task};
 use tp_text::Scale;
 
 /// Whether a state of the match domain is that of its problem at first, in thousandths.
@@ -156,29 +156,6 @@ fn interfere_so(rt: &impl Abort, task: &Task) -> Result<(), Fail> {
 fn interference_goes_both_ways(rt: HostRuntime) -> Result<(), Fail> {
     let task = task_of(rt.alloc(), SWITCHES)?;
     interfere_so(&rt, &task)
-}
-
-/// What the only event of an action without objects writes is in the invariant of `watch`.
-fn writes_watched(task: &Task, name: &str) -> Result<bool, Fail> {
-    let writer = event_of(task, Only(name))?;
-    match task.actions.get(3).ok_or("no such action")? {
-        Body::Durative(_, _, invariant) => Ok(writes_into(&writer.event(), invariant)),
-        Body::Instant(_) => Ok(false),
-    }
-}
-
-fn write_watched_so(rt: &impl Abort, task: &Task) -> Result<(), Fail> {
-    for (name, wanted) in [("need", false), ("drop", true), ("give", true)] {
-        let found = writes_watched(task, name)?;
-        assert!(rt; found == wanted, "{name}");
-    }
-    Ok(())
-}
-
-#[test]
-fn what_is_watched_is_written_by_drop_and_give(rt: HostRuntime) -> Result<(), Fail> {
-    let task = task_of(rt.alloc(), SWITCHES)?;
-    write_watched_so(&rt, &task)
 }
 
 const END: Named<'static> = End("charge", &[], 4);
