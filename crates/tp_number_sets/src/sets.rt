@@ -1,6 +1,7 @@
 //! Sets of numbers, a bit for each number up to the greatest.
 
-ghost use Rattle.std.specs.Prelude.{◌≡◌, ℕ, ◌<◌, ◌≤◌, ◌==◌, ◌||◌, false, length, OnOk, OnErr};
+ghost use Rattle.std.specs.Prelude.{◌≡◌, ℕ, ◌<◌, ◌≤◌, ◌==◌, ◌||◌, false, length, OnOk, OnErr, IfOk};
+ghost use Rattle.std.specs.List.{list_any};
 ghost use Rattle.tp_number_sets.specs.Sets.{has_bit, has_number, is_in_word};
 
 use std::alloc::{AllocError, Global};
@@ -52,6 +53,18 @@ impl NumberSet {
         }
     }
 
+    /// The set of these numbers. It costs what putting in each of them does.
+    pub fn of(alloc: Global, numbers: &[u32]) -> Result<NumberSet, AllocError>
+        ensures { IfOk result
+            (λ s. (n : ℕ) → has_number s n ≡ list_any (λ x. x == n) numbers.now) }
+    {
+        let mut set = NumberSet::new(alloc);
+        for number in numbers {
+            set.insert(*number as usize)?;
+        }
+        Ok(set)
+    }
+
     /// Whether a number is in the set. It costs one step.
     pub fn contains(&self, number: usize) -> bool
         ensures { result ≡ has_number self.now number }
@@ -60,6 +73,13 @@ impl NumberSet {
             Some(word) => (*word >> (number % 64)) & 1 == 1,
             None => false,
         }
+    }
+
+    /// Whether one of these numbers is in the set. It costs a step for each of them.
+    pub fn has_any(&self, numbers: &[u32]) -> bool
+        ensures { result ≡ list_any (has_number self.now) numbers.now }
+    {
+        numbers.iter().any(|number| self.contains(*number as usize))
     }
 
     /// Puts a number in. It costs one step, and one more for each word that the set lacks up to that number.

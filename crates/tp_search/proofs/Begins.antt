@@ -1,7 +1,6 @@
 -- Which actions can begin, and which interfere.
-use Rattle.std.proofs.Common.{◌≡◌, ℕ, ◌+◌, ◌<◌, Bool, true, false, not, cond, List, [], ◌∷◌, ◌++◌, length, ◌⊎◌, inl, inr, ⊎_elim, Option, Some, None, slice_get, refl, sym, ap, subst, ◌∙◌, arith}
-use Rattle.std.specs.List.{AllByRecursion}
-use Rattle.std.specs.Option.{option_map, option_and_then}
+use Rattle.std.proofs.Common.{◌≡◌, ℕ, ◌+◌, ◌<◌, Bool, true, false, not, cond, List, [], ◌∷◌, ◌++◌, length, inl, ⊎_elim, Option, Some, None, slice_get, refl, sym, subst, ◌∙◌, arith}
+use Rattle.std.specs.Option.{option_and_then}
 use Rattle.std.proofs.lemmas.Bool.{cases_lt}
 use Rattle.tp_task.specs.declared.events.GroundEvent.{GroundEvent}
 use Rattle.tp_task.specs.declared.events.Body.{Body}
@@ -9,8 +8,7 @@ use Rattle.tp_task.specs.declared.events.Body.TheVariants.{Instant, Durative}
 use Rattle.tp_task.specs.declared.task.Task.{Task}
 use Rattle.tp_task.specs.State.{State, holds}
 use Rattle.tp_task.specs.Event.{interferes, mixes}
-use Rattle.tp_task.specs.Happens.{EventOfStep, is_defined}
-use Rattle.tp_task.specs.Bounds.{In}
+use Rattle.tp_task.specs.Happens.{is_defined}
 use Rattle.tp_happen.specs.declared.faults.Why.{Why}
 use Rattle.tp_happen.specs.declared.faults.Why.TheVariants.{Condition, Undefined, Clash}
 use Rattle.tp_happen.specs.declared.events.Part.TheVariants.{Only}
@@ -18,7 +16,7 @@ use Rattle.tp_happen.specs.Parts.{part_of}
 use Rattle.tp_happen.specs.Fault.{fault_of, or_fault, named}
 use Rattle.tp_validate.specs.OfTask.{scale_of, begin}
 use Rattle.tp_search.specs.AtOnce.{CanHappen}
-use Rattle.tp_search.specs.Possible.{alone, CanBegin, Interferes, IsApart, AreCandidates}
+use Rattle.tp_search.specs.Possible.{alone, CanBegin, Interferes, AreCandidates}
 use Rattle.tp_search.proofs.Loop.{all_append, in_append_left, in_append_right, same_event, only_is}
 
 clear : (d h m : Bool) → d ≡ true → h ≡ true → m ≡ false → or_fault (named Undefined (cond (not d) (Some 0) None)) (or_fault (named Condition (cond (not h) (Some 0) None)) (or_fault (named Clash (cond m (Some 0) None)) None)) ≡ None

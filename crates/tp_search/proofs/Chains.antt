@@ -1,5 +1,5 @@
 -- The choices of nodes when one is added.
-use Rattle.std.proofs.Common.{◌≡◌, ℕ, suc, zero, ◌+◌, ◌<◌, ◌≤◌, List, [], ◌∷◌, ◌++◌, length, refl, sym, ap, subst, ◌∙◌, arith, get_or, length-append, ◌-◌, reverse, append_assoc}
+use Rattle.std.proofs.Common.{◌≡◌, ℕ, suc, zero, ◌+◌, ◌<◌, ◌≤◌, List, [], ◌∷◌, ◌++◌, length, refl, sym, ap, ◌∙◌, arith, get_or, length-append, ◌-◌, reverse, append_assoc}
 use Rattle.std.proofs.lemmas.Grind.{common_steps}
 use Rattle.tp_search.specs.declared.arena.Node.{Node}
 use Rattle.tp_search.specs.Chains.{chains_from, chains, AreOlder}

@@ -9,3 +9,4 @@ pub mod Expanding
 mod Begins
 mod Within
 pub mod Listed
+mod OnSides

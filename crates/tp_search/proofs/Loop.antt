@@ -1,5 +1,5 @@
 -- The steps of the search's loop keep what it stands for.
-use Rattle.std.proofs.Common.{◌≡◌, ℕ, suc, zero, ◌+◌, ◌<◌, ◌≤◌, true, List, [], ◌∷◌, ◌++◌, map, length, take, drop, ◌⊎◌, inl, inr, ⊎_elim, refl, sym, ap, ap₂, subst, ◌∙◌, arith, get_or, drop-cons, drop_of_length-le, add-one, Option, Some, None, false, slice_get, nat_lt, nat_le, lt-ltb, le-leb}
+use Rattle.std.proofs.Common.{◌≡◌, ℕ, suc, zero, ◌<◌, ◌≤◌, true, List, [], ◌∷◌, ◌++◌, length, take, drop, inl, inr, ⊎_elim, refl, sym, ap, ap₂, subst, ◌∙◌, arith, get_or, drop-cons, drop_of_length-le, Option, Some, None, false, slice_get, nat_lt, nat_le, lt-ltb, le-leb}
 use Rattle.std.specs.List.{list_all, AllByRecursion}
 use Rattle.std.proofs.lemmas.Bool.{cases_lt, and_from, or_right}
 use Rattle.std.specs.Option.{option_map, option_and_then}
@@ -13,16 +13,15 @@ use Rattle.tp_task.specs.declared.events.Body.TheVariants.{Instant, Durative}
 use Rattle.tp_task.specs.declared.events.GroundEvent.{GroundEvent}
 use Rattle.tp_task.specs.Event.{interferes}
 use Rattle.tp_task.specs.declared.task.Task.{Task}
-use Rattle.tp_task.proofs.Lists.{all_at, all_from}
-use Rattle.tp_happen.specs.declared.plans.Step.{Step}
+use Rattle.tp_task.proofs.Lists.{all_at}
 use Rattle.tp_happen.specs.Steps.{IsPlan, ends_in_time}
 use Rattle.tp_validate.specs.OfTask.{IsValidPlan, IsOfTask, is_step_of, scale_of, begin}
 use Rattle.tp_validate.specs.Validated.{Validated}
 use Rattle.tp_reach.specs.TaskReach.{GoalIs}
-use Rattle.tp_search.specs.AtOnce.{Choice, IsChoice, IsWanted, IsNextChoice, Rise, rising, steps_of, timed_all, made_of, CanHappen}
-use Rattle.tp_search.specs.Plans.{IsPlanAtOnce, EndsBy}
+use Rattle.tp_search.specs.AtOnce.{Choice, IsWanted, rising, steps_of, timed_all, made_of, CanHappen}
+use Rattle.tp_search.specs.Plans.{EndsBy}
 use Rattle.tp_search.specs.Promised.{FindsPlan, IsExhausted, IsSpent}
-use Rattle.tp_search.specs.Possible.{CanBegin, Interferes, IsApart, AreCandidates, alone}
+use Rattle.tp_search.specs.Possible.{CanBegin, IsApart, AreCandidates}
 use Rattle.tp_search.specs.Children.{IsNode, HasChildren}
 use Rattle.tp_search.specs.Running.{IsRunning, numbers, step_at, steps_at}
 use Rattle.tp_search.proofs.Wanted.{at_once_wanted, wanted_is_plan, next_in, Next, take_whole}

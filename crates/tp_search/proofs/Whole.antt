@@ -1,19 +1,18 @@
 -- Choices that can happen at tick 0 and reach the goal are a valid plan.
-use Rattle.std.proofs.Common.{◌≡◌, ℕ, zero, suc, ◌+◌, ◌<◌, Bool, true, false, not, ◌&&◌, ◌||◌, ◌==◌, eqb-true, List, [], ◌∷◌, ◌++◌, map, ◌⊎◌, inl, inr, refl, sym, ap, subst, ◌∙◌, arith, add-one, Option, Some, None, ℤ, pos}
+use Rattle.std.proofs.Common.{◌≡◌, ℕ, zero, suc, ◌+◌, ◌<◌, Bool, true, false, ◌&&◌, ◌==◌, eqb-true, List, [], ◌∷◌, ◌++◌, map, refl, sym, ap, subst, ◌∙◌, arith, add-one, Option, Some, None, ℤ, pos}
 use Rattle.std.specs.List.{AllByRecursion, slice_get}
 use Rattle.std.specs.Option.{option_map, option_to_list}
 use Rattle.std.proofs.lemmas.Bool.{false_from_ne_true, cond-false}
 use Rattle.std.proofs.Math.IntN.{+ℤ_idr}
-use Rattle.tp_task.specs.declared.events.GroundEvent.{GroundEvent}
 use Rattle.tp_task.specs.declared.events.Cond.{Cond}
 use Rattle.tp_task.specs.declared.events.Body.{Body}
-use Rattle.tp_task.specs.declared.events.Body.TheVariants.{Instant, Durative}
+use Rattle.tp_task.specs.declared.events.Body.TheVariants.{Instant}
 use Rattle.tp_task.specs.declared.task.Task.{Task}
 use Rattle.tp_task.specs.State.{State, holds}
-use Rattle.tp_task.specs.Happens.{EventOfStep, Happens, plus}
+use Rattle.tp_task.specs.Happens.{Happens, plus}
 use Rattle.tp_task.specs.Valid.{Planned, Placed, events_from, at, BodyHolds, IsValid}
 use Rattle.tp_task.proofs.Same.{holds_same}
-use Rattle.tp_validate.specs.OfTask.{planned, plan_of, step_of, scale_of, begin, IsValidPlan}
+use Rattle.tp_validate.specs.OfTask.{planned, step_of, scale_of, begin, IsValidPlan}
 use Rattle.tp_search.specs.AtOnce.{Choice, IsChoice, timed_of, timed_all, made_of, CanHappen, step_of_choice, steps_of}
 
 abbrev pub planned_of : Choice → Planned

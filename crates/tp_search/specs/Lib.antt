@@ -7,4 +7,5 @@ pub mod Possible
 pub mod Children
 pub mod Running
 pub mod Rows
+pub mod Sides
 pub use Rattle.tp_forms.specs as tp_forms

@@ -3,7 +3,7 @@
 //! - `found`: what a search answers
 //! - `seeking`: nodes taken from a frontier and expanded, `search`
 //! - `certify`: what is found is judged by the validator
-//! - `at_once`, `arena`, `rows`: plans of instantaneous steps at tick 0, looked at where no node is left
+//! - `at_once`, `arena`, `rows`, `sides`: plans of instantaneous steps at tick 0, looked at where no node is left
 //! - `laws`: what is known of plans, whatever the search does
 #![tactic(auto)]
 
@@ -14,6 +14,7 @@ mod found;
 mod laws;
 mod rows;
 mod seeking;
+mod sides;
 
 pub use arena::{Arena, Node};
 pub use found::Found;

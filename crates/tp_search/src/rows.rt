@@ -6,8 +6,10 @@ ghost use Rattle.std.specs.List.Sorted.{IsNonDecreasing};
 ghost use Rattle.tp_task.specs.declared.task.Task.{Task};
 ghost use Rattle.tp_task.specs.Bounds.{In};
 ghost use Rattle.tp_search.specs.Possible.{Interferes};
+ghost use Rattle.tp_search.specs.Sides.{AreSidesOf};
 ghost use Rattle.tp_search.specs.Rows.{OthersInterfere, IsRow, AreUnknown, AreRows};
 
+use crate::sides::{Side, sides_meet, sides_of};
 use std::alloc::{AllocError, Global};
 use tp_happen::{Part, event, interferes};
 use tp_task::{ActionId, Task};
@@ -50,10 +52,39 @@ pub fn push_if(found: &mut Vec<u32>, number: u32, wanted: bool) -> Result<(), Al
 }
 
 // Whether a candidate comes after an action and does not interfere with it.
-fn is_free(task: &Task, action: u32, candidate: u32) -> bool
-    ensures { result ≡ false → action < candidate → Interferes task.now action candidate }
+fn is_free(
+    alloc: Global,
+    task: &Task,
+    sides: &[Side],
+    action: u32,
+    candidate: u32,
+) -> Result<bool, AllocError>
+    ensures { AreSidesOf task.now action sides.now → IfOk result
+        (λ b. b ≡ false → action < candidate → Interferes task.now action candidate) }
 {
-    action < candidate && !interfere(task, action, candidate)
+    if candidate <= action {
+        return Ok(false);
+    }
+    Ok(!sides_meet(alloc, task, sides, candidate)?)
+}
+
+// The candidates after an action with these sides that do not interfere with it.
+fn free_of(
+    alloc: Global,
+    task: &Task,
+    candidates: &[u32],
+    sides: &[Side],
+    action: u32,
+) -> Result<Vec<u32>, AllocError>
+    ensures { AreSidesOf task.now action sides.now
+        → IfOk result (λ v. OthersInterfere task.now candidates.now action v.items) }
+{
+    let mut free = Vec::new(alloc);
+    for candidate in candidates {
+        let wanted = is_free(alloc, task, sides, action, *candidate)?;
+        push_if(&mut free, *candidate, wanted)?;
+    }
+    Ok(free)
 }
 
 // The candidates after an action that do not interfere with it.
@@ -65,12 +96,8 @@ fn free_after(
 ) -> Result<Vec<u32>, AllocError>
     ensures { IfOk result (λ v. OthersInterfere task.now candidates.now action v.items) }
 {
-    let mut free = Vec::new(alloc);
-    for candidate in candidates {
-        let wanted = is_free(task, action, *candidate);
-        push_if(&mut free, *candidate, wanted)?;
-    }
-    Ok(free)
+    let sides = sides_of(alloc, task, action)?;
+    free_of(alloc, task, candidates, &sides, action)
 }
 
 // The row of an action.

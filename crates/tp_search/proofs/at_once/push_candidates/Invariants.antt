@@ -1,4 +1,3 @@
-use Rattle.std.proofs.Common.{◌≡◌}
 use Rattle.tp_search.specs.Possible.{AreCandidates}
 use Rattle.tp_search.proofs.at_once.push_candidates.Given as goal
 

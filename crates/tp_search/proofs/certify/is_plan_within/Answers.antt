@@ -1,4 +1,4 @@
-use Rattle.std.proofs.Common.{◌≡◌, ◌&&◌, true, length, nat_le, le-leb, sym, ap, ◌∙◌}
+use Rattle.std.proofs.Common.{◌&&◌, length, le-leb, sym, ap, ◌∙◌}
 use Rattle.std.specs.List.{list_all}
 use Rattle.tp_search.specs.Plans.{is_step_within}
 use Rattle.tp_search.proofs.certify.is_plan_within.Goals as goal

@@ -1,22 +1,6 @@
-use Rattle.std.proofs.Common.{◌++◌, ◌∷◌, [], take, get_or, sym, subst, arith}
-use Rattle.std.proofs.lemmas.List.{take_more, take_all}
-use Rattle.tp_search.specs.Rows.{OthersInterfere}
-use Rattle.tp_search.proofs.Listed.{more_others}
+use Rattle.std.proofs.Common.{sym, subst}
+use Rattle.tp_search.specs.Sides.{AreSidesOf}
 use Rattle.tp_search.proofs.rows.free_after.Goals as goal
 
-pub loop-candidate-preserved : goal.loop-candidate-preserved
-loop-candidate-preserved c =
-    let t = c.args.task.now in
-    let among = c.args.candidates.now in
-    let i = c.loop-candidate.candidate-index in
-    let a = c.args.action in
-    let now = c.push_if.new.found.items in
-    subst (λ xs. OthersInterfere t xs a now) (sym (take_more among i 0 (omega arith)))
-    (subst (OthersInterfere t (take i among ++ get_or among i 0 ∷ []) a) (sym c.in_ok-push_if.ensures)
-    (more_others t (take i among) a (get_or among i 0) c.loop-candidate.free.items c.is_free-wanted.result c.is_free-wanted.ensures c.loop-candidate.invariant))
-
 pub returns : goal.returns
-returns c =
-    let among = c.args.candidates.now in
-    let i = c.loop-candidate.candidate-index in
-    subst (λ xs. OthersInterfere c.args.task.now xs c.args.action c.loop-candidate.free.items) (take_all i among (omega (arith, c.loop-candidate-test.false))) c.loop-candidate.invariant
+returns c = c.free_of.ensures (subst (AreSidesOf c.args.task.now c.args.action) (sym c.deref.ensures.value) c.in_ok-sides.ensures)

@@ -1,4 +1,4 @@
-use Rattle.std.proofs.Common.{◌≡◌, ◌<◌, ◌≤◌, ℕ, [], length, get_or, refl, sym, ap, subst, ◌∙◌, arith}
+use Rattle.std.proofs.Common.{[], length, get_or, ap, ◌∙◌, arith}
 use Rattle.tp_search.specs.Chains.{chains}
 use Rattle.tp_search.proofs.Chains.{chain_count}
 use Rattle.tp_search.proofs.arena.Arena.chosen.Goals as goal

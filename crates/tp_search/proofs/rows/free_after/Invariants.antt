@@ -1,6 +1,0 @@
-use Rattle.std.proofs.Common.{take}
-use Rattle.tp_search.specs.Rows.{OthersInterfere}
-use Rattle.tp_search.proofs.rows.free_after.Given as goal
-
-abbrev pub invariant-loop-candidate : goal.invariant-loop-candidate
-invariant-loop-candidate l = OthersInterfere l.task (take l.candidate-index l.candidates) l.action l.free.items
