@@ -50,21 +50,22 @@ within (x ∷ xs) (y ∷ ys) more rest p e =
     let t : xs ++ more ≡ ys ++ 10 ∷ rest = cc in
     let n : length xs ≤ length ys = within xs ys more rest (λ k d lt. p (suc k) d (omega arith)) t in omega (arith, n)
 
-pub long_breaks : (left : List ℕ) → IsLong left → IsTorn left
-long_breaks left h =
+pub long_breaks : (shown left : List ℕ) → IsLong shown left → IsTorn left
+long_breaks shown left h =
     let n : length left ≡ length h.0 + length h.1 = ap length h.2 ∙ length-append h.0 h.1 in (
       some_bytes left (omega (arith, n, h.4)),
       λ other more are alone. (let w : length h.0 ≤ length other = within h.0 other h.1 more h.3 (sym h.2 ∙ are) in omega (arith, w, h.4)),
     )
 
-long_at : (a c : Option (List ℕ)) (line text : List ℕ) → Consumes a c text → Free line → EndsLine line text c → longest_line < length line → IfSome a IsLong
-long_at None c line text took free ends long = tt
-long_at (Some xs) None line text took free ends long = absurd took
-long_at (Some xs) (Some zs) line text took free (inl with) long = (line, 10 ∷ zs, took ∙ (ap (λ t. t ++ zs) with ∙ append_assoc line (10 ∷ []) zs), free, long)
-long_at (Some xs) (Some zs) line text took free (inr without) long = (line, zs, took ∙ ap (λ t. t ++ zs) without.0, free, long)
+long_at : (a c : Option (List ℕ)) (line text shown : List ℕ) → Consumes a c text → Free line → EndsLine line text c → longest_line < length line → shown ≡ take longest_line line → IfSome a (IsLong shown)
+long_at None c line text shown took free ends long first = tt
+long_at (Some xs) None line text shown took free ends long first = absurd took
+long_at (Some xs) (Some zs) line text shown took free (inl with) long first =
+    (line, 10 ∷ zs, took ∙ (ap (λ t. t ++ zs) with ∙ append_assoc line (10 ∷ []) zs), free, long, first)
+long_at (Some xs) (Some zs) line text shown took free (inr without) long first = (line, zs, took ∙ ap (λ t. t ++ zs) without.0, free, long, first)
 
-pub long_left : (old new : Reading) (line : List ℕ) → TakesWhole old new line → longest_line < length line → IfSome old.rest IsLong
-long_left old new line t long = long_at old.rest new.rest line t.text t.took t.free t.ends long
+pub long_left : (old new : Reading) (line shown : List ℕ) → TakesWhole old new line → longest_line < length line → shown ≡ take longest_line line → IfSome old.rest (IsLong shown)
+long_left old new line shown t long first = long_at old.rest new.rest line t.text shown t.took t.free t.ends long first
 
 pub no_line : (line : List ℕ) → Free line → 0 < length line → IsTorn line
 no_line line free some = (some_bytes line some, λ other more are alone. absurd (no_end line other more free are))

@@ -1,5 +1,5 @@
 -- What the reading of a journal finds: its head, that it is one, or the line at which it is none.
-use Rattle.std.specs.Prelude.{◌≡◌, ◌≢◌, ◌⊎◌, ℕ, ◌+◌, ◌≤◌, ◌<◌, true, false, List, [], ◌∷◌, ◌++◌, length, drop, Option, Some, None, IfSome, Result, Ok, Err, codes}
+use Rattle.std.specs.Prelude.{◌≡◌, ◌≢◌, ◌⊎◌, ℕ, ◌+◌, ◌≤◌, ◌<◌, true, false, List, [], ◌∷◌, ◌++◌, length, take, drop, Option, Some, None, IfSome, Result, Ok, Err, codes}
 use Rattle.std.specs.List.{All}
 use Rattle.std.specs.Io.KnownBytes.{Consumes, IsAtEnd}
 use Rattle.tp_machine.specs.declared.command.Kind.TheVariants.{Bare}
@@ -20,7 +20,7 @@ use Rattle.tp_audit.specs.declared.faults.Audited.{Audited}
 use Rattle.tp_audit.specs.declared.auditing.Found.{Found}
 use Rattle.tp_audit.specs.declared.auditing.Found.TheVariants.{Whole, Over}
 use Rattle.tp_audit.specs.declared.auditing.Piece.{Piece}
-use Rattle.tp_audit.specs.declared.auditing.Piece.TheVariants.{Whole as WholePiece, Open, Long, Over as NoPiece}
+use Rattle.tp_audit.specs.declared.auditing.Piece.TheVariants.{Whole as WholePiece, Open, Long, Cut, Over as NoPiece}
 use Rattle.tp_audit.specs.declared.auditing.Turn.{Turn}
 use Rattle.tp_audit.specs.declared.auditing.Turn.TheVariants.{Goes, Asks, Stops}
 use Rattle.tp_audit.specs.declared.auditing.Headed.{Headed}
@@ -47,11 +47,11 @@ IsTorn left =
     (left ≢ [])
     × ((line more : List ℕ) → left ≡ line ++ 10 ∷ more → Free line → longest_line < length line)
 
--- a line of too many bytes stands first
-abbrev pub IsLong : List ℕ → Type 0
-IsLong left =
+-- a line of too many bytes stands first, whose first bytes are shown
+abbrev pub IsLong : List ℕ → List ℕ → Type 0
+IsLong shown left =
     (part : List ℕ) × (more : List ℕ) × (left ≡ part ++ more) × Free part
-    × (longest_line < length part)
+    × (longest_line < length part) × (shown ≡ take longest_line part)
 
 -- the last bytes were taken, which no end of a line follows
 pub record TakesOpen (old new : Reading) (line : List ℕ) : Type 0 where
@@ -64,16 +64,17 @@ pub record TakesOpen (old new : Reading) (line : List ℕ) : Type 0 where
 abbrev pub IsCut : Reading → Reading → Type 0
 IsCut old new = TakesPart old new × HasMore new.rest × (new.taken ≡ new.most)
 
-abbrev pub TakesPiece : Reading → Reading → ℕ → Result Piece AuditFault → Type 0
-TakesPiece old new number (Ok WholePiece) = TakesOne old new new.line
-TakesPiece old new number (Ok Open) = TakesOpen old new new.line
-TakesPiece old new number (Ok Long) = IfSome old.rest IsLong
-TakesPiece old new number (Ok NoPiece) = Ends old new
-TakesPiece old new number (Err Memory) = ⊥
-TakesPiece old new number (Err Read) = Unit {0}
-TakesPiece old new number (Err (Line n)) = (n ≡ number) × IsCut old new
-TakesPiece old new number (Err (Wrong n)) = ⊥
-TakesPiece old new number (Err Head) = ⊥
+abbrev pub TakesPiece : Reading → Reading → Result Piece AuditFault → Type 0
+TakesPiece old new (Ok WholePiece) = TakesOne old new new.line
+TakesPiece old new (Ok Open) = TakesOpen old new new.line
+TakesPiece old new (Ok Long) = IfSome old.rest (IsLong new.line)
+TakesPiece old new (Ok Cut) = (cut : IsCut old new) × (new.line ≡ take longest_line cut.0.text)
+TakesPiece old new (Ok NoPiece) = Ends old new
+TakesPiece old new (Err Memory) = ⊥
+TakesPiece old new (Err Read) = Unit {0}
+TakesPiece old new (Err (Line n)) = ⊥
+TakesPiece old new (Err (Wrong n)) = ⊥
+TakesPiece old new (Err Head) = ⊥
 
 abbrev pub TakesNext : Reading → Reading → ℕ → Result Found AuditFault → Type 0
 TakesNext old new number (Ok Whole) = TakesOne old new new.line

@@ -14,7 +14,7 @@ use Rattle.tp_audit.specs.declared.telling.Told.{Told}
 use Rattle.tp_audit.specs.declared.telling.Step.{Step}
 use Rattle.tp_audit.specs.declared.telling.Step.TheVariants.{On, Done}
 use Rattle.tp_audit.specs.Form.{version_of, network_of, own_count_of, lag_of, is_of_pair, next_place, place_after, may_end}
-use Rattle.tp_audit.specs.Auditing.{TakesOne, IsLong, IsCut, head_version, Breaks, BreaksAt, CutsAt, BreaksLine}
+use Rattle.tp_audit.specs.Auditing.{TakesOne, IsCut, head_version, Breaks, BreaksAt, CutsAt, BreaksLine}
 
 -- nothing is told
 abbrev pub nothing_told : Told
@@ -80,20 +80,15 @@ is_in_head (Lag version events least) = true
 is_in_head (Question version) = false
 is_in_head (Reply version) = false
 
--- a head ends there: nothing is left; or what is left begins as a line of a pair does, or with a line of too many bytes
+-- a head ends there: nothing is left, or what is left begins as a line of a pair does
 abbrev pub EndsTold : Place → List ℕ → Type 0
 EndsTold place left =
-    (may_end place ≡ true) × ((left ≡ []) ⊎ ((is_of_pair left ≡ true) ⊎ IsLong left))
+    (may_end place ≡ true) × ((left ≡ []) ⊎ (is_of_pair left ≡ true))
 
--- nothing is left, or the line that is shown begins as one of a pair does
-abbrev pub StopsAt : List ℕ → List ℕ → Type 0
-StopsAt left shown = (left ≡ []) ⊎ (is_of_pair shown ≡ true)
-
--- no head ends there: it may not; or what is left begins otherwise, where the line is too long as far as it is shown
-abbrev pub EndsNot : Place → List ℕ → List ℕ → Type 0
-EndsNot place left shown =
-    (is_in_head place ≡ true) × ((may_end place ≡ false) ⊎ ((is_of_pair left ≡ false)
-    ⊎ (IsLong left × (is_of_pair shown ≡ false))))
+-- no head ends before these bytes: it may not, or they do not begin as a line of a pair does
+abbrev pub EndsNot : Place → List ℕ → Type 0
+EndsNot place bytes =
+    (is_in_head place ≡ true) × ((may_end place ≡ false) ⊎ (is_of_pair bytes ≡ false))
 
 -- ---- line by line
 
@@ -121,22 +116,22 @@ MatchesAny place line number (Err (Wrong n)) = ⊥
 MatchesAny place line number (Err Head) = ⊥
 
 -- what is left breaks the format at once, and no head ends there
-abbrev pub BreaksIn : Place → List ℕ → List ℕ → Type 0
-BreaksIn place shown left = Breaks place left × EndsNot place left shown
+abbrev pub BreaksIn : Place → List ℕ → Type 0
+BreaksIn place left = Breaks place left × EndsNot place left
 
--- a head ends there, as far as the line is shown
-abbrev pub EndsIn : Place → List ℕ → List ℕ → Type 0
-EndsIn place shown left = EndsTold place left × StopsAt left shown
+-- part of a line was taken, as many bytes as may be, and no head ends before it
+abbrev pub CutsIn : Place → Reading → Reading → Type 0
+CutsIn place old new = (cut : IsCut old new) × EndsNot place cut.0.text
 
 abbrev pub TurnsAny : Place → ℕ → Reading → Reading → Result Step AuditFault → Type 0
 TurnsAny place number old new (Ok (On next)) =
     TakesOne old new new.line × (next_place place new.line ≡ Some next)
     × (head_version next ≡ head_version place)
-TurnsAny place number old new (Ok Done) = IfSome old.rest (EndsIn place new.line)
+TurnsAny place number old new (Ok Done) = IfSome old.rest (EndsTold place)
 TurnsAny place number old new (Err Memory) = ⊥
 TurnsAny place number old new (Err Read) = Unit {0}
 TurnsAny place number old new (Err (Line n)) =
-    (n ≡ number) × (IfSome old.rest (BreaksIn place new.line) ⊎ IsCut old new)
+    (n ≡ number) × (IfSome old.rest (BreaksIn place) ⊎ CutsIn place old new)
 TurnsAny place number old new (Err (Wrong n)) = ⊥
 TurnsAny place number old new (Err Head) = ⊥
 
@@ -170,19 +165,17 @@ TellsHead start after (Err (Line n)) = BreaksLine start after n
 TellsHead start after (Err (Wrong n)) = ⊥
 TellsHead start after (Err Head) = ⊥
 
--- Line n of the bytes is wanted in a head, and breaks the format: no head ends at the line before
+-- Line n of the bytes is wanted in a head, and breaks the format: no head ends at the line before, by what stands there, or by what was
+-- taken of it where as many bytes were taken as may be
 abbrev pub BreaksHead : Reading → Reading → ℕ → Type 0
 BreaksHead start after n =
-    IfSome start.rest (λ bytes. (broken : BreaksAt bytes n)
-    × EndsNot broken.place broken.left after.line) ⊎ ((cut : CutsAt start after n)
-    × (is_in_head cut.place ≡ true))
+    IfSome start.rest (λ bytes. (broken : BreaksAt bytes n) × EndsNot broken.place broken.left)
+    ⊎ ((cut : CutsAt start after n) × EndsNot cut.place cut.part)
 
--- no more than the head was judged: nothing is left behind it, or the line there begins as one of a pair does; or a line of it is broken
-abbrev pub StaysInHead : Reading → Reading → Result JournalHead AuditFault → Type 0
-StaysInHead start after (Ok head) =
-    IfSome start.rest (λ bytes. (told : IsHeadTold bytes head) × StopsAt told.left after.line)
-StaysInHead start after (Err Memory) = Unit {0}
-StaysInHead start after (Err Read) = Unit {0}
-StaysInHead start after (Err (Line n)) = BreaksHead start after n
-StaysInHead start after (Err (Wrong n)) = ⊥
-StaysInHead start after (Err Head) = ⊥
+-- no more than the head was judged: a line is told only as one of it
+abbrev pub StaysInHead : Reading → Reading → AuditFault → Type 0
+StaysInHead start after Memory = Unit {0}
+StaysInHead start after Read = Unit {0}
+StaysInHead start after (Line n) = BreaksHead start after n
+StaysInHead start after (Wrong n) = ⊥
+StaysInHead start after Head = ⊥

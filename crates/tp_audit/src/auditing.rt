@@ -36,21 +36,23 @@ pub(crate) enum Piece {
     Open,
     /// A line of too many bytes.
     Long,
+    /// Part of a line: as many bytes were taken as may be.
+    Cut,
     /// Nothing.
     Over,
 }
 
-/// Takes what stands where the line of that number is wanted.
-pub(crate) fn take_piece<R: Source>(lines: &mut Lines<R>, number: u64) -> Result<Piece, AuditFault>
+/// Takes what stands first.
+pub(crate) fn take_piece<R: Source>(lines: &mut Lines<R>) -> Result<Piece, AuditFault>
     requires { lines.old.longest ≡ 16_384 }
-    ensures takes { TakesPiece lines.old lines.new number result }
+    ensures takes { TakesPiece lines.old lines.new result }
     ensures limits { SameLimits lines.old lines.new }
     ensures read { lines.new.failures ≡ audit_failures lines.old.failures result }
 {
     let before = lines.taken();
     match lines.next_line() {
         Err(LineFault::Read) => Err(AuditFault::Read),
-        Err(LineFault::TooLong) => Err(AuditFault::Line(number)),
+        Err(LineFault::TooLong) => Ok(Piece::Cut),
         Ok(Next::End) => Ok(Piece::Over),
         Ok(Next::Long) => Ok(Piece::Long),
         Ok(Next::Line) => {
@@ -70,12 +72,13 @@ pub(crate) fn take_line<R: Source>(lines: &mut Lines<R>, number: u64) -> Result<
     ensures limits { SameLimits lines.old lines.new }
     ensures read { lines.new.failures ≡ audit_failures lines.old.failures result }
 {
-    match take_piece(lines, number) {
+    match take_piece(lines) {
         Err(fault) => Err(fault),
         Ok(Piece::Whole) => Ok(Found::Whole),
         Ok(Piece::Over) => Ok(Found::Over),
         Ok(Piece::Open) => Err(AuditFault::Line(number)),
         Ok(Piece::Long) => Err(AuditFault::Line(number)),
+        Ok(Piece::Cut) => Err(AuditFault::Line(number)),
     }
 }
 

@@ -1,6 +1,6 @@
 //! The head of a journal, as its lines tell it, whatever executive it is of.
 
-ghost use Rattle.std.specs.Prelude.{◌≡◌, ◌++◌, true, is_some, OnOk};
+ghost use Rattle.std.specs.Prelude.{◌≡◌, ◌++◌, true, is_some, IfErr, OnOk};
 ghost use Rattle.std.specs.Option.{option_to_list};
 ghost use Rattle.tp_script.specs.Reading.{SameLimits};
 ghost use Rattle.tp_audit.specs.Auditing.{audit_failures, head_version};
@@ -144,7 +144,7 @@ fn take_any<R: Source>(lines: &mut Lines<R>, place: Place, number: u64) -> Resul
     ensures limits { SameLimits lines.old lines.new }
     ensures read { lines.new.failures ≡ audit_failures lines.old.failures result }
 {
-    match take_piece(lines, number) {
+    match take_piece(lines) {
         Err(fault) => Err(fault),
         Ok(Piece::Over) => {
             if may_end(place) {
@@ -156,6 +156,7 @@ fn take_any<R: Source>(lines: &mut Lines<R>, place: Place, number: u64) -> Resul
         Ok(Piece::Whole) => match_any(lines.line(), place, number),
         Ok(Piece::Open) => match_part(lines.line(), place, number),
         Ok(Piece::Long) => match_part(lines.line(), place, number),
+        Ok(Piece::Cut) => match_part(lines.line(), place, number),
     }
 }
 
@@ -165,14 +166,15 @@ fn take_any<R: Source>(lines: &mut Lines<R>, place: Place, number: u64) -> Resul
 ///
 /// # Errors
 /// `Line(n)` where line n is wanted in the head and is the first that breaks the format, or does not
-/// end within 2^32 bytes; `Memory` where a growth is refused; `Read` where the reader fails.
+/// end within the bytes that the lines may take; `Memory` where a growth is refused; `Read` where the
+/// reader fails.
 pub fn journal_head<R: Source>(
     alloc: Global,
     lines: &mut Lines<R>,
 ) -> Result<JournalHead, AuditFault>
     requires longest { lines.old.longest ≡ 16_384 }
     ensures head { TellsHead lines.old lines.new result }
-    ensures alone { StaysInHead lines.old lines.new result }
+    ensures alone { IfErr result (StaysInHead lines.old lines.new) }
     ensures longest { lines.new.longest ≡ lines.old.longest }
     ensures most { lines.new.most ≡ lines.old.most }
     ensures read { lines.new.failures ≡ audit_failures lines.old.failures result }

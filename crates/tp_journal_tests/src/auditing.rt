@@ -185,17 +185,22 @@ fn events_that_are_reported_late(rt: HostRuntime) {
     assert!(rt; audited(alloc, first, 2, 10, 0) == Found::Fault(AuditFault::Line(4)));
 }
 
-/// The head of a journal.
+/// The most bytes of a journal.
+const MOST: u64 = 4_294_967_296;
+
+/// The head of a journal, of which so many bytes may be taken.
 fn head_over<I: Ledger>(
     alloc: Global,
     text: &[u8],
     reads: Blank,
+    most: u64,
 ) -> Result<Result<JournalHead, AuditFault>, ServeFault>
     requires reads_name { reads.name ≡ I.name }
     requires reads_parts { reads.parts ≡ I.parts }
     requires reads_some { 0 < reads.parts }
 {
-    let mut lines = Lines::new(alloc, FromRead::<&[u8], I>::new(text, reads), 16_384)?;
+    let source = FromRead::<&[u8], I>::new(text, reads);
+    let mut lines = Lines::with_limit(alloc, source, 16_384, most)?;
     Ok(journal_head(alloc, &mut lines))
 }
 
@@ -208,7 +213,7 @@ fn headed(
     own: Option<u32>,
     lags: &[(u16, u32)],
 ) -> bool {
-    let Ok(Ok(head)) = head_over::<Brand>(alloc, text, Blank::new(1)) else {
+    let Ok(Ok(head)) = head_over::<Brand>(alloc, text, Blank::new(1), MOST) else {
         return false;
     };
     head.version == version
@@ -229,7 +234,7 @@ fn heads_of_both_versions(rt: HostRuntime) {
 
 /// The fault of the head of a journal, if it has one.
 fn head_fault(alloc: Global, text: &[u8]) -> Option<AuditFault> {
-    match head_over::<Brand>(alloc, text, Blank::new(1)) {
+    match head_over::<Brand>(alloc, text, Blank::new(1), MOST) {
         Ok(Err(fault)) => Some(fault),
         _ => None,
     }
@@ -288,4 +293,35 @@ fn what_too_long_a_line_is_behind_a_head(rt: HostRuntime) {
     assert!(rt; long_behind_head(rt.alloc(), b'>', None));
     assert!(rt; long_behind_head(rt.alloc(), b'<', None));
     assert!(rt; long_behind_head(rt.alloc(), b'w', Some(AuditFault::Line(4))));
+}
+
+/// Whether a head ends, or has that fault, where so many bytes of the text may be taken.
+fn cut_head(alloc: Global, text: &[u8], most: u64, wanted: Option<AuditFault>) -> bool {
+    match head_over::<Brand>(alloc, text, Blank::new(1), most) {
+        Ok(Ok(_)) => wanted.is_none(),
+        Ok(Err(fault)) => wanted == Some(fault),
+        Err(_) => false,
+    }
+}
+
+/// Where no more bytes may be taken, the first byte of a line behind a head of 27 bytes tells it all the same, if it was taken.
+#[test]
+fn what_is_not_taken_whole_behind_a_head(rt: HostRuntime) {
+    let broken = Some(AuditFault::Line(4));
+    let question: &'static [u8] = b"journal 2\nnetwork 1 5\nbare\n> window 0\n";
+    let answer: &'static [u8] = b"journal 2\nnetwork 1 5\nbare\n< ok\n";
+    let lag: &'static [u8] = b"journal 2\nnetwork 1 5\nbare\nlag 0 3\n";
+    let tables: [(&'static [u8], u64, Option<AuditFault>); 8] = [
+        (question, 26, Some(AuditFault::Line(3))),
+        (question, 27, broken),
+        (question, 28, None),
+        (question, 37, None),
+        (question, 38, None),
+        (answer, 28, None),
+        (lag, 28, broken),
+        (lag, 34, broken),
+    ];
+    for (text, most, wanted) in &tables {
+        assert!(rt; cut_head(rt.alloc(), text, *most, *wanted));
+    }
 }

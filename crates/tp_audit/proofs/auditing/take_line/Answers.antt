@@ -1,4 +1,4 @@
-use Rattle.std.proofs.Common.{inl, refl}
+use Rattle.std.proofs.Common.{inl, inr, refl}
 use Rattle.tp_audit.specs.Auditing.{IsLong, IsTorn}
 use Rattle.tp_audit.proofs.LineLemmas.{if_some, long_breaks, open_breaks}
 use Rattle.tp_audit.proofs.auditing.take_line.Goals as goal
@@ -11,4 +11,9 @@ returns-in-Ok-Open-clause-takes g c =
 pub returns-in-Ok-Long-clause-takes : goal.returns-in-Ok-Long-clause-takes
 returns-in-Ok-Long-clause-takes g c =
     let long = rw c.in-Ok-Long.field-0-is at c.in-Ok-Long.ensures.takes in
-    (refl, inl (if_some IsLong IsTorn c.args.lines.now.rest long_breaks long))
+    (refl, inl (if_some (IsLong c.take_piece.new.lines.line) IsTorn c.args.lines.now.rest (long_breaks c.take_piece.new.lines.line) long))
+
+pub returns-in-Ok-Cut-clause-takes : goal.returns-in-Ok-Cut-clause-takes
+returns-in-Ok-Cut-clause-takes g c =
+    let cut = rw c.in-Ok-Cut.field-0-is at c.in-Ok-Cut.ensures.takes in
+    (refl, inr cut.0)

@@ -1,5 +1,5 @@
 use Rattle.std.proofs.Common.{◌≡◌, Some, ◌++◌, ap, arith, sym, subst, ◌∙◌}
-use Rattle.std.specs.Prelude.{is_some, Ok, Err}
+use Rattle.std.specs.Prelude.{is_some}
 use Rattle.std.specs.Option.{option_to_list}
 use Rattle.tp_audit.specs.declared.form.Place.TheVariants.{Network}
 use Rattle.tp_audit.specs.Auditing.{head_version}
@@ -9,7 +9,7 @@ use Rattle.tp_audit.proofs.Told.{ToldSoFar, told_first, told_more, told_done, to
 use Rattle.tp_audit.proofs.telling.journal_head.Goals as goal
 
 pub returns-in-Err-clause-head : goal.returns-in-Err-clause-head
-returns-in-Err-clause-head g c = stays_told c.args.lines.now c.take_version.new.lines (Err c.in-Err.fault) (version_stays c.args.lines.now c.take_version.new.lines c.in-Err.fault c.in-Err.ensures.version)
+returns-in-Err-clause-head g c = stays_told c.args.lines.now c.take_version.new.lines c.in-Err.fault (version_stays c.args.lines.now c.take_version.new.lines c.in-Err.fault c.in-Err.ensures.version)
 
 pub returns-in-Err-clause-alone : goal.returns-in-Err-clause-alone
 returns-in-Err-clause-alone g c = version_stays c.args.lines.now c.take_version.new.lines c.in-Err.fault c.in-Err.ensures.version
@@ -27,21 +27,18 @@ head-init g c =
 
 pub returns-in-Err-take_any-clause-head : goal.returns-in-Err-take_any-clause-head
 returns-in-Err-take_any-clause-head g c =
-    stays_told c.args.lines.now c.take_any.new.lines (Err c.in-Err-take_any.fault)
+    stays_told c.args.lines.now c.take_any.new.lines c.in-Err-take_any.fault
     (stays_in c.args.lines.now c.head.lines c.take_any.new.lines c.in-Ok.version c.head.count c.head.place c.head.told c.head.lags.items c.in-Err-take_any.fault c.head.invariant.so_far c.in-Err-take_any.ensures.turns)
 
 pub returns-in-Err-take_any-clause-alone : goal.returns-in-Err-take_any-clause-alone
 returns-in-Err-take_any-clause-alone g c =
     stays_in c.args.lines.now c.head.lines c.take_any.new.lines c.in-Ok.version c.head.count c.head.place c.head.told c.head.lags.items c.in-Err-take_any.fault c.head.invariant.so_far c.in-Err-take_any.ensures.turns
 
-pub returns-in-Ok-Done-clause-alone : goal.returns-in-Ok-Done-clause-alone
-returns-in-Ok-Done-clause-alone g c =
+pub returns-in-Ok-Done-clause-head : goal.returns-in-Ok-Done-clause-head
+returns-in-Ok-Done-clause-head g c =
     told_done c.args.lines.now c.head.lines c.take_any.new.lines c.head_told.result c.in-Ok.version c.head.count c.head.place c.head.told c.head.lags.items c.head.invariant.so_far
     (rw c.in-Ok-Done.field-0-is at c.in-Ok-Done.ensures.turns)
     c.head_told.ensures.version (told_is_head c.head_told.result c.head.told c.head_told.ensures.events c.head_told.ensures.horizon c.head_told.ensures.own) (ap (λ ls. ls.items) c.head_told.ensures.lags)
-
-pub returns-in-Ok-Done-clause-head : goal.returns-in-Ok-Done-clause-head
-returns-in-Ok-Done-clause-head g c = stays_told c.args.lines.now c.take_any.new.lines (Ok c.head_told.result) (returns-in-Ok-Done-clause-alone g c)
 
 pub take_any-requires-clause-names : goal.take_any-requires-clause-names
 take_any-requires-clause-names g c = ap is_some c.head.invariant.so_far.names
