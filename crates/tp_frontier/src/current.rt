@@ -114,13 +114,6 @@ impl Current {
         self.lacking = lacking;
     }
 
-    // Lists the conjuncts that an action's first event may change.
-    fn list_changed(&mut self, known: &Known<'_>, action: u32) -> Result<(), AllocError> {
-        self.changed.clear();
-        self.changed.add_touched(&known.by_atoms, action)?;
-        self.changed.add_touched(&known.by_fluents, action)
-    }
-
     fn is_met(&self, conjunct: u32) -> bool {
         match self.met.get(conjunct as usize).copied() {
             Some(Some(met)) => met,
@@ -151,10 +144,10 @@ impl Current {
         event_form: &EventForm<'_>,
         start: Start,
     ) -> Result<usize, SearchFault> {
-        self.list_changed(known, start.action)?;
-        if self.changed.numbers().is_empty() && event_form.event.writes.is_empty() {
+        if known.touching.is_quiet(start.action) {
             return Ok(self.lacking);
         }
+        self.changed.list(&known.touching, start.action)?;
         look_at(
             known,
             state,

@@ -34,15 +34,6 @@ impl<'t> Model for Frontier<'t> {
     ghost view = { λ f. f.queues };
 }
 
-fn root() -> Node {
-    Node {
-        parent: 0,
-        moment: 0,
-        choice: Choice::Wait,
-        steps: 0,
-    }
-}
-
 fn first_moment(kept: u32) -> Moment {
     Moment {
         hash: 0,
@@ -101,17 +92,18 @@ impl<'t> Frontier<'t> {
 
     fn make_root(&mut self) -> Result<(), SearchFault> {
         let kept = self.store.pack(&self.state)?;
-        self.store.add_moment(first_moment(kept))?;
+        let moment = self.store.add_moment(first_moment(kept))?;
         let lacking = self.known.lacking(&self.state)?;
-        self.make(root(), lacking)?;
+        self.make(moment, lacking)?;
         Ok(())
     }
 
+    // Makes a child, by the number of its start, or of its moment if it waits.
     #[tactic(auto, using(crate::proofs::Waiting::goes_on_same, crate::proofs::Waiting::goes_on_node))]
-    fn make(&mut self, node: Node, lacking: usize) -> Result<(), AllocError>
+    fn make(&mut self, choice: u32, lacking: usize) -> Result<(), AllocError>
         ensures { GoesOn self.old self.new }
     {
-        let number = self.store.add_node(node)?;
+        let number = self.store.add_child(choice)?;
         self.queues.put(number, lacking)?;
         Ok(())
     }
@@ -126,9 +118,12 @@ impl<'t> Frontier<'t> {
     }
 
     /// Whether no step of a node runs past its tick. With no conjunct lacking it is a plan then.
-    pub fn nothing_runs(&mut self, node: u32) -> Result<bool, AllocError>
+    pub fn nothing_runs(&mut self, number: u32) -> Result<bool, AllocError>
         ensures { self.new ≡ self.old }
     {
+        let Some(node) = self.store.node(number) else {
+            return Ok(true);
+        };
         self.store.push_chain(node, &mut self.current.chain)?;
         let known = &self.known;
         let starts = self.current.chain.iter().any(|s| known.lasts(s.action));
@@ -136,20 +131,16 @@ impl<'t> Frontier<'t> {
         Ok(!starts && !runs)
     }
 
-    fn runs_of(&self, node: u32) -> &[Running] {
-        match self.moment_of(node) {
+    fn runs_of(&self, node: Node) -> &[Running] {
+        match self.store.moment(node.moment) {
             Some(moment) => self.store.runs(moment.running),
             None => &[],
         }
     }
 
-    fn moment_of(&self, node: u32) -> Option<Moment> {
-        self.store.moment(self.store.node(node)?.moment)
-    }
-
     /// The steps of a node, in the order in which they were chosen.
-    pub fn steps(&self, node: u32) -> Result<Vec<Chosen>, AllocError> {
-        self.store.steps(self.alloc, node)
+    pub fn steps(&self, number: u32) -> Result<Vec<Chosen>, AllocError> {
+        self.store.steps(self.alloc, number)
     }
 
     /// Makes the children of a node.
@@ -158,15 +149,17 @@ impl<'t> Frontier<'t> {
         ensures { GoesOn self.old self.new }
     {
         if let Some(node) = self.store.node(number) {
-            self.load(number, node)?;
+            self.load(node)?;
+            self.store.begin(node)?;
             self.make_starts(number, node)?;
-            self.make_waits(number, node)?;
+            self.store.begin_waits();
+            self.make_waits(node)?;
         }
         Ok(())
     }
 
     // Makes a node the one at hand: its own state, its events, its running steps.
-    fn load(&mut self, number: u32, node: Node) -> Result<(), SearchFault>
+    fn load(&mut self, node: Node) -> Result<(), SearchFault>
         ensures { self.new ≡ self.old }
     {
         let Some(moment) = self.store.moment(node.moment) else {
@@ -176,7 +169,7 @@ impl<'t> Frontier<'t> {
         if moment.starts.is_none() {
             self.find_starts(node.moment, moment.tick)?;
         }
-        self.store.push_chain(number, &mut self.current.chain)?;
+        self.store.push_chain(node, &mut self.current.chain)?;
         let runs = self.store.runs(moment.running);
         self.current.take_runs(&self.known, &mut self.state, runs)?;
         self.current.take_starts(&self.known, &mut self.state)?;
@@ -222,14 +215,14 @@ impl<'t> Frontier<'t> {
         self.current.lack(lacking);
         mark_events(&self.known, &mut self.marks, &self.current.events, true);
         for start in first..end {
-            self.make_start(number, node, start)?;
+            self.make_start(start)?;
         }
         mark_events(&self.known, &mut self.marks, &self.current.events, false);
         Ok(())
     }
 
     #[tactic(auto, using(crate::proofs::Waiting::goes_on_same))]
-    fn make_start(&mut self, number: u32, node: Node, choice: u32) -> Result<(), SearchFault>
+    fn make_start(&mut self, choice: u32) -> Result<(), SearchFault>
         ensures { GoesOn self.old self.new }
     {
         let Some(start) = self.store.start(choice) else {
@@ -243,32 +236,14 @@ impl<'t> Frontier<'t> {
             start,
         )?;
         if let Some(lacking) = lacking {
-            self.make_child(number, node, choice, lacking)?;
+            self.make(choice, lacking)?;
         }
         Ok(())
     }
 
-    fn make_child(
-        &mut self,
-        number: u32,
-        node: Node,
-        choice: u32,
-        lacking: usize,
-    ) -> Result<(), AllocError>
-        ensures { GoesOn self.old self.new }
-    {
-        let child = Node {
-            parent: number,
-            moment: node.moment,
-            choice: Choice::Start(choice),
-            steps: node.steps.saturating_add(1),
-        };
-        self.make(child, lacking)
-    }
-
     // The children that wait.
     #[tactic(auto, using(crate::proofs::Waiting::goes_on_same, crate::proofs::Waiting::goes_on_further))]
-    fn make_waits(&mut self, number: u32, node: Node) -> Result<(), SearchFault>
+    fn make_waits(&mut self, node: Node) -> Result<(), SearchFault>
         ensures { GoesOn self.old self.new }
     {
         if !self.current.invariants_hold(&self.known, &self.state)? {
@@ -276,19 +251,19 @@ impl<'t> Frontier<'t> {
         }
         let least = self.current.least_left();
         if !self.current.events.is_empty() {
-            self.make_wait(number, node, 1)?;
+            self.make_wait(node, 1)?;
             if least == Some(1) {
                 return Ok(());
             }
         }
         if let Some(ticks) = least {
-            self.make_wait(number, node, ticks)?;
+            self.make_wait(node, ticks)?;
         }
         Ok(())
     }
 
     #[tactic(auto, using(crate::proofs::Waiting::goes_on_same))]
-    fn make_wait(&mut self, number: u32, node: Node, ticks: u32) -> Result<(), SearchFault>
+    fn make_wait(&mut self, node: Node, ticks: u32) -> Result<(), SearchFault>
         ensures { GoesOn self.old self.new }
     {
         let Some(moment) = self.store.moment(node.moment) else {
@@ -299,17 +274,11 @@ impl<'t> Frontier<'t> {
             return Ok(());
         }
         let runs = self.current.runs_after(self.alloc, ticks)?;
-        self.wait_with(number, node, tick, &runs)
+        self.wait_with(tick, &runs)
     }
 
     #[tactic(auto, using(crate::proofs::Waiting::goes_on_same))]
-    fn wait_with(
-        &mut self,
-        number: u32,
-        node: Node,
-        tick: u32,
-        runs: &[Running],
-    ) -> Result<(), SearchFault>
+    fn wait_with(&mut self, tick: u32, runs: &[Running]) -> Result<(), SearchFault>
         ensures { GoesOn self.old self.new }
     {
         let hash = self.store.hash_of(&self.state, runs);
@@ -318,13 +287,7 @@ impl<'t> Frontier<'t> {
         }
         let moment = self.add_moment(hash, tick, runs)?;
         let lacking = self.lacking_after_ends(runs)?;
-        let child = Node {
-            parent: number,
-            moment,
-            choice: Choice::Wait,
-            steps: node.steps,
-        };
-        self.make(child, lacking)?;
+        self.make(moment, lacking)?;
         Ok(())
     }
 

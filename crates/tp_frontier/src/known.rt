@@ -1,11 +1,12 @@
 //! What the search looks up: the task's forms, the actions that wait for an atom, what an action changes, and the conjuncts
 //! that mention that.
 
+use crate::listed::Touching;
 use crate::store::{Running, Start};
 use std::alloc::{AllocError, Global};
 use tp_forms::{
-    Action, CondForm, EventForm, Forms, Marks, SearchFault, SearchState, Touches, Waiting,
-    carry_out, least_duration, touched, units_of, waiting_for,
+    Action, CondForm, EventForm, Forms, Marks, SearchFault, SearchState, Waiting, carry_out,
+    least_duration, units_of, waiting_for,
 };
 use tp_task::Task;
 use tp_text::Scale;
@@ -17,8 +18,7 @@ pub struct Known<'t> {
     pub horizon: u32,
     pub forms: Forms<'t>,
     pub waiting: Waiting,
-    pub by_atoms: Touches,
-    pub by_fluents: Touches,
+    pub touching: Touching,
 }
 
 impl<'t> Known<'t> {
@@ -224,15 +224,13 @@ impl<'t> Known<'t> {
         horizon: u32,
     ) -> Result<Self, AllocError> {
         let waiting = waiting_for(alloc, &forms, state)?;
-        let by_atoms = touched(alloc, &forms, true)?;
-        let by_fluents = touched(alloc, &forms, false)?;
+        let touching = Touching::new(alloc, &forms)?;
         Ok(Known {
             scale: task.scale,
             horizon,
             forms,
             waiting,
-            by_atoms,
-            by_fluents,
+            touching,
         })
     }
 }

@@ -2,7 +2,63 @@
 
 use crate::known::push_copy;
 use std::alloc::{AllocError, Global};
-use tp_forms::Touches;
+use tp_forms::{Forms, Touches, touched};
+
+/// What the first event of each action may change of the goal, by way of atoms and of fluents, and which actions are quiet:
+/// their first event changes nothing of the goal, and no number.
+#[derive(Drop)]
+pub struct Touching {
+    by_atoms: Touches,
+    by_fluents: Touches,
+    quiet: Vec<bool>,
+}
+
+fn writes_nothing(forms: &Forms<'_>, event: u32) -> bool {
+    match forms.event_forms.get(event as usize) {
+        Some(event_form) => event_form.event.writes.is_empty(),
+        None => true,
+    }
+}
+
+fn touch_nothing(touches: &Touches, action: u32) -> bool {
+    touches.changed.of(action).is_empty()
+}
+
+fn quiet_actions(
+    alloc: Global,
+    forms: &Forms<'_>,
+    by_atoms: &Touches,
+    by_fluents: &Touches,
+) -> Result<Vec<bool>, AllocError> {
+    let mut quiet = Vec::new(alloc);
+    let mut number: u32 = 0;
+    for action in &forms.actions {
+        quiet.push(
+            touch_nothing(by_atoms, number)
+                && touch_nothing(by_fluents, number)
+                && writes_nothing(forms, action.first),
+        )?;
+        number = number.saturating_add(1);
+    }
+    Ok(quiet)
+}
+
+impl Touching {
+    pub fn new(alloc: Global, forms: &Forms<'_>) -> Result<Self, AllocError> {
+        let by_atoms = touched(alloc, forms, true)?;
+        let by_fluents = touched(alloc, forms, false)?;
+        let quiet = quiet_actions(alloc, forms, &by_atoms, &by_fluents)?;
+        Ok(Touching {
+            by_atoms,
+            by_fluents,
+            quiet,
+        })
+    }
+
+    pub fn is_quiet(&self, action: u32) -> bool {
+        self.quiet.get(action as usize).copied().unwrap_or(false)
+    }
+}
 
 /// Some conjuncts of the goal, each once, and which ones these are.
 #[derive(Drop)]
@@ -31,7 +87,7 @@ impl Listed {
         &self.numbers
     }
 
-    pub fn clear(&mut self) {
+    fn clear(&mut self) {
         for conjunct in &self.numbers {
             mark(self.has.as_mut_slice(), *conjunct, false);
         }
@@ -53,8 +109,14 @@ impl Listed {
         Ok(())
     }
 
-    // Those that the first event of an action may change by way of atoms, or of fluents.
-    pub fn add_touched(&mut self, touches: &Touches, action: u32) -> Result<(), AllocError> {
+    // Lists those that the first event of an action may change.
+    pub fn list(&mut self, touching: &Touching, action: u32) -> Result<(), AllocError> {
+        self.clear();
+        self.add_touched(&touching.by_atoms, action)?;
+        self.add_touched(&touching.by_fluents, action)
+    }
+
+    fn add_touched(&mut self, touches: &Touches, action: u32) -> Result<(), AllocError> {
         for place in touches.changed.of(action) {
             self.add_all(touches.conjuncts.of(*place))?;
         }

@@ -1,5 +1,6 @@
 //! The nodes of a search. Those of one tick that stem from one wait share a moment: the state before the tick's
-//! happening, the steps that run, and what can start there.
+//! happening, the steps that run, and what can start there. The children of one node stand side by side, and share all
+//! else.
 
 use std::alloc::{AllocError, Global};
 use tp_forms::{SearchState, Span, part, small};
@@ -45,7 +46,7 @@ pub enum Choice {
     Start(u32),
 }
 
-/// A node: its parent, its moment, what it chose, and how many steps it has. The root is its own parent.
+/// A node: its parent's place among the nodes that were expanded, its moment, what it chose, and how many steps it has.
 #[derive(Clone, Copy)]
 pub struct Node {
     pub parent: u32,
@@ -54,7 +55,28 @@ pub struct Node {
     pub steps: u16,
 }
 
-/// All nodes that were made, by number, and what they share.
+/// A node that was expanded, the number of its first child, and that of the first that waits.
+#[derive(Clone, Copy)]
+struct Expanded {
+    node: Node,
+    first: u32,
+    first_wait: u32,
+}
+
+// What stands for the parent of the root, which waits from nowhere.
+const BEFORE_ROOT: Expanded = Expanded {
+    node: Node {
+        parent: 0,
+        moment: 0,
+        choice: Choice::Wait,
+        steps: 0,
+    },
+    first: 0,
+    first_wait: 0,
+};
+
+/// All nodes that were made, by number, and what they share. Kept of each is what it chose, by number: a start, or where
+/// it waits a moment. The rest is found by its parent, the last expanded node whose first child is not behind it.
 #[derive(Drop)]
 pub struct Store {
     width: u32,
@@ -65,7 +87,8 @@ pub struct Store {
     runs: Vec<Running>,
     starts: Vec<Start>,
     moments: Vec<Moment>,
-    nodes: Vec<Node>,
+    expanded: Vec<Expanded>,
+    chosen: Vec<u32>,
     table: Vec<u32>,
 }
 
@@ -85,6 +108,15 @@ fn place_of(hash: u64, len: usize) -> usize {
     (hash.wrapping_shr(20) as usize) & len.saturating_sub(1)
 }
 
+// The number of the next of so many, if 32 bits can tell it and how many there are then.
+fn next_number(count: usize) -> Result<u32, AllocError> {
+    let number = small(count);
+    if number == u32::MAX {
+        return Err(AllocError);
+    }
+    Ok(number)
+}
+
 fn block<T>(items: &[T], number: u32, size: u32) -> &[T] {
     let at = (number as usize).saturating_mul(size as usize);
     match items.get(at..at.saturating_add(size as usize)) {
@@ -97,6 +129,7 @@ impl Store {
     /// No nodes; a state has so many words and numbers that change.
     pub fn new(alloc: Global, width: u32, depth: u32) -> Result<Self, AllocError> {
         let table = Vec::from_elem(alloc, 0u32, 1024)?;
+        let expanded = Vec::from_elem(alloc, BEFORE_ROOT, 1)?;
         Ok(Store {
             width,
             depth,
@@ -106,7 +139,8 @@ impl Store {
             runs: Vec::new(alloc),
             starts: Vec::new(alloc),
             moments: Vec::new(alloc),
-            nodes: Vec::new(alloc),
+            expanded,
+            chosen: Vec::new(alloc),
             table,
         })
     }
@@ -150,7 +184,7 @@ impl Store {
 
     /// Keeps steps that run.
     pub fn add_runs(&mut self, runs: &[Running]) -> Result<Span, AllocError> {
-        let at = small(self.runs.len());
+        let at = next_number(self.runs.len())?;
         self.runs.extend_from_slice(runs)?;
         Ok(Span {
             at,
@@ -162,6 +196,7 @@ impl Store {
     pub fn add_starts(&mut self, moment: u32, starts: &[Start]) -> Result<(), AllocError> {
         let at = small(self.starts.len());
         self.starts.extend_from_slice(starts)?;
+        next_number(self.starts.len())?;
         if let Some(there) = self.moments.get_mut(moment as usize) {
             there.starts = Some(Span {
                 at,
@@ -173,21 +208,57 @@ impl Store {
 
     /// A moment more, and its number.
     pub fn add_moment(&mut self, moment: Moment) -> Result<u32, AllocError> {
-        let number = small(self.moments.len());
+        let number = next_number(self.moments.len())?;
         self.moments.push(moment)?;
         Ok(number)
     }
 
-    /// A node more, and its number.
-    pub fn add_node(&mut self, node: Node) -> Result<u32, AllocError> {
-        let number = small(self.nodes.len());
-        self.nodes.push(node)?;
+    /// A node whose children are made from here on: first those that start something.
+    pub fn begin(&mut self, node: Node) -> Result<(), AllocError> {
+        self.expanded.push(Expanded {
+            node,
+            first: small(self.chosen.len()),
+            first_wait: u32::MAX,
+        })?;
+        Ok(())
+    }
+
+    /// From here on the children wait.
+    pub fn begin_waits(&mut self) {
+        let next = small(self.chosen.len());
+        if let Some(last) = self.expanded.last_mut() {
+            last.first_wait = next;
+        }
+    }
+
+    /// A child more, by the number of its start, or of its moment if it waits; and its own number.
+    pub fn add_child(&mut self, choice: u32) -> Result<u32, AllocError> {
+        let number = next_number(self.chosen.len())?;
+        self.chosen.push(choice)?;
         Ok(number)
     }
 
     /// A node by its number.
     pub fn node(&self, number: u32) -> Option<Node> {
-        self.nodes.get(number as usize).copied()
+        let choice = self.chosen.get(number as usize).copied()?;
+        let parent = self.parent_of(number);
+        let expanded = self.expanded.get(parent as usize)?;
+        Some(child_of(expanded, parent, number, choice))
+    }
+
+    // The place of a node's parent among the nodes that were expanded.
+    fn parent_of(&self, number: u32) -> u32 {
+        let count = self.expanded.partition_point(|e| e.first <= number);
+        small(count).saturating_sub(1)
+    }
+
+    // The parent of a node, if it is not the root.
+    fn parent(&self, node: &Node) -> Option<Node> {
+        if node.parent == 0 {
+            return None;
+        }
+        let parent = self.expanded.get(node.parent as usize)?;
+        Some(parent.node)
     }
 
     /// A moment by its number.
@@ -277,13 +348,13 @@ impl Store {
         self.table.get(at).copied().unwrap_or(0) == 0
     }
 
-    /// The starts that a node's tick has before its own, back from its own.
-    pub fn push_chain(&self, node: u32, into: &mut Vec<Start>) -> Result<(), AllocError> {
+    /// The starts of a node's tick, its own the last.
+    pub fn push_chain(&self, node: Node, into: &mut Vec<Start>) -> Result<(), AllocError> {
         into.clear();
         let mut at = node;
         for _ in 0..MOST_STEPS {
-            match self.start_of(at) {
-                Some((parent, start)) => {
+            match self.start_of(&at) {
+                Some((start, parent)) => {
                     into.push(start)?;
                     at = parent;
                 }
@@ -294,12 +365,11 @@ impl Store {
         Ok(())
     }
 
-    // The parent of a node that chose a start, and the start.
-    fn start_of(&self, node: u32) -> Option<(u32, Start)> {
-        let at = self.node(node)?;
-        match at.choice {
+    // The start that a node chose, and the node's parent.
+    fn start_of(&self, node: &Node) -> Option<(Start, Node)> {
+        match node.choice {
             Choice::Wait => None,
-            Choice::Start(number) => Some((at.parent, self.start(number)?)),
+            Choice::Start(number) => Some((self.start(number)?, self.parent(node)?)),
         }
     }
 
@@ -318,22 +388,38 @@ impl Store {
     }
 
     /// The steps of a node, in the order in which they were chosen.
-    pub fn steps(&self, alloc: Global, node: u32) -> Result<Vec<Chosen>, AllocError> {
+    pub fn steps(&self, alloc: Global, number: u32) -> Result<Vec<Chosen>, AllocError> {
         let mut steps = Vec::new(alloc);
-        let mut number = node;
-        for _ in 0..self.nodes.len() {
-            let Some(at) = self.node(number) else {
+        let mut at = self.node(number);
+        for _ in 0..self.expanded.len() {
+            let Some(node) = at else {
                 break;
             };
-            if let Some(step) = self.step_of(&at) {
+            if let Some(step) = self.step_of(&node) {
                 steps.push(step)?;
             }
-            if number == 0 {
-                break;
-            }
-            number = at.parent;
+            at = self.parent(&node);
         }
         steps.reverse();
         Ok(steps)
+    }
+}
+
+// The child of an expanded node that has a number, by what it chose.
+fn child_of(expanded: &Expanded, parent: u32, number: u32, choice: u32) -> Node {
+    if number < expanded.first_wait {
+        Node {
+            parent,
+            moment: expanded.node.moment,
+            choice: Choice::Start(choice),
+            steps: expanded.node.steps.saturating_add(1),
+        }
+    } else {
+        Node {
+            parent,
+            moment: choice,
+            choice: Choice::Wait,
+            steps: expanded.node.steps,
+        }
     }
 }
