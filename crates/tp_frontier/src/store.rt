@@ -1,6 +1,6 @@
 //! The nodes of a search. Those of one tick that stem from one wait share a moment: the state before the tick's
-//! happening, the steps that run, and what can start there. The children of one node stand side by side, and share all
-//! else.
+//! happening, the steps that run, and what can start there. The children of one node have their numbers in a row, so that
+//! their parent is kept once.
 
 use std::alloc::{AllocError, Global};
 use tp_forms::{SearchState, Span, part, small};
@@ -46,7 +46,7 @@ pub enum Choice {
     Start(u32),
 }
 
-/// A node: its parent's place among the nodes that were expanded, its moment, what it chose, and how many steps it has.
+/// A node: its parent's place among those that have children, its moment, what it chose, and how many steps it has.
 #[derive(Clone, Copy)]
 pub struct Node {
     pub parent: u32,
@@ -55,16 +55,16 @@ pub struct Node {
     pub steps: u16,
 }
 
-/// A node that was expanded, the number of its first child, and that of the first that waits.
+/// A node that has children, the number of the first of them, and that of the first that waits.
 #[derive(Clone, Copy)]
-struct Expanded {
+struct Parent {
     node: Node,
     first: u32,
     first_wait: u32,
 }
 
 // What stands for the parent of the root, which waits from nowhere.
-const BEFORE_ROOT: Expanded = Expanded {
+const BEFORE_ROOT: Parent = Parent {
     node: Node {
         parent: 0,
         moment: 0,
@@ -76,7 +76,7 @@ const BEFORE_ROOT: Expanded = Expanded {
 };
 
 /// All nodes that were made, by number, and what they share. Kept of each is what it chose, by number: a start, or where
-/// it waits a moment. The rest is found by its parent, the last expanded node whose first child is not behind it.
+/// it waits a moment. The rest is found by its parent, the last one whose first child is not behind it.
 #[derive(Drop)]
 pub struct Store {
     width: u32,
@@ -87,7 +87,7 @@ pub struct Store {
     runs: Vec<Running>,
     starts: Vec<Start>,
     moments: Vec<Moment>,
-    expanded: Vec<Expanded>,
+    parents: Vec<Parent>,
     chosen: Vec<u32>,
     table: Vec<u32>,
 }
@@ -129,7 +129,7 @@ impl Store {
     /// No nodes; a state has so many words and numbers that change.
     pub fn new(alloc: Global, width: u32, depth: u32) -> Result<Self, AllocError> {
         let table = Vec::from_elem(alloc, 0u32, 1024)?;
-        let expanded = Vec::from_elem(alloc, BEFORE_ROOT, 1)?;
+        let parents = Vec::from_elem(alloc, BEFORE_ROOT, 1)?;
         Ok(Store {
             width,
             depth,
@@ -139,7 +139,7 @@ impl Store {
             runs: Vec::new(alloc),
             starts: Vec::new(alloc),
             moments: Vec::new(alloc),
-            expanded,
+            parents,
             chosen: Vec::new(alloc),
             table,
         })
@@ -215,7 +215,8 @@ impl Store {
 
     /// A node whose children are made from here on: first those that start something.
     pub fn begin(&mut self, node: Node) -> Result<(), AllocError> {
-        self.expanded.push(Expanded {
+        self.leave_childless();
+        self.parents.push(Parent {
             node,
             first: small(self.chosen.len()),
             first_wait: u32::MAX,
@@ -223,10 +224,22 @@ impl Store {
         Ok(())
     }
 
+    // The node whose children were made last is no parent if it has none.
+    fn leave_childless(&mut self) {
+        let next = small(self.chosen.len());
+        let childless = match self.parents.last() {
+            Some(last) => last.first == next,
+            None => false,
+        };
+        if childless {
+            self.parents.pop();
+        }
+    }
+
     /// From here on the children wait.
     pub fn begin_waits(&mut self) {
         let next = small(self.chosen.len());
-        if let Some(last) = self.expanded.last_mut() {
+        if let Some(last) = self.parents.last_mut() {
             last.first_wait = next;
         }
     }
@@ -242,13 +255,12 @@ impl Store {
     pub fn node(&self, number: u32) -> Option<Node> {
         let choice = self.chosen.get(number as usize).copied()?;
         let parent = self.parent_of(number);
-        let expanded = self.expanded.get(parent as usize)?;
-        Some(child_of(expanded, parent, number, choice))
+        Some(child_of(self.parents.get(parent as usize)?, parent, number, choice))
     }
 
-    // The place of a node's parent among the nodes that were expanded.
+    // The place of a node's parent among those that have children.
     fn parent_of(&self, number: u32) -> u32 {
-        let count = self.expanded.partition_point(|e| e.first <= number);
+        let count = self.parents.partition_point(|e| e.first <= number);
         small(count).saturating_sub(1)
     }
 
@@ -257,7 +269,7 @@ impl Store {
         if node.parent == 0 {
             return None;
         }
-        let parent = self.expanded.get(node.parent as usize)?;
+        let parent = self.parents.get(node.parent as usize)?;
         Some(parent.node)
     }
 
@@ -391,7 +403,7 @@ impl Store {
     pub fn steps(&self, alloc: Global, number: u32) -> Result<Vec<Chosen>, AllocError> {
         let mut steps = Vec::new(alloc);
         let mut at = self.node(number);
-        for _ in 0..self.expanded.len() {
+        for _ in 0..self.parents.len() {
             let Some(node) = at else {
                 break;
             };
@@ -405,21 +417,21 @@ impl Store {
     }
 }
 
-// The child of an expanded node that has a number, by what it chose.
-fn child_of(expanded: &Expanded, parent: u32, number: u32, choice: u32) -> Node {
-    if number < expanded.first_wait {
+// The child of a node that has a number, by what it chose.
+fn child_of(parent: &Parent, place: u32, number: u32, choice: u32) -> Node {
+    if number < parent.first_wait {
         Node {
-            parent,
-            moment: expanded.node.moment,
+            parent: place,
+            moment: parent.node.moment,
             choice: Choice::Start(choice),
-            steps: expanded.node.steps.saturating_add(1),
+            steps: parent.node.steps.saturating_add(1),
         }
     } else {
         Node {
-            parent,
+            parent: place,
             moment: choice,
             choice: Choice::Wait,
-            steps: expanded.node.steps,
+            steps: parent.node.steps,
         }
     }
 }
