@@ -522,6 +522,13 @@ def painters(count, places):
     return domain, f"(define (problem q) (:domain painters) (:objects {each('o#', places)}) (:init {each('(q o#)', places)}) (:goal (g)))"
 
 
+def rivals(count, places):
+    """Actions that ask for the same atoms, add the same others, and all set one number, so that no two can happen at once."""
+    rival = "(:action a# :precondition (forall (?x) (q ?x)) :effect (and (d#) (assign (n) 1) (forall (?x) (r ?x))))"
+    domain = f"(define (domain rivals) (:predicates (q ?x) (r ?x) {each('(d#)', count)}) (:functions (n)) {each(rival, count)})"
+    return domain, f"(define (problem q) (:domain rivals) (:objects {each('o#', places)}) (:init {each('(q o#)', places)} (= (n) 0)) (:goal (> (n) 5)))"
+
+
 def searches(program):
     judged(program, "a plan of one visit, 4,000 atoms, 8,000 actions", PLACES, places_problem(), None, "plan")
     judged(program, "40 lamps, no plan, a budget of 1,000,000", *lamps(40), None, "plan", ("--budget", "1000000"))
@@ -531,6 +538,7 @@ def searches(program):
     judged(program, "a goal of 5,001 conjuncts, a budget of 300", *many_goals(5000), None, "plan", ("--budget", "300"))
     judged(program, "20,000 comparisons of a number that 62,500 actions raise", *comparisons(250, 20_000), None, "plan", ("--budget", "0"))
     judged(program, "10 actions of 600 atoms each, until no node is left", *painters(10, 600), None, "plan", ("--budget", "1000000"))
+    judged(program, "100 actions of 10,000 atoms each that all interfere, until no node is left", *rivals(100, 5000), None, "plan", ("--horizon", "0"))
     judged(program, "90 places: 729,000 bindings, 89 in reach", *roads(90), None, "plan")
     kinds = each("(:action a# :parameters (?x - t#) :effect (g))", 13_000)
     three = "(define (problem q) (:domain d) (:objects " + " ".join(f"o{k} - t{k % 13_000}" for k in range(39_000)) + ") (:init) (:goal (g)))"
