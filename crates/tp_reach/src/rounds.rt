@@ -98,7 +98,7 @@ fn round(reach: &mut [bool], actions: &[Body])
 
 // Counts the atoms that an action's events add and that are reached.
 fn count_added(
-    counters: &mut Counters,
+    counters: &mut Counters<'_>,
     reach: &[bool],
     event: &GroundEvent,
 ) -> Result<(), AllocError> {
@@ -110,7 +110,7 @@ fn count_added(
     Ok(())
 }
 
-fn count_body(counters: &mut Counters, reach: &[bool], body: &Body) -> Result<(), AllocError> {
+fn count_body(counters: &mut Counters<'_>, reach: &[bool], body: &Body) -> Result<(), AllocError> {
     match body {
         Body::Instant(only) => count_added(counters, reach, only),
         Body::Durative(start, end, _) => {
@@ -120,7 +120,7 @@ fn count_body(counters: &mut Counters, reach: &[bool], body: &Body) -> Result<()
     }
 }
 
-fn count_reached(counters: &mut Counters, reach: &[bool]) -> Result<(), AllocError> {
+fn count_reached(counters: &mut Counters<'_>, reach: &[bool]) -> Result<(), AllocError> {
     let mut atom: u32 = 0;
     for truth in reach {
         if *truth {
@@ -133,7 +133,7 @@ fn count_reached(counters: &mut Counters, reach: &[bool]) -> Result<(), AllocErr
 
 // Takes an action, if it is one of them, and counts what it adds.
 fn take_action(
-    counters: &mut Counters,
+    counters: &mut Counters<'_>,
     reach: &mut [bool],
     actions: &[Body],
     action: u32,
@@ -151,7 +151,7 @@ fn take_action(
 }
 
 // Takes the actions that counters tell, one after another.
-fn spread(counters: &mut Counters, reach: &mut [bool], actions: &[Body]) -> Result<(), AllocError>
+fn spread(counters: &mut Counters<'_>, reach: &mut [bool], actions: &[Body]) -> Result<(), AllocError>
     requires { list_all (adds_fit (length reach.old)) actions.now ≡ true }
     ensures { Adds (acts_of_bodies actions.now) reach.old reach.new }
 {

@@ -1,0 +1,90 @@
+//! Which shared condition is which. Pointers have no order, so a condition is compared with those that were met before,
+//! those near the one that was found last first: mostly it is that one again, or the one behind it.
+
+use std::alloc::{AllocError, Global};
+use std::rc::Rc;
+use tp_task::Cond;
+
+/// A shared condition with fewer parts is cheaper to look at than to find again.
+const FEW: usize = 16;
+
+/// A shared condition, how many parts it has, and whether it, or its negation, was met; None where it was met as neither.
+#[derive(Clone, Copy)]
+struct Share<'t> {
+    cond: &'t Rc<Cond>,
+    parts: usize,
+    positive: Option<bool>,
+}
+
+/// Shared conditions, numbered in the order in which they were added.
+#[derive(Drop)]
+pub struct Shares<'t> {
+    shares: Vec<Share<'t>>,
+    last: usize,
+}
+
+fn parts_of(cond: &Cond) -> usize {
+    match cond {
+        Cond::And(parts) | Cond::Or(parts) => parts.len(),
+        _ => 1,
+    }
+}
+
+/// Whether a shared condition is worth to be found again.
+pub fn is_large(cond: &Cond) -> bool {
+    parts_of(cond) >= FEW
+}
+
+impl<'t> Shares<'t> {
+    /// No conditions.
+    pub fn new(alloc: Global) -> Self {
+        Shares {
+            shares: Vec::new(alloc),
+            last: 0,
+        }
+    }
+
+    /// The number of a condition, if it is found: no more are compared than it has parts, so that it takes no longer than
+    /// to look at them.
+    pub fn find(&mut self, cond: &Rc<Cond>, positive: Option<bool>) -> Option<u32> {
+        let parts = parts_of(cond);
+        for step in 0..parts.min(self.shares.len()) {
+            let place = self.place(step);
+            if self.is_at(place, cond, parts, positive) {
+                self.last = place;
+                return u32::try_from(place).ok();
+            }
+        }
+        None
+    }
+
+    // The place so many steps from the one found last: by turns behind it and before it, and around the ends.
+    fn place(&self, step: usize) -> usize {
+        let half = step.div_ceil(2);
+        let count = self.shares.len();
+        let behind = if step % 2 == 0 { count.saturating_sub(half) } else { half };
+        let place = self.last.saturating_add(behind);
+        if place < count { place } else { place.saturating_sub(count) }
+    }
+
+    fn is_at(&self, place: usize, cond: &Rc<Cond>, parts: usize, positive: Option<bool>) -> bool {
+        match self.shares.get(place) {
+            Some(share) => {
+                share.parts == parts && share.positive == positive && Rc::ptr_eq(share.cond, cond)
+            }
+            None => false,
+        }
+    }
+
+    /// A condition more, and its number.
+    pub fn add(&mut self, cond: &'t Rc<Cond>, positive: Option<bool>) -> Result<u32, AllocError> {
+        let number = self.shares.len();
+        self.shares.push(Share {
+            cond,
+            parts: parts_of(cond),
+            positive,
+        })?;
+        self.last = number;
+        Ok(u32::try_from(number).unwrap_or(u32::MAX))
+    }
+}
