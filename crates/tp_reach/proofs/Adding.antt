@@ -105,6 +105,11 @@ set_length [] a = refl
 set_length (x ∷ xs) zero = refl
 set_length (x ∷ xs) (suc a) = ap suc (set_length xs a)
 
+set_same : (xs : List Bool) (a : ℕ) → set_of xs a ≡ true → slice_set xs a true ≡ xs
+set_same [] a h = refl
+set_same (x ∷ xs) zero h = ap (λ y. y ∷ xs) (sym h)
+set_same (x ∷ xs) (suc a) h = ap (λ ys. x ∷ ys) (set_same xs a h)
+
 -- several
 pub marked_length : (xs : List Bool) (as' : List ℕ) → length (marked xs as') ≡ length xs
 marked_length xs [] = refl
@@ -130,6 +135,13 @@ marked_only xs (b ∷ as') a h =
     (λ e. ⊎_elim inl (λ w. inr (or_left (b == a) _ (eq-eqb b a w))) (set_only xs b a e))
     (λ e. inr (or_right (b == a) _ e))
     (marked_only (slice_set xs b true) as' a h)
+
+-- those that are there already
+marked_same : (xs : List Bool) (as' : List ℕ) → list_all (set_of xs) as' ≡ true → marked xs as' ≡ xs
+marked_same xs [] h = refl
+marked_same xs (a ∷ as') h =
+    let p = and_parts (set_of xs a) (list_all (set_of xs) as') h in
+    ap (λ ys. marked ys as') (set_same xs a p.0) ∙ marked_same xs as' p.1
 
 -- what is met by a set is met by a larger one
 module _ (r o : ℕ → Bool) (sub : (a : ℕ) → r a ≡ true → o a ≡ true) where
@@ -168,6 +180,14 @@ event_length xs e = go (met (set_of xs) true e.condition)
   where
     go : (b : Bool) → length (cond b (marked xs e.adds.items) xs) ≡ length xs
     go true = marked_length xs e.adds.items
+    go false = refl
+
+-- an event whose adds are there already
+pub event_kept : (xs : List Bool) (e : GroundEvent) → list_all (set_of xs) e.adds.items ≡ true → after_event xs e ≡ xs
+event_kept xs e h = go (met (set_of xs) true e.condition)
+  where
+    go : (b : Bool) → cond b (marked xs e.adds.items) xs ≡ xs
+    go true = marked_same xs e.adds.items h
     go false = refl
 
 abbrev Least : (ℕ → Bool) → List Bool → Type 0

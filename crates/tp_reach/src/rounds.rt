@@ -57,11 +57,19 @@ fn mark(reach: &mut [bool], atoms: &[u32])
     }
 }
 
+fn has_all(reach: &[bool], atoms: &[u32]) -> bool
+    ensures { result ≡ list_all (set_of reach.now) atoms.now }
+{
+    atoms.iter().all(|a| is_reached(reach, *a))
+}
+
+// The condition of an event that has nothing to add isn't looked at.
+#[tactic(auto, using(crate::proofs::Adding::event_kept))]
 fn take_event(reach: &mut [bool], event: &GroundEvent)
     requires { adds_in (length reach.old) event.now ≡ true }
     ensures { reach.new ≡ after_event reach.old event.now }
 {
-    if met(reach, true, &event.condition) {
+    if !has_all(reach, &event.adds) && met(reach, true, &event.condition) {
         mark(reach, &event.adds);
     }
 }
@@ -151,7 +159,11 @@ fn take_action(
 }
 
 // Takes the actions that counters tell, one after another.
-fn spread(counters: &mut Counters<'_>, reach: &mut [bool], actions: &[Body]) -> Result<(), AllocError>
+fn spread(
+    counters: &mut Counters<'_>,
+    reach: &mut [bool],
+    actions: &[Body],
+) -> Result<(), AllocError>
     requires { list_all (adds_fit (length reach.old)) actions.now ≡ true }
     ensures { Adds (acts_of_bodies actions.now) reach.old reach.new }
 {

@@ -62,9 +62,17 @@ impl<'t> Shares<'t> {
     fn place(&self, step: usize) -> usize {
         let half = step.div_ceil(2);
         let count = self.shares.len();
-        let behind = if step % 2 == 0 { count.saturating_sub(half) } else { half };
+        let behind = if step % 2 == 0 {
+            count.saturating_sub(half)
+        } else {
+            half
+        };
         let place = self.last.saturating_add(behind);
-        if place < count { place } else { place.saturating_sub(count) }
+        if place < count {
+            place
+        } else {
+            place.saturating_sub(count)
+        }
     }
 
     fn is_at(&self, place: usize, cond: &Rc<Cond>, parts: usize, positive: Option<bool>) -> bool {
@@ -74,6 +82,18 @@ impl<'t> Shares<'t> {
             }
             None => false,
         }
+    }
+
+    /// How many conditions there are.
+    pub fn count(&self) -> usize {
+        self.shares.len()
+    }
+
+    /// A condition by its number, and as what it was met.
+    pub fn get(&self, number: usize) -> Option<(&'t Cond, Option<bool>)> {
+        let share = self.shares.get(number).copied()?;
+        let cond: &'t Cond = share.cond;
+        Some((cond, share.positive))
     }
 
     /// A condition more, and its number.
