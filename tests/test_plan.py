@@ -50,11 +50,49 @@ CHAIN = f"""(define (problem p) (:domain roads) (:objects {" ".join(f"o{i}" for 
  (:init (at o0) {" ".join(f"(road o{i} o{i + 1} o0)" for i in range(44))}) (:goal (at o2)))"""
 
 
+# twenty lamps: what asks for all of them, or not for all, is shared by what asks for it
+PANEL = """(define (domain panel) (:types lamp key) (:predicates (lit ?l - lamp) (turned ?k - key) (done ?k - key))
+ (:action turn :parameters (?k - key) :precondition (and (not (turned ?k)) (forall (?l - lamp) (lit ?l)))
+  :effect (turned ?k))
+ (:action end :parameters (?k - key) :precondition (or (turned ?k) (forall (?l - lamp) (lit ?l))) :effect (done ?k))
+ (:action force :parameters (?k - key) :precondition (not (forall (?l - lamp) (lit ?l))) :effect (turned ?k))
+ (:action light :parameters (?l - lamp) :precondition (not (lit ?l)) :effect (lit ?l))
+ (:action darken :parameters (?l - lamp) :precondition (lit ?l) :effect (not (lit ?l))))"""
+
+LAMPS = [f"l{i}" for i in range(20)]
+
+
+def panel(lit, goal):
+    """Two keys, and of the lamps the first are lit."""
+    facts = " ".join(f"(lit {lamp})" for lamp in LAMPS[:lit])
+    return f"(define (problem p) (:domain panel) (:objects {' '.join(LAMPS)} - lamp k0 k1 - key) (:init {facts}) (:goal {goal}))"
+
+
+# how many lamps are lit, the goal, and what `plan` writes
+SHARED = (
+    (20, "(and (turned k0) (turned k1))", "0: (turn k0)\n0: (turn k1)\n"),
+    (19, "(and (turned k0) (turned k1))", "0: (force k0)\n0: (force k1)\n"),
+    (20, "(and (done k0) (done k1))", "0: (end k0)\n0: (end k1)\n"),
+    (19, "(forall (?l - lamp) (lit ?l))", "0: (light l19)\n"),
+    (20, "(not (forall (?l - lamp) (lit ?l)))", "0: (darken l0)\n"),
+    # what turns a key may not happen with what darkens a lamp
+    (20, "(and (turned k0) (not (lit l0)))", "0: (turn k0)\n1: (darken l0)\n"),
+    (20, "(and (done k0) (not (lit l0)))", "0: (end k0)\n1: (darken l0)\n"),
+    (19, "(and (turned k0) (lit l19))", "0: (force k0)\n1: (light l19)\n"),
+)
+
+
 class Plan(Case):
     def test_plans_and_why_there_is_none(self):
         for domain, problem, words, text, status in ROWS:
             with self.subTest(f"{problem!r} {words}"):
                 self.comes_to(told_by(text, status), words, {"domain": domain, "problem": problem})
+
+    def test_conditions_that_actions_share(self):
+        for lit, goal, text in SHARED:
+            with self.subTest(f"{lit} lamps, {goal}"):
+                files = {"domain": PANEL, "problem": panel(lit, goal)}
+                self.comes_to(told_by(text, 0), CALL, files)
 
     def test_files_that_stop_a_search(self):
         with self.subTest("the domain is not there"):
