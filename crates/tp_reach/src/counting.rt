@@ -29,8 +29,8 @@ struct SharedGate {
     waiting: Vec<u32>,
 }
 
-/// The parts of all conditions, those that wait for each atom and for each shared condition (`sharing` in all), those that
-/// are still to be told that a part of them is met, and the actions with an event whose condition is met.
+/// The parts of all conditions, those that wait for each atom and for each shared condition (`sharing` in all), those
+/// that are still to be told that a part of them is met, and the actions with an event whose condition is met.
 #[derive(Drop)]
 pub struct Counters<'t> {
     alloc: Global,

@@ -1,5 +1,5 @@
-//! Which shared condition is which. Pointers have no order, so a condition is compared with those that were met before,
-//! those near the one that was found last first: mostly it is that one again, or the one behind it.
+//! Which shared condition is which. Pointers have no order, so a condition is compared with those that were added
+//! before, those near the one that was found last first: mostly it is that one again, or the one behind it.
 
 use std::alloc::{AllocError, Global};
 use std::rc::Rc;
@@ -8,7 +8,8 @@ use tp_task::Cond;
 /// A shared condition with fewer parts is cheaper to look at than to find again.
 const FEW: usize = 16;
 
-/// A shared condition, how many parts it has, and whether it, or its negation, was met; None where it was met as neither.
+/// A shared condition, how many parts it has, and whether it is asked for or its negation is; None where it is only
+/// mentioned.
 #[derive(Clone, Copy)]
 struct Share<'t> {
     cond: &'t Rc<Cond>,
@@ -30,7 +31,7 @@ fn parts_of(cond: &Cond) -> usize {
     }
 }
 
-/// Whether a shared condition is worth to be found again.
+/// Whether a shared condition is worth finding again.
 pub fn is_large(cond: &Cond) -> bool {
     parts_of(cond) >= FEW
 }
@@ -44,8 +45,8 @@ impl<'t> Shares<'t> {
         }
     }
 
-    /// The number of a condition, if it is found: no more are compared than it has parts, so that it takes no longer than
-    /// to look at them.
+    /// The number of a condition, if it is found: no more are compared than it has parts, so that it takes no longer
+    /// than to look at them.
     pub fn find(&mut self, cond: &Rc<Cond>, positive: Option<bool>) -> Option<u32> {
         let parts = parts_of(cond);
         for step in 0..parts.min(self.shares.len()) {
@@ -89,7 +90,7 @@ impl<'t> Shares<'t> {
         self.shares.len()
     }
 
-    /// A condition by its number, and as what it was met.
+    /// A condition by its number, and what is asked of it.
     pub fn get(&self, number: usize) -> Option<(&'t Cond, Option<bool>)> {
         let share = self.shares.get(number).copied()?;
         let cond: &'t Cond = share.cond;
