@@ -1,22 +1,23 @@
 //! A task as the search reads it: conditions by their literals, events and actions as spans of lists of places.
 
-use crate::fault::SearchFault;
-use crate::state::{Places, SearchState, Span, part, place_in, places_of, small};
-use crate::values::{Sight, judged, value};
+use crate::startable::{all_places, startable};
+use crate::state::{Places, SearchState, Span, part, place_in, small};
 use std::alloc::{AllocError, Global};
-use tp_reach::met;
+use std::rc::Rc;
+use tp_reach::{Shares, is_large};
 use tp_task::truth::uses_duration;
 use tp_task::{Body, Change, Cond, Expr, GroundEvent, NumericEffect, Task};
 
-/// A conjunct that is no literal, and whether it is to be true or false.
+/// A part of a condition: a conjunct that is no literal, and whether it is to be true or false; or a shared condition,
+/// by the number of its form.
 #[derive(Clone, Copy)]
-pub struct Conjunct<'t> {
-    cond: &'t Cond,
-    positive: bool,
+pub enum Part<'t> {
+    Judged(&'t Cond, bool),
+    Shared(u32),
 }
 
 /// A condition: the atoms that have to be true, those that have to be false, and those of the other conjuncts, in this
-/// order; the fluents of the other conjuncts; and these.
+/// order; the fluents of the other conjuncts; and these. What it shares with others stands in forms of its own.
 #[derive(Clone, Copy)]
 pub struct CondForm {
     pub atoms: Span,
@@ -35,7 +36,8 @@ impl CondForm {
         }
     }
 
-    fn unwanted(self) -> Span {
+    /// The atoms that have to be false.
+    pub fn unwanted(self) -> Span {
         Span {
             at: self.atoms.at.saturating_add(self.holding),
             count: self.lacking,
@@ -43,8 +45,19 @@ impl CondForm {
     }
 }
 
-/// An event. `reads` are the fluents of its condition, right sides and duration constraint; `needs` those of its right
-/// sides and duration constraint, and those that it changes by what they were.
+const NOWHERE: Span = Span { at: 0, count: 0 };
+
+// What stands for a shared condition that there is not.
+const EMPTY: CondForm = CondForm {
+    atoms: NOWHERE,
+    holding: 0,
+    lacking: 0,
+    fluents: NOWHERE,
+    parts: NOWHERE,
+};
+
+/// An event. `reads` are the fluents of its condition, but for what that shares, right sides and duration constraint;
+/// `needs` those of its right sides and duration constraint, and those that it changes by what they were.
 #[derive(Clone, Copy)]
 pub struct EventForm<'t> {
     pub event: &'t GroundEvent,
@@ -73,79 +86,20 @@ const NEVER: Action = Action {
     uses_duration: false,
 };
 
-/// A task as the search reads it.
+/// A task as the search reads it. While a shared condition is listed, the shared ones in it are written out.
 #[derive(Drop)]
 pub struct Forms<'t> {
     pub atoms: Places,
     pub fluents: Places,
     pub lists: Vec<u32>,
-    parts: Vec<Conjunct<'t>>,
+    parts: Vec<Part<'t>>,
+    shares: Shares<'t>,
+    shared: Vec<CondForm>,
+    writes_out: bool,
     pub event_forms: Vec<EventForm<'t>>,
     pub actions: Vec<Action>,
     pub invariants: Vec<CondForm>,
     pub conjuncts: Vec<CondForm>,
-}
-
-fn mark(marks: &mut [bool], number: u32) {
-    if let Some(at) = marks.get_mut(number as usize) {
-        *at = true;
-    }
-}
-
-fn mark_event(atoms: &mut [bool], fluents: &mut [bool], event: &GroundEvent) {
-    for a in &event.adds {
-        mark(atoms, *a);
-    }
-    for a in &event.deletes {
-        mark(atoms, *a);
-    }
-    for w in &event.writes {
-        mark(fluents, w.fluent);
-    }
-}
-
-fn mark_body(atoms: &mut [bool], fluents: &mut [bool], body: &Body) {
-    match body {
-        Body::Instant(only) => mark_event(atoms, fluents, only),
-        Body::Durative(start, end, _) => {
-            mark_event(atoms, fluents, start);
-            mark_event(atoms, fluents, end);
-        }
-    }
-}
-
-fn first_event(body: &Body) -> &GroundEvent {
-    match body {
-        Body::Instant(only) => only,
-        Body::Durative(start, _, _) => start,
-    }
-}
-
-// Which actions can start, as far as the relaxed reach tells.
-fn startable(alloc: Global, task: &Task, reach: &[bool]) -> Result<Vec<bool>, AllocError> {
-    let mut startable = Vec::with_capacity(alloc, task.actions.len())?;
-    for body in &task.actions {
-        startable.push(met(reach, true, &first_event(body).condition))?;
-    }
-    Ok(startable)
-}
-
-// The places of atoms and fluents; what only actions that can never start change, stays.
-fn all_places(
-    alloc: Global,
-    task: &Task,
-    startable: &[bool],
-) -> Result<(Places, Places), AllocError> {
-    let mut atoms = Vec::from_elem(alloc, false, task.initial_atoms.len())?;
-    let mut fluents = Vec::from_elem(alloc, false, task.initial_numbers.len())?;
-    for (body, starts) in task.actions.iter().zip(startable) {
-        if *starts {
-            mark_body(atoms.as_mut_slice(), fluents.as_mut_slice(), body);
-        }
-    }
-    let atoms = places_of(alloc, &atoms)?;
-    let fluents = places_of(alloc, &fluents)?;
-    Ok((atoms, fluents))
 }
 
 fn is_set(change: Change) -> bool {
@@ -199,15 +153,18 @@ fn mixes(alloc: Global, writes: &[NumericEffect]) -> Result<bool, AllocError> {
 
 impl<'t> Forms<'t> {
     /// The lists of a task whose relaxed reach is `reach`. They take the time and memory of all conditions and effects
-    /// of the actions that can start in it.
+    /// of the actions that can start in it, and of a condition that they share once.
     pub fn new(alloc: Global, task: &'t Task, reach: &[bool]) -> Result<Self, AllocError> {
         let startable = startable(alloc, task, reach)?;
         let (atoms, fluents) = all_places(alloc, task, &startable)?;
-        let mut forms = Forms {
+        let mut forms: Forms<'t> = Forms {
             atoms,
             fluents,
             lists: Vec::new(alloc),
             parts: Vec::new(alloc),
+            shares: Shares::new(alloc),
+            shared: Vec::new(alloc),
+            writes_out: false,
             event_forms: Vec::new(alloc),
             actions: Vec::new(alloc),
             invariants: Vec::new(alloc),
@@ -215,7 +172,13 @@ impl<'t> Forms<'t> {
         };
         forms.add_actions(alloc, task, &startable)?;
         forms.add_goal(&task.goal)?;
+        forms.add_shared()?;
         Ok(forms)
+    }
+
+    /// The state in which the task begins.
+    pub fn initial_state(&self, alloc: Global, task: &Task) -> Result<SearchState, AllocError> {
+        SearchState::initial(alloc, task, &self.atoms, &self.fluents, self.shared.len())
     }
 
     fn add_actions(
@@ -271,7 +234,7 @@ impl<'t> Forms<'t> {
             }
         }
         self.actions.push(action)?;
-        Ok(())
+        self.add_shared()
     }
 
     // The number of an invariant, which is one more form.
@@ -367,14 +330,19 @@ impl<'t> Forms<'t> {
         }
     }
 
-    /// The lists of a condition.
+    // The lists of a condition that is to be true.
     fn add_form(&mut self, cond: &'t Cond) -> Result<CondForm, AllocError> {
+        self.add_asked(cond, true)
+    }
+
+    // The lists of a condition that is to be true, or false.
+    fn add_asked(&mut self, cond: &'t Cond, positive: bool) -> Result<CondForm, AllocError> {
         let at = self.here();
-        self.push_literals(cond, true, true)?;
+        self.push_literals(cond, positive, true)?;
         let holding = self.since(at).count;
-        self.push_literals(cond, true, false)?;
+        self.push_literals(cond, positive, false)?;
         let lacking = self.since(at).count.saturating_sub(holding);
-        let parts = self.add_parts(cond)?;
+        let parts = self.add_parts(cond, positive)?;
         let atoms = self.since(at);
         let fluents = self.add_compared(parts)?;
         Ok(CondForm {
@@ -384,6 +352,56 @@ impl<'t> Forms<'t> {
             fluents,
             parts,
         })
+    }
+
+    // The lists of a condition that is only mentioned.
+    fn add_mentioned(&mut self, cond: &'t Cond) -> Result<CondForm, AllocError> {
+        let at = self.here();
+        self.push_atoms(cond)?;
+        let atoms = self.since(at);
+        let at = self.here();
+        self.push_compared(cond)?;
+        let fluents = self.since(at);
+        Ok(CondForm {
+            atoms,
+            fluents,
+            ..EMPTY
+        })
+    }
+
+    // The lists of the shared conditions that have none yet.
+    fn add_shared(&mut self) -> Result<(), AllocError> {
+        self.writes_out = true;
+        for number in self.shared.len()..self.shares.count() {
+            if let Some((cond, positive)) = self.shares.get(number) {
+                let form = match positive {
+                    Some(truth) => self.add_asked(cond, truth)?,
+                    None => self.add_mentioned(cond)?,
+                };
+                self.shared.push(form)?;
+            }
+        }
+        self.writes_out = false;
+        Ok(())
+    }
+
+    // Whether a shared condition gets lists of its own.
+    fn is_apart(&self, cond: &Cond) -> bool {
+        !self.writes_out && is_large(cond)
+    }
+
+    // A shared condition that is to be true or false, or is only mentioned.
+    fn push_shared(
+        &mut self,
+        cond: &'t Rc<Cond>,
+        positive: Option<bool>,
+    ) -> Result<(), AllocError> {
+        let number = match self.shares.find(cond, positive) {
+            Some(number) => number,
+            None => self.shares.add(cond, positive)?,
+        };
+        self.parts.push(Part::Shared(number))?;
+        Ok(())
     }
 
     // The atoms among the conjuncts that have to be true, or those that have to be false.
@@ -399,7 +417,7 @@ impl<'t> Forms<'t> {
             Cond::Not(c) => self.push_literals(c, !positive, truth),
             Cond::And(cs) if positive => self.push_literals_of(cs, positive, truth),
             Cond::Or(cs) if !positive => self.push_literals_of(cs, positive, truth),
-            Cond::Shared(c) => self.push_literals(c, positive, truth),
+            Cond::Shared(c) if !self.is_apart(c) => self.push_literals(c, positive, truth),
             _ => Ok(()),
         }
     }
@@ -418,9 +436,9 @@ impl<'t> Forms<'t> {
     }
 
     // The conjuncts that are no literals, and the atoms in them.
-    fn add_parts(&mut self, cond: &'t Cond) -> Result<Span, AllocError> {
+    fn add_parts(&mut self, cond: &'t Cond, positive: bool) -> Result<Span, AllocError> {
         let at = small(self.parts.len());
-        self.push_parts(cond, true)?;
+        self.push_parts(cond, positive)?;
         Ok(Span {
             at,
             count: small(self.parts.len()).saturating_sub(at),
@@ -434,9 +452,10 @@ impl<'t> Forms<'t> {
             Cond::Not(c) => self.push_parts(c, !positive),
             Cond::And(cs) if positive => self.push_parts_of(cs, positive),
             Cond::Or(cs) if !positive => self.push_parts_of(cs, positive),
+            Cond::Shared(c) if self.is_apart(c) => self.push_shared(c, Some(positive)),
             Cond::Shared(c) => self.push_parts(c, positive),
             _ => {
-                self.parts.push(Conjunct { cond, positive })?;
+                self.parts.push(Part::Judged(cond, positive))?;
                 self.push_atoms(cond)
             }
         }
@@ -451,18 +470,19 @@ impl<'t> Forms<'t> {
     }
 
     #[cycle(atoms)]
-    fn push_atoms(&mut self, cond: &Cond) -> Result<(), AllocError> {
+    fn push_atoms(&mut self, cond: &'t Cond) -> Result<(), AllocError> {
         match cond {
             Cond::Atom(a) => self.push_atom(*a),
             Cond::Compare(_, _, _) => Ok(()),
             Cond::Not(c) => self.push_atoms(c),
             Cond::And(cs) | Cond::Or(cs) => self.push_atoms_of(cs),
+            Cond::Shared(c) if self.is_apart(c) => self.push_shared(c, None),
             Cond::Shared(c) => self.push_atoms(c),
         }
     }
 
     #[cycle(atoms)]
-    fn push_atoms_of(&mut self, conds: &[Cond]) -> Result<(), AllocError> {
+    fn push_atoms_of(&mut self, conds: &'t [Cond]) -> Result<(), AllocError> {
         for c in conds {
             self.push_atoms(c)?;
         }
@@ -473,8 +493,8 @@ impl<'t> Forms<'t> {
     fn add_compared(&mut self, parts: Span) -> Result<Span, AllocError> {
         let at = self.here();
         for place in parts.at..parts.at.saturating_add(parts.count) {
-            if let Some(part) = self.parts.get(place as usize).copied() {
-                self.push_compared(part.cond)?;
+            if let Some(Part::Judged(cond, _)) = self.parts.get(place as usize).copied() {
+                self.push_compared(cond)?;
             }
         }
         Ok(self.since(at))
@@ -490,6 +510,7 @@ impl<'t> Forms<'t> {
             }
             Cond::Not(c) => self.push_compared(c),
             Cond::And(cs) | Cond::Or(cs) => self.push_compared_of(cs),
+            Cond::Shared(c) if self.is_apart(c) => Ok(()),
             Cond::Shared(c) => self.push_compared(c),
         }
     }
@@ -507,35 +528,19 @@ impl<'t> Forms<'t> {
         part(&self.lists, span)
     }
 
-    /// The state at hand, as conditions and expressions read it.
-    pub fn sight<'a>(&'a self, state: &'a SearchState) -> Sight<'a> {
-        Sight {
-            state,
-            atoms: &self.atoms,
-            fluents: &self.fluents,
-        }
+    /// The parts of a condition.
+    pub(crate) fn parts_of(&self, form: CondForm) -> &[Part<'t>] {
+        part(&self.parts, form.parts)
     }
 
-    /// Whether a condition holds: its literals first.
-    pub fn holds(&self, state: &SearchState, form: CondForm) -> Result<bool, SearchFault> {
-        if !self.literals_hold(state, form) {
-            return Ok(false);
-        }
-        self.parts_hold(state, form.parts)
+    /// The number of shared conditions.
+    pub(crate) fn shared_count(&self) -> usize {
+        self.shared.len()
     }
 
-    fn literals_hold(&self, state: &SearchState, form: CondForm) -> bool {
-        self.list(form.wanted()).iter().all(|a| state.has(*a))
-            && !self.list(form.unwanted()).iter().any(|a| state.has(*a))
-    }
-
-    fn parts_hold(&self, state: &SearchState, parts: Span) -> Result<bool, SearchFault> {
-        for p in part(&self.parts, parts) {
-            if judged(self.sight(state), p.cond)? != Some(p.positive) {
-                return Ok(false);
-            }
-        }
-        Ok(true)
+    /// The form of a shared condition.
+    pub(crate) fn shared_form(&self, number: u32) -> CondForm {
+        self.shared.get(number as usize).copied().unwrap_or(EMPTY)
     }
 
     /// Whether all that an event's effects and duration constraint read has a value.
@@ -550,20 +555,5 @@ impl<'t> Forms<'t> {
                 .list(event_form.needs)
                 .iter()
                 .all(|f| state.number(*f).is_some())
-    }
-
-    /// The number of an expression for a duration in units, None where it has none.
-    pub fn value(
-        &self,
-        state: &SearchState,
-        units: Option<i64>,
-        expr: &Expr,
-    ) -> Result<Option<i64>, SearchFault> {
-        value(self.sight(state), units, expr)
-    }
-
-    /// The number of an action's duration limit, None where it has none.
-    pub fn limit(&self, state: &SearchState, expr: &Expr) -> Result<Option<i64>, SearchFault> {
-        value(self.sight(state), None, expr)
     }
 }

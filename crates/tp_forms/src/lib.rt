@@ -1,8 +1,11 @@
 //! A task as a search for plans reads it: what each event needs and does, by lists of places in a state of a bit an atom.
 //!
 //! - `state`: the state at hand, a bit an atom
+//! - `looks`: what was found of shared conditions since something changed last
 //! - `values`: expressions and conditions in it
+//! - `startable`: which actions can start, and the places by what these change
 //! - `forms`: a task by lists of places
+//! - `holding`: whether conditions hold in the state at hand
 //! - `index`: the actions that wait for an atom, what an action changes and the conjuncts that mention it
 //! - `marks`: what the events of a tick mention, change, read and write
 //! - `effects`: what an event does
@@ -14,8 +17,11 @@ mod durations;
 mod effects;
 mod fault;
 mod forms;
+mod holding;
 mod index;
+mod looks;
 mod marks;
+mod startable;
 mod state;
 mod values;
 

@@ -1,7 +1,8 @@
 //! What the events of one tick mention, change, read and write, so that one more event is seen to interfere with them in
 //! the time of what it mentions itself.
 
-use crate::forms::{EventForm, Forms};
+use crate::forms::{CondForm, EventForm, Forms, Part};
+use crate::looks::Looks;
 use crate::state::place_in;
 use std::alloc::{AllocError, Global};
 use tp_task::{Change, NumericEffect};
@@ -32,11 +33,13 @@ const NO_FLUENT: FluentMark = FluentMark {
     set: false,
 };
 
-/// The marks of some events on atoms and fluents, by place.
+/// The marks of some events on atoms and fluents, by place, and which shared conditions mention what these change, as
+/// far as that was looked at.
 #[derive(Drop)]
 pub struct Marks {
     atoms: Vec<AtomMark>,
     fluents: Vec<FluentMark>,
+    changed: Looks,
 }
 
 fn is_sum(effect: &NumericEffect) -> bool {
@@ -47,25 +50,55 @@ fn is_sum(effect: &NumericEffect) -> bool {
 }
 
 impl Marks {
-    /// No marks on so many atoms and fluents.
-    pub fn new(alloc: Global, atoms: usize, fluents: usize) -> Result<Self, AllocError> {
-        let atoms = Vec::from_elem(alloc, NO_ATOM, atoms)?;
-        let fluents = Vec::from_elem(alloc, NO_FLUENT, fluents)?;
-        Ok(Marks { atoms, fluents })
+    /// No marks on the atoms and fluents of a task.
+    pub fn new(alloc: Global, forms: &Forms<'_>) -> Result<Self, AllocError> {
+        let atoms = Vec::from_elem(alloc, NO_ATOM, forms.atoms.places.len())?;
+        let fluents = Vec::from_elem(alloc, NO_FLUENT, forms.fluents.places.len())?;
+        let changed = Looks::new(alloc, forms.shared_count())?;
+        Ok(Marks {
+            atoms,
+            fluents,
+            changed,
+        })
     }
 
     /// Marks what an event does.
     pub fn put(&mut self, forms: &Forms<'_>, event_form: &EventForm<'_>) {
+        self.changed.forget();
+        self.mention(forms, event_form.condition);
         self.put_atoms(forms, event_form);
         self.put_fluents(forms, event_form);
     }
 
-    fn put_atoms(&mut self, forms: &Forms<'_>, event_form: &EventForm<'_>) {
-        for a in forms.list(event_form.condition.atoms) {
+    // Marks the atoms of a condition, and the atoms and fluents of what it shares.
+    fn mention(&mut self, forms: &Forms<'_>, form: CondForm) {
+        self.mention_atoms(forms.list(form.atoms));
+        for p in forms.parts_of(form) {
+            if let Part::Shared(number) = p {
+                let shared = forms.shared_form(*number);
+                self.mention_atoms(forms.list(shared.atoms));
+                self.read_fluents(forms.list(shared.fluents));
+            }
+        }
+    }
+
+    fn mention_atoms(&mut self, atoms: &[u32]) {
+        for a in atoms {
             if let Some(at) = self.atoms.get_mut(*a as usize) {
                 at.mentioned = true;
             }
         }
+    }
+
+    fn read_fluents(&mut self, fluents: &[u32]) {
+        for f in fluents {
+            if let Some(at) = self.fluents.get_mut(*f as usize) {
+                at.read = true;
+            }
+        }
+    }
+
+    fn put_atoms(&mut self, forms: &Forms<'_>, event_form: &EventForm<'_>) {
         for a in forms.list(event_form.adds) {
             if let Some(at) = self.atoms.get_mut(*a as usize) {
                 at.added = true;
@@ -79,11 +112,7 @@ impl Marks {
     }
 
     fn put_fluents(&mut self, forms: &Forms<'_>, event_form: &EventForm<'_>) {
-        for f in forms.list(event_form.reads) {
-            if let Some(at) = self.fluents.get_mut(*f as usize) {
-                at.read = true;
-            }
-        }
+        self.read_fluents(forms.list(event_form.reads));
         for w in &event_form.event.writes {
             if let Some(at) = self.fluents.get_mut(place_of(forms, w)) {
                 if is_sum(w) {
@@ -97,14 +126,30 @@ impl Marks {
 
     /// Takes away all marks on what an event mentions, changes, reads and writes.
     pub fn wipe(&mut self, forms: &Forms<'_>, event_form: &EventForm<'_>) {
-        self.wipe_atoms(forms.list(event_form.condition.atoms));
+        self.changed.forget();
+        self.wipe_condition(forms, event_form.condition);
         self.wipe_atoms(forms.list(event_form.adds));
         self.wipe_atoms(forms.list(event_form.deletes));
-        for f in forms.list(event_form.reads) {
-            self.wipe_fluent(*f as usize);
-        }
+        self.wipe_fluents(forms.list(event_form.reads));
         for w in &event_form.event.writes {
             self.wipe_fluent(place_of(forms, w));
+        }
+    }
+
+    fn wipe_condition(&mut self, forms: &Forms<'_>, form: CondForm) {
+        self.wipe_atoms(forms.list(form.atoms));
+        for p in forms.parts_of(form) {
+            if let Part::Shared(number) = p {
+                let shared = forms.shared_form(*number);
+                self.wipe_atoms(forms.list(shared.atoms));
+                self.wipe_fluents(forms.list(shared.fluents));
+            }
+        }
+    }
+
+    fn wipe_fluents(&mut self, fluents: &[u32]) {
+        for f in fluents {
+            self.wipe_fluent(*f as usize);
         }
     }
 
@@ -157,7 +202,34 @@ impl Marks {
 
     /// Whether an event interferes with one of those marked.
     pub fn interferes(&self, forms: &Forms<'_>, event_form: &EventForm<'_>) -> bool {
-        self.atoms_meet(forms, event_form) || self.fluents_meet(forms, event_form)
+        self.atoms_meet(forms, event_form)
+            || self.fluents_meet(forms, event_form)
+            || self.shared_meet(forms, event_form.condition)
+    }
+
+    // Whether what a condition shares mentions what is changed.
+    fn shared_meet(&self, forms: &Forms<'_>, form: CondForm) -> bool {
+        forms
+            .parts_of(form)
+            .iter()
+            .any(|p| self.part_meets(forms, *p))
+    }
+
+    fn part_meets(&self, forms: &Forms<'_>, part: Part<'_>) -> bool {
+        let Part::Shared(number) = part else {
+            return false;
+        };
+        if let Some(known) = self.changed.answer(number) {
+            return known;
+        }
+        let found = self.form_meets(forms, forms.shared_form(number));
+        self.changed.keep(number, found);
+        found
+    }
+
+    fn form_meets(&self, forms: &Forms<'_>, form: CondForm) -> bool {
+        forms.list(form.atoms).iter().any(|a| self.is_changed(*a))
+            || forms.list(form.fluents).iter().any(|f| self.is_written(*f))
     }
 
     fn atoms_meet(&self, forms: &Forms<'_>, event_form: &EventForm<'_>) -> bool {

@@ -1,5 +1,6 @@
 //! The state that a search has at hand: a bit an atom, a word a fluent, and what was changed last.
 
+use crate::looks::Looks;
 use std::alloc::{AllocError, Global};
 use tp_task::Task;
 
@@ -57,13 +58,16 @@ pub fn place_in(places: &[u32], number: u32) -> u32 {
     places.get(number as usize).copied().unwrap_or(u32::MAX)
 }
 
-/// A state, by the places of atoms and fluents, and what it was before the last changes.
+/// A state, by the places of atoms and fluents, what it was before the last changes, and for each shared condition
+/// whether its literals and its other parts hold, as far as that was looked at.
 #[derive(Drop)]
 pub struct SearchState {
     words: Vec<u64>,
     numbers: Vec<i64>,
     old_words: Vec<(u32, u64)>,
     old_numbers: Vec<(u32, i64)>,
+    literals: Looks,
+    parts: Looks,
 }
 
 fn bit_of(place: u32) -> u64 {
@@ -75,24 +79,50 @@ fn cleared_words(alloc: Global, atoms: usize) -> Result<Vec<u64>, AllocError> {
 }
 
 impl SearchState {
-    /// The state in which a task begins.
-    pub fn initial(
+    /// The state in which a task with so many shared conditions begins.
+    pub(crate) fn initial(
         alloc: Global,
         task: &Task,
         atoms: &Places,
         fluents: &Places,
+        shared: usize,
     ) -> Result<Self, AllocError> {
+        let mut state = SearchState::empty(alloc, task, shared)?;
+        state.set_atoms(&task.initial_atoms, &atoms.places);
+        state.set_numbers(&task.initial_numbers, &fluents.places);
+        Ok(state)
+    }
+
+    // No atoms and no numbers.
+    fn empty(alloc: Global, task: &Task, shared: usize) -> Result<Self, AllocError> {
         let words = cleared_words(alloc, task.initial_atoms.len())?;
         let numbers = Vec::from_elem(alloc, NO_NUMBER, task.initial_numbers.len())?;
-        let mut state = SearchState {
+        let literals = Looks::new(alloc, shared)?;
+        let parts = Looks::new(alloc, shared)?;
+        Ok(SearchState {
             words,
             numbers,
             old_words: Vec::new(alloc),
             old_numbers: Vec::new(alloc),
-        };
-        state.set_atoms(&task.initial_atoms, &atoms.places);
-        state.set_numbers(&task.initial_numbers, &fluents.places);
-        Ok(state)
+            literals,
+            parts,
+        })
+    }
+
+    /// Whether the literals of shared conditions hold.
+    pub(crate) fn literals(&self) -> &Looks {
+        &self.literals
+    }
+
+    /// Whether the other parts of shared conditions hold.
+    pub(crate) fn parts(&self) -> &Looks {
+        &self.parts
+    }
+
+    // What shared conditions are is to be looked at anew.
+    fn forget(&mut self) {
+        self.literals.forget();
+        self.parts.forget();
     }
 
     fn set_atoms(&mut self, truths: &[bool], places: &[u32]) {
@@ -133,6 +163,7 @@ impl SearchState {
 
     /// Makes an atom true or false.
     pub fn set(&mut self, place: u32, truth: bool) -> Result<(), AllocError> {
+        self.forget();
         let at = place / 64;
         if let Some(word) = self.words.get_mut(at as usize) {
             let old = *word;
@@ -148,6 +179,7 @@ impl SearchState {
 
     /// Gives a fluent a number.
     pub fn write(&mut self, place: u32, number: i64) -> Result<(), AllocError> {
+        self.forget();
         if let Some(at) = self.numbers.get_mut(place as usize) {
             self.old_numbers.push((place, *at))?;
             *at = number;
@@ -163,6 +195,7 @@ impl SearchState {
 
     /// Takes the changes back, down to what was kept last.
     pub fn undo(&mut self) {
+        self.forget();
         for _ in 0..self.old_words.len() {
             self.undo_word();
         }
@@ -199,6 +232,7 @@ impl SearchState {
 
     /// Takes over the words of the first atoms and the numbers of the first fluents.
     pub fn load(&mut self, words: &[u64], numbers: &[i64]) {
+        self.forget();
         for (word, from) in self.words.iter_mut().zip(words) {
             *word = *from;
         }

@@ -61,7 +61,7 @@ impl<'t> Frontier<'t> {
         horizon: u32,
     ) -> Result<Self, SearchFault> {
         let forms = Forms::new(alloc, task, reach)?;
-        let state = SearchState::initial(alloc, task, &forms.atoms, &forms.fluents)?;
+        let state = forms.initial_state(alloc, task)?;
         let known = Known::new(alloc, task, forms, &state, horizon)?;
         Frontier::from_known(alloc, known, state)
     }
@@ -72,7 +72,7 @@ impl<'t> Frontier<'t> {
         state: SearchState,
     ) -> Result<Self, SearchFault> {
         let forms = &known.forms;
-        let marks = Marks::new(alloc, forms.atoms.places.len(), forms.fluents.places.len())?;
+        let marks = Marks::new(alloc, forms)?;
         let queues = Queues::new(alloc, forms.conjuncts.len())?;
         let store = Store::new(alloc, known.width(), forms.fluents.moving)?;
         let current = Current::new(alloc, forms.conjuncts.len())?;
