@@ -529,6 +529,15 @@ def rivals(count, places):
     return domain, f"(define (problem q) (:domain rivals) (:objects {each('o#', places)}) (:init {each('(q o#)', places)} (= (n) 0)) (:goal (> (n) 5)))"
 
 
+def sharers(count, shared, lacking=0):
+    """Actions for all pairs of so many objects, which share a condition of so many atoms; the last of these may be lacking."""
+    act = "(:action act :parameters (?x ?y - a) :precondition (and (q ?x) (forall (?z - b) (p ?z))) :effect (done ?x))"
+    domain = f"(define (domain shared) (:types a b) (:predicates (q ?x - a) (p ?z - b) (done ?x - a)) {act})"
+    facts = each("(q a#)", count) + each("(p b#)", shared - lacking)
+    objects = f"{each('a#', count)} - a {each('b#', shared)} - b"
+    return domain, f"(define (problem q) (:domain shared) (:objects {objects}) (:init {facts}) (:goal (done a1)))"
+
+
 def searches(program):
     judged(program, "a plan of one visit, 4,000 atoms, 8,000 actions", PLACES, places_problem(), None, "plan")
     judged(program, "40 lamps, no plan, a budget of 1,000,000", *lamps(40), None, "plan", ("--budget", "1000000"))
@@ -539,6 +548,8 @@ def searches(program):
     judged(program, "20,000 comparisons of a number that 62,500 actions raise", *comparisons(250, 20_000), None, "plan", ("--budget", "0"))
     judged(program, "10 actions of 600 atoms each, until no node is left", *painters(10, 600), None, "plan", ("--budget", "1000000"))
     judged(program, "100 actions of 10,000 atoms each that all interfere, until no node is left", *rivals(100, 5000), None, "plan", ("--horizon", "0"))
+    judged(program, "65,025 actions that share a condition of 8,000 atoms", *sharers(255, 8000), None, "plan")
+    judged(program, "65,025 actions that share one of 8,000 atoms, out of reach", *sharers(255, 8000, 1), None, "plan")
     judged(program, "90 places: 729,000 bindings, 89 in reach", *roads(90), None, "plan")
     kinds = each("(:action a# :parameters (?x - t#) :effect (g))", 13_000)
     three = "(define (problem q) (:domain d) (:objects " + " ".join(f"o{k} - t{k % 13_000}" for k in range(39_000)) + ") (:init) (:goal (g)))"
