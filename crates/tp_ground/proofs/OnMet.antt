@@ -18,7 +18,7 @@ use Rattle.tp_ground.proofs.OnFits.{are_words}
 use Rattle.tp_ground.proofs.OnKept.{named_Shared}
 use Rattle.tp_ground.proofs.OnConditions.{named_And, named_Or, named_Not, named_Atom, named_Compare}
 use Rattle.tp_reach.specs.Rounds.{over}
-use Rattle.tp_reach.proofs.Rows.{met-And, met-Or}
+use Rattle.tp_reach.proofs.Rows.{met_And, met_Or}
 use Rattle.tp_ground.specs.Reached.{met, each_met, some_met}
 
 -- ---- what there is for each part
@@ -83,14 +83,14 @@ module _ (t : Tables) (r : ℕ → Bool) (R : Words → Bool) (same : (i : ℕ) 
     some_same b (x ∷ xs) w = let p = and_parts (worded (named_condition t (f x))) (all_worded (parts xs)) w in ap₂ ◌||◌ (each x b p.0) (some_same b xs p.1)
 
     and_same : (v : Vec Cond Global) (xs : List A) → v.items ≡ map f xs → IsSame (conds.And v)
-    and_same v xs is = as_named (conds.And v) (all_of (parts xs)) (named_And t v ∙ ap (λ cs. all_of (conditions_from (map (named_condition t) cs))) is) (λ b w. by b w ∙ ap (over b (λ c. numbers.met r b c)) (sym is) ∙ sym (met-And r b v))
+    and_same v xs is = as_named (conds.And v) (all_of (parts xs)) (named_And t v ∙ ap (λ cs. all_of (conditions_from (map (named_condition t) cs))) is) (λ b w. by b w ∙ ap (over b (λ c. numbers.met r b c)) (sym is) ∙ sym (met_And r b v))
       where
         by : (b : Bool) → all_worded (parts xs) ≡ true → met R b (all_of (parts xs)) ≡ over b (λ c. numbers.met r b c) (map f xs)
         by true w = all_same true xs w
         by false w = some_same false xs w
 
     or_same : (v : Vec Cond Global) (xs : List A) → v.items ≡ map f xs → IsSame (conds.Or v)
-    or_same v xs is = as_named (conds.Or v) (any_of (parts xs)) (named_Or t v ∙ ap (λ cs. any_of (conditions_from (map (named_condition t) cs))) is) (λ b w. by b w ∙ ap (over (not b) (λ c. numbers.met r b c)) (sym is) ∙ sym (met-Or r b v))
+    or_same v xs is = as_named (conds.Or v) (any_of (parts xs)) (named_Or t v ∙ ap (λ cs. any_of (conditions_from (map (named_condition t) cs))) is) (λ b w. by b w ∙ ap (over (not b) (λ c. numbers.met r b c)) (sym is) ∙ sym (met_Or r b v))
       where
         by : (b : Bool) → all_worded (parts xs) ≡ true → met R b (any_of (parts xs)) ≡ over (not b) (λ c. numbers.met r b c) (map f xs)
         by true w = some_same true xs w

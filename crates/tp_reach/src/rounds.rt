@@ -5,7 +5,7 @@ ghost use Rattle.std.specs.List.{All, list_all};
 ghost use Rattle.tp_task.specs.Fits.{body_fits, event_fits};
 ghost use Rattle.tp_task.specs.Reach as spec;
 ghost use Rattle.tp_task.specs.Reach.{IsReach};
-ghost use Rattle.tp_reach.specs.Rounds.{set_of, marked, after_event, after_body, after_round, adds_in, adds_fit, acts_of_bodies};
+ghost use Rattle.tp_reach.specs.Rounds.{set_of, over, marked, after_event, after_body, after_round, adds_in, adds_fit, acts_of_bodies};
 ghost use Rattle.tp_reach.specs.Adding.{Adds, IsSettled};
 ghost use Rattle.tp_reach.specs.TaskReach.{acts_of, first_state, GoalIs};
 
@@ -21,6 +21,8 @@ fn is_reached(reach: &[bool], atom: u32) -> bool
 
 /// Whether a condition (its negation, where `positive` is false) is met by a set of atoms. Each part of it is looked at
 /// once at most.
+#[cycle(met)]
+#[tactic(auto, using(crate::proofs::Rows::met_And, crate::proofs::Rows::met_Or))]
 pub fn met(reach: &[bool], positive: bool, cond: &Cond) -> bool
     ensures { result ≡ spec.met (set_of reach.now) positive cond.now }
 {
@@ -28,24 +30,23 @@ pub fn met(reach: &[bool], positive: bool, cond: &Cond) -> bool
         Cond::Atom(a) => !positive || is_reached(reach, *a),
         Cond::Compare(_, _, _) => true,
         Cond::Not(c) => met(reach, !positive, c),
-        Cond::And(cs) => {
-            for c in cs {
-                if met(reach, positive, c) != positive {
-                    return !positive;
-                }
-            }
-            positive
-        }
-        Cond::Or(cs) => {
-            for c in cs {
-                if met(reach, positive, c) == positive {
-                    return positive;
-                }
-            }
-            !positive
-        }
+        Cond::And(cs) => are_met(reach, positive, positive, cs),
+        Cond::Or(cs) => are_met(reach, positive, !positive, cs),
         Cond::Shared(c) => met(reach, positive, c),
     }
+}
+
+// Whether all of some conditions, or one of them, are met; or their negations.
+#[cycle(met)]
+fn are_met(reach: &[bool], positive: bool, all: bool, conds: &[Cond]) -> bool
+    ensures { result ≡ over all (λ c. spec.met (set_of reach.now) positive c) conds.now }
+{
+    for c in conds {
+        if met(reach, positive, c) != all {
+            return !all;
+        }
+    }
+    all
 }
 
 fn mark(reach: &mut [bool], atoms: &[u32])
