@@ -398,6 +398,13 @@ def reads(program):
     many = f"(define (domain d) (:predicates (p ?x)) (:action a :parameters ({each('?v#', 30_000)}) :precondition (and {each('(p ?v#)', 30_000)}) :effect ()))"
     judged(program, "an action of 30,000 parameters, each in an atom", many, problem, "")
     judged(program, "the same beside an object that all of them may stand for", many, problem.replace("(:goal", "(:objects o) (:goal"), "")
+    names = short_names(60_000)
+    variables, asked = " ".join(f"?{name}" for name in names), " ".join(f"(p ?{name})" for name in names)
+    bound = problem.replace("(:goal", "(:objects o) (:goal")
+    many = f"(define (domain d) (:predicates (p ?x)) (:action a :parameters ({variables}) :precondition (and {asked}) :effect ()))"
+    judged(program, "an action of 60,000 parameters, each in an atom, and an object", many, bound, "")
+    many = f"(define (domain d) (:predicates (p ?x)) (:action a :parameters () :precondition (forall ({variables}) (and {asked})) :effect ()))"
+    judged(program, "the same variables of a forall", many, bound, "")
     name = "t" * 4_000
     judged(program, "100,000 constants of a type of 4,000 letters", f"(define (domain d) (:types {name}) (:constants {each('c#', 100_000)} - {name}))", problem, "")
     judged(program, "100,000 types below one of 4,000 letters", f"(define (domain d) (:types {each('t#', 100_000)} - {name}))", problem, "")

@@ -1,5 +1,5 @@
 -- Which of some instances are kept, from what they were lowered to.
-use Rattle.std.proofs.Common.{◌≡◌, ◌<◌, ℕ, Bool, true, false, List, [], ◌∷◌, map, length, refl, sym, ap, subst, ◌∙◌, arith}
+use Rattle.std.proofs.Common.{◌≡◌, ◌<◌, ℕ, Bool, true, List, [], ◌∷◌, map, length, refl, sym, ap, subst, ◌∙◌, arith}
 use Rattle.std.specs.List.{AllByRecursion, IsDistinct, filter, flat_map, list_all}
 use Rattle.std.proofs.lemmas.Bool.{and_from, and_parts}
 use Rattle.tp_ast.specs.Conditions.{Condition}
@@ -12,7 +12,6 @@ use Rattle.tp_task.specs.declared.events.Body.{Body}
 use Rattle.tp_task.specs.declared.events.Body.TheVariants.{Instant, Durative}
 use Rattle.tp_reach.specs.Rounds.{adds_in, adds_fit}
 use Rattle.tp_ground.specs.Bindings.{Universe, bound}
-use Rattle.tp_ground.specs.Written.{GroundBody}
 use Rattle.tp_ground.specs.ReadBack.{named_body}
 use Rattle.tp_ground.specs.Initially.{initial_in, named_initial}
 use Rattle.tp_bounds.specs.RunLimits.{RunLimits}

@@ -1,31 +1,28 @@
 -- Instances of actions, one after another.
-use Rattle.std.proofs.Common.{◌≡◌, ℕ, zero, suc, arith, ◌+◌, ◌<◌, ◌≤◌, Bool, true, false, cond, List, [], ◌∷◌, ◌++◌, map, filter, length, take, drop, get_or, string_bytes, refl, sym, ap, ◌∙◌, append-nil}
+use Rattle.std.proofs.Common.{◌≡◌, ℕ, zero, suc, arith, ◌+◌, ◌<◌, Bool, true, false, cond, List, [], ◌∷◌, ◌++◌, map, filter, length, take, get_or, refl, sym, ap, ◌∙◌, append-nil}
 use Rattle.std.specs.List.{flat_map}
 use Rattle.std.proofs.lemmas.Simd.{map-map}
-use Rattle.std.proofs.lemmas.List.{map-append, take_more, take_all, get_or-map}
+use Rattle.std.proofs.lemmas.List.{map-append, get_or-map}
 use Rattle.std.proofs.lemmas.List.Folds.{flat_map-map}
 use Rattle.std.proofs.lemmas.List.Elements.{filter-append}
 use Rattle.tp_ast.specs.Symbols.{Name}
 use Rattle.tp_ast.specs.Actions as actions
-use Rattle.tp_ast.specs.DomainViews.{action_view}
-use Rattle.tp_ast.specs.declared.action.Action.{Action}
-use Rattle.tp_task.specs.Words.{Words}
 use Rattle.tp_ground.specs.Bindings.{Universe, bindings}
-use Rattle.tp_ground.specs.Reached.{Instance, instances, action_of}
-use Rattle.tp_ground.specs.Instances.{instance_view}
+use Rattle.tp_ground.specs.Reached.{Instance, instances}
+use Rattle.tp_ground.specs.Schemas.{schema_view}
 use Rattle.tp_ground.specs.Mentions.{Mentions, ◌then◌, of_each}
-use Rattle.tp_ground.specs.declared.instances.Instance as code
-use Rattle.tp_ground.proofs.Along.{next, map_next}
+use Rattle.tp_ground.specs.declared.schemas.Schema.{Schema}
+use Rattle.tp_ground.proofs.Along.{map_next}
 
 -- the instances of an action
 abbrev pub bound_to : actions.Action → List Name → Instance
 bound_to a ns = record { action = a; objects = ns }
 
-abbrev pub instances_of : Universe → Action → List Instance
-instances_of u a = map (bound_to (action_view a)) (bindings u (action_view a).parameters)
+abbrev pub instances_of : Universe → Schema → List Instance
+instances_of u s = map (bound_to (schema_view s)) (bindings u (schema_view s).parameters)
 
-pub all_of : (u : Universe) (xs : List Action) → flat_map (instances_of u) xs ≡ instances u (map action_view xs)
-all_of u xs = sym (flat_map-map (λ (a : actions.Action). map (bound_to a) (bindings u a.parameters)) action_view xs)
+pub all_of : (u : Universe) (xs : List Schema) → flat_map (instances_of u) xs ≡ instances u (map schema_view xs)
+all_of u xs = sym (flat_map-map (λ (a : actions.Action). map (bound_to a) (bindings u a.parameters)) schema_view xs)
 
 -- mentions of what is told in other words
 pub each_view : {X Y : Type 0} (of : Y → Mentions) (f : X → Y) (xs : List X) → of_each (λ x. of (f x)) xs ≡ of_each of (map f xs)

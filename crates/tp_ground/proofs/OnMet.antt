@@ -1,8 +1,8 @@
 -- What a set of words meets, and what the set of their numbers meets.
-use Rattle.std.proofs.Common.{◌≡◌, ℕ, Bool, true, false, not, ◌&&◌, ◌||◌, List, [], ◌∷◌, map, Vec, Box, Global, refl, sym, ap, ap₂, subst, ◌∙◌, rules}
+use Rattle.std.proofs.Common.{◌≡◌, ℕ, Bool, true, false, not, ◌&&◌, ◌||◌, List, [], ◌∷◌, map, Vec, Box, Global, refl, sym, ap, ap₂, subst, ◌∙◌}
 use Rattle.std.specs.declared.rc.Rc.{Rc}
 use Rattle.std.specs.List.{list_all, list_any}
-use Rattle.std.proofs.lemmas.Bool.{and_parts, and_from}
+use Rattle.std.proofs.lemmas.Bool.{and_parts}
 use Rattle.tp_task.specs.declared.events.Cond as conds
 use Rattle.tp_task.specs.declared.events.Cond.{Cond, ind-Cond, roll-Cond, map-Cond}
 use Rattle.tp_task.specs.declared.events.Cond.TheOpen.{Cond-F}

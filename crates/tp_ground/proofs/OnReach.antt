@@ -1,7 +1,6 @@
 -- The relaxed reach by the numbers of atoms, and by their words.
-use Rattle.std.proofs.Common.{◌≡◌, ℕ, zero, suc, ◌<◌, ◌≤◌, Bool, true, false, ◌&&◌, ◌||◌, ◌==◌, nat_lt, List, [], ◌∷◌, ◌++◌, map, filter, length, get_or, ◌⊎◌, inl, inr, ⊎_elim, refl, sym, ap, ap₂, subst, ◌∙◌, arith, eq-eqb, eqb-true, ltb-true}
+use Rattle.std.proofs.Common.{◌≡◌, ℕ, zero, suc, ◌<◌, Bool, true, false, ◌&&◌, ◌||◌, ◌==◌, nat_lt, List, [], ◌∷◌, ◌++◌, map, length, get_or, inl, inr, ⊎_elim, refl, sym, ap, ap₂, subst, ◌∙◌, arith, eq-eqb, eqb-true, ltb-true}
 use Rattle.std.specs.List.{list_all, list_any, flat_map, IsDistinct}
-use Rattle.std.specs.Bool.{Decides}
 use Rattle.std.proofs.lemmas.Bool.{and_parts, and_from, or_cases, or_left, or_right, lt-ltb}
 use Rattle.std.proofs.lemmas.List.{map-append}
 use Rattle.tp_ast.specs.Problems.{Initial}
@@ -17,7 +16,7 @@ use Rattle.tp_task.specs.declared.events.Body.TheVariants.{Instant, Durative}
 use Rattle.tp_ground.specs.Bindings.{Universe}
 use Rattle.tp_ground.specs.Written.{GroundHappening, GroundBody}
 use Rattle.tp_ground.specs.ReadBack.{named_event, named_body}
-use Rattle.tp_ground.specs.Initially.{GroundInitial, initial_in, is_initially_true, named_initial, true_at}
+use Rattle.tp_ground.specs.Initially.{initial_in, is_initially_true, named_initial, true_at}
 use Rattle.tp_ground.specs.declared.beginning.NumberedInitial.{NumberedInitial}
 use Rattle.tp_ground.specs.declared.beginning.NumberedInitial.TheVariants as numbered
 use Rattle.tp_ground.proofs.OnInitially.{true_there, same_words-Decides, apart}

@@ -26,7 +26,7 @@ use Rattle.tp_ground.specs.Initially.{GroundInitial, initial_in, of_initial, nam
 use Rattle.tp_ground.specs.Lowered.{Notes, Extends, IsLowered, Overflows, Lowers}
 use Rattle.tp_ground.specs.Reached.{Instance, IsTaskOf, action_of, mentioned_of}
 use Rattle.tp_ground.specs.Instances.{written_with}
-use Rattle.tp_ground.specs.Grounding.{universe_of, ground_action, ground_actions, of_action, mentioned, IsTask, HasNoTask}
+use Rattle.tp_ground.specs.Grounding.{universe_of, ground_action, ground_actions, mentioned, IsTask, HasNoTask}
 use Rattle.tp_ground.specs.WrittenTasks.{WrittenTask, written_task, named_task, of_task, IsMade}
 use Rattle.tp_ground.specs.declared.environment.Env.{Empty}
 use Rattle.tp_ground.specs.declared.beginning.NumberedInitial.{NumberedInitial}

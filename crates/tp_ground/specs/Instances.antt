@@ -3,7 +3,6 @@ use Rattle.std.specs.Prelude.{◌≡◌, ℕ, ◌<◌, Bool, true, false, List, 
 use Rattle.std.specs.List.{flat_map, list_any}
 use Rattle.tp_ast.specs.Conditions.{Condition}
 use Rattle.tp_ast.specs.Problems.{Initial}
-use Rattle.tp_ast.specs.DomainViews.{action_view}
 use Rattle.tp_task.specs.Reach.{met}
 use Rattle.tp_task.specs.Words.{Words}
 use Rattle.tp_task.specs.declared.events.Body.{Body}
@@ -11,6 +10,7 @@ use Rattle.tp_reach.specs.Rounds.{set_of, acts_in, acts_of_bodies}
 use Rattle.tp_reach.specs.Adding.{Adds, IsSettled}
 use Rattle.tp_ground.specs.Bindings.{Universe}
 use Rattle.tp_ground.specs.Written.{condition_in}
+use Rattle.tp_ground.specs.Schemas.{schema_view}
 use Rattle.tp_ground.specs.Mentions.{Mentions, ◌then◌, of_condition, of_each}
 use Rattle.tp_ground.specs.Initially.{GroundInitial, initial_in, of_initial, true_at}
 use Rattle.tp_ground.specs.WrittenTasks.{WrittenTask}
@@ -20,7 +20,7 @@ use Rattle.tp_ground.specs.declared.grounder.LoweredTask.{LoweredTask}
 
 abbrev pub instance_view : code.Instance → Instance
 instance_view i =
-    record { action = action_view i.action.now; objects = map (λ o. o.now) i.objects.items }
+    record { action = schema_view i.schema.now; objects = map (λ o. o.now) i.objects.items }
 
 -- the entries of ':init', the goal, and the bodies of these
 abbrev pub written_with : Universe → List Initial → Condition → List Instance → WrittenTask

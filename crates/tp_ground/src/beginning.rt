@@ -22,7 +22,11 @@ pub enum NumberedInitial {
 }
 
 // One entry by number.
-fn entry(alloc: Global, writer: &mut Writer, said: &Initial) -> Result<NumberedInitial, GroundFault>
+fn entry<'a>(
+    alloc: Global,
+    writer: &mut Writer<'a>,
+    said: &'a Initial,
+) -> Result<NumberedInitial, GroundFault>
     ensures { Lowers named_initial writer.old result writer.new
         (initial_in (initial_view said.now)) (of_initial (initial_in (initial_view said.now))) }
 {
@@ -43,10 +47,10 @@ fn entry(alloc: Global, writer: &mut Writer, said: &Initial) -> Result<NumberedI
 }
 
 /// All entries by number.
-pub fn entries(
+pub fn entries<'a>(
     alloc: Global,
-    writer: &mut Writer,
-    said: &[Initial],
+    writer: &mut Writer<'a>,
+    said: &'a [Initial],
 ) -> Result<Vec<NumberedInitial>, GroundFault>
     ensures { Lowers (λ t v. map (named_initial t) v.items) writer.old result writer.new
         (map (λ i. initial_in (initial_view i)) said.now)

@@ -1,15 +1,13 @@
 //! What variables stand for.
 
-ghost use Rattle.std.specs.Prelude.{◌≡◌, ◌-◌, option_map, map, length, slice_index_or, IfOk};
-ghost use Rattle.std.specs.Str.{bytes_eq};
+ghost use Rattle.std.specs.Prelude.{◌≡◌, option_map, map, IfOk};
 ghost use Rattle.tp_ast.specs.Terms.{term_view, atom_view};
-ghost use Rattle.tp_ast.specs.Symbols.{typed_view};
-ghost use Rattle.tp_ground.specs.Bindings.{bound, object_among, object_for, words_in};
+ghost use Rattle.tp_ground.specs.Bindings.{object_among, object_for, words_in};
 ghost use Rattle.tp_ground.specs.Views.{env_view};
 
+use crate::variables::Variables;
 use smallvec::SmallVec;
 use std::alloc::{AllocError, Global};
-use tp_ast::symbols::Typed;
 use tp_ast::term::{Atom, Term};
 
 /// What variables stand for. An inner one hides an outer one of the same name.
@@ -17,42 +15,7 @@ use tp_ast::term::{Atom, Term};
 pub enum Env<'e, 'a> {
     Empty,
     /// Variables, the objects that they stand for, and what stands outside.
-    Inner(&'e [Typed], &'e [&'a str], &'e Env<'e, 'a>),
-}
-
-// The last letter of a name, 0 where there is none.
-fn end_of(name: &str) -> u8
-    ensures { result ≡ slice_index_or name.now (length name.now - 1) 0 }
-{
-    match name.as_bytes() {
-        [.., last] => *last,
-        [] => 0,
-    }
-}
-
-// Whether two names are the same: most that are not differ in their last letters.
-fn is_same(left: &str, right: &str) -> bool
-    ensures { result ≡ bytes_eq left.now right.now }
-{
-    end_of(left) == end_of(right) && left == right
-}
-
-// The object that one of these variables stands for.
-fn object_among<'a>(variables: &[Typed], objects: &[&'a str], name: &str) -> Option<&'a str>
-    ensures { option_map (λ o. o.now) result ≡ object_among
-        (bound (map typed_view variables.now) (map (λ o. o.now) objects.now)) name.now }
-{
-    let mut left = objects;
-    for variable in variables {
-        let [object, others @ ..] = left else {
-            return None;
-        };
-        if is_same(variable.name.as_str(), name) {
-            return Some(*object);
-        }
-        left = others;
-    }
-    None
+    Inner(&'e Variables<'a>, &'e [&'a str], &'e Env<'e, 'a>),
 }
 
 /// The object that a variable stands for.
@@ -61,7 +24,7 @@ fn object_under<'a>(env: &Env<'_, 'a>, name: &str) -> Option<&'a str>
 {
     match env {
         Env::Empty => None,
-        Env::Inner(variables, objects, outer) => match object_among(variables, objects, name) {
+        Env::Inner(variables, objects, outer) => match variables.object(objects, name) {
             Some(object) => Some(object),
             None => object_under(outer, name),
         },

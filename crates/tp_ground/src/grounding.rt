@@ -17,6 +17,7 @@ use crate::environment::Env;
 use crate::lowering::body;
 use crate::rows::{Rows, rows_of};
 use crate::universe::{Universe, count_and_note, refill};
+use crate::variables::Variables;
 use crate::writer::Writer;
 use std::alloc::{AllocError, Global};
 use tp_ast::action::Action;
@@ -88,6 +89,35 @@ pub fn name_actions(
     Ok(())
 }
 
+// Puts the body of an action under each binding of its parameters, which are found by their names, at the end of a list.
+fn push_bodies_of<'a>(
+    alloc: Global,
+    universe: &Universe<'a>,
+    writer: &mut Writer<'a>,
+    parameters: &Variables<'a>,
+    written: &'a tp_ast::action::Body,
+    into: &mut Vec<Body>,
+) -> Result<(), GroundFault>
+    requires { universe_view universe.now ≡ writer.old.universe }
+    ensures { Appends named_body writer.old result writer.new into.old.items into.new.items
+        (map (λ objects. body_in (universe_view universe.now)
+        (bound (map typed_view parameters.now) objects) (body_view written.now))
+        (bindings (universe_view universe.now) (map typed_view parameters.now)))
+        (of_each (λ objects. of_body (universe_view universe.now)
+        (bound (map typed_view parameters.now) objects) (body_view written.now))
+        (bindings (universe_view universe.now) (map typed_view parameters.now))) }
+{
+    let mut rows = rows_of(alloc, universe, parameters.items())?;
+    into.reserve(rows.count)?;
+    let outside = Env::Empty;
+    for place in 0..rows.count {
+        rows.turn_to(place);
+        let inner = Env::Inner(&*parameters, &rows.row, &outside);
+        into.push(body(alloc, universe, &inner, writer, written)?)?;
+    }
+    Ok(())
+}
+
 // Puts the body of an action under each binding of its parameters at the end of a list.
 fn push_bodies<'a>(
     alloc: Global,
@@ -106,15 +136,8 @@ fn push_bodies<'a>(
         (bound (map typed_view parameters.now) objects) (body_view written.now))
         (bindings (universe_view universe.now) (map typed_view parameters.now))) }
 {
-    let mut rows = rows_of(alloc, universe, parameters)?;
-    into.reserve(rows.count)?;
-    let outside = Env::Empty;
-    for place in 0..rows.count {
-        rows.turn_to(place);
-        let inner = Env::Inner(&*parameters, &rows.row, &outside);
-        into.push(body(alloc, universe, &inner, writer, written)?)?;
-    }
-    Ok(())
+    let named = Variables::new(alloc, parameters)?;
+    push_bodies_of(alloc, universe, writer, &named, written, into)
 }
 
 /// The bodies of all ground actions, in order.

@@ -2,7 +2,7 @@
 
 ghost use Rattle.std.specs.Prelude.{◌≡◌, ◌++◌, ◌∷◌, Bool, map, filter, length, IfOk, OnOk};
 ghost use Rattle.tp_ast.specs.Symbols.{typed_view};
-ghost use Rattle.tp_ast.specs.DomainViews.{action_view, body_view};
+ghost use Rattle.tp_ast.specs.DomainViews.{body_view};
 ghost use Rattle.tp_ground.specs.Views.{universe_view};
 ghost use Rattle.tp_ground.specs.Bindings.{bound, bindings};
 ghost use Rattle.tp_ground.specs.Written.{body_in};
@@ -11,58 +11,59 @@ ghost use Rattle.tp_ground.specs.ReadBack.{named_body};
 ghost use Rattle.tp_ground.specs.Lowered.{Lowers};
 ghost use Rattle.tp_ground.specs.Reached as reached;
 ghost use Rattle.tp_ground.specs.Reached.{instances, action_of, of_instance};
+ghost use Rattle.tp_ground.specs.Schemas.{schema_view};
 ghost use Rattle.tp_ground.specs.Instances.{instance_view};
 ghost use Rattle.tp_ground.specs.Rows.{product, lists_of};
 
 use crate::environment::Env;
 use crate::lowering::body;
 use crate::rows::{Rows, rows_of};
+use crate::schemas::Schema;
 use crate::universe::{Universe, copied, refill};
+use crate::variables::Variables;
 use crate::writer::Writer;
 use std::alloc::{AllocError, Global};
-use tp_ast::action::Action;
-use tp_ast::symbols::Typed;
 use tp_task::{Body, GroundFault};
 
 /// An action, and the objects that its parameters stand for.
 #[derive(Drop)]
-pub struct Instance<'a> {
-    pub action: &'a Action,
+pub struct Instance<'s, 'a> {
+    pub schema: &'s Schema<'a>,
     pub objects: Vec<&'a str>,
 }
 
 // Puts the bindings of an action at the end of a list.
-fn push_rows<'a>(
+fn push_rows<'s, 'a>(
     alloc: Global,
-    action: &'a Action,
+    schema: &'s Schema<'a>,
     rows: &mut Rows<'a>,
-    into: &mut Vec<Instance<'a>>,
+    into: &mut Vec<Instance<'s, 'a>>,
 ) -> Result<(), AllocError>
     ensures { OnOk result (map instance_view into.new.items ≡ map instance_view into.old.items
-        ++ map (λ ns. record { action = action_view action.now; objects = ns })
+        ++ map (λ ns. record { action = schema_view schema.now; objects = ns })
         (product (lists_of rows.old.lists.items))) }
 {
     for place in 0..rows.count {
         rows.turn_to(place);
         let objects = copied(alloc, &rows.row)?;
-        into.push(Instance { action, objects })?;
+        into.push(Instance { schema, objects })?;
     }
     Ok(())
 }
 
 /// All type-correct bindings of all actions, in order.
-pub fn all_instances<'a>(
+pub fn all_instances<'s, 'a>(
     alloc: Global,
     universe: &Universe<'a>,
-    actions: &'a [Action],
-) -> Result<Vec<Instance<'a>>, AllocError>
+    schemas: &'s [Schema<'a>],
+) -> Result<Vec<Instance<'s, 'a>>, AllocError>
     ensures { IfOk result (λ v. map instance_view v.items
-        ≡ instances (universe_view universe.now) (map action_view actions.now)) }
+        ≡ instances (universe_view universe.now) (map schema_view schemas.now)) }
 {
     let mut all = Vec::new(alloc);
-    for action in actions {
-        let mut rows = rows_of(alloc, universe, &action.parameters)?;
-        push_rows(alloc, action, &mut rows, &mut all)?;
+    for schema in schemas {
+        let mut rows = rows_of(alloc, universe, &schema.action.parameters)?;
+        push_rows(alloc, schema, &mut rows, &mut all)?;
     }
     Ok(all)
 }
@@ -72,7 +73,7 @@ fn lower_under<'a>(
     alloc: Global,
     universe: &Universe<'a>,
     writer: &mut Writer<'a>,
-    parameters: &'a [Typed],
+    parameters: &Variables<'a>,
     objects: &[&'a str],
     written: &'a tp_ast::action::Body,
 ) -> Result<Body, GroundFault>
@@ -92,21 +93,21 @@ fn lower_one<'a>(
     alloc: Global,
     universe: &Universe<'a>,
     writer: &mut Writer<'a>,
-    instance: &Instance<'a>,
+    instance: &Instance<'_, 'a>,
 ) -> Result<Body, GroundFault>
     requires { universe_view universe.now ≡ writer.old.universe }
     ensures { Lowers named_body writer.old result writer.new
         (action_of (universe_view universe.now) (instance_view instance.now)).body
         (of_instance (universe_view universe.now) (instance_view instance.now)) }
 {
-    let action = instance.action;
+    let schema = instance.schema;
     lower_under(
         alloc,
         universe,
         writer,
-        &action.parameters,
+        &schema.parameters,
         &instance.objects,
-        &action.body,
+        &schema.action.body,
     )
 }
 
@@ -115,7 +116,7 @@ pub fn lower_instances<'a>(
     alloc: Global,
     universe: &Universe<'a>,
     writer: &mut Writer<'a>,
-    some: &[Instance<'a>],
+    some: &[Instance<'_, 'a>],
 ) -> Result<Vec<Body>, GroundFault>
     requires { universe_view universe.now ≡ writer.old.universe }
     ensures { Lowers (λ t v. map (named_body t) v.items) writer.old result writer.new
@@ -143,28 +144,35 @@ pub fn name_instances(
 {
     let mut words = Vec::new(alloc);
     for instance in some {
-        refill(&mut words, instance.action.name.as_str(), &instance.objects)?;
+        refill(
+            &mut words,
+            instance.schema.action.name.as_str(),
+            &instance.objects,
+        )?;
         writer.push_action(&words)?;
     }
     Ok(())
 }
 
-fn copy_of<'a>(alloc: Global, instance: &Instance<'a>) -> Result<Instance<'a>, AllocError>
+fn copy_of<'s, 'a>(
+    alloc: Global,
+    instance: &Instance<'s, 'a>,
+) -> Result<Instance<'s, 'a>, AllocError>
     ensures { IfOk result (λ i. instance_view i ≡ instance_view instance.now) }
 {
     let objects = copied(alloc, &instance.objects)?;
     Ok(Instance {
-        action: instance.action,
+        schema: instance.schema,
         objects,
     })
 }
 
 /// The instances that are flagged, in order.
-pub fn flagged<'a>(
+pub fn flagged<'s, 'a>(
     alloc: Global,
-    all: &[Instance<'a>],
+    all: &[Instance<'s, 'a>],
     flags: &[bool],
-) -> Result<Vec<Instance<'a>>, AllocError>
+) -> Result<Vec<Instance<'s, 'a>>, AllocError>
     requires { length flags.now ≡ length all.now }
     ensures { IfOk result (λ v. (test : reached.Instance → Bool)
         → flags.now ≡ map test (map instance_view all.now)

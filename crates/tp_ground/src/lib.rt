@@ -1,9 +1,9 @@
 //! How ground tasks are made of domains and problems.
 //!
 //! - `objects`, `universe`, `noting`, `rows`: the objects, what variables may stand for, and their bindings
-//! - `environment`, `lowering`: conditions, expressions, effects and bodies grounded under a binding
+//! - `variables`, `environment`, `lowering`: conditions, expressions, effects and bodies grounded under a binding
 //! - `numbers`, `beginning`, `grounding`, `grounder`: numbers past the limit, the initial state, all ground actions, the task
-//! - `instances`, `reached`: all bindings, and the task of those that the relaxed reach keeps
+//! - `schemas`, `instances`, `reached`: all bindings, and the task of those that the relaxed reach keeps
 //! - `laws`: what holds of the tasks that are made
 #![tactic(auto)]
 
@@ -22,8 +22,10 @@ mod objects;
 mod reached;
 mod rows;
 mod sameness;
+mod schemas;
 mod shortness;
 mod universe;
+mod variables;
 mod writer;
 
 pub use grounder::ground;

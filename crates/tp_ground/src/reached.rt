@@ -22,6 +22,7 @@ use crate::environment::Env;
 use crate::grounder::{LoweredTask, check, note_quantifiers, plain_universe, task_of};
 use crate::instances::{Instance, all_instances, flagged, lower_instances, name_instances};
 use crate::lowering::condition;
+use crate::schemas::{Schema, schemas_of};
 use crate::universe::{Universe, count_and_note};
 use crate::writer::Writer;
 use std::alloc::{AllocError, Global};
@@ -103,7 +104,7 @@ fn lower_with<'a>(
     writer: &mut Writer<'a>,
     initial: &'a [Initial],
     goal: &'a tp_ast::cond::Cond,
-    some: &[Instance<'a>],
+    some: &[Instance<'_, 'a>],
 ) -> Result<LoweredTask, GroundFault>
     requires { universe_view universe.now ≡ writer.old.universe }
     ensures { Lowers named_task writer.old result writer.new
@@ -127,7 +128,7 @@ fn lower_problem<'a>(
     universe: &Universe<'a>,
     writer: &mut Writer<'a>,
     problem: &'a Problem,
-    some: &[Instance<'a>],
+    some: &[Instance<'_, 'a>],
 ) -> Result<LoweredTask, GroundFault>
     requires { universe_view universe.now ≡ writer.old.universe }
     ensures { Lowers named_task writer.old result writer.new
@@ -193,7 +194,7 @@ fn lower_freely<'a>(
     universe: &Universe<'a>,
     writer: &mut Writer<'a>,
     problem: &'a Problem,
-    some: &[Instance<'a>],
+    some: &[Instance<'_, 'a>],
 ) -> Result<LoweredTask, AllocError>
     requires { universe_view universe.now ≡ writer.old.universe }
     ensures { IfOk result (λ l. IsLowered named_task writer.old writer.new l
@@ -214,7 +215,7 @@ fn flags_of<'a>(
     universe: &Universe<'a>,
     domain: &'a Domain,
     problem: &'a Problem,
-    some: &[Instance<'a>],
+    some: &[Instance<'_, 'a>],
 ) -> Result<Vec<bool>, AllocError>
     requires { universe_view universe.now
         ≡ universe_of (domain_view domain.now) (problem_view problem.now) }
@@ -228,18 +229,20 @@ fn flags_of<'a>(
 }
 
 // The ground actions that the relaxed reach keeps.
-fn kept_instances<'a>(
+fn kept_instances<'s, 'a>(
     alloc: Global,
     universe: &Universe<'a>,
     domain: &'a Domain,
     problem: &'a Problem,
-) -> Result<Vec<Instance<'a>>, AllocError>
-    requires { universe_view universe.now
+    schemas: &'s [Schema<'a>],
+) -> Result<Vec<Instance<'s, 'a>>, AllocError>
+    requires of_problem { universe_view universe.now
         ≡ universe_of (domain_view domain.now) (problem_view problem.now) }
+    requires of_domain { map (λ s. s.action.now) schemas.now ≡ domain.now.actions.items }
     ensures { IfOk result (λ v. AreKept (domain_view domain.now) (problem_view problem.now)
         (map instance_view v.items)) }
 {
-    let all = all_instances(alloc, universe, &domain.actions)?;
+    let all = all_instances(alloc, universe, schemas)?;
     let flags = flags_of(alloc, universe, domain, problem, &all)?;
     flagged(alloc, &all, &flags)
 }
@@ -252,7 +255,7 @@ fn prepare_with<'a>(
     universe: &Universe<'a>,
     writer: &mut Writer<'a>,
     problem: &'a Problem,
-    some: &[Instance<'a>],
+    some: &[Instance<'_, 'a>],
 ) -> Result<LoweredTask, GroundFault>
     requires { universe_view universe.now ≡ writer.old.universe }
     ensures lowered { Lowers named_task writer.old result
@@ -275,7 +278,7 @@ fn task_with<'a>(
     universe: &Universe<'a>,
     domain: &'a Domain,
     problem: &'a Problem,
-    some: &[Instance<'a>],
+    some: &[Instance<'_, 'a>],
     limits: &Limits,
     scale: Scale,
 ) -> Result<Task, GroundFault>
@@ -303,7 +306,7 @@ fn kept_task<'a>(
     universe: &Universe<'a>,
     domain: &'a Domain,
     problem: &'a Problem,
-    kept: &[Instance<'a>],
+    kept: &[Instance<'_, 'a>],
     limits: &Limits,
     scale: Scale,
 ) -> Result<Task, GroundFault>
@@ -326,10 +329,10 @@ fn kept_task<'a>(
 }
 
 // The task of a problem whose numbers and objects are in range.
-fn reached_within(
+fn reached_within<'a>(
     alloc: Global,
-    domain: &Domain,
-    problem: &Problem,
+    domain: &'a Domain,
+    problem: &'a Problem,
     limits: &Limits,
     scale: Scale,
 ) -> Result<Task, GroundFault>
@@ -342,7 +345,8 @@ fn reached_within(
         (HasNoReachedTask limits.now (domain_view domain.now) (problem_view problem.now)) }
 {
     let universe = universe_of_all(alloc, domain, problem)?;
-    let kept = kept_instances(alloc, &universe, domain, problem)?;
+    let schemas = schemas_of(alloc, &domain.actions)?;
+    let kept = kept_instances(alloc, &universe, domain, problem, &schemas)?;
     kept_task(alloc, &universe, domain, problem, &kept, limits, scale)
 }
 

@@ -23,6 +23,7 @@ use crate::memory::Kept;
 use crate::rows::rows_of;
 use crate::shortness::is_short_quantifier;
 use crate::universe::Universe;
+use crate::variables::Variables;
 use crate::writer::Writer;
 use std::alloc::{AllocError, Global};
 use std::rc::Rc;
@@ -33,7 +34,12 @@ use tp_ast::words::Comparison;
 use tp_task::{Cond, GroundFault};
 
 /// The number of an atom.
-pub fn atom(alloc: Global, env: &Env, writer: &mut Writer, atom: &Atom) -> Result<u32, GroundFault>
+pub fn atom<'a>(
+    alloc: Global,
+    env: &Env<'_, 'a>,
+    writer: &mut Writer<'a>,
+    atom: &'a Atom,
+) -> Result<u32, GroundFault>
     ensures { Lowers (λ t i. words_at t.atoms i) writer.old result writer.new
         (words_in (env_view env.now) (atom_view atom.now))
         (an_atom (words_in (env_view env.now) (atom_view atom.now))) }
@@ -50,7 +56,12 @@ pub fn atom(alloc: Global, env: &Env, writer: &mut Writer, atom: &Atom) -> Resul
     }
 }
 
-fn fact(alloc: Global, env: &Env, writer: &mut Writer, fact: &Atom) -> Result<Cond, GroundFault>
+fn fact<'a>(
+    alloc: Global,
+    env: &Env<'_, 'a>,
+    writer: &mut Writer<'a>,
+    fact: &'a Atom,
+) -> Result<Cond, GroundFault>
     ensures { Lowers named_condition writer.old result writer.new
         (cond_atom (words_in (env_view env.now) (atom_view fact.now)))
         (an_atom (words_in (env_view env.now) (atom_view fact.now))) }
@@ -60,7 +71,7 @@ fn fact(alloc: Global, env: &Env, writer: &mut Writer, fact: &Atom) -> Result<Co
 }
 
 // An equality of objects: the empty conjunction holds, the empty disjunction doesn't.
-fn same(alloc: Global, env: &Env, left: &Term, right: &Term) -> Cond
+fn same<'a>(alloc: Global, env: &Env<'_, 'a>, left: &'a Term, right: &'a Term) -> Cond
     ensures { (t : Tables) → named_condition t result
         ≡ same_in (env_view env.now) (term_view left.now) (term_view right.now) }
 {
@@ -71,13 +82,13 @@ fn same(alloc: Global, env: &Env, left: &Term, right: &Term) -> Cond
     }
 }
 
-fn compared(
+fn compared<'a>(
     alloc: Global,
-    env: &Env,
-    writer: &mut Writer,
+    env: &Env<'_, 'a>,
+    writer: &mut Writer<'a>,
     comparison: Comparison,
-    left: &Expr,
-    right: &Expr,
+    left: &'a Expr,
+    right: &'a Expr,
 ) -> Result<Cond, GroundFault>
     ensures { Lowers named_condition writer.old result writer.new (compared_in
         (env_view env.now) comparison (expr_view left.now) (expr_view right.now)) (of_condition
@@ -120,6 +131,34 @@ fn conditions<'a>(
     Ok(lowered)
 }
 
+// A condition under each binding of variables that are found by their names.
+#[cycle(condition)]
+fn under_each_of<'a>(
+    alloc: Global,
+    universe: &Universe<'a>,
+    env: &Env<'_, 'a>,
+    writer: &mut Writer<'a>,
+    variables: &Variables<'a>,
+    cond: &'a tp_ast::cond::Cond,
+) -> Result<Vec<Cond>, GroundFault>
+    requires { universe_view universe.now ≡ writer.old.universe }
+    ensures { Lowers (λ t v. map (named_condition t) v.items) writer.old result writer.new
+        (map (λ e. condition_in (universe_view universe.now) e (cond_view cond.now))
+        (inner (universe_view universe.now) (env_view env.now) (map typed_view variables.now)))
+        (of_each of_condition
+        (map (λ e. condition_in (universe_view universe.now) e (cond_view cond.now))
+        (inner (universe_view universe.now) (env_view env.now) (map typed_view variables.now)))) }
+{
+    let mut rows = rows_of(alloc, universe, variables.items())?;
+    let mut lowered = Vec::with_capacity(alloc, rows.count)?;
+    for place in 0..rows.count {
+        rows.turn_to(place);
+        let inner = Env::Inner(&*variables, &rows.row, &*env);
+        lowered.push(condition(alloc, universe, &inner, writer, cond)?)?;
+    }
+    Ok(lowered)
+}
+
 // A condition under each binding of variables.
 #[cycle(condition)]
 fn under_each<'a>(
@@ -138,14 +177,8 @@ fn under_each<'a>(
         (map (λ e. condition_in (universe_view universe.now) e (cond_view cond.now))
         (inner (universe_view universe.now) (env_view env.now) (map typed_view variables.now)))) }
 {
-    let mut rows = rows_of(alloc, universe, variables)?;
-    let mut lowered = Vec::with_capacity(alloc, rows.count)?;
-    for place in 0..rows.count {
-        rows.turn_to(place);
-        let inner = Env::Inner(&*variables, &rows.row, &*env);
-        lowered.push(condition(alloc, universe, &inner, writer, cond)?)?;
-    }
-    Ok(lowered)
+    let named = Variables::new(alloc, variables)?;
+    under_each_of(alloc, universe, env, writer, &named, cond)
 }
 
 #[cycle(condition)]

@@ -17,11 +17,11 @@ use tp_ast::constraint::DurationRule;
 use tp_task::{GroundFault, Limit};
 
 #[cycle(limits)]
-fn all_limits(
+fn all_limits<'a>(
     alloc: Global,
-    env: &Env,
-    writer: &mut Writer,
-    constraints: &[DurationRule],
+    env: &Env<'_, 'a>,
+    writer: &mut Writer<'a>,
+    constraints: &'a [DurationRule],
 ) -> Result<Vec<Limit>, GroundFault>
     ensures { Lowers (λ t v. map (named_limit t) v.items) writer.old result writer.new
         (flat_map (λ r. limits_in (env_view env.now) (constraint_view r)) constraints.now)
@@ -38,11 +38,11 @@ fn all_limits(
 
 /// The comparisons of a duration constraint.
 #[cycle(limits)]
-pub fn limits(
+pub fn limits<'a>(
     alloc: Global,
-    env: &Env,
-    writer: &mut Writer,
-    constraint: &DurationRule,
+    env: &Env<'_, 'a>,
+    writer: &mut Writer<'a>,
+    constraint: &'a DurationRule,
 ) -> Result<Vec<Limit>, GroundFault>
     ensures { Lowers (λ t v. map (named_limit t) v.items) writer.old result writer.new
         (limits_in (env_view env.now) (constraint_view constraint.now))

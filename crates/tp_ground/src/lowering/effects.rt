@@ -48,13 +48,13 @@ fn change_of(writing: Writing) -> Change
     }
 }
 
-fn write(
+fn write<'a>(
     alloc: Global,
-    env: &Env,
-    writer: &mut Writer,
+    env: &Env<'_, 'a>,
+    writer: &mut Writer<'a>,
     writing: Writing,
-    atom: &Atom,
-    value: &Expr,
+    atom: &'a Atom,
+    value: &'a Expr,
 ) -> Result<NumberedEffect, GroundFault>
     ensures { Lowers named_simple_effect writer.old result writer.new (simple_effect_in
         (env_view env.now) (writes writing (atom_view atom.now) (expr_view value.now)))
@@ -70,11 +70,11 @@ fn write(
     }))
 }
 
-fn simple_effect(
+fn simple_effect<'a>(
     alloc: Global,
-    env: &Env,
-    writer: &mut Writer,
-    simple_effect: &SimpleEffect,
+    env: &Env<'_, 'a>,
+    writer: &mut Writer<'a>,
+    simple_effect: &'a SimpleEffect,
 ) -> Result<NumberedEffect, GroundFault>
     ensures { Lowers named_simple_effect writer.old result writer.new
         (simple_effect_in (env_view env.now) (simple_effect_view simple_effect.now))

@@ -31,11 +31,11 @@ pub fn comparison_of(comparison: tp_ast::words::Comparison) -> Comparison
 }
 
 /// The number of a fluent.
-pub fn fluent(
+pub fn fluent<'a>(
     alloc: Global,
-    env: &Env,
-    writer: &mut Writer,
-    atom: &Atom,
+    env: &Env<'_, 'a>,
+    writer: &mut Writer<'a>,
+    atom: &'a Atom,
 ) -> Result<u32, GroundFault>
     ensures { Lowers (λ t i. words_at t.fluents i) writer.old result writer.new
         (words_in (env_view env.now) (atom_view atom.now))
@@ -47,11 +47,11 @@ pub fn fluent(
 
 /// The same, in a box of its own.
 #[cycle(expression)]
-pub fn operand(
+pub fn operand<'a>(
     alloc: Global,
-    env: &Env,
-    writer: &mut Writer,
-    expr: &tp_ast::expr::Expr,
+    env: &Env<'_, 'a>,
+    writer: &mut Writer<'a>,
+    expr: &'a tp_ast::expr::Expr,
 ) -> Result<Box<Expr>, GroundFault>
     ensures { Lowers (λ t b. named_expression t b.value) writer.old result writer.new
         (expression_in (env_view env.now) (expr_view expr.now))
@@ -63,11 +63,11 @@ pub fn operand(
 
 /// The expression with numbers for its fluents.
 #[cycle(expression)]
-pub fn expression(
+pub fn expression<'a>(
     alloc: Global,
-    env: &Env,
-    writer: &mut Writer,
-    expr: &tp_ast::expr::Expr,
+    env: &Env<'_, 'a>,
+    writer: &mut Writer<'a>,
+    expr: &'a tp_ast::expr::Expr,
 ) -> Result<Expr, GroundFault>
     ensures { Lowers named_expression writer.old result writer.new
         (expression_in (env_view env.now) (expr_view expr.now))

@@ -16,6 +16,7 @@ ghost use Rattle.tp_ground.specs.Appended.{Appends};
 use crate::environment::Env;
 use crate::rows::rows_of;
 use crate::universe::Universe;
+use crate::variables::Variables;
 use crate::writer::Writer;
 use std::alloc::Global;
 use tp_ast::joined::Joined;
@@ -89,7 +90,38 @@ fn push_parts<'a, P: Lowerable>(
     Ok(())
 }
 
-// Parts under each binding of variables. Room for all bindings is asked for before the first.
+// Parts under each binding of variables that are found by their names. Room for all bindings is asked for before the first.
+#[cycle(push)]
+fn push_under_each_of<'a, P: Lowerable>(
+    alloc: Global,
+    universe: &Universe<'a>,
+    env: &Env<'_, 'a>,
+    specifier: TimeSpecifier,
+    writer: &mut Writer<'a>,
+    variables: &Variables<'a>,
+    part: &'a Joined<P>,
+    into: &mut Vec<P::Lowered>,
+) -> Result<(), GroundFault>
+    requires { universe_view universe.now ≡ writer.old.universe }
+    ensures { Appends P.named writer.old result writer.new into.old.items into.new.items
+        (flat_map (λ e. parts_in (universe_view universe.now)
+        (P.written (universe_view universe.now) specifier) e (joined_view P.seen part.now))
+        (inner (universe_view universe.now) (env_view env.now) (map typed_view variables.now)))
+        (of_each P.mentions (flat_map (λ e. parts_in (universe_view universe.now)
+        (P.written (universe_view universe.now) specifier) e (joined_view P.seen part.now))
+        (inner (universe_view universe.now) (env_view env.now) (map typed_view variables.now)))) }
+{
+    let mut rows = rows_of(alloc, universe, variables.items())?;
+    into.reserve(rows.count)?;
+    for place in 0..rows.count {
+        rows.turn_to(place);
+        let inner = Env::Inner(&*variables, &rows.row, &*env);
+        push_part(alloc, universe, &inner, specifier, writer, part, into)?;
+    }
+    Ok(())
+}
+
+// Parts under each binding of variables.
 #[cycle(push)]
 fn push_under_each<'a, P: Lowerable>(
     alloc: Global,
@@ -110,14 +142,8 @@ fn push_under_each<'a, P: Lowerable>(
         (P.written (universe_view universe.now) specifier) e (joined_view P.seen part.now))
         (inner (universe_view universe.now) (env_view env.now) (map typed_view variables.now)))) }
 {
-    let mut rows = rows_of(alloc, universe, variables)?;
-    into.reserve(rows.count)?;
-    for place in 0..rows.count {
-        rows.turn_to(place);
-        let inner = Env::Inner(&*variables, &rows.row, &*env);
-        push_part(alloc, universe, &inner, specifier, writer, part, into)?;
-    }
-    Ok(())
+    let named = Variables::new(alloc, variables)?;
+    push_under_each_of(alloc, universe, env, specifier, writer, &named, part, into)
 }
 
 /// Puts the parts at a specifier at the end of a list, each after the one before.

@@ -1,10 +1,9 @@
-use Rattle.std.proofs.Common.{List, Vec, Global, [], ◌∷◌, ◌++◌, map, take, refl, sym, ap, ◌∙◌}
+use Rattle.std.proofs.Common.{List, [], ◌∷◌, ◌++◌, map, refl, sym, ap, ◌∙◌}
 use Rattle.std.proofs.lemmas.List.{map-append, take_all}
 use Rattle.std.proofs.lemmas.Simd.{map-map}
-use Rattle.tp_task.specs.declared.events.Body.{Body}
 use Rattle.tp_ground.specs.Views.{universe_view}
 use Rattle.tp_ground.specs.Written.{GroundBody}
-use Rattle.tp_ground.specs.Mentions.{Mentions, ◌then◌, of_each}
+use Rattle.tp_ground.specs.Mentions.{of_each}
 use Rattle.tp_ground.specs.ReadBack.{named_body}
 use Rattle.tp_ground.specs.Reached.{action_of, of_instance}
 use Rattle.tp_ground.specs.Reached as reached

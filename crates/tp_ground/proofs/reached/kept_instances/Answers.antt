@@ -1,12 +1,13 @@
-use Rattle.std.proofs.Common.{◌≡◌, Bool, List, map, filter, ap, subst, ◌∙◌}
+use Rattle.std.proofs.Common.{◌≡◌, Bool, List, map, filter, sym, ap, subst, ◌∙◌}
 use Rattle.std.proofs.lemmas.Result.{IfOk-weaker}
+use Rattle.std.proofs.lemmas.Simd.{map-map}
 use Rattle.tp_ast.specs.DomainViews.{action_view, domain_view, problem_view}
-use Rattle.tp_ast.specs.declared.action.Action.{Action}
 use Rattle.tp_ground.specs.Views.{universe_view}
 use Rattle.tp_ground.specs.Initially.{initial_in}
 use Rattle.tp_ground.specs.Reached.{Instance, instances}
 use Rattle.tp_ground.specs.Instances.{instance_view, AreFlags}
 use Rattle.tp_ground.specs.declared.instances.Instance as code
+use Rattle.tp_ground.specs.declared.schemas.Schema.{Schema}
 use Rattle.tp_ground.proofs.OnFlags.{kept_of}
 use Rattle.tp_ground.proofs.reached.kept_instances.Goals as goal
 
@@ -17,8 +18,8 @@ returns c =
     let all = c.in_ok-all.all.items in
     let flags = c.in_ok-flags.flags.items in
     IfOk-weaker c.flagged.result _ _ (λ v picks.
-    kept_of (domain_view c.args.domain.now) p u (map instance_view all) (map instance_view v.items) flags c.requires
-    (c.in_ok-all.ensures ∙ ap (λ (xs : List Action). instances u (map action_view xs)) c.deref.ensures.value)
-    (subst (λ (ys : List code.Instance). AreFlags u (map initial_in p.initial) (map instance_view ys) flags) c.deref-2.ensures.value c.in_ok-flags.ensures)
-    (subst (λ (fs : List Bool). (test : Instance → Bool) → fs ≡ map test (map instance_view all) → map instance_view v.items ≡ filter test (map instance_view all)) c.deref-4.ensures.value
-    (subst (λ (ys : List code.Instance). (test : Instance → Bool) → c.deref-4.result.now ≡ map test (map instance_view ys) → map instance_view v.items ≡ filter test (map instance_view ys)) c.deref-3.ensures.value picks))) c.flagged.ensures
+    kept_of (domain_view c.args.domain.now) p u (map instance_view all) (map instance_view v.items) flags c.requires.of_problem
+    (c.in_ok-all.ensures ∙ ap (instances u) (sym (map-map action_view (λ (s : Schema). s.action.now) c.args.schemas.now) ∙ ap (map action_view) c.requires.of_domain))
+    (subst (λ (ys : List code.Instance). AreFlags u (map initial_in p.initial) (map instance_view ys) flags) c.deref.ensures.value c.in_ok-flags.ensures)
+    (subst (λ (fs : List Bool). (test : Instance → Bool) → fs ≡ map test (map instance_view all) → map instance_view v.items ≡ filter test (map instance_view all)) c.deref-3.ensures.value
+    (subst (λ (ys : List code.Instance). (test : Instance → Bool) → c.deref-3.result.now ≡ map test (map instance_view ys) → map instance_view v.items ≡ filter test (map instance_view ys)) c.deref-2.ensures.value picks))) c.flagged.ensures

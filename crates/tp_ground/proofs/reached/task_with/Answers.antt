@@ -3,7 +3,6 @@ use Rattle.std.proofs.lemmas.List.{length-map}
 use Rattle.tp_ast.specs.DomainViews.{domain_view, problem_view}
 use Rattle.tp_task.specs.Tables.{Tables}
 use Rattle.tp_ground.specs.Bindings.{Universe}
-use Rattle.tp_ground.specs.Views.{universe_view}
 use Rattle.tp_ground.specs.Lowered.{IsLowered}
 use Rattle.tp_ground.specs.Instances.{instance_view, of_task_with, written_with}
 use Rattle.tp_ground.specs.WrittenTasks.{named_task}

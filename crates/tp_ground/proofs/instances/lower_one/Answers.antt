@@ -1,0 +1,21 @@
+use Rattle.std.proofs.Common.{List, Bor, map, subst}
+use Rattle.tp_ast.specs.Symbols.{Name, typed_view}
+use Rattle.tp_ast.specs.declared.symbols.Typed.{Typed}
+use Rattle.tp_ast.specs.DomainViews.{body_view}
+use Rattle.tp_ground.specs.Bindings.{bound}
+use Rattle.tp_ground.specs.Views.{universe_view}
+use Rattle.tp_ground.specs.Written.{body_in}
+use Rattle.tp_ground.specs.Mentions.{of_body}
+use Rattle.tp_ground.specs.ReadBack.{named_body}
+use Rattle.tp_ground.specs.Lowered.{Lowers}
+use Rattle.tp_ground.proofs.instances.lower_one.Goals as goal
+
+pub returns : goal.returns
+returns c =
+    let u = universe_view c.args.universe.now in
+    let schema = c.args.instance.now.schema.now in
+    let x = body_view schema.action.now.body in
+    let objects = map (λ o. o.now) c.args.instance.now.objects.items in
+    subst (λ (vs : List Typed). Lowers named_body c.args.writer.now c.lower_under.result c.lower_under.new.writer (body_in u (bound (map typed_view vs) objects) x) (of_body u (bound (map typed_view vs) objects) x))
+    schema.own
+    (subst (λ (os : List (Bor Name)). Lowers named_body c.args.writer.now c.lower_under.result c.lower_under.new.writer (body_in u (bound (map typed_view schema.parameters) (map (λ o. o.now) os)) x) (of_body u (bound (map typed_view schema.parameters) (map (λ o. o.now) os)) x)) c.deref.ensures.value c.lower_under.ensures)

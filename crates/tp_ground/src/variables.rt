@@ -1,0 +1,159 @@
+//! Variables, found by their names.
+
+ghost use Rattle.std.specs.Prelude.{◌≡◌, ◌-◌, ℕ, List, option_map, map, length, slice_index_or, IfOk, OnOk};
+ghost use Rattle.std.specs.BTreeMap.{get_by_text};
+ghost use Rattle.std.specs.Str.{bytes_eq};
+ghost use Rattle.tp_ast.specs.Symbols.{typed_view};
+ghost use Rattle.tp_types.specs.Tables.{or_place};
+ghost use Rattle.tp_ground.specs.Bindings.{bound, object_among};
+ghost use Rattle.tp_ground.specs.VariableTables.{variable_name, IsTextTable};
+
+use std::alloc::{AllocError, Global};
+use std::collections::BTreeMap;
+use std::marker::Model;
+use tp_ast::symbols::Typed;
+
+// Up to so many variables are walked over as fast as a table would be asked.
+const FEW: usize = 16;
+
+/// Variables with a table of their names, unless they are few.
+#[derive(Drop)]
+pub struct Variables<'v> {
+    items: &'v [Typed],
+    places: Option<BTreeMap<String, usize>>,
+}
+
+impl<'v> Model for Variables<'v> {
+    ghost use Rattle.std.specs.Prelude.{List, map};
+    ghost use Rattle.tp_ast.specs.declared.symbols.Typed.{Typed};
+
+    ghost Value = { List Typed };
+
+    ghost use Rattle.tp_ground.specs.VariableTables.{variable_name, IsTextTableIfAny};
+
+    ghost view = { λ v. v.items.now };
+
+    ghost invariant = { λ v. IsTextTableIfAny v.places (map variable_name v.items.now) };
+}
+
+// Puts a name at a place if it has none.
+fn put(
+    alloc: Global,
+    places: &mut BTreeMap<String, usize>,
+    name: &str,
+    place: usize,
+) -> Result<(), AllocError>
+    ensures { OnOk result ((n : List ℕ)
+        → get_by_text places.new n ≡ or_place (get_by_text places.old n) name.now place n) }
+{
+    if places.contains_key(name) {
+        return Ok(());
+    }
+    let own = String::from_str(alloc, name)?;
+    places.insert(own, place)?;
+    Ok(())
+}
+
+// Where each name stands first.
+fn places(alloc: Global, items: &[Typed]) -> Result<BTreeMap<String, usize>, AllocError>
+    ensures { IfOk result (λ m. IsTextTable m (map variable_name items.now)) }
+{
+    let mut places = BTreeMap::new(alloc);
+    for (place, item) in items.iter().enumerate() {
+        put(alloc, &mut places, item.name.as_str(), place)?;
+    }
+    Ok(places)
+}
+
+// The last letter of a name, 0 where there is none.
+fn end_of(name: &str) -> u8
+    ensures { result ≡ slice_index_or name.now (length name.now - 1) 0 }
+{
+    match name.as_bytes() {
+        [.., last] => *last,
+        [] => 0,
+    }
+}
+
+// Whether two names are the same: most that are not differ in their last letters.
+fn is_same(left: &str, right: &str) -> bool
+    ensures { result ≡ bytes_eq left.now right.now }
+{
+    end_of(left) == end_of(right) && left == right
+}
+
+// The object that one of these variables stands for, by a walk.
+fn object_among<'a>(variables: &[Typed], objects: &[&'a str], name: &str) -> Option<&'a str>
+    ensures { option_map (λ o. o.now) result ≡ object_among
+        (bound (map typed_view variables.now) (map (λ o. o.now) objects.now)) name.now }
+{
+    let mut left = objects;
+    for variable in variables {
+        let [object, others @ ..] = left else {
+            return None;
+        };
+        if is_same(variable.name.as_str(), name) {
+            return Some(*object);
+        }
+        left = others;
+    }
+    None
+}
+
+// The object that one of these variables stands for, by its place.
+fn object_at_place<'a>(
+    variables: &[Typed],
+    places: &BTreeMap<String, usize>,
+    objects: &[&'a str],
+    name: &str,
+) -> Option<&'a str>
+    requires { IsTextTable places.now (map variable_name variables.now) }
+    ensures { option_map (λ o. o.now) result ≡ object_among
+        (bound (map typed_view variables.now) (map (λ o. o.now) objects.now)) name.now }
+{
+    let _ = variables;
+    let Some(place) = places.get(name) else {
+        return None;
+    };
+    let Some(object) = objects.get(*place) else {
+        return None;
+    };
+    Some(*object)
+}
+
+impl<'v> Variables<'v> {
+    /// Variables in their order.
+    pub fn new(alloc: Global, items: &'v [Typed]) -> Result<Self, AllocError>
+        ensures { IfOk result (λ v. v ≡ items.now) }
+    {
+        if items.len() <= FEW {
+            return Ok(Variables {
+                items,
+                places: None,
+            });
+        }
+        let places = places(alloc, items)?;
+        Ok(Variables {
+            items,
+            places: Some(places),
+        })
+    }
+
+    /// The same in a list.
+    pub fn items(&self) -> &'v [Typed]
+        ensures { result.now ≡ self.now }
+    {
+        self.items
+    }
+
+    /// The object that one of them stands for, if each stands for the object at its place.
+    pub fn object<'a>(&self, objects: &[&'a str], name: &str) -> Option<&'a str>
+        ensures { option_map (λ o. o.now) result ≡ object_among
+            (bound (map typed_view self.now) (map (λ o. o.now) objects.now)) name.now }
+    {
+        match &self.places {
+            Some(places) => object_at_place(self.items, places, objects, name),
+            None => object_among(self.items, objects, name),
+        }
+    }
+}
