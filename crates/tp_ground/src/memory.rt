@@ -31,14 +31,14 @@ pub struct Memory<'a> {
     places: Vec<u32>,
 }
 
-// A mix of what was mixed before and the last four letters of a word, by the steps of FNV-1a.
+// A mix of what was mixed before and the last four letters of a word.
 fn mixed(before: u32, word: &str) -> u32 {
     let letters = word.as_bytes();
-    let mut mixed = before;
+    let mut end = 0u32;
     for letter in &letters[letters.len().saturating_sub(4)..] {
-        mixed = (mixed ^ u32::from(*letter)).wrapping_mul(0x0100_0193);
+        end = (end << 8) | u32::from(*letter);
     }
-    mixed
+    (before.rotate_left(5) ^ end).wrapping_mul(0x9E37_79B1)
 }
 
 fn mark_types(variables: &[Typed], mark: u32) -> u32 {
