@@ -7,7 +7,7 @@ use Rattle.tp_ast.specs.Symbols.{Name, typed_view}
 use Rattle.tp_ast.specs.declared.symbols.Typed.{Typed}
 use Rattle.tp_types.specs.Tables.{place_of}
 use Rattle.tp_ground.specs.Bindings.{bound, object_among}
-use Rattle.tp_ground.specs.VariableTables.{variable_name}
+use Rattle.tp_types.specs.OwnTables.{variable_name}
 
 abbrev names : List Typed → List Name
 names vs = map variable_name vs

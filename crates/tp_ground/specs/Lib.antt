@@ -18,7 +18,6 @@ pub mod NumberedEnds
 pub mod Grounding
 pub mod Reached
 pub mod Schemas
-pub mod VariableTables
 pub mod Instances
 pub mod WrittenTasks
 pub mod OwnNames

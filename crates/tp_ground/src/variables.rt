@@ -1,17 +1,16 @@
 //! Variables, found by their names.
 
-ghost use Rattle.std.specs.Prelude.{◌≡◌, ◌-◌, ℕ, List, option_map, map, length, slice_index_or, IfOk, OnOk};
-ghost use Rattle.std.specs.BTreeMap.{get_by_text};
+ghost use Rattle.std.specs.Prelude.{◌≡◌, ◌-◌, option_map, map, length, slice_index_or, IfOk};
 ghost use Rattle.std.specs.Str.{bytes_eq};
 ghost use Rattle.tp_ast.specs.Symbols.{typed_view};
-ghost use Rattle.tp_types.specs.Tables.{or_place};
 ghost use Rattle.tp_ground.specs.Bindings.{bound, object_among};
-ghost use Rattle.tp_ground.specs.VariableTables.{variable_name, IsTextTable};
+ghost use Rattle.tp_types.specs.OwnTables.{variable_name, IsTextTable};
 
 use std::alloc::{AllocError, Global};
 use std::collections::BTreeMap;
 use std::marker::Model;
 use tp_ast::symbols::Typed;
+use tp_types::own_places::own_places;
 
 // Up to so many variables are walked over as fast as a table would be asked.
 const FEW: usize = 16;
@@ -29,40 +28,11 @@ impl<'v> Model for Variables<'v> {
 
     ghost Value = { List Typed };
 
-    ghost use Rattle.tp_ground.specs.VariableTables.{variable_name, IsTextTableIfAny};
+    ghost use Rattle.tp_types.specs.OwnTables.{variable_name, IsTextTableIfAny};
 
     ghost view = { λ v. v.items.now };
 
     ghost invariant = { λ v. IsTextTableIfAny v.places (map variable_name v.items.now) };
-}
-
-// Puts a name at a place if it has none.
-fn put(
-    alloc: Global,
-    places: &mut BTreeMap<String, usize>,
-    name: &str,
-    place: usize,
-) -> Result<(), AllocError>
-    ensures { OnOk result ((n : List ℕ)
-        → get_by_text places.new n ≡ or_place (get_by_text places.old n) name.now place n) }
-{
-    if places.contains_key(name) {
-        return Ok(());
-    }
-    let own = String::from_str(alloc, name)?;
-    places.insert(own, place)?;
-    Ok(())
-}
-
-// Where each name stands first.
-fn places(alloc: Global, items: &[Typed]) -> Result<BTreeMap<String, usize>, AllocError>
-    ensures { IfOk result (λ m. IsTextTable m (map variable_name items.now)) }
-{
-    let mut places = BTreeMap::new(alloc);
-    for (place, item) in items.iter().enumerate() {
-        put(alloc, &mut places, item.name.as_str(), place)?;
-    }
-    Ok(places)
 }
 
 // The last letter of a name, 0 where there is none.
@@ -132,7 +102,7 @@ impl<'v> Variables<'v> {
                 places: None,
             });
         }
-        let places = places(alloc, items)?;
+        let places = own_places(alloc, items)?;
         Ok(Variables {
             items,
             places: Some(places),

@@ -1,4 +1,3 @@
 pub mod RowViews
-pub mod VariableTables
 pub mod SignatureViews
 pub mod SymbolViews

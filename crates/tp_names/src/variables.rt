@@ -1,15 +1,15 @@
 //! Variables that are found by their names.
 
-ghost use Rattle.std.specs.Prelude.{◌≡◌, ℕ, List, map, option_map, IfOk, OnOk};
-ghost use Rattle.std.specs.BTreeMap.{get_by_text};
-ghost use Rattle.tp_types.specs.Tables.{item_of, or_place};
-ghost use Rattle.tp_names.specs.VariableTables.{variable_name, IsTextTable};
+ghost use Rattle.std.specs.Prelude.{◌≡◌, map, option_map, IfOk};
+ghost use Rattle.tp_types.specs.Tables.{item_of};
+ghost use Rattle.tp_types.specs.OwnTables.{variable_name, IsTextTable};
 
 use std::alloc::{AllocError, Global};
 use std::collections::BTreeMap;
 use std::marker::Model;
 use tp_ast::symbols::Typed;
 use tp_types::lookup::first_named;
+use tp_types::own_places::own_places;
 
 // Up to so many variables are walked over as fast as a table would be asked.
 const FEW: usize = 8;
@@ -27,40 +27,11 @@ impl Model for Variables {
 
     ghost Value = { List Typed };
 
-    ghost use Rattle.tp_names.specs.VariableTables.{variable_name, IsTextTableIfAny};
+    ghost use Rattle.tp_types.specs.OwnTables.{variable_name, IsTextTableIfAny};
 
     ghost view = { λ v. v.items.items };
 
     ghost invariant = { λ v. IsTextTableIfAny v.places (map variable_name v.items.items) };
-}
-
-// Puts a name at a place if it has none.
-fn put(
-    alloc: Global,
-    places: &mut BTreeMap<String, usize>,
-    name: &str,
-    place: usize,
-) -> Result<(), AllocError>
-    ensures { OnOk result ((n : List ℕ)
-        → get_by_text places.new n ≡ or_place (get_by_text places.old n) name.now place n) }
-{
-    if places.contains_key(name) {
-        return Ok(());
-    }
-    let own = String::from_str(alloc, name)?;
-    places.insert(own, place)?;
-    Ok(())
-}
-
-// Where each name stands first.
-fn places(alloc: Global, items: &[Typed]) -> Result<BTreeMap<String, usize>, AllocError>
-    ensures { IfOk result (λ m. IsTextTable m (map variable_name items.now)) }
-{
-    let mut places = BTreeMap::new(alloc);
-    for (place, item) in items.iter().enumerate() {
-        put(alloc, &mut places, item.name.as_str(), place)?;
-    }
-    Ok(places)
 }
 
 fn at_place<'a>(
@@ -90,7 +61,7 @@ impl Variables {
                 places: None,
             });
         }
-        let places = places(alloc, &items)?;
+        let places = own_places(alloc, &items)?;
         Ok(Variables {
             items,
             places: Some(places),

@@ -12,7 +12,6 @@ pub use Rattle.tp_ast.specs.Lists
 pub use Rattle.tp_ast.specs.Readings
 pub use Rattle.tp_ast.specs.Symbols
 pub use Rattle.tp_ast.specs.TypedLists
-pub use Rattle.tp_names.specs.VariableTables
 pub use Rattle.tp_types.specs.Tables
 pub use Rattle.tp_ast.specs.Expressions
 pub use Rattle.tp_ast.specs.Conditions

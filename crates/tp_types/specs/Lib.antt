@@ -1,4 +1,5 @@
 pub mod Tables
+pub mod OwnTables
 pub mod Parents
 pub mod Rows
 pub mod Cycles

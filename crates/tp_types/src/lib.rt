@@ -1,6 +1,7 @@
 //! Names found by tables, and the order among types.
 //!
-//! - `names`, `once`, `table`, `lookup`: names in an order, names that stand once, where they stand, what they were declared as
+//! - `names`, `once`, `table`, `own_places`, `lookup`: names in an order, names that stand once, where they stand, what they were
+//!   declared as
 //! - `guesses`: where names may stand
 //! - `rows`: items that are as the ones before them
 //! - `parents`: where the parents of types stand
@@ -15,6 +16,7 @@ pub mod lookup;
 pub mod marks;
 pub mod names;
 pub mod once;
+pub mod own_places;
 pub mod parents;
 pub mod rows;
 pub mod table;

@@ -1,7 +1,7 @@
 use Rattle.std.proofs.Common.{length, refl, sym, ◌∙◌}
 use Rattle.std.proofs.lemmas.Option.{slice_get_past, slice_get_read}
 use Rattle.tp_types.proofs.OnTables.{no_item, item_at_place}
-use Rattle.tp_names.specs.VariableTables.{variable_name}
+use Rattle.tp_types.specs.OwnTables.{variable_name}
 use Rattle.tp_names.proofs.variables.at_place.Goals as goal
 
 pub returns-in_default : goal.returns-in_default

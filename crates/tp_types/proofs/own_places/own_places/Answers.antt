@@ -1,8 +1,8 @@
 use Rattle.std.proofs.Common.{ap, ◌∙◌}
 use Rattle.tp_types.specs.Tables.{or_place}
-use Rattle.tp_ground.specs.VariableTables.{variable_name}
+use Rattle.tp_types.specs.OwnTables.{variable_name}
 use Rattle.tp_types.proofs.OnTables.{one_more_place}
-use Rattle.tp_ground.proofs.variables.places.Goals as goal
+use Rattle.tp_types.proofs.own_places.own_places.Goals as goal
 
 pub loop-place-preserved : goal.loop-place-preserved
 loop-place-preserved c = λ n.

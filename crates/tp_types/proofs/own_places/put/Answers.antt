@@ -3,7 +3,7 @@ use Rattle.std.proofs.lemmas.Map.Text.{btree_map_updates_text}
 use Rattle.std.specs.BTreeMap.{get_by_text}
 use Rattle.std.specs.Str.{bytes_eq}
 use Rattle.tp_types.proofs.OnTables.{after_put}
-use Rattle.tp_ground.proofs.variables.put.Goals as goal
+use Rattle.tp_types.proofs.own_places.put.Goals as goal
 
 pub returns : goal.returns
 returns c = λ n.

@@ -1,4 +1,4 @@
--- Tables of variables, whose names are their own.
+-- Tables of variables whose names are the table's own.
 use Rattle.std.specs.Prelude.{◌≡◌, ℕ, List, Option, Some, None, String, string_bytes}
 use Rattle.std.specs.BTreeMap.{BTreeMap, get_by_text}
 use Rattle.tp_types.specs.Tables.{Name, place_of}

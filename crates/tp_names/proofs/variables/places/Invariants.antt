@@ -1,6 +1,0 @@
-use Rattle.std.proofs.Common.{map, take}
-use Rattle.tp_names.specs.VariableTables.{variable_name, IsTextTable}
-use Rattle.tp_names.proofs.variables.places.Given as goal
-
-abbrev pub invariant-loop-place : goal.invariant-loop-place
-invariant-loop-place l = IsTextTable l.places (map variable_name (take l.place l.items))
