@@ -1,13 +1,14 @@
 -- The object of a variable by the variable's place.
-use Rattle.std.proofs.Common.{◌≡◌, ℕ, ◌+◌, List, [], ◌∷◌, map, Bool, true, false, cond, Option, Some, None, option_map, Bor, refl, sym, ap, ◌∙◌, add-one}
+use Rattle.std.proofs.Common.{◌≡◌, ℕ, ◌+◌, List, [], ◌∷◌, map, Bool, true, false, cond, Option, Some, None, option_map, Bor, refl, sym, ap, subst, ◌∙◌, String, add-one}
 use Rattle.std.specs.List.{slice_get}
+use Rattle.std.specs.BTreeMap.{BTreeMap, get_by_text}
 use Rattle.std.specs.Str.{bytes_eq}
 use Rattle.tp_ast.specs.Gives.{◌>>=◌}
 use Rattle.tp_ast.specs.Symbols.{Name, typed_view}
 use Rattle.tp_ast.specs.declared.symbols.Typed.{Typed}
 use Rattle.tp_types.specs.Tables.{place_of}
 use Rattle.tp_ground.specs.Bindings.{bound, object_among}
-use Rattle.tp_types.specs.OwnTables.{variable_name}
+use Rattle.tp_types.specs.OwnTables.{variable_name, IsTextTableIfAny}
 
 abbrev names : List Typed → List Name
 names vs = map variable_name vs
@@ -37,3 +38,10 @@ at_place vs os n k o is at =
     object_by_place vs os n
     ∙ ap (λ (p : Option ℕ). option_map (λ (b : Bor Name). b.now) (p >>= slice_get os)) is
     ∙ ap (option_map (λ (b : Bor Name). b.now)) at
+
+-- what is found in their table, if they have one, is their place
+pub found_in : {Y : Type 0} (p : Option (BTreeMap (String Y) ℕ)) (t : BTreeMap (String Y) ℕ) (vs ws : List Typed) (n : Name) (o : Option ℕ) → p ≡ Some t → vs ≡ ws → IsTextTableIfAny p (names vs) → o ≡ get_by_text t n → place_of n (names ws) ≡ o
+found_in {Y = Y} p t vs ws n o is same table found =
+    ap (λ (us : List Typed). place_of n (names us)) (sym same)
+    ∙ sym (subst (λ (q : Option (BTreeMap (String Y) ℕ)). IsTextTableIfAny q (names vs)) is table n)
+    ∙ sym found

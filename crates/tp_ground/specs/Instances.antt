@@ -1,6 +1,7 @@
 -- Actions with the objects that their parameters stand for, and what is written out of some of them.
-use Rattle.std.specs.Prelude.{◌≡◌, ℕ, ◌<◌, Bool, true, false, List, [], map, length, slice_index_or}
+use Rattle.std.specs.Prelude.{◌≡◌, ℕ, ◌<◌, Bool, true, false, List, [], map, length, filter, slice_index_or}
 use Rattle.std.specs.List.{flat_map, list_any}
+use Rattle.tp_ast.specs.Actions.{Action}
 use Rattle.tp_ast.specs.Conditions.{Condition}
 use Rattle.tp_ast.specs.Problems.{Initial}
 use Rattle.tp_task.specs.Reach.{met}
@@ -14,7 +15,7 @@ use Rattle.tp_ground.specs.Schemas.{schema_view}
 use Rattle.tp_ground.specs.Mentions.{Mentions, ◌then◌, of_condition, of_each}
 use Rattle.tp_ground.specs.Initially.{GroundInitial, initial_in, of_initial, true_at}
 use Rattle.tp_ground.specs.WrittenTasks.{WrittenTask}
-use Rattle.tp_ground.specs.Reached.{Instance, action_of, of_instance, happenings_of, is_kept, IsReach}
+use Rattle.tp_ground.specs.Reached.{Instance, instances, action_of, of_instance, happenings_of, is_kept, IsReach}
 use Rattle.tp_ground.specs.declared.instances.Instance as code
 use Rattle.tp_ground.specs.declared.grounder.LoweredTask.{LoweredTask}
 
@@ -63,3 +64,11 @@ pub record AreFlags (u : Universe) (initial : List GroundInitial) (is : List Ins
   pub is_reach :
       IsReach initial (flat_map (λ i. happenings_of (action_of u i).body) is) reach
   pub are : flags ≡ map (λ i. is_kept reach (action_of u i).body) is
+
+-- These are the instances of some actions, in order, that have an event whose condition is met in their relaxed reach.
+pub record AreKeptOf (u : Universe) (initial : List GroundInitial) (all : List Action)
+    (kept : List Instance) : Type 0 where
+  pub reach : Words → Bool
+  pub is_reach :
+      IsReach initial (flat_map (λ i. happenings_of (action_of u i).body) (instances u all)) reach
+  pub are : kept ≡ filter (λ i. is_kept reach (action_of u i).body) (instances u all)

@@ -21,7 +21,6 @@ use crate::variables::Variables;
 use crate::writer::Writer;
 use std::alloc::{AllocError, Global};
 use tp_ast::action::Action;
-use tp_ast::symbols::Typed;
 use tp_task::{Body, GroundFault};
 
 /// Whether all actions together have no more bindings than so many. Where they do, the objects that their parameters may
@@ -89,8 +88,8 @@ pub fn name_actions(
     Ok(())
 }
 
-// Puts the body of an action under each binding of its parameters, which are found by their names, at the end of a list.
-fn push_bodies_of<'a>(
+// Puts the body of an action under each binding of its parameters at the end of a list.
+fn push_bodies<'a>(
     alloc: Global,
     universe: &Universe<'a>,
     writer: &mut Writer<'a>,
@@ -118,28 +117,6 @@ fn push_bodies_of<'a>(
     Ok(())
 }
 
-// Puts the body of an action under each binding of its parameters at the end of a list.
-fn push_bodies<'a>(
-    alloc: Global,
-    universe: &Universe<'a>,
-    writer: &mut Writer<'a>,
-    parameters: &'a [Typed],
-    written: &'a tp_ast::action::Body,
-    into: &mut Vec<Body>,
-) -> Result<(), GroundFault>
-    requires { universe_view universe.now ≡ writer.old.universe }
-    ensures { Appends named_body writer.old result writer.new into.old.items into.new.items
-        (map (λ objects. body_in (universe_view universe.now)
-        (bound (map typed_view parameters.now) objects) (body_view written.now))
-        (bindings (universe_view universe.now) (map typed_view parameters.now)))
-        (of_each (λ objects. of_body (universe_view universe.now)
-        (bound (map typed_view parameters.now) objects) (body_view written.now))
-        (bindings (universe_view universe.now) (map typed_view parameters.now))) }
-{
-    let named = Variables::new(alloc, parameters)?;
-    push_bodies_of(alloc, universe, writer, &named, written, into)
-}
-
 /// The bodies of all ground actions, in order.
 pub fn lower_actions<'a>(
     alloc: Global,
@@ -154,11 +131,12 @@ pub fn lower_actions<'a>(
 {
     let mut lowered = Vec::new(alloc);
     for action in actions {
+        let parameters = Variables::new(alloc, &action.parameters)?;
         push_bodies(
             alloc,
             universe,
             writer,
-            &action.parameters,
+            &parameters,
             &action.body,
             &mut lowered,
         )?;

@@ -15,7 +15,8 @@ ghost use Rattle.tp_ground.specs.Grounding.{universe_of};
 ghost use Rattle.tp_ground.specs.WriterViews.{with_tables};
 ghost use Rattle.tp_ground.specs.WrittenTasks.{named_task};
 ghost use Rattle.tp_ground.specs.Reached.{AreKept, IsTaskOf, IsReachedTask, HasNoReachedTask, mentioned_of};
-ghost use Rattle.tp_ground.specs.Instances.{instance_view, written_with, of_task_with, has_met, AreMet, AreReached, AreFlags};
+ghost use Rattle.tp_ground.specs.Schemas.{schema_view};
+ghost use Rattle.tp_ground.specs.Instances.{instance_view, written_with, of_task_with, has_met, AreMet, AreReached, AreFlags, AreKeptOf};
 
 use crate::beginning::{entries, truths};
 use crate::environment::Env;
@@ -228,7 +229,7 @@ fn flags_of<'a>(
     are_reached(alloc, numbering.atom_count(), &lowered)
 }
 
-// The ground actions that the relaxed reach keeps.
+// The instances of some actions that their relaxed reach keeps.
 fn kept_instances<'s, 'a>(
     alloc: Global,
     universe: &Universe<'a>,
@@ -236,10 +237,10 @@ fn kept_instances<'s, 'a>(
     problem: &'a Problem,
     schemas: &'s [Schema<'a>],
 ) -> Result<Vec<Instance<'s, 'a>>, AllocError>
-    requires of_problem { universe_view universe.now
+    requires { universe_view universe.now
         ≡ universe_of (domain_view domain.now) (problem_view problem.now) }
-    requires of_domain { map (λ s. s.action.now) schemas.now ≡ domain.now.actions.items }
-    ensures { IfOk result (λ v. AreKept (domain_view domain.now) (problem_view problem.now)
+    ensures { IfOk result (λ v. AreKeptOf (universe_view universe.now)
+        (map initial_in (problem_view problem.now).initial) (map schema_view schemas.now)
         (map instance_view v.items)) }
 {
     let all = all_instances(alloc, universe, schemas)?;

@@ -4,7 +4,6 @@ ghost use Rattle.std.specs.Prelude.{◌≡◌, ◌-◌, option_map, map, length,
 ghost use Rattle.std.specs.Str.{bytes_eq};
 ghost use Rattle.tp_ast.specs.Symbols.{typed_view};
 ghost use Rattle.tp_ground.specs.Bindings.{bound, object_among};
-ghost use Rattle.tp_types.specs.OwnTables.{variable_name, IsTextTable};
 
 use std::alloc::{AllocError, Global};
 use std::collections::BTreeMap;
@@ -70,27 +69,6 @@ fn object_among<'a>(variables: &[Typed], objects: &[&'a str], name: &str) -> Opt
     None
 }
 
-// The object that one of these variables stands for, by its place.
-fn object_at_place<'a>(
-    variables: &[Typed],
-    places: &BTreeMap<String, usize>,
-    objects: &[&'a str],
-    name: &str,
-) -> Option<&'a str>
-    requires { IsTextTable places.now (map variable_name variables.now) }
-    ensures { option_map (λ o. o.now) result ≡ object_among
-        (bound (map typed_view variables.now) (map (λ o. o.now) objects.now)) name.now }
-{
-    let _ = variables;
-    let Some(place) = places.get(name) else {
-        return None;
-    };
-    let Some(object) = objects.get(*place) else {
-        return None;
-    };
-    Some(*object)
-}
-
 impl<'v> Variables<'v> {
     /// Variables in their order.
     pub fn new(alloc: Global, items: &'v [Typed]) -> Result<Self, AllocError>
@@ -121,9 +99,15 @@ impl<'v> Variables<'v> {
         ensures { option_map (λ o. o.now) result ≡ object_among
             (bound (map typed_view self.now) (map (λ o. o.now) objects.now)) name.now }
     {
-        match &self.places {
-            Some(places) => object_at_place(self.items, places, objects, name),
-            None => object_among(self.items, objects, name),
-        }
+        let Some(places) = &self.places else {
+            return object_among(self.items, objects, name);
+        };
+        let Some(place) = places.get(name) else {
+            return None;
+        };
+        let Some(object) = objects.get(*place) else {
+            return None;
+        };
+        Some(*object)
     }
 }

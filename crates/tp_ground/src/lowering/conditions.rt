@@ -131,9 +131,9 @@ fn conditions<'a>(
     Ok(lowered)
 }
 
-// A condition under each binding of variables that are found by their names.
+// A condition under each binding of variables.
 #[cycle(condition)]
-fn under_each_of<'a>(
+fn under_each<'a>(
     alloc: Global,
     universe: &Universe<'a>,
     env: &Env<'_, 'a>,
@@ -157,28 +157,6 @@ fn under_each_of<'a>(
         lowered.push(condition(alloc, universe, &inner, writer, cond)?)?;
     }
     Ok(lowered)
-}
-
-// A condition under each binding of variables.
-#[cycle(condition)]
-fn under_each<'a>(
-    alloc: Global,
-    universe: &Universe<'a>,
-    env: &Env<'_, 'a>,
-    writer: &mut Writer<'a>,
-    variables: &'a [Typed],
-    cond: &'a tp_ast::cond::Cond,
-) -> Result<Vec<Cond>, GroundFault>
-    requires { universe_view universe.now ≡ writer.old.universe }
-    ensures { Lowers (λ t v. map (named_condition t) v.items) writer.old result writer.new
-        (map (λ e. condition_in (universe_view universe.now) e (cond_view cond.now))
-        (inner (universe_view universe.now) (env_view env.now) (map typed_view variables.now)))
-        (of_each of_condition
-        (map (λ e. condition_in (universe_view universe.now) e (cond_view cond.now))
-        (inner (universe_view universe.now) (env_view env.now) (map typed_view variables.now)))) }
-{
-    let named = Variables::new(alloc, variables)?;
-    under_each_of(alloc, universe, env, writer, &named, cond)
 }
 
 #[cycle(condition)]
@@ -251,7 +229,8 @@ fn for_all<'a>(
         (map (λ e. condition_in (universe_view universe.now) e (cond_view cond.now))
         (inner (universe_view universe.now) (env_view env.now) (map typed_view variables.now)))))) }
 {
-    Ok(Cond::And(under_each(alloc, universe, env, writer, variables, cond)?))
+    let named = Variables::new(alloc, variables)?;
+    Ok(Cond::And(under_each(alloc, universe, env, writer, &named, cond)?))
 }
 
 #[cycle(condition)]
@@ -271,7 +250,8 @@ fn for_some<'a>(
         (map (λ e. condition_in (universe_view universe.now) e (cond_view cond.now))
         (inner (universe_view universe.now) (env_view env.now) (map typed_view variables.now)))))) }
 {
-    Ok(Cond::Or(under_each(alloc, universe, env, writer, variables, cond)?))
+    let named = Variables::new(alloc, variables)?;
+    Ok(Cond::Or(under_each(alloc, universe, env, writer, &named, cond)?))
 }
 
 // The condition written out anew, whether or not it was before.

@@ -20,7 +20,6 @@ use crate::variables::Variables;
 use crate::writer::Writer;
 use std::alloc::Global;
 use tp_ast::joined::Joined;
-use tp_ast::symbols::Typed;
 use tp_ast::words::TimeSpecifier;
 use tp_task::GroundFault;
 
@@ -90,9 +89,9 @@ fn push_parts<'a, P: Lowerable>(
     Ok(())
 }
 
-// Parts under each binding of variables that are found by their names. Room for all bindings is asked for before the first.
+// Parts under each binding of variables. Room for all bindings is asked for before the first.
 #[cycle(push)]
-fn push_under_each_of<'a, P: Lowerable>(
+fn push_under_each<'a, P: Lowerable>(
     alloc: Global,
     universe: &Universe<'a>,
     env: &Env<'_, 'a>,
@@ -121,31 +120,6 @@ fn push_under_each_of<'a, P: Lowerable>(
     Ok(())
 }
 
-// Parts under each binding of variables.
-#[cycle(push)]
-fn push_under_each<'a, P: Lowerable>(
-    alloc: Global,
-    universe: &Universe<'a>,
-    env: &Env<'_, 'a>,
-    specifier: TimeSpecifier,
-    writer: &mut Writer<'a>,
-    variables: &'a [Typed],
-    part: &'a Joined<P>,
-    into: &mut Vec<P::Lowered>,
-) -> Result<(), GroundFault>
-    requires { universe_view universe.now ≡ writer.old.universe }
-    ensures { Appends P.named writer.old result writer.new into.old.items into.new.items
-        (flat_map (λ e. parts_in (universe_view universe.now)
-        (P.written (universe_view universe.now) specifier) e (joined_view P.seen part.now))
-        (inner (universe_view universe.now) (env_view env.now) (map typed_view variables.now)))
-        (of_each P.mentions (flat_map (λ e. parts_in (universe_view universe.now)
-        (P.written (universe_view universe.now) specifier) e (joined_view P.seen part.now))
-        (inner (universe_view universe.now) (env_view env.now) (map typed_view variables.now)))) }
-{
-    let named = Variables::new(alloc, variables)?;
-    push_under_each_of(alloc, universe, env, specifier, writer, &named, part, into)
-}
-
 /// Puts the parts at a specifier at the end of a list, each after the one before.
 #[cycle(push)]
 pub fn push_part<'a, P: Lowerable>(
@@ -167,9 +141,8 @@ pub fn push_part<'a, P: Lowerable>(
     match part {
         Joined::And(parts) => push_parts(alloc, universe, env, specifier, writer, parts, into),
         Joined::Forall(variables, inner) => {
-            push_under_each(
-                alloc, universe, env, specifier, writer, variables, inner, into,
-            )
+            let named = Variables::new(alloc, variables)?;
+            push_under_each(alloc, universe, env, specifier, writer, &named, inner, into)
         }
         Joined::One(one) => one.lower(alloc, universe, env, specifier, writer, into),
     }

@@ -9,9 +9,9 @@ use Rattle.tp_ground.specs.Rows.{product, lists_of}
 use Rattle.tp_ground.proofs.OnRows.{row_there, within, behind_all}
 use Rattle.tp_ground.specs.Views.{env_view, universe_view}
 use Rattle.tp_ground.specs.WriterViews.{WriterView}
-use Rattle.tp_ground.specs.Written.{GroundCondition, negation, either, condition_in, inner}
-use Rattle.tp_ground.specs.Lowered.{IsLowered, Lowers}
-use Rattle.tp_ground.specs.Mentions.{of_condition, of_each}
+use Rattle.tp_ground.specs.Written.{GroundCondition, negation, either, condition_in, conditions_from, all_of, any_of, inner}
+use Rattle.tp_ground.specs.Lowered.{IsLowered}
+use Rattle.tp_ground.specs.Mentions.{of_condition}
 use Rattle.tp_ground.specs.ReadBack.{named_condition}
 use Rattle.tp_ground.proofs.Along.{map_next, map_ended}
 use Rattle.tp_ground.proofs.Stopped.{map_stopped, map_stopped_as}
@@ -36,8 +36,8 @@ conditions-returns t c =
     let f = λ (x : syntax.Cond). condition_in (universe_view c.args.universe.now) (env_view c.args.env.now) (cond_view x) in
     all_same named_condition of_condition _ _ _ _ _ (map_ended f c.args.conds.now c.loop-cond.cond-index c.loop-cond-test.false) c.loop-cond.invariant
 
-pub under_each_of-loop-place-preserved : goal.under_each_of-loop-place-preserved
-under_each_of-loop-place-preserved t c =
+pub under_each-loop-place-preserved : goal.under_each-loop-place-preserved
+under_each-loop-place-preserved t c =
     let u = universe_view c.args.universe.now in
     let x = cond_view c.args.cond.now in
     let vs = map typed_view c.args.variables.now in
@@ -56,8 +56,8 @@ under_each_of-loop-place-preserved t c =
       count = c.turn_to.ensures.count ∙ c.loop-place.invariant.count;
     }
 
-pub under_each_of-returns-in_err-condition : goal.under_each_of-returns-in_err-condition
-under_each_of-returns-in_err-condition t c =
+pub under_each-returns-in_err-condition : goal.under_each-returns-in_err-condition
+under_each-returns-in_err-condition t c =
     let u = universe_view c.args.universe.now in
     let x = cond_view c.args.cond.now in
     let env = env_view c.args.env.now in
@@ -72,8 +72,8 @@ under_each_of-returns-in_err-condition t c =
     map_stopped_as named_condition of_condition xs place row lt.1 item _ _ _ _ _ _ _ c.from_residual-in_err-condition.ensures.1 f _ (ap (λ (e : Env). condition_in u e x) (inner_env _ _ _ row names))
     (sym (map_under env vs u (λ (e : Env). condition_in u e x))) c.loop-place.invariant.lowered c.in_err-condition.ensures
 
-pub under_each_of-returns : goal.under_each_of-returns
-under_each_of-returns t c =
+pub under_each-returns : goal.under_each-returns
+under_each-returns t c =
     let u = universe_view c.args.universe.now in
     let x = cond_view c.args.cond.now in
     let env = env_view c.args.env.now in
@@ -82,14 +82,6 @@ under_each_of-returns t c =
     let f = λ (b : List Name). condition_in u (bound vs b ++ env) x in
     let ended = behind_all (product (lists_of c.loop-place.rows.lists.items)) xs c.loop-place.place _ _ c.loop-place.invariant.lists c.loop-place-test.false c.loop-place.invariant.count c.loop-place.rows.counted in
     all_same named_condition of_condition _ _ _ _ _ (map_ended f xs c.loop-place.place ended ∙ map_under env vs u (λ (e : Env). condition_in u e x)) c.loop-place.invariant.lowered
-
-pub under_each-returns : goal.under_each-returns
-under_each-returns t c =
-    let u = universe_view c.args.universe.now in
-    let f = λ (e : Env). condition_in u e (cond_view c.args.cond.now) in
-    let env = env_view c.args.env.now in
-    subst (λ (vs : List Typed). Lowers (λ t v. map (named_condition t) v.items) c.args.writer.now c.under_each_of.result c.under_each_of.new.writer (map f (inner u env (map typed_view vs))) (of_each of_condition (map f (inner u env (map typed_view vs)))))
-    c.in_ok-named.ensures c.under_each_of.ensures
 
 pub negated-returns : goal.negated-returns
 negated-returns t c = lowered_as negation _ (λ u. named_Not u _ ∙ ap (λ z. negation (named_condition u z)) c.in_ok-new.ensures.ok) c.in_ok-lowered.ensures
@@ -107,16 +99,38 @@ pub disjunction-returns : goal.disjunction-returns
 disjunction-returns t c = any_lowered _ _ _ _ _ refl c.in_ok-conditions.ensures
 
 pub for_all-returns-in_err-under_each : goal.for_all-returns-in_err-under_each
-for_all-returns-in_err-under_each t c = all_failed _ _ _ _ _ _ c.from_residual.ensures.1 c.in_err-under_each.ensures refl
+for_all-returns-in_err-under_each t c =
+    let u = universe_view c.args.universe.now in
+    let env = env_view c.args.env.now in
+    let f = λ (e : Env). condition_in u e (cond_view c.args.cond.now) in
+    all_failed _ _ _ _ _ _ c.from_residual-in_err-under_each.ensures.1 c.in_err-under_each.ensures
+    (ap (λ (vs : List Typed). all_of (conditions_from (map f (inner u env (map typed_view vs))))) (sym c.in_ok-named.ensures))
 
 pub for_all-returns : goal.for_all-returns
-for_all-returns t c = all_lowered _ _ _ _ _ refl c.in_ok-under_each.ensures
+for_all-returns t c =
+    let u = universe_view c.args.universe.now in
+    let env = env_view c.args.env.now in
+    let f = λ (e : Env). condition_in u e (cond_view c.args.cond.now) in
+    all_lowered _ _ _ _ _
+    (ap (λ (vs : List Typed). all_of (conditions_from (map f (inner u env (map typed_view vs))))) (sym c.in_ok-named.ensures))
+    c.in_ok-under_each.ensures
 
 pub for_some-returns-in_err-under_each : goal.for_some-returns-in_err-under_each
-for_some-returns-in_err-under_each t c = any_failed _ _ _ _ _ _ c.from_residual.ensures.1 c.in_err-under_each.ensures refl
+for_some-returns-in_err-under_each t c =
+    let u = universe_view c.args.universe.now in
+    let env = env_view c.args.env.now in
+    let f = λ (e : Env). condition_in u e (cond_view c.args.cond.now) in
+    any_failed _ _ _ _ _ _ c.from_residual-in_err-under_each.ensures.1 c.in_err-under_each.ensures
+    (ap (λ (vs : List Typed). any_of (conditions_from (map f (inner u env (map typed_view vs))))) (sym c.in_ok-named.ensures))
 
 pub for_some-returns : goal.for_some-returns
-for_some-returns t c = any_lowered _ _ _ _ _ refl c.in_ok-under_each.ensures
+for_some-returns t c =
+    let u = universe_view c.args.universe.now in
+    let env = env_view c.args.env.now in
+    let f = λ (e : Env). condition_in u e (cond_view c.args.cond.now) in
+    any_lowered _ _ _ _ _
+    (ap (λ (vs : List Typed). any_of (conditions_from (map f (inner u env (map typed_view vs))))) (sym c.in_ok-named.ensures))
+    c.in_ok-under_each.ensures
 
 pub written_out-returns-in-And : goal.written_out-returns-in-And
 written_out-returns-in-And t c = written_as named_condition of_condition _ _ _ _ _ (and_of (universe_view c.args.universe.now) (env_view c.args.env.now) c.args.cond.now c.in-And.conds c.deref.result.now c.in-And.is c.deref.ensures.value) c.conjunction.ensures

@@ -14,8 +14,8 @@ use Rattle.tp_ground.proofs.lowering.conditions.+condition.Given as goal
 abbrev pub invariant-conditions-loop-cond : goal.invariant-conditions-loop-cond
 invariant-conditions-loop-cond l = AllLowered named_condition of_condition l.fn.writer l.writer l.lowered (map (λ c. condition_in (universe_view l.universe) (env_view l.env) (cond_view c)) (take l.cond-index l.conds))
 
-abbrev pub invariant-under_each_of-loop-place : goal.invariant-under_each_of-loop-place
-invariant-under_each_of-loop-place l = record {
+abbrev pub invariant-under_each-loop-place : goal.invariant-under_each-loop-place
+invariant-under_each-loop-place l = record {
   lowered : AllLowered named_condition of_condition l.fn.writer l.writer l.lowered (map (λ b. condition_in (universe_view l.universe) (bound (map typed_view l.variables) b ++ env_view l.env) (cond_view l.cond)) (take l.place (bindings (universe_view l.universe) (map typed_view l.variables))));
   lists : product (lists_of l.rows.lists.items) ≡ bindings (universe_view l.universe) (map typed_view l.variables);
   count : l.rows.count ≡ l.initial.rows.count;

@@ -35,15 +35,15 @@ push_parts-returns g t c =
     let f = part_of u (g.P.Lowerable.written u c.args.specifier) g.P.Lowerable.seen (env_view c.args.env.now) in
     appended_as g.P.Lowerable.named g.P.Lowerable.mentions _ _ _ _ _ _ (sym (ended f c.args.parts.now c.loop-part.part-index c.loop-part-test.false)) c.loop-part.invariant
 
-pub push_under_each_of-loop-place-init : goal.push_under_each_of-loop-place-init
-push_under_each_of-loop-place-init g t c = record {
+pub push_under_each-loop-place-init : goal.push_under_each-loop-place-init
+push_under_each-loop-place-init g t c = record {
   appended = none_appended g.P.Lowerable.named g.P.Lowerable.mentions _ _ _ _ refl c.in_ok-reserve.ensures.items;
   lists = c.in_ok-rows.ensures ∙ ap (λ (vs : List Typed). bindings (universe_view c.args.universe.now) (map typed_view vs)) c.items.ensures;
   count = refl;
 }
 
-pub push_under_each_of-loop-place-preserved : goal.push_under_each_of-loop-place-preserved
-push_under_each_of-loop-place-preserved g t c =
+pub push_under_each-loop-place-preserved : goal.push_under_each-loop-place-preserved
+push_under_each-loop-place-preserved g t c =
     let u = universe_view c.args.universe.now in
     let read = g.P.Lowerable.written u c.args.specifier in
     let x = joined_view g.P.Lowerable.seen c.args.part.now in
@@ -64,8 +64,8 @@ push_under_each_of-loop-place-preserved g t c =
       count = c.turn_to.ensures.count ∙ c.loop-place.invariant.count;
     }
 
-pub push_under_each_of-returns-in_err-push_part : goal.push_under_each_of-returns-in_err-push_part
-push_under_each_of-returns-in_err-push_part g t c =
+pub push_under_each-returns-in_err-push_part : goal.push_under_each-returns-in_err-push_part
+push_under_each-returns-in_err-push_part g t c =
     let u = universe_view c.args.universe.now in
     let read = g.P.Lowerable.written u c.args.specifier in
     let x = joined_view g.P.Lowerable.seen c.args.part.now in
@@ -80,8 +80,8 @@ push_under_each_of-returns-in_err-push_part g t c =
     loop_stopped g.P.Lowerable.named g.P.Lowerable.mentions xs place row lt.1 item _ _ _ _ _ _ _ _ _ c.from_residual-in_err-push_part.ensures.1 (part_under u read g.P.Lowerable.seen vs env c.args.part.now) _ (ap (λ (e : Env). parts_in u read e x) (inner_env _ _ _ row names))
     (sym (flat_under env vs u (part_in u read g.P.Lowerable.seen c.args.part.now))) c.loop-place.invariant.appended c.in_err-push_part.ensures
 
-pub push_under_each_of-returns : goal.push_under_each_of-returns
-push_under_each_of-returns g t c =
+pub push_under_each-returns : goal.push_under_each-returns
+push_under_each-returns g t c =
     let u = universe_view c.args.universe.now in
     let read = g.P.Lowerable.written u c.args.specifier in
     let env = env_view c.args.env.now in
@@ -90,20 +90,17 @@ push_under_each_of-returns g t c =
     let all_of = behind_all (product (lists_of c.loop-place.rows.lists.items)) xs c.loop-place.place _ _ c.loop-place.invariant.lists c.loop-place-test.false c.loop-place.invariant.count c.loop-place.rows.counted in
     appended_as g.P.Lowerable.named g.P.Lowerable.mentions _ _ _ _ _ _ (sym (ended (part_under u read g.P.Lowerable.seen vs env c.args.part.now) xs c.loop-place.place all_of ∙ flat_under env vs u (part_in u read g.P.Lowerable.seen c.args.part.now))) c.loop-place.invariant.appended
 
-pub push_under_each-returns : goal.push_under_each-returns
-push_under_each-returns g t c =
-    let u = universe_view c.args.universe.now in
-    let x = joined_view g.P.Lowerable.seen c.args.part.now in
-    let f = λ (e : Env). parts_in u (g.P.Lowerable.written u c.args.specifier) e x in
-    let env = env_view c.args.env.now in
-    appends_as g.P.Lowerable.named g.P.Lowerable.mentions _ _ _ _ _ _ _ (ap (λ (vs : List Typed). flat_map f (inner u env (map typed_view vs))) (sym c.in_ok-named.ensures)) c.push_under_each_of.ensures
-
 pub push_part-returns-in-And : goal.push_part-returns-in-And
 push_part-returns-in-And g t c =
     let u = universe_view c.args.universe.now in
     appends_as g.P.Lowerable.named g.P.Lowerable.mentions _ _ _ _ _ _ _ (parts_of u (g.P.Lowerable.written u c.args.specifier) g.P.Lowerable.seen (env_view c.args.env.now) c.args.part.now c.in-And.parts c.deref.result.now c.in-And.is c.deref.ensures.value) c.push_parts.ensures
 
-pub push_part-returns-in-Forall : goal.push_part-returns-in-Forall
-push_part-returns-in-Forall g t c =
+pub push_part-returns-in_ok-named-in-Forall : goal.push_part-returns-in_ok-named-in-Forall
+push_part-returns-in_ok-named-in-Forall g t c =
     let u = universe_view c.args.universe.now in
-    appends_as g.P.Lowerable.named g.P.Lowerable.mentions _ _ _ _ _ _ _ (bound_of u (g.P.Lowerable.written u c.args.specifier) g.P.Lowerable.seen (env_view c.args.env.now) c.args.part.now c.in-Forall.variables c.in-Forall.inner c.deref-in-Forall.result.now c.deref-in-Forall-2.result.now c.in-Forall.is c.deref-in-Forall.ensures.value c.deref-in-Forall-2.ensures) c.push_under_each.ensures
+    let read = g.P.Lowerable.written u c.args.specifier in
+    let env = env_view c.args.env.now in
+    let f = part_in u read g.P.Lowerable.seen c.deref-in-Forall-2.result.now in
+    appends_as g.P.Lowerable.named g.P.Lowerable.mentions _ _ _ _ _ _ _
+    (bound_of u read g.P.Lowerable.seen env c.args.part.now c.in-Forall.variables c.in-Forall.inner c.deref-in-Forall.result.now c.deref-in-Forall-2.result.now c.in-Forall.is c.deref-in-Forall.ensures.value c.deref-in-Forall-2.ensures
+    ∙ ap (λ (vs : List Typed). flat_map f (inner u env (map typed_view vs))) (sym c.in_ok-named-in-Forall.ensures)) c.push_under_each.ensures

@@ -13,8 +13,8 @@ invariant-push_parts-loop-part g l =
     let u = universe_view l.universe in
     AllAppended g.P.Lowerable.named g.P.Lowerable.mentions l.fn.writer l.writer l.fn.into.items l.into.items (flat_map (part_of u (g.P.Lowerable.written u l.specifier) g.P.Lowerable.seen (env_view l.env)) (take l.part-index l.parts))
 
-abbrev pub invariant-push_under_each_of-loop-place : goal.invariant-push_under_each_of-loop-place
-invariant-push_under_each_of-loop-place g l =
+abbrev pub invariant-push_under_each-loop-place : goal.invariant-push_under_each-loop-place
+invariant-push_under_each-loop-place g l =
     let u = universe_view l.universe in
     let vs = map typed_view l.variables in
     record {

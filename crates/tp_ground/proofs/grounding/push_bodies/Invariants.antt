@@ -8,7 +8,7 @@ use Rattle.tp_ground.specs.Mentions.{of_each}
 use Rattle.tp_ground.specs.ReadBack.{named_body}
 use Rattle.tp_ground.specs.Appended.{IsAppended}
 use Rattle.tp_ground.proofs.OnActions.{body_under, mentions_under}
-use Rattle.tp_ground.proofs.grounding.push_bodies_of.Given as goal
+use Rattle.tp_ground.proofs.grounding.push_bodies.Given as goal
 
 abbrev pub invariant-loop-place : goal.invariant-loop-place
 invariant-loop-place l = record {
