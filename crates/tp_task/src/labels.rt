@@ -10,7 +10,7 @@ use std::alloc::{AllocError, Global};
 use std::marker::Model;
 
 /// Words by the numbers of their names: most atoms have at most three objects.
-pub type Label = SmallVec<usize, 4>;
+pub type Label = SmallVec<u32, 4>;
 
 /// Labels in order, of which two may be the same.
 #[derive(Drop)]
@@ -30,7 +30,7 @@ impl Model for Labels {
 }
 
 /// The label at a place, empty past the end.
-pub fn label_at<'a>(labels: &'a [Label], place: usize) -> &'a [usize]
+pub fn label_at<'a>(labels: &'a [Label], place: usize) -> &'a [u32]
     ensures { result.now ≡ slice_index_or (map (λ l. l.items) labels.now) place [] }
 {
     match labels.get(place) {
@@ -79,7 +79,7 @@ impl Labels {
     }
 
     /// The label at a place, empty past the end.
-    pub fn at(&self, place: usize) -> &[usize]
+    pub fn at(&self, place: usize) -> &[u32]
         ensures { result.now ≡ slice_index_or self.now place [] }
     {
         let count = self.first.len();
@@ -90,7 +90,7 @@ impl Labels {
     }
 
     /// The last label, empty if there is none.
-    pub fn last(&self) -> &[usize]
+    pub fn last(&self) -> &[u32]
         ensures { result.now ≡ slice_index_or self.now (length self.now - 1) [] }
     {
         self.at(self.len().saturating_sub(1))

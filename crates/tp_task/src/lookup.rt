@@ -11,19 +11,29 @@ use indexmap::IndexSet;
 use smallvec::SmallVec;
 use std::alloc::AllocError;
 
+/// A number as it stands in a label. More names than 2^32 are past memory.
+pub fn short(number: usize) -> Result<u32, AllocError>
+    ensures { IfOk result (λ n. n ≡ number) }
+{
+    match u32::try_from(number) {
+        Ok(number) => Ok(number),
+        Err(_) => Err(AllocError),
+    }
+}
+
 // Whether a number's name is this word.
-fn is_name(names: &IndexSet<String>, number: usize, word: &str) -> bool
+fn is_name(names: &IndexSet<String>, number: u32, word: &str) -> bool
     ensures { result
         ≡ bytes_eq word.now (slice_index_or (map string_bytes names.now.keys) number []) }
 {
-    match names.get_index(number) {
+    match names.get_index(number as usize) {
         Some(name) => word == name.as_str(),
         None => word.is_empty(),
     }
 }
 
 // Whether numbers' names are these words.
-fn are_names(names: &IndexSet<String>, numbers: &[usize], words: &[&str]) -> bool
+fn are_names(names: &IndexSet<String>, numbers: &[u32], words: &[&str]) -> bool
     ensures { result ≡ same_words
         (map (λ w. w.now) words.now) (named (map string_bytes names.now.keys) numbers.now) }
 {
@@ -43,7 +53,7 @@ fn are_names(names: &IndexSet<String>, numbers: &[usize], words: &[&str]) -> boo
 }
 
 // Whether a label has exactly these words: a name and its objects.
-fn is_called(names: &IndexSet<String>, label: &[usize], name: &str, args: &[&str]) -> bool
+fn is_called(names: &IndexSet<String>, label: &[u32], name: &str, args: &[&str]) -> bool
     ensures { result ≡ same_words
         (name.now ∷ map (λ w. w.now) args.now) (named (map string_bytes names.now.keys) label.now) }
 {
@@ -88,12 +98,12 @@ fn known_label(
         return Ok(None);
     };
     let mut label = SmallVec::new(*names.allocator());
-    label.push(first)?;
+    label.push(short(first)?)?;
     for arg in args {
         let Some(number) = names.get_index_of(*arg) else {
             return Ok(None);
         };
-        label.push(number)?;
+        label.push(short(number)?)?;
     }
     Ok(Some(label))
 }
@@ -126,7 +136,7 @@ pub fn has_words_at(names: &IndexSet<String>, labels: &[Label], number: u32, wor
 }
 
 /// The words of a label as text, with one space between.
-pub fn text_of(names: &IndexSet<String>, label: &[usize]) -> Result<String, AllocError>
+pub fn text_of(names: &IndexSet<String>, label: &[u32]) -> Result<String, AllocError>
     ensures { IfOk result
         (λ s. string_bytes s ≡ text_of_words (named (map string_bytes names.now.keys) label.now)) }
 {
@@ -143,18 +153,18 @@ pub fn text_of(names: &IndexSet<String>, label: &[usize]) -> Result<String, Allo
 }
 
 // The name of a number, after what stands there.
-fn push_name(text: &mut String, names: &IndexSet<String>, number: usize) -> Result<(), AllocError>
+fn push_name(text: &mut String, names: &IndexSet<String>, number: u32) -> Result<(), AllocError>
     ensures { OnOk result (string_bytes text.new
         ≡ string_bytes text.old ++ slice_index_or (map string_bytes names.now.keys) number []) }
 {
-    match names.get_index(number) {
+    match names.get_index(number as usize) {
         Some(name) => text.push_str(name.as_str()),
         None => Ok(()),
     }
 }
 
 /// A word of a label.
-pub fn word_of<'a>(names: &'a IndexSet<String>, label: &[usize], place: usize) -> Option<&'a str>
+pub fn word_of<'a>(names: &'a IndexSet<String>, label: &[u32], place: usize) -> Option<&'a str>
     requires { AreNamed (length (map string_bytes names.now.keys)) label.now }
     ensures few { IfSome result (λ _. place + 1 < 2 ^ 64) }
     ensures word { option_map (λ w. w.now) result
@@ -163,7 +173,7 @@ pub fn word_of<'a>(names: &'a IndexSet<String>, label: &[usize], place: usize) -
     // No slice has 2^64 elements.
     let _count = label.len();
     match label.get(place) {
-        Some(number) => match names.get_index(*number) {
+        Some(number) => match names.get_index(*number as usize) {
             Some(name) => Some(name.as_str()),
             None => None,
         },

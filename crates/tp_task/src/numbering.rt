@@ -10,7 +10,7 @@ ghost use Rattle.tp_task.specs.Tables.{words_at, IsFull, CannotNumber};
 use crate::fault::{GroundFault, TooManyKind};
 use crate::guesses::Guesses;
 use crate::labels::{Label, Labels, label_at};
-use crate::lookup::{find, has_words_at, text_of, word_of};
+use crate::lookup::{find, has_words_at, short, text_of, word_of};
 use indexmap::IndexSet;
 use smallvec::SmallVec;
 use std::alloc::{AllocError, Global};
@@ -67,11 +67,11 @@ fn name_number(names: &mut IndexSet<String>, name: &str) -> Result<usize, AllocE
 }
 
 // The number of a name at a place of another label, if it stands there.
-fn stands_near(names: &IndexSet<String>, near: &[usize], place: usize, name: &str) -> Option<usize>
+fn stands_near(names: &IndexSet<String>, near: &[u32], place: usize, name: &str) -> Option<usize>
     ensures { IfSome result
         (λ i. slice_get (map string_bytes names.now.keys) i ≡ Some name.now) }
 {
-    let number = *near.get(place)?;
+    let number = *near.get(place)? as usize;
     match names.get_index(number) {
         Some(known) if name == known.as_str() => Some(number),
         _ => None,
@@ -95,7 +95,7 @@ fn guessed_name(names: &IndexSet<String>, guesses: &Guesses, name: &str) -> Opti
 fn number_near(
     names: &mut IndexSet<String>,
     guesses: &mut Guesses,
-    near: &[usize],
+    near: &[u32],
     place: usize,
     name: &str,
 ) -> Result<usize, AllocError>
@@ -122,7 +122,7 @@ fn number_near(
 fn label_of(
     names: &mut IndexSet<String>,
     guesses: &mut Guesses,
-    near: &[usize],
+    near: &[u32],
     words: &[&str],
 ) -> Result<Label, AllocError>
     requires { IsDistinct bytes_eq (map string_bytes names.old.keys) }
@@ -136,7 +136,7 @@ fn label_of(
     let mut label = SmallVec::new(*names.allocator());
     for word in words {
         let number = number_near(names, guesses, near, label.len(), word)?;
-        label.push(number)?;
+        label.push(short(number)?)?;
     }
     Ok(label)
 }
