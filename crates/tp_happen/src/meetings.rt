@@ -19,6 +19,9 @@ const FEW: usize = 16;
 /// If what they ask and work out has no more than so many parts.
 const SHORT: usize = 4_096;
 
+/// So many steps of a comparison in pairs cost no more than what the tables take for each atom and fluent.
+const STEPS: usize = 4;
+
 /// A way in which two events interfere: what one of them does to an atom or a fluent, and what the other does with it.
 #[derive(Clone, Copy)]
 pub enum Meeting {
@@ -301,22 +304,47 @@ fn behind_event(event: &GroundEvent, parts: usize) -> usize {
     left
 }
 
-/// Whether the events are few, have few effects and ask little, so that it is cheaper to compare them in pairs than to make tables.
-fn do_little(events: &[EventRef<'_>]) -> bool {
-    if events.len() > FEW {
-        return false;
-    }
+/// How many effects events have.
+fn count_effects(events: &[EventRef<'_>]) -> usize {
     let mut effects: usize = 0;
-    let mut left = SHORT;
     for event in events {
         let body = event.body();
         effects = effects
             .saturating_add(body.adds.len())
             .saturating_add(body.deletes.len())
             .saturating_add(body.writes.len());
-        left = behind_event(body, left);
     }
-    effects <= FEW && left > 0
+    effects
+}
+
+/// How many parts all that events ask and work out has, or so many if there are more.
+fn count_parts(events: &[EventRef<'_>], most: usize) -> usize {
+    let mut left = most;
+    for event in events {
+        left = behind_event(event.body(), left);
+    }
+    most.saturating_sub(left)
+}
+
+/// Whether it is cheaper to compare the events in pairs than to make tables of so many atoms and fluents: they are few, have few
+/// effects and ask little, or do so little of all that the tables would hold.
+fn do_little(events: &[EventRef<'_>], room: usize) -> bool {
+    let count = events.len();
+    let steps = room.saturating_mul(STEPS);
+    if count > FEW && count.saturating_mul(count) > steps {
+        return false;
+    }
+    let effects = count_effects(events);
+    if count <= FEW && effects <= FEW && count_parts(events, SHORT) < SHORT {
+        return true;
+    }
+    let parts = count_parts(events, steps);
+    let each = effects.saturating_add(parts);
+    parts < steps
+        && each
+            .saturating_mul(effects)
+            .saturating_add(count.saturating_mul(count))
+            <= steps
 }
 
 /// The first two events that interfere. Takes the time of the conditions and effects of the events, and the time and
@@ -329,8 +357,10 @@ pub(crate) fn first_interfering(
     requires { list_all (fits_in state.now) events.now ≡ true }
     ensures { IfOk result (λ r. r ≡ first_pair 0 events.now) }
 {
-    if do_little(events) {
+    let atoms = state.atoms.len();
+    let fluents = state.numbers.len();
+    if do_little(events, atoms.saturating_add(fluents)) {
         return Ok(first_of_pairs(events));
     }
-    first_by_tables(alloc, events, state.atoms.len(), state.numbers.len())
+    first_by_tables(alloc, events, atoms, fluents)
 }
