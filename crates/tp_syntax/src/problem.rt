@@ -84,6 +84,9 @@ fn new_objects(
         (new_objects (domain_view domain.now) (shapes trees.now)) }
 {
     let objects = objects_in(alloc, types, trees, at)?;
+    if domain.constants.is_empty() {
+        return Ok(objects);
+    }
     if let Some(number) = named_again(alloc, &domain.constants, &objects)? {
         let object = number.saturating_sub(domain.constants.len());
         return Err(SyntaxFault::Twice(item_place(trees, object, at)));
