@@ -154,7 +154,11 @@ fn room_for<P: Lowerable>(part: &Joined<P>, specifier: TimeSpecifier) -> usize {
         Joined::And(parts) => {
             let mut room = 0usize;
             for part in parts {
-                room = room.saturating_add(room_for(part, specifier));
+                let more = match part {
+                    Joined::One(one) => usize::from(one.is_at(specifier)),
+                    inner => room_for(inner, specifier),
+                };
+                room = room.saturating_add(more);
             }
             room
         }
