@@ -149,12 +149,15 @@ module _ (ts : List TypeName) where
         let le_s : s ≤ m = omega (arith, k, same) in
         ap (λ (n : ℕ). at_or_below ps n q object) same ∙ below_by_rank m q s h le_s) t r (bytes_eq t object) refl is is le
 
-    pub straight : no_cycle ps ≡ true
-    straight =
-        names_all is_below ts
-        ∙ all_below (is_ranked ts ranks) is_below (λ t h. within (parent_of t ps >>= rank_of ns ranks) (rank_of ns ranks t) (length ts) h (λ r is le.
+    -- a type that has a rank is below `object`
+    pub ranked_below : (t : Name) → is_ranked ts ranks t ≡ true → is_below t ≡ true
+    ranked_below t h =
+        within (parent_of t ps >>= rank_of ns ranks) (rank_of ns ranks t) (length ts) h (λ r is le.
         let le_all : r ≤ length ps = omega (arith, length-map ts parent_view) in
-        below_by_rank (length ps) t r is le_all)) ns all
+        below_by_rank (length ps) t r is le_all)
+
+    pub straight : no_cycle ps ≡ true
+    straight = names_all is_below ts ∙ all_below (is_ranked ts ranks) is_below ranked_below ns all
 
   pub cycle_at : (k : ℕ) (d : TypeName) → slice_get ts k ≡ Some d → at_or_below ps (length ts) (string_bytes d.name) object ≡ false → no_cycle ps ≡ false
   cycle_at k d is none = by_all (no_cycle ps) refl where

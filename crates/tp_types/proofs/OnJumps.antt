@@ -1,5 +1,5 @@
 -- A jump up passes over none of the types that stand as high as its end.
-use Rattle.std.proofs.Common.{◌≡◌, ℕ, ◌+◌, ◌-◌, ◌<◌, ◌≤◌, zero, suc, List, map, length, Bool, true, false, ◌||◌, Option, Some, None, option_map, IfSome, Bor, refl, sym, ap, ◌∙◌, subst, arith, add-one}
+use Rattle.std.proofs.Common.{◌≡◌, ℕ, ◌+◌, ◌-◌, ◌<◌, ◌≤◌, zero, suc, List, map, length, Bool, true, false, ◌||◌, Option, Some, None, option_map, refl, sym, ap, ◌∙◌, subst, arith, add-one}
 use Rattle.std.specs.List.{list_all, slice_get}
 use Rattle.std.specs.Str.{bytes_eq}
 use Rattle.std.specs.Cmp.Lexicographic.{bytes_decides}
@@ -198,7 +198,3 @@ module _ (ts : List TypeName) (ranks : List ℕ) (all : list_all (is_ranked ts r
 
     pub jump_above : (t j : Name) → jump t ≡ Some j → Above t j
     jump_above t j is = jumping t j is (λ r own le sound. higher r t j r is own (let l : r ≤ r = omega arith in l))
-
-  pub next_parent : {X : Type 0} (seen : X → Name) (t : Name) (o : Option (Bor X)) → option_map (λ q. seen q.now) o ≡ parent_of t ps → IfSome o (λ q. IsAbove ts ranks t (seen q.now))
-  next_parent seen t None is = tt
-  next_parent seen t (Some q) is = parent_above t (seen q.now) (sym is)

@@ -31,6 +31,14 @@ module _ (table : Table) (ts : List TypeName) (parents : List (Option ℕ)) (is_
   by_names : map (λ (t : TypeName). found table (parent_name t)) ts ≡ map (λ (t : TypeName). place_of (parent_name t) (map type_name ts)) ts
   by_names = λ i. map (λ (t : TypeName). is_table (parent_name t) i) ts
 
+  -- where the parent of the type at a place stands
+  module _ (are : AreParents table ts parents) (k : ℕ) where
+    pub parent_place : (d : TypeName) → slice_get ts k ≡ Some d → place_of (parent_name d) (map type_name ts) ≡ parent_at parents k
+    parent_place d at = sym (is_table (parent_name d)) ∙ sym (ap (λ (p : Option (Option ℕ)). p >>= λ i. i) (noted_at table ts parents k (Some d) are at))
+
+    pub no_parent_at : slice_get ts k ≡ None → parent_at parents k ≡ None
+    no_parent_at at = ap (λ (p : Option (Option ℕ)). p >>= λ i. i) (noted_at table ts parents k None are at)
+
   pub placed : AreParents table ts parents → ArePlaced ts parents
   placed are = are ∙ by_names
 
@@ -64,7 +72,7 @@ module _ {A : Type 0} (whole : A) (kept : List A) (ts : List TypeName) where
 
 -- ---- a name and its place, where no name stands twice
 
-place_once : (ts : List TypeName) (k : ℕ) (d : TypeName) → has_twice (map type_name ts) ≡ false → slice_get ts k ≡ Some d → place_of (type_name d) (map type_name ts) ≡ Some k
+pub place_once : (ts : List TypeName) (k : ℕ) (d : TypeName) → has_twice (map type_name ts) ≡ false → slice_get ts k ≡ Some d → place_of (type_name d) (map type_name ts) ≡ Some k
 place_once [] k d once at = cc
 place_once (y ∷ ys) zero d once at =
     let e : y ≡ d = cc in
@@ -86,7 +94,7 @@ module _ (y : TypeName) (ys : List TypeName) (q : Name) where
       let e : j + 1 ≡ k = cc in
       ap (λ (i : ℕ). option_map type_name (slice_get (y ∷ ys) i)) (sym e ∙ add-one j) ∙ rest j refl
 
-name_at_place : (ts : List TypeName) (q : Name) (k : ℕ) → place_of q (map type_name ts) ≡ Some k → option_map type_name (slice_get ts k) ≡ Some q
+pub name_at_place : (ts : List TypeName) (q : Name) (k : ℕ) → place_of q (map type_name ts) ≡ Some k → option_map type_name (slice_get ts k) ≡ Some q
 name_at_place [] q k is = cc
 name_at_place (y ∷ ys) q k is = name_at_head y ys q (bytes_eq (type_name y) q) (place_of q (map type_name ys)) k refl (λ j place. name_at_place ys q j place) is
 
@@ -123,7 +131,7 @@ module _ (ts : List TypeName) (once : has_twice (map type_name ts) ≡ false) (j
       let f : Some (type_name d) ≡ Some q = ap (option_map type_name) (sym at) ∙ named in
       (bytes_decides q (type_name d)).1 (let g : q ≡ type_name d = cc in g)
 
-  same_place : (o : Option ℕ) (b : Bool) → own ≡ o → bytes_eq q (type_name d) ≡ b → b ≡ is_place o j
+  pub same_place : (o : Option ℕ) (b : Bool) → own ≡ o → bytes_eq q (type_name d) ≡ b → b ≡ is_place o j
   same_place None true is same = absurd (let e : None ≡ Some j = sym is ∙ one_name same in cc)
   same_place None false is same = refl
   same_place (Some p) true is same = let e : Some p ≡ Some j = sym is ∙ one_name same in eq_self p j (nat_eq p j) refl (let f : p ≡ j = cc in f)
@@ -164,7 +172,7 @@ module _ (ts : List TypeName) (jumps : List ℕ) where
   named None = refl
   named (Some j) = named_if j (nat_lt j (length ts)) refl
 
-  jump_by_place : (t : Name) (o : Option ℕ) → place t ≡ o → jump t ≡ ((o >>= from) >>= name_at)
+  pub jump_by_place : (t : Name) (o : Option ℕ) → place t ≡ o → jump t ≡ ((o >>= from) >>= name_at)
   jump_by_place t None is = ap (λ (o : Option ℕ). (o >>= slice_get jumps) >>= name_at) is
   jump_by_place t (Some k) is = ap (λ (o : Option ℕ). (o >>= slice_get jumps) >>= name_at) is ∙ named (slice_get jumps k)
 
@@ -179,7 +187,7 @@ module _ (ts : List TypeName) (jumps : List ℕ) where
   item_at (Some i) j is then = item_if i j (nat_lt i (length ts)) refl is then
 
   -- where a jump leads there is a type
-  item_from : {C : Type 0} (k j : ℕ) → from k ≡ Some j → ((d : TypeName) → slice_get ts j ≡ Some d → C) → C
+  pub item_from : {C : Type 0} (k j : ℕ) → from k ≡ Some j → ((d : TypeName) → slice_get ts j ≡ Some d → C) → C
   item_from k j is then = item_at (slice_get jumps k) j is then
 
   abbrev pub leads : Option ℕ → Option ℕ → Bool

@@ -37,3 +37,9 @@ IsAbove ts ranks t j =
     → rank_of (map type_name ts) ranks p ≡ Some a → a ≤ s → (s < r)
     × (at_or_below (map parent_view ts) (length ts) t p
     ≡ at_or_below (map parent_view ts) (length ts) j p)
+
+-- the same of the types that stand at two places
+abbrev pub IsPlaceAbove : List TypeName → List ℕ → ℕ → ℕ → Type 0
+IsPlaceAbove ts ranks k j =
+    (t : Name) → place_of t (map type_name ts) ≡ Some k
+    → (q : Name) × (place_of q (map type_name ts) ≡ Some j) × IsAbove ts ranks t q

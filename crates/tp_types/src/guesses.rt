@@ -3,31 +3,53 @@
 use crate::table::Named;
 use std::alloc::{AllocError, Global};
 
-// So many guesses there are for each name, so that few names share one.
-const SLOTS_EACH: usize = 4;
+// So many slots there are for each name, so that most names lie in the first one that is looked at.
+const SLOTS_EACH: usize = 2;
+
+// So many slots in a row are looked at for a name.
+const TRIES: usize = 8;
+
+// That of a slot that no name has.
+const OPEN: u32 = 0;
+
+// The mix of a name's letters, and the place where the name stands.
+#[derive(Clone, Copy)]
+struct Slot {
+    mix: u32,
+    place: u32,
+}
 
 /// For names, told by a mix of their letters, the place where such a name may stand.
 #[derive(Drop)]
 pub struct Guesses {
-    places: Vec<u32>,
+    slots: Vec<Slot>,
 }
 
-// Where the guess for a name stands among so many.
-fn slot_of(name: &str, slots: usize) -> usize {
-    let mut mixed = 0u32;
+// A mix of the letters of a name. It is odd, so not that of an open slot.
+fn mix_of(name: &str) -> u32 {
+    let mut mix = 0u32;
     for letter in name.as_bytes() {
-        mixed = (mixed ^ u32::from(*letter)).wrapping_mul(0x0100_0193);
+        mix = (mix ^ u32::from(*letter)).wrapping_mul(0x0100_0193);
     }
-    let spread = u64::from(mixed.wrapping_mul(0x9E37_79B1));
-    (spread.wrapping_mul(slots as u64) >> 32) as usize
+    mix.wrapping_mul(0x9E37_79B1) | 1
 }
 
-// Keeps where a name stands.
-fn keep(places: &mut Vec<u32>, name: &str, place: usize) {
-    let slot = slot_of(name, places.len());
-    if let Ok(place) = u32::try_from(place) {
-        if slot < places.len() {
-            places[slot] = place;
+// The first slot that is looked at for a mix, of so many.
+fn first_slot(mix: u32, slots: usize) -> usize {
+    (u64::from(mix).wrapping_mul(slots as u64) >> 32) as usize
+}
+
+// Keeps where a name stands, unless all slots that would be looked at are taken.
+fn keep(slots: &mut [Slot], name: &str, place: u32) {
+    let mix = mix_of(name);
+    let first = first_slot(mix, slots.len());
+    for at in first..first.saturating_add(TRIES) {
+        let Some(slot) = slots.get_mut(at) else {
+            return;
+        };
+        if slot.mix == OPEN {
+            *slot = Slot { mix, place };
+            return;
         }
     }
 }
@@ -35,17 +57,32 @@ fn keep(places: &mut Vec<u32>, name: &str, place: usize) {
 impl Guesses {
     /// Where these names stand.
     pub fn new<T: Named>(alloc: Global, items: &[T]) -> Result<Self, AllocError> {
-        let slots = items.len().saturating_mul(SLOTS_EACH);
-        let mut places = vec![in alloc; 0u32; slots]?;
+        let open = Slot {
+            mix: OPEN,
+            place: 0,
+        };
+        let mut slots = vec![in alloc; open; items.len().saturating_mul(SLOTS_EACH)]?;
         for (place, item) in items.iter().enumerate() {
-            keep(&mut places, item.name(), place);
+            if let Ok(place) = u32::try_from(place) {
+                keep(&mut slots, item.name(), place);
+            }
         }
-        Ok(Guesses { places })
+        Ok(Guesses { slots })
     }
 
     /// Where the name may stand.
     pub fn guess(&self, name: &str) -> Option<usize> {
-        let place = self.places.get(slot_of(name, self.places.len()))?;
-        Some(*place as usize)
+        let mix = mix_of(name);
+        let first = first_slot(mix, self.slots.len());
+        for at in first..first.saturating_add(TRIES) {
+            let slot = self.slots.get(at)?;
+            if slot.mix == mix {
+                return Some(slot.place as usize);
+            }
+            if slot.mix == OPEN {
+                return None;
+            }
+        }
+        None
     }
 }

@@ -1,64 +1,21 @@
 //! Jumps from types to types further up, by which a climb takes about the logarithm of its height: the jump pointers of
 //! Myers' skew-binary lists (1983), the jump of a type being that of two equal jumps of its parent, or its parent.
 
-ghost use Rattle.std.specs.Prelude.{◌≡◌, map, length, option_map, string_bytes, true, false, IfSome};
+ghost use Rattle.std.specs.Prelude.{◌≡◌, map, false};
 ghost use Rattle.std.specs.List.{list_all};
-ghost use Rattle.tp_types.specs.Cycles.{type_name, is_ranked};
-ghost use Rattle.tp_types.specs.Jumps.{jump_of, jump_from, is_jump, IsAbove};
-ghost use Rattle.tp_ast.specs.Symbols.{parent_view, at_or_below};
+ghost use Rattle.tp_types.specs.Cycles.{type_name};
+ghost use Rattle.tp_types.specs.Jumps.{jump_from, is_jump};
 ghost use Rattle.tp_ast.specs.TypedLists.{has_twice};
 ghost use Rattle.tp_types.specs.Parents.{AreParents};
 ghost use Rattle.tp_types.specs.Tables.{IsTable};
 
-use crate::cycles::{parent_of, rank_of};
 use crate::parents::parent_at;
 use std::alloc::{AllocError, Global};
 use std::collections::BTreeMap;
 use tp_ast::types::TypeName;
 
-/// The name of a type that is declared, as it stands there.
-pub fn own_name<'a>(
-    types: &'a [TypeName],
-    places: &BTreeMap<&'a str, usize>,
-    name: &str,
-) -> Option<&'a String>
-    ensures { IfSome result (λ n. string_bytes n.now ≡ name.now) }
-{
-    let Some(place) = places.get(name) else {
-        return None;
-    };
-    let Some(declared) = types.get(*place) else {
-        return None;
-    };
-    if declared.name.as_str() == name {
-        return Some(&declared.name);
-    }
-    None
-}
-
-fn jump_of<'a>(
-    types: &'a [TypeName],
-    places: &BTreeMap<&'a str, usize>,
-    jumps: &[usize],
-    name: &str,
-) -> Option<&'a String>
-    requires { IsTable places.now (map type_name types.now) }
-    ensures { option_map (λ j. string_bytes j.now) result ≡ jump_of types.now jumps.now name.now }
-{
-    let Some(place) = places.get(name) else {
-        return None;
-    };
-    let Some(jump) = jumps.get(*place) else {
-        return None;
-    };
-    let Some(declared) = types.get(*jump) else {
-        return None;
-    };
-    Some(&declared.name)
-}
-
-// Where the jump of the type at a place leads, if to a type that is declared.
-fn jump_from(types: &[TypeName], jumps: &[usize], place: usize) -> Option<usize>
+/// Where the jump of the type at a place leads, if to a type that is declared.
+pub fn jump_from(types: &[TypeName], jumps: &[usize], place: usize) -> Option<usize>
     ensures { result ≡ jump_from types.now jumps.now place }
 {
     let Some(jump) = jumps.get(place) else {
@@ -169,67 +126,4 @@ pub fn jumps_by_places(
         }
     }
     Ok(jumps)
-}
-
-// A type above another: where a jump leads, unless that is above a rank, or else the parent.
-fn next_up<'a>(
-    types: &'a [TypeName],
-    places: &BTreeMap<&'a str, usize>,
-    ranks: &[usize],
-    jumps: &[usize],
-    name: &str,
-    least: usize,
-) -> Option<&'a String>
-    requires table { IsTable places.now (map type_name types.now) }
-    requires ranked { list_all (is_ranked types.now ranks.now) (map type_name types.now) ≡ true }
-    requires jumps { list_all (is_jump types.now jumps.now) (map type_name types.now) ≡ true }
-    ensures { IfSome result (λ q. IsAbove types.now ranks.now name.now (string_bytes q.now)) }
-{
-    if let Some(jump) = jump_of(types, places, jumps, name) {
-        if let Some(rank) = rank_of(types, places, ranks, jump.as_str()) {
-            if rank >= least {
-                return Some(jump);
-            }
-        }
-    }
-    parent_of(types, places, name)
-}
-
-/// Whether a type is another, or stands below it. Nothing where one of them has no rank.
-pub fn climb<'a>(
-    types: &'a [TypeName],
-    places: &BTreeMap<&'a str, usize>,
-    ranks: &[usize],
-    jumps: &[usize],
-    start: &'a str,
-    above: &str,
-) -> Option<bool>
-    requires table { IsTable places.now (map type_name types.now) }
-    requires ranked { list_all (is_ranked types.now ranks.now) (map type_name types.now) ≡ true }
-    requires jumps { list_all (is_jump types.now jumps.now) (map type_name types.now) ≡ true }
-    ensures { IfSome result
-        (λ b. b ≡ at_or_below (map parent_view types.now) (length types.now) start.now above.now) }
-{
-    let Some(least) = rank_of(types, places, ranks, above) else {
-        return None;
-    };
-    let Some(first) = rank_of(types, places, ranks, start) else {
-        return None;
-    };
-    let mut current = start;
-    let mut left = first;
-    'up: while left > least {
-        let Some(next) = next_up(types, places, ranks, jumps, current, least) else {
-            return None;
-        };
-        let Some(rank) = rank_of(types, places, ranks, next.as_str()) else {
-            return None;
-        };
-        if rank < least || left <= rank {
-            return None;
-        }
-        current = next.as_str();
-        left = rank;
-    }
-    Some(current == above)
 }

@@ -6,9 +6,11 @@
 //! - `rows`: items that are as the ones before them
 //! - `parents`: where the parents of types stand
 //! - `cycles`, `jumps`: whether types lead back to themselves, and jumps up their order
-//! - `marks`, `types`: whether types fit
+//! - `type_tables`: tables of types
+//! - `climbs`, `marks`, `types`: whether types fit
 #![tactic(auto)]
 
+pub mod climbs;
 pub mod cycles;
 pub mod guesses;
 pub mod jumps;
@@ -20,4 +22,5 @@ pub mod own_places;
 pub mod parents;
 pub mod rows;
 pub mod table;
+pub mod type_tables;
 pub mod types;

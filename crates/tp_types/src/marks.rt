@@ -1,17 +1,16 @@
-//! Whether types fit, by marks on those that do: each type on a way up is walked over once.
+//! Whether types fit, by marks where those stand that do: each type on a way up is walked over once, from place to place.
 
-ghost use Rattle.std.specs.Prelude.{◌≡◌, map, string_bytes, true, IfOk, OnOk, IfSome};
-ghost use Rattle.std.specs.List.{list_all, list_any};
-ghost use Rattle.std.specs.Str.{bytes_eq};
-ghost use Rattle.tp_types.specs.Cycles.{type_name, is_ranked};
-ghost use Rattle.tp_types.specs.Marks.{has_mark, fits, past_shared, AreMarks};
-ghost use Rattle.tp_types.specs.Tables.{Name, IsTable};
+ghost use Rattle.std.specs.Prelude.{◌≡◌, [], ◌∷◌, ◌++◌, List, map, string_bytes, slice_set, true, IfOk, OnOk, IfSome};
+ghost use Rattle.tp_types.specs.Marks.{fits, fits_at, is_below_other, past_shared, AreMarks, AreOthers};
+ghost use Rattle.tp_types.specs.Tables.{Name};
+ghost use Rattle.tp_types.specs.TypeTables.{IsTypeTable};
 ghost use Rattle.tp_ast.specs.Symbols.{parent_view, types_fit};
 
-use crate::cycles::parent_of;
 use crate::names::NameSet;
+use crate::parents::parent_at;
+use crate::rows::is_marked;
+use crate::type_tables::{TypeTable, place_near, place_of};
 use std::alloc::{AllocError, Global};
-use std::collections::BTreeMap;
 use tp_ast::types::TypeName;
 
 /// What is left of a list behind the front that it shares with another: types that are in both fit.
@@ -34,106 +33,183 @@ pub fn past_shared<'a>(argument: &'a [String], parameter: &[String]) -> &'a [Str
     left
 }
 
-// A mark on each of these types.
-fn marked<'a>(alloc: Global, parameter: &'a [String]) -> Result<NameSet<'a>, AllocError>
-    ensures { IfOk result
-        (λ s. (n : Name) → has_mark s n ≡ list_any (bytes_eq n) (map string_bytes parameter.now)) }
+// Marks a place.
+fn set_mark(marks: &mut [bool], place: usize)
+    ensures { marks.new ≡ slice_set marks.old place true }
 {
-    let mut marks = NameSet::new(alloc);
-    for name in parameter {
-        marks.insert(name.as_str())?;
+    if place < marks.len() {
+        marks[place] = true;
     }
-    Ok(marks)
 }
 
-// Whether a type leads up to a mark, in no more steps than there are types.
-fn leads_to_mark<'a>(
-    types: &'a [TypeName],
-    places: &BTreeMap<&str, usize>,
-    ranks: &[usize],
-    parameter: &[String],
-    marks: &NameSet<'a>,
-    start: &'a String,
-) -> Option<bool>
-    requires table { IsTable places.now (map type_name types.now) }
-    requires ranked { list_all (is_ranked types.now ranks.now) (map type_name types.now) ≡ true }
-    requires marks { AreMarks types.now (map string_bytes parameter.now) marks.now }
-    ensures { IfSome result
-        (λ b. b ≡ fits types.now (map string_bytes parameter.now) (string_bytes start.now)) }
+// Marks one more type where it stands, or keeps it beside the marks if it is not declared, as `object` is not. Tells where the type
+// stands that is declared behind it: lists are often in the order in which types are declared.
+fn mark<'a>(
+    types: &[TypeName],
+    table: &TypeTable,
+    marks: &mut [bool],
+    others: &mut NameSet<'a>,
+    near: usize,
+    name: &'a str,
+) -> Result<usize, AllocError>
+    requires { IsTypeTable types.now table.now }
+    ensures marks { OnOk result ((ps : List Name) → AreMarks types.now ps marks.old
+        → AreMarks types.now (ps ++ name.now ∷ []) marks.new) }
+    ensures others { OnOk result ((ps : List Name) → AreOthers types.now ps others.old
+        → AreOthers types.now (ps ++ name.now ∷ []) others.new) }
 {
-    let _ = ranks;
-    let _ = parameter;
-    let mut current = start;
+    match place_near(types, table, near, name) {
+        Some(place) => {
+            set_mark(marks, place);
+            Ok(place.saturating_add(1))
+        }
+        None => {
+            others.insert(name)?;
+            Ok(near)
+        }
+    }
+}
+
+// Marks each of these types.
+fn mark_each<'a>(
+    types: &[TypeName],
+    table: &TypeTable,
+    marks: &mut [bool],
+    others: &mut NameSet<'a>,
+    parameter: &'a [String],
+) -> Result<(), AllocError>
+    requires table { IsTypeTable types.now table.now }
+    requires marks { AreMarks types.now [] marks.old }
+    requires others { AreOthers types.now [] others.old }
+    ensures marks { OnOk result (AreMarks types.now (map string_bytes parameter.now) marks.new) }
+    ensures others { OnOk result (AreOthers types.now (map string_bytes parameter.now) others.new) }
+{
+    let mut near = 0;
+    for name in parameter {
+        near = mark(types, table, marks, others, near, name.as_str())?;
+    }
+    Ok(())
+}
+
+// Whether what the type at a place names as its parent is kept beside the marks.
+fn is_below_other(types: &[TypeName], others: &NameSet, place: usize) -> bool
+    ensures { result ≡ is_below_other types.now others.now place }
+{
+    match types.get(place) {
+        Some(declared) => others.contains(declared.parent.as_str()),
+        None => false,
+    }
+}
+
+// Whether the type at a place leads up to one that is marked, in no more steps than there are types.
+fn leads_to_mark(
+    types: &[TypeName],
+    table: &TypeTable,
+    marks: &[bool],
+    others: &NameSet,
+    start: usize,
+) -> Option<bool>
+    requires { IsTypeTable types.now table.now }
+    ensures { IfSome result (λ b. (ps : List Name) → AreMarks types.now ps marks.now
+        → AreOthers types.now ps others.now → b ≡ fits_at types.now ps start) }
+{
+    let mut place = start;
     let mut left = types.len();
     'up: while left > 0 {
-        if marks.contains(current.as_str()) {
+        if is_marked(marks, place) {
             return Some(true);
         }
-        let Some(parent) = parent_of(types, places, current.as_str()) else {
-            return Some(false);
+        let Some(parent) = parent_at(&table.parents, place) else {
+            return Some(is_below_other(types, others, place));
         };
-        current = parent;
+        place = parent;
         left -= 1;
     }
     None
 }
 
 // Marks a type that fits and those above it, as far as the first that is marked.
-fn mark_way<'a>(
-    types: &'a [TypeName],
-    places: &BTreeMap<&str, usize>,
-    ranks: &[usize],
-    parameter: &[String],
-    marks: &mut NameSet<'a>,
-    start: &'a String,
-) -> Result<(), AllocError>
-    requires table { IsTable places.now (map type_name types.now) }
-    requires ranked { list_all (is_ranked types.now ranks.now) (map type_name types.now) ≡ true }
-    requires marks { AreMarks types.now (map string_bytes parameter.now) marks.old }
-    requires fits { fits types.now (map string_bytes parameter.now) (string_bytes start.now)
-        ≡ true }
-    ensures { OnOk result (AreMarks types.now (map string_bytes parameter.now) marks.new) }
+fn mark_way(types: &[TypeName], table: &TypeTable, marks: &mut [bool], start: usize)
+    requires { IsTypeTable types.now table.now }
+    ensures { (ps : List Name) → AreMarks types.now ps marks.old
+        → fits_at types.now ps start ≡ true → AreMarks types.now ps marks.new }
 {
-    let _ = ranks;
-    let _ = parameter;
-    let mut current = start;
+    let mut place = start;
     let mut left = types.len();
     'up: while left > 0 {
-        let new = marks.insert(current.as_str())?;
-        if !new {
-            return Ok(());
+        if is_marked(marks, place) {
+            return;
         }
-        let Some(parent) = parent_of(types, places, current.as_str()) else {
-            return Ok(());
+        set_mark(marks, place);
+        let Some(parent) = parent_at(&table.parents, place) else {
+            return;
         };
-        current = parent;
+        place = parent;
         left -= 1;
     }
-    Ok(())
+}
+
+// Whether a type fits. If it does, it is marked, and so are those above it.
+fn fits_by_marks(
+    types: &[TypeName],
+    table: &TypeTable,
+    marks: &mut [bool],
+    others: &NameSet,
+    name: &str,
+) -> Option<bool>
+    requires { IsTypeTable types.now table.now }
+    ensures fits { IfSome result (λ b. (ps : List Name) → AreMarks types.now ps marks.old
+        → AreOthers types.now ps others.now → b ≡ fits types.now ps name.now) }
+    ensures marks { (ps : List Name) → AreMarks types.now ps marks.old
+        → AreOthers types.now ps others.now → AreMarks types.now ps marks.new }
+{
+    let Some(place) = place_of(types, table, name) else {
+        return Some(others.contains(name));
+    };
+    let fits = leads_to_mark(types, table, marks, others, place)?;
+    if fits {
+        mark_way(types, table, marks, place);
+    }
+    Some(fits)
+}
+
+// Whether each of some types fits.
+fn each_fits(
+    types: &[TypeName],
+    table: &TypeTable,
+    marks: &mut [bool],
+    others: &NameSet,
+    argument: &[String],
+) -> Option<bool>
+    requires { IsTypeTable types.now table.now }
+    ensures { IfSome result (λ b. (ps : List Name) → AreMarks types.now ps marks.old
+        → AreOthers types.now ps others.now
+        → b ≡ types_fit (map parent_view types.now) (map string_bytes argument.now) ps) }
+{
+    for below in argument {
+        if !fits_by_marks(types, table, marks, others, below.as_str())? {
+            return Some(false);
+        }
+    }
+    Some(true)
 }
 
 /// Whether each of some types is at or below one of these: as many steps as there are types in the
 /// two lists and on the ways up from the first. Nothing where a way is longer than there are types.
-pub fn fit_by_marks<'a>(
+pub fn fit_by_marks(
     alloc: Global,
-    types: &'a [TypeName],
-    places: &BTreeMap<&str, usize>,
-    ranks: &[usize],
-    argument: &'a [String],
-    parameter: &'a [String],
+    types: &[TypeName],
+    table: &TypeTable,
+    argument: &[String],
+    parameter: &[String],
 ) -> Result<Option<bool>, AllocError>
-    requires table { IsTable places.now (map type_name types.now) }
-    requires ranked { list_all (is_ranked types.now ranks.now) (map type_name types.now) ≡ true }
+    requires { IsTypeTable types.now table.now }
     ensures { IfOk result (λ o. IfSome o (λ b. b ≡ types_fit (map parent_view types.now)
         (map string_bytes argument.now) (map string_bytes parameter.now))) }
 {
-    let mut marks = marked(alloc, parameter)?;
-    for below in argument {
-        match leads_to_mark(types, places, ranks, parameter, &marks, below) {
-            Some(true) => mark_way(types, places, ranks, parameter, &mut marks, below)?,
-            Some(false) => return Ok(Some(false)),
-            None => return Ok(None),
-        }
-    }
-    Ok(Some(true))
+    let mut kept = vec![in alloc; false; types.len()]?;
+    let marks = kept.as_mut_slice();
+    let mut others = NameSet::new(alloc);
+    mark_each(types, table, marks, &mut others, parameter)?;
+    Ok(each_fits(types, table, marks, &others, argument))
 }

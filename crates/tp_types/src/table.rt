@@ -68,6 +68,14 @@ pub fn second_named<T: Named>(alloc: Global, items: &[T]) -> Result<Option<usize
     second_mention(alloc, &names)
 }
 
+impl Named for String {
+    ghost named = { λ s. string_bytes s };
+
+    fn name(&self) -> &str {
+        self.as_str()
+    }
+}
+
 impl Named for TypeName {
     ghost named = { λ t. string_bytes t.name };
 

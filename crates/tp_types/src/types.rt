@@ -3,20 +3,14 @@
 ghost use Rattle.std.specs.Prelude.{◌≡◌, map, option_map, string_bytes, length, false, IfOk, IfSome};
 ghost use Rattle.std.specs.List.{list_any, list_all};
 ghost use Rattle.tp_ast.specs.Symbols.{parent_view, parent_of, at_or_below, types_fit};
-ghost use Rattle.tp_types.specs.Cycles.{type_name};
-ghost use Rattle.tp_types.specs.Parents.{AreParents, ArePlaced};
-ghost use Rattle.tp_types.specs.Tables.{IsTable};
-ghost use Rattle.tp_types.specs.TypeTables.{IsTypeTableIfAny};
+ghost use Rattle.tp_types.specs.Parents.{ArePlaced};
 ghost use Rattle.tp_types.specs.TypeViews.{types_view};
 ghost use Rattle.tp_ast.specs.TypedLists.{is_type, has_twice};
 
-use crate::cycles::{are_ranked, parent_of as parent_in, ranks_by_places};
-use crate::jumps::{are_jumps, climb, jumps_by_places, own_name};
+use crate::climbs::climb;
 use crate::marks::{fit_by_marks, past_shared};
-use crate::parents::parents;
-use crate::table::{Named, places, second_named};
+use crate::type_tables::{TypeTable, parent_of as parent_in, type_table, type_table_above};
 use std::alloc::{AllocError, Global};
-use std::collections::BTreeMap;
 use std::marker::Model;
 use std::rc::Rc;
 use tp_ast::types::TypeName;
@@ -26,15 +20,6 @@ use tp_ast::types::TypeName;
 pub struct Types<'a> {
     declared: &'a [TypeName],
     table: Option<TypeTable<'a>>,
-}
-
-// Where each type stands, where its parent does, its rank, and the place of a type further up.
-#[derive(Drop)]
-pub struct TypeTable<'a> {
-    pub places: BTreeMap<&'a str, usize>,
-    pub parents: Vec<Option<usize>>,
-    pub ranks: Vec<usize>,
-    pub jumps: Vec<usize>,
 }
 
 impl<'a> Model for Types<'a> {
@@ -48,58 +33,6 @@ impl<'a> Model for Types<'a> {
     ghost view = { λ t. t.declared.now };
 
     ghost invariant = { λ t. IsTypeTableIfAny t.declared.now t.table };
-}
-
-// The table of types whose parents stand at these places. None where a name stands twice, or for types that lead round in a cycle,
-// which have no ranks: such types are walked over.
-fn table_above<'a>(
-    alloc: Global,
-    types: &'a [TypeName],
-    places: BTreeMap<&'a str, usize>,
-    parents: Vec<Option<usize>>,
-) -> Result<Option<TypeTable<'a>>, AllocError>
-    requires table { IsTable places (map type_name types.now) }
-    requires parents { AreParents places types.now parents.items }
-    ensures { IfOk result (λ t. IsTypeTableIfAny types.now t) }
-{
-    if second_named(alloc, types)?.is_some() {
-        return Ok(None);
-    }
-    let ranks = ranks_by_places(alloc, types, &parents)?;
-    if !are_ranked(types, &places, &parents, &ranks) {
-        return Ok(None);
-    }
-    let jumps = jumps_by_places(alloc, &parents, &ranks)?;
-    if !are_jumps(types, &places, &parents, &jumps) {
-        return Ok(None);
-    }
-    Ok(Some(TypeTable {
-        places,
-        parents,
-        ranks,
-        jumps,
-    }))
-}
-
-fn type_table<'a>(alloc: Global, types: &'a [TypeName]) -> Result<Option<TypeTable<'a>>, AllocError>
-    ensures { IfOk result (λ t. IsTypeTableIfAny types.now t) }
-{
-    let places = places(alloc, types)?;
-    let parents = parents(alloc, types, &places)?;
-    table_above(alloc, types, places, parents)
-}
-
-// The same, where it is known where parents stand.
-fn type_table_above<'a>(
-    alloc: Global,
-    types: &'a [TypeName],
-    parents: Vec<Option<usize>>,
-) -> Result<Option<TypeTable<'a>>, AllocError>
-    requires { ArePlaced types.now parents.items }
-    ensures { IfOk result (λ t. IsTypeTableIfAny types.now t) }
-{
-    let places = places(alloc, types)?;
-    table_above(alloc, types, places, parents)
 }
 
 impl<'a> Types<'a> {
@@ -170,12 +103,13 @@ fn parent_among<'a>(name: &str, types: &'a [TypeName]) -> Option<&'a String>
     None
 }
 
-fn parent_of<'a>(name: &str, types: &Types<'a>) -> Option<&'a String>
+/// The parent of a type, if the type is declared.
+pub fn parent_of<'a>(name: &str, types: &Types<'a>) -> Option<&'a String>
     ensures { option_map (λ p. string_bytes p.now) result
         ≡ parent_of name.now (types_view types.now) }
 {
     match &types.table {
-        Some(table) => parent_in(types.declared, &table.places, name),
+        Some(table) => parent_in(types.declared, table, name),
         None => parent_among(name, types.declared),
     }
 }
@@ -188,17 +122,7 @@ fn climbed(types: &Types, below: &str, above: &str) -> Option<bool>
     let Some(table) = &types.table else {
         return None;
     };
-    let Some(start) = own_name(types.declared, &table.places, below) else {
-        return None;
-    };
-    climb(
-        types.declared,
-        &table.places,
-        &table.ranks,
-        &table.jumps,
-        start.as_str(),
-        above,
-    )
+    climb(types.declared, table, below, above)
 }
 
 fn climbs(types: &Types, steps: usize, below: &String, above: &str) -> bool
@@ -235,8 +159,8 @@ fn at_or_below(types: &Types, steps: usize, below: &str, above: &str) -> bool
     }
 }
 
-// Whether a type is another, or stands below it.
-fn is_below(types: &Types, below: &str, above: &str) -> bool
+/// Whether a type is another, or stands below it.
+pub fn is_below(types: &Types, below: &str, above: &str) -> bool
     ensures { result ≡ at_or_below (types_view types.now) (length types.now) below.now above.now }
 {
     match climbed(types, below, above) {
@@ -272,8 +196,11 @@ pub fn types_fit(types: &Types, argument: &[String], parameter: &[String]) -> bo
     true
 }
 
-// Lists of so few types are compared type by type as fast as marks are made.
-const FEW: usize = 4;
+// So few pairs of types are compared one by one as fast as marks are made.
+const FEW: usize = 16;
+
+// A pair is compared, by jumps, about as fast as so many steps of a way up are gone that looks for a mark, which may lead over all types.
+const STEPS: usize = 32;
 
 /// As `types_fit`, for lists that may be long: about as many steps as there are types in the two lists
 /// and on the ways up from the first.
@@ -287,7 +214,8 @@ pub fn long_lists_fit(
         (types_view types.now) (map string_bytes argument.now) (map string_bytes parameter.now)) }
 {
     let rest = past_shared(argument, parameter);
-    if rest.len() <= FEW || parameter.len() <= FEW {
+    let few = FEW.max(types.len() / STEPS);
+    if rest.len().saturating_mul(parameter.len()) <= few {
         return Ok(types_fit(types, rest, parameter));
     }
     match fit_by_table(alloc, types, rest, parameter)? {
@@ -309,14 +237,7 @@ fn fit_by_table(
     let Some(table) = &types.table else {
         return Ok(None);
     };
-    fit_by_marks(
-        alloc,
-        types.declared,
-        &table.places,
-        &table.ranks,
-        argument,
-        parameter,
-    )
+    fit_by_marks(alloc, types.declared, table, argument, parameter)
 }
 
 /// Whether a type is declared.

@@ -1,21 +1,17 @@
-use Rattle.std.proofs.Common.{List, ℕ, map, string_bytes, ap, sym, ◌∙◌}
-use Rattle.tp_ast.specs.Symbols.{parent_view, parent_of}
-use Rattle.tp_types.specs.Marks.{has_mark}
-use Rattle.tp_types.proofs.OnMarks.{top_fits, parent_fits}
+use Rattle.std.proofs.Common.{List, ℕ, Option, ap, sym, ◌∙◌}
+use Rattle.tp_types.specs.Parents.{parent_at}
+use Rattle.tp_types.proofs.OnMarks.{fits_above, fits_below_other}
 use Rattle.tp_types.proofs.marks.leads_to_mark.Goals as goal
 
 pub returns-in_default : goal.returns-in_default
-returns-in_default c =
-    let ts = c.args.types.now in
-    let ks = c.args.marks.now in
-    let none = ap (has_mark ks) (sym c.as_str.ensures.value) ∙ sym c.contains.ensures ∙ c.if-contains.false in
-    let up = ap (λ (n : List ℕ). parent_of n (map parent_view ts)) (sym c.as_str-in-up.ensures.value) ∙ sym c.in_default.ensures in
-    sym (top_fits ts (map string_bytes c.args.parameter.now) ks (string_bytes c.up.current.now) c.requires.marks none up) ∙ c.up.invariant
+returns-in_default c = λ ps are others.
+    c.is_below_other.ensures
+    ∙ fits_below_other c.args.types.now c.args.table.now c.requires ps c.args.marks.now c.up.place are (sym c.is_marked.ensures ∙ c.if-is_marked.false) c.args.others.now others
+    (ap (λ (us : List (Option ℕ)). parent_at us c.up.place) (sym c.deref.ensures.value) ∙ sym c.in_default.ensures)
+    ∙ c.up.invariant ps are others
 
 pub up-preserved : goal.up-preserved
-up-preserved c =
-    let ts = c.args.types.now in
-    let ks = c.args.marks.now in
-    let none = ap (has_mark ks) (sym c.as_str.ensures.value) ∙ sym c.contains.ensures ∙ c.if-contains.false in
-    let up = ap (λ (n : List ℕ). parent_of n (map parent_view ts)) (sym c.as_str-in-up.ensures.value) ∙ sym c.in-Some.ensures in
-    sym (parent_fits ts c.args.ranks.now c.requires.ranked (map string_bytes c.args.parameter.now) ks (string_bytes c.up.current.now) (string_bytes c.in-Some.parent.now) c.requires.marks none up) ∙ c.up.invariant
+up-preserved c = λ ps are others.
+    sym (fits_above c.args.types.now c.args.table.now c.requires ps c.args.marks.now c.up.place are (sym c.is_marked.ensures ∙ c.if-is_marked.false) c.in-Some.parent
+    (ap (λ (us : List (Option ℕ)). parent_at us c.up.place) (sym c.deref.ensures.value) ∙ sym c.in-Some.ensures))
+    ∙ c.up.invariant ps are others

@@ -1,9 +1,10 @@
-use Rattle.std.proofs.Common.{◌≡◌, map, string_bytes}
-use Rattle.tp_types.specs.Marks.{fits}
+use Rattle.std.proofs.Common.{◌≡◌, List}
+use Rattle.tp_types.specs.Tables.{Name}
+use Rattle.tp_types.specs.Marks.{fits_at, AreMarks, AreOthers}
 use Rattle.tp_types.proofs.marks.leads_to_mark.Given as goal
 
 abbrev pub invariant-up : goal.invariant-up
-invariant-up l = fits l.types (map string_bytes l.parameter) (string_bytes l.current) ≡ fits l.types (map string_bytes l.parameter) (string_bytes l.start)
+invariant-up l = (ps : List Name) → AreMarks l.types ps l.marks → AreOthers l.types ps l.others → fits_at l.types ps l.place ≡ fits_at l.types ps l.start
 
 abbrev pub decreases-up : goal.decreases-up
 decreases-up l = l.left

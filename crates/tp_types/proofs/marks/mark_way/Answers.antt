@@ -1,24 +1,18 @@
-use Rattle.std.proofs.Common.{List, ℕ, map, string_bytes, ap, sym, ◌∙◌}
-use Rattle.tp_ast.specs.Symbols.{parent_view, parent_of}
-use Rattle.tp_types.specs.Marks.{has_mark, fits}
-use Rattle.tp_types.proofs.OnCycles.{not_true}
-use Rattle.tp_types.proofs.OnMarks.{more_marks, parent_fits}
+use Rattle.std.proofs.Common.{List, ℕ, Option, ap, sym, ◌∙◌}
+use Rattle.tp_types.specs.Parents.{parent_at}
+use Rattle.tp_types.proofs.OnMarks.{mark_more, fits_above}
 use Rattle.tp_types.proofs.marks.mark_way.Goals as goal
 
 pub returns-in_default : goal.returns-in_default
-returns-in_default c =
-    let ts = c.args.types.now in
-    let types = map string_bytes c.args.parameter.now in
-    more_marks ts types c.up.marks c.insert.new.self c.as_str.result c.up.invariant.marks c.in_ok-new.ensures.keys (ap (fits ts types) c.as_str.ensures.value ∙ c.up.invariant.fits)
+returns-in_default c = λ ps are fit.
+    let now = c.up.invariant ps are fit in
+    mark_more c.args.types.now ps c.up.place c.up.marks c.set_mark.new.marks c.set_mark.ensures now.1 now.0
 
 pub up-preserved : goal.up-preserved
-up-preserved c =
-    let ts = c.args.types.now in
-    let types = map string_bytes c.args.parameter.now in
-    let ks = c.up.marks in
-    let none = ap (has_mark ks) (sym c.as_str.ensures.value) ∙ not_true _ (sym c.in_ok-new.ensures.added ∙ c.if-not-new.false) in
-    let up = ap (λ (n : List ℕ). parent_of n (map parent_view ts)) (sym c.as_str-in-up.ensures.value) ∙ sym c.in-Some.ensures in
-    record {
-      marks = more_marks ts types ks c.insert.new.self c.as_str.result c.up.invariant.marks c.in_ok-new.ensures.keys (ap (fits ts types) c.as_str.ensures.value ∙ c.up.invariant.fits);
-      fits = sym (parent_fits ts c.args.ranks.now c.requires.ranked types ks (string_bytes c.up.current.now) (string_bytes c.in-Some.parent.now) c.up.invariant.marks none up) ∙ c.up.invariant.fits;
-    }
+up-preserved c = λ ps are fit.
+    let now = c.up.invariant ps are fit in (
+      mark_more c.args.types.now ps c.up.place c.up.marks c.set_mark.new.marks c.set_mark.ensures now.1 now.0,
+      sym (fits_above c.args.types.now c.args.table.now c.requires ps c.up.marks c.up.place now.0 (sym c.is_marked.ensures ∙ c.if-is_marked.false) c.in-Some.parent
+          (ap (λ (us : List (Option ℕ)). parent_at us c.up.place) (sym c.deref.ensures.value) ∙ sym c.in-Some.ensures))
+          ∙ now.1,
+    )

@@ -1,12 +1,10 @@
-use Rattle.std.proofs.Common.{◌≡◌, map, string_bytes, true}
-use Rattle.tp_types.specs.Marks.{fits, AreMarks}
+use Rattle.std.proofs.Common.{◌≡◌, List, true}
+use Rattle.tp_types.specs.Tables.{Name}
+use Rattle.tp_types.specs.Marks.{fits_at, AreMarks}
 use Rattle.tp_types.proofs.marks.mark_way.Given as goal
 
 abbrev pub invariant-up : goal.invariant-up
-invariant-up l = record {
-  marks : AreMarks l.types (map string_bytes l.parameter) l.marks;
-  fits : fits l.types (map string_bytes l.parameter) (string_bytes l.current) ≡ true;
-}
+invariant-up l = (ps : List Name) → AreMarks l.types ps l.fn.marks → fits_at l.types ps l.start ≡ true → AreMarks l.types ps l.marks × (fits_at l.types ps l.place ≡ true)
 
 abbrev pub decreases-up : goal.decreases-up
 decreases-up l = l.left

@@ -4,8 +4,8 @@ use Rattle.tp_types.specs.TypeViews.{types_view}
 use Rattle.tp_types.proofs.OnMarks.{rest_fits}
 use Rattle.tp_types.proofs.types.long_lists_fit.Goals as goal
 
-pub returns-then-rest-le-FEW : goal.returns-then-rest-le-FEW
-returns-then-rest-le-FEW c =
+pub returns-then-saturating_mul-few : goal.returns-then-saturating_mul-few
+returns-then-saturating_mul-few c =
     c.types_fit.ensures ∙ rest_fits (types_view c.args.types.now) (map string_bytes c.args.argument.now) (map string_bytes c.args.parameter.now) (map string_bytes c.past_shared-rest.result.now) c.past_shared-rest.ensures
 
 pub returns-in-Some : goal.returns-in-Some

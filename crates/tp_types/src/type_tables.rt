@@ -1,0 +1,147 @@
+//! Tables of types: where each type and its parent stand, and ways up.
+
+ghost use Rattle.std.specs.Prelude.{◌≡◌, map, option_map, string_bytes, true, false, IfOk, IfSome, Some};
+ghost use Rattle.tp_ast.specs.Symbols.{parent_view, parent_of};
+ghost use Rattle.tp_ast.specs.TypedLists.{has_twice};
+ghost use Rattle.tp_types.specs.Cycles.{type_name};
+ghost use Rattle.tp_types.specs.Parents.{AreParents, ArePlaced};
+ghost use Rattle.tp_types.specs.Tables.{IsTable, place_of};
+ghost use Rattle.tp_types.specs.TypeTables.{IsTypeTable, IsTypeTableIfAny};
+
+use crate::cycles::{are_ranked, ranks_by_places};
+use crate::guesses::Guesses;
+use crate::jumps::{are_jumps, jumps_by_places};
+use crate::parents::parents;
+use crate::table::{Named, places, second_named};
+use std::alloc::{AllocError, Global};
+use std::collections::BTreeMap;
+use tp_ast::types::TypeName;
+
+/// Where each type stands, and where it is guessed to; where its parent does, its rank, and the place of a type further up.
+#[derive(Drop)]
+pub struct TypeTable<'a> {
+    pub places: BTreeMap<&'a str, usize>,
+    pub guesses: Guesses,
+    pub parents: Vec<Option<usize>>,
+    pub ranks: Vec<usize>,
+    pub jumps: Vec<usize>,
+}
+
+// The table of types whose parents stand at these places. None where a name stands twice, or for types that lead round in a cycle,
+// which have no ranks: such types are walked over.
+fn table_above<'a>(
+    alloc: Global,
+    types: &'a [TypeName],
+    places: BTreeMap<&'a str, usize>,
+    parents: Vec<Option<usize>>,
+) -> Result<Option<TypeTable<'a>>, AllocError>
+    requires table { IsTable places (map type_name types.now) }
+    requires parents { AreParents places types.now parents.items }
+    ensures { IfOk result (λ t. IsTypeTableIfAny types.now t) }
+{
+    if second_named(alloc, types)?.is_some() {
+        return Ok(None);
+    }
+    let ranks = ranks_by_places(alloc, types, &parents)?;
+    if !are_ranked(types, &places, &parents, &ranks) {
+        return Ok(None);
+    }
+    let jumps = jumps_by_places(alloc, &parents, &ranks)?;
+    if !are_jumps(types, &places, &parents, &jumps) {
+        return Ok(None);
+    }
+    let guesses = Guesses::new(alloc, types)?;
+    Ok(Some(TypeTable {
+        places,
+        guesses,
+        parents,
+        ranks,
+        jumps,
+    }))
+}
+
+/// The table of types. None where a name stands twice, or for types that lead round in a cycle.
+pub fn type_table<'a>(
+    alloc: Global,
+    types: &'a [TypeName],
+) -> Result<Option<TypeTable<'a>>, AllocError>
+    ensures { IfOk result (λ t. IsTypeTableIfAny types.now t) }
+{
+    let places = places(alloc, types)?;
+    let parents = parents(alloc, types, &places)?;
+    table_above(alloc, types, places, parents)
+}
+
+/// The same, where it is known where parents stand.
+pub fn type_table_above<'a>(
+    alloc: Global,
+    types: &'a [TypeName],
+    parents: Vec<Option<usize>>,
+) -> Result<Option<TypeTable<'a>>, AllocError>
+    requires { ArePlaced types.now parents.items }
+    ensures { IfOk result (λ t. IsTypeTableIfAny types.now t) }
+{
+    let places = places(alloc, types)?;
+    table_above(alloc, types, places, parents)
+}
+
+// Whether the type at a place has this name.
+fn is_named(types: &[TypeName], place: usize, name: &str) -> bool
+    requires { has_twice (map type_name types.now) ≡ false }
+    ensures { result ≡ true → place_of name.now (map type_name types.now) ≡ Some place }
+{
+    match types.get(place) {
+        Some(declared) => declared.name.as_str() == name,
+        None => false,
+    }
+}
+
+// The place that is guessed for a name, if a type of that name stands there.
+fn guessed(types: &[TypeName], guesses: &Guesses, name: &str) -> Option<usize>
+    requires { has_twice (map type_name types.now) ≡ false }
+    ensures { IfSome result (λ k. place_of name.now (map type_name types.now) ≡ Some k) }
+{
+    let place = guesses.guess(name)?;
+    if is_named(types, place, name) {
+        Some(place)
+    } else {
+        None
+    }
+}
+
+/// Where a type stands: where it is guessed to, if it does, else by the table.
+pub fn place_of(types: &[TypeName], table: &TypeTable, name: &str) -> Option<usize>
+    requires { IsTypeTable types.now table.now }
+    ensures { result ≡ place_of name.now (map type_name types.now) }
+{
+    match guessed(types, &table.guesses, name) {
+        Some(place) => Some(place),
+        None => table.places.get(name).copied(),
+    }
+}
+
+/// As `place_of`, for a type that may stand at a place that is known: if it does, nothing is guessed.
+pub fn place_near(types: &[TypeName], table: &TypeTable, near: usize, name: &str) -> Option<usize>
+    requires { IsTypeTable types.now table.now }
+    ensures { result ≡ place_of name.now (map type_name types.now) }
+{
+    if is_named(types, near, name) {
+        return Some(near);
+    }
+    place_of(types, table, name)
+}
+
+/// The parent of a type, if the type is declared.
+pub fn parent_of<'a>(types: &'a [TypeName], table: &TypeTable, name: &str) -> Option<&'a String>
+    requires { IsTypeTable types.now table.now }
+    ensures { option_map (λ p. string_bytes p.now) result
+        ≡ parent_of name.now (map parent_view types.now) }
+{
+    let Some(place) = place_of(types, table, name) else {
+        return None;
+    };
+    let Some(declared) = types.get(place) else {
+        return None;
+    };
+    Some(declared.parent.as_ref())
+}
