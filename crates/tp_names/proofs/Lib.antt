@@ -6,3 +6,4 @@ pub mod OnSignatures
 pub mod OnTypes
 pub mod OnDeclared
 pub mod OnRowViews
+pub mod OnNear

@@ -7,6 +7,7 @@ ghost use Rattle.tp_ast.specs.Symbols.{typed_view, types_of, signature_view, sig
 ghost use Rattle.tp_names.specs.SymbolViews.{scope_view, symbols_view};
 ghost use Rattle.tp_ast.specs.Gives.{Gives};
 
+use crate::near::{Hints, first_near, lists_fit, others_near};
 use crate::term::{name_of, terms_of};
 use crate::typed::place;
 use crate::variables::Variables;
@@ -16,9 +17,10 @@ use tp_ast::fault::SyntaxFault;
 use tp_ast::symbols::{Signature, Typed};
 use tp_ast::term::{Atom, Term};
 use tp_text::{Token, Tree};
+use tp_types::guesses::Guesses;
 use tp_types::lookup::Lookup;
 use tp_types::table::Named;
-use tp_types::types::{Types, long_lists_fit};
+use tp_types::types::Types;
 
 /// The variables in scope. An inner one hides an outer one of the same name.
 #[derive(Clone, Copy)]
@@ -68,6 +70,7 @@ pub struct Symbols<'a> {
     pub objects: Lookup<'a, Typed>,
     pub predicates: Lookup<'a, Signature>,
     pub functions: Lookup<'a, Signature>,
+    pub hints: Hints<'a>,
 }
 
 fn signature_of<'a>(name: &str, signatures: &Lookup<'a, Signature>) -> Option<&'a Signature>
@@ -110,6 +113,7 @@ fn argument_fits(
     scope: &Scope,
     argument: &Term,
     parameter: &[String],
+    guesses: Option<&Guesses>,
 ) -> Result<bool, AllocError>
     ensures { IfOk result
         (λ b. b ≡ argument_fits (symbols_view symbols.now).types (symbols_view symbols.now).objects
@@ -117,7 +121,7 @@ fn argument_fits(
 {
     match argument_types(symbols, scope, argument) {
         None => Ok(false),
-        Some(types) => long_lists_fit(alloc, &symbols.types, types, parameter),
+        Some(types) => lists_fit(alloc, &symbols.types, types, parameter, guesses),
     }
 }
 
@@ -128,6 +132,7 @@ fn arguments_fit(
     scope: &Scope,
     arguments: &[Term],
     parameters: &[Typed],
+    near: &[Option<Rc<Guesses>>],
 ) -> Result<bool, AllocError>
     ensures { IfOk result
         (λ b. b ≡ arguments_fit (symbols_view symbols.now).types (symbols_view symbols.now).objects
@@ -135,15 +140,18 @@ fn arguments_fit(
 {
     let mut left = arguments;
     let mut open = parameters;
+    let mut hints = near;
     'pairs: while let [argument, more @ ..] = left {
         let [parameter, others @ ..] = open else {
             return Ok(false);
         };
-        if !argument_fits(alloc, symbols, scope, argument, parameter.type_names())? {
+        let types = parameter.type_names();
+        if !argument_fits(alloc, symbols, scope, argument, types, first_near(hints))? {
             return Ok(false);
         }
         left = more;
         open = others;
+        hints = others_near(hints);
     }
     Ok(open.is_empty())
 }
@@ -184,7 +192,8 @@ pub fn atom_in(
         return Err(SyntaxFault::Unknown(word.span.start));
     };
     let terms = terms_of(alloc, args, at)?;
-    if !arguments_fit(alloc, symbols, scope, &terms, &signature.parameters)? {
+    let near = symbols.hints.near(signature);
+    if !arguments_fit(alloc, symbols, scope, &terms, &signature.parameters, near)? {
         return Err(arguments_fault(symbols, scope, &terms, args, at));
     }
     Ok(Atom { name, terms })

@@ -8,6 +8,7 @@ ghost use Rattle.tp_syntax.specs.SectionViews.{domain_symbols};
 
 use std::alloc::{AllocError, Global};
 use tp_ast::symbols::{Signature, Typed};
+use tp_names::near::Hints;
 use tp_names::symbols::Symbols;
 use tp_types::lookup::Lookup;
 use tp_types::types::Types;
@@ -25,6 +26,7 @@ pub fn with_signatures<'d>(
         (types_view types.entry) (map typed_view constants.entry ++ map typed_view objects.entry)
         (map signature_view predicates.now) (map signature_view functions.now)) }
 {
+    let hints = Hints::new(alloc, predicates, functions)?;
     let predicates = Lookup::new(alloc, predicates)?;
     let functions = Lookup::new(alloc, functions)?;
     Ok(Symbols {
@@ -33,5 +35,6 @@ pub fn with_signatures<'d>(
         objects,
         predicates,
         functions,
+        hints,
     })
 }

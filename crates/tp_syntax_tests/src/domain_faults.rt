@@ -109,6 +109,9 @@ fn long_lists_of_types_fit(rt: HostRuntime) -> Result<(), Fail> {
         ("a b c d e f", "a b c d e f"),
         ("a b f e d c g h", "a b h g object"),
         ("f e d c b a f e d c", "object a b c d"),
+        ("f", "a b c d e a b c d e a b c d e a b h"),
+        ("c", "h a b d e a b d e a b d e a b d e g"),
+        ("h", "a b c d e a b c d e a b c d e a b h"),
     ] {
         let (fault, _) = fit_fault(rt.alloc(), argument, parameter)?;
         assert!(rt; fault.is_none(), "in {argument}");
@@ -118,6 +121,9 @@ fn long_lists_of_types_fit(rt: HostRuntime) -> Result<(), Fail> {
         ("a b c d e h", "a b c d e f"),
         ("a b c d e g h", "a b c d e f h"),
         ("object a b c d", "g h a b c"),
+        ("f", "a b c d e a b c d e a b c d e a b g"),
+        ("h", "a b c d e f a b c d e f a b c d e f"),
+        ("object", "a b c d e a b c d e a b c d e g h"),
     ] {
         let (fault, place) = fit_fault(rt.alloc(), argument, parameter)?;
         assert!(rt; fault == Some(SyntaxFault::Types(place)), "in {argument}");
