@@ -14,6 +14,7 @@ use crate::objects::Known;
 pub use crate::objects::Universe;
 use indexmap::IndexMap;
 use std::alloc::{AllocError, Global};
+use std::rc::Rc;
 use tp_ast::symbols::Typed;
 
 /// Whether two lists of types are the same.
@@ -202,15 +203,26 @@ fn has_choice(universe: &Universe, variable: &Typed) -> bool
     }
 }
 
-/// Whether there is an object for each variable. Where there is none, the variables have no bindings.
+// Whether a variable was given its types together with another one.
+fn shares_types(variable: &Typed, other: Option<&Rc<Vec<String>>>) -> bool {
+    match other {
+        Some(types) => Rc::ptr_eq(types, &variable.types),
+        None => false,
+    }
+}
+
+/// Whether there is an object for each variable. Where there is none, the variables have no bindings. One look is enough for
+/// variables that were given their types together.
 pub fn have_choices(universe: &Universe, variables: &[Typed]) -> bool
     ensures { result ≡ false
         → length (bindings (universe_view universe.now) (map typed_view variables.now)) ≡ 0 }
 {
+    let mut looked: Option<&Rc<Vec<String>>> = None;
     for variable in variables {
-        if !has_choice(universe, variable) {
+        if !shares_types(variable, looked) && !has_choice(universe, variable) {
             return false;
         }
+        looked = Some(&variable.types);
     }
     true
 }
