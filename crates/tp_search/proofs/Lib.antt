@@ -1,3 +1,4 @@
+pub mod Lists
 pub mod Parts
 pub mod Whole
 pub mod Shuffled
@@ -9,4 +10,4 @@ pub mod Expanding
 mod Begins
 mod Within
 pub mod Listed
-mod OnSides
+pub mod OnSides

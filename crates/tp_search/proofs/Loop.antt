@@ -3,7 +3,7 @@ use Rattle.std.proofs.Common.{◌≡◌, ℕ, suc, zero, ◌<◌, ◌≤◌, tru
 use Rattle.std.specs.List.{list_all, AllByRecursion}
 use Rattle.std.proofs.lemmas.Bool.{cases_lt, and_from, or_right}
 use Rattle.std.specs.Option.{option_map, option_and_then}
-use Rattle.std.proofs.lemmas.Bool.{true≢false}
+use Rattle.std.proofs.lemmas.Bool.{not_from_false}
 use Rattle.tp_happen.specs.Parts.{part_of}
 use Rattle.tp_happen.specs.declared.events.Part.TheVariants.{Only}
 use Rattle.tp_happen.specs.TaskWords.{is_durative}
@@ -11,7 +11,6 @@ use Rattle.tp_task.specs.Bounds.{In}
 use Rattle.tp_task.specs.declared.events.Body.{Body}
 use Rattle.tp_task.specs.declared.events.Body.TheVariants.{Instant, Durative}
 use Rattle.tp_task.specs.declared.events.GroundEvent.{GroundEvent}
-use Rattle.tp_task.specs.Event.{interferes}
 use Rattle.tp_task.specs.declared.task.Task.{Task}
 use Rattle.tp_task.proofs.Lists.{all_at}
 use Rattle.tp_happen.specs.Steps.{IsPlan, ends_in_time}
@@ -21,25 +20,14 @@ use Rattle.tp_reach.specs.TaskReach.{GoalIs}
 use Rattle.tp_search.specs.AtOnce.{Choice, IsWanted, rising, steps_of, timed_all, made_of, CanHappen}
 use Rattle.tp_search.specs.Plans.{EndsBy}
 use Rattle.tp_search.specs.Promised.{FindsPlan, IsExhausted, IsSpent}
-use Rattle.tp_search.specs.Possible.{CanBegin, IsApart, AreCandidates}
-use Rattle.tp_search.specs.Children.{IsNode, HasChildren}
+use Rattle.tp_search.specs.Possible.{CanBegin, AreCandidates, both_interfere, interfere, is_apart, only_event}
+use Rattle.tp_search.specs.Children.{IsNode, children_within}
 use Rattle.tp_search.specs.Running.{IsRunning, numbers, step_at, steps_at}
 use Rattle.tp_search.proofs.Wanted.{at_once_wanted, wanted_is_plan, next_in, Next, take_whole}
 use Rattle.tp_search.proofs.Shuffled.{in_rising}
 use Rattle.tp_search.proofs.Parts.{parts_happen, apart_in}
-
-pub in_append_left : {X : Type 0} (x : X) (xs ys : List X) → In x xs → In x (xs ++ ys)
-in_append_left x [] ys i = absurd i
-in_append_left x (y ∷ xs) ys (inl e) = inl e
-in_append_left x (y ∷ xs) ys (inr i) = inr (in_append_left x xs ys i)
-
-pub in_append_right : {X : Type 0} (x : X) (xs ys : List X) → In x ys → In x (xs ++ ys)
-in_append_right x [] ys i = i
-in_append_right x (y ∷ xs) ys i = inr (in_append_right x xs ys i)
-
-pub all_append : {X : Type 0} (P : X → Type 0) (xs ys : List X) → AllByRecursion P xs → AllByRecursion P ys → AllByRecursion P (xs ++ ys)
-all_append P [] ys h k = k
-all_append P (x ∷ xs) ys h k = (h.0, all_append P xs ys h.1 k)
+use Rattle.tp_search.proofs.Lists.{in_append_left, in_append_right, all_append, none_passes}
+use Rattle.tp_search.proofs.Expanding.{children_are_nodes, in_children}
 
 drop_append : {X : Type 0} (n : ℕ) (xs ys : List X) → n ≤ length xs → drop n (xs ++ ys) ≡ drop n xs ++ ys
 drop_append zero [] ys l = refl
@@ -119,16 +107,20 @@ module _ (t : Task) (cs : List Choice) (w : IsWanted t cs) where
       only c (inr j) = absurd j
 
   -- and interferes with none that is wanted before it
-  is_apart : (n : ℕ) (x : Choice) → In x (rising cs) → AllByRecursion (λ (c : Choice). c.number < x.number) (take n (rising cs)) → IsApart t (numbers (take n (rising cs))) x.number
-  is_apart n x i before b j k =
-      let p = in_numbers (take n (rising cs)) b j in
-      let d : Choice = p.0 in
-      let d_in : In d (rising cs) = in_take n (rising cs) d p.1.0 in
-      let below : d.number < x.number = all_at (λ (c : Choice). c.number < x.number) (take n (rising cs)) before d p.1.0 in
-      let one : k.one ≡ d.event = same_event (slice_get t.actions.items b) k.one d.event k.is_one (ap (slice_get t.actions.items) p.1.1 ∙ w.are d (in_rising cs d d_in)) in
-      let other : k.other ≡ x.event = same_event (slice_get t.actions.items x.number) k.other x.event k.is_other (w.are x (in_rising cs x i)) in
-      let free : interferes d.event x.event ≡ false = apart_in (rising cs) whole.separate d x d_in i (λ e. absurd (omega arith)) in
-      true≢false (sym k.meet ∙ (ap₂ interferes one other ∙ free))
+  wanted_apart : (n : ℕ) (x : Choice) → In x (rising cs) → AllByRecursion (λ (c : Choice). c.number < x.number) (take n (rising cs)) → is_apart t (numbers (take n (rising cs))) x.number ≡ true
+  wanted_apart n x i before = not_from_false _ (none_passes (λ b. interfere t b x.number) (numbers (take n (rising cs))) free)
+    where
+      event_is : (c : Choice) → In c (rising cs) → only_event t c.number ≡ Some c.event
+      event_is c k = ap (option_and_then (λ b. part_of b Only)) (w.are c (in_rising cs c k))
+
+      free : (b : ℕ) → In b (numbers (take n (rising cs))) → interfere t b x.number ≡ false
+      free b j =
+          let p = in_numbers (take n (rising cs)) b j in
+          let d : Choice = p.0 in
+          let d_in : In d (rising cs) = in_take n (rising cs) d p.1.0 in
+          let below : d.number < x.number = all_at (λ (c : Choice). c.number < x.number) (take n (rising cs)) before d p.1.0 in
+          ap₂ both_interfere (ap (only_event t) p.1.1 ∙ event_is d d_in) (event_is x i)
+          ∙ apart_in (rising cs) whole.separate d x d_in i (λ e. absurd (omega arith))
 
 pub start : (t : Task) → IsRunning t ([] ∷ []) 0
 start t = record {
@@ -171,31 +163,34 @@ module _ (t : Task) (nodes : List (List ℕ)) (i : ℕ) (run : IsRunning t nodes
     not_at_once = λ steps h. let p : (cs : List Choice) × IsWanted t cs = at_once_wanted t steps h in none_wanted l p.0 p.1;
   }
 
-  module _ (chosen : List ℕ) (l : i < length nodes) (e : chosen ≡ get_or nodes i []) (unfit : ¬ IsValidPlan t (steps_at chosen)) (first : ℕ) (least : (a : ℕ) → AllByRecursion (λ b. b < a) chosen → first ≤ a) (among : List ℕ) (known : AreCandidates t (length t.actions.items) among) (new : List (List ℕ)) (h : HasChildren t first among chosen nodes new) where
-    new_open : drop (suc i) new ≡ drop (suc i) nodes ++ h.more
-    new_open = ap (drop (suc i)) h.is ∙ drop_append (suc i) nodes h.more (omega arith)
+  module _ (chosen : List ℕ) (l : i < length nodes) (e : chosen ≡ get_or nodes i []) (unfit : ¬ IsValidPlan t (steps_at chosen)) (first : ℕ) (least : (a : ℕ) → AllByRecursion (λ b. b < a) chosen → first ≤ a) (among : List ℕ) (known : AreCandidates t (length t.actions.items) among) (new : List (List ℕ)) (is : new ≡ nodes ++ children_within t first among chosen) where
+    abbrev more : List (List ℕ)
+    more = children_within t first among chosen
 
-    goes_on : (cs : List Choice) → IsWanted t cs → (n : ℕ) → numbers (take n (rising cs)) ≡ chosen → n < length (rising cs) → (m : ℕ) × In (numbers (take m (rising cs))) h.more
+    new_open : drop (suc i) new ≡ drop (suc i) nodes ++ more
+    new_open = ap (drop (suc i)) is ∙ drop_append (suc i) nodes more (omega arith)
+
+    goes_on : (cs : List Choice) → IsWanted t cs → (n : ℕ) → numbers (take n (rising cs)) ≡ chosen → n < length (rising cs) → (m : ℕ) × In (numbers (take m (rising cs))) more
     goes_on cs w n q k =
         let x : Next n (rising cs) = next_in n (rising cs) w.rises k in
         let a : ℕ = x.next.number in
         let few : length chosen < 512 = subst (λ ys. length ys < 512) q (subst (λ z. z < 512) (sym (numbers_length (take n (rising cs)))) (omega (arith, take_length n (rising cs), w.few))) in
         let above : AllByRecursion (λ b. b < a) chosen = subst (AllByRecursion (λ b. b < a)) q (all_numbers a (take n (rising cs)) x.after) in
         let there : a < length t.actions.items = below_count t.actions.items a (Instant x.next.event) (w.are x.next (in_rising cs x.next x.is_in)) in
-        (suc n, subst (λ ys. In ys h.more) (ap (λ ys. ys ++ a ∷ []) (sym q) ∙ (sym (numbers_more (take n (rising cs)) x.next) ∙ ap numbers (sym x.longer))) (h.made a few (least a above) (known.all a there (can_begin t cs w x.next x.is_in)) (subst (λ ys. IsApart t ys a) q (is_apart t cs w n x.next x.is_in x.after))))
+        (suc n, subst (λ ys. In ys more) (ap (λ ys. ys ++ a ∷ []) (sym q) ∙ (sym (numbers_more (take n (rising cs)) x.next) ∙ ap numbers (sym x.longer))) (in_children t first chosen among a few (least a above) (known.all a there (can_begin t cs w x.next x.is_in)) (subst (λ ys. is_apart t ys a ≡ true) q (wanted_apart t cs w n x.next x.is_in x.after))))
 
-    open_after : (cs : List Choice) → IsWanted t cs → (n : ℕ) → In (numbers (take n (rising cs))) (get_or nodes i [] ∷ drop (suc i) nodes) → (m : ℕ) × In (numbers (take m (rising cs))) (drop (suc i) nodes ++ h.more)
-    open_after cs w n (inr j) = (n, in_append_left _ (drop (suc i) nodes) h.more j)
+    open_after : (cs : List Choice) → IsWanted t cs → (n : ℕ) → In (numbers (take n (rising cs))) (get_or nodes i [] ∷ drop (suc i) nodes) → (m : ℕ) × In (numbers (take m (rising cs))) (drop (suc i) nodes ++ more)
+    open_after cs w n (inr j) = (n, in_append_left _ (drop (suc i) nodes) more j)
     open_after cs w n (inl q) =
         let q' : numbers (take n (rising cs)) ≡ chosen = q ∙ sym e in
         ⊎_elim
-        (λ k. let r = goes_on cs w n q' k in (r.0, in_append_right _ (drop (suc i) nodes) h.more r.1))
+        (λ k. let r = goes_on cs w n q' k in (r.0, in_append_right _ (drop (suc i) nodes) more r.1))
         (λ k. absurd (unfit (subst (λ ys. IsValidPlan t ys) (sym (ap steps_at (sym q' ∙ ap numbers (take_all_of n (rising cs) k)) ∙ steps_are (rising cs))) (wanted_is_plan t cs w))))
         (cases_lt n (length (rising cs)))
 
     pub next_running : IsRunning t new (suc i)
     next_running = record {
-      all_nodes = subst (AllByRecursion (IsNode (length t.actions.items))) (sym h.is) (all_append (IsNode (length t.actions.items)) nodes h.more run.all_nodes h.nodes);
+      all_nodes = subst (AllByRecursion (IsNode (length t.actions.items))) (sym is) (all_append (IsNode (length t.actions.items)) nodes more run.all_nodes (children_are_nodes t first chosen among (length t.actions.items) (chosen_is_node chosen l e) known.known));
       open_for = λ cs w. let o = run.open_for cs w in subst (λ xs. (m : ℕ) × In (numbers (take m (rising cs))) xs) (sym new_open) (open_after cs w o.0 (subst (λ xs. In (numbers (take o.0 (rising cs))) xs) (drop-cons nodes i [] l) o.1));
       root = λ q. absurd (omega arith);
       not_empty = λ k. empty_not chosen e unfit;

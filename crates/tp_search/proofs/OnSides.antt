@@ -1,23 +1,18 @@
--- Events that meet by the sets of one of them interfere.
-use Rattle.std.proofs.Common.{◌≡◌, ℕ, Bool, true, ◌||◌, ◌==◌, inl, inr, ⊎_elim, List, [], ◌∷◌, Some, slice_get, refl, sym, subst, ◌∙◌}
+-- What two events do to each other, as the sets of one of them tell it.
+use Rattle.std.proofs.Common.{◌≡◌, ℕ, Bool, true, false, ◌||◌, ◌==◌, inl, inr, ⊎_elim, List, [], ◌∷◌, ◌++◌, Option, Some, None, MatchOption, refl, sym, ap, ap₂, subst, ◌∙◌}
 use Rattle.std.specs.List.{list_any}
-use Rattle.std.specs.Option.{option_and_then}
 use Rattle.std.proofs.lemmas.Bool.{or_cases, or_left, or_right, eq-eqb, eqb-true}
-use Rattle.std.proofs.lemmas.List.Elements.{All-weaker}
 use Rattle.tp_task.specs.declared.events.GroundEvent.{GroundEvent}
 use Rattle.tp_task.specs.declared.task.Task.{Task}
-use Rattle.tp_task.specs.Event.{has, meets, interferes, disturbs}
+use Rattle.tp_task.specs.Event.{has, meets}
 use Rattle.tp_task.specs.Bounds.{In}
 use Rattle.tp_happen.specs.declared.meetings.Meeting.{Meeting}
 use Rattle.tp_happen.specs.declared.meetings.Meeting.TheVariants.{ChangedAndAsked, AddedAndDeleted, WrittenAndRead, SetAndWritten}
-use Rattle.tp_happen.specs.declared.events.Part.TheVariants.{Only}
-use Rattle.tp_happen.specs.Parts.{part_of}
-use Rattle.tp_happen.specs.Meetings.{done, met}
+use Rattle.tp_happen.specs.Meetings.{done, met, meet}
 use Rattle.tp_number_sets.specs.Sets.{has_number}
 use Rattle.tp_search.specs.declared.sides.Side.{Side}
-use Rattle.tp_search.specs.Sides.{IsSide, AreSides, IsSideOf, AreSidesOf}
-use Rattle.tp_search.specs.Possible.{Interferes}
-use Rattle.tp_search.proofs.Loop.{only_is}
+use Rattle.tp_search.specs.Possible.{both_interfere, interfere, only_event}
+use Rattle.tp_search.specs.Sides.{IsSide, AreSides, AreSidesOf, all_ways, ways_of, meet_with}
 
 in_of_any : (p : ℕ → Bool) (xs : List ℕ) → list_any p xs ≡ true → (x : ℕ) × In x xs × (p x ≡ true)
 in_of_any p [] e = absurd (cc)
@@ -35,45 +30,94 @@ any_of_in p (y ∷ ys) x (inr i) h = or_right (p y) (list_any p ys) (any_of_in p
 in_of_has : (xs : List ℕ) (x : ℕ) → has xs x ≡ true → In x xs
 in_of_has xs x h = let found = in_of_any (λ y. y == x) xs h in subst (λ z. In z xs) (eqb-true found.0 x found.2) found.1
 
-has_of_in : (xs : List ℕ) (x : ℕ) → In x xs → has xs x ≡ true
+pub has_of_in : (xs : List ℕ) (x : ℕ) → In x xs → has xs x ≡ true
 has_of_in xs x i = any_of_in (λ y. y == x) xs x i (eq-eqb x x refl)
 
--- a set that has one of some numbers
-found_by : (xs ys : List ℕ) (p : ℕ → Bool) → ((n : ℕ) → p n ≡ has xs n) → list_any p ys ≡ true → (x : ℕ) × In x xs × In x ys
-found_by xs ys p is h = let found = in_of_any p ys h in (found.0, in_of_has xs found.0 (sym (is found.0) ∙ found.2), found.1)
+-- lists that have a number in common, whichever is looked up in the other
+meets_back : (xs ys : List ℕ) → meets xs ys ≡ true → meets ys xs ≡ true
+meets_back xs ys h = let found = in_of_any (has ys) xs h in any_of_in (has xs) ys found.0 (in_of_has ys found.0 found.2) (has_of_in xs found.0 found.1)
 
-meets_of_both : (xs ys : List ℕ) (x : ℕ) → In x xs → In x ys → meets xs ys ≡ true
-meets_of_both xs ys x i j = any_of_in (has ys) xs x i (has_of_in ys x j)
+same_if : (a b : Bool) → (a ≡ true → b ≡ true) → (b ≡ true → a ≡ true) → a ≡ b
+same_if true b f g = sym (f refl)
+same_if false true f g = g refl
+same_if false false f g = refl
 
-abbrev last_two : GroundEvent → GroundEvent → Bool
-last_two a b = meets (done WrittenAndRead a) (met WrittenAndRead b) || meets (done SetAndWritten a) (met SetAndWritten b)
+meets_either : (xs ys : List ℕ) → meets xs ys ≡ meets ys xs
+meets_either xs ys = same_if (meets xs ys) (meets ys xs) (meets_back xs ys) (meets_back ys xs)
 
-abbrev last_three : GroundEvent → GroundEvent → Bool
-last_three a b = meets (done AddedAndDeleted a) (met AddedAndDeleted b) || last_two a b
-
-disturbs_by : (way : Meeting) (a b : GroundEvent) → meets (done way a) (met way b) ≡ true → disturbs a b ≡ true
-disturbs_by ChangedAndAsked a b h = or_left (meets (done ChangedAndAsked a) (met ChangedAndAsked b)) (last_three a b) h
-disturbs_by AddedAndDeleted a b h = or_right (meets (done ChangedAndAsked a) (met ChangedAndAsked b)) (last_three a b) (or_left (meets (done AddedAndDeleted a) (met AddedAndDeleted b)) (last_two a b) h)
-disturbs_by WrittenAndRead a b h = or_right (meets (done ChangedAndAsked a) (met ChangedAndAsked b)) (last_three a b) (or_right (meets (done AddedAndDeleted a) (met AddedAndDeleted b)) (last_two a b) (or_left (meets (done WrittenAndRead a) (met WrittenAndRead b)) (meets (done SetAndWritten a) (met SetAndWritten b)) h))
-disturbs_by SetAndWritten a b h = or_right (meets (done ChangedAndAsked a) (met ChangedAndAsked b)) (last_three a b) (or_right (meets (done AddedAndDeleted a) (met AddedAndDeleted b)) (last_two a b) (or_right (meets (done WrittenAndRead a) (met WrittenAndRead b)) (meets (done SetAndWritten a) (met SetAndWritten b)) h))
+any_same : (p q : ℕ → Bool) → ((n : ℕ) → p n ≡ q n) → (xs : List ℕ) → list_any p xs ≡ list_any q xs
+any_same p q h [] = refl
+any_same p q h (x ∷ xs) = ap₂ ◌||◌ (h x) (any_same p q h xs)
 
 module _ (e other : GroundEvent) (s : Side) (is : IsSide e s) where
-  -- the other one mentions something to which the event does something
-  pub met_by_other : list_any (has_number s.done) (met s.way other) ≡ true → interferes e other ≡ true
-  met_by_other h =
-      let found = found_by (done s.way e) (met s.way other) (has_number s.done) is.done h in
-      or_left (disturbs e other) (disturbs other e) (disturbs_by s.way e other (meets_of_both (done s.way e) (met s.way other) found.0 found.1 found.2))
+  done_is : list_any (has_number s.done) (met s.way other) ≡ meets (done s.way e) (met s.way other)
+  done_is = any_same (has_number s.done) (has (done s.way e)) is.done (met s.way other) ∙ meets_either (met s.way other) (done s.way e)
 
-  -- and the other way round
-  pub done_by_other : list_any (has_number s.met) (done s.way other) ≡ true → interferes e other ≡ true
-  done_by_other h =
-      let found = found_by (met s.way e) (done s.way other) (has_number s.met) is.met h in
-      or_right (disturbs e other) (disturbs other e) (disturbs_by s.way other e (meets_of_both (done s.way other) (met s.way e) found.0 found.2 found.1))
+  met_is : list_any (has_number s.met) (done s.way other) ≡ meets (done s.way other) (met s.way e)
+  met_is = any_same (has_number s.met) (has (met s.way e)) is.met (done s.way other)
+
+  -- the other one mentions something to which the event does something
+  pub met_by_other : list_any (has_number s.done) (met s.way other) ≡ true → true ≡ meet s.way e other
+  met_by_other h = sym (or_left (meets (done s.way e) (met s.way other)) (meets (done s.way other) (met s.way e)) (sym done_is ∙ h))
+
+  -- or else the other way round
+  pub done_by_other : list_any (has_number s.done) (met s.way other) ≡ false → list_any (has_number s.met) (done s.way other) ≡ meet s.way e other
+  done_by_other h = met_is ∙ sym (ap (λ b. b || meets (done s.way other) (met s.way e)) (sym done_is ∙ h))
+
+or_none : (h : Bool) → (h || false) ≡ h
+or_none true = refl
+or_none false = refl
+
+regroup : (a b c d e f g h : Bool) → ((a || e) || ((b || f) || ((c || g) || ((d || h) || false)))) ≡ ((a || (b || (c || d))) || (e || (f || (g || h))))
+regroup true b c d e f g h = refl
+regroup false true c d true f g h = refl
+regroup false true c d false f g h = refl
+regroup false false true d true f g h = refl
+regroup false false true d false true g h = refl
+regroup false false true d false false g h = refl
+regroup false false false true true f g h = refl
+regroup false false false true false true g h = refl
+regroup false false false true false false true h = refl
+regroup false false false true false false false h = refl
+regroup false false false false true f g h = refl
+regroup false false false false false true g h = refl
+regroup false false false false false false true h = refl
+regroup false false false false false false false h = or_none h
+
+-- two events interfere where they meet in some way
+by_ways : (e : GroundEvent) (o : Option GroundEvent) → list_any (λ way. meet_with way e o) all_ways ≡ both_interfere (Some e) o
+by_ways e None = refl
+by_ways e (Some x) =
+    regroup
+    (meets (done ChangedAndAsked e) (met ChangedAndAsked x)) (meets (done AddedAndDeleted e) (met AddedAndDeleted x)) (meets (done WrittenAndRead e) (met WrittenAndRead x)) (meets (done SetAndWritten e) (met SetAndWritten x))
+    (meets (done ChangedAndAsked x) (met ChangedAndAsked e)) (meets (done AddedAndDeleted x) (met AddedAndDeleted e)) (meets (done WrittenAndRead x) (met WrittenAndRead e)) (meets (done SetAndWritten x) (met SetAndWritten e))
+
+any_way : (test : Meeting → Bool) (sides : List Side) → list_any (λ (s : Side). test s.way) sides ≡ list_any test (ways_of sides)
+any_way test [] = refl
+any_way test (s ∷ sides) = ap (λ b. test s.way || b) (any_way test sides)
+
+pub ways_more : (sides : List Side) (s : Side) → ways_of (sides ++ s ∷ []) ≡ ways_of sides ++ s.way ∷ []
+ways_more [] s = refl
+ways_more (x ∷ sides) s = ap (λ ways. x.way ∷ ways) (ways_more sides s)
+
+-- an event meets another by one of its sides
+abbrev pub meets_by : GroundEvent → Option GroundEvent → List Side → Bool
+meets_by e o sides = list_any (λ (s : Side). meet_with s.way e o) sides
+
+by_sides : (e : GroundEvent) (o : Option GroundEvent) (sides : List Side) → AreSides e sides → meets_by e o sides ≡ both_interfere (Some e) o
+by_sides e o sides are = any_way (λ way. meet_with way e o) sides ∙ (ap (list_any (λ way. meet_with way e o)) are.ways ∙ by_ways e o)
+
+told_by : (one other : Option GroundEvent) (sides : List Side) (r : Bool) → MatchOption one (sides ≡ []) (λ e. AreSides e sides) → (sides ≡ [] → r ≡ false) → ((e : GroundEvent) → AreSides e sides → r ≡ meets_by e other sides) → r ≡ both_interfere one other
+told_by None other sides r are none some = none are
+told_by (Some e) other sides r are none some = some e are ∙ by_sides e other sides are
+
+-- whether an action interferes with another one is told by its sides
+pub told_by_sides : (t : Task) (a b : ℕ) (sides : List Side) (r : Bool) → AreSidesOf t a sides → (sides ≡ [] → r ≡ false) → ((e : GroundEvent) → AreSides e sides → r ≡ meets_by e (only_event t b) sides) → r ≡ interfere t a b
+told_by_sides t a b sides r are none some = told_by (only_event t a) (only_event t b) sides r are none some
 
 -- sides of the event that an action is
-pub sides_of_action : (t : Task) (a : ℕ) (e : GroundEvent) (sides : List Side) → Some e ≡ option_and_then (λ b. part_of b Only) (slice_get t.actions.items a) → AreSides e sides → AreSidesOf t a sides
-sides_of_action t a e sides is h = All-weaker (IsSide e) (IsSideOf t a) (λ s k. record { event = e; is = only_is (slice_get t.actions.items a) e is; side = k }) sides h
+pub sides_of_action : (t : Task) (a : ℕ) (e : GroundEvent) (sides : List Side) → Some e ≡ only_event t a → AreSides e sides → AreSidesOf t a sides
+sides_of_action t a e sides is h = subst (λ o. MatchOption o (sides ≡ []) (λ x. AreSides x sides)) is h
 
--- an action whose event interferes with another one's
-pub with_side : (t : Task) (a b : ℕ) (s : Side) (other : GroundEvent) (k : IsSideOf t a s) → Some other ≡ option_and_then (λ x. part_of x Only) (slice_get t.actions.items b) → interferes k.event other ≡ true → Interferes t a b
-with_side t a b s other k is meet = record { one = k.event; other = other; is_one = k.is; is_other = only_is (slice_get t.actions.items b) other is; meet = meet }
+pub no_sides : (t : Task) (a : ℕ) (sides : List Side) → None ≡ only_event t a → sides ≡ [] → AreSidesOf t a sides
+no_sides t a sides is h = subst (λ o. MatchOption o (sides ≡ []) (λ x. AreSides x sides)) is h

@@ -1,6 +1,6 @@
 //! The plans of instantaneous steps at tick 0.
 
-ghost use Rattle.std.specs.Prelude.{◌≡◌, ◌≤◌, ◌<◌, ◌∷◌, ℕ, [], true, false, List, length, slice_index_or, IfOk, MatchOption, OnOk};
+ghost use Rattle.std.specs.Prelude.{◌≡◌, ◌≤◌, ◌<◌, ◌+◌, ◌-◌, ◌∷◌, ◌++◌, ℕ, [], true, false, List, length, slice_get, slice_index_or, IfOk, MatchOption, OnOk};
 ghost use Rattle.std.specs.List.{AllByRecursion};
 ghost use Rattle.tp_task.specs.Fits.{event_fits};
 ghost use Rattle.tp_happen.specs.Stored.{state_of, first_of};
@@ -8,9 +8,9 @@ ghost use Rattle.tp_validate.specs.OfTask.{IsValidPlan};
 ghost use Rattle.tp_reach.specs.TaskReach.{GoalIs};
 ghost use Rattle.tp_search.specs.AtOnce.{CanHappen};
 ghost use Rattle.tp_task.specs.Bounds.{In};
-ghost use Rattle.tp_search.specs.Possible.{CanBegin, IsApart, AreCandidates, alone};
+ghost use Rattle.tp_search.specs.Possible.{CanBegin, AreCandidates, AreRising, alone, is_apart};
 ghost use Rattle.tp_search.specs.Rows.{AreRows};
-ghost use Rattle.tp_search.specs.Children.{IsNode, HasChildren};
+ghost use Rattle.tp_search.specs.Children.{IsNode, children, children_within};
 ghost use Rattle.tp_search.specs.Running.{step_at, steps_at};
 ghost use Rattle.tp_search.specs.Answers.{IsAnswer};
 
@@ -70,10 +70,13 @@ pub fn judge<'t>(
     }
 }
 
-// The number after the last one chosen.
+// The number after the last one chosen, 0 where none is.
 fn first_after(chosen: &[u32]) -> u32
     requires { AllByRecursion (λ a. a < 65535) chosen.now }
-    ensures { (a : ℕ) → AllByRecursion (λ b. b < a) chosen.now → result ≤ a }
+    ensures after { (last : ℕ)
+        → slice_get chosen.now (length chosen.now - 1) ≡ Some last → result ≡ last + 1 }
+    ensures none { chosen.now ≡ [] → result ≡ 0 }
+    ensures least { (a : ℕ) → AllByRecursion (λ b. b < a) chosen.now → result ≤ a }
 {
     match chosen.last() {
         Some(last) => *last + 1,
@@ -84,7 +87,9 @@ fn first_after(chosen: &[u32]) -> u32
 // Whether an event can happen alone in a state.
 fn happens_alone(alloc: Global, state: &State, only: Event<'_>) -> Result<bool, SearchFault>
     requires { event_fits (length state.now.atoms) (length state.now.numbers) only ≡ true }
-    ensures { IfOk result
+    ensures yes { IfOk result
+        (λ r. r ≡ true → CanHappen state.now.scale (state_of state.now) (alone only.entry)) }
+    ensures no { IfOk result
         (λ r. r ≡ false → ¬ CanHappen state.now.scale (state_of state.now) (alone only.entry)) }
 {
     let events = [EventRef::new(only, 0)];
@@ -99,7 +104,8 @@ fn happens_alone(alloc: Global, state: &State, only: Event<'_>) -> Result<bool, 
 // Whether an action is one event that can happen alone in the state in which the task begins.
 fn can_begin(alloc: Global, task: &Task, state: &State, action: u32) -> Result<bool, SearchFault>
     requires { state.now ≡ first_of task.now }
-    ensures { IfOk result (λ r. r ≡ false → ¬ CanBegin task.now action) }
+    ensures yes { IfOk result (λ r. r ≡ true → CanBegin task.now action) }
+    ensures no { IfOk result (λ r. r ≡ false → ¬ CanBegin task.now action) }
 {
     match event(task, ActionId(action), Part::Only) {
         Some(only) => happens_alone(alloc, state, only),
@@ -115,7 +121,10 @@ fn push_candidates(
 ) -> Result<(), SearchFault>
     requires state { state.now ≡ first_of task.now }
     requires none { found.old.items ≡ [] }
-    ensures { OnOk result (AreCandidates task.now (length task.now.actions.items) found.new.items) }
+    ensures all { OnOk result
+        (AreCandidates task.now (length task.now.actions.items) found.new.items) }
+    ensures no_other { OnOk result (AllByRecursion (CanBegin task.now) found.new.items) }
+    ensures rising { OnOk result (AreRising found.new.items) }
 {
     let count = task.actions.len() as u32;
     for action in 0..count {
@@ -125,9 +134,12 @@ fn push_candidates(
     Ok(())
 }
 
-// The actions that can be the only one at tick 0.
+// The actions that can be the only one at tick 0, by number.
 fn candidates(alloc: Global, task: &Task) -> Result<Vec<u32>, SearchFault>
-    ensures { IfOk result (λ v. AreCandidates task.now (length task.now.actions.items) v.items) }
+    ensures all { IfOk result
+        (λ v. AreCandidates task.now (length task.now.actions.items) v.items) }
+    ensures no_other { IfOk result (λ v. AllByRecursion (CanBegin task.now) v.items) }
+    ensures rising { IfOk result (λ v. AreRising v.items) }
 {
     let state = State::initial(alloc, task)?;
     let mut found = Vec::new(alloc);
@@ -138,7 +150,7 @@ fn candidates(alloc: Global, task: &Task) -> Result<Vec<u32>, SearchFault>
 // Whether an action interferes with none of those that are chosen.
 fn is_apart(rows: &Rows, task: &Task, chosen: &[u32], action: u32) -> bool
     ensures { (among : List ℕ) → AreRows task.now among rows.now.rows.items → In action among
-        → result ≡ false → ¬ IsApart task.now chosen.now action }
+        → result ≡ is_apart task.now chosen.now action }
 {
     for other in chosen {
         if rows.meet(task, *other, action) {
@@ -165,7 +177,7 @@ fn add_child(
     requires action { action < length task.now.actions.items }
     ensures { OnOk result ((among : List ℕ) → AreRows task.now among rows.now.rows.items
         → In action among
-        → HasChildren task.now first (action ∷ []) chosen.now arena.old arena.new) }
+        → arena.new ≡ arena.old ++ children task.now first (action ∷ []) chosen.now) }
 {
     if action < first || !is_apart(rows, task, chosen, action) {
         return Ok(());
@@ -189,7 +201,7 @@ fn add_children(
     requires actions { AllByRecursion (λ a. a < length task.now.actions.items) candidates.now }
     requires rows { AreRows task.now candidates.now rows.now.rows.items }
     ensures { OnOk result
-        (HasChildren task.now first candidates.now chosen.now arena.old arena.new) }
+        (arena.new ≡ arena.old ++ children_within task.now first candidates.now chosen.now) }
 {
     if chosen.len() >= MOST_STEPS {
         return Ok(());
@@ -216,7 +228,7 @@ fn expand(
     requires actions { AllByRecursion (λ a. a < length task.now.actions.items) candidates.now }
     requires rows { AreRows task.now candidates.now rows.old.rows.items }
     ensures children { OnOk result
-        (HasChildren task.now first candidates.now chosen.now arena.old arena.new) }
+        (arena.new ≡ arena.old ++ children_within task.now first candidates.now chosen.now) }
     ensures rows { OnOk result (AreRows task.now candidates.now rows.new.rows.items) }
 {
     rows.ask_last(task, candidates, chosen)?;

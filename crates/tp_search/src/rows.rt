@@ -1,13 +1,13 @@
 //! Which actions interfere with a candidate after them: asked once for each pair.
 
-ghost use Rattle.std.specs.Prelude.{◌≡◌, ◌<◌, ℕ, [], List, true, false, if◌then◌else◌, ◌∷◌, ◌++◌, IfOk, OnOk};
-ghost use Rattle.std.specs.List.{Contains};
+ghost use Rattle.std.specs.Prelude.{◌≡◌, ◌-◌, ℕ, [], List, if◌then◌else◌, ◌∷◌, ◌++◌, length, slice_get, IfOk, OnOk};
 ghost use Rattle.std.specs.List.Sorted.{IsNonDecreasing};
 ghost use Rattle.tp_task.specs.declared.task.Task.{Task};
+ghost use Rattle.tp_task.specs.Event.{has};
 ghost use Rattle.tp_task.specs.Bounds.{In};
-ghost use Rattle.tp_search.specs.Possible.{Interferes};
+ghost use Rattle.tp_search.specs.Possible.{interfere};
 ghost use Rattle.tp_search.specs.Sides.{AreSidesOf};
-ghost use Rattle.tp_search.specs.Rows.{OthersInterfere, IsRow, AreUnknown, AreRows};
+ghost use Rattle.tp_search.specs.Rows.{is_free, free_after, IsAsked, IsKnown, AreUnknown, AreRows};
 
 use crate::sides::{Side, sides_meet, sides_of};
 use std::alloc::{AllocError, Global};
@@ -30,7 +30,7 @@ pub struct Rows {
 
 // Whether two actions are one event each, and these interfere.
 fn interfere(task: &Task, one: u32, other: u32) -> bool
-    ensures { result ≡ true → Interferes task.now one other }
+    ensures { result ≡ interfere task.now one other }
 {
     let first = event(task, ActionId(one), Part::Only);
     let second = event(task, ActionId(other), Part::Only);
@@ -59,8 +59,8 @@ fn is_free(
     action: u32,
     candidate: u32,
 ) -> Result<bool, AllocError>
-    ensures { AreSidesOf task.now action sides.now → IfOk result
-        (λ b. b ≡ false → action < candidate → Interferes task.now action candidate) }
+    ensures { AreSidesOf task.now action sides.now
+        → IfOk result (λ b. b ≡ is_free task.now action candidate) }
 {
     if candidate <= action {
         return Ok(false);
@@ -77,7 +77,7 @@ fn free_of(
     action: u32,
 ) -> Result<Vec<u32>, AllocError>
     ensures { AreSidesOf task.now action sides.now
-        → IfOk result (λ v. OthersInterfere task.now candidates.now action v.items) }
+        → IfOk result (λ v. v.items ≡ free_after task.now candidates.now action) }
 {
     let mut free = Vec::new(alloc);
     for candidate in candidates {
@@ -94,7 +94,7 @@ fn free_after(
     candidates: &[u32],
     action: u32,
 ) -> Result<Vec<u32>, AllocError>
-    ensures { IfOk result (λ v. OthersInterfere task.now candidates.now action v.items) }
+    ensures { IfOk result (λ v. v.items ≡ free_after task.now candidates.now action) }
 {
     let sides = sides_of(alloc, task, action)?;
     free_of(alloc, task, candidates, &sides, action)
@@ -102,7 +102,7 @@ fn free_after(
 
 // The row of an action.
 fn row_of(alloc: Global, task: &Task, candidates: &[u32], action: u32) -> Result<Row, AllocError>
-    ensures { IfOk result (λ r. IsRow task.now candidates.now action r.apart.items) }
+    ensures { IfOk result (IsAsked task.now candidates.now action) }
 {
     let mut apart = free_after(alloc, task, candidates, action)?;
     apart.sort_unstable();
@@ -111,7 +111,8 @@ fn row_of(alloc: Global, task: &Task, candidates: &[u32], action: u32) -> Result
 
 // Rows of which none was asked.
 fn unknown_rows(alloc: Global, count: usize) -> Result<Vec<Row>, AllocError>
-    ensures { IfOk result (λ v. AreUnknown v.items) }
+    ensures unknown { IfOk result (λ v. AreUnknown v.items) }
+    ensures count { IfOk result (λ v. length v.items ≡ count) }
 {
     let mut rows = Vec::new(alloc);
     for _ in 0..count {
@@ -124,9 +125,9 @@ fn unknown_rows(alloc: Global, count: usize) -> Result<Vec<Row>, AllocError>
 }
 
 // Whether sorted numbers have a number.
-#[tactic(auto, using(crate::proofs::Listed::not_listed))]
+#[tactic(auto, using(crate::proofs::Listed::listed))]
 fn has(numbers: &[u32], number: u32) -> bool
-    ensures { IsNonDecreasing numbers.now → result ≡ false → ¬ Contains numbers.now number }
+    ensures { IsNonDecreasing numbers.now → result ≡ has numbers.now number }
 {
     numbers.binary_search(&number).is_ok()
 }
@@ -135,7 +136,9 @@ impl Rows {
     /// Rows for so many actions, of which none was asked.
     #[tactic(auto, using(crate::proofs::Listed::rows_unknown))]
     pub fn new(alloc: Global, count: usize) -> Result<Self, AllocError>
-        ensures { IfOk result (λ r. (t : Task) (among : List ℕ) → AreRows t among r.rows.items) }
+        ensures rows { IfOk result
+            (λ r. (t : Task) (among : List ℕ) → AreRows t among r.rows.items) }
+        ensures count { IfOk result (λ r. length r.rows.items ≡ count) }
     {
         let rows = unknown_rows(alloc, count)?;
         Ok(Rows { alloc, rows })
@@ -144,7 +147,9 @@ impl Rows {
     // Asks which candidates after an action interfere with it, if it was not asked.
     fn ask(&mut self, task: &Task, candidates: &[u32], action: u32) -> Result<(), AllocError>
         requires { AreRows task.now candidates.now self.old.rows.items }
-        ensures { OnOk result (AreRows task.now candidates.now self.new.rows.items) }
+        ensures rows { OnOk result (AreRows task.now candidates.now self.new.rows.items) }
+        ensures asked { OnOk result (IsKnown self.new.rows.items action) }
+        ensures kept { (a : ℕ) → IsKnown self.old.rows.items a → IsKnown self.new.rows.items a }
     {
         let at = action as usize;
         if at < self.rows.len() && !self.rows[at].known {
@@ -161,7 +166,10 @@ impl Rows {
         chosen: &[u32],
     ) -> Result<(), AllocError>
         requires { AreRows task.now candidates.now self.old.rows.items }
-        ensures { OnOk result (AreRows task.now candidates.now self.new.rows.items) }
+        ensures rows { OnOk result (AreRows task.now candidates.now self.new.rows.items) }
+        ensures asked { OnOk result ((a : ℕ) → slice_get chosen.now (length chosen.now - 1) ≡ Some a
+            → IsKnown self.new.rows.items a) }
+        ensures kept { (a : ℕ) → IsKnown self.old.rows.items a → IsKnown self.new.rows.items a }
     {
         match chosen.last() {
             Some(last) => self.ask(task, candidates, *last),
@@ -172,7 +180,7 @@ impl Rows {
     /// Whether an action and a candidate are one event each, and these interfere: looked up where it was asked.
     pub fn meet(&self, task: &Task, action: u32, candidate: u32) -> bool
         ensures { (among : List ℕ) → AreRows task.now among self.now.rows.items → In candidate among
-            → result ≡ true → Interferes task.now action candidate }
+            → result ≡ interfere task.now action candidate }
     {
         match self.rows.get(action as usize) {
             Some(row) if row.known && action < candidate => !has(&row.apart, candidate),

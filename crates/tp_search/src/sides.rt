@@ -1,13 +1,13 @@
 //! Actions whose events are kept as sets of atoms and fluents, so that another one is seen to interfere in the time of what it
 //! mentions itself.
 
-ghost use Rattle.std.specs.Prelude.{◌≡◌, ℕ, true, IfOk};
+ghost use Rattle.std.specs.Prelude.{◌≡◌, ℕ, IfOk};
 ghost use Rattle.tp_task.specs.declared.events.GroundEvent.{GroundEvent};
-ghost use Rattle.tp_task.specs.Event.{has, interferes};
+ghost use Rattle.tp_task.specs.Event.{has};
 ghost use Rattle.tp_happen.specs.Meetings as meetings;
 ghost use Rattle.tp_number_sets.specs.Sets.{has_number};
-ghost use Rattle.tp_search.specs.Possible.{Interferes};
-ghost use Rattle.tp_search.specs.Sides.{IsSide, AreSides, IsSideOf, AreSidesOf};
+ghost use Rattle.tp_search.specs.Possible.{only_event, interfere};
+ghost use Rattle.tp_search.specs.Sides.{IsSide, AreSides, AreSidesOf, meet_with};
 
 use std::alloc::{AllocError, Global};
 use tp_happen::{Event, Meeting, Part, event};
@@ -46,14 +46,15 @@ fn met_set(alloc: Global, way: Meeting, event: &Event<'_>) -> Result<NumberSet, 
 }
 
 fn side_of(alloc: Global, way: Meeting, event: &Event<'_>) -> Result<Side, AllocError>
-    ensures { IfOk result (λ s. IsSide event.now s) }
+    ensures way { IfOk result (λ s. s.way ≡ way) }
+    ensures side { IfOk result (IsSide event.now) }
 {
     let done = done_set(alloc, way, event)?;
     let met = met_set(alloc, way, event)?;
     Ok(Side { way, done, met })
 }
 
-// The sides of an event.
+// The sides of an event, one for each way.
 fn sides_of_event(alloc: Global, event: &Event<'_>) -> Result<Vec<Side>, AllocError>
     ensures { IfOk result (λ v. AreSides event.now v.items) }
 {
@@ -78,7 +79,7 @@ pub fn sides_of(alloc: Global, task: &Task, action: u32) -> Result<Vec<Side>, Al
 // Whether two events interfere in that way.
 fn meets(alloc: Global, side: &Side, other: &Event<'_>) -> Result<bool, AllocError>
     ensures { (e : GroundEvent) → IsSide e side.now
-        → IfOk result (λ b. b ≡ true → interferes e other.now ≡ true) }
+        → IfOk result (λ b. b ≡ meetings.meet side.now.way e other.now) }
 {
     let met = other.met(alloc, side.way)?;
     if side.done.has_any(&met) {
@@ -88,10 +89,10 @@ fn meets(alloc: Global, side: &Side, other: &Event<'_>) -> Result<bool, AllocErr
     Ok(side.met.has_any(&done))
 }
 
-// Whether an action with this side interferes with another in that way, both being one event each.
+// Whether the event with this side interferes in that way with the one that an action is, if it is one event.
 fn meet_in(alloc: Global, task: &Task, side: &Side, other: u32) -> Result<bool, AllocError>
-    ensures { (action : ℕ) → IsSideOf task.now action side.now
-        → IfOk result (λ b. b ≡ true → Interferes task.now action other) }
+    ensures { (e : GroundEvent) → IsSide e side.now
+        → IfOk result (λ b. b ≡ meet_with side.now.way e (only_event task.now other)) }
 {
     match event(task, ActionId(other), Part::Only) {
         Some(only) => meets(alloc, side, &only),
@@ -108,7 +109,7 @@ pub fn sides_meet(
     other: u32,
 ) -> Result<bool, AllocError>
     ensures { (action : ℕ) → AreSidesOf task.now action sides.now
-        → IfOk result (λ b. b ≡ true → Interferes task.now action other) }
+        → IfOk result (λ b. b ≡ interfere task.now action other) }
 {
     for side in sides {
         if meet_in(alloc, task, side, other)? {
