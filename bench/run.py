@@ -350,6 +350,13 @@ def two_orders(names, atoms):
     return f"(define (domain d) {declared} (:action a :parameters (?y - (either {' '.join(names)})) :precondition (and {'(p ?y) ' * atoms}) :effect ()))"
 
 
+def of_any(kinds, variables, atoms):
+    """Atoms over parameters of any of some types: c is a constant of the last of them, d one of a type below it."""
+    listed = " ".join(kinds)
+    declared = f"(:types {listed} - object the-last - {kinds[-1]}) (:constants c - {kinds[-1]} d - the-last)"
+    return asking(f"{declared} (:predicates (p {variables} - (either {listed})))", atoms)
+
+
 def colliding(count):
     """Names of one hash. The tables hash 16 bytes at a time and multiply the two halves; the second eight bytes of the second
     sixteen, which differ, are multiplied by nothing, since the eight before them undo what the first sixteen made.
@@ -375,9 +382,15 @@ def worst_reads(program):
     judged(program, "115,000 types below one of 500,000 letters", f"(define (domain d) (:types {below} - {'t' * 500_000}))", problem, "")
     kinds = short_names(14_000)
     judged(program, "100 atoms over two lists of 14,000 types, in two orders", two_orders(kinds, 100), problem, "")
-    kinds = " ".join(short_names(50_000))
-    of_any = f"(:types {kinds}) (:constants c - {kinds.split()[-1]}) (:predicates (p ?x - (either {kinds})))"
-    judged(program, "100 atoms of a constant over a list of 50,000 types", asking(of_any, "(p c) " * 100), problem, "")
+    judged(program, "1,000 atoms over two lists of 14,000 types, in two orders", two_orders(kinds, 1_000), problem, "")
+    kinds = short_names(50_000)
+    judged(program, "80,000 atoms of a constant over a list of 50,000 types", of_any(kinds, "?v", "(p c) " * 80_000), problem, "")
+    judged(program, "the same, of one below the last of them", of_any(kinds, "?v", "(p d) " * 80_000), problem, "")
+    arguments = f"(p {'c ' * 50_000})"
+    judged(program, "an atom of 50,000 arguments over that list", of_any(kinds, each("?v#", 50_000), arguments), problem, "")
+    many = each("?v#", 10_000)
+    action = f"(:action a :parameters ({many} - {either(10_000)}) :precondition () :effect ())"
+    judged(program, "an action of 10,000 parameters of 10,000 types", f"(define (domain d) (:types {each('t#', 10_000)}) (:constants c - t9999) {action})", problem, "")
     names = " ".join(colliding(20_000))
     judged(program, "20,000 constants whose names collide", f"(define (domain d) (:constants {names}))", problem, "")
     judged(program, "20,000 types whose names collide", f"(define (domain d) (:types {names}))", problem, "")
