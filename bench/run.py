@@ -12,6 +12,7 @@ are split among agents alone. Each list is read from a file by a process of its 
 the command to reading its answer, the mean of all of them. A verdict's time is that of the whole process, the best of three, or
 where one takes seconds the first; its memory is the greatest that the process held.
 """
+import itertools
 import os
 import pathlib
 import random
@@ -321,11 +322,8 @@ def alike():
 def short_names(count):
     """So many names as short as they can be."""
     letters, later = "abcdefghijklmnopqrstuvwxyz", "abcdefghijklmnopqrstuvwxyz0123456789"
-    names, last = [], list(letters)
-    while len(names) < count:
-        names += last
-        last = [name + letter for name in last for letter in later]
-    return names[:count]
+    names = ("".join(name) for size in itertools.count() for name in itertools.product(letters, *[later] * size))
+    return list(itertools.islice(names, count))
 
 
 def asking(declared, atoms):
