@@ -89,8 +89,8 @@ fn happens_alone(alloc: Global, state: &State, only: Event<'_>) -> Result<bool, 
     requires { event_fits (length state.now.atoms) (length state.now.numbers) only ≡ true }
     ensures yes { IfOk result
         (λ r. r ≡ true → CanHappen state.now.scale (state_of state.now) (alone only.entry)) }
-    ensures no { IfOk result
-        (λ r. r ≡ false → ¬ CanHappen state.now.scale (state_of state.now) (alone only.entry)) }
+    ensures no { IfOk result (λ r. r ≡ false
+        → ¬ CanHappen state.now.scale (state_of state.now) (alone only.entry)) }
 {
     let events = [EventRef::new(only, 0)];
     match apply(alloc, state, &events) {

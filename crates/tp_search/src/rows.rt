@@ -149,7 +149,8 @@ impl Rows {
         requires { AreRows task.now candidates.now self.old.rows.items }
         ensures rows { OnOk result (AreRows task.now candidates.now self.new.rows.items) }
         ensures asked { OnOk result (IsKnown self.new.rows.items action) }
-        ensures kept { (a : ℕ) → IsKnown self.old.rows.items a → IsKnown self.new.rows.items a }
+        ensures kept { (a : ℕ) → IsKnown self.old.rows.items a
+            → IsKnown self.new.rows.items a }
     {
         let at = action as usize;
         if at < self.rows.len() && !self.rows[at].known {
@@ -167,9 +168,11 @@ impl Rows {
     ) -> Result<(), AllocError>
         requires { AreRows task.now candidates.now self.old.rows.items }
         ensures rows { OnOk result (AreRows task.now candidates.now self.new.rows.items) }
-        ensures asked { OnOk result ((a : ℕ) → slice_get chosen.now (length chosen.now - 1) ≡ Some a
+        ensures asked { OnOk result ((a : ℕ)
+            → slice_get chosen.now (length chosen.now - 1) ≡ Some a
             → IsKnown self.new.rows.items a) }
-        ensures kept { (a : ℕ) → IsKnown self.old.rows.items a → IsKnown self.new.rows.items a }
+        ensures kept { (a : ℕ) → IsKnown self.old.rows.items a
+            → IsKnown self.new.rows.items a }
     {
         match chosen.last() {
             Some(last) => self.ask(task, candidates, *last),
@@ -179,8 +182,8 @@ impl Rows {
 
     /// Whether an action and a candidate are one event each, and these interfere: looked up where it was asked.
     pub fn meet(&self, task: &Task, action: u32, candidate: u32) -> bool
-        ensures { (among : List ℕ) → AreRows task.now among self.now.rows.items → In candidate among
-            → result ≡ interfere task.now action candidate }
+        ensures { (among : List ℕ) → AreRows task.now among self.now.rows.items
+            → In candidate among → result ≡ interfere task.now action candidate }
     {
         match self.rows.get(action as usize) {
             Some(row) if row.known && action < candidate => !has(&row.apart, candidate),
