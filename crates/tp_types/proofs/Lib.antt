@@ -2,6 +2,7 @@ pub mod OnPairs
 pub mod OnTables
 pub mod OnCycles
 pub mod OnJumps
+pub mod OnTypeTables
 pub mod OnClimbs
 pub mod OnMarks
 pub mod OnNames

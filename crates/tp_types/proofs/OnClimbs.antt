@@ -12,7 +12,7 @@ use Rattle.tp_types.specs.Cycles.{type_name, rank_of, is_ranked}
 use Rattle.tp_types.specs.Jumps.{jump_from, IsAbove, IsPlaceAbove}
 use Rattle.tp_types.specs.Parents.{parent_name, parent_at}
 use Rattle.tp_types.specs.Tables.{place_of}
-use Rattle.tp_types.specs.TypeTables.{IsTypeTable}
+use Rattle.tp_types.proofs.OnTypeTables.{IsTypeTable}
 use Rattle.tp_types.specs.declared.type_tables.TypeTable.{TypeTable}
 use Rattle.tp_types.proofs.OnCycles.{at_the_place, all_at_place, from_ranked, ranked_below}
 use Rattle.tp_types.proofs.OnJumps.{parent_above, jump_above, at_level}

@@ -1,11 +1,11 @@
 -- Marks on types that fit.
-use Rattle.std.proofs.Common.{◌≡◌, ℕ, ◌+◌, ◌<◌, zero, suc, List, [], ◌∷◌, ◌++◌, map, length, take, drop, get_or, Bool, true, false, ◌||◌, ◌&&◌, cond, ◌⊎◌, inl, inr, ⊎_elim, Option, Some, None, option_map, Bor, String, Global, string_bytes, refl, sym, ap, subst, ◌∙◌, arith, true≢false}
+use Rattle.std.proofs.Common.{◌≡◌, ℕ, ◌+◌, ◌<◌, zero, suc, List, [], ◌∷◌, ◌++◌, map, length, take, drop, get_or, replicate, Bool, true, false, ◌||◌, ◌&&◌, cond, ◌⊎◌, inl, inr, ⊎_elim, Option, Some, None, option_map, IfSome, Bor, String, Global, string_bytes, refl, sym, ap, subst, ◌∙◌, arith, true≢false}
 use Rattle.std.specs.Prelude.{slice_set}
 use Rattle.std.specs.List.{list_any, slice_get}
 use Rattle.std.specs.Str.{bytes_eq}
 use Rattle.std.specs.Cmp.Lexicographic.{bytes_decides}
 use Rattle.std.proofs.lemmas.Bool.{or_parts}
-use Rattle.std.proofs.lemmas.List.{length-map, take_more, drop_more, map-append}
+use Rattle.std.proofs.lemmas.List.{length-map, length-replicate, take_more, drop_more, map-append}
 use Rattle.std.proofs.lemmas.List.Folds.{list_any-append}
 use Rattle.std.proofs.lemmas.Option.{slice_get_within}
 use Rattle.tp_ast.specs.Symbols.{Name, Parent, parent_view, parent_of, at_or_below, types_fit}
@@ -17,7 +17,7 @@ use Rattle.tp_types.specs.NameSets.{insert_key}
 use Rattle.tp_types.specs.Parents.{parent_name, parent_at}
 use Rattle.tp_types.specs.Rows.{is_marked}
 use Rattle.tp_types.specs.Tables.{place_of}
-use Rattle.tp_types.specs.TypeTables.{IsTypeTable}
+use Rattle.tp_types.proofs.OnTypeTables.{IsTypeTable}
 use Rattle.tp_types.specs.declared.type_tables.TypeTable.{TypeTable}
 use Rattle.tp_types.proofs.OnCycles.{is_there, is_highest, no_place, at_the_place}
 use Rattle.tp_types.proofs.OnJumps.{up_one}
@@ -302,3 +302,25 @@ module _ (ts : List TypeName) where
             ap (λ (o : Option TypeName). passes (has_mark ks) (option_map parent_name o)) at
             ∙ other_fits ps ks (parent_name d) others (noted d at ∙ above)
             ∙ sym (named_above d at)
+
+-- ---- before any type is marked
+
+none_passes : (o : Option Name) → passes (λ n. list_any (bytes_eq n) []) o ≡ false
+none_passes None = refl
+none_passes (Some n) = refl
+
+unmarked : (k n : ℕ) → is_marked (replicate n false) k ≡ false
+unmarked k zero = refl
+unmarked zero (suc n) = refl
+unmarked (suc k) (suc n) = unmarked k n
+
+pub none_marked : (ts : List TypeName) (marks : List Bool) → marks ≡ replicate (length ts) false → AreMarks ts [] marks
+none_marked ts marks none = subst (AreMarks ts []) (sym none) (record {
+  size = length-replicate (length ts) false;
+  sound = λ k h. absurd (true≢false (sym h ∙ unmarked k (length ts)));
+  all = λ k h. absurd (true≢false (sym h ∙ none_passes (name_at ts k)));
+})
+
+pub fit_if_some : (ds : List Parent) (A P : List Name) (o : Option Bool) → ((b : Bool) → o ≡ Some b → b ≡ types_fit ds A P) → IfSome o (λ b. b ≡ types_fit ds A P)
+fit_if_some _ _ _ None h = tt
+fit_if_some _ _ _ (Some b) h = h b refl

@@ -4,7 +4,6 @@ pub mod Parents
 pub mod Rows
 pub mod Cycles
 pub mod Jumps
-pub mod TypeTables
 pub mod TypeViews
 pub mod Marks
 pub mod NameSets

@@ -1,33 +1,21 @@
 //! Whether a type stands below another: climbs by jumps, from place to place.
 
-ghost use Rattle.std.specs.Prelude.{◌≡◌, List, map, length, slice_get, Some, IfSome};
+ghost use Rattle.std.specs.Prelude.{◌≡◌, map, length, Some, IfSome};
 ghost use Rattle.tp_ast.specs.Symbols.{parent_view, at_or_below};
 ghost use Rattle.tp_types.specs.Cycles.{type_name};
 ghost use Rattle.tp_types.specs.Jumps.{IsPlaceAbove};
 ghost use Rattle.tp_types.specs.Tables.{Name, place_of};
-ghost use Rattle.tp_types.specs.TypeTables.{IsTypeTable};
 
+use crate::cycles::rank_at;
 use crate::jumps::jump_from;
 use crate::parents::parent_at;
 use crate::type_tables::{TypeTable, place_of};
-use tp_ast::types::TypeName;
-
-// The rank of the type at a place.
-fn rank_at(ranks: &[usize], place: usize) -> Option<usize>
-    ensures { result ≡ slice_get ranks.now place }
-{
-    match ranks.get(place) {
-        Some(rank) => Some(*rank),
-        None => None,
-    }
-}
 
 // A place above another: where a jump leads, unless that is above a rank, or else where the parent stands.
-fn next_up(types: &[TypeName], table: &TypeTable, place: usize, least: usize) -> Option<usize>
-    requires { IsTypeTable types.now table.now }
-    ensures { IfSome result (λ k. IsPlaceAbove types.now table.now.ranks.items place k) }
+fn next_up(table: &TypeTable, place: usize, least: usize) -> Option<usize>
+    ensures { IfSome result (λ k. IsPlaceAbove table.now.types.now table.now.ranks.items place k) }
 {
-    if let Some(jump) = jump_from(types, &table.jumps, place) {
+    if let Some(jump) = jump_from(table.types, &table.jumps, place) {
         if let Some(rank) = rank_at(&table.ranks, jump) {
             if rank >= least {
                 return Some(jump);
@@ -38,17 +26,16 @@ fn next_up(types: &[TypeName], table: &TypeTable, place: usize, least: usize) ->
 }
 
 // Whether the type at a place is the one at another, or stands below it. Nothing where one of them has no rank.
-fn climb_between(types: &[TypeName], table: &TypeTable, start: usize, end: usize) -> Option<bool>
-    requires { IsTypeTable types.now table.now }
-    ensures { IfSome result (λ b. (t p : Name) → place_of t (map type_name types.now) ≡ Some start
-        → place_of p (map type_name types.now) ≡ Some end
-        → b ≡ at_or_below (map parent_view types.now) (length types.now) t p) }
+fn climb_between(table: &TypeTable, start: usize, end: usize) -> Option<bool>
+    ensures { let ts = table.now.types.now in IfSome result (λ b. (t p : Name)
+        → place_of t (map type_name ts) ≡ Some start → place_of p (map type_name ts) ≡ Some end
+        → b ≡ at_or_below (map parent_view ts) (length ts) t p) }
 {
     let least = rank_at(&table.ranks, end)?;
     let mut left = rank_at(&table.ranks, start)?;
     let mut place = start;
     'up: while left > least {
-        let next = next_up(types, table, place, least)?;
+        let next = next_up(table, place, least)?;
         let rank = rank_at(&table.ranks, next)?;
         if rank < least || left <= rank {
             return None;
@@ -60,15 +47,14 @@ fn climb_between(types: &[TypeName], table: &TypeTable, start: usize, end: usize
 }
 
 /// Whether a type is another, or stands below it. Nothing where one of them is not declared, but of `object` above the other one.
-pub fn climb(types: &[TypeName], table: &TypeTable, below: &str, above: &str) -> Option<bool>
-    requires { IsTypeTable types.now table.now }
-    ensures { IfSome result
-        (λ b. b ≡ at_or_below (map parent_view types.now) (length types.now) below.now above.now) }
+pub fn climb(table: &TypeTable, below: &str, above: &str) -> Option<bool>
+    ensures { let ts = table.now.types.now in IfSome result
+        (λ b. b ≡ at_or_below (map parent_view ts) (length ts) below.now above.now) }
 {
-    let start = place_of(types, table, below)?;
+    let start = place_of(table, below)?;
     if above == "object" {
         return Some(true);
     }
-    let end = place_of(types, table, above)?;
-    climb_between(types, table, start, end)
+    let end = place_of(table, above)?;
+    climb_between(table, start, end)
 }

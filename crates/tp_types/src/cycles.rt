@@ -1,6 +1,6 @@
-//! Whether the parents of types signature a cycle, and the rank of each type: its steps up to `object`.
+//! Whether the parents of types make a cycle, and the rank of each type: its steps up to `object`.
 
-ghost use Rattle.std.specs.Prelude.{◌≡◌, map, length, option_map, string_bytes, true, false, IfOk};
+ghost use Rattle.std.specs.Prelude.{◌≡◌, map, length, option_map, string_bytes, slice_get, true, false, IfOk};
 ghost use Rattle.std.specs.List.{list_all};
 ghost use Rattle.tp_types.specs.Cycles.{type_name, rank_of, rank_above, is_ranked};
 ghost use Rattle.tp_ast.specs.Domains.{object, no_cycle};
@@ -67,6 +67,16 @@ fn are_below_object<'a>(types: &'a [TypeName], places: &BTreeMap<&'a str, usize>
         }
     }
     true
+}
+
+/// The rank of the type at a place.
+pub fn rank_at(ranks: &[usize], place: usize) -> Option<usize>
+    ensures { result ≡ slice_get ranks.now place }
+{
+    match ranks.get(place) {
+        Some(rank) => Some(*rank),
+        None => None,
+    }
 }
 
 // The rank of a type by its first place; that of `object` is 0.

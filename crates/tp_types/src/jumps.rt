@@ -9,6 +9,7 @@ ghost use Rattle.tp_ast.specs.TypedLists.{has_twice};
 ghost use Rattle.tp_types.specs.Parents.{AreParents};
 ghost use Rattle.tp_types.specs.Tables.{IsTable};
 
+use crate::cycles::rank_at;
 use crate::parents::parent_at;
 use std::alloc::{AllocError, Global};
 use std::collections::BTreeMap;
@@ -82,9 +83,10 @@ pub fn are_jumps<'a>(
     true
 }
 
-// The rank of the type at a place.
-fn rank_at(ranks: &[usize], place: usize) -> usize {
-    ranks.get(place).copied().unwrap_or(0)
+// How many steps one type stands above another, by their ranks.
+fn steps_between(ranks: &[usize], below: usize, above: usize) -> usize {
+    let below = rank_at(ranks, below).unwrap_or(0);
+    below.saturating_sub(rank_at(ranks, above).unwrap_or(0))
 }
 
 // The jump of the type at a place, or else the place.
@@ -99,9 +101,11 @@ fn jump_at(jumps: &[usize], place: usize) -> usize {
 fn jump_above(ranks: &[usize], jumps: &[usize], parent: usize) -> usize {
     let first = jump_at(jumps, parent);
     let second = jump_at(jumps, first);
-    let near = rank_at(ranks, parent).saturating_sub(rank_at(ranks, first));
-    let far = rank_at(ranks, first).saturating_sub(rank_at(ranks, second));
-    if near == far { second } else { parent }
+    if steps_between(ranks, parent, first) == steps_between(ranks, first, second) {
+        second
+    } else {
+        parent
+    }
 }
 
 /// A place further up for each type whose parent stands at one of these places, so chosen that a climb takes few steps. A type below

@@ -28,11 +28,11 @@ impl<'a> Model for Types<'a> {
 
     ghost Value = { List TypeName };
 
-    ghost use Rattle.tp_types.specs.TypeTables.{IsTypeTableIfAny};
+    ghost use Rattle.tp_types.specs.TypeViews.{IsOfIfAny};
 
     ghost view = { λ t. t.declared.now };
 
-    ghost invariant = { λ t. IsTypeTableIfAny t.declared.now t.table };
+    ghost invariant = { λ t. IsOfIfAny t.declared.now t.table };
 }
 
 impl<'a> Types<'a> {
@@ -109,7 +109,7 @@ pub fn parent_of<'a>(name: &str, types: &Types<'a>) -> Option<&'a String>
         ≡ parent_of name.now (types_view types.now) }
 {
     match &types.table {
-        Some(table) => parent_in(types.declared, table, name),
+        Some(table) => parent_in(table, name),
         None => parent_among(name, types.declared),
     }
 }
@@ -122,7 +122,7 @@ fn climbed(types: &Types, below: &str, above: &str) -> Option<bool>
     let Some(table) = &types.table else {
         return None;
     };
-    climb(types.declared, table, below, above)
+    climb(table, below, above)
 }
 
 fn climbs(types: &Types, steps: usize, below: &String, above: &str) -> bool
@@ -237,7 +237,7 @@ fn fit_by_table(
     let Some(table) = &types.table else {
         return Ok(None);
     };
-    fit_by_marks(alloc, types.declared, table, argument, parameter)
+    fit_by_marks(alloc, table, argument, parameter)
 }
 
 /// Whether a type is declared.

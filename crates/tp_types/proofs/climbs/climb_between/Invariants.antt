@@ -6,10 +6,10 @@ use Rattle.tp_types.proofs.climbs.climb_between.Given as goal
 
 abbrev pub invariant-up : goal.invariant-up
 invariant-up l =
-    (t p : Name) → place_of t (map type_name l.types) ≡ Some l.start → place_of p (map type_name l.types) ≡ Some l.end
-    → (c : Name) × (place_of c (map type_name l.types) ≡ Some l.place)
-    × (rank_of (map type_name l.types) l.table.ranks.items c ≡ Some l.left)
-    × (at_or_below (map parent_view l.types) (length l.types) c p ≡ at_or_below (map parent_view l.types) (length l.types) t p)
+    (t p : Name) → place_of t (map type_name l.table.types.now) ≡ Some l.start → place_of p (map type_name l.table.types.now) ≡ Some l.end
+    → (c : Name) × (place_of c (map type_name l.table.types.now) ≡ Some l.place)
+    × (rank_of (map type_name l.table.types.now) l.table.ranks.items c ≡ Some l.left)
+    × (at_or_below (map parent_view l.table.types.now) (length l.table.types.now) c p ≡ at_or_below (map parent_view l.table.types.now) (length l.table.types.now) t p)
 
 abbrev pub decreases-up : goal.decreases-up
 decreases-up l = l.left

@@ -4,10 +4,10 @@ use Rattle.std.proofs.lemmas.Option.{slice_get_past}
 use Rattle.tp_types.proofs.type_tables.parent_of.Goals as goal
 
 pub returns-in_default : goal.returns-in_default
-returns-in_default c = sym (no_place c.args.types.now c.args.name.now (sym c.in_default.ensures))
+returns-in_default c = sym (no_place c.args.table.now.types.now c.args.name.now (sym c.in_default.ensures))
 
 pub returns-in_default-get : goal.returns-in_default-get
-returns-in_default-get c = sym (at_the_place c.args.types.now c.args.name.now _ _ (sym c.in-Some.ensures) (slice_get_past c.args.types.now _ c.in_default-get.ensures.lookup.3))
+returns-in_default-get c = sym (at_the_place c.args.table.now.types.now c.args.name.now _ _ (sym c.in-Some.ensures) (slice_get_past c.args.table.now.types.now _ c.in_default-get.ensures.lookup.3))
 
 pub returns : goal.returns
-returns c = ap (λ (s : String Global). Some (string_bytes s)) c.as_ref.ensures ∙ sym (at_the_place c.args.types.now c.args.name.now _ _ (sym c.in-Some.ensures) (slice_at c.args.types.now _ c.in-Some-get.declared.now c.in-Some-get.ensures.lookup.3.0 c.in-Some-get.ensures.lookup.1))
+returns c = ap (λ (s : String Global). Some (string_bytes s)) c.as_ref.ensures ∙ sym (at_the_place c.args.table.now.types.now c.args.name.now _ _ (sym c.in-Some.ensures) (slice_at c.args.table.now.types.now _ c.in-Some-get.declared.now c.in-Some-get.ensures.lookup.3.0 c.in-Some-get.ensures.lookup.1))
