@@ -13,14 +13,11 @@ use crate::{Event, EventRef, State};
 use std::alloc::{AllocError, Global};
 use tp_task::{Cond, Expr, GroundEvent};
 
-/// So many events with so many effects are compared in pairs.
-const FEW: usize = 16;
+/// So many steps of a comparison in pairs are few.
+const FEW: usize = 65_536;
 
-/// If what they ask and work out has no more than so many parts.
-const SHORT: usize = 4_096;
-
-/// So many steps of a comparison in pairs cost no more than what the tables take for each atom and fluent.
-const STEPS: usize = 4;
+/// So many of them cost no more than what the tables take for each atom and fluent.
+const FEW_EACH: usize = 4;
 
 /// A way in which two events interfere: what one of them does to an atom or a fluent, and what the other does with it.
 #[derive(Clone, Copy)]
@@ -326,25 +323,17 @@ fn count_parts(events: &[EventRef<'_>], most: usize) -> usize {
     most.saturating_sub(left)
 }
 
-/// Whether it is cheaper to compare the events in pairs than to make tables of so many atoms and fluents: they are few, have few
-/// effects and ask little, or do so little of all that the tables would hold.
+/// Whether it is cheaper to compare the events in pairs than to make tables of so many atoms and fluents: each effect meets each effect
+/// and each part of what is asked and worked out, and each event each other one.
 fn do_little(events: &[EventRef<'_>], room: usize) -> bool {
-    let count = events.len();
-    let steps = room.saturating_mul(STEPS);
-    if count > FEW && count.saturating_mul(count) > steps {
+    let most = FEW.max(room.saturating_mul(FEW_EACH));
+    let pairs = events.len().saturating_mul(events.len());
+    if pairs > most {
         return false;
     }
     let effects = count_effects(events);
-    if count <= FEW && effects <= FEW && count_parts(events, SHORT) < SHORT {
-        return true;
-    }
-    let parts = count_parts(events, steps);
-    let each = effects.saturating_add(parts);
-    parts < steps
-        && each
-            .saturating_mul(effects)
-            .saturating_add(count.saturating_mul(count))
-            <= steps
+    let met = effects.saturating_add(count_parts(events, most));
+    effects.saturating_mul(met).saturating_add(pairs) <= most
 }
 
 /// The first two events that interfere. Takes the time of the conditions and effects of the events, and the time and
