@@ -154,11 +154,7 @@ fn room_for<P: Lowerable>(part: &Joined<P>, specifier: TimeSpecifier) -> usize {
         Joined::And(parts) => {
             let mut room = 0usize;
             for part in parts {
-                let more = match part {
-                    Joined::One(one) => usize::from(one.is_at(specifier)),
-                    inner => room_for(inner, specifier),
-                };
-                room = room.saturating_add(more);
+                room = room.saturating_add(room_for(part, specifier));
             }
             room
         }
