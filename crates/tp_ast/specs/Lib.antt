@@ -18,3 +18,5 @@ pub mod PartViews
 pub mod EffectViews
 pub mod ConstraintViews
 pub mod DomainViews
+pub mod Rows
+pub mod Shared

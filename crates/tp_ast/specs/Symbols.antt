@@ -1,5 +1,5 @@
 -- What a domain declares, and which arguments an atom may have.
-use Rattle.std.specs.Prelude.{ℕ, zero, suc, List, [], ◌∷◌, ◌++◌, map, length, Bool, true, false, ◌&&◌, ◌||◌, if◌then◌else◌, Option, Some, None, string_bytes}
+use Rattle.std.specs.Prelude.{ℕ, zero, suc, List, [], ◌∷◌, map, length, Bool, true, false, ◌&&◌, ◌||◌, if◌then◌else◌, Option, Some, None, string_bytes}
 use Rattle.std.specs.List.{list_all, list_any}
 use Rattle.std.specs.Str.{bytes_eq}
 use Rattle.tp_text.specs.Shapes.{Shapes}

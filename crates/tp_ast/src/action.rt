@@ -3,8 +3,8 @@
 use crate::cond::Cond;
 use crate::constraint::DurationRule;
 use crate::effect::Effect;
-use crate::symbols::Typed;
 use crate::timed::{TimedCond, TimedEffect};
+use crate::typed_list::TypedList;
 
 /// What an action needs and does.
 #[derive(Debug, PartialEq, Drop)]
@@ -26,6 +26,6 @@ pub enum Body {
 #[derive(Debug, PartialEq, Drop)]
 pub struct Action {
     pub name: String,
-    pub parameters: Vec<Typed>,
+    pub parameters: TypedList,
     pub body: Body,
 }

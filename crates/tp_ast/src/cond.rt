@@ -1,8 +1,8 @@
 //! Conditions.
 
 use crate::expr::Expr;
-use crate::symbols::Typed;
 use crate::term::{Atom, Term};
+use crate::typed_list::TypedList;
 use crate::words::Comparison;
 
 /// A condition. The empty conjunction always holds.
@@ -12,8 +12,8 @@ pub enum Cond {
     Or(Vec<Cond>),
     Not(Box<Cond>),
     Imply(Box<Cond>, Box<Cond>),
-    Forall(Vec<Typed>, Box<Cond>),
-    Exists(Vec<Typed>, Box<Cond>),
+    Forall(TypedList, Box<Cond>),
+    Exists(TypedList, Box<Cond>),
     Atom(Atom),
     Same(Term, Term),
     Compare(Comparison, Expr, Expr),

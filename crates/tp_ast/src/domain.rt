@@ -2,7 +2,7 @@
 
 use crate::action::Action;
 use crate::symbols::{Signature, Typed};
-use crate::types::TypeName;
+use crate::type_list::TypeList;
 
 /// A domain: what problems may name, and what may be done. All names are in lower case.
 #[derive(Debug, PartialEq, Drop)]
@@ -11,7 +11,7 @@ pub struct Domain {
     /// The words of `:requirements`, with their ':'.
     pub requirements: Vec<String>,
     /// All types but `object`, those that are declared by their mention alone last.
-    pub types: Vec<TypeName>,
+    pub types: TypeList,
     pub constants: Vec<Typed>,
     pub predicates: Vec<Signature>,
     pub functions: Vec<Signature>,

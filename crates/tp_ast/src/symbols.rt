@@ -2,6 +2,7 @@
 
 ghost use Rattle.std.specs.Prelude.{◌≡◌};
 
+use crate::typed_list::TypedList;
 use std::rc::Rc;
 
 /// A name with its types: an object or parameter is of one of them. Items that were given their types together share them.
@@ -24,5 +25,5 @@ impl Typed {
 #[derive(Debug, PartialEq, Drop)]
 pub struct Signature {
     pub name: String,
-    pub parameters: Vec<Typed>,
+    pub parameters: TypedList,
 }

@@ -1,11 +1,17 @@
 -- Bindings, and how many there are.
-use Rattle.std.proofs.Common.{◌≡◌, ℕ, zero, suc, ◌+◌, ◌*◌, ◌<◌, Bool, true, false, List, [], ◌∷◌, map, length, get_or, drop, refl, sym, ap, ◌∙◌, arith, length-append, true≢false}
+use Rattle.std.proofs.Common.{◌≡◌, ℕ, zero, suc, ◌+◌, ◌*◌, ◌<◌, Bool, true, false, List, [], ◌∷◌, map, length, get_or, take, drop, refl, sym, ap, subst, ◌∙◌, arith, length-append, true≢false, Option, Some, None}
 use Rattle.std.proofs.Math.Nat.{mul_comm, mul_assoc}
 use Rattle.std.specs.List.{flat_map}
 use Rattle.std.proofs.lemmas.List.{length-map, at_drop_more}
 use Rattle.tp_ast.specs.Symbols.{Name, Declared, typed_view}
 use Rattle.tp_ast.specs.declared.symbols.Typed.{Typed}
+use Rattle.tp_ast.specs.Rows.{last_of, is_marked}
+use Rattle.tp_ast.specs.Shared.{types_in, ShareTypes}
+use Rattle.tp_types.proofs.OnRows.{last_taken, as_before}
+use Rattle.std.specs.Option.{is_some}
 use Rattle.tp_ground.specs.Bindings.{Universe, choices, bindings}
+use Rattle.tp_ground.specs.Counts.{IsCount}
+use Rattle.tp_ground.specs.KnownChoices.{of_types}
 
 -- as many as names times bindings of the rest
 pub length-under : (names : List Name) (rests : List (List Name)) → length (flat_map (λ n. map (λ ns. n ∷ ns) rests) names) ≡ length names * length rests
@@ -51,3 +57,44 @@ counted_on u variables i x here count total lt item is so_far =
     ∙ ap (λ k. k * count) (mul_comm left here ∙ ap (λ k. k * left) is ∙ sym (length-bindings u (typed_view x) (map typed_view (drop (i + 1) variables))))
     ∙ ap (λ k. k * count) (sym (split (λ vs. length (bindings u (map typed_view vs))) variables i x lt item))
     ∙ so_far
+
+-- ---- where there is a binding
+
+pub some_choices : (u : Universe) (variables : List Typed) (i : ℕ) (x : Typed) → i < length variables → x ≡ get_or variables i x → 0 < length (bindings u (map typed_view variables)) → 0 < length (choices u (typed_view x))
+some_choices u variables i x lt item some = by_count (length (choices u (typed_view x))) refl where
+  by_count : (n : ℕ) → length (choices u (typed_view x)) ≡ n → 0 < length (choices u (typed_view x))
+  by_count zero is =
+      let none : length (bindings u (map typed_view variables)) ≡ 0 = no_bindings u variables i x false lt item (λ h. absurd (omega (arith, h, is))) refl in
+      absurd (omega (arith, none, some))
+  by_count (suc n) is = omega (arith, is)
+
+times_some : (a b : ℕ) → 0 < a → 0 < b → 0 < a * b
+times_some zero b h k = absurd (omega (arith, h))
+times_some (suc a) b h k = omega (arith, k)
+
+pub some_left : (u : Universe) (variables : List Typed) (i : ℕ) (x : Typed) → i < length variables → x ≡ get_or variables i x → 0 < length (choices u (typed_view x)) → 0 < length (bindings u (map typed_view (drop (i + 1) variables))) → 0 < length (bindings u (map typed_view (drop i variables)))
+some_left u variables i x lt item here rest =
+    subst (λ n. 0 < n)
+    (sym (split (λ vs. length (bindings u (map typed_view vs))) variables i x lt item ∙ length-bindings u (typed_view x) (map typed_view (drop (i + 1) variables))))
+    (times_some (length (choices u (typed_view x))) (length (bindings u (map typed_view (drop (i + 1) variables)))) here rest)
+
+-- what is over a limit stays over it
+pub over_still : (left n total most : ℕ) → left * n ≡ total → 0 < total → most < n → most < total
+over_still zero n total most e some lt = absurd (omega (arith, e, some))
+over_still (suc left) n total most e some lt = omega (arith, e, lt)
+
+-- ---- variables that share their types
+
+-- as many objects as fit the types of the last of some variables
+abbrev pub last_count : Universe → List Typed → ℕ
+last_count u vs = length (choices u (of_types (last_of [] (map types_in vs))))
+
+pub last_counted : (u : Universe) (variables : List Typed) (k : ℕ) (x : Typed) → k < length variables → x ≡ get_or variables k x → last_count u (take (k + 1) variables) ≡ length (choices u (typed_view x))
+last_counted u variables k x lt item = ap (λ (ts : List Name). length (choices u (of_types ts))) (last_taken types_in [] variables k x lt item)
+
+pub marked_count : (u : Universe) (ms : List Bool) (variables : List Typed) (k : ℕ) (x : Typed) → ShareTypes ms variables → is_marked ms k ≡ true → k < length variables → x ≡ get_or variables k x → last_count u (take k variables) ≡ length (choices u (typed_view x))
+marked_count u ms variables k x rows mark lt item = ap (λ (ts : List Name). length (choices u (of_types ts))) (as_before types_in ms [] variables k x rows mark lt item)
+
+pub over_if : (most n : ℕ) (count : Option ℕ) → is_some count ≡ false → IsCount most n count → most < n
+over_if most n None none counted = counted
+over_if most n (Some k) none counted = absurd (true≢false none)

@@ -4,9 +4,13 @@ use Rattle.std.proofs.Math.Nat.{mul-div_cancel_left, div-lt_iff_lt-mul, mod-lt}
 use Rattle.std.proofs.lemmas.Nat.{div-add-mod'}
 use Rattle.std.specs.List.{flat_map}
 use Rattle.std.proofs.lemmas.List.{map-append, length-map, take_all, drop_all, get_or_append_left, get_or-append-add, get_or-map, at_drop_more}
-use Rattle.tp_ast.specs.Symbols.{Declared}
+use Rattle.tp_ast.specs.Rows.{last_of}
+use Rattle.tp_ast.specs.Shared.{types_in}
+use Rattle.tp_ast.specs.Symbols.{Name, Declared, typed_view}
+use Rattle.tp_ast.specs.declared.symbols.Typed.{Typed}
 use Rattle.tp_ground.specs.Bindings.{Universe, choices, bindings}
-use Rattle.tp_ground.specs.Rows.{product, names_of, lists_of}
+use Rattle.tp_ground.specs.KnownChoices.{of_types}
+use Rattle.tp_ground.specs.Rows.{product, names_of, lists_of, EndsWith}
 
 abbrev pub Row : Type 0
 Row = List (List ℕ)
@@ -146,3 +150,17 @@ within rows all place count here same lt is counted =
 pub behind_all : (rows all : List Row) (place count here : ℕ) → rows ≡ all → count ≤ place → here ≡ count → here ≡ length rows → length all ≤ place
 behind_all rows all place count here same le is counted =
     subst (λ (rs : List Row). length rs ≤ place) same (omega (arith, le, is, counted))
+
+-- ---- the last of the lists
+
+pub ends_with : (u : Universe) (vs : List Typed) (x ts : List Name) → last_of x (map types_in vs) ≡ ts → EndsWith (map (choices u) (map typed_view vs)) (choices u (of_types ts))
+ends_with u [] x ts is = tt
+ends_with u (v ∷ []) x ts is = ap (λ (us : List Name). choices u (of_types us)) is
+ends_with u (v ∷ (w ∷ vs)) x ts is = ends_with u (w ∷ vs) (types_in v) ts is
+
+pub ends_at : (vs : List (Vec (Bor (List ℕ)) Global)) (ns : List (List ℕ)) (v : Vec (Bor (List ℕ)) Global) (k : ℕ) → EndsWith (lists_of vs) ns → length vs ≡ k + 1 → v ≡ get_or vs k v → names_of v ≡ ns
+ends_at [] ns v k ends long at = absurd (omega (arith, long))
+ends_at (w ∷ []) ns v zero ends long at = ap names_of at ∙ ends
+ends_at (w ∷ []) ns v (suc k) ends long at = absurd (omega (arith, long))
+ends_at (w ∷ (y ∷ vs)) ns v zero ends long at = absurd (omega (arith, long))
+ends_at (w ∷ (y ∷ vs)) ns v (suc k) ends long at = ends_at (y ∷ vs) ns v k ends (omega (arith, long)) at

@@ -1,5 +1,5 @@
 -- One name out of each of some lists.
-use Rattle.std.specs.Prelude.{ℕ, List, [], ◌∷◌, map}
+use Rattle.std.specs.Prelude.{◌≡◌, ℕ, List, [], ◌∷◌, map}
 use Rattle.std.specs.Borrow.{Bor}
 use Rattle.std.proofs.Common.{Vec, Global}
 use Rattle.std.specs.List.{flat_map}
@@ -14,3 +14,9 @@ names_of v = map (λ o. o.now) v.items
 
 abbrev pub lists_of : List (Vec (Bor (List ℕ)) Global) → List (List (List ℕ))
 lists_of vs = map names_of vs
+
+-- if there are any, the last is this one
+abbrev pub EndsWith : List (List (List ℕ)) → List (List ℕ) → Type 0
+EndsWith [] ns = Unit {0}
+EndsWith (ms ∷ []) ns = ms ≡ ns
+EndsWith (ms ∷ (ls ∷ nss)) ns = EndsWith (ls ∷ nss) ns

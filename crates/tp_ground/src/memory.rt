@@ -10,7 +10,7 @@ use crate::keys::Objects;
 use crate::sameness::same_condition;
 use std::alloc::{AllocError, Global};
 use std::rc::Rc;
-use tp_ast::symbols::Typed;
+use tp_ast::typed_list::TypedList;
 use tp_task::Cond;
 
 // The most conditions that are kept, and how many places there are to look at: one for each number of 12 bits.
@@ -41,9 +41,9 @@ fn mixed(before: u32, word: &str) -> u32 {
     (before.rotate_left(5) ^ end).wrapping_mul(0x9E37_79B1)
 }
 
-fn mark_types(variables: &[Typed], mark: u32) -> u32 {
+fn mark_types(variables: &TypedList, mark: u32) -> u32 {
     let mut marked = mark;
-    for variable in variables {
+    for variable in variables.as_slice() {
         for name in variable.type_names() {
             marked = mixed(marked, name.as_str());
         }

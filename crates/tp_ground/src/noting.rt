@@ -9,14 +9,15 @@ use tp_ast::action::{Action, Body};
 use tp_ast::cond::Cond;
 use tp_ast::effect::{Effect, SimpleEffect};
 use tp_ast::joined::Joined;
-use tp_ast::symbols::Typed;
+use tp_ast::marks::is_marked;
 use tp_ast::timed::Timed;
+use tp_ast::typed_list::TypedList;
 
 // Notes variables, unless there is no object for one of them: whether there may be one for each.
 fn note_variables<'a>(
     alloc: Global,
     universe: &mut Universe<'a>,
-    variables: &'a [Typed],
+    variables: &'a TypedList,
 ) -> Result<bool, AllocError>
     ensures { universe_view universe.new ≡ universe_view universe.old }
 {
@@ -24,8 +25,11 @@ fn note_variables<'a>(
     if !have_choices(&*universe, variables) {
         return Ok(false);
     }
-    for variable in variables {
-        note(alloc, universe, variable)?;
+    let marks = variables.marks();
+    for (place, variable) in variables.as_slice().iter().enumerate() {
+        if !is_marked(marks, place) {
+            note(alloc, universe, variable)?;
+        }
     }
     Ok(true)
 }

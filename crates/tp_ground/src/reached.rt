@@ -30,7 +30,7 @@ use std::alloc::{AllocError, Global};
 use tp_ast::action::Action;
 use tp_ast::domain::Domain;
 use tp_ast::problem::{Initial, Problem};
-use tp_ast::symbols::Typed;
+use tp_ast::typed_list::TypedList;
 use tp_bounds::Limits;
 use tp_reach::{met, saturate};
 use tp_task::{Body, GroundFault, Numbering, Task, TooManyKind};
@@ -48,7 +48,7 @@ const FEW: usize = 65_535;
 fn count_more<'a>(
     alloc: Global,
     universe: &mut Universe<'a>,
-    parameters: &'a [Typed],
+    parameters: &'a TypedList,
     before: usize,
 ) -> Result<usize, AllocError>
     ensures { universe_view universe.new ≡ universe_view universe.old }

@@ -1,14 +1,16 @@
 //! The bindings of variables, one at a time.
 
-ghost use Rattle.std.specs.Prelude.{◌≡◌, ◌<◌, [], map, length, slice_index_or, IfOk};
+ghost use Rattle.std.specs.Prelude.{◌≡◌, ◌<◌, [], map, length, slice_index_or, true, IfOk};
 ghost use Rattle.tp_ast.specs.Symbols.{typed_view};
 ghost use Rattle.tp_ground.specs.Bindings.{choices, bindings};
 ghost use Rattle.tp_ground.specs.Views.{universe_view};
-ghost use Rattle.tp_ground.specs.Rows.{product, lists_of};
+ghost use Rattle.tp_ground.specs.Rows.{product, lists_of, EndsWith};
 
-use crate::universe::{Universe, choices, count_bindings};
+use crate::universe::{Universe, choices, copied, count_bindings};
 use std::alloc::{AllocError, Global};
+use tp_ast::marks::is_marked;
 use tp_ast::symbols::Typed;
+use tp_ast::typed_list::TypedList;
 
 /// The names that each variable may stand for, how many bindings they have, and one of those.
 #[derive(Drop)]
@@ -52,18 +54,40 @@ fn fill<'a>(row: &mut [&'a str], lists: &[Vec<&'a str>], count: usize, place: us
     }
 }
 
+// The objects that a variable may stand for: the last of these lists, if it is marked.
+fn choices_in_row<'a>(
+    alloc: Global,
+    universe: &Universe<'a>,
+    mark: bool,
+    lists: &[Vec<&'a str>],
+    variable: &Typed,
+) -> Result<Vec<&'a str>, AllocError>
+    requires { mark ≡ true → EndsWith (lists_of lists.now)
+        (choices (universe_view universe.now) (typed_view variable.now)) }
+    ensures { IfOk result (λ v.
+        map (λ o. o.now) v.items ≡ choices (universe_view universe.now) (typed_view variable.now)) }
+{
+    match lists {
+        [.., last] if mark => copied(alloc, last),
+        _ => choices(alloc, universe, variable),
+    }
+}
+
 // The objects that each variable may stand for.
 fn lists_of<'a>(
     alloc: Global,
     universe: &Universe<'a>,
-    variables: &[Typed],
+    variables: &TypedList,
 ) -> Result<Vec<Vec<&'a str>>, AllocError>
     ensures { IfOk result (λ v. lists_of v.items
-        ≡ map (choices (universe_view universe.now)) (map typed_view variables.now)) }
+        ≡ map (choices (universe_view universe.now)) (map typed_view variables.now.items)) }
 {
-    let mut lists = Vec::with_capacity(alloc, variables.len())?;
-    for variable in variables {
-        lists.push(choices(alloc, universe, variable)?)?;
+    let marks = variables.marks();
+    let items = variables.as_slice();
+    let mut lists = Vec::with_capacity(alloc, items.len())?;
+    for (place, variable) in items.iter().enumerate() {
+        let mark = is_marked(marks, place);
+        lists.push(choices_in_row(alloc, universe, mark, &lists, variable)?)?;
     }
     Ok(lists)
 }
@@ -98,10 +122,10 @@ fn too_many<'a>(alloc: Global) -> Result<Rows<'a>, AllocError>
 pub fn rows_of<'a>(
     alloc: Global,
     universe: &Universe<'a>,
-    variables: &[Typed],
+    variables: &TypedList,
 ) -> Result<Rows<'a>, AllocError>
     ensures { IfOk result (λ r. product (lists_of r.lists.items)
-        ≡ bindings (universe_view universe.now) (map typed_view variables.now)) }
+        ≡ bindings (universe_view universe.now) (map typed_view variables.now.items)) }
 {
     match count_bindings(universe, variables, usize::MAX) {
         None => too_many(alloc),

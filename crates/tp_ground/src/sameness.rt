@@ -129,9 +129,9 @@ pub fn same_condition(a: &Cond, b: &Cond) -> bool
         (Cond::Or(xs), Cond::Or(ys)) => same_conditions(xs, ys),
         (Cond::Not(x), Cond::Not(y)) => same_condition(x, y),
         (Cond::Imply(x, p), Cond::Imply(y, q)) => same_condition(x, y) && same_condition(p, q),
-        (Cond::Forall(vs, x), Cond::Forall(ws, y)) => same_variables(vs, ws)
+        (Cond::Forall(vs, x), Cond::Forall(ws, y)) => same_variables(vs.as_slice(), ws.as_slice())
             && same_condition(x, y),
-        (Cond::Exists(vs, x), Cond::Exists(ws, y)) => same_variables(vs, ws)
+        (Cond::Exists(vs, x), Cond::Exists(ws, y)) => same_variables(vs.as_slice(), ws.as_slice())
             && same_condition(x, y),
         (Cond::Atom(x), Cond::Atom(y)) => same_atom(x, y),
         (Cond::Same(x, p), Cond::Same(y, q)) => same_term(x, y) && same_term(p, q),

@@ -3,15 +3,15 @@
 
 use tp_ast::cond::Cond;
 use tp_ast::expr::Expr;
-use tp_ast::symbols::Typed;
+use tp_ast::typed_list::TypedList;
 
 // The most steps of a walk through a condition that is looked for.
 const MOST_STEPS: usize = 256;
 
 // What is left of so many steps after variables and their types.
-fn after_variables(variables: &[Typed], steps: usize) -> Option<usize> {
+fn after_variables(variables: &TypedList, steps: usize) -> Option<usize> {
     let mut left = steps;
-    for variable in variables {
+    for variable in variables.as_slice() {
         left = left.checked_sub(1)?;
         left = left.checked_sub(variable.type_names().len())?;
     }

@@ -14,8 +14,9 @@ use crate::objects::Known;
 pub use crate::objects::Universe;
 use indexmap::IndexMap;
 use std::alloc::{AllocError, Global};
-use std::rc::Rc;
+use tp_ast::marks::is_marked;
 use tp_ast::symbols::Typed;
+use tp_ast::typed_list::TypedList;
 
 /// Whether two lists of types are the same.
 pub fn are_same(left: &[String], right: &[String]) -> bool
@@ -203,69 +204,91 @@ fn has_choice(universe: &Universe, variable: &Typed) -> bool
     }
 }
 
-// Whether a variable was given its types together with another one.
-fn shares_types(variable: &Typed, other: Option<&Rc<Vec<String>>>) -> bool {
-    match other {
-        Some(types) => Rc::ptr_eq(types, &variable.types),
-        None => false,
+// Whether there is an object that the variable at a place may stand for: if it is marked, there is one for that before it.
+fn has_in_row(universe: &Universe, place: usize, mark: bool, variable: &Typed) -> bool
+    requires { 0 < place → mark ≡ true
+        → 0 < length (choices (universe_view universe.now) (typed_view variable.now)) }
+    ensures { IsTrue result
+        ↔ (0 < length (choices (universe_view universe.now) (typed_view variable.now))) }
+{
+    if place > 0 && mark {
+        return true;
     }
+    has_choice(universe, variable)
 }
 
-/// Whether there is an object for each variable. Where there is none, the variables have no bindings. One look is enough for
-/// variables that were given their types together.
-pub fn have_choices(universe: &Universe, variables: &[Typed]) -> bool
-    ensures { result ≡ false
-        → length (bindings (universe_view universe.now) (map typed_view variables.now)) ≡ 0 }
+/// Whether there is an object for each variable, so that the variables have bindings. One look is enough for variables that were
+/// given their types together.
+pub fn have_choices(universe: &Universe, variables: &TypedList) -> bool
+    ensures none { result ≡ false → length
+        (bindings (universe_view universe.now) (map typed_view variables.now.items)) ≡ 0 }
+    ensures some { result ≡ true → 0 < length
+        (bindings (universe_view universe.now) (map typed_view variables.now.items)) }
 {
-    let mut looked: Option<&Rc<Vec<String>>> = None;
-    for variable in variables {
-        if !shares_types(variable, looked) && !has_choice(universe, variable) {
+    let marks = variables.marks();
+    let items = variables.as_slice();
+    for (place, variable) in items.iter().enumerate() {
+        if !has_in_row(universe, place, is_marked(marks, place), variable) {
             return false;
         }
-        looked = Some(&variable.types);
     }
     true
 }
 
+// How many objects a variable may stand for: as many as the one before it, if it is marked.
+fn count_in_row(universe: &Universe, mark: bool, before: Option<usize>, variable: &Typed) -> usize
+    requires { mark ≡ true → IfSome before (λ n.
+        n ≡ length (choices (universe_view universe.now) (typed_view variable.now))) }
+    ensures { result ≡ length (choices (universe_view universe.now) (typed_view variable.now)) }
+{
+    match before {
+        Some(count) if mark => count,
+        _ => count_choices(universe, variable),
+    }
+}
+
 /// How many bindings variables have, if there are no more than so many.
-pub fn count_bindings(universe: &Universe, variables: &[Typed], most: usize) -> Option<usize>
+pub fn count_bindings(universe: &Universe, variables: &TypedList, most: usize) -> Option<usize>
     ensures { IsCount most
-        (length (bindings (universe_view universe.now) (map typed_view variables.now))) result }
+        (length (bindings (universe_view universe.now) (map typed_view variables.now.items))) result }
 {
     // Variables that have no bindings may have many objects that were never looked for.
     if !have_choices(universe, variables) {
         return Some(0);
     }
+    let marks = variables.marks();
     let mut count = if most == 0 { None } else { Some(1usize) };
-    for variable in variables {
-        let choices = count_choices(universe, variable);
-        if choices == 0 {
-            return Some(0);
-        }
+    let mut before = None;
+    let items = variables.as_slice();
+    for (place, variable) in items.iter().enumerate() {
+        let choices = count_in_row(universe, is_marked(marks, place), before, variable);
+        before = Some(choices);
         count = times(count, choices, most);
     }
     count
 }
 
-// A count times the objects that a variable may stand for, which are known from then on. Where there is no count any
-// more, they are not looked for.
-fn counted<'a>(
+// How many objects a variable may stand for, which are known from then on: those of the one before it, if it is marked.
+fn note_in_row<'a>(
     alloc: Global,
     universe: &mut Universe<'a>,
+    mark: bool,
+    before: Option<usize>,
     variable: &'a Typed,
-    count: Option<usize>,
-    most: usize,
-) -> Result<Option<usize>, AllocError>
-    requires { 0 < length (choices (universe_view universe.old) (typed_view variable.now)) }
-    ensures count { IfOk result (λ r. (n : ℕ) → IsCount most n count → IsCount most
-        (length (choices (universe_view universe.old) (typed_view variable.now)) * n) r) }
+) -> Result<usize, AllocError>
+    requires { mark ≡ true → IfSome before (λ n.
+        n ≡ length (choices (universe_view universe.old) (typed_view variable.now))) }
+    ensures count { IfOk result (λ n.
+        n ≡ length (choices (universe_view universe.old) (typed_view variable.now))) }
     ensures universe { universe_view universe.new ≡ universe_view universe.old }
 {
-    if count.is_none() {
-        return Ok(None);
+    match before {
+        Some(count) if mark => Ok(count),
+        _ => {
+            note(alloc, universe, variable)?;
+            Ok(count_choices(&*universe, variable))
+        }
     }
-    note(alloc, universe, variable)?;
-    Ok(times(count, count_choices(&*universe, variable), most))
 }
 
 /// As `count_bindings`, but where there are some bindings, and no more than so many, the objects that the variables may
@@ -273,23 +296,29 @@ fn counted<'a>(
 pub fn count_and_note<'a>(
     alloc: Global,
     universe: &mut Universe<'a>,
-    variables: &'a [Typed],
+    variables: &'a TypedList,
     most: usize,
 ) -> Result<Option<usize>, AllocError>
     ensures count { IfOk result (IsCount most
-        (length (bindings (universe_view universe.old) (map typed_view variables.now)))) }
+        (length (bindings (universe_view universe.old) (map typed_view variables.now.items)))) }
     ensures universe { universe_view universe.new ≡ universe_view universe.old }
 {
     // What is looked for here is kept, so not for variables that have no bindings.
     if !have_choices(&*universe, variables) {
         return Ok(Some(0));
     }
+    let marks = variables.marks();
     let mut count = if most == 0 { None } else { Some(1usize) };
-    for variable in variables {
-        if !has_choice(&*universe, variable) {
-            return Ok(Some(0));
+    let mut before = None;
+    let items = variables.as_slice();
+    for (place, variable) in items.iter().enumerate() {
+        if count.is_none() {
+            return Ok(None);
         }
-        count = counted(alloc, universe, variable, count, most)?;
+        let mark = is_marked(marks, place);
+        let choices = note_in_row(alloc, universe, mark, before, variable)?;
+        before = Some(choices);
+        count = times(count, choices, most);
     }
     Ok(count)
 }

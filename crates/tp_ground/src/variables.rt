@@ -9,6 +9,7 @@ use std::alloc::{AllocError, Global};
 use std::collections::BTreeMap;
 use std::marker::Model;
 use tp_ast::symbols::Typed;
+use tp_ast::typed_list::TypedList;
 use tp_types::own_places::own_places;
 
 // Up to so many variables are walked over as fast as a table would be asked.
@@ -17,7 +18,7 @@ const FEW: usize = 16;
 /// Variables with a table of their names, unless they are few.
 #[derive(Drop)]
 pub struct Variables<'v> {
-    items: &'v [Typed],
+    items: &'v TypedList,
     places: Option<BTreeMap<String, usize>>,
 }
 
@@ -29,9 +30,9 @@ impl<'v> Model for Variables<'v> {
 
     ghost use Rattle.tp_types.specs.OwnTables.{variable_name, IsTextTableIfAny};
 
-    ghost view = { λ v. v.items.now };
+    ghost view = { λ v. v.items.now.items };
 
-    ghost invariant = { λ v. IsTextTableIfAny v.places (map variable_name v.items.now) };
+    ghost invariant = { λ v. IsTextTableIfAny v.places (map variable_name v.items.now.items) };
 }
 
 // The last letter of a name, 0 where there is none.
@@ -71,16 +72,16 @@ fn object_among<'a>(variables: &[Typed], objects: &[&'a str], name: &str) -> Opt
 
 impl<'v> Variables<'v> {
     /// Variables in their order.
-    pub fn new(alloc: Global, items: &'v [Typed]) -> Result<Self, AllocError>
-        ensures { IfOk result (λ v. v ≡ items.now) }
+    pub fn new(alloc: Global, items: &'v TypedList) -> Result<Self, AllocError>
+        ensures { IfOk result (λ v. v ≡ items.now.items) }
     {
-        if items.len() <= FEW {
+        if items.as_slice().len() <= FEW {
             return Ok(Variables {
                 items,
                 places: None,
             });
         }
-        let places = own_places(alloc, items)?;
+        let places = own_places(alloc, items.as_slice())?;
         Ok(Variables {
             items,
             places: Some(places),
@@ -88,8 +89,8 @@ impl<'v> Variables<'v> {
     }
 
     /// The same in a list.
-    pub fn items(&self) -> &'v [Typed]
-        ensures { result.now ≡ self.now }
+    pub fn items(&self) -> &'v TypedList
+        ensures { result.now.items ≡ self.now }
     {
         self.items
     }
@@ -100,7 +101,7 @@ impl<'v> Variables<'v> {
             (bound (map typed_view self.now) (map (λ o. o.now) objects.now)) name.now }
     {
         let Some(places) = &self.places else {
-            return object_among(self.items, objects, name);
+            return object_among(self.items.as_slice(), objects, name);
         };
         let Some(place) = places.get(name) else {
             return None;

@@ -7,12 +7,13 @@ use Rattle.tp_ast.specs.TypedLists.{given}
 use Rattle.tp_ast.specs.Domains.{object, is_object, above, type_below}
 use Rattle.tp_ast.specs.declared.symbols.Typed.{Typed}
 use Rattle.tp_ast.specs.declared.types.TypeName.{TypeName}
-use Rattle.tp_types.specs.Rows.{last_of, AreRows, is_marked}
+use Rattle.tp_ast.specs.Rows.{last_of, AreRows, is_marked}
 use Rattle.tp_types.specs.Parents.{parent_name}
 use Rattle.tp_types.proofs.OnRows.{one_more, last_one, last_taken, as_before, rows_before, rows_map}
 use Rattle.tp_types.proofs.OnTables.{map_twice}
 use Rattle.tp_names.specs.declared.type_reader.TypeRows.{TypeRows}
-use Rattle.tp_names.specs.RowViews.{HaveRows, AreParentRows, HaveParentRows}
+use Rattle.tp_names.specs.RowViews.{AreTypeRows, HaveRows, AreParentRows, HaveParentRows}
+use Rattle.tp_ast.specs.Shared.{ShareTypes}
 
 -- ---- items
 
@@ -62,6 +63,12 @@ given_more ts old done new ns k n lt at made grown =
     ∙ ap (map (given ts)) (map-append string_bytes (take k ns) (get_or ns k n ∷ []))
     ∙ map-append (given ts) (map string_bytes (take k ns)) (string_bytes (get_or ns k n) ∷ [])))
 
+pub share_types : (ms : List Bool) (items : List Typed) → HaveRows ms (map typed_view items) → ShareTypes ms items
+share_types ms items rows = subst (AreRows ms []) (map_twice types_of typed_view items) rows.1
+
+pub type_rows : (ms : List Bool) (items : List Typed) → ShareTypes ms items → AreTypeRows ms (map typed_view items)
+type_rows ms items rows = subst (AreRows ms []) (sym (map_twice types_of typed_view items)) rows
+
 -- ---- types
 
 abbrev pub parent_below : Typed → Name
@@ -74,8 +81,8 @@ pub parent_rows : (ms : List Bool) (ts : List TypeName) → AreParentRows ms (ma
 parent_rows ms ts rows = subst (AreRows ms object) (map_twice (λ (p : Parent). p.parent) parent_view ts) rows
 
 -- items with their rows give types with theirs
-pub rows_given_below : (ms : List Bool) (ds : List Declared) → HaveRows ms ds → AreParentRows ms (map type_below ds)
-rows_given_below ms ds rows = subst (AreRows ms object) (map_twice above types_of ds ∙ sym (map_twice (λ (p : Parent). p.parent) type_below ds)) (rows_map above ms [] (map types_of ds) rows.1)
+pub rows_given_below : (ms : List Bool) (ds : List Declared) → AreTypeRows ms ds → AreParentRows ms (map type_below ds)
+rows_given_below ms ds rows = subst (AreRows ms object) (map_twice above types_of ds ∙ sym (map_twice (λ (p : Parent). p.parent) type_below ds)) (rows_map above ms [] (map types_of ds) rows)
 
 pub same_rows : (ms ns : List Bool) (ps qs : List Parent) → ms ≡ ns → ps ≡ qs → AreParentRows ns qs → AreParentRows ms ps
 same_rows ms ns ps qs same are rows = rw (same, are) rows

@@ -8,7 +8,9 @@ ghost use Rattle.tp_types.specs.TypeViews.{types_view};
 use std::alloc::{AllocError, Global};
 use std::collections::BTreeMap;
 use std::rc::Rc;
+use tp_ast::marks::is_marked;
 use tp_ast::symbols::{Signature, Typed};
+use tp_ast::typed_list::TypedList;
 use tp_types::guesses::Guesses;
 use tp_types::types::{Types, is_below, long_lists_fit, parent_of};
 
@@ -32,50 +34,45 @@ fn is_long(parameter: &Typed) -> bool {
     parameter.type_names().len() > FEW
 }
 
-// What was guessed for the parameter before, if another one was given its types together with it.
-fn shared<'n>(
-    near: &'n [Option<Rc<Guesses>>],
-    before: Option<&Typed>,
-    parameter: &Typed,
-) -> Option<&'n Rc<Guesses>> {
-    if !Rc::ptr_eq(&before?.types, &parameter.types) {
-        return None;
-    }
+// What was guessed for the parameter before.
+fn last_near(near: &[Option<Rc<Guesses>>]) -> Option<&Rc<Guesses>> {
     match near {
         [.., Some(last)] => Some(last),
         _ => None,
     }
 }
 
+// Guesses for a parameter: those of the one before, if it was given its types together with that one.
 fn guesses_for(
     alloc: Global,
     near: &[Option<Rc<Guesses>>],
-    before: Option<&Typed>,
+    mark: bool,
     parameter: &Typed,
 ) -> Result<Option<Rc<Guesses>>, AllocError> {
     if !is_long(parameter) {
         return Ok(None);
     }
-    if let Some(last) = shared(near, before, parameter) {
-        return Ok(Some(last.clone()?));
+    if mark {
+        if let Some(last) = last_near(near) {
+            return Ok(Some(last.clone()?));
+        }
     }
     let guesses = Guesses::new(alloc, parameter.type_names())?;
     Ok(Some(Rc::new(alloc, guesses)?))
 }
 
-fn near_of(alloc: Global, parameters: &[Typed]) -> Result<Near, AllocError> {
+fn near_of(alloc: Global, parameters: &TypedList) -> Result<Near, AllocError> {
+    let marks = parameters.marks();
     let mut near = Vec::new(alloc);
-    let mut before = None;
-    for parameter in parameters {
-        let guesses = guesses_for(alloc, &near, before, parameter)?;
+    for (place, parameter) in parameters.as_slice().iter().enumerate() {
+        let guesses = guesses_for(alloc, &near, is_marked(marks, place), parameter)?;
         near.push(guesses)?;
-        before = Some(parameter);
     }
     Ok(near)
 }
 
 fn has_long_list(signature: &Signature) -> bool {
-    for parameter in &signature.parameters {
+    for parameter in signature.parameters.as_slice() {
         if is_long(parameter) {
             return true;
         }
@@ -119,7 +116,7 @@ impl<'a> Hints<'a> {
             return &[];
         }
         let name = signature.name.as_str();
-        let count = signature.parameters.len();
+        let count = signature.parameters.as_slice().len();
         match self.predicates.get(name) {
             Some(near) if near.len() == count => near.as_slice(),
             _ => match self.functions.get(name) {
@@ -155,7 +152,7 @@ fn stands_at(parameter: &[String], place: Option<usize>, name: &str) -> bool {
 }
 
 // Where in a list of types a type stands, or one above it, if that is guessed.
-fn place_near(
+fn guessed_place(
     types: &Types,
     below: &str,
     parameter: &[String],
@@ -180,7 +177,7 @@ fn fits_near(types: &Types, argument: &[String], parameter: &[String], guesses: 
     let [below] = argument else {
         return false;
     };
-    let Some(place) = place_near(types, below.as_str(), parameter, guesses) else {
+    let Some(place) = guessed_place(types, below.as_str(), parameter, guesses) else {
         return false;
     };
     let Some(above) = parameter.get(place) else {

@@ -193,7 +193,14 @@ pub fn atom_in(
     };
     let terms = terms_of(alloc, args, at)?;
     let near = symbols.hints.near(signature);
-    if !arguments_fit(alloc, symbols, scope, &terms, &signature.parameters, near)? {
+    if !arguments_fit(
+        alloc,
+        symbols,
+        scope,
+        &terms,
+        signature.parameters.as_slice(),
+        near,
+    )? {
         return Err(arguments_fault(symbols, scope, &terms, args, at));
     }
     Ok(Atom { name, terms })

@@ -17,14 +17,15 @@ use crate::typed::{item_place, typed_items};
 use std::alloc::{AllocError, Global};
 use std::rc::Rc;
 use tp_ast::fault::SyntaxFault;
+use tp_ast::marks::is_marked;
 use tp_ast::symbols::Typed;
+use tp_ast::type_list::TypeList;
 use tp_ast::types::TypeName;
 use tp_ast::words::Items;
 use tp_text::Tree;
 use tp_types::cycles::no_cycle_by_places;
 use tp_types::names::NameSet;
 use tp_types::parents::parents_by_rows;
-use tp_types::rows::is_marked;
 use tp_types::table::{places, second_named};
 use tp_types::types::Types;
 
@@ -254,7 +255,7 @@ fn straight_parents(
 /// Types, and where the parent of each stands.
 #[derive(Drop)]
 pub struct PlacedTypes {
-    pub types: Vec<TypeName>,
+    pub types: TypeList,
     pub parents: Vec<Option<usize>>,
 }
 
@@ -279,7 +280,10 @@ fn types_from(
     }
     let TypeRows { types, marks } = with_mentioned(alloc, listed, marks)?;
     match straight_parents(alloc, &types, &marks)? {
-        Some(parents) => Ok(PlacedTypes { types, parents }),
+        Some(parents) => Ok(PlacedTypes {
+            types: TypeList { types, marks },
+            parents,
+        }),
         None => Err(SyntaxFault::Types(at)),
     }
 }
@@ -293,6 +297,7 @@ pub fn types_in(alloc: Global, trees: &[Tree], at: u32) -> Result<PlacedTypes, S
 {
     let none = Types::listed(&[]);
     let items = typed_items(alloc, &none, Items::Names, trees, at)?;
-    let listed = types_below(alloc, &items.items, &items.rows)?;
-    types_from(alloc, &listed, &items.rows, trees, at)
+    let marks = items.items.marks();
+    let listed = types_below(alloc, items.items.as_slice(), marks)?;
+    types_from(alloc, &listed, marks, trees, at)
 }

@@ -18,6 +18,7 @@ use std::alloc::{AllocError, Global};
 use std::rc::Rc;
 use tp_ast::fault::{LeftOutPart, SyntaxFault};
 use tp_ast::symbols::Typed;
+use tp_ast::typed_list::TypedList;
 use tp_ast::words::{Items, is_word};
 use tp_text::Tree;
 use tp_types::once::second_mention;
@@ -199,12 +200,10 @@ fn give_object(
     give(alloc, done, rows, names, object)
 }
 
-/// The items of a typed list, marks on those that share their types with the one before them, and whether each of their types
-/// is declared.
+/// The items of a typed list, and whether each of their types is declared.
 #[derive(Drop)]
 pub struct Listed {
-    pub items: Vec<Typed>,
-    pub rows: Vec<bool>,
+    pub items: TypedList,
     pub are_declared: bool,
 }
 
@@ -229,7 +228,6 @@ pub fn typed_items(
         (λ l. map typed_view l.items.items) result (typed_list items (shapes trees.now)) }
     ensures declared { IfOk result (λ l. l.are_declared ≡ list_all
         (λ d. list_all (is_type (types_view types.now)) d.types) (map typed_view l.items.items)) }
-    ensures rows { IfOk result (λ l. HaveRows l.rows.items (map typed_view l.items.items)) }
 {
     let mut done = Vec::new(alloc);
     let mut rows = Vec::new(alloc);
@@ -255,9 +253,12 @@ pub fn typed_items(
         }
     }
     give_object(alloc, &mut done, &mut rows, &waiting)?;
-    Ok(Listed {
+    let items = TypedList {
         items: done,
-        rows,
+        marks: rows,
+    };
+    Ok(Listed {
+        items,
         are_declared,
     })
 }
@@ -341,7 +342,7 @@ fn declared(
     listed: Listed,
     trees: &[Tree],
     at: u32,
-) -> Result<Vec<Typed>, SyntaxFault>
+) -> Result<TypedList, SyntaxFault>
     requires { listed.are_declared ≡ list_all (λ d.
         list_all (is_type (types_view types.now)) d.types) (map typed_view listed.items.items) }
     ensures { let ds = map typed_view listed.items.items in Gives (λ v. map typed_view v.items)
@@ -350,13 +351,12 @@ fn declared(
     let Listed {
         items,
         are_declared,
-        ..
     } = listed;
-    if let Some(number) = named_again(alloc, &items)? {
+    if let Some(number) = named_again(alloc, items.as_slice())? {
         return Err(SyntaxFault::Twice(item_place(trees, number, at)));
     }
     if !are_declared {
-        return Err(undeclared_type(types, &items, trees, at));
+        return Err(undeclared_type(types, items.as_slice(), trees, at));
     }
     Ok(items)
 }
@@ -384,8 +384,11 @@ pub fn objects_in(
     ensures { Gives (λ v. map typed_view v.items) result
         (objects_in (types_view types.now) (shapes trees.now)) }
 {
-    let items = typed_items(alloc, types, Items::Names, trees, at)?;
-    declared(alloc, types, items, trees, at)
+    let listed = typed_items(alloc, types, Items::Names, trees, at)?;
+    match declared(alloc, types, listed, trees, at) {
+        Ok(items) => Ok(items.into_items()),
+        Err(fault) => Err(fault),
+    }
 }
 
 /// Variables, each once and of declared types.
@@ -395,15 +398,15 @@ pub fn parameters_of(
     types: &Types,
     trees: &[Tree],
     at: u32,
-) -> Result<Vec<Typed>, SyntaxFault>
+) -> Result<TypedList, SyntaxFault>
     ensures { Gives (λ v. map typed_view v.items) result
         (parameters_of (types_view types.now) (shapes trees.now)) }
 {
-    let vars = typed_items(alloc, types, Items::Variables, trees, at)?;
-    if has_duration(&vars.items) {
+    let listed = typed_items(alloc, types, Items::Variables, trees, at)?;
+    if has_duration(listed.items.as_slice()) {
         return Err(SyntaxFault::Shape(at));
     }
-    declared(alloc, types, vars, trees, at)
+    declared(alloc, types, listed, trees, at)
 }
 
 /// The variables that a member of the list at `at` declares.
@@ -412,7 +415,7 @@ pub fn parameters_at(
     types: &Types,
     tree: &Tree,
     at: u32,
-) -> Result<Vec<Typed>, SyntaxFault>
+) -> Result<TypedList, SyntaxFault>
     ensures { Gives (λ v. map typed_view v.items) result
         (parameters_at (types_view types.now) (shape_of tree.now)) }
 {

@@ -8,6 +8,7 @@ use std::alloc::{AllocError, Global};
 use std::collections::BTreeMap;
 use std::marker::Model;
 use tp_ast::symbols::Typed;
+use tp_ast::typed_list::TypedList;
 use tp_types::lookup::first_named;
 use tp_types::own_places::own_places;
 
@@ -17,7 +18,7 @@ const FEW: usize = 8;
 /// Variables with a table of their names, unless they are few.
 #[derive(Drop)]
 pub struct Variables {
-    items: Vec<Typed>,
+    items: TypedList,
     places: Option<BTreeMap<String, usize>>,
 }
 
@@ -52,16 +53,16 @@ fn at_place<'a>(
 }
 
 impl Variables {
-    pub fn new(alloc: Global, items: Vec<Typed>) -> Result<Variables, AllocError>
+    pub fn new(alloc: Global, items: TypedList) -> Result<Variables, AllocError>
         ensures { IfOk result (λ v. v ≡ items.items) }
     {
-        if items.len() <= FEW {
+        if items.as_slice().len() <= FEW {
             return Ok(Variables {
                 items,
                 places: None,
             });
         }
-        let places = own_places(alloc, &items)?;
+        let places = own_places(alloc, items.as_slice())?;
         Ok(Variables {
             items,
             places: Some(places),
@@ -73,13 +74,13 @@ impl Variables {
         ensures { option_map (λ t. t.now) result ≡ item_of variable_name name.now self.now }
     {
         match &self.places {
-            Some(places) => at_place(&self.items, places, name),
-            None => first_named(&self.items, name),
+            Some(places) => at_place(self.items.as_slice(), places, name),
+            None => first_named(self.items.as_slice(), name),
         }
     }
 
     /// The variables, in their order.
-    pub fn into_items(self) -> Vec<Typed>
+    pub fn into_items(self) -> TypedList
         ensures { result.items ≡ self }
     {
         let Variables { items, .. } = self;

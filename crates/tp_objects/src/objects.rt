@@ -15,7 +15,7 @@ use crate::walk::{count_fitting, one_fits, push_fitting};
 use std::alloc::{AllocError, Global};
 use std::marker::Model;
 use tp_ast::symbols::Typed;
-use tp_ast::types::TypeName;
+use tp_ast::type_list::TypeList;
 use tp_types::types::Types;
 
 /// The types, and all objects: the domain's constants, then the problem's objects.
@@ -76,12 +76,12 @@ impl<'a> Objects<'a> {
     /// The types of a domain with its constants and a problem's objects.
     pub fn new(
         alloc: Global,
-        types: &'a [TypeName],
+        types: &'a TypeList,
         constants: &'a [Typed],
         objects: &'a [Typed],
     ) -> Result<Objects<'a>, AllocError>
         ensures { IfOk result (λ o. o ≡ record {
-          types = map parent_view types.now;
+          types = map parent_view types.now.items;
           objects = map typed_view constants.now ++ map typed_view objects.now;
         }) }
     {

@@ -119,7 +119,7 @@ fn print_signature<W: Sink>(out: &mut Printer<W>, signature: &Signature)
 {
     out.put(b"(");
     out.put(signature.name.as_bytes());
-    print_items(out, &signature.parameters);
+    print_items(out, signature.parameters.as_slice());
     out.put(b")");
 }
 
@@ -201,7 +201,7 @@ fn print_declarations<W: Sink>(out: &mut Printer<W>, domain: &Domain)
         (declarations_text (domain_view domain.now)) }
 {
     print_requirements(out, &domain.requirements);
-    print_type_section(out, &domain.types);
+    print_type_section(out, domain.types.as_slice());
     print_constants(out, &domain.constants);
     print_predicates(out, &domain.predicates);
     print_functions(out, &domain.functions);

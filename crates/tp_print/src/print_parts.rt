@@ -29,6 +29,7 @@ use tp_ast::joined::Joined;
 use tp_ast::symbols::Typed;
 use tp_ast::term::{Atom, Term};
 use tp_ast::timed::Timed;
+use tp_ast::typed_list::TypedList;
 use tp_ast::words::{Comparison, TimeSpecifier, Writing};
 use tp_device::Sink;
 
@@ -78,11 +79,11 @@ pub fn print_items<W: Sink>(out: &mut Printer<W>, items: &[Typed])
 }
 
 // Variables in parentheses.
-pub fn print_variables<W: Sink>(out: &mut Printer<W>, items: &[Typed])
+pub fn print_variables<W: Sink>(out: &mut Printer<W>, list: &TypedList)
     ensures { Prints W.held W.failures out.old out.new
-        (shape_text (node (typed_shapes (map typed_view items.now)))) }
+        (shape_text (node (typed_shapes (map typed_view list.now.items)))) }
 {
-    let [first, rest @ ..] = items else {
+    let [first, rest @ ..] = list.as_slice() else {
         out.put(b"()");
         return;
     };

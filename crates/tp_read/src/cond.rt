@@ -18,8 +18,8 @@ use std::alloc::Global;
 use tp_ast::cond::Cond;
 use tp_ast::expr::Expr;
 use tp_ast::fault::{LeftOutPart, SyntaxFault};
-use tp_ast::symbols::Typed;
 use tp_ast::term::{Atom, Term};
+use tp_ast::typed_list::TypedList;
 use tp_ast::words::{Comparison, CondKind, CondWord, cond_word_of};
 use tp_names::symbols::{Scope, Symbols, argument_known, atom_in};
 use tp_names::term::{is_name, is_variable, terms_of};
@@ -80,7 +80,7 @@ fn combined(alloc: Global, head: CondWord, conds: Vec<Cond>, at: u32) -> Result<
     }
 }
 
-fn bound(alloc: Global, head: CondWord, vars: Vec<Typed>, inner: Cond) -> Result<Cond, SyntaxFault>
+fn bound(alloc: Global, head: CondWord, vars: TypedList, inner: Cond) -> Result<Cond, SyntaxFault>
     ensures { Gives cond_view result
         (Some (bound head (map typed_view vars.items) (cond_view inner))) }
 {

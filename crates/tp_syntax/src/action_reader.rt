@@ -26,8 +26,8 @@ use tp_ast::constraint::DurationRule;
 use tp_ast::effect::Effect;
 use tp_ast::fault::SyntaxFault;
 use tp_ast::joined::Joined;
-use tp_ast::symbols::Typed;
 use tp_ast::timed::{TimedCond, TimedEffect};
+use tp_ast::typed_list::TypedList;
 use tp_ast::words::Key;
 use tp_names::symbols::{Scope, Symbols};
 use tp_names::term::name_of;
@@ -45,13 +45,13 @@ fn parameters(
     types: &Types,
     fields: &[Field],
     at: u32,
-) -> Result<Vec<Typed>, SyntaxFault>
+) -> Result<TypedList, SyntaxFault>
     ensures { Gives (λ v. map typed_view v.items) result (or_missing [] (parameters_at
         (types_view types.now)) (field keys.Parameters (map field_view fields.now))) }
 {
     match find_field(Key::Parameters, fields) {
         Some(list) => parameters_at(alloc, types, list.body, at),
-        None => Ok(Vec::new(alloc)),
+        None => Ok(TypedList::unmarked(alloc, Vec::new(alloc))),
     }
 }
 

@@ -194,7 +194,7 @@ fn domain_with(
 {
     let requirements = requirements(alloc, parts)?;
     let PlacedTypes { types, parents } = types(alloc, parts)?;
-    let known = Types::above(alloc, &types, parents)?;
+    let known = Types::above(alloc, types.as_slice(), parents)?;
     let constants = constants(alloc, &known, parts)?;
     let predicates = predicates(alloc, &known, parts)?;
     let functions = functions(alloc, &known, parts)?;

@@ -34,6 +34,8 @@ pub use tp_ast::problem::{Initial, Problem};
 pub use tp_ast::symbols::{Signature, Typed};
 pub use tp_ast::term::{Atom, Term};
 pub use tp_ast::timed::{Timed, TimedCond, TimedEffect};
+pub use tp_ast::type_list::TypeList;
+pub use tp_ast::typed_list::TypedList;
 pub use tp_ast::types::TypeName;
 pub use tp_ast::words::{Comparison, TimeSpecifier, Writing};
 pub use tp_names::term::is_name;

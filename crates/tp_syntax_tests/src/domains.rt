@@ -79,7 +79,7 @@ fn has_choice(functions: &[Signature]) -> bool {
 // Whether there is one predicate, of two parameters.
 fn has_pair(predicates: &[Signature]) -> bool {
     match predicates {
-        [only] => only.parameters.len() == 2,
+        [only] => only.parameters.as_slice().len() == 2,
         _ => false,
     }
 }
@@ -87,7 +87,10 @@ fn has_pair(predicates: &[Signature]) -> bool {
 // Whether the sections of the text below stand there.
 fn has_sections(domain: &Domain) -> bool {
     domain.name.as_str() == "d"
-        && are_types(&domain.types, &[("a", "c"), ("b", "c"), ("c", "object")])
+        && are_types(
+            domain.types.as_slice(),
+            &[("a", "c"), ("b", "c"), ("c", "object")],
+        )
         && are_items(
             &domain.constants,
             &[("k", "a"), ("l", "a"), ("m", "object")],
@@ -95,6 +98,29 @@ fn has_sections(domain: &Domain) -> bool {
         && are_words(&domain.requirements, &[":a", ":b"])
         && has_pair(&domain.predicates)
         && has_choice(&domain.functions)
+}
+
+// Whether the types and the parameters of the one predicate have these marks.
+fn are_marked(domain: &Domain, types: &[bool], parameters: &[bool]) -> bool {
+    let [only] = domain.predicates.as_slice() else {
+        return false;
+    };
+    domain.types.marks() == types && only.parameters.marks() == parameters
+}
+
+#[test]
+fn what_is_given_together_is_marked(rt: HostRuntime) -> Result<(), Fail> {
+    let text = "(define (domain d) (:types a b - c d - e)
+      (:predicates (p ?v ?w - (either a b) ?x - (either a b) ?y ?z)))";
+    let domain = read_domain(rt.alloc(), text)?;
+    assert!(rt;
+        are_marked(
+            &domain,
+            &[false, true, false],
+            &[false, true, false, false, true]
+        )
+    );
+    Ok(())
 }
 
 #[test]
@@ -115,7 +141,7 @@ fn is_empty_action(domain: &Domain) -> bool {
         Body::Instant {
             precondition: Cond::And(conds),
             effect: Joined::And(parts),
-        } => action.parameters.is_empty() && conds.is_empty() && parts.is_empty(),
+        } => action.parameters.as_slice().is_empty() && conds.is_empty() && parts.is_empty(),
         _ => false,
     }
 }

@@ -3,10 +3,10 @@
 use std::alloc::{AllocError, Global};
 use std::rc::Rc;
 use std::test::Fail;
-use tp_syntax::{TypeName, Types, types_fit};
+use tp_syntax::{TypeList, TypeName, Types, types_fit};
 use tp_types::cycles::ranks_by_places;
 use tp_types::jumps::jumps_by_places;
-use tp_types::parents::parents;
+use tp_types::parents::parents_by_rows;
 use tp_types::table::places;
 
 fn below(alloc: Global, name: &str, parent: &str) -> Result<TypeName, AllocError> {
@@ -17,14 +17,14 @@ fn below(alloc: Global, name: &str, parent: &str) -> Result<TypeName, AllocError
 }
 
 // Eight types, each below the one before it.
-fn chain(alloc: Global) -> Result<Vec<TypeName>, AllocError> {
+fn chain(alloc: Global) -> Result<TypeList, AllocError> {
     let mut types = Vec::new(alloc);
     let mut above = "object";
     for name in ["a", "b", "c", "d", "e", "f", "g", "h"] {
         types.push(below(alloc, name, above)?)?;
         above = name;
     }
-    Ok(types)
+    Ok(TypeList::unmarked(alloc, types))
 }
 
 // Whether the one type fits where the other is asked for.
@@ -48,7 +48,7 @@ fn jump_to(ranks: &[usize], jumps: &[usize], wanted: &[usize]) -> bool {
 
 fn chain_jumps(alloc: Global, chain: &[TypeName], wanted: &[usize]) -> Result<bool, AllocError> {
     let places = places(alloc, chain)?;
-    let parents = parents(alloc, chain, &places)?;
+    let parents = parents_by_rows(alloc, chain, &places, &[])?;
     let ranks = ranks_by_places(alloc, chain, &parents)?;
     let jumps = jumps_by_places(alloc, &parents, &ranks)?;
     Ok(jump_to(&ranks, &jumps, wanted))
@@ -57,7 +57,7 @@ fn chain_jumps(alloc: Global, chain: &[TypeName], wanted: &[usize]) -> Result<bo
 #[test]
 fn jumps_lead_far_up(rt: HostRuntime) -> Result<(), Fail> {
     let chain = chain(rt.alloc())?;
-    assert!(rt; chain_jumps(rt.alloc(), &chain, &[8, 0, 1, 0, 3, 4, 3, 0])?);
+    assert!(rt; chain_jumps(rt.alloc(), chain.as_slice(), &[8, 0, 1, 0, 3, 4, 3, 0])?);
     Ok(())
 }
 
@@ -85,8 +85,16 @@ fn chain_fits(alloc: Global, types: &Types) -> Result<bool, AllocError> {
 fn types_fit_those_above_them(rt: HostRuntime) -> Result<(), Fail> {
     let chain = chain(rt.alloc())?;
     assert!(rt; chain_fits(rt.alloc(), &Types::new(rt.alloc(), &chain)?)?);
-    assert!(rt; chain_fits(rt.alloc(), &Types::listed(&chain))?);
+    assert!(rt; chain_fits(rt.alloc(), &Types::listed(chain.as_slice()))?);
     Ok(())
+}
+
+// Two types, each below the other.
+fn cycle(alloc: Global) -> Result<TypeList, AllocError> {
+    let mut types = Vec::new(alloc);
+    types.push(below(alloc, "a", "b")?)?;
+    types.push(below(alloc, "b", "a")?)?;
+    Ok(TypeList::unmarked(alloc, types))
 }
 
 // Whether of two types that lead round one fits the other, and not `object`.
@@ -96,7 +104,7 @@ fn goes_round(alloc: Global, types: &Types) -> Result<bool, AllocError> {
 
 #[test]
 fn a_cycle_of_types_is_walked(rt: HostRuntime) -> Result<(), Fail> {
-    let cycle = [below(rt.alloc(), "a", "b")?, below(rt.alloc(), "b", "a")?];
+    let cycle = cycle(rt.alloc())?;
     assert!(rt; goes_round(rt.alloc(), &Types::new(rt.alloc(), &cycle)?)?);
     Ok(())
 }

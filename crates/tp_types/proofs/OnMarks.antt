@@ -15,7 +15,7 @@ use Rattle.tp_types.specs.Cycles.{type_name}
 use Rattle.tp_types.specs.Marks.{has_mark, fits, passes, name_at, fits_at, is_one_at, is_below_other, past_shared, AreMarks, AreOthers}
 use Rattle.tp_types.specs.NameSets.{insert_key}
 use Rattle.tp_types.specs.Parents.{parent_name, parent_at}
-use Rattle.tp_types.specs.Rows.{is_marked}
+use Rattle.tp_ast.specs.Rows.{is_marked}
 use Rattle.tp_types.specs.Tables.{place_of}
 use Rattle.tp_types.proofs.OnTypeTables.{IsTypeTable}
 use Rattle.tp_types.specs.declared.type_tables.TypeTable.{TypeTable}

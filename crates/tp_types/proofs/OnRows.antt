@@ -1,7 +1,7 @@
 -- Rows of items that are alike.
 use Rattle.std.proofs.Common.{◌≡◌, ℕ, ◌<◌, ◌≤◌, ◌+◌, zero, suc, List, [], ◌∷◌, ◌++◌, map, take, get_or, length, Bool, true, refl, sym, ap, ◌∙◌, arith}
 use Rattle.std.proofs.lemmas.List.{take_more, take_all, map-append}
-use Rattle.tp_types.specs.Rows.{last_of, AreRows, is_marked}
+use Rattle.tp_ast.specs.Rows.{last_of, AreRows, is_marked}
 
 -- ---- one more
 

@@ -1,7 +1,6 @@
 pub mod Tables
 pub mod OwnTables
 pub mod Parents
-pub mod Rows
 pub mod Cycles
 pub mod Jumps
 pub mod TypeViews

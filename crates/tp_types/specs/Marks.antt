@@ -7,7 +7,7 @@ use Rattle.tp_ast.specs.Symbols.{parent_view, at_or_below}
 use Rattle.tp_types.specs.Tables.{Name, place_of}
 use Rattle.tp_types.specs.Cycles.{type_name}
 use Rattle.tp_types.specs.Parents.{parent_name}
-use Rattle.tp_types.specs.Rows.{is_marked}
+use Rattle.tp_ast.specs.Rows.{is_marked}
 use Rattle.tp_ast.specs.declared.types.TypeName.{TypeName}
 
 -- one of the names is this one

@@ -8,8 +8,7 @@ ghost use Rattle.tp_ast.specs.Symbols.{parent_view, parent_of, at_or_below};
 ghost use Rattle.tp_types.specs.Parents.{AreParents};
 ghost use Rattle.tp_types.specs.Tables.{IsTable};
 
-use crate::parents::{parent_at, parents};
-use crate::table::places;
+use crate::parents::parent_at;
 use std::alloc::{AllocError, Global};
 use std::collections::BTreeMap;
 use tp_ast::types::TypeName;
@@ -253,13 +252,4 @@ pub fn no_cycle_by_places<'a>(
         return Ok(false);
     }
     Ok(are_below_object(types, places))
-}
-
-/// Whether each type is below `object`.
-pub fn no_cycle(alloc: Global, types: &[TypeName]) -> Result<bool, AllocError>
-    ensures { IfOk result (λ r. r ≡ no_cycle (map parent_view types.now)) }
-{
-    let places = places(alloc, types)?;
-    let parents = parents(alloc, types, &places)?;
-    no_cycle_by_places(alloc, types, &places, &parents)
 }

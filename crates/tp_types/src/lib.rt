@@ -3,7 +3,6 @@
 //! - `names`, `once`, `table`, `own_places`, `lookup`: names in an order, names that stand once, where they stand, what they were
 //!   declared as
 //! - `guesses`: where names may stand
-//! - `rows`: items that are as the ones before them
 //! - `parents`: where the parents of types stand
 //! - `cycles`, `jumps`: whether types lead back to themselves, and jumps up their order
 //! - `type_tables`: tables of types
@@ -20,7 +19,6 @@ pub mod names;
 pub mod once;
 pub mod own_places;
 pub mod parents;
-pub mod rows;
 pub mod table;
 pub mod type_tables;
 pub mod types;

@@ -7,9 +7,9 @@ ghost use Rattle.tp_ast.specs.Symbols.{parent_view, types_fit};
 
 use crate::names::NameSet;
 use crate::parents::parent_at;
-use crate::rows::is_marked;
 use crate::type_tables::{TypeTable, place_near, place_of};
 use std::alloc::{AllocError, Global};
+use tp_ast::marks::is_marked;
 
 /// What is left of a list behind the front that it shares with another: types that are in both fit.
 pub fn past_shared<'a>(argument: &'a [String], parameter: &[String]) -> &'a [String]

@@ -3,50 +3,13 @@
 ghost use Rattle.std.specs.Prelude.{◌≡◌, map, true, IfOk};
 ghost use Rattle.tp_ast.specs.Domains.{object};
 ghost use Rattle.tp_types.specs.Parents.{AreParents, parent_at, parent_name};
-ghost use Rattle.tp_types.specs.Rows.{AreRows};
+ghost use Rattle.tp_ast.specs.Rows.{AreRows};
 ghost use Rattle.tp_types.specs.Tables.{found};
 
-use crate::rows::is_marked;
 use std::alloc::{AllocError, Global};
 use std::collections::BTreeMap;
+use tp_ast::marks::is_marked;
 use tp_ast::types::TypeName;
-
-// Where a name stands, given where the name before it does: one comparison where they are the same.
-fn place_after(
-    places: &BTreeMap<&str, usize>,
-    before: &str,
-    place: Option<usize>,
-    name: &str,
-) -> Option<usize>
-    requires { found places.now before.now ≡ place }
-    ensures { result ≡ found places.now name.now }
-{
-    if before == name {
-        return place;
-    }
-    places.get(name).copied()
-}
-
-/// Where the parent of each type stands. Types that are declared together have one parent, whose name may be long: only the first of
-/// them looks it up.
-pub fn parents<'a>(
-    alloc: Global,
-    types: &'a [TypeName],
-    places: &BTreeMap<&str, usize>,
-) -> Result<Vec<Option<usize>>, AllocError>
-    ensures { IfOk result (λ v. AreParents places.now types.now v.items) }
-{
-    let mut parents = Vec::new(alloc);
-    let mut name = "object";
-    let mut place = places.get(name).copied();
-    for declared in types {
-        let parent = declared.parent.as_str();
-        place = place_after(places, name, place, parent);
-        name = parent;
-        parents.push(place)?;
-    }
-    Ok(parents)
-}
 
 // Where the parent of a type stands, given where that of the type before does: they are one if the type is marked.
 fn place_in_row(
@@ -64,8 +27,8 @@ fn place_in_row(
     places.get(declared.parent.as_str()).copied()
 }
 
-/// As `parents`, where marks tell which types have the parent of the one before them (the first, that of `object`): no name of such a
-/// parent is looked at.
+/// Where the parent of each type stands. Marks tell which types have the parent of the one before them (the first, that of `object`):
+/// the name of such a parent, which may be long, is not looked at.
 pub fn parents_by_rows<'a>(
     alloc: Global,
     types: &'a [TypeName],

@@ -12,10 +12,11 @@ ghost use Rattle.tp_types.specs.Tables.{IsTable, place_of};
 use crate::cycles::{are_ranked, ranks_by_places};
 use crate::guesses::Guesses;
 use crate::jumps::{are_jumps, jumps_by_places};
-use crate::parents::parents;
+use crate::parents::parents_by_rows;
 use crate::table::{Named, places, second_named};
 use std::alloc::{AllocError, Global};
 use std::collections::BTreeMap;
+use tp_ast::type_list::TypeList;
 use tp_ast::types::TypeName;
 
 /// Types of which no two have one name, and where each stands and is guessed to; where its parent does, its rank, and the place of a
@@ -72,12 +73,13 @@ fn table_above<'a>(
 /// The table of types. None where a name stands twice, or for types that lead round in a cycle.
 pub fn type_table<'a>(
     alloc: Global,
-    types: &'a [TypeName],
+    list: &'a TypeList,
 ) -> Result<Option<TypeTable<'a>>, AllocError>
-    ensures { IfOk result (λ o. IfSome o (λ t. t.types.now ≡ types.now)) }
+    ensures { IfOk result (λ o. IfSome o (λ t. t.types.now ≡ list.now.items)) }
 {
+    let types = list.as_slice();
     let places = places(alloc, types)?;
-    let parents = parents(alloc, types, &places)?;
+    let parents = parents_by_rows(alloc, types, &places, list.marks())?;
     table_above(alloc, types, places, parents)
 }
 

@@ -13,6 +13,7 @@ use crate::type_tables::{TypeTable, parent_of as parent_in, type_table, type_tab
 use std::alloc::{AllocError, Global};
 use std::marker::Model;
 use std::rc::Rc;
+use tp_ast::type_list::TypeList;
 use tp_ast::types::TypeName;
 
 /// The types that a domain declares.
@@ -47,10 +48,11 @@ impl<'a> Types<'a> {
     }
 
     /// Types with a table: a parent is found as fast however many there are, and a climb takes few steps.
-    pub fn new(alloc: Global, declared: &'a [TypeName]) -> Result<Types<'a>, AllocError>
-        ensures { IfOk result (λ t. types_view t ≡ map parent_view declared.now) }
+    pub fn new(alloc: Global, list: &'a TypeList) -> Result<Types<'a>, AllocError>
+        ensures { IfOk result (λ t. types_view t ≡ map parent_view list.now.items) }
     {
-        let table = type_table(alloc, declared)?;
+        let table = type_table(alloc, list)?;
+        let declared = list.as_slice();
         Ok(Types { declared, table })
     }
 

@@ -28,8 +28,8 @@ use crate::writer::Writer;
 use std::alloc::{AllocError, Global};
 use std::rc::Rc;
 use tp_ast::expr::Expr;
-use tp_ast::symbols::Typed;
 use tp_ast::term::{Atom, Term};
+use tp_ast::typed_list::TypedList;
 use tp_ast::words::Comparison;
 use tp_task::{Cond, GroundFault};
 
@@ -218,16 +218,16 @@ fn for_all<'a>(
     universe: &Universe<'a>,
     env: &Env<'_, 'a>,
     writer: &mut Writer<'a>,
-    variables: &'a [Typed],
+    variables: &'a TypedList,
     cond: &'a tp_ast::cond::Cond,
 ) -> Result<Cond, GroundFault>
     requires { universe_view universe.now ≡ writer.old.universe }
     ensures { Lowers named_condition writer.old result writer.new (all_of (conditions_from
         (map (λ e. condition_in (universe_view universe.now) e (cond_view cond.now))
-        (inner (universe_view universe.now) (env_view env.now) (map typed_view variables.now)))))
+        (inner (universe_view universe.now) (env_view env.now) (map typed_view variables.now.items)))))
         (of_condition (all_of (conditions_from
         (map (λ e. condition_in (universe_view universe.now) e (cond_view cond.now))
-        (inner (universe_view universe.now) (env_view env.now) (map typed_view variables.now)))))) }
+        (inner (universe_view universe.now) (env_view env.now) (map typed_view variables.now.items)))))) }
 {
     let named = Variables::new(alloc, variables)?;
     Ok(Cond::And(under_each(alloc, universe, env, writer, &named, cond)?))
@@ -239,16 +239,16 @@ fn for_some<'a>(
     universe: &Universe<'a>,
     env: &Env<'_, 'a>,
     writer: &mut Writer<'a>,
-    variables: &'a [Typed],
+    variables: &'a TypedList,
     cond: &'a tp_ast::cond::Cond,
 ) -> Result<Cond, GroundFault>
     requires { universe_view universe.now ≡ writer.old.universe }
     ensures { Lowers named_condition writer.old result writer.new (any_of (conditions_from
         (map (λ e. condition_in (universe_view universe.now) e (cond_view cond.now))
-        (inner (universe_view universe.now) (env_view env.now) (map typed_view variables.now)))))
+        (inner (universe_view universe.now) (env_view env.now) (map typed_view variables.now.items)))))
         (of_condition (any_of (conditions_from
         (map (λ e. condition_in (universe_view universe.now) e (cond_view cond.now))
-        (inner (universe_view universe.now) (env_view env.now) (map typed_view variables.now)))))) }
+        (inner (universe_view universe.now) (env_view env.now) (map typed_view variables.now.items)))))) }
 {
     let named = Variables::new(alloc, variables)?;
     Ok(Cond::Or(under_each(alloc, universe, env, writer, &named, cond)?))

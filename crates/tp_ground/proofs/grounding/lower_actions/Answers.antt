@@ -20,8 +20,8 @@ loop-action-preserved c =
     let u = universe_view c.args.universe.now in
     let x = body_view c.action-item.result.body in
     each_append named_body (λ (a : Action). of_action u (action_view a)) c.args.actions.now c.loop-action.action-index c.action-item.result c.loop-action-test.true c.action-item.is _ _ _ _ _ (bodies_of u) _ _
-    (ap (λ (ps : List Typed). map (λ objects. body_in u (bound (map typed_view ps) objects) x) (bindings u (map typed_view ps))) (c.in_ok-parameters.ensures ∙ c.deref.ensures.value))
-    (ap (λ (ps : List Typed). of_each (λ objects. of_body u (bound (map typed_view ps) objects) x) (bindings u (map typed_view ps))) (c.in_ok-parameters.ensures ∙ c.deref.ensures.value))
+    (ap (λ (ps : List Typed). map (λ objects. body_in u (bound (map typed_view ps) objects) x) (bindings u (map typed_view ps))) c.in_ok-parameters.ensures)
+    (ap (λ (ps : List Typed). of_each (λ objects. of_body u (bound (map typed_view ps) objects) x) (bindings u (map typed_view ps))) c.in_ok-parameters.ensures)
     c.loop-action.invariant c.in_ok-push_bodies.ensures
 
 pub returns-in_err-push_bodies : goal.returns-in_err-push_bodies
@@ -30,7 +30,7 @@ returns-in_err-push_bodies c =
     let x = body_view c.action-item.result.body in
     failed (every named_body) _ _ _ _ _ _ c.from_residual-in_err-push_bodies.ensures.1
     (each_stopped (λ (a : Action). of_action u (action_view a)) c.args.actions.now c.loop-action.action-index c.action-item.result c.loop-action-test.true c.action-item.is _ _ _ _ _ (sym (mentions_all u c.args.actions.now))
-    (ap (λ (ps : List Typed). of_each (λ objects. of_body u (bound (map typed_view ps) objects) x) (bindings u (map typed_view ps))) (c.in_ok-parameters.ensures ∙ c.deref.ensures.value))
+    (ap (λ (ps : List Typed). of_each (λ objects. of_body u (bound (map typed_view ps) objects) x) (bindings u (map typed_view ps))) c.in_ok-parameters.ensures)
     c.loop-action.invariant.notes c.in_err-push_bodies.ensures)
 
 pub returns : goal.returns

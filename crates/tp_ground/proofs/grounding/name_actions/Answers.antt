@@ -1,6 +1,4 @@
-use Rattle.std.proofs.Common.{ap, map, ◌∙◌}
-use Rattle.tp_ast.specs.Symbols.{typed_view}
-use Rattle.tp_ground.specs.Bindings.{bindings}
+use Rattle.std.proofs.Common.{◌∙◌}
 use Rattle.tp_ground.specs.Views.{universe_view}
 use Rattle.tp_ground.proofs.OnGrounding.{named_on}
 use Rattle.tp_ground.proofs.grounding.name_actions.Goals as goal
@@ -9,7 +7,7 @@ pub loop-action-preserved : goal.loop-action-preserved
 loop-action-preserved c = record {
   actions =
       named_on (universe_view c.args.universe.now) c.args.actions.now c.loop-action.action-index c.action-item.result c.loop-action.writer.tables.actions c.push_names.new.writer.tables.actions _ _ c.loop-action-test.true c.action-item.is
-      (c.in_ok-rows.ensures ∙ ap (λ ps. bindings (universe_view c.args.universe.now) (map typed_view ps)) c.deref.ensures.value)
+      c.in_ok-rows.ensures
       c.in_ok-push_names.ensures.actions c.loop-action.invariant.actions;
   atoms = c.push_names.ensures.atoms ∙ c.loop-action.invariant.atoms;
   fluents = c.push_names.ensures.fluents ∙ c.loop-action.invariant.fluents;

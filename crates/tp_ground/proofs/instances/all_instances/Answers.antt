@@ -1,9 +1,8 @@
 use Rattle.std.proofs.Common.{List, map, take, sym, ap, ◌++◌, ◌∙◌}
 use Rattle.std.specs.List.{flat_map}
 use Rattle.std.proofs.lemmas.List.{take_all}
-use Rattle.tp_ast.specs.Symbols.{Name, typed_view}
+use Rattle.tp_ast.specs.Symbols.{Name}
 use Rattle.tp_ground.specs.Schemas.{schema_view}
-use Rattle.tp_ground.specs.Bindings.{bindings}
 use Rattle.tp_ground.specs.Reached.{Instance}
 use Rattle.tp_ground.specs.Rows.{product, lists_of}
 use Rattle.tp_ground.specs.Views.{universe_view}
@@ -18,7 +17,7 @@ loop-schema-preserved c =
     let x = c.schema-item.result in
     c.in_ok-push_rows.ensures
     ∙ ap (λ (is : List Instance). is ++ map (bound_to (schema_view x)) (product (lists_of c.in_ok-rows.rows.lists.items))) c.loop-schema.invariant
-    ∙ ap (λ (ns : List (List Name)). flat_map (instances_of u) (take c.loop-schema.schema-index xs) ++ map (bound_to (schema_view x)) ns) (c.in_ok-rows.ensures ∙ ap (λ ps. bindings u (map typed_view ps)) c.deref.ensures.value)
+    ∙ ap (λ (ns : List (List Name)). flat_map (instances_of u) (take c.loop-schema.schema-index xs) ++ map (bound_to (schema_view x)) ns) c.in_ok-rows.ensures
     ∙ sym (next (instances_of u) xs c.loop-schema.schema-index x c.loop-schema-test.true c.schema-item.is)
 
 pub returns : goal.returns

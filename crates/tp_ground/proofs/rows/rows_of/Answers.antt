@@ -12,9 +12,9 @@ weaker f (Err e) h = h
 pub begun-requires-in-Some : goal.begun-requires-in-Some
 begun-requires-in-Some c =
     c.in-Some.ensures.0
-    ∙ ap length (sym (ap product c.in_ok-lists_of-in-Some.ensures ∙ rows_bindings (universe_view c.args.universe.now) (map typed_view c.args.variables.now)))
+    ∙ ap length (sym (ap product c.in_ok-lists_of-in-Some.ensures ∙ rows_bindings (universe_view c.args.universe.now) (map typed_view c.args.variables.now.items)))
 
 pub returns-in_ok-lists_of-in-Some : goal.returns-in_ok-lists_of-in-Some
 returns-in_ok-lists_of-in-Some c =
     weaker (λ r is. ap (λ (v : Vec (Vec (Bor Name) Global) Global). product (lists_of v.items)) is
-    ∙ (ap product c.in_ok-lists_of-in-Some.ensures ∙ rows_bindings (universe_view c.args.universe.now) (map typed_view c.args.variables.now))) c.begun-in-Some.result c.begun-in-Some.ensures.lists
+    ∙ (ap product c.in_ok-lists_of-in-Some.ensures ∙ rows_bindings (universe_view c.args.universe.now) (map typed_view c.args.variables.now.items))) c.begun-in-Some.result c.begun-in-Some.ensures.lists

@@ -1,24 +1,50 @@
-use Rattle.std.proofs.Common.{ℕ, ◌*◌, length, refl, subst, ◌∙◌}
+use Rattle.std.proofs.Common.{◌≡◌, ℕ, ◌*◌, ◌<◌, IfSome, List, length, map, not, sym, ap, subst, ◌∙◌}
 use Rattle.tp_ast.specs.Symbols.{typed_view}
-use Rattle.tp_ground.specs.Bindings.{choices}
-use Rattle.tp_ground.specs.Counts.{IsCount}
+use Rattle.tp_ast.specs.Shared.{ShareTypes}
+use Rattle.tp_ast.specs.declared.symbols.Typed.{Typed}
+use Rattle.tp_ground.specs.Bindings.{Universe, choices, bindings}
 use Rattle.tp_ground.specs.Views.{universe_view}
-use Rattle.tp_ground.proofs.OnBindings.{counted_on}
+use Rattle.tp_ground.proofs.OnBindings.{counted_on, some_choices, last_counted, marked_count, over_still, over_if}
 use Rattle.tp_ground.proofs.universe.count_and_note.Goals as goal
 
-pub loop-variable-preserved : goal.loop-variable-preserved
-loop-variable-preserved c =
-    let before = c.loop-variable.invariant in
+pub note_in_row-requires : goal.note_in_row-requires
+note_in_row-requires c = λ mark.
+    let x = c.index-items-place.result in
+    subst (λ (k : ℕ). IfSome c.loop-place.before (λ n. n ≡ k))
+    (marked_count (universe_view c.args.universe.now) c.marks-marks.result.now c.as_slice-items.result.now c.loop-place.place x
+    (subst (ShareTypes c.marks-marks.result.now) (sym c.as_slice-items.ensures) c.marks-marks.ensures) (sym c.is_marked-mark.ensures ∙ mark) c.loop-place-test.true c.index-items-place.is
+    ∙ ap (λ (u : Universe). length (choices u (typed_view x))) (sym c.loop-place.invariant.universe))
+    c.loop-place.invariant.last
+
+pub times-count-requires : goal.times-count-requires
+times-count-requires c =
     let u = universe_view c.args.universe.now in
-    let x = c.variable-item.result in
-    let here : ℕ = length (choices u (typed_view x)) in
-    let counted : (n : ℕ) → IsCount c.args.most n c.loop-variable.count → IsCount c.args.most (here * n) c.in_ok-count.count =
-    subst (λ v. (n : ℕ) → IsCount c.args.most n c.loop-variable.count → IsCount c.args.most (length (choices v (typed_view x)) * n) c.in_ok-count.count) before.universe c.in_ok-count.ensures.count in
+    let x = c.index-items-place.result in
+    let some : 0 < length (bindings u (map typed_view c.as_slice-items.result.now)) =
+    subst (λ (vs : List Typed). 0 < length (bindings u (map typed_view vs))) (sym c.as_slice-items.ensures) (c.have_choices.ensures.some c.if-not-have_choices.false) in
+    let here = c.in_ok-choices.ensures.count ∙ ap (λ (v : Universe). length (choices v (typed_view x))) c.loop-place.invariant.universe in
+    subst (λ n. 0 < n) (sym here)
+    (some_choices u c.as_slice-items.result.now c.loop-place.place x c.loop-place-test.true c.index-items-place.is some)
+
+pub returns-then-is_none-clause-count : goal.returns-then-is_none-clause-count
+returns-then-is_none-clause-count c =
+    let u = universe_view c.args.universe.now in
+    let before = c.loop-place.invariant.counted in
+    let same = ap (λ (vs : List Typed). length (bindings u (map typed_view vs))) c.as_slice-items.ensures in
+    over_still _ before.0 _ c.args.most (before.1 ∙ same) (c.have_choices.ensures.some c.if-not-have_choices.false) (over_if c.args.most before.0 c.loop-place.count (c.is_none.ensures ∙ ap not c.if-is_none.true) before.2)
+
+pub loop-place-preserved : goal.loop-place-preserved
+loop-place-preserved c =
+    let u = universe_view c.args.universe.now in
+    let x = c.index-items-place.result in
+    let before = c.loop-place.invariant.counted in
+    let here = c.in_ok-choices.ensures.count ∙ ap (λ (v : Universe). length (choices v (typed_view x))) c.loop-place.invariant.universe in
     record {
       counted = (
-        here * before.counted.0,
-        counted_on u c.args.variables.now c.loop-variable.variable-index x here before.counted.0 _ c.loop-variable-test.true c.variable-item.is refl before.counted.1,
-        counted before.counted.0 before.counted.2,
+        c.in_ok-choices.choices * before.0,
+        counted_on u c.as_slice-items.result.now c.loop-place.place x c.in_ok-choices.choices before.0 _ c.loop-place-test.true c.index-items-place.is here before.1,
+        c.times-count.ensures before.0 before.2,
       );
-      universe = c.in_ok-count.ensures.universe ∙ before.universe;
+      last = here ∙ sym (last_counted u c.as_slice-items.result.now c.loop-place.place x c.loop-place-test.true c.index-items-place.is);
+      universe = c.in_ok-choices.ensures.universe ∙ c.loop-place.invariant.universe;
     }

@@ -3,7 +3,7 @@ use Rattle.tp_ast.specs.Symbols.{parent_view}
 use Rattle.tp_ast.specs.Domains.{object, mentioned}
 use Rattle.tp_types.specs.Marks.{has_mark}
 use Rattle.tp_types.specs.Parents.{parent_name}
-use Rattle.tp_types.specs.Rows.{last_of}
+use Rattle.tp_ast.specs.Rows.{last_of}
 use Rattle.tp_names.specs.SignatureViews.{to_mention}
 use Rattle.tp_names.proofs.type_reader.mentioned.Given as goal
 

@@ -1,7 +1,7 @@
 use Rattle.std.proofs.Common.{◌≡◌, map, take, string_bytes}
 use Rattle.tp_ast.specs.Symbols.{parent_view, typed_view}
 use Rattle.tp_ast.specs.Domains.{object, type_below}
-use Rattle.tp_types.specs.Rows.{last_of}
+use Rattle.tp_ast.specs.Rows.{last_of}
 use Rattle.tp_names.proofs.OnRowViews.{parent_below}
 use Rattle.tp_names.proofs.type_reader.types_below.Given as goal
 

@@ -5,6 +5,7 @@ use Rattle.tp_ast.specs.TypedLists.{has_twice}
 use Rattle.tp_ast.specs.Domains.{no_cycle}
 use Rattle.tp_ast.specs.declared.types.TypeName.{TypeName}
 use Rattle.tp_types.proofs.OnTables.{map_twice, some_twice, none_twice}
+use Rattle.tp_names.proofs.OnRowViews.{parent_rows}
 use Rattle.tp_names.proofs.OnTypes.{types_twice, types_made}
 use Rattle.tp_names.proofs.type_reader.types_from.Goals as goal
 
@@ -22,3 +23,6 @@ returns-in-Some-2-clause-types c =
     (sym c.object_is_highest.ensures ∙ c.if-not-object_is_highest.false)
     c.in_ok-types.ensures.types
     (ap (λ (us : List TypeName). no_cycle (map parent_view us)) (sym c.deref.ensures.value) ∙ sym c.in_ok-parents.ensures.straight ∙ ap is_some c.in-Some-2.is)
+
+pub invariant_of-result : goal.invariant_of-result
+invariant_of-result c = parent_rows _ _ c.in_ok-types.ensures.marks

@@ -2,7 +2,7 @@ use Rattle.std.proofs.Common.{◌≡◌, ◌++◌, [], map, take, true, string_b
 use Rattle.tp_ast.specs.Symbols.{typed_view}
 use Rattle.tp_ast.specs.TypedLists.{given}
 use Rattle.tp_names.specs.RowViews.{HaveRows}
-use Rattle.tp_types.specs.Rows.{last_of}
+use Rattle.tp_ast.specs.Rows.{last_of}
 use Rattle.tp_names.proofs.typed.give.Given as goal
 
 abbrev pub invariant-loop-name : goal.invariant-loop-name

@@ -10,7 +10,7 @@ use Rattle.std.specs.List.{list_all}
 use Rattle.tp_ast.specs.declared.symbols.Typed.{Typed}
 use Rattle.tp_ast.specs.TypedLists.{is_type}
 use Rattle.tp_types.specs.TypeViews.{types_view}
-use Rattle.tp_names.proofs.OnRowViews.{no_rows}
+use Rattle.tp_names.proofs.OnRowViews.{no_rows, share_types}
 use Rattle.tp_names.proofs.OnDeclared.{all_declared, run_declared, last_declared}
 use Rattle.tp_names.proofs.typed.typed_items.Goals as goal
 
@@ -72,5 +72,5 @@ returns-clause-declared c =
     c.in_ok-give_object.ensures.items
     ∙ ap (λ (ss : List (String Global)). map typed_view c.runs.done.items ++ map (given (codes "object" ∷ [])) (map string_bytes ss)) c.deref-2.ensures.value)
 
-pub returns-clause-rows : goal.returns-clause-rows
-returns-clause-rows c = c.in_ok-give_object.ensures.rows c.runs.invariant.rows
+pub invariant_of-items : goal.invariant_of-items
+invariant_of-items c = share_types _ _ (c.in_ok-give_object.ensures.rows c.runs.invariant.rows)

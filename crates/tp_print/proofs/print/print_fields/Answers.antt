@@ -3,4 +3,4 @@ use Rattle.tp_print.proofs.print.print_fields.Goals as goal
 
 pub returns : goal.returns
 returns g c =
-    prints_more c.put.ensures (prints_more (rw c.deref.ensures.value at c.print_variables.ensures) c.print_body.ensures)
+    prints_more c.put.ensures (prints_more c.print_variables.ensures c.print_body.ensures)

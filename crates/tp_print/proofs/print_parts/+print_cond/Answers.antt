@@ -34,8 +34,8 @@ print_cond-returns-in-Imply g t c =
 
 pub print_cond-returns-in-Forall : goal.print_cond-returns-in-Forall
 print_cond-returns-in-Forall g t c =
-    prints_as (prints_more c.put-in-Forall.ensures (prints_more (rw c.deref-in-Forall.ensures.value at c.print_variables.ensures) (rw c.deref-in-Forall-2.ensures at c.print_last_cond-in-Forall.ensures))) (all_text c.args.cond.now c.in-Forall.variables c.in-Forall.inner c.in-Forall.is)
+    prints_as (prints_more c.put-in-Forall.ensures (prints_more c.print_variables.ensures (rw c.deref-in-Forall.ensures at c.print_last_cond-in-Forall.ensures))) (all_text c.args.cond.now c.in-Forall.variables c.in-Forall.inner c.in-Forall.is)
 
 pub print_cond-returns-in-Exists : goal.print_cond-returns-in-Exists
 print_cond-returns-in-Exists g t c =
-    prints_as (prints_more c.put-in-Exists.ensures (prints_more (rw c.deref-in-Exists.ensures.value at c.print_variables-in-Exists.ensures) (rw c.deref-in-Exists-2.ensures at c.print_last_cond-in-Exists.ensures))) (some_text c.args.cond.now c.in-Exists.variables c.in-Exists.inner c.in-Exists.is)
+    prints_as (prints_more c.put-in-Exists.ensures (prints_more c.print_variables-in-Exists.ensures (rw c.deref-in-Exists.ensures at c.print_last_cond-in-Exists.ensures))) (some_text c.args.cond.now c.in-Exists.variables c.in-Exists.inner c.in-Exists.is)

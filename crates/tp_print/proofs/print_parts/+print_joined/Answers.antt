@@ -21,4 +21,4 @@ print_joined-returns-in-And g t c =
 
 pub print_joined-returns-in-Forall : goal.print_joined-returns-in-Forall
 print_joined-returns-in-Forall g t c =
-    prints_as (prints_more c.put-in-Forall.ensures (prints_more c.print_variables.ensures (prints_more c.put-in-Forall-2.ensures (prints_more c.print_joined.ensures c.put-in-Forall-3.ensures)))) (forall_text g.P.Printed.seen g.P.Printed.tree c.args.joined.now c.in-Forall.variables c.in-Forall.inner c.deref-in-Forall.result.now c.deref-in-Forall-2.result.now c.in-Forall.is c.deref-in-Forall.ensures.value c.deref-in-Forall-2.ensures)
+    prints_as (prints_more c.put-in-Forall.ensures (prints_more c.print_variables.ensures (prints_more c.put-in-Forall-2.ensures (prints_more c.print_joined.ensures c.put-in-Forall-3.ensures)))) (forall_text g.P.Printed.seen g.P.Printed.tree c.args.joined.now c.in-Forall.variables c.in-Forall.inner c.in-Forall.variables.items c.deref-in-Forall.result.now c.in-Forall.is refl c.deref-in-Forall.ensures)

@@ -1,7 +1,7 @@
 use Rattle.std.proofs.Common.{◌≡◌, map, take}
 use Rattle.tp_ast.specs.Domains.{object}
 use Rattle.tp_types.specs.Parents.{parent_name}
-use Rattle.tp_types.specs.Rows.{last_of}
+use Rattle.tp_ast.specs.Rows.{last_of}
 use Rattle.tp_types.specs.Tables.{found}
 use Rattle.tp_types.proofs.parents.parents_by_rows.Given as goal
 

@@ -157,10 +157,10 @@ written_out-returns-in_ok-either-in-Imply t c =
     both_lowered named_condition named_condition named_condition of_condition of_condition of_condition either either_mentions _ _ _ (imply_of u env c.args.cond.now c.in-Imply.a c.in-Imply.b c.deref-in-Imply.result.now c.deref-in-Imply-2.result.now c.in-Imply.is c.deref-in-Imply.ensures c.deref-in-Imply-2.ensures) _ _ _ _ _ _ c.in_ok-either-in-Imply.ensures c.in_ok-first-in-Imply.ensures c.in_ok-second-in-Imply.ensures
 
 pub written_out-returns-in-Forall : goal.written_out-returns-in-Forall
-written_out-returns-in-Forall t c = written_as named_condition of_condition _ _ _ _ _ (forall_of (universe_view c.args.universe.now) (env_view c.args.env.now) c.args.cond.now c.in-Forall.variables c.in-Forall.inner c.deref-in-Forall.result.now c.deref-in-Forall-2.result.now c.in-Forall.is c.deref-in-Forall.ensures.value c.deref-in-Forall-2.ensures) c.for_all.ensures
+written_out-returns-in-Forall t c = written_as named_condition of_condition _ _ _ _ _ (forall_of (universe_view c.args.universe.now) (env_view c.args.env.now) c.args.cond.now c.in-Forall.variables c.in-Forall.inner c.in-Forall.variables.items c.deref-in-Forall.result.now c.in-Forall.is refl c.deref-in-Forall.ensures) c.for_all.ensures
 
 pub written_out-returns-in-Exists : goal.written_out-returns-in-Exists
-written_out-returns-in-Exists t c = written_as named_condition of_condition _ _ _ _ _ (exists_of (universe_view c.args.universe.now) (env_view c.args.env.now) c.args.cond.now c.in-Exists.variables c.in-Exists.inner c.deref-in-Exists.result.now c.deref-in-Exists-2.result.now c.in-Exists.is c.deref-in-Exists.ensures.value c.deref-in-Exists-2.ensures) c.for_some.ensures
+written_out-returns-in-Exists t c = written_as named_condition of_condition _ _ _ _ _ (exists_of (universe_view c.args.universe.now) (env_view c.args.env.now) c.args.cond.now c.in-Exists.variables c.in-Exists.inner c.in-Exists.variables.items c.deref-in-Exists.result.now c.in-Exists.is refl c.deref-in-Exists.ensures) c.for_some.ensures
 
 pub written_out-returns-in-Same : goal.written_out-returns-in-Same
 written_out-returns-in-Same t c = as_written of_condition _ _ (same_of (universe_view c.args.universe.now) (env_view c.args.env.now) c.args.cond.now c.in-Same.a c.in-Same.b c.in-Same.is) (same_lowered _ _ (env_view c.args.env.now) (term_view c.in-Same.a) (term_view c.in-Same.b) c.same.ensures)

@@ -1,7 +1,7 @@
 //! Rows of items that are alike: a mark on an item says that it is as the one before it.
 
 ghost use Rattle.std.specs.Prelude.{◌≡◌};
-ghost use Rattle.tp_types.specs.Rows.{is_marked};
+ghost use Rattle.tp_ast.specs.Rows.{is_marked};
 
 /// Whether the item at a place is marked. Where there are no more marks, it isn't.
 pub fn is_marked(marks: &[bool], place: usize) -> bool
