@@ -386,9 +386,14 @@ def worst_reads(program):
     judged(program, "the same, of one below the last of them", of_any(kinds, "?v", "(p d) " * 80_000), problem, "")
     arguments = f"(p {'c ' * 50_000})"
     judged(program, "an atom of 50,000 arguments over that list", of_any(kinds, each("?v#", 50_000), arguments), problem, "")
-    many = each("?v#", 10_000)
-    action = f"(:action a :parameters ({many} - {either(10_000)}) :precondition () :effect ())"
-    judged(program, "an action of 10,000 parameters of 10,000 types", f"(define (domain d) (:types {each('t#', 10_000)}) (:constants c - t9999) {action})", problem, "")
+    kinds = short_names(36_000)
+    variables = " ".join(f"?{name}" for name in short_names(60_000))
+    listed = f"{variables} - (either {' '.join(kinds)})"
+    declared = f"(:types {' '.join(kinds)}) (:constants c - {kinds[-1]}) (:predicates (p))"
+    action = f"(:action a :parameters ({listed}) :precondition () :effect ())"
+    judged(program, "an action of 60,000 parameters of 36,000 types", f"(define (domain d) {declared} {action})", problem, "")
+    action = f"(:action a :parameters () :precondition (forall ({listed}) (p)) :effect ())"
+    judged(program, "the same variables of a forall", f"(define (domain d) {declared} {action})", problem, "")
     names = " ".join(colliding(20_000))
     judged(program, "20,000 constants whose names collide", f"(define (domain d) (:constants {names}))", problem, "")
     judged(program, "20,000 types whose names collide", f"(define (domain d) (:types {names}))", problem, "")
