@@ -394,6 +394,10 @@ def worst_reads(program):
     judged(program, "an action of 60,000 parameters of 36,000 types", f"(define (domain d) {declared} {action})", problem, "")
     action = f"(:action a :parameters () :precondition (forall ({listed}) (p)) :effect ())"
     judged(program, "the same variables of a forall", f"(define (domain d) {declared} {action})", problem, "")
+    listed = " ".join(short_names(10_000))
+    action = f"(:action a :parameters (?a ?b - the-other) :precondition (exists (?x - (either {listed})) (p)) :effect ())"
+    declared = f"(:types {listed} the-other - object) (:constants c - a {each('o#', 250)} - the-other) (:predicates (p))"
+    judged(program, "an exists over 10,000 types under 62,500 actions", f"(define (domain d) {declared} {action})", problem, "")
     names = " ".join(colliding(20_000))
     judged(program, "20,000 constants whose names collide", f"(define (domain d) (:constants {names}))", problem, "")
     judged(program, "20,000 types whose names collide", f"(define (domain d) (:types {names}))", problem, "")
