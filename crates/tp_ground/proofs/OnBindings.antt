@@ -1,5 +1,5 @@
 -- Bindings, and how many there are.
-use Rattle.std.proofs.Common.{◌≡◌, ℕ, zero, suc, ◌+◌, ◌*◌, ◌<◌, Bool, true, false, List, [], ◌∷◌, map, length, get_or, take, drop, refl, sym, ap, subst, ◌∙◌, arith, length-append, true≢false, Option, Some, None}
+use Rattle.std.proofs.Common.{◌≡◌, ℕ, zero, suc, ◌+◌, ◌*◌, ◌<◌, Bool, true, false, List, [], ◌∷◌, map, length, get_or, take, drop, refl, sym, ap, subst, ◌∙◌, arith, length-append, true≢false, Option, Some, None, IfSome}
 use Rattle.std.proofs.Math.Nat.{mul_comm, mul_assoc}
 use Rattle.std.specs.List.{flat_map}
 use Rattle.std.proofs.lemmas.List.{length-map, at_drop_more}
@@ -98,3 +98,14 @@ marked_count u ms variables k x rows mark lt item = ap (λ (ts : List Name). len
 pub over_if : (most n : ℕ) (count : Option ℕ) → is_some count ≡ false → IsCount most n count → most < n
 over_if most n None none counted = counted
 over_if most n (Some k) none counted = absurd (true≢false none)
+
+-- what a mark says of a variable, given what is known of the one before it
+module _ (u : Universe) (ms : List Bool) (all variables : List Typed) (k : ℕ) (x : Typed) (m : Bool) (same : variables ≡ all) (rows : ShareTypes ms all) (is : m ≡ is_marked ms k) (lt : k < length variables) (item : x ≡ get_or variables k x) where
+  same_count : m ≡ true → last_count u (take k variables) ≡ length (choices u (typed_view x))
+  same_count mark = marked_count u ms variables k x (subst (ShareTypes ms) (sym same) rows) (sym is ∙ mark) lt item
+
+  pub some_if_marked : (0 < k → 0 < last_count u (take k variables)) → 0 < k → m ≡ true → 0 < length (choices u (typed_view x))
+  some_if_marked last some mark = subst (λ n. 0 < n) (same_count mark) (last some)
+
+  pub count_if_marked : (before : Option ℕ) → IfSome before (λ n. n ≡ last_count u (take k variables)) → m ≡ true → IfSome before (λ n. n ≡ length (choices u (typed_view x)))
+  count_if_marked before last mark = subst (λ (c : ℕ). IfSome before (λ n. n ≡ c)) (same_count mark) last

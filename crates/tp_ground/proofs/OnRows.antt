@@ -3,7 +3,7 @@ use Rattle.std.proofs.Common.{◌≡◌, ℕ, zero, suc, ◌+◌, ◌*◌, ◌/�
 use Rattle.std.proofs.Math.Nat.{mul-div_cancel_left, div-lt_iff_lt-mul, mod-lt}
 use Rattle.std.proofs.lemmas.Nat.{div-add-mod'}
 use Rattle.std.specs.List.{flat_map}
-use Rattle.std.proofs.lemmas.List.{map-append, length-map, take_all, drop_all, get_or_append_left, get_or-append-add, get_or-map, at_drop_more}
+use Rattle.std.proofs.lemmas.List.{map-append, length-map, take_more, take_all, drop_all, get_or_append_left, get_or-append-add, get_or-map, at_drop_more}
 use Rattle.tp_ast.specs.Rows.{last_of}
 use Rattle.tp_ast.specs.Shared.{types_in}
 use Rattle.tp_ast.specs.Symbols.{Name, Declared, typed_view}
@@ -164,3 +164,15 @@ ends_at (w ∷ []) ns v zero ends long at = ap names_of at ∙ ends
 ends_at (w ∷ []) ns v (suc k) ends long at = absurd (omega (arith, long))
 ends_at (w ∷ (y ∷ vs)) ns v zero ends long at = absurd (omega (arith, long))
 ends_at (w ∷ (y ∷ vs)) ns v (suc k) ends long at = ends_at (y ∷ vs) ns v k ends (omega (arith, long)) at
+
+-- one more list
+pub lists_more : (u : Universe) (old new : List (Vec (Bor (List ℕ)) Global)) (v : Vec (Bor (List ℕ)) Global) (xs : List Typed) (k : ℕ) (x : Typed) → new ≡ old ++ v ∷ [] → names_of v ≡ choices u (typed_view x) → lists_of old ≡ map (choices u) (map typed_view (take k xs)) → k < length xs → x ≡ get_or xs k x → lists_of new ≡ map (choices u) (map typed_view (take (k + 1) xs))
+lists_more u old new v xs k x grown is made lt item =
+    ap lists_of grown
+    ∙ map-append names_of old (v ∷ [])
+    ∙ ap (λ (ls : List Row). ls ++ names_of v ∷ []) made
+    ∙ ap (λ (ns : Row). map (choices u) (map typed_view (take k xs)) ++ ns ∷ []) (is ∙ ap (λ (y : Typed). choices u (typed_view y)) item)
+    ∙ sym (
+    ap (λ (ys : List Typed). map (choices u) (map typed_view ys)) (take_more xs k x lt)
+    ∙ ap (map (choices u)) (map-append typed_view (take k xs) (get_or xs k x ∷ []))
+    ∙ map-append (choices u) (map typed_view (take k xs)) (typed_view (get_or xs k x) ∷ []))

@@ -62,10 +62,9 @@ fn choices_in_row<'a>(
     lists: &[Vec<&'a str>],
     variable: &Typed,
 ) -> Result<Vec<&'a str>, AllocError>
-    requires { mark ≡ true → EndsWith (lists_of lists.now)
-        (choices (universe_view universe.now) (typed_view variable.now)) }
-    ensures { IfOk result (λ v.
-        map (λ o. o.now) v.items ≡ choices (universe_view universe.now) (typed_view variable.now)) }
+    ensures { let ns = choices (universe_view universe.now) (typed_view variable.now) in
+        (mark ≡ true → EndsWith (lists_of lists.now) ns)
+        → IfOk result (λ v. map (λ o. o.now) v.items ≡ ns) }
 {
     match lists {
         [.., last] if mark => copied(alloc, last),

@@ -206,10 +206,8 @@ fn has_choice(universe: &Universe, variable: &Typed) -> bool
 
 // Whether there is an object that the variable at a place may stand for: if it is marked, there is one for that before it.
 fn has_in_row(universe: &Universe, place: usize, mark: bool, variable: &Typed) -> bool
-    requires { 0 < place → mark ≡ true
-        → 0 < length (choices (universe_view universe.now) (typed_view variable.now)) }
-    ensures { IsTrue result
-        ↔ (0 < length (choices (universe_view universe.now) (typed_view variable.now))) }
+    ensures { let n = length (choices (universe_view universe.now) (typed_view variable.now)) in
+        (0 < place → mark ≡ true → 0 < n) → (IsTrue result ↔ (0 < n)) }
 {
     if place > 0 && mark {
         return true;
@@ -237,9 +235,8 @@ pub fn have_choices(universe: &Universe, variables: &TypedList) -> bool
 
 // How many objects a variable may stand for: as many as the one before it, if it is marked.
 fn count_in_row(universe: &Universe, mark: bool, before: Option<usize>, variable: &Typed) -> usize
-    requires { mark ≡ true → IfSome before (λ n.
-        n ≡ length (choices (universe_view universe.now) (typed_view variable.now))) }
-    ensures { result ≡ length (choices (universe_view universe.now) (typed_view variable.now)) }
+    ensures { let n = length (choices (universe_view universe.now) (typed_view variable.now)) in
+        (mark ≡ true → IfSome before (λ m. m ≡ n)) → result ≡ n }
 {
     match before {
         Some(count) if mark => count,
@@ -249,8 +246,8 @@ fn count_in_row(universe: &Universe, mark: bool, before: Option<usize>, variable
 
 /// How many bindings variables have, if there are no more than so many.
 pub fn count_bindings(universe: &Universe, variables: &TypedList, most: usize) -> Option<usize>
-    ensures { IsCount most
-        (length (bindings (universe_view universe.now) (map typed_view variables.now.items))) result }
+    ensures { IsCount most (length
+        (bindings (universe_view universe.now) (map typed_view variables.now.items))) result }
 {
     // Variables that have no bindings may have many objects that were never looked for.
     if !have_choices(universe, variables) {
@@ -276,10 +273,8 @@ fn note_in_row<'a>(
     before: Option<usize>,
     variable: &'a Typed,
 ) -> Result<usize, AllocError>
-    requires { mark ≡ true → IfSome before (λ n.
-        n ≡ length (choices (universe_view universe.old) (typed_view variable.now))) }
-    ensures count { IfOk result (λ n.
-        n ≡ length (choices (universe_view universe.old) (typed_view variable.now))) }
+    ensures count { let n = length (choices (universe_view universe.old) (typed_view variable.now))
+        in (mark ≡ true → IfSome before (λ m. m ≡ n)) → IfOk result (λ m. m ≡ n) }
     ensures universe { universe_view universe.new ≡ universe_view universe.old }
 {
     match before {

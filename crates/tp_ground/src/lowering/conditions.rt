@@ -224,10 +224,12 @@ fn for_all<'a>(
     requires { universe_view universe.now ≡ writer.old.universe }
     ensures { Lowers named_condition writer.old result writer.new (all_of (conditions_from
         (map (λ e. condition_in (universe_view universe.now) e (cond_view cond.now))
-        (inner (universe_view universe.now) (env_view env.now) (map typed_view variables.now.items)))))
+        (inner (universe_view universe.now) (env_view env.now)
+        (map typed_view variables.now.items)))))
         (of_condition (all_of (conditions_from
         (map (λ e. condition_in (universe_view universe.now) e (cond_view cond.now))
-        (inner (universe_view universe.now) (env_view env.now) (map typed_view variables.now.items)))))) }
+        (inner (universe_view universe.now) (env_view env.now)
+        (map typed_view variables.now.items)))))) }
 {
     let named = Variables::new(alloc, variables)?;
     Ok(Cond::And(under_each(alloc, universe, env, writer, &named, cond)?))
@@ -245,10 +247,12 @@ fn for_some<'a>(
     requires { universe_view universe.now ≡ writer.old.universe }
     ensures { Lowers named_condition writer.old result writer.new (any_of (conditions_from
         (map (λ e. condition_in (universe_view universe.now) e (cond_view cond.now))
-        (inner (universe_view universe.now) (env_view env.now) (map typed_view variables.now.items)))))
+        (inner (universe_view universe.now) (env_view env.now)
+        (map typed_view variables.now.items)))))
         (of_condition (any_of (conditions_from
         (map (λ e. condition_in (universe_view universe.now) e (cond_view cond.now))
-        (inner (universe_view universe.now) (env_view env.now) (map typed_view variables.now.items)))))) }
+        (inner (universe_view universe.now) (env_view env.now)
+        (map typed_view variables.now.items)))))) }
 {
     let named = Variables::new(alloc, variables)?;
     Ok(Cond::Or(under_each(alloc, universe, env, writer, &named, cond)?))

@@ -7,6 +7,6 @@ weaker f (Ok x) h = f x h
 weaker f (Err e) h = h
 
 pub returns-in-len1-up : goal.returns-in-len1-up
-returns-in-len1-up c =
+returns-in-len1-up c = λ given.
     weaker (λ v is. is ∙ ap (map (λ (o : Bor (List ℕ)). o.now)) c.deref.ensures.value
-    ∙ ends_at c.args.lists.now _ c.last-item.result (length c.args.lists.now - 1) (c.requires c.if-mark.true) (omega (arith, c.in-len1-up.len_at_least)) c.last-item.is) c.copied.result c.copied.ensures
+    ∙ ends_at c.args.lists.now _ c.last-item.result (length c.args.lists.now - 1) (given c.if-mark.true) (omega (arith, c.in-len1-up.len_at_least)) c.last-item.is) c.copied.result c.copied.ensures

@@ -1,20 +1,10 @@
-use Rattle.std.proofs.Common.{◌≡◌, ℕ, ◌*◌, ◌<◌, IfSome, List, length, map, not, sym, ap, subst, ◌∙◌}
+use Rattle.std.proofs.Common.{◌≡◌, ◌*◌, ◌<◌, IfSome, List, length, map, not, true, sym, ap, subst, ◌∙◌}
 use Rattle.tp_ast.specs.Symbols.{typed_view}
-use Rattle.tp_ast.specs.Shared.{ShareTypes}
 use Rattle.tp_ast.specs.declared.symbols.Typed.{Typed}
 use Rattle.tp_ground.specs.Bindings.{Universe, choices, bindings}
 use Rattle.tp_ground.specs.Views.{universe_view}
-use Rattle.tp_ground.proofs.OnBindings.{counted_on, some_choices, last_counted, marked_count, over_still, over_if}
+use Rattle.tp_ground.proofs.OnBindings.{counted_on, some_choices, last_counted, count_if_marked, over_still, over_if}
 use Rattle.tp_ground.proofs.universe.count_and_note.Goals as goal
-
-pub note_in_row-requires : goal.note_in_row-requires
-note_in_row-requires c = λ mark.
-    let x = c.index-items-place.result in
-    subst (λ (k : ℕ). IfSome c.loop-place.before (λ n. n ≡ k))
-    (marked_count (universe_view c.args.universe.now) c.marks-marks.result.now c.as_slice-items.result.now c.loop-place.place x
-    (subst (ShareTypes c.marks-marks.result.now) (sym c.as_slice-items.ensures) c.marks-marks.ensures) (sym c.is_marked-mark.ensures ∙ mark) c.loop-place-test.true c.index-items-place.is
-    ∙ ap (λ (u : Universe). length (choices u (typed_view x))) (sym c.loop-place.invariant.universe))
-    c.loop-place.invariant.last
 
 pub times-count-requires : goal.times-count-requires
 times-count-requires c =
@@ -22,7 +12,10 @@ times-count-requires c =
     let x = c.index-items-place.result in
     let some : 0 < length (bindings u (map typed_view c.as_slice-items.result.now)) =
     subst (λ (vs : List Typed). 0 < length (bindings u (map typed_view vs))) (sym c.as_slice-items.ensures) (c.have_choices.ensures.some c.if-not-have_choices.false) in
-    let here = c.in_ok-choices.ensures.count ∙ ap (λ (v : Universe). length (choices v (typed_view x))) c.loop-place.invariant.universe in
+    let told = c.in_ok-choices.ensures.count
+    (subst (λ (v : Universe). c.is_marked-mark.result ≡ true → IfSome c.loop-place.before (λ n. n ≡ length (choices v (typed_view x)))) (sym c.loop-place.invariant.universe)
+    (count_if_marked u c.marks-marks.result.now c.args.variables.now.items c.as_slice-items.result.now c.loop-place.place x c.is_marked-mark.result c.as_slice-items.ensures c.marks-marks.ensures c.is_marked-mark.ensures c.loop-place-test.true c.index-items-place.is c.loop-place.before c.loop-place.invariant.last)) in
+    let here = told ∙ ap (λ (v : Universe). length (choices v (typed_view x))) c.loop-place.invariant.universe in
     subst (λ n. 0 < n) (sym here)
     (some_choices u c.as_slice-items.result.now c.loop-place.place x c.loop-place-test.true c.index-items-place.is some)
 
@@ -38,7 +31,10 @@ loop-place-preserved c =
     let u = universe_view c.args.universe.now in
     let x = c.index-items-place.result in
     let before = c.loop-place.invariant.counted in
-    let here = c.in_ok-choices.ensures.count ∙ ap (λ (v : Universe). length (choices v (typed_view x))) c.loop-place.invariant.universe in
+    let told = c.in_ok-choices.ensures.count
+    (subst (λ (v : Universe). c.is_marked-mark.result ≡ true → IfSome c.loop-place.before (λ n. n ≡ length (choices v (typed_view x)))) (sym c.loop-place.invariant.universe)
+    (count_if_marked u c.marks-marks.result.now c.args.variables.now.items c.as_slice-items.result.now c.loop-place.place x c.is_marked-mark.result c.as_slice-items.ensures c.marks-marks.ensures c.is_marked-mark.ensures c.loop-place-test.true c.index-items-place.is c.loop-place.before c.loop-place.invariant.last)) in
+    let here = told ∙ ap (λ (v : Universe). length (choices v (typed_view x))) c.loop-place.invariant.universe in
     record {
       counted = (
         c.in_ok-choices.choices * before.0,
