@@ -1,5 +1,5 @@
 -- The row at a place, name by name.
-use Rattle.std.proofs.Common.{◌≡◌, ℕ, zero, suc, ◌+◌, ◌*◌, ◌/◌, ◌%◌, ◌<◌, ◌≤◌, Bor, Vec, Global, List, [], ◌∷◌, ◌++◌, map, length, get_or, take, drop, refl, sym, ap, subst, ◌∙◌, arith, length-append, append_assoc, append-nil}
+use Rattle.std.proofs.Common.{◌≡◌, ℕ, zero, suc, ◌+◌, ◌*◌, ◌/◌, ◌%◌, ◌<◌, ◌≤◌, Bor, Vec, Global, Result, Ok, Err, IfOk, List, [], ◌∷◌, ◌++◌, map, length, get_or, take, drop, refl, sym, ap, subst, ◌∙◌, arith, length-append, append_assoc, append-nil}
 use Rattle.std.proofs.Math.Nat.{mul-div_cancel_left, div-lt_iff_lt-mul, mod-lt}
 use Rattle.std.proofs.lemmas.Nat.{div-add-mod'}
 use Rattle.std.specs.List.{flat_map}
@@ -176,3 +176,8 @@ lists_more u old new v xs k x grown is made lt item =
     ap (λ (ys : List Typed). map (choices u) (map typed_view ys)) (take_more xs k x lt)
     ∙ ap (map (choices u)) (map-append typed_view (take k xs) (get_or xs k x ∷ []))
     ∙ map-append (choices u) (map typed_view (take k xs)) (typed_view (get_or xs k x) ∷ []))
+
+-- what is known of a value, if there is one, weakened
+pub weaker : {A E : Type 0} {P Q : A → Type 0} → ((x : A) → P x → Q x) → (r : Result A E) → IfOk r P → IfOk r Q
+weaker f (Ok x) h = f x h
+weaker f (Err e) h = h

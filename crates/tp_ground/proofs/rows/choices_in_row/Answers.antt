@@ -1,10 +1,6 @@
-use Rattle.std.proofs.Common.{ℕ, ◌-◌, List, Bor, Result, Ok, Err, IfOk, map, length, ap, ◌∙◌, arith}
-use Rattle.tp_ground.proofs.OnRows.{ends_at}
+use Rattle.std.proofs.Common.{ℕ, ◌-◌, List, Bor, map, length, ap, ◌∙◌, arith}
+use Rattle.tp_ground.proofs.OnRows.{weaker, ends_at}
 use Rattle.tp_ground.proofs.rows.choices_in_row.Goals as goal
-
-weaker : {A E : Type 0} {P Q : A → Type 0} → ((x : A) → P x → Q x) → (r : Result A E) → IfOk r P → IfOk r Q
-weaker f (Ok x) h = f x h
-weaker f (Err e) h = h
 
 pub returns-in-len1-up : goal.returns-in-len1-up
 returns-in-len1-up c = λ given.

@@ -1,13 +1,9 @@
-use Rattle.std.proofs.Common.{Bor, Vec, Global, Result, Ok, Err, IfOk, map, length, sym, ap, ◌∙◌}
+use Rattle.std.proofs.Common.{Bor, Vec, Global, map, length, sym, ap, ◌∙◌}
 use Rattle.tp_ast.specs.Symbols.{Name, typed_view}
 use Rattle.tp_ground.specs.Views.{universe_view}
 use Rattle.tp_ground.specs.Rows.{product, lists_of}
-use Rattle.tp_ground.proofs.OnRows.{rows_bindings}
+use Rattle.tp_ground.proofs.OnRows.{weaker, rows_bindings}
 use Rattle.tp_ground.proofs.rows.rows_of.Goals as goal
-
-weaker : {A E : Type 0} {P Q : A → Type 0} → ((x : A) → P x → Q x) → (r : Result A E) → IfOk r P → IfOk r Q
-weaker f (Ok x) h = f x h
-weaker f (Err e) h = h
 
 pub begun-requires-in-Some : goal.begun-requires-in-Some
 begun-requires-in-Some c =
