@@ -8,7 +8,7 @@ use Rattle.tp_ast.specs.Domains.{object, is_object, above, type_below}
 use Rattle.tp_ast.specs.declared.symbols.Typed.{Typed}
 use Rattle.tp_ast.specs.declared.types.TypeName.{TypeName}
 use Rattle.tp_ast.specs.Rows.{last_of, AreRows, is_marked}
-use Rattle.tp_types.specs.Parents.{parent_name}
+use Rattle.tp_ast.specs.Shared.{parent_in}
 use Rattle.tp_types.proofs.OnRows.{one_more, last_one, last_taken, as_before, rows_before, rows_map}
 use Rattle.tp_types.proofs.OnTables.{map_twice}
 use Rattle.tp_names.specs.declared.type_reader.TypeRows.{TypeRows}
@@ -77,7 +77,7 @@ parent_below i = (type_below (typed_view i)).parent
 pub rows_below : (ms : List Bool) (items : List Typed) → AreParentRows ms (map type_below (map typed_view items)) → AreRows ms object (map parent_below items)
 rows_below ms items rows = subst (AreRows ms object) (ap (map (λ (p : Parent). p.parent)) (map_twice type_below typed_view items) ∙ map_twice (λ (p : Parent). p.parent) (λ (i : Typed). type_below (typed_view i)) items) rows
 
-pub parent_rows : (ms : List Bool) (ts : List TypeName) → AreParentRows ms (map parent_view ts) → AreRows ms object (map parent_name ts)
+pub parent_rows : (ms : List Bool) (ts : List TypeName) → AreParentRows ms (map parent_view ts) → AreRows ms object (map parent_in ts)
 parent_rows ms ts rows = subst (AreRows ms object) (map_twice (λ (p : Parent). p.parent) parent_view ts) rows
 
 -- items with their rows give types with theirs
@@ -122,7 +122,7 @@ module _ (ts : List TypeName) (k : ℕ) (t : TypeName) (lt : k < length ts) (at 
 pub record Kept (ts : List TypeName) (k : ℕ) (r : TypeRows) (passed : Bool) : Type 0 where
   pub types : map parent_view r.types.items ≡ filter (λ p. not (is_object p)) (map parent_view (take k ts))
   pub marks : HaveParentRows r.marks.items (map parent_view r.types.items)
-  pub last : passed ≡ false → last_of object (map parent_name (take k ts)) ≡ last_of object (map (λ p. p.parent) (map parent_view r.types.items))
+  pub last : passed ≡ false → last_of object (map parent_in (take k ts)) ≡ last_of object (map (λ p. p.parent) (map parent_view r.types.items))
 
 module _ (ts : List TypeName) (k : ℕ) (t : TypeName) (lt : k < length ts) (at : t ≡ get_or ts k t) (r : TypeRows) (passed : Bool) (so_far : Kept ts k r passed) where
   pub goes_past : is_object (parent_view t) ≡ true → Kept ts (k + 1) r true
@@ -132,20 +132,20 @@ module _ (ts : List TypeName) (k : ℕ) (t : TypeName) (lt : k < length ts) (at 
     last = λ e. absurd (true≢false e);
   }
 
-  pub keeps : (ms : List Bool) (s : TypeRows) (m : Bool) → AreRows ms object (map parent_name ts) → is_object (parent_view t) ≡ false → (m ≡ true → (is_marked ms k ≡ true) × (passed ≡ false)) → map parent_view s.types.items ≡ map parent_view r.types.items ++ parent_view t ∷ [] → s.marks.items ≡ r.marks.items ++ m ∷ [] → Kept ts (k + 1) s false
+  pub keeps : (ms : List Bool) (s : TypeRows) (m : Bool) → AreRows ms object (map parent_in ts) → is_object (parent_view t) ≡ false → (m ≡ true → (is_marked ms k ≡ true) × (passed ≡ false)) → map parent_view s.types.items ≡ map parent_view r.types.items ++ parent_view t ∷ [] → s.marks.items ≡ r.marks.items ++ m ∷ [] → Kept ts (k + 1) s false
   keeps ms s m rows other mark grown marked =
       let up : Parent → Name = λ p. p.parent in
       let before = map parent_view r.types.items in
-      let parents : map up (map parent_view s.types.items) ≡ map up before ++ parent_name t ∷ [] = ap (map up) grown ∙ map-append up before (parent_view t ∷ []) in
-      let same : m ≡ true → last_of object (map up before) ≡ parent_name t =
-      λ is. sym (so_far.last (mark is).1) ∙ as_before parent_name ms object ts k t rows (mark is).0 lt at in
+      let parents : map up (map parent_view s.types.items) ≡ map up before ++ parent_in t ∷ [] = ap (map up) grown ∙ map-append up before (parent_view t ∷ []) in
+      let same : m ≡ true → last_of object (map up before) ≡ parent_in t =
+      λ is. sym (so_far.last (mark is).1) ∙ as_before parent_in ms object ts k t rows (mark is).0 lt at in
       record {
         types = grown ∙ ap (λ (ps : List Parent). ps ++ parent_view t ∷ []) so_far.types ∙ sym (type_kept ts k t lt at other);
         marks = (
           as_many r.marks.items s.marks.items before (map parent_view s.types.items) m (parent_view t) marked grown so_far.marks.0,
-          one_more_row r.marks.items s.marks.items object (map up before) (map up (map parent_view s.types.items)) m (parent_name t) marked parents (so_far.marks.0 ∙ sym (length-map before up)) so_far.marks.1 same,
+          one_more_row r.marks.items s.marks.items object (map up before) (map up (map parent_view s.types.items)) m (parent_in t) marked parents (so_far.marks.0 ∙ sym (length-map before up)) so_far.marks.1 same,
         );
-        last = λ e. last_taken parent_name object ts k t lt at ∙ sym (last_is r.marks.items s.marks.items object (map up before) (map up (map parent_view s.types.items)) m (parent_name t) marked parents);
+        last = λ e. last_taken parent_in object ts k t lt at ∙ sym (last_is r.marks.items s.marks.items object (map up before) (map up (map parent_view s.types.items)) m (parent_in t) marked parents);
       }
 
 pub kept_same : (ts : List TypeName) (k : ℕ) (r s : TypeRows) (a b : Bool) → r ≡ s → a ≡ b → Kept ts k s b → Kept ts k r a

@@ -10,7 +10,8 @@ use Rattle.tp_ast.specs.Symbols.{Name, Parent, parent_view, parent_of, at_or_bel
 use Rattle.tp_ast.specs.declared.types.TypeName.{TypeName}
 use Rattle.tp_types.specs.Cycles.{type_name, rank_of, is_ranked}
 use Rattle.tp_types.specs.Jumps.{jump_from, IsAbove, IsPlaceAbove}
-use Rattle.tp_types.specs.Parents.{parent_name, parent_at}
+use Rattle.tp_ast.specs.Shared.{parent_in}
+use Rattle.tp_types.specs.Parents.{parent_at}
 use Rattle.tp_types.specs.Tables.{place_of}
 use Rattle.tp_types.proofs.OnTypeTables.{IsTypeTable}
 use Rattle.tp_types.specs.declared.type_tables.TypeTable.{TypeTable}
@@ -52,9 +53,9 @@ module _ (ts : List TypeName) (table : TypeTable) (is : IsTypeTable ts table) wh
     by_type : (t : Name) → place_of t ns ≡ Some k → (o : Option TypeName) → slice_get ts k ≡ o → (q : Name) × (place_of q ns ≡ Some j) × IsAbove ts ranks t q
     by_type t there None at = absurd (let e : None ≡ Some j = sym (no_parent_at table.places ts table.parents.items is.places is.parents k at) ∙ above in cc)
     by_type t there (Some d) at = (
-      parent_name d,
+      parent_in d,
       parent_place table.places ts table.parents.items is.places is.parents k d at ∙ above,
-      parent_above ts ranks is.ranked t (parent_name d) (at_the_place ts t k (Some d) there at),
+      parent_above ts ranks is.ranked t (parent_in d) (at_the_place ts t k (Some d) there at),
     )
 
   pub parent_up_if : (k : ℕ) (o : Option ℕ) → parent_at table.parents.items k ≡ o → IfSome o (IsPlaceAbove ts ranks k)

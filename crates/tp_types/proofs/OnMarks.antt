@@ -14,7 +14,8 @@ use Rattle.tp_ast.specs.declared.types.TypeName.{TypeName}
 use Rattle.tp_types.specs.Cycles.{type_name}
 use Rattle.tp_types.specs.Marks.{has_mark, fits, passes, name_at, fits_at, is_one_at, is_below_other, past_shared, AreMarks, AreOthers}
 use Rattle.tp_types.specs.NameSets.{insert_key}
-use Rattle.tp_types.specs.Parents.{parent_name, parent_at}
+use Rattle.tp_ast.specs.Shared.{parent_in}
+use Rattle.tp_types.specs.Parents.{parent_at}
 use Rattle.tp_ast.specs.Rows.{is_marked}
 use Rattle.tp_types.specs.Tables.{place_of}
 use Rattle.tp_types.proofs.OnTypeTables.{IsTypeTable}
@@ -272,14 +273,14 @@ module _ (ts : List TypeName) where
       not_one = false_unless (is_one_at ts ps k) (is_marked marks k) (are.all k) unmarked
 
       -- a type that is not marked fits as the one does that it names as its parent
-      named_above : (d : TypeName) → slice_get ts k ≡ Some d → fits_at ts ps k ≡ fits ts ps (parent_name d)
+      named_above : (d : TypeName) → slice_get ts k ≡ Some d → fits_at ts ps k ≡ fits ts ps (parent_in d)
       named_above d at =
           let name : name_at ts k ≡ Some (type_name d) = ap (option_map type_name) at in
           let other : list_any (bytes_eq (type_name d)) ps ≡ false = sym (ap (passes (λ n. list_any (bytes_eq n) ps)) name) ∙ not_one in
           ap (passes (fits ts ps)) name
-          ∙ one_up ps (type_name d) (parent_name d) (at_the_place ts (type_name d) k (Some d) (place_once ts k d is.once at) at) other
+          ∙ one_up ps (type_name d) (parent_in d) (at_the_place ts (type_name d) k (Some d) (place_once ts k d is.once at) at) other
 
-      abbrev noted : (d : TypeName) → slice_get ts k ≡ Some d → place_of (parent_name d) ns ≡ parent_at table.parents.items k
+      abbrev noted : (d : TypeName) → slice_get ts k ≡ Some d → place_of (parent_in d) ns ≡ parent_at table.parents.items k
       noted = parent_place table.places ts table.parents.items is.places is.parents k
 
       -- as the one that stands where the parent does
@@ -289,18 +290,18 @@ module _ (ts : List TypeName) where
         by_type None at =
             let none : parent_at table.parents.items k ≡ None = no_parent_at table.places ts table.parents.items is.places is.parents k at in
             absurd (let e : None ≡ Some j = sym none ∙ above in cc)
-        by_type (Some d) at = named_above d at ∙ sym (fits_there ps (parent_name d) j (noted d at ∙ above))
+        by_type (Some d) at = named_above d at ∙ sym (fits_there ps (parent_in d) j (noted d at ∙ above))
 
       -- or, where no parent is declared, if the parent is one of the others
       pub fits_below_other : (ks : List (Bor (List ℕ))) → AreOthers ts ps ks → parent_at table.parents.items k ≡ None → is_below_other ts ks k ≡ fits_at ts ps k
       fits_below_other ks others above = by_type (slice_get ts k) refl where
         by_type : (o : Option TypeName) → slice_get ts k ≡ o → is_below_other ts ks k ≡ fits_at ts ps k
         by_type None at =
-            ap (λ (o : Option TypeName). passes (has_mark ks) (option_map parent_name o)) at
+            ap (λ (o : Option TypeName). passes (has_mark ks) (option_map parent_in o)) at
             ∙ sym (ap (λ (o : Option TypeName). passes (fits ts ps) (option_map type_name o)) at)
         by_type (Some d) at =
-            ap (λ (o : Option TypeName). passes (has_mark ks) (option_map parent_name o)) at
-            ∙ other_fits ps ks (parent_name d) others (noted d at ∙ above)
+            ap (λ (o : Option TypeName). passes (has_mark ks) (option_map parent_in o)) at
+            ∙ other_fits ps ks (parent_in d) others (noted d at ∙ above)
             ∙ sym (named_above d at)
 
 -- ---- before any type is marked

@@ -12,7 +12,8 @@ use Rattle.tp_ast.specs.Domains.{object}
 use Rattle.tp_ast.specs.TypedLists.{has_twice}
 use Rattle.tp_types.specs.Tables.{Name, Table, place_of, found, IsTable}
 use Rattle.tp_types.specs.Cycles.{type_name}
-use Rattle.tp_types.specs.Parents.{parent_name, AreParents, ArePlaced, parent_at}
+use Rattle.tp_ast.specs.Shared.{parent_in}
+use Rattle.tp_types.specs.Parents.{AreParents, ArePlaced, parent_at}
 use Rattle.tp_types.specs.Jumps.{jump_of, jump_from, is_name, leads_up, is_jump}
 use Rattle.tp_ast.specs.declared.types.TypeName.{TypeName}
 use Rattle.tp_types.proofs.OnCycles.{at_the_place, no_place}
@@ -21,20 +22,20 @@ use Rattle.tp_types.proofs.OnGuesses.{none_there, or_first, or_second}
 -- ---- what is noted of parents
 
 -- what is noted of the parent of a type at a place
-pub noted_at : (table : Table) (ts : List TypeName) (parents : List (Option ℕ)) (k : ℕ) (o : Option TypeName) → AreParents table ts parents → slice_get ts k ≡ o → slice_get parents k ≡ option_map (λ (t : TypeName). found table (parent_name t)) o
+pub noted_at : (table : Table) (ts : List TypeName) (parents : List (Option ℕ)) (k : ℕ) (o : Option TypeName) → AreParents table ts parents → slice_get ts k ≡ o → slice_get parents k ≡ option_map (λ (t : TypeName). found table (parent_in t)) o
 noted_at table ts parents k o are at =
     ap (λ (ps : List (Option ℕ)). slice_get ps k) are
-    ∙ slice_get-map (λ (t : TypeName). found table (parent_name t)) ts k
-    ∙ ap (option_map (λ (t : TypeName). found table (parent_name t))) at
+    ∙ slice_get-map (λ (t : TypeName). found table (parent_in t)) ts k
+    ∙ ap (option_map (λ (t : TypeName). found table (parent_in t))) at
 
 module _ (table : Table) (ts : List TypeName) (parents : List (Option ℕ)) (is_table : IsTable table (map type_name ts)) where
-  by_names : map (λ (t : TypeName). found table (parent_name t)) ts ≡ map (λ (t : TypeName). place_of (parent_name t) (map type_name ts)) ts
-  by_names = λ i. map (λ (t : TypeName). is_table (parent_name t) i) ts
+  by_names : map (λ (t : TypeName). found table (parent_in t)) ts ≡ map (λ (t : TypeName). place_of (parent_in t) (map type_name ts)) ts
+  by_names = λ i. map (λ (t : TypeName). is_table (parent_in t) i) ts
 
   -- where the parent of the type at a place stands
   module _ (are : AreParents table ts parents) (k : ℕ) where
-    pub parent_place : (d : TypeName) → slice_get ts k ≡ Some d → place_of (parent_name d) (map type_name ts) ≡ parent_at parents k
-    parent_place d at = sym (is_table (parent_name d)) ∙ sym (ap (λ (p : Option (Option ℕ)). p >>= λ i. i) (noted_at table ts parents k (Some d) are at))
+    pub parent_place : (d : TypeName) → slice_get ts k ≡ Some d → place_of (parent_in d) (map type_name ts) ≡ parent_at parents k
+    parent_place d at = sym (is_table (parent_in d)) ∙ sym (ap (λ (p : Option (Option ℕ)). p >>= λ i. i) (noted_at table ts parents k (Some d) are at))
 
     pub no_parent_at : slice_get ts k ≡ None → parent_at parents k ≡ None
     no_parent_at at = ap (λ (p : Option (Option ℕ)). p >>= λ i. i) (noted_at table ts parents k None are at)
@@ -50,7 +51,7 @@ module _ {A : Type 0} (whole : A) (kept : List A) (ts : List TypeName) where
   abbrev pub kept_of : Name → Option A
   kept_of q = cond (bytes_eq q object) (Some whole) (place_of q (map type_name ts) >>= slice_get kept)
 
-  pub above_at_place : (t : Name) (k : ℕ) (o : Option TypeName) → place_of t (map type_name ts) ≡ Some k → slice_get ts k ≡ o → (parent_of t (map parent_view ts) >>= kept_of) ≡ (option_map parent_name o >>= kept_of)
+  pub above_at_place : (t : Name) (k : ℕ) (o : Option TypeName) → place_of t (map type_name ts) ≡ Some k → slice_get ts k ≡ o → (parent_of t (map parent_view ts) >>= kept_of) ≡ (option_map parent_in o >>= kept_of)
   above_at_place t k o is at = ap (λ (p : Option Name). p >>= kept_of) (at_the_place ts t k o is at)
 
   kept_at : (q : Name) (o : Option ℕ) → bytes_eq q object ≡ false → place_of q (map type_name ts) ≡ o → kept_of q ≡ (o >>= slice_get kept)
@@ -63,9 +64,9 @@ module _ {A : Type 0} (whole : A) (kept : List A) (ts : List TypeName) where
   none_above t none = ap (λ (p : Option Name). p >>= kept_of) (no_place ts t none)
 
   -- of a parent that is not `object`
-  pub above_by_place : (table : Table) (parents : List (Option ℕ)) (t : Name) (k : ℕ) (d : TypeName) (up : Option ℕ) → IsTable table (map type_name ts) → AreParents table ts parents → found table t ≡ Some k → slice_get ts k ≡ Some d → bytes_eq (parent_name d) object ≡ false → parent_at parents k ≡ up → (parent_of t (map parent_view ts) >>= kept_of) ≡ (up >>= slice_get kept)
+  pub above_by_place : (table : Table) (parents : List (Option ℕ)) (t : Name) (k : ℕ) (d : TypeName) (up : Option ℕ) → IsTable table (map type_name ts) → AreParents table ts parents → found table t ≡ Some k → slice_get ts k ≡ Some d → bytes_eq (parent_in d) object ≡ false → parent_at parents k ≡ up → (parent_of t (map parent_view ts) >>= kept_of) ≡ (up >>= slice_get kept)
   above_by_place table parents t k d up is_table are is at apart above =
-      let q = parent_name d in
+      let q = parent_in d in
       above_at_place t k (Some d) (sym (is_table t) ∙ is) at
       ∙ kept_at q (place_of q (map type_name ts)) apart refl
       ∙ ap (λ (p : Option ℕ). p >>= slice_get kept) (sym (is_table q) ∙ sym (ap (λ (p : Option (Option ℕ)). p >>= λ i. i) (noted_at table ts parents k (Some d) are at)) ∙ above)
@@ -239,7 +240,7 @@ module _ (ts : List TypeName) (jumps : List ℕ) where
           ap (λ (q : Option Name). q >>= place) (at_the_place ts t k None is at) ∙ ap (λ (p : Option (Option ℕ)). p >>= λ i. i) (sym (noted_at table ts parents k None are at))
       above_at t k (Some d) is at =
           ap (λ (q : Option Name). q >>= place) (at_the_place ts t k (Some d) is at)
-          ∙ sym (is_table (parent_name d))
+          ∙ sym (is_table (parent_in d))
           ∙ ap (λ (p : Option (Option ℕ)). p >>= λ i. i) (sym (noted_at table ts parents k (Some d) are at))
 
       -- whether a type's jump leads up, by what is noted at its place

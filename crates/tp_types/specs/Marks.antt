@@ -6,7 +6,7 @@ use Rattle.std.specs.Str.{bytes_eq}
 use Rattle.tp_ast.specs.Symbols.{parent_view, at_or_below}
 use Rattle.tp_types.specs.Tables.{Name, place_of}
 use Rattle.tp_types.specs.Cycles.{type_name}
-use Rattle.tp_types.specs.Parents.{parent_name}
+use Rattle.tp_ast.specs.Shared.{parent_in}
 use Rattle.tp_ast.specs.Rows.{is_marked}
 use Rattle.tp_ast.specs.declared.types.TypeName.{TypeName}
 
@@ -36,7 +36,7 @@ is_one_at ts ps k = passes (λ n. list_any (bytes_eq n) ps) (name_at ts k)
 
 -- the parent that the type at a place names is one of the names
 abbrev pub is_below_other : List TypeName → List (Bor (List ℕ)) → ℕ → Bool
-is_below_other ts ks k = passes (has_mark ks) (option_map parent_name (slice_get ts k))
+is_below_other ts ks k = passes (has_mark ks) (option_map parent_in (slice_get ts k))
 
 -- a mark for each place: what is marked fits, and each of the types is marked if it is declared
 pub record AreMarks (ts : List TypeName) (ps : List Name) (marks : List Bool) : Type 0 where

@@ -1,9 +1,8 @@
 //! Where the parents of types stand: each is looked up by its name once, so that all further steps go from place to place.
 
-ghost use Rattle.std.specs.Prelude.{◌≡◌, map, true, IfOk};
-ghost use Rattle.tp_ast.specs.Domains.{object};
-ghost use Rattle.tp_types.specs.Parents.{AreParents, parent_at, parent_name};
-ghost use Rattle.tp_ast.specs.Rows.{AreRows};
+ghost use Rattle.std.specs.Prelude.{◌≡◌, true, IfOk};
+ghost use Rattle.tp_ast.specs.Shared.{parent_in, ShareParents};
+ghost use Rattle.tp_types.specs.Parents.{AreParents, parent_at};
 ghost use Rattle.tp_types.specs.Tables.{found};
 
 use std::alloc::{AllocError, Global};
@@ -18,8 +17,8 @@ fn place_in_row(
     place: Option<usize>,
     declared: &TypeName,
 ) -> Option<usize>
-    requires { mark ≡ true → place ≡ found places.now (parent_name declared.now) }
-    ensures { result ≡ found places.now (parent_name declared.now) }
+    requires { mark ≡ true → place ≡ found places.now (parent_in declared.now) }
+    ensures { result ≡ found places.now (parent_in declared.now) }
 {
     if mark {
         return place;
@@ -35,7 +34,7 @@ pub fn parents_by_rows<'a>(
     places: &BTreeMap<&str, usize>,
     marks: &[bool],
 ) -> Result<Vec<Option<usize>>, AllocError>
-    requires { AreRows marks.now object (map parent_name types.now) }
+    requires { ShareParents marks.now types.now }
     ensures { IfOk result (λ v. AreParents places.now types.now v.items) }
 {
     let mut parents = Vec::new(alloc);

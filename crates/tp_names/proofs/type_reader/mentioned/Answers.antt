@@ -3,7 +3,7 @@ use Rattle.std.proofs.lemmas.List.{at_drop_more}
 use Rattle.tp_ast.specs.Symbols.{parent_view}
 use Rattle.tp_ast.specs.Domains.{object, mentioned}
 use Rattle.tp_types.specs.Marks.{has_mark}
-use Rattle.tp_types.specs.Parents.{parent_name}
+use Rattle.tp_ast.specs.Shared.{parent_in}
 use Rattle.tp_types.proofs.OnRows.{as_before, last_taken}
 use Rattle.tp_names.specs.SignatureViews.{names_in, to_mention}
 use Rattle.tp_ast.specs.declared.types.TypeName.{TypeName}
@@ -23,7 +23,7 @@ pub mention-requires : goal.mention-requires
 mention-requires c = λ mark.
     ap (λ (n : List ℕ). has_mark c.loop-place.known n) (
     c.as_str.ensures.value ∙ ap (λ (s : String Global). string_bytes s) c.deref.ensures
-    ∙ sym (as_before parent_name c.args.marks.now object c.args.types.now c.loop-place.place c.index-types-place.result (parent_rows _ _ c.requires) (sym c.is_marked-mark.ensures ∙ mark) c.loop-place-test.true c.index-types-place.is))
+    ∙ sym (as_before parent_in c.args.marks.now object c.args.types.now c.loop-place.place c.index-types-place.result (parent_rows _ _ c.requires) (sym c.is_marked-mark.ensures ∙ mark) c.loop-place-test.true c.index-types-place.is))
     ∙ c.loop-place.invariant.known
 
 pub loop-place-preserved : goal.loop-place-preserved
@@ -37,7 +37,7 @@ loop-place-preserved c =
           ∙ c.loop-place.invariant.done;
       known =
           ap (λ (n : List ℕ). has_mark c.mention.new.known n) (
-          last_taken parent_name object c.args.types.now c.loop-place.place c.index-types-place.result c.loop-place-test.true c.index-types-place.is
+          last_taken parent_in object c.args.types.now c.loop-place.place c.index-types-place.result c.loop-place-test.true c.index-types-place.is
           ∙ sym (c.as_str.ensures.value ∙ ap (λ (s : String Global). string_bytes s) c.deref.ensures))
           ∙ c.in_ok-mention.ensures.known;
     }

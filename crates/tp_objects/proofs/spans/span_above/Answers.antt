@@ -4,7 +4,7 @@ use Rattle.std.specs.Str.{bytes_eq}
 use Rattle.std.proofs.lemmas.Grind.{common_steps}
 use Rattle.std.proofs.lemmas.Option.{slice_get_past, gets}
 use Rattle.tp_ast.specs.Domains.{object}
-use Rattle.tp_types.specs.Parents.{parent_name}
+use Rattle.tp_ast.specs.Shared.{parent_in}
 use Rattle.tp_types.proofs.OnCycles.{slice_at}
 use Rattle.tp_types.proofs.OnParents.{none_above, above_at_place, above_by_place, kept_of_object, found_there}
 use Rattle.tp_objects.proofs.spans.span_above.Goals as goal
@@ -18,7 +18,7 @@ returns-in_default-get c = sym (above_at_place (record { first = 0; end = c.args
 pub returns-then-eq : goal.returns-then-eq
 returns-then-eq c =
     sym (above_at_place (record { first = 0; end = c.args.spans.now.slots }) c.args.spans.now.of_types.items c.args.types.now c.args.name.now c.in-Some.place.now (Some c.in-Some-get.declared.now) (sym (c.requires.table c.args.name.now) ∙ sym c.in-Some.ensures.value) (slice_at c.args.types.now c.in-Some.place.now c.in-Some-get.declared.now c.in-Some-get.ensures.lookup.3.0 c.in-Some-get.ensures.lookup.1)
-    ∙ kept_of_object (record { first = 0; end = c.args.spans.now.slots }) c.args.spans.now.of_types.items c.args.types.now (parent_name c.in-Some-get.declared.now) (ap (λ (n : List ℕ). bytes_eq n object) (sym (c.as_str.ensures.value ∙ ap string_bytes c.deref.ensures)) ∙ sym c.if-eq.ensures))
+    ∙ kept_of_object (record { first = 0; end = c.args.spans.now.slots }) c.args.spans.now.of_types.items c.args.types.now (parent_in c.in-Some-get.declared.now) (ap (λ (n : List ℕ). bytes_eq n object) (sym (c.as_str.ensures.value ∙ ap string_bytes c.deref.ensures)) ∙ sym c.if-eq.ensures))
 
 pub returns-in_default-parent_at : goal.returns-in_default-parent_at
 returns-in_default-parent_at c =
