@@ -398,6 +398,16 @@ def worst_reads(program):
     action = f"(:action a :parameters (?a ?b - the-other) :precondition (exists (?x - (either {listed})) (p)) :effect ())"
     declared = f"(:types {listed} the-other - object) (:constants c - a {each('o#', 250)} - the-other) (:predicates (p))"
     judged(program, "an exists over 10,000 types under 62,500 actions", f"(define (domain d) {declared} {action})", problem, "")
+    some = f"(exists (?x - (either {listed})) (p))"
+    change = f"(at end (forall (?x - (either {listed})) (p)))"
+    action = f"(:durative-action a :parameters (?a ?b - the-other) :duration (= ?duration 1) :condition (and (at start {some}) (over all {some})) :effect {change})"
+    judged(program, "62,500 durative actions with such lists in conditions and effect", f"(define (domain d) {declared} {action})", problem, "")
+    action = f"(:action a :parameters () :precondition (forall (?a ?b ?c - the-other) {some}) :effect ())"
+    few = f"(:types {listed} the-other - object) (:constants c - a {each('o#', 60)} - the-other) (:predicates (p))"
+    judged(program, "an exists over 10,000 types under 216,000 bindings", f"(define (domain d) {few} {action})", problem, "")
+    listed = " ".join(f"?{name}" for name in short_names(500))
+    action = f"(:action a :parameters (?a ?b - the-other) :precondition (exists ({listed} - a) (p)) :effect ())"
+    judged(program, "an exists of 500 variables under 62,500 actions", f"(define (domain d) {declared} {action})", problem, "")
     names = " ".join(colliding(20_000))
     judged(program, "20,000 constants whose names collide", f"(define (domain d) (:constants {names}))", problem, "")
     judged(program, "20,000 types whose names collide", f"(define (domain d) (:types {names}))", problem, "")

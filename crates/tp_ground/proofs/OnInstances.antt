@@ -11,7 +11,7 @@ use Rattle.tp_ground.specs.Bindings.{Universe, bindings}
 use Rattle.tp_ground.specs.Reached.{Instance, instances}
 use Rattle.tp_ground.specs.Schemas.{schema_view}
 use Rattle.tp_ground.specs.Mentions.{Mentions, ◌then◌, of_each}
-use Rattle.tp_ground.specs.declared.schemas.Schema.{Schema}
+use Rattle.tp_ground.specs.declared.schema.Schema.{Schema}
 use Rattle.tp_ground.proofs.Along.{map_next}
 
 -- the instances of an action

@@ -15,7 +15,6 @@ use Rattle.tp_bounds.specs.RunLimits.{RunLimits}
 use Rattle.tp_text.specs.declared.number.Scale.{Scale}
 use Rattle.tp_ground.specs.WriterViews.{WriterView}
 use Rattle.tp_task.specs.Words.{Words, same_words, with_all, firsts}
-use Rattle.tp_ground.specs.Views.{env_view}
 use Rattle.tp_ground.specs.Bindings.{Universe, Env, bindings, bound}
 use Rattle.tp_task.specs.Fits.{body_fits}
 use Rattle.tp_task.specs.Tables.{Tables, CannotNumber}
@@ -28,7 +27,6 @@ use Rattle.tp_ground.specs.Reached.{Instance, IsTaskOf, action_of, mentioned_of}
 use Rattle.tp_ground.specs.Instances.{written_with}
 use Rattle.tp_ground.specs.Grounding.{universe_of, ground_action, ground_actions, mentioned, IsTask, HasNoTask}
 use Rattle.tp_ground.specs.WrittenTasks.{WrittenTask, written_task, named_task, of_task, IsMade}
-use Rattle.tp_ground.specs.declared.environment.Env.{Empty}
 use Rattle.tp_ground.specs.declared.beginning.NumberedInitial.{NumberedInitial}
 use Rattle.tp_ground.specs.declared.grounder.LoweredTask.{LoweredTask}
 use Rattle.tp_task.specs.declared.task.Task.{Task}
@@ -38,7 +36,6 @@ use Rattle.tp_task.specs.declared.fault.TooManyKind.TheVariants as kinds
 use Rattle.tp_task.specs.declared.events.Cond.{Cond}
 use Rattle.tp_task.specs.declared.events.Body.{Body}
 use Rattle.tp_ground.proofs.OnBodies.{at_first, at_second, at_third}
-use Rattle.tp_ground.proofs.OnEntries.{empty_env}
 use Rattle.tp_ground.proofs.OnFits.{body_fits_of}
 use Rattle.tp_ground.proofs.OnInitially.{with_all_distinct, true_there, value_there, same_reads}
 use Rattle.tp_ground.proofs.OnLowered.{lowered_both, lowered_same}
@@ -80,22 +77,18 @@ module _ (u : Universe) (is : List Initial) (c : Condition) (third : Mentions) (
   entries_noted : (a b : WriterView) → Notes a b (of_each of_initial told) → Notes a b first
   entries_noted a b l = subst (λ (es : List GroundInitial). Notes a b (of_each of_initial es)) (entries_view is) l
 
-  goal_noted : (a b : WriterView) → Notes a b (of_condition (condition_in u (env_view Empty) c)) → Notes a b second
-  goal_noted a b l = subst (λ (env : Env). Notes a b (of_condition (condition_in u env c))) empty_env l
+  pub goal_stopped : (a b : WriterView) (e : GroundFault) → Notes a b (of_each of_initial told) → Overflows b (of_condition (condition_in u [] c)) e → Overflows a all e
+  goal_stopped a b e l h = at_second a first second third e b (entries_noted a b l) h
 
-  pub goal_stopped : (a b : WriterView) (e : GroundFault) → Notes a b (of_each of_initial told) → Overflows b (of_condition (condition_in u (env_view Empty) c)) e → Overflows a all e
-  goal_stopped a b e l h = at_second a first second third e b (entries_noted a b l) (subst (λ (env : Env). Overflows b (of_condition (condition_in u env c)) e) empty_env h)
+  pub actions_stopped : (a b d : WriterView) (e : GroundFault) → Notes a b (of_each of_initial told) → Notes b d (of_condition (condition_in u [] c)) → Overflows d third e → Overflows a all e
+  actions_stopped a b d e l k h = at_third a first second third e b d (entries_noted a b l) k h
 
-  pub actions_stopped : (a b d : WriterView) (e : GroundFault) → Notes a b (of_each of_initial told) → Notes b d (of_condition (condition_in u (env_view Empty) c)) → Overflows d third e → Overflows a all e
-  actions_stopped a b d e l k h = at_third a first second third e b d (entries_noted a b l) (goal_noted b d k) h
-
-  pub task_lowered : (a b d w : WriterView) (es : Vec NumberedInitial Global) (g : Cond) (bs : Vec Body Global) (x : LoweredTask) → x ≡ record { entries = es; goal = g; actions = bs } → IsLowered all_entries a b es told (of_each of_initial told) → IsLowered named_condition b d g (condition_in u (env_view Empty) c) (of_condition (condition_in u (env_view Empty) c)) → IsLowered all_bodies d w bs bodies third → IsLowered named_task a w x written all
+  pub task_lowered : (a b d w : WriterView) (es : Vec NumberedInitial Global) (g : Cond) (bs : Vec Body Global) (x : LoweredTask) → x ≡ record { entries = es; goal = g; actions = bs } → IsLowered all_entries a b es told (of_each of_initial told) → IsLowered named_condition b d g (condition_in u [] c) (of_condition (condition_in u [] c)) → IsLowered all_bodies d w bs bodies third → IsLowered named_task a w x written all
   task_lowered a b d w es g bs x is_x l k h =
       subst (λ (y : LoweredTask). IsLowered named_task a w y written all) (sym is_x)
       (lowered_both (λ (p : List GroundInitial × GroundCondition) (q : List GroundBody). record { initial = p.0; goal = p.1; bodies = q }) (record { entries = es; goal = g; actions = bs }) (λ t. refl)
       (lowered_both {named = named_pair} (λ (p : List GroundInitial) (q : GroundCondition). (p, q)) (es, g) (λ t. refl)
-      (lowered_same _ first (entries_view is) (ap (of_each of_initial) (entries_view is)) l)
-      (lowered_same _ second (ap (λ (env : Env). condition_in u env c) empty_env) (ap (λ (env : Env). of_condition (condition_in u env c)) empty_env) k))
+      (lowered_same _ first (entries_view is) (ap (of_each of_initial) (entries_view is)) l) k)
       h)
 
 module _ (a b : WriterView) (r : Result LoweredTask GroundFault) (c : Condition) where

@@ -3,6 +3,7 @@ pub mod Bindings
 pub mod Counts
 pub mod Views
 pub mod KnownChoices
+pub mod Hints
 pub mod Initially
 pub mod Written
 pub mod Mentions

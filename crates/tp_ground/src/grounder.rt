@@ -17,9 +17,8 @@ ghost use Rattle.tp_ground.specs.Initially.{true_at, value_at};
 ghost use Rattle.tp_ground.specs.WrittenTasks.{written_task, named_task, of_task, IsMade};
 
 use crate::beginning::{NumberedInitial, entries, numbers, truths};
-use crate::environment::Env;
 use crate::grounding::{actions_fit, lower_actions, name_actions};
-use crate::lowering::condition;
+use crate::lowering::closed_condition;
 use crate::noting::{note_bodies, note_condition};
 use crate::numbers::has_great_number;
 use crate::universe::Universe;
@@ -189,7 +188,7 @@ fn lower<'a>(
         (map initial_view initial.now) (cond_view goal.now) (map action_view actions.now)) }
 {
     let entries = entries(alloc, writer, initial)?;
-    let goal = condition(alloc, universe, &Env::Empty, writer, goal)?;
+    let goal = closed_condition(alloc, universe, writer, goal)?;
     let actions = lower_actions(alloc, universe, writer, actions)?;
     Ok(LoweredTask {
         entries,

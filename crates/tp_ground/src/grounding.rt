@@ -1,6 +1,6 @@
 //! All ground actions of a problem.
 
-ghost use Rattle.std.specs.Prelude.{◌≡◌, ◌++◌, ◌∷◌, map, length, nat_le, IfOk, OnOk, string_bytes};
+ghost use Rattle.std.specs.Prelude.{◌≡◌, ◌++◌, ◌∷◌, map, length, nat_le, true, IfOk, OnOk, string_bytes};
 ghost use Rattle.tp_ast.specs.Symbols.{typed_view};
 ghost use Rattle.tp_ast.specs.DomainViews.{action_view, body_view};
 ghost use Rattle.tp_ground.specs.Views.{universe_view};
@@ -12,8 +12,11 @@ ghost use Rattle.tp_ground.specs.Lowered.{Lowers};
 ghost use Rattle.tp_ground.specs.Appended.{Appends};
 ghost use Rattle.tp_ground.specs.Grounding.{ground_actions, of_action};
 ghost use Rattle.tp_ground.specs.Rows.{product, lists_of};
+ghost use Rattle.tp_ground.specs.Hints.{body_fits};
 
 use crate::environment::Env;
+use crate::hinting::body_hint;
+use crate::hints::BodyHint;
 use crate::lowering::body;
 use crate::rows::{Rows, rows_of};
 use crate::universe::{Universe, count_and_note, refill};
@@ -95,9 +98,11 @@ fn push_bodies<'a>(
     writer: &mut Writer<'a>,
     parameters: &Variables<'a>,
     written: &'a tp_ast::action::Body,
+    hints: &BodyHint,
     into: &mut Vec<Body>,
 ) -> Result<(), GroundFault>
-    requires { universe_view universe.now ≡ writer.old.universe }
+    requires of_universe { universe_view universe.now ≡ writer.old.universe }
+    requires fit { body_fits universe.now hints.now (body_view written.now) ≡ true }
     ensures { Appends named_body writer.old result writer.new into.old.items into.new.items
         (map (λ objects. body_in (universe_view universe.now)
         (bound (map typed_view parameters.now) objects) (body_view written.now))
@@ -112,9 +117,37 @@ fn push_bodies<'a>(
     for place in 0..rows.count {
         rows.turn_to(place);
         let inner = Env::Inner(&*parameters, &rows.row, &outside);
-        into.push(body(alloc, universe, &inner, writer, written)?)?;
+        into.push(body(alloc, universe, &inner, writer, written, hints)?)?;
     }
     Ok(())
+}
+
+// Puts the body of an action under each of its bindings at the end of a list.
+fn push_action<'a>(
+    alloc: Global,
+    universe: &Universe<'a>,
+    writer: &mut Writer<'a>,
+    action: &'a Action,
+    into: &mut Vec<Body>,
+) -> Result<(), GroundFault>
+    requires { universe_view universe.now ≡ writer.old.universe }
+    ensures { Appends named_body writer.old result writer.new into.old.items into.new.items
+        (map (λ objects. body_in (universe_view universe.now)
+        (bound (action_view action.now).parameters objects) (action_view action.now).body)
+        (bindings (universe_view universe.now) (action_view action.now).parameters))
+        (of_action (universe_view universe.now) (action_view action.now)) }
+{
+    let parameters = Variables::new(alloc, &action.parameters)?;
+    let hints = body_hint(alloc, universe, &action.body)?;
+    push_bodies(
+        alloc,
+        universe,
+        writer,
+        &parameters,
+        &action.body,
+        &hints,
+        into,
+    )
 }
 
 /// The bodies of all ground actions, in order.
@@ -131,15 +164,7 @@ pub fn lower_actions<'a>(
 {
     let mut lowered = Vec::new(alloc);
     for action in actions {
-        let parameters = Variables::new(alloc, &action.parameters)?;
-        push_bodies(
-            alloc,
-            universe,
-            writer,
-            &parameters,
-            &action.body,
-            &mut lowered,
-        )?;
+        push_action(alloc, universe, writer, action, &mut lowered)?;
     }
     Ok(lowered)
 }

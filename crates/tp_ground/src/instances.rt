@@ -1,6 +1,7 @@
 //! Actions with the objects that their parameters stand for: all of them, some of them, and what is written out of them.
 
-ghost use Rattle.std.specs.Prelude.{◌≡◌, ◌++◌, ◌∷◌, Bool, map, filter, length, IfOk, OnOk};
+ghost use Rattle.std.specs.Prelude.{◌≡◌, ◌++◌, ◌∷◌, Bool, true, map, filter, length, IfOk, OnOk};
+ghost use Rattle.std.specs.List.{list_all};
 ghost use Rattle.tp_ast.specs.Symbols.{typed_view};
 ghost use Rattle.tp_ast.specs.DomainViews.{body_view};
 ghost use Rattle.tp_ground.specs.Views.{universe_view};
@@ -11,14 +12,17 @@ ghost use Rattle.tp_ground.specs.ReadBack.{named_body};
 ghost use Rattle.tp_ground.specs.Lowered.{Lowers};
 ghost use Rattle.tp_ground.specs.Reached as reached;
 ghost use Rattle.tp_ground.specs.Reached.{instances, action_of, of_instance};
-ghost use Rattle.tp_ground.specs.Schemas.{schema_view};
-ghost use Rattle.tp_ground.specs.Instances.{instance_view};
+ghost use Rattle.tp_ground.specs.Schemas.{schema_view, is_hinted};
+ghost use Rattle.tp_ground.specs.Instances.{instance_view, has_hints};
+ghost use Rattle.tp_ground.specs.Hints.{body_fits};
+ghost use Rattle.tp_ground.specs.declared.objects.Universe as objects;
 ghost use Rattle.tp_ground.specs.Rows.{product, lists_of};
 
 use crate::environment::Env;
+use crate::hints::BodyHint;
 use crate::lowering::body;
 use crate::rows::{Rows, rows_of};
-use crate::schemas::Schema;
+use crate::schema::Schema;
 use crate::universe::{Universe, copied, refill};
 use crate::variables::Variables;
 use crate::writer::Writer;
@@ -39,9 +43,13 @@ fn push_rows<'s, 'a>(
     rows: &mut Rows<'a>,
     into: &mut Vec<Instance<'s, 'a>>,
 ) -> Result<(), AllocError>
-    ensures { OnOk result (map instance_view into.new.items ≡ map instance_view into.old.items
+    ensures items { OnOk result (map instance_view into.new.items
+        ≡ map instance_view into.old.items
         ++ map (λ ns. record { action = schema_view schema.now; objects = ns })
         (product (lists_of rows.old.lists.items))) }
+    ensures hinted { OnOk result ((u : objects.Universe) → is_hinted u schema.now ≡ true
+        → list_all (has_hints u) into.old.items ≡ true
+        → list_all (has_hints u) into.new.items ≡ true) }
 {
     for place in 0..rows.count {
         rows.turn_to(place);
@@ -57,8 +65,10 @@ pub fn all_instances<'s, 'a>(
     universe: &Universe<'a>,
     schemas: &'s [Schema<'a>],
 ) -> Result<Vec<Instance<'s, 'a>>, AllocError>
-    ensures { IfOk result (λ v. map instance_view v.items
+    requires { list_all (is_hinted universe.now) schemas.now ≡ true }
+    ensures items { IfOk result (λ v. map instance_view v.items
         ≡ instances (universe_view universe.now) (map schema_view schemas.now)) }
+    ensures hinted { IfOk result (λ v. list_all (has_hints universe.now) v.items ≡ true) }
 {
     let mut all = Vec::new(alloc);
     for schema in schemas {
@@ -76,8 +86,10 @@ fn lower_under<'a>(
     parameters: &Variables<'a>,
     objects: &[&'a str],
     written: &'a tp_ast::action::Body,
+    hints: &BodyHint,
 ) -> Result<Body, GroundFault>
-    requires { universe_view universe.now ≡ writer.old.universe }
+    requires of_universe { universe_view universe.now ≡ writer.old.universe }
+    requires fit { body_fits universe.now hints.now (body_view written.now) ≡ true }
     ensures { Lowers named_body writer.old result writer.new (body_in (universe_view universe.now)
         (bound (map typed_view parameters.now) (map (λ o. o.now) objects.now))
         (body_view written.now)) (of_body (universe_view universe.now)
@@ -86,7 +98,7 @@ fn lower_under<'a>(
 {
     let outside = Env::Empty;
     let inner = Env::Inner(parameters, objects, &outside);
-    body(alloc, universe, &inner, writer, written)
+    body(alloc, universe, &inner, writer, written, hints)
 }
 
 fn lower_one<'a>(
@@ -95,7 +107,8 @@ fn lower_one<'a>(
     writer: &mut Writer<'a>,
     instance: &Instance<'_, 'a>,
 ) -> Result<Body, GroundFault>
-    requires { universe_view universe.now ≡ writer.old.universe }
+    requires of_universe { universe_view universe.now ≡ writer.old.universe }
+    requires hinted { has_hints universe.now instance.now ≡ true }
     ensures { Lowers named_body writer.old result writer.new
         (action_of (universe_view universe.now) (instance_view instance.now)).body
         (of_instance (universe_view universe.now) (instance_view instance.now)) }
@@ -108,6 +121,7 @@ fn lower_one<'a>(
         &schema.parameters,
         &instance.objects,
         &schema.action.body,
+        &schema.hints,
     )
 }
 
@@ -118,7 +132,8 @@ pub fn lower_instances<'a>(
     writer: &mut Writer<'a>,
     some: &[Instance<'_, 'a>],
 ) -> Result<Vec<Body>, GroundFault>
-    requires { universe_view universe.now ≡ writer.old.universe }
+    requires of_universe { universe_view universe.now ≡ writer.old.universe }
+    requires hinted { list_all (has_hints universe.now) some.now ≡ true }
     ensures { Lowers (λ t v. map (named_body t) v.items) writer.old result writer.new
         (map (λ i. (action_of (universe_view universe.now) i).body) (map instance_view some.now))
         (of_each (of_instance (universe_view universe.now)) (map instance_view some.now)) }
@@ -158,7 +173,8 @@ fn copy_of<'s, 'a>(
     alloc: Global,
     instance: &Instance<'s, 'a>,
 ) -> Result<Instance<'s, 'a>, AllocError>
-    ensures { IfOk result (λ i. instance_view i ≡ instance_view instance.now) }
+    ensures shown { IfOk result (λ i. instance_view i ≡ instance_view instance.now) }
+    ensures schema { IfOk result (λ i. i.schema.now ≡ instance.now.schema.now) }
 {
     let objects = copied(alloc, &instance.objects)?;
     Ok(Instance {
@@ -174,9 +190,11 @@ pub fn flagged<'s, 'a>(
     flags: &[bool],
 ) -> Result<Vec<Instance<'s, 'a>>, AllocError>
     requires { length flags.now ≡ length all.now }
-    ensures { IfOk result (λ v. (test : reached.Instance → Bool)
+    ensures items { IfOk result (λ v. (test : reached.Instance → Bool)
         → flags.now ≡ map test (map instance_view all.now)
         → map instance_view v.items ≡ filter test (map instance_view all.now)) }
+    ensures hinted { IfOk result (λ v. (u : objects.Universe)
+        → list_all (has_hints u) all.now ≡ true → list_all (has_hints u) v.items ≡ true) }
 {
     let mut kept = Vec::new(alloc);
     for place in 0..all.len() {

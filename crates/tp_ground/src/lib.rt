@@ -1,9 +1,10 @@
 //! How ground tasks are made of domains and problems.
 //!
 //! - `objects`, `universe`, `noting`, `rows`: the objects, what variables may stand for, and their bindings
+//! - `hints`, `hinting`: where the objects for the variables of quantifiers stand, noted before an action's bindings
 //! - `variables`, `environment`, `lowering`: conditions, expressions, effects and bodies grounded under a binding
 //! - `numbers`, `beginning`, `grounding`, `grounder`: numbers past the limit, the initial state, all ground actions, the task
-//! - `schemas`, `instances`, `reached`: all bindings, and the task of those that the relaxed reach keeps
+//! - `schema`, `schemas`, `instances`, `reached`: all bindings, and the task of those that the relaxed reach keeps
 //! - `laws`: what holds of the tasks that are made
 #![tactic(auto)]
 
@@ -11,6 +12,8 @@ mod beginning;
 mod environment;
 mod grounder;
 mod grounding;
+mod hinting;
+mod hints;
 mod instances;
 mod keys;
 mod laws;
@@ -22,6 +25,7 @@ mod objects;
 mod reached;
 mod rows;
 mod sameness;
+mod schema;
 mod schemas;
 mod shortness;
 mod universe;

@@ -9,5 +9,6 @@ mod expressions;
 mod parts;
 
 pub use bodies::body;
-pub use conditions::{atom, condition};
+pub use conditions::{atom, closed_condition};
 pub use expressions::fluent;
+pub use parts::Lowerable;

@@ -15,15 +15,15 @@ ghost use Rattle.tp_ground.specs.Grounding.{universe_of};
 ghost use Rattle.tp_ground.specs.WriterViews.{with_tables};
 ghost use Rattle.tp_ground.specs.WrittenTasks.{named_task};
 ghost use Rattle.tp_ground.specs.Reached.{AreKept, IsTaskOf, IsReachedTask, HasNoReachedTask, mentioned_of};
-ghost use Rattle.tp_ground.specs.Schemas.{schema_view};
-ghost use Rattle.tp_ground.specs.Instances.{instance_view, written_with, of_task_with, has_met, AreMet, AreReached, AreFlags, AreKeptOf};
+ghost use Rattle.tp_ground.specs.Schemas.{schema_view, is_hinted};
+ghost use Rattle.tp_ground.specs.Instances.{instance_view, has_hints, written_with, of_task_with, has_met, AreMet, AreReached, AreFlags, AreKeptOf};
 
 use crate::beginning::{entries, truths};
-use crate::environment::Env;
 use crate::grounder::{LoweredTask, check, note_quantifiers, plain_universe, task_of};
 use crate::instances::{Instance, all_instances, flagged, lower_instances, name_instances};
-use crate::lowering::condition;
-use crate::schemas::{Schema, schemas_of};
+use crate::lowering::closed_condition;
+use crate::schema::Schema;
+use crate::schemas::schemas_of;
 use crate::universe::{Universe, count_and_note};
 use crate::writer::Writer;
 use std::alloc::{AllocError, Global};
@@ -107,7 +107,8 @@ fn lower_with<'a>(
     goal: &'a tp_ast::cond::Cond,
     some: &[Instance<'_, 'a>],
 ) -> Result<LoweredTask, GroundFault>
-    requires { universe_view universe.now ≡ writer.old.universe }
+    requires of_universe { universe_view universe.now ≡ writer.old.universe }
+    requires hinted { list_all (has_hints universe.now) some.now ≡ true }
     ensures { Lowers named_task writer.old result writer.new
         (written_with (universe_view universe.now) (map initial_view initial.now)
         (cond_view goal.now) (map instance_view some.now))
@@ -115,7 +116,7 @@ fn lower_with<'a>(
         (cond_view goal.now) (map instance_view some.now)) }
 {
     let entries = entries(alloc, writer, initial)?;
-    let goal = condition(alloc, universe, &Env::Empty, writer, goal)?;
+    let goal = closed_condition(alloc, universe, writer, goal)?;
     let actions = lower_instances(alloc, universe, writer, some)?;
     Ok(LoweredTask {
         entries,
@@ -131,7 +132,8 @@ fn lower_problem<'a>(
     problem: &'a Problem,
     some: &[Instance<'_, 'a>],
 ) -> Result<LoweredTask, GroundFault>
-    requires { universe_view universe.now ≡ writer.old.universe }
+    requires of_universe { universe_view universe.now ≡ writer.old.universe }
+    requires hinted { list_all (has_hints universe.now) some.now ≡ true }
     ensures { Lowers named_task writer.old result writer.new
         (written_with (universe_view universe.now) (problem_view problem.now).initial
         (problem_view problem.now).goal (map instance_view some.now))
@@ -197,7 +199,8 @@ fn lower_freely<'a>(
     problem: &'a Problem,
     some: &[Instance<'_, 'a>],
 ) -> Result<LoweredTask, AllocError>
-    requires { universe_view universe.now ≡ writer.old.universe }
+    requires of_universe { universe_view universe.now ≡ writer.old.universe }
+    requires hinted { list_all (has_hints universe.now) some.now ≡ true }
     ensures { IfOk result (λ l. IsLowered named_task writer.old writer.new l
         (written_with (universe_view universe.now) (problem_view problem.now).initial
         (problem_view problem.now).goal (map instance_view some.now))
@@ -218,8 +221,9 @@ fn flags_of<'a>(
     problem: &'a Problem,
     some: &[Instance<'_, 'a>],
 ) -> Result<Vec<bool>, AllocError>
-    requires { universe_view universe.now
+    requires of_problem { universe_view universe.now
         ≡ universe_of (domain_view domain.now) (problem_view problem.now) }
+    requires hinted { list_all (has_hints universe.now) some.now ≡ true }
     ensures { IfOk result (λ v. AreFlags (universe_view universe.now)
         (map initial_in (problem_view problem.now).initial) (map instance_view some.now) v.items) }
 {
@@ -237,11 +241,13 @@ fn kept_instances<'s, 'a>(
     problem: &'a Problem,
     schemas: &'s [Schema<'a>],
 ) -> Result<Vec<Instance<'s, 'a>>, AllocError>
-    requires { universe_view universe.now
+    requires of_problem { universe_view universe.now
         ≡ universe_of (domain_view domain.now) (problem_view problem.now) }
-    ensures { IfOk result (λ v. AreKeptOf (universe_view universe.now)
+    requires hinted { list_all (is_hinted universe.now) schemas.now ≡ true }
+    ensures kept { IfOk result (λ v. AreKeptOf (universe_view universe.now)
         (map initial_in (problem_view problem.now).initial) (map schema_view schemas.now)
         (map instance_view v.items)) }
+    ensures hinted { IfOk result (λ v. list_all (has_hints universe.now) v.items ≡ true) }
 {
     let all = all_instances(alloc, universe, schemas)?;
     let flags = flags_of(alloc, universe, domain, problem, &all)?;
@@ -258,7 +264,8 @@ fn prepare_with<'a>(
     problem: &'a Problem,
     some: &[Instance<'_, 'a>],
 ) -> Result<LoweredTask, GroundFault>
-    requires { universe_view universe.now ≡ writer.old.universe }
+    requires of_universe { universe_view universe.now ≡ writer.old.universe }
+    requires hinted { list_all (has_hints universe.now) some.now ≡ true }
     ensures lowered { Lowers named_task writer.old result
         (with_tables writer.old writer.new.tables)
         (written_with (universe_view universe.now) (problem_view problem.now).initial
@@ -286,6 +293,7 @@ fn task_with<'a>(
     requires of_problem { universe_view universe.now
         ≡ universe_of (domain_view domain.now) (problem_view problem.now) }
     requires few { length some.now ≤ 65_535 }
+    requires hinted { list_all (has_hints universe.now) some.now ≡ true }
     ensures ok { IfOk result (IsTaskOf limits.now scale (domain_view domain.now)
         (problem_view problem.now) (map instance_view some.now)) }
     ensures atoms { IfOk result (λ t. length t.numbering.atoms ≤ limits.now.atoms) }
@@ -315,6 +323,7 @@ fn kept_task<'a>(
         ≡ universe_of (domain_view domain.now) (problem_view problem.now) }
     requires kept { AreKept (domain_view domain.now) (problem_view problem.now)
         (map instance_view kept.now) }
+    requires hinted { list_all (has_hints universe.now) kept.now ≡ true }
     ensures ok { IfOk result
         (IsReachedTask limits.now scale (domain_view domain.now) (problem_view problem.now)) }
     ensures atoms { IfOk result (λ t. length t.numbering.atoms ≤ limits.now.atoms) }
@@ -346,7 +355,7 @@ fn reached_within<'a>(
         (HasNoReachedTask limits.now (domain_view domain.now) (problem_view problem.now)) }
 {
     let universe = universe_of_all(alloc, domain, problem)?;
-    let schemas = schemas_of(alloc, &domain.actions)?;
+    let schemas = schemas_of(alloc, &universe, &domain.actions)?;
     let kept = kept_instances(alloc, &universe, domain, problem, &schemas)?;
     kept_task(alloc, &universe, domain, problem, &kept, limits, scale)
 }

@@ -3,10 +3,12 @@
 ghost use Rattle.std.specs.Prelude.{◌≡◌, ◌<◌, [], map, length, slice_index_or, true, IfOk};
 ghost use Rattle.tp_ast.specs.Symbols.{typed_view};
 ghost use Rattle.tp_ground.specs.Bindings.{choices, bindings};
+ghost use Rattle.tp_ground.specs.Counts.{IsCount};
+ghost use Rattle.tp_ground.specs.Hints.{listed, AreListed};
 ghost use Rattle.tp_ground.specs.Views.{universe_view};
 ghost use Rattle.tp_ground.specs.Rows.{product, lists_of, EndsWith};
 
-use crate::universe::{Universe, choices, copied, count_bindings};
+use crate::universe::{Universe, choices, copied, count_bindings, listed, times};
 use std::alloc::{AllocError, Global};
 use tp_ast::marks::is_marked;
 use tp_ast::symbols::Typed;
@@ -115,6 +117,70 @@ fn too_many<'a>(alloc: Global) -> Result<Rows<'a>, AllocError>
 {
     let _room: Vec<u8> = Vec::with_capacity(alloc, usize::MAX)?;
     Err(AllocError)
+}
+
+// How many rows the lists at some places have. None where they are 2^64 or more.
+fn count_rows(universe: &Universe, places: &[usize]) -> Option<usize>
+    ensures { IsCount 18_446_744_073_709_551_615
+        (length (product (map (listed universe.now) places.now))) result }
+{
+    let mut count = Some(1usize);
+    for place in places {
+        let names = listed(universe, *place);
+        if names.is_empty() {
+            return Some(0);
+        }
+        count = times(count, names.len(), usize::MAX);
+    }
+    count
+}
+
+// The lists at some places.
+fn lists_at<'a>(
+    alloc: Global,
+    universe: &Universe<'a>,
+    places: &[usize],
+) -> Result<Vec<Vec<&'a str>>, AllocError>
+    ensures { IfOk result (λ v. lists_of v.items ≡ map (listed universe.now) places.now) }
+{
+    let mut lists = Vec::with_capacity(alloc, places.len())?;
+    for place in places {
+        lists.push(copied(alloc, listed(universe, *place))?)?;
+    }
+    Ok(lists)
+}
+
+// The rows of the lists at some places.
+fn rows_at<'a>(
+    alloc: Global,
+    universe: &Universe<'a>,
+    places: &[usize],
+) -> Result<Rows<'a>, AllocError>
+    ensures { IfOk result (λ r. product (lists_of r.lists.items)
+        ≡ product (map (listed universe.now) places.now)) }
+{
+    match count_rows(universe, places) {
+        None => too_many(alloc),
+        Some(0) => begun(alloc, no_name(alloc)?, 0),
+        Some(count) => begun(alloc, lists_at(alloc, universe, places)?, count),
+    }
+}
+
+/// As `rows_of`, where it may be known where the objects for the variables stand.
+pub fn rows_with<'a>(
+    alloc: Global,
+    universe: &Universe<'a>,
+    variables: &TypedList,
+    places: Option<&[usize]>,
+) -> Result<Rows<'a>, AllocError>
+    requires { AreListed universe.now places (map typed_view variables.now.items) }
+    ensures { IfOk result (λ r. product (lists_of r.lists.items)
+        ≡ bindings (universe_view universe.now) (map typed_view variables.now.items)) }
+{
+    match places {
+        None => rows_of(alloc, universe, variables),
+        Some(places) => rows_at(alloc, universe, places),
+    }
 }
 
 /// The bindings of variables, none of them made yet. Where there are 2^64 or more, room is asked for as many bytes, and refused.

@@ -1,33 +1,45 @@
-//! Actions whose parameters are found by their names.
+//! Actions in their order, with what is made once for all their bindings.
 
-ghost use Rattle.std.specs.Prelude.{◌≡◌, map, IfOk};
+ghost use Rattle.std.specs.Prelude.{◌≡◌, map, true, IfOk};
+ghost use Rattle.std.specs.List.{list_all};
+ghost use Rattle.tp_ground.specs.Schemas.{is_hinted};
 
+use crate::hinting::body_hint;
+use crate::schema::Schema;
+use crate::universe::Universe;
 use crate::variables::Variables;
 use std::alloc::{AllocError, Global};
 use tp_ast::action::Action;
 
-/// An action with a table of its parameters, which is made once for all its bindings.
-#[derive(Drop)]
-pub struct Schema<'a> {
-    pub action: &'a Action,
-    pub parameters: Variables<'a>,
-    ghost own: { parameters ≡ action.now.parameters.items },
-}
-
-fn schema_of<'a>(alloc: Global, action: &'a Action) -> Result<Schema<'a>, AllocError>
-    ensures { IfOk result (λ s. s.action.now ≡ action.now) }
+fn schema_of<'a>(
+    alloc: Global,
+    universe: &Universe,
+    action: &'a Action,
+) -> Result<Schema<'a>, AllocError>
+    ensures action { IfOk result (λ s. s.action.now ≡ action.now) }
+    ensures hinted { IfOk result (λ s. is_hinted universe.now s ≡ true) }
 {
     let parameters = Variables::new(alloc, &action.parameters)?;
-    Ok(Schema { action, parameters })
+    let hints = body_hint(alloc, universe, &action.body)?;
+    Ok(Schema {
+        action,
+        parameters,
+        hints,
+    })
 }
 
 /// Actions in their order.
-pub fn schemas_of<'a>(alloc: Global, actions: &'a [Action]) -> Result<Vec<Schema<'a>>, AllocError>
-    ensures { IfOk result (λ v. map (λ s. s.action.now) v.items ≡ actions.now) }
+pub fn schemas_of<'a>(
+    alloc: Global,
+    universe: &Universe,
+    actions: &'a [Action],
+) -> Result<Vec<Schema<'a>>, AllocError>
+    ensures actions { IfOk result (λ v. map (λ s. s.action.now) v.items ≡ actions.now) }
+    ensures hinted { IfOk result (λ v. list_all (is_hinted universe.now) v.items ≡ true) }
 {
     let mut schemas = Vec::with_capacity(alloc, actions.len())?;
     for action in actions {
-        schemas.push(schema_of(alloc, action)?)?;
+        schemas.push(schema_of(alloc, universe, action)?)?;
     }
     Ok(schemas)
 }

@@ -9,6 +9,7 @@ ghost use Rattle.tp_ground.specs.Counts.{IsCount};
 ghost use Rattle.tp_task.specs.Words.{same_words};
 ghost use Rattle.tp_ground.specs.Views.{universe_view};
 ghost use Rattle.tp_ground.specs.KnownChoices.{of_types, is_known};
+ghost use Rattle.tp_ground.specs.Hints.{listed, listed_in};
 
 use crate::objects::Known;
 pub use crate::objects::Universe;
@@ -59,17 +60,47 @@ fn mix_of(types: &[String]) -> u64 {
 // So few lists of types are compared one after another as fast as one of them is looked up.
 const FEW: usize = 4;
 
-// The objects that fit some types, if these types are among those that were looked for.
-fn find_among<'u, 'a>(known: &'u [Known<'a>], types: &[String]) -> Option<&'u [&'a str]>
+// Where some types stand, if they are among those that were looked for.
+fn place_among(known: &[Known], types: &[String]) -> Option<usize>
     ensures { (u : bindings.Universe) → list_all (is_known u) known.now ≡ true → IfSome result
-        (λ ns. map (λ o. o.now) ns.now ≡ choices u (of_types (map string_bytes types.now))) }
+        (λ p. listed_in known.now p ≡ choices u (of_types (map string_bytes types.now))) }
 {
-    for entry in known {
+    for (place, entry) in known.iter().enumerate() {
         if are_same(entry.types, types) {
-            return Some(entry.names.as_slice());
+            return Some(place);
         }
     }
     None
+}
+
+// Where some types stand, if they were looked for before.
+fn find_place(known: &[Known], places: &IndexMap<u64, usize>, types: &[String]) -> Option<usize>
+    ensures { (u : bindings.Universe) → list_all (is_known u) known.now ≡ true → IfSome result
+        (λ p. listed_in known.now p ≡ choices u (of_types (map string_bytes types.now))) }
+{
+    if known.len() <= FEW {
+        return place_among(known, types);
+    }
+    let mut place = *places.get(&mix_of(types))?;
+    for _ in 0..known.len() {
+        let entry = known.get(place)?;
+        if are_same(entry.types, types) {
+            return Some(place);
+        }
+        place = entry.before?;
+    }
+    None
+}
+
+// The objects at a place among what was looked for.
+fn names_at<'u, 'a>(known: &'u [Known<'a>], place: usize) -> &'u [&'a str]
+    ensures { map (λ o. o.now) result.now ≡ listed_in known.now place }
+{
+    if place >= known.len() {
+        let none: &'u [&'a str] = &[];
+        return none;
+    }
+    known[place].names.as_slice()
 }
 
 // The objects that fit some types, where they were looked for before.
@@ -81,18 +112,23 @@ fn find_known<'u, 'a>(
     ensures { (u : bindings.Universe) → list_all (is_known u) known.now ≡ true → IfSome result
         (λ ns. map (λ o. o.now) ns.now ≡ choices u (of_types (map string_bytes types.now))) }
 {
-    if known.len() <= FEW {
-        return find_among(known, types);
-    }
-    let mut place = *places.get(&mix_of(types))?;
-    for _ in 0..known.len() {
-        let entry = known.get(place)?;
-        if are_same(entry.types, types) {
-            return Some(entry.names.as_slice());
-        }
-        place = entry.before?;
-    }
-    None
+    let place = find_place(known, places, types)?;
+    Some(names_at(known, place))
+}
+
+/// Where the objects stand that fit a variable, where they were looked for before.
+pub fn place_for(universe: &Universe, variable: &Typed) -> Option<usize>
+    ensures { IfSome result (λ p. listed universe.now p
+        ≡ choices (universe_view universe.now) (typed_view variable.now)) }
+{
+    find_place(&universe.known, &universe.places, variable.type_names())
+}
+
+/// The objects at a place among what was looked for.
+pub fn listed<'u, 'a>(universe: &'u Universe<'a>, place: usize) -> &'u [&'a str]
+    ensures { map (λ o. o.now) result.now ≡ listed universe.now place }
+{
+    names_at(&universe.known, place)
 }
 
 /// The same names in a list of their own.
@@ -181,8 +217,8 @@ fn count_choices(universe: &Universe, variable: &Typed) -> usize
     }
 }
 
-// A count times some more, if that is no more than so many. No count stands for more than that.
-fn times(count: Option<usize>, more: usize, most: usize) -> Option<usize>
+/// A count times some more, if that is no more than so many. No count stands for more than that.
+pub fn times(count: Option<usize>, more: usize, most: usize) -> Option<usize>
     requires { 0 < more }
     ensures { (n : ℕ) → IsCount most n count → IsCount most (more * n) result }
 {

@@ -1,6 +1,6 @@
 //! The bodies of actions.
 
-ghost use Rattle.std.specs.Prelude.{◌≡◌, [], map, IfOk};
+ghost use Rattle.std.specs.Prelude.{◌≡◌, [], map, true, IfOk};
 ghost use Rattle.tp_ast.specs.CondViews.{cond_view};
 ghost use Rattle.tp_ast.specs.ConstraintViews.{constraint_view};
 ghost use Rattle.tp_ast.specs.EffectViews.{effect_view, timed_condition_view, timed_effect_view};
@@ -14,8 +14,10 @@ ghost use Rattle.tp_ground.specs.ReadBack.{named_condition, named_limit, named_e
 ghost use Rattle.tp_ground.specs.NumberedEnds.{named_ends};
 ghost use Rattle.tp_ground.specs.NumberedEffects.{named_simple_effect, AreSplit};
 ghost use Rattle.tp_ground.specs.Lowered.{Lowers};
+ghost use Rattle.tp_ground.specs.Hints.{fits, if_known, joined_fits, nothing_fits, timed_condition_fits, timed_effect_fits, body_fits};
 
 use crate::environment::Env;
+use crate::hints::{BodyHint, Hint};
 use crate::lowering::conditions::condition;
 use crate::lowering::constraints::limits;
 use crate::lowering::effects::NumberedEffect;
@@ -102,15 +104,18 @@ fn condition_at<'a>(
     specifier: TimeSpecifier,
     writer: &mut Writer<'a>,
     condition: &'a TimedCond,
+    hint: Option<&Hint>,
 ) -> Result<Cond, GroundFault>
-    requires { universe_view universe.now ≡ writer.old.universe }
+    requires of_universe { universe_view universe.now ≡ writer.old.universe }
+    requires fit { if_known (joined_fits universe.now (timed_condition_fits universe.now)) hint
+        (timed_condition_view condition.now) ≡ true }
     ensures { Lowers named_condition writer.old result writer.new (condition_at
         (universe_view universe.now) specifier (env_view env.now)
         (timed_condition_view condition.now))
         (of_condition (condition_at (universe_view universe.now) specifier
         (env_view env.now) (timed_condition_view condition.now))) }
 {
-    Ok(Cond::And(joined(alloc, universe, env, specifier, writer, condition)?))
+    Ok(Cond::And(joined(alloc, universe, env, specifier, writer, condition, hint)?))
 }
 
 fn start<'a>(
@@ -121,16 +126,23 @@ fn start<'a>(
     duration: &'a DurationRule,
     condition: &'a TimedCond,
     effect: &'a TimedEffect,
+    hints: &BodyHint,
 ) -> Result<GroundEvent, GroundFault>
-    requires { universe_view universe.now ≡ writer.old.universe }
+    requires of_universe { universe_view universe.now ≡ writer.old.universe }
+    requires condition { joined_fits universe.now (timed_condition_fits universe.now)
+        hints.now.condition (timed_condition_view condition.now) ≡ true }
+    requires effect { joined_fits universe.now (timed_effect_fits universe.now)
+        hints.now.effect (timed_effect_view effect.now) ≡ true }
     ensures { Lowers named_event writer.old result writer.new
         (start_in (universe_view universe.now) (env_view env.now) (constraint_view duration.now)
         (timed_condition_view condition.now) (timed_effect_view effect.now))
         (of_start (universe_view universe.now) (env_view env.now) (constraint_view duration.now)
         (timed_condition_view condition.now) (timed_effect_view effect.now)) }
 {
-    let condition = condition_at(alloc, universe, env, AtStart, writer, condition)?;
-    let simple_effects = joined(alloc, universe, env, AtStart, writer, effect)?;
+    let known = Some(&hints.condition);
+    let condition = condition_at(alloc, universe, env, AtStart, writer, condition, known)?;
+    let known = Some(&hints.effect);
+    let simple_effects = joined(alloc, universe, env, AtStart, writer, effect, known)?;
     let constraint = limits(alloc, env, writer, duration)?;
     Ok(event(alloc, condition, simple_effects, constraint)?)
 }
@@ -142,15 +154,22 @@ fn end<'a>(
     writer: &mut Writer<'a>,
     condition: &'a TimedCond,
     effect: &'a TimedEffect,
+    hints: &BodyHint,
 ) -> Result<GroundEvent, GroundFault>
-    requires { universe_view universe.now ≡ writer.old.universe }
+    requires of_universe { universe_view universe.now ≡ writer.old.universe }
+    requires condition { joined_fits universe.now (timed_condition_fits universe.now)
+        hints.now.condition (timed_condition_view condition.now) ≡ true }
+    requires effect { joined_fits universe.now (timed_effect_fits universe.now)
+        hints.now.effect (timed_effect_view effect.now) ≡ true }
     ensures { Lowers named_event writer.old result writer.new
         (end_in (universe_view universe.now) (env_view env.now) (timed_condition_view condition.now)
         (timed_effect_view effect.now)) (of_end (universe_view universe.now)
         (env_view env.now) (timed_condition_view condition.now) (timed_effect_view effect.now)) }
 {
-    let condition = condition_at(alloc, universe, env, AtEnd, writer, condition)?;
-    let simple_effects = joined(alloc, universe, env, AtEnd, writer, effect)?;
+    let known = Some(&hints.condition);
+    let condition = condition_at(alloc, universe, env, AtEnd, writer, condition, known)?;
+    let known = Some(&hints.effect);
+    let simple_effects = joined(alloc, universe, env, AtEnd, writer, effect, known)?;
     Ok(event(alloc, condition, simple_effects, Vec::new(alloc))?)
 }
 
@@ -161,15 +180,22 @@ fn instant<'a>(
     writer: &mut Writer<'a>,
     precondition: &'a tp_ast::cond::Cond,
     effect: &'a Effect,
+    hints: &BodyHint,
 ) -> Result<GroundEvent, GroundFault>
-    requires { universe_view universe.now ≡ writer.old.universe }
+    requires of_universe { universe_view universe.now ≡ writer.old.universe }
+    requires condition { fits universe.now hints.now.condition (cond_view precondition.now)
+        ≡ true }
+    requires effect { joined_fits universe.now (nothing_fits universe.now) hints.now.effect
+        (effect_view effect.now) ≡ true }
     ensures { Lowers named_event writer.old result writer.new
         (instant_in (universe_view universe.now) (env_view env.now) (cond_view precondition.now)
         (effect_view effect.now)) (of_instant (universe_view universe.now)
         (env_view env.now) (cond_view precondition.now) (effect_view effect.now)) }
 {
-    let condition = condition(alloc, universe, env, writer, precondition)?;
-    let simple_effects = joined(alloc, universe, env, AtStart, writer, effect)?;
+    let known = Some(&hints.condition);
+    let condition = condition(alloc, universe, env, writer, precondition, known)?;
+    let known = Some(&hints.effect);
+    let simple_effects = joined(alloc, universe, env, AtStart, writer, effect, known)?;
     Ok(event(alloc, condition, simple_effects, Vec::new(alloc))?)
 }
 
@@ -188,8 +214,13 @@ fn ends_of<'a>(
     duration: &'a DurationRule,
     condition: &'a TimedCond,
     effect: &'a TimedEffect,
+    hints: &BodyHint,
 ) -> Result<Ends, GroundFault>
-    requires { universe_view universe.now ≡ writer.old.universe }
+    requires of_universe { universe_view universe.now ≡ writer.old.universe }
+    requires condition { joined_fits universe.now (timed_condition_fits universe.now)
+        hints.now.condition (timed_condition_view condition.now) ≡ true }
+    requires effect { joined_fits universe.now (timed_effect_fits universe.now)
+        hints.now.effect (timed_effect_view effect.now) ≡ true }
     ensures { Lowers named_ends writer.old result writer.new (
       start_in (universe_view universe.now) (env_view env.now) (constraint_view duration.now)
           (timed_condition_view condition.now) (timed_effect_view effect.now),
@@ -201,8 +232,10 @@ fn ends_of<'a>(
         then of_end (universe_view universe.now)
         (env_view env.now) (timed_condition_view condition.now) (timed_effect_view effect.now)) }
 {
-    let first = start(alloc, universe, env, writer, duration, condition, effect)?;
-    let last = end(alloc, universe, env, writer, condition, effect)?;
+    let first = start(
+        alloc, universe, env, writer, duration, condition, effect, hints,
+    )?;
+    let last = end(alloc, universe, env, writer, condition, effect, hints)?;
     Ok(Ends { first, last })
 }
 
@@ -215,8 +248,13 @@ fn durative<'a>(
     duration: &'a DurationRule,
     condition: &'a TimedCond,
     effect: &'a TimedEffect,
+    hints: &BodyHint,
 ) -> Result<Body, GroundFault>
-    requires { universe_view universe.now ≡ writer.old.universe }
+    requires of_universe { universe_view universe.now ≡ writer.old.universe }
+    requires condition { joined_fits universe.now (timed_condition_fits universe.now)
+        hints.now.condition (timed_condition_view condition.now) ≡ true }
+    requires effect { joined_fits universe.now (timed_effect_fits universe.now)
+        hints.now.effect (timed_effect_view effect.now) ≡ true }
     ensures { Lowers named_body writer.old result writer.new
         (body_in (universe_view universe.now) (env_view env.now)
         (durative (constraint_view duration.now)
@@ -225,8 +263,11 @@ fn durative<'a>(
         (durative (constraint_view duration.now)
         (timed_condition_view condition.now) (timed_effect_view effect.now))) }
 {
-    let ends = ends_of(alloc, universe, env, writer, duration, condition, effect)?;
-    let between = condition_at(alloc, universe, env, OverAll, writer, condition)?;
+    let ends = ends_of(
+        alloc, universe, env, writer, duration, condition, effect, hints,
+    )?;
+    let known = Some(&hints.condition);
+    let between = condition_at(alloc, universe, env, OverAll, writer, condition, known)?;
     Ok(Body::Durative(ends.first, ends.last, between))
 }
 
@@ -237,8 +278,10 @@ pub fn body<'a>(
     env: &Env<'_, 'a>,
     writer: &mut Writer<'a>,
     body: &'a tp_ast::action::Body,
+    hints: &BodyHint,
 ) -> Result<Body, GroundFault>
-    requires { universe_view universe.now ≡ writer.old.universe }
+    requires of_universe { universe_view universe.now ≡ writer.old.universe }
+    requires fit { body_fits universe.now hints.now (body_view body.now) ≡ true }
     ensures { Lowers named_body writer.old result writer.new
         (body_in (universe_view universe.now) (env_view env.now) (body_view body.now))
         (of_body (universe_view universe.now) (env_view env.now) (body_view body.now)) }
@@ -248,13 +291,15 @@ pub fn body<'a>(
             precondition,
             effect,
         } => {
-            let event = instant(alloc, universe, env, writer, precondition, effect)?;
+            let event = instant(alloc, universe, env, writer, precondition, effect, hints)?;
             Ok(Body::Instant(event))
         }
         tp_ast::action::Body::Durative {
             duration,
             condition,
             effect,
-        } => durative(alloc, universe, env, writer, duration, condition, effect),
+        } => durative(
+            alloc, universe, env, writer, duration, condition, effect, hints,
+        ),
     }
 }

@@ -1,6 +1,6 @@
 //! Conditions.
 
-ghost use Rattle.std.specs.Prelude.{◌≡◌, map, IfOk, IfSome};
+ghost use Rattle.std.specs.Prelude.{◌≡◌, [], map, true, IfOk, IfSome};
 ghost use Rattle.tp_ast.specs.Terms.{atom_view, term_view};
 ghost use Rattle.tp_ast.specs.Symbols.{typed_view};
 ghost use Rattle.tp_ast.specs.ExprViews.{expr_view};
@@ -15,12 +15,16 @@ ghost use Rattle.tp_ground.specs.ReadBack.{named_condition};
 ghost use Rattle.tp_ground.specs.Lowered.{IsLowered, Lowers};
 ghost use Rattle.tp_ground.specs.TermsIn.{terms_in};
 ghost use Rattle.tp_ground.specs.Kept.{Stands};
+ghost use Rattle.tp_ground.specs.Hints.{fits, if_known, each_fits, bound_fits};
+ghost use Rattle.tp_ast.specs.Conditions.{conditions as syntax_conditions};
 
 use crate::environment::{Env, object_for, words_in};
+use crate::hinting::hint_of;
+use crate::hints::{Hint, Inside, hint_at, hint_in, inside_of, parts_of, places_in};
 use crate::keys::{Objects, objects_in};
 use crate::lowering::expressions::{comparison_of, operand};
 use crate::memory::Kept;
-use crate::rows::rows_of;
+use crate::rows::rows_with;
 use crate::shortness::is_short_quantifier;
 use crate::universe::Universe;
 use crate::variables::Variables;
@@ -117,16 +121,20 @@ fn conditions<'a>(
     env: &Env<'_, 'a>,
     writer: &mut Writer<'a>,
     conds: &'a [tp_ast::cond::Cond],
+    hints: &[Hint],
 ) -> Result<Vec<Cond>, GroundFault>
-    requires { universe_view universe.now ≡ writer.old.universe }
+    requires of_universe { universe_view universe.now ≡ writer.old.universe }
+    requires fit { each_fits (map (fits universe.now) hints.now)
+        (syntax_conditions (map cond_view conds.now)) ≡ true }
     ensures { Lowers (λ t v. map (named_condition t) v.items) writer.old result writer.new
         (map (λ c. condition_in (universe_view universe.now) (env_view env.now) (cond_view c))
         conds.now) (of_each of_condition (map (λ c.
         condition_in (universe_view universe.now) (env_view env.now) (cond_view c)) conds.now)) }
 {
     let mut lowered = Vec::with_capacity(alloc, conds.len())?;
-    for cond in conds {
-        lowered.push(condition(alloc, universe, env, writer, cond)?)?;
+    for (place, cond) in conds.iter().enumerate() {
+        let hint = hint_at(universe, hints, conds, place, cond);
+        lowered.push(condition(alloc, universe, env, writer, cond, hint)?)?;
     }
     Ok(lowered)
 }
@@ -140,8 +148,11 @@ fn under_each<'a>(
     writer: &mut Writer<'a>,
     variables: &Variables<'a>,
     cond: &'a tp_ast::cond::Cond,
+    inside: Option<Inside>,
 ) -> Result<Vec<Cond>, GroundFault>
-    requires { universe_view universe.now ≡ writer.old.universe }
+    requires of_universe { universe_view universe.now ≡ writer.old.universe }
+    requires fit { IfSome inside (λ i. bound_fits universe.now i.places.now
+        (fits universe.now i.hint.now) (map typed_view variables.now) (cond_view cond.now) ≡ true) }
     ensures { Lowers (λ t v. map (named_condition t) v.items) writer.old result writer.new
         (map (λ e. condition_in (universe_view universe.now) e (cond_view cond.now))
         (inner (universe_view universe.now) (env_view env.now) (map typed_view variables.now)))
@@ -149,12 +160,13 @@ fn under_each<'a>(
         (map (λ e. condition_in (universe_view universe.now) e (cond_view cond.now))
         (inner (universe_view universe.now) (env_view env.now) (map typed_view variables.now)))) }
 {
-    let mut rows = rows_of(alloc, universe, variables.items())?;
+    let mut rows = rows_with(alloc, universe, variables.items(), places_in(inside))?;
     let mut lowered = Vec::with_capacity(alloc, rows.count)?;
+    let hint = hint_in(inside);
     for place in 0..rows.count {
         rows.turn_to(place);
         let inner = Env::Inner(&*variables, &rows.row, &*env);
-        lowered.push(condition(alloc, universe, &inner, writer, cond)?)?;
+        lowered.push(condition(alloc, universe, &inner, writer, cond, hint)?)?;
     }
     Ok(lowered)
 }
@@ -166,13 +178,15 @@ fn negated<'a>(
     env: &Env<'_, 'a>,
     writer: &mut Writer<'a>,
     cond: &'a tp_ast::cond::Cond,
+    hint: Option<&Hint>,
 ) -> Result<Cond, GroundFault>
-    requires { universe_view universe.now ≡ writer.old.universe }
+    requires of_universe { universe_view universe.now ≡ writer.old.universe }
+    requires fit { if_known (fits universe.now) hint (cond_view cond.now) ≡ true }
     ensures { Lowers named_condition writer.old result writer.new (negation (condition_in
         (universe_view universe.now) (env_view env.now) (cond_view cond.now))) (of_condition
         (condition_in (universe_view universe.now) (env_view env.now) (cond_view cond.now))) }
 {
-    let lowered = condition(alloc, universe, env, writer, cond)?;
+    let lowered = condition(alloc, universe, env, writer, cond, hint)?;
     Ok(Cond::Not(Box::new(alloc, lowered)?))
 }
 
@@ -183,15 +197,18 @@ fn conjunction<'a>(
     env: &Env<'_, 'a>,
     writer: &mut Writer<'a>,
     conds: &'a [tp_ast::cond::Cond],
+    hints: &[Hint],
 ) -> Result<Cond, GroundFault>
-    requires { universe_view universe.now ≡ writer.old.universe }
+    requires of_universe { universe_view universe.now ≡ writer.old.universe }
+    requires fit { each_fits (map (fits universe.now) hints.now)
+        (syntax_conditions (map cond_view conds.now)) ≡ true }
     ensures { Lowers named_condition writer.old result writer.new
         (all_of (conditions_from (map (λ c.
         condition_in (universe_view universe.now) (env_view env.now) (cond_view c)) conds.now)))
         (of_condition (all_of (conditions_from (map (λ c.
         condition_in (universe_view universe.now) (env_view env.now) (cond_view c)) conds.now)))) }
 {
-    Ok(Cond::And(conditions(alloc, universe, env, writer, conds)?))
+    Ok(Cond::And(conditions(alloc, universe, env, writer, conds, hints)?))
 }
 
 #[cycle(condition)]
@@ -201,15 +218,18 @@ fn disjunction<'a>(
     env: &Env<'_, 'a>,
     writer: &mut Writer<'a>,
     conds: &'a [tp_ast::cond::Cond],
+    hints: &[Hint],
 ) -> Result<Cond, GroundFault>
-    requires { universe_view universe.now ≡ writer.old.universe }
+    requires of_universe { universe_view universe.now ≡ writer.old.universe }
+    requires fit { each_fits (map (fits universe.now) hints.now)
+        (syntax_conditions (map cond_view conds.now)) ≡ true }
     ensures { Lowers named_condition writer.old result writer.new
         (any_of (conditions_from (map (λ c.
         condition_in (universe_view universe.now) (env_view env.now) (cond_view c)) conds.now)))
         (of_condition (any_of (conditions_from (map (λ c.
         condition_in (universe_view universe.now) (env_view env.now) (cond_view c)) conds.now)))) }
 {
-    Ok(Cond::Or(conditions(alloc, universe, env, writer, conds)?))
+    Ok(Cond::Or(conditions(alloc, universe, env, writer, conds, hints)?))
 }
 
 #[cycle(condition)]
@@ -220,8 +240,12 @@ fn for_all<'a>(
     writer: &mut Writer<'a>,
     variables: &'a TypedList,
     cond: &'a tp_ast::cond::Cond,
+    inside: Option<Inside>,
 ) -> Result<Cond, GroundFault>
-    requires { universe_view universe.now ≡ writer.old.universe }
+    requires of_universe { universe_view universe.now ≡ writer.old.universe }
+    requires fit { IfSome inside (λ i. bound_fits universe.now i.places.now
+        (fits universe.now i.hint.now) (map typed_view variables.now.items) (cond_view cond.now)
+        ≡ true) }
     ensures { Lowers named_condition writer.old result writer.new (all_of (conditions_from
         (map (λ e. condition_in (universe_view universe.now) e (cond_view cond.now))
         (inner (universe_view universe.now) (env_view env.now)
@@ -232,7 +256,7 @@ fn for_all<'a>(
         (map typed_view variables.now.items)))))) }
 {
     let named = Variables::new(alloc, variables)?;
-    Ok(Cond::And(under_each(alloc, universe, env, writer, &named, cond)?))
+    Ok(Cond::And(under_each(alloc, universe, env, writer, &named, cond, inside)?))
 }
 
 #[cycle(condition)]
@@ -243,8 +267,12 @@ fn for_some<'a>(
     writer: &mut Writer<'a>,
     variables: &'a TypedList,
     cond: &'a tp_ast::cond::Cond,
+    inside: Option<Inside>,
 ) -> Result<Cond, GroundFault>
-    requires { universe_view universe.now ≡ writer.old.universe }
+    requires of_universe { universe_view universe.now ≡ writer.old.universe }
+    requires fit { IfSome inside (λ i. bound_fits universe.now i.places.now
+        (fits universe.now i.hint.now) (map typed_view variables.now.items) (cond_view cond.now)
+        ≡ true) }
     ensures { Lowers named_condition writer.old result writer.new (any_of (conditions_from
         (map (λ e. condition_in (universe_view universe.now) e (cond_view cond.now))
         (inner (universe_view universe.now) (env_view env.now)
@@ -255,7 +283,7 @@ fn for_some<'a>(
         (map typed_view variables.now.items)))))) }
 {
     let named = Variables::new(alloc, variables)?;
-    Ok(Cond::Or(under_each(alloc, universe, env, writer, &named, cond)?))
+    Ok(Cond::Or(under_each(alloc, universe, env, writer, &named, cond, inside)?))
 }
 
 // The condition written out anew, whether or not it was before.
@@ -266,26 +294,51 @@ fn written_out<'a>(
     env: &Env<'_, 'a>,
     writer: &mut Writer<'a>,
     cond: &'a tp_ast::cond::Cond,
+    hint: Option<&Hint>,
 ) -> Result<Cond, GroundFault>
-    requires { universe_view universe.now ≡ writer.old.universe }
+    requires of_universe { universe_view universe.now ≡ writer.old.universe }
+    requires fit { if_known (fits universe.now) hint (cond_view cond.now) ≡ true }
     ensures { Lowers named_condition writer.old result writer.new (condition_in
         (universe_view universe.now) (env_view env.now) (cond_view cond.now)) (of_condition
         (condition_in (universe_view universe.now) (env_view env.now) (cond_view cond.now))) }
 {
     match cond {
-        tp_ast::cond::Cond::And(conds) => conjunction(alloc, universe, env, writer, conds),
-        tp_ast::cond::Cond::Or(conds) => disjunction(alloc, universe, env, writer, conds),
-        tp_ast::cond::Cond::Not(inner) => negated(alloc, universe, env, writer, inner),
+        tp_ast::cond::Cond::And(conds) => {
+            conjunction(alloc, universe, env, writer, conds, parts_of(hint))
+        }
+        tp_ast::cond::Cond::Or(conds) => {
+            disjunction(alloc, universe, env, writer, conds, parts_of(hint))
+        }
+        tp_ast::cond::Cond::Not(inner) => {
+            negated(alloc, universe, env, writer, inner, parts_of(hint).get(0))
+        }
         tp_ast::cond::Cond::Imply(a, b) => {
-            let first = negated(alloc, universe, env, writer, a)?;
-            let second = condition(alloc, universe, env, writer, b)?;
+            let hints = parts_of(hint);
+            let first = negated(alloc, universe, env, writer, a, hints.get(0))?;
+            let second = condition(alloc, universe, env, writer, b, hints.get(1))?;
             Ok(either(alloc, first, second)?)
         }
         tp_ast::cond::Cond::Forall(variables, inner) => {
-            for_all(alloc, universe, env, writer, variables, inner)
+            for_all(
+                alloc,
+                universe,
+                env,
+                writer,
+                variables,
+                inner,
+                inside_of(hint),
+            )
         }
         tp_ast::cond::Cond::Exists(variables, inner) => {
-            for_some(alloc, universe, env, writer, variables, inner)
+            for_some(
+                alloc,
+                universe,
+                env,
+                writer,
+                variables,
+                inner,
+                inside_of(hint),
+            )
         }
         tp_ast::cond::Cond::Atom(a) => fact(alloc, env, writer, a),
         tp_ast::cond::Cond::Same(a, b) => Ok(same(alloc, env, a, b)),
@@ -348,16 +401,18 @@ fn written_once<'a>(
     env: &Env<'_, 'a>,
     writer: &mut Writer<'a>,
     cond: &'a tp_ast::cond::Cond,
+    hint: Option<&Hint>,
     objects: Objects<'a>,
 ) -> Result<Cond, GroundFault>
     requires of_universe { universe_view universe.now ≡ writer.old.universe }
+    requires fit { if_known (fits universe.now) hint (cond_view cond.now) ≡ true }
     requires of_terms { map (object_for (env_view env.now)) (terms_in (cond_view cond.now))
         ≡ map (λ o. o.now) objects.items }
     ensures { Lowers named_condition writer.old result writer.new (condition_in
         (universe_view universe.now) (env_view env.now) (cond_view cond.now)) (of_condition
         (condition_in (universe_view universe.now) (env_view env.now) (cond_view cond.now))) }
 {
-    let written = written_out(alloc, universe, env, writer, cond)?;
+    let written = written_out(alloc, universe, env, writer, cond, hint)?;
     Ok(kept(alloc, writer, cond, objects, written)?)
 }
 
@@ -369,8 +424,10 @@ fn shared<'a>(
     env: &Env<'_, 'a>,
     writer: &mut Writer<'a>,
     cond: &'a tp_ast::cond::Cond,
+    hint: Option<&Hint>,
 ) -> Result<Cond, GroundFault>
-    requires { universe_view universe.now ≡ writer.old.universe }
+    requires of_universe { universe_view universe.now ≡ writer.old.universe }
+    requires fit { if_known (fits universe.now) hint (cond_view cond.now) ≡ true }
     ensures { Lowers named_condition writer.old result writer.new (condition_in
         (universe_view universe.now) (env_view env.now) (cond_view cond.now)) (of_condition
         (condition_in (universe_view universe.now) (env_view env.now) (cond_view cond.now))) }
@@ -378,7 +435,7 @@ fn shared<'a>(
     let objects = objects_in(alloc, env, cond)?;
     match recalled(env, &*writer, cond, &objects)? {
         Some(known) => Ok(known),
-        None => written_once(alloc, universe, env, writer, cond, objects),
+        None => written_once(alloc, universe, env, writer, cond, hint, objects),
     }
 }
 
@@ -390,15 +447,33 @@ pub fn condition<'a>(
     env: &Env<'_, 'a>,
     writer: &mut Writer<'a>,
     cond: &'a tp_ast::cond::Cond,
+    hint: Option<&Hint>,
 ) -> Result<Cond, GroundFault>
-    requires { universe_view universe.now ≡ writer.old.universe }
+    requires of_universe { universe_view universe.now ≡ writer.old.universe }
+    requires fit { if_known (fits universe.now) hint (cond_view cond.now) ≡ true }
     ensures { Lowers named_condition writer.old result writer.new (condition_in
         (universe_view universe.now) (env_view env.now) (cond_view cond.now)) (of_condition
         (condition_in (universe_view universe.now) (env_view env.now) (cond_view cond.now))) }
 {
     if is_short_quantifier(cond) {
-        shared(alloc, universe, env, writer, cond)
+        shared(alloc, universe, env, writer, cond, hint)
     } else {
-        written_out(alloc, universe, env, writer, cond)
+        written_out(alloc, universe, env, writer, cond, hint)
     }
+}
+
+/// A condition with no variables from outside, as a goal is, over numbers.
+pub fn closed_condition<'a>(
+    alloc: Global,
+    universe: &Universe<'a>,
+    writer: &mut Writer<'a>,
+    cond: &'a tp_ast::cond::Cond,
+) -> Result<Cond, GroundFault>
+    requires { universe_view universe.now ≡ writer.old.universe }
+    ensures { Lowers named_condition writer.old result writer.new
+        (condition_in (universe_view universe.now) [] (cond_view cond.now)) (of_condition
+        (condition_in (universe_view universe.now) [] (cond_view cond.now))) }
+{
+    let hint = hint_of(alloc, universe, cond)?;
+    condition(alloc, universe, &Env::Empty, writer, cond, Some(&hint))
 }

@@ -14,14 +14,17 @@ ghost use Rattle.tp_ground.specs.Mentions.{of_simple_effect, of_condition};
 ghost use Rattle.tp_ground.specs.ReadBack.{named_condition};
 ghost use Rattle.tp_ground.specs.NumberedEffects.{named_simple_effect};
 ghost use Rattle.tp_ground.specs.Lowered.{Lowers};
+ghost use Rattle.tp_ground.specs.Hints.{nothing_fits, timed_condition_fits, timed_effect_fits};
 
 use crate::environment::Env;
+use crate::hinting::{hint_of, joined_hint};
+use crate::hints::Hint;
 use crate::lowering::conditions::{atom, condition};
 use crate::lowering::expressions::{expression, fluent};
 use crate::lowering::parts::{Lowerable, push_part};
 use crate::universe::Universe;
 use crate::writer::Writer;
-use std::alloc::Global;
+use std::alloc::{AllocError, Global};
 use tp_ast::effect::{Effect, SimpleEffect};
 use tp_ast::expr::Expr;
 use tp_ast::term::Atom;
@@ -122,6 +125,12 @@ impl Lowerable for SimpleEffect {
 
     ghost written = { simple_effect_part };
 
+    ghost fits = { nothing_fits };
+
+    fn hint(&self, _alloc: Global, _universe: &Universe) -> Result<Hint, AllocError> {
+        Ok(Hint::Nothing)
+    }
+
     fn is_at(&self, _specifier: TimeSpecifier) -> bool {
         true
     }
@@ -133,6 +142,7 @@ impl Lowerable for SimpleEffect {
         env: &Env<'_, 'a>,
         _mark: TimeSpecifier,
         writer: &mut Writer<'a>,
+        _hint: Option<&Hint>,
         into: &mut Vec<NumberedEffect>,
     ) -> Result<(), GroundFault> {
         into.push(simple_effect(alloc, env, writer, self)?)?;
@@ -155,6 +165,12 @@ impl Lowerable for Timed<tp_ast::cond::Cond> {
 
     ghost written = { condition_part };
 
+    ghost fits = { timed_condition_fits };
+
+    fn hint(&self, alloc: Global, universe: &Universe) -> Result<Hint, AllocError> {
+        hint_of(alloc, universe, &self.what)
+    }
+
     fn is_at(&self, specifier: TimeSpecifier) -> bool {
         is_specifier(self.specifier, specifier)
     }
@@ -166,12 +182,13 @@ impl Lowerable for Timed<tp_ast::cond::Cond> {
         env: &Env<'_, 'a>,
         specifier: TimeSpecifier,
         writer: &mut Writer<'a>,
+        hint: Option<&Hint>,
         into: &mut Vec<Cond>,
     ) -> Result<(), GroundFault> {
         if !is_specifier(self.specifier, specifier) {
             return Ok(());
         }
-        into.push(condition(alloc, universe, env, writer, &self.what)?)?;
+        into.push(condition(alloc, universe, env, writer, &self.what, hint)?)?;
         Ok(())
     }
 }
@@ -191,6 +208,12 @@ impl Lowerable for Timed<Effect> {
 
     ghost written = { simple_effects_part };
 
+    ghost fits = { timed_effect_fits };
+
+    fn hint(&self, alloc: Global, universe: &Universe) -> Result<Hint, AllocError> {
+        joined_hint(alloc, universe, &self.what)
+    }
+
     fn is_at(&self, specifier: TimeSpecifier) -> bool {
         is_specifier(self.specifier, specifier)
     }
@@ -202,11 +225,14 @@ impl Lowerable for Timed<Effect> {
         env: &Env<'_, 'a>,
         specifier: TimeSpecifier,
         writer: &mut Writer<'a>,
+        hint: Option<&Hint>,
         into: &mut Vec<NumberedEffect>,
     ) -> Result<(), GroundFault> {
         if !is_specifier(self.specifier, specifier) {
             return Ok(());
         }
-        push_part(alloc, universe, env, specifier, writer, &self.what, into)
+        push_part(
+            alloc, universe, env, specifier, writer, &self.what, hint, into,
+        )
     }
 }

@@ -1,6 +1,6 @@
 //! What is joined by `and` and `forall`, written out one after another.
 
-ghost use Rattle.std.specs.Prelude.{◌≡◌, List, map};
+ghost use Rattle.std.specs.Prelude.{◌≡◌, ◌<◌, List, Bool, map, length, slice_index_or, true, IfOk, IfSome};
 ghost use Rattle.std.specs.List.{flat_map};
 ghost use Rattle.tp_ast.specs.Symbols.{typed_view};
 ghost use Rattle.tp_ast.specs.PartViews.{joined_view};
@@ -12,13 +12,18 @@ ghost use Rattle.tp_ground.specs.Written.{parts_in, inner};
 ghost use Rattle.tp_ground.specs.Mentions.{Mentions, of_each};
 ghost use Rattle.tp_ground.specs.Lowered.{Lowers};
 ghost use Rattle.tp_ground.specs.Appended.{Appends};
+ghost use Rattle.tp_ground.specs.Hints.{if_known, joined_fits, parts_fits, under_fits};
+ghost use Rattle.tp_ground.specs.declared.objects.Universe as objects;
+ghost use Rattle.tp_ground.specs.declared.hints.Hint as hints;
+ghost use Rattle.tp_ast.specs.Parts.{parts as syntax_parts};
 
 use crate::environment::Env;
-use crate::rows::rows_of;
+use crate::hints::{Hint, Inside, hint_in, inside_of, parts_of, places_in};
+use crate::rows::rows_with;
 use crate::universe::Universe;
 use crate::variables::Variables;
 use crate::writer::Writer;
-use std::alloc::Global;
+use std::alloc::{AllocError, Global};
 use tp_ast::joined::Joined;
 use tp_ast::words::TimeSpecifier;
 use tp_task::GroundFault;
@@ -44,8 +49,15 @@ pub trait Lowerable: Drop {
     ghost written: { bindings.Universe → specifiers.TimeSpecifier → bindings.Env
         → Seen → List Written };
 
+    /// Whether what is known of the quantifiers in it fits.
+    ghost fits: { objects.Universe → hints.Hint → Seen → Bool };
+
     /// Whether it is something at a specifier.
     fn is_at(&self, specifier: TimeSpecifier) -> bool;
+
+    /// What can be known of the quantifiers in it.
+    fn hint(&self, alloc: Global, universe: &Universe) -> Result<Hint, AllocError>
+        ensures { IfOk result (λ h. fits universe.now h (seen self.now) ≡ true) };
 
     /// Puts what it is at a specifier at the end of a list.
     fn lower<'a>(
@@ -55,13 +67,39 @@ pub trait Lowerable: Drop {
         env: &Env<'_, 'a>,
         specifier: TimeSpecifier,
         writer: &mut Writer<'a>,
+        hint: Option<&Hint>,
         into: &mut Vec<Self::Lowered>,
     ) -> Result<(), GroundFault>
-        requires { universe_view universe.now ≡ writer.old.universe }
+        requires of_universe { universe_view universe.now ≡ writer.old.universe }
+        requires fit { if_known (fits universe.now) hint (seen self.now) ≡ true }
         ensures { Appends named writer.old result writer.new into.old.items into.new.items (written
             (universe_view universe.now) specifier (env_view env.now) (seen self.now))
             (of_each mentions (written
             (universe_view universe.now) specifier (env_view env.now) (seen self.now))) };
+}
+
+// What is known of one of some parts, the one at a place.
+fn part_hint<'h, P: Lowerable>(
+    universe: &Universe,
+    hints: &'h [Hint],
+    parts: &[Joined<P>],
+    place: usize,
+    part: &Joined<P>,
+) -> Option<&'h Hint>
+    requires fit { parts_fits universe.now (P.fits universe.now) hints.now
+        (syntax_parts (map (joined_view P.seen) parts.now)) ≡ true }
+    requires within { place < length parts.now }
+    requires there { part.now ≡ slice_index_or parts.now place part.now }
+    ensures { if_known (joined_fits universe.now (P.fits universe.now)) result
+        (joined_view P.seen part.now) ≡ true }
+{
+    let _ = universe;
+    let _ = parts;
+    let _ = part;
+    if place >= hints.len() {
+        return None;
+    }
+    Some(&hints[place])
 }
 
 #[cycle(push)]
@@ -72,9 +110,12 @@ fn push_parts<'a, P: Lowerable>(
     specifier: TimeSpecifier,
     writer: &mut Writer<'a>,
     parts: &'a [Joined<P>],
+    hints: &[Hint],
     into: &mut Vec<P::Lowered>,
 ) -> Result<(), GroundFault>
-    requires { universe_view universe.now ≡ writer.old.universe }
+    requires of_universe { universe_view universe.now ≡ writer.old.universe }
+    requires fit { parts_fits universe.now (P.fits universe.now) hints.now
+        (syntax_parts (map (joined_view P.seen) parts.now)) ≡ true }
     ensures { Appends P.named writer.old result writer.new into.old.items into.new.items
         (flat_map (λ p. parts_in (universe_view universe.now) (P.written
         (universe_view universe.now) specifier) (env_view env.now)
@@ -83,8 +124,9 @@ fn push_parts<'a, P: Lowerable>(
         (universe_view universe.now) specifier) (env_view env.now)
         (joined_view P.seen p)) parts.now)) }
 {
-    for part in parts {
-        push_part(alloc, universe, env, specifier, writer, part, into)?;
+    for (place, part) in parts.iter().enumerate() {
+        let hint = part_hint(universe, hints, parts, place, part);
+        push_part(alloc, universe, env, specifier, writer, part, hint, into)?;
     }
     Ok(())
 }
@@ -99,9 +141,12 @@ fn push_under_each<'a, P: Lowerable>(
     writer: &mut Writer<'a>,
     variables: &Variables<'a>,
     part: &'a Joined<P>,
+    inside: Option<Inside>,
     into: &mut Vec<P::Lowered>,
 ) -> Result<(), GroundFault>
-    requires { universe_view universe.now ≡ writer.old.universe }
+    requires of_universe { universe_view universe.now ≡ writer.old.universe }
+    requires fit { IfSome inside (λ i. under_fits universe.now (P.fits universe.now) i.places.now
+        i.hint.now (map typed_view variables.now) (joined_view P.seen part.now) ≡ true) }
     ensures { Appends P.named writer.old result writer.new into.old.items into.new.items
         (flat_map (λ e. parts_in (universe_view universe.now)
         (P.written (universe_view universe.now) specifier) e (joined_view P.seen part.now))
@@ -110,12 +155,13 @@ fn push_under_each<'a, P: Lowerable>(
         (P.written (universe_view universe.now) specifier) e (joined_view P.seen part.now))
         (inner (universe_view universe.now) (env_view env.now) (map typed_view variables.now)))) }
 {
-    let mut rows = rows_of(alloc, universe, variables.items())?;
+    let mut rows = rows_with(alloc, universe, variables.items(), places_in(inside))?;
     into.reserve(rows.count)?;
+    let hint = hint_in(inside);
     for place in 0..rows.count {
         rows.turn_to(place);
         let inner = Env::Inner(&*variables, &rows.row, &*env);
-        push_part(alloc, universe, &inner, specifier, writer, part, into)?;
+        push_part(alloc, universe, &inner, specifier, writer, part, hint, into)?;
     }
     Ok(())
 }
@@ -129,9 +175,12 @@ pub fn push_part<'a, P: Lowerable>(
     specifier: TimeSpecifier,
     writer: &mut Writer<'a>,
     part: &'a Joined<P>,
+    hint: Option<&Hint>,
     into: &mut Vec<P::Lowered>,
 ) -> Result<(), GroundFault>
-    requires { universe_view universe.now ≡ writer.old.universe }
+    requires of_universe { universe_view universe.now ≡ writer.old.universe }
+    requires fit { if_known (joined_fits universe.now (P.fits universe.now)) hint
+        (joined_view P.seen part.now) ≡ true }
     ensures { Appends P.named writer.old result writer.new into.old.items into.new.items
         (parts_in (universe_view universe.now) (P.written (universe_view universe.now) specifier)
         (env_view env.now) (joined_view P.seen part.now))
@@ -139,12 +188,18 @@ pub fn push_part<'a, P: Lowerable>(
         (universe_view universe.now) specifier) (env_view env.now) (joined_view P.seen part.now))) }
 {
     match part {
-        Joined::And(parts) => push_parts(alloc, universe, env, specifier, writer, parts, into),
+        Joined::And(parts) => {
+            let hints = parts_of(hint);
+            push_parts(alloc, universe, env, specifier, writer, parts, hints, into)
+        }
         Joined::Forall(variables, inner) => {
             let named = Variables::new(alloc, variables)?;
-            push_under_each(alloc, universe, env, specifier, writer, &named, inner, into)
+            let inside = inside_of(hint);
+            push_under_each(
+                alloc, universe, env, specifier, writer, &named, inner, inside, into,
+            )
         }
-        Joined::One(one) => one.lower(alloc, universe, env, specifier, writer, into),
+        Joined::One(one) => one.lower(alloc, universe, env, specifier, writer, hint, into),
     }
 }
 
@@ -171,8 +226,11 @@ pub fn joined<'a, P: Lowerable>(
     specifier: TimeSpecifier,
     writer: &mut Writer<'a>,
     part: &'a Joined<P>,
+    hint: Option<&Hint>,
 ) -> Result<Vec<P::Lowered>, GroundFault>
-    requires { universe_view universe.now ≡ writer.old.universe }
+    requires of_universe { universe_view universe.now ≡ writer.old.universe }
+    requires fit { if_known (joined_fits universe.now (P.fits universe.now)) hint
+        (joined_view P.seen part.now) ≡ true }
     ensures { Lowers (λ t v. map (P.named t) v.items) writer.old result writer.new
         (parts_in (universe_view universe.now) (P.written (universe_view universe.now) specifier)
         (env_view env.now) (joined_view P.seen part.now))
@@ -180,6 +238,15 @@ pub fn joined<'a, P: Lowerable>(
         (universe_view universe.now) specifier) (env_view env.now) (joined_view P.seen part.now))) }
 {
     let mut lowered = Vec::with_capacity(alloc, room_for(part, specifier))?;
-    push_part(alloc, universe, env, specifier, writer, part, &mut lowered)?;
+    push_part(
+        alloc,
+        universe,
+        env,
+        specifier,
+        writer,
+        part,
+        hint,
+        &mut lowered,
+    )?;
     Ok(lowered)
 }

@@ -1,14 +1,10 @@
-use Rattle.std.proofs.Common.{List, map, sym, ap, ◌∙◌}
+use Rattle.std.proofs.Common.{refl, sym, ap, ◌∙◌}
 use Rattle.std.specs.List.{flat_map}
 use Rattle.std.proofs.lemmas.List.{take_all}
-use Rattle.tp_ast.specs.Symbols.{typed_view}
-use Rattle.tp_ast.specs.DomainViews.{action_view, body_view}
-use Rattle.tp_ast.specs.declared.symbols.Typed.{Typed}
+use Rattle.tp_ast.specs.DomainViews.{action_view}
 use Rattle.tp_ast.specs.declared.action.Action.{Action}
-use Rattle.tp_ground.specs.Bindings.{bound, bindings}
 use Rattle.tp_ground.specs.Views.{universe_view}
-use Rattle.tp_ground.specs.Written.{body_in}
-use Rattle.tp_ground.specs.Mentions.{of_body, of_each}
+use Rattle.tp_ground.specs.Mentions.{of_each}
 use Rattle.tp_ground.specs.Grounding.{of_action}
 use Rattle.tp_ground.specs.ReadBack.{named_body}
 use Rattle.tp_ground.proofs.OnLowered.{lowered_same, failed}
@@ -18,20 +14,15 @@ use Rattle.tp_ground.proofs.grounding.lower_actions.Goals as goal
 pub loop-action-preserved : goal.loop-action-preserved
 loop-action-preserved c =
     let u = universe_view c.args.universe.now in
-    let x = body_view c.action-item.result.body in
     each_append named_body (λ (a : Action). of_action u (action_view a)) c.args.actions.now c.loop-action.action-index c.action-item.result c.loop-action-test.true c.action-item.is _ _ _ _ _ (bodies_of u) _ _
-    (ap (λ (ps : List Typed). map (λ objects. body_in u (bound (map typed_view ps) objects) x) (bindings u (map typed_view ps))) c.in_ok-parameters.ensures)
-    (ap (λ (ps : List Typed). of_each (λ objects. of_body u (bound (map typed_view ps) objects) x) (bindings u (map typed_view ps))) c.in_ok-parameters.ensures)
-    c.loop-action.invariant c.in_ok-push_bodies.ensures
+    refl refl c.loop-action.invariant c.in_ok-push_action.ensures
 
-pub returns-in_err-push_bodies : goal.returns-in_err-push_bodies
-returns-in_err-push_bodies c =
+pub returns-in_err-push_action : goal.returns-in_err-push_action
+returns-in_err-push_action c =
     let u = universe_view c.args.universe.now in
-    let x = body_view c.action-item.result.body in
-    failed (every named_body) _ _ _ _ _ _ c.from_residual-in_err-push_bodies.ensures.1
+    failed (every named_body) _ _ _ _ _ _ c.from_residual.ensures.1
     (each_stopped (λ (a : Action). of_action u (action_view a)) c.args.actions.now c.loop-action.action-index c.action-item.result c.loop-action-test.true c.action-item.is _ _ _ _ _ (sym (mentions_all u c.args.actions.now))
-    (ap (λ (ps : List Typed). of_each (λ objects. of_body u (bound (map typed_view ps) objects) x) (bindings u (map typed_view ps))) c.in_ok-parameters.ensures)
-    c.loop-action.invariant.notes c.in_err-push_bodies.ensures)
+    refl c.loop-action.invariant.notes c.in_err-push_action.ensures)
 
 pub returns : goal.returns
 returns c =

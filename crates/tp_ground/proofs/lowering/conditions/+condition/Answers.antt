@@ -19,22 +19,26 @@ use Rattle.tp_ground.proofs.OnInner.{map_under, inner_env}
 use Rattle.tp_ground.proofs.OnConditions.{and_of, or_of, imply_of, forall_of, exists_of, same_of, named_Not, all_lowered, any_lowered, all_failed, any_failed, same_lowered, either_mentions}
 use Rattle.tp_ground.proofs.OnLowered.{lowered_as, as_written, written_as, all_push, all_same, first_failed, second_failed, both_lowered}
 use Rattle.tp_ground.proofs.OnKept.{stands_over}
+use Rattle.tp_ground.proofs.OnHints.{listed_inside}
 use Rattle.tp_ground.proofs.lowering.conditions.+condition.Goals as goal
 
-pub conditions-loop-cond-preserved : goal.conditions-loop-cond-preserved
-conditions-loop-cond-preserved t c =
+pub conditions-loop-place-preserved : goal.conditions-loop-place-preserved
+conditions-loop-place-preserved t c =
     let f = λ (x : syntax.Cond). condition_in (universe_view c.args.universe.now) (env_view c.args.env.now) (cond_view x) in
-    all_push named_condition of_condition _ _ _ _ _ _ _ _ _ c.in_ok-push.ensures.items (map_next f c.args.conds.now c.loop-cond.cond-index c.cond-item.result c.loop-cond-test.true c.cond-item.is) c.loop-cond.invariant c.in_ok-condition.ensures
+    all_push named_condition of_condition _ _ _ _ _ _ _ _ _ c.in_ok-push.ensures.items (map_next f c.args.conds.now c.loop-place.place c.index-conds-place.result c.loop-place-test.true c.index-conds-place.is) c.loop-place.invariant c.in_ok-condition.ensures
 
 pub conditions-returns-in_err-condition : goal.conditions-returns-in_err-condition
 conditions-returns-in_err-condition t c =
     let f = λ (x : syntax.Cond). condition_in (universe_view c.args.universe.now) (env_view c.args.env.now) (cond_view x) in
-    map_stopped named_condition of_condition c.args.conds.now c.loop-cond.cond-index c.cond-item.result c.loop-cond-test.true c.cond-item.is _ _ _ _ _ _ _ c.from_residual-in_err-condition.ensures.1 f refl c.loop-cond.invariant c.in_err-condition.ensures
+    map_stopped named_condition of_condition c.args.conds.now c.loop-place.place c.index-conds-place.result c.loop-place-test.true c.index-conds-place.is _ _ _ _ _ _ _ c.from_residual-in_err-condition.ensures.1 f refl c.loop-place.invariant c.in_err-condition.ensures
 
 pub conditions-returns : goal.conditions-returns
 conditions-returns t c =
     let f = λ (x : syntax.Cond). condition_in (universe_view c.args.universe.now) (env_view c.args.env.now) (cond_view x) in
-    all_same named_condition of_condition _ _ _ _ _ (map_ended f c.args.conds.now c.loop-cond.cond-index c.loop-cond-test.false) c.loop-cond.invariant
+    all_same named_condition of_condition _ _ _ _ _ (map_ended f c.args.conds.now c.loop-place.place c.loop-place-test.false) c.loop-place.invariant
+
+pub under_each-rows_with-requires : goal.under_each-rows_with-requires
+under_each-rows_with-requires t c = listed_inside c.args.universe.now c.args.inside c.places_in.result _ _ (cond_view c.args.cond.now) c.places_in.ensures (ap (map typed_view) c.items.ensures) c.requires.fit
 
 pub under_each-loop-place-preserved : goal.under_each-loop-place-preserved
 under_each-loop-place-preserved t c =

@@ -11,8 +11,8 @@ use Rattle.tp_ground.specs.ReadBack.{named_condition}
 use Rattle.tp_ground.proofs.OnLowered.{AllLowered}
 use Rattle.tp_ground.proofs.lowering.conditions.+condition.Given as goal
 
-abbrev pub invariant-conditions-loop-cond : goal.invariant-conditions-loop-cond
-invariant-conditions-loop-cond l = AllLowered named_condition of_condition l.fn.writer l.writer l.lowered (map (λ c. condition_in (universe_view l.universe) (env_view l.env) (cond_view c)) (take l.cond-index l.conds))
+abbrev pub invariant-conditions-loop-place : goal.invariant-conditions-loop-place
+invariant-conditions-loop-place l = AllLowered named_condition of_condition l.fn.writer l.writer l.lowered (map (λ c. condition_in (universe_view l.universe) (env_view l.env) (cond_view c)) (take l.place l.conds))
 
 abbrev pub invariant-under_each-loop-place : goal.invariant-under_each-loop-place
 invariant-under_each-loop-place l = record {

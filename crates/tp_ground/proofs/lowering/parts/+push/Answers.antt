@@ -10,30 +10,31 @@ use Rattle.tp_ground.specs.Views.{env_view, universe_view}
 use Rattle.tp_ground.specs.Written.{parts_in, inner}
 use Rattle.tp_ground.proofs.Along.{next, ended}
 use Rattle.tp_ground.proofs.OnInner.{flat_under, inner_env}
+use Rattle.tp_ground.proofs.OnHints.{listed_under}
 use Rattle.tp_ground.proofs.OnPartLists.{part_of, part_under, part_in, parts_of, bound_of}
 use Rattle.tp_ground.proofs.OnAppended.{all_appended, none_appended, appended_as, appends_as, loop_stopped}
 use Rattle.tp_ground.proofs.lowering.parts.+push.Goals as goal
 
-pub push_parts-loop-part-init : goal.push_parts-loop-part-init
-push_parts-loop-part-init g t c = none_appended g.P.Lowerable.named g.P.Lowerable.mentions _ _ _ _ refl refl
+pub push_parts-loop-place-init : goal.push_parts-loop-place-init
+push_parts-loop-place-init g t c = none_appended g.P.Lowerable.named g.P.Lowerable.mentions _ _ _ _ refl refl
 
-pub push_parts-loop-part-preserved : goal.push_parts-loop-part-preserved
-push_parts-loop-part-preserved g t c =
+pub push_parts-loop-place-preserved : goal.push_parts-loop-place-preserved
+push_parts-loop-place-preserved g t c =
     let u = universe_view c.args.universe.now in
     let f = part_of u (g.P.Lowerable.written u c.args.specifier) g.P.Lowerable.seen (env_view c.args.env.now) in
-    all_appended g.P.Lowerable.named g.P.Lowerable.mentions _ _ _ _ _ _ (flat_map f (take c.loop-part.part-index c.args.parts.now)) (f c.part-item.result) _ (next f c.args.parts.now c.loop-part.part-index c.part-item.result c.loop-part-test.true c.part-item.is) c.loop-part.invariant c.in_ok-push_part.ensures
+    all_appended g.P.Lowerable.named g.P.Lowerable.mentions _ _ _ _ _ _ (flat_map f (take c.loop-place.place c.args.parts.now)) (f c.index-parts-place.result) _ (next f c.args.parts.now c.loop-place.place c.index-parts-place.result c.loop-place-test.true c.index-parts-place.is) c.loop-place.invariant c.in_ok-push_part.ensures
 
 pub push_parts-returns-in_err-push_part : goal.push_parts-returns-in_err-push_part
 push_parts-returns-in_err-push_part g t c =
     let u = universe_view c.args.universe.now in
     let f = part_of u (g.P.Lowerable.written u c.args.specifier) g.P.Lowerable.seen (env_view c.args.env.now) in
-    loop_stopped g.P.Lowerable.named g.P.Lowerable.mentions c.args.parts.now c.loop-part.part-index c.part-item.result c.loop-part-test.true c.part-item.is _ _ _ _ _ _ _ _ _ c.from_residual.ensures.1 f _ refl refl c.loop-part.invariant c.in_err-push_part.ensures
+    loop_stopped g.P.Lowerable.named g.P.Lowerable.mentions c.args.parts.now c.loop-place.place c.index-parts-place.result c.loop-place-test.true c.index-parts-place.is _ _ _ _ _ _ _ _ _ c.from_residual.ensures.1 f _ refl refl c.loop-place.invariant c.in_err-push_part.ensures
 
 pub push_parts-returns : goal.push_parts-returns
 push_parts-returns g t c =
     let u = universe_view c.args.universe.now in
     let f = part_of u (g.P.Lowerable.written u c.args.specifier) g.P.Lowerable.seen (env_view c.args.env.now) in
-    appended_as g.P.Lowerable.named g.P.Lowerable.mentions _ _ _ _ _ _ (sym (ended f c.args.parts.now c.loop-part.part-index c.loop-part-test.false)) c.loop-part.invariant
+    appended_as g.P.Lowerable.named g.P.Lowerable.mentions _ _ _ _ _ _ (sym (ended f c.args.parts.now c.loop-place.place c.loop-place-test.false)) c.loop-place.invariant
 
 pub push_under_each-loop-place-init : goal.push_under_each-loop-place-init
 push_under_each-loop-place-init g t c = record {
@@ -41,6 +42,9 @@ push_under_each-loop-place-init g t c = record {
   lists = c.in_ok-rows.ensures ∙ ap (λ (vs : List Typed). bindings (universe_view c.args.universe.now) (map typed_view vs)) c.items.ensures;
   count = refl;
 }
+
+pub push_under_each-rows_with-requires : goal.push_under_each-rows_with-requires
+push_under_each-rows_with-requires g t c = listed_under c.args.universe.now (g.P.Lowerable.fits c.args.universe.now) c.args.inside c.places_in.result _ _ (joined_view g.P.Lowerable.seen c.args.part.now) c.places_in.ensures (ap (map typed_view) c.items.ensures) c.requires.fit
 
 pub push_under_each-loop-place-preserved : goal.push_under_each-loop-place-preserved
 push_under_each-loop-place-preserved g t c =

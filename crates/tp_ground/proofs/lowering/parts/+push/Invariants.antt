@@ -8,10 +8,10 @@ use Rattle.tp_ground.proofs.OnAppended.{AllAppended}
 use Rattle.tp_ground.proofs.OnPartLists.{part_of, part_under}
 use Rattle.tp_ground.proofs.lowering.parts.+push.Given as goal
 
-abbrev pub invariant-push_parts-loop-part : goal.invariant-push_parts-loop-part
-invariant-push_parts-loop-part g l =
+abbrev pub invariant-push_parts-loop-place : goal.invariant-push_parts-loop-place
+invariant-push_parts-loop-place g l =
     let u = universe_view l.universe in
-    AllAppended g.P.Lowerable.named g.P.Lowerable.mentions l.fn.writer l.writer l.fn.into.items l.into.items (flat_map (part_of u (g.P.Lowerable.written u l.specifier) g.P.Lowerable.seen (env_view l.env)) (take l.part-index l.parts))
+    AllAppended g.P.Lowerable.named g.P.Lowerable.mentions l.fn.writer l.writer l.fn.into.items l.into.items (flat_map (part_of u (g.P.Lowerable.written u l.specifier) g.P.Lowerable.seen (env_view l.env)) (take l.place l.parts))
 
 abbrev pub invariant-push_under_each-loop-place : goal.invariant-push_under_each-loop-place
 invariant-push_under_each-loop-place g l =

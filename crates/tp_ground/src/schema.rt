@@ -1,0 +1,16 @@
+//! Actions whose parameters are found by their names, and what is known of their quantifiers.
+
+ghost use Rattle.std.specs.Prelude.{◌≡◌};
+
+use crate::hints::BodyHint;
+use crate::variables::Variables;
+use tp_ast::action::Action;
+
+/// An action with a table of its parameters and what is known of its quantifiers, which are made once for all its bindings.
+#[derive(Drop)]
+pub struct Schema<'a> {
+    pub action: &'a Action,
+    pub parameters: Variables<'a>,
+    pub hints: BodyHint,
+    ghost own: { parameters ≡ action.now.parameters.items },
+}
