@@ -71,15 +71,22 @@ fn object_among<'a>(variables: &[Typed], objects: &[&'a str], name: &str) -> Opt
 }
 
 impl<'v> Variables<'v> {
+    /// Variables in their order, without a table.
+    pub fn plain(items: &'v TypedList) -> Self
+        ensures { result ≡ items.now.items }
+    {
+        Variables {
+            items,
+            places: None,
+        }
+    }
+
     /// Variables in their order.
     pub fn new(alloc: Global, items: &'v TypedList) -> Result<Self, AllocError>
         ensures { IfOk result (λ v. v ≡ items.now.items) }
     {
         if items.as_slice().len() <= FEW {
-            return Ok(Variables {
-                items,
-                places: None,
-            });
+            return Ok(Variables::plain(items));
         }
         let places = own_places(alloc, items.as_slice())?;
         Ok(Variables {

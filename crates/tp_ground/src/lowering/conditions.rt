@@ -25,7 +25,7 @@ use crate::keys::{Objects, objects_in};
 use crate::lowering::expressions::{comparison_of, operand};
 use crate::memory::Kept;
 use crate::rows::rows_with;
-use crate::shortness::is_short_quantifier;
+use crate::shortness::{is_brief, is_short_quantifier};
 use crate::universe::Universe;
 use crate::variables::Variables;
 use crate::writer::Writer;
@@ -232,6 +232,21 @@ fn disjunction<'a>(
     Ok(Cond::Or(conditions(alloc, universe, env, writer, conds, hints)?))
 }
 
+// The variables of a condition: no table of them is made for one in which little stands.
+fn named<'a>(
+    alloc: Global,
+    variables: &'a TypedList,
+    cond: &tp_ast::cond::Cond,
+) -> Result<Variables<'a>, AllocError>
+    ensures { IfOk result (λ v. v ≡ variables.now.items) }
+{
+    if is_brief(cond) {
+        Ok(Variables::plain(variables))
+    } else {
+        Variables::new(alloc, variables)
+    }
+}
+
 #[cycle(condition)]
 fn for_all<'a>(
     alloc: Global,
@@ -255,7 +270,7 @@ fn for_all<'a>(
         (inner (universe_view universe.now) (env_view env.now)
         (map typed_view variables.now.items)))))) }
 {
-    let named = Variables::new(alloc, variables)?;
+    let named = named(alloc, variables, cond)?;
     Ok(Cond::And(under_each(alloc, universe, env, writer, &named, cond, inside)?))
 }
 
@@ -282,7 +297,7 @@ fn for_some<'a>(
         (inner (universe_view universe.now) (env_view env.now)
         (map typed_view variables.now.items)))))) }
 {
-    let named = Variables::new(alloc, variables)?;
+    let named = named(alloc, variables, cond)?;
     Ok(Cond::Or(under_each(alloc, universe, env, writer, &named, cond, inside)?))
 }
 

@@ -22,6 +22,7 @@ use crate::hints::Hint;
 use crate::lowering::conditions::{atom, condition};
 use crate::lowering::expressions::{expression, fluent};
 use crate::lowering::parts::{Lowerable, push_part};
+use crate::shortness::{after_condition, after_part, after_simple_effect};
 use crate::universe::Universe;
 use crate::writer::Writer;
 use std::alloc::{AllocError, Global};
@@ -127,6 +128,10 @@ impl Lowerable for SimpleEffect {
 
     ghost fits = { nothing_fits };
 
+    fn after(&self, steps: usize) -> Option<usize> {
+        after_simple_effect(self, steps)
+    }
+
     fn hint(&self, _alloc: Global, _universe: &Universe) -> Result<Hint, AllocError> {
         Ok(Hint::Nothing)
     }
@@ -166,6 +171,10 @@ impl Lowerable for Timed<tp_ast::cond::Cond> {
     ghost written = { condition_part };
 
     ghost fits = { timed_condition_fits };
+
+    fn after(&self, steps: usize) -> Option<usize> {
+        after_condition(&self.what, steps)
+    }
 
     fn hint(&self, alloc: Global, universe: &Universe) -> Result<Hint, AllocError> {
         hint_of(alloc, universe, &self.what)
@@ -209,6 +218,10 @@ impl Lowerable for Timed<Effect> {
     ghost written = { simple_effects_part };
 
     ghost fits = { timed_effect_fits };
+
+    fn after(&self, steps: usize) -> Option<usize> {
+        after_part(&self.what, steps)
+    }
 
     fn hint(&self, alloc: Global, universe: &Universe) -> Result<Hint, AllocError> {
         joined_hint(alloc, universe, &self.what)

@@ -20,11 +20,13 @@ ghost use Rattle.tp_ast.specs.Parts.{parts as syntax_parts};
 use crate::environment::Env;
 use crate::hints::{Hint, Inside, hint_in, inside_of, parts_of, places_in};
 use crate::rows::rows_with;
+use crate::shortness::is_brief_part;
 use crate::universe::Universe;
 use crate::variables::Variables;
 use crate::writer::Writer;
 use std::alloc::{AllocError, Global};
 use tp_ast::joined::Joined;
+use tp_ast::typed_list::TypedList;
 use tp_ast::words::TimeSpecifier;
 use tp_task::GroundFault;
 
@@ -55,6 +57,9 @@ pub trait Lowerable: Drop {
     /// Whether it is something at a specifier.
     fn is_at(&self, specifier: TimeSpecifier) -> bool;
 
+    /// What is left of so many steps of a walk after it.
+    fn after(&self, steps: usize) -> Option<usize>;
+
     /// What can be known of the quantifiers in it.
     fn hint(&self, alloc: Global, universe: &Universe) -> Result<Hint, AllocError>
         ensures { IfOk result (λ h. fits universe.now h (seen self.now) ≡ true) };
@@ -76,6 +81,21 @@ pub trait Lowerable: Drop {
             (universe_view universe.now) specifier (env_view env.now) (seen self.now))
             (of_each mentions (written
             (universe_view universe.now) specifier (env_view env.now) (seen self.now))) };
+}
+
+// The variables of parts: no table of them is made for those in which little stands.
+fn named<'a, P: Lowerable>(
+    alloc: Global,
+    variables: &'a TypedList,
+    part: &Joined<P>,
+) -> Result<Variables<'a>, AllocError>
+    ensures { IfOk result (λ v. v ≡ variables.now.items) }
+{
+    if is_brief_part(part) {
+        Ok(Variables::plain(variables))
+    } else {
+        Variables::new(alloc, variables)
+    }
 }
 
 // What is known of one of some parts, the one at a place.
@@ -193,7 +213,7 @@ pub fn push_part<'a, P: Lowerable>(
             push_parts(alloc, universe, env, specifier, writer, parts, hints, into)
         }
         Joined::Forall(variables, inner) => {
-            let named = Variables::new(alloc, variables)?;
+            let named = named(alloc, variables, inner)?;
             let inside = inside_of(hint);
             push_under_each(
                 alloc, universe, env, specifier, writer, &named, inner, inside, into,

@@ -104,7 +104,7 @@ push_part-returns-in_ok-named-in-Forall g t c =
     let u = universe_view c.args.universe.now in
     let read = g.P.Lowerable.written u c.args.specifier in
     let env = env_view c.args.env.now in
-    let f = part_in u read g.P.Lowerable.seen c.deref-in-Forall.result.now in
+    let f = part_in u read g.P.Lowerable.seen c.deref-in-Forall-2.result.now in
     appends_as g.P.Lowerable.named g.P.Lowerable.mentions _ _ _ _ _ _ _
-    (bound_of u read g.P.Lowerable.seen env c.args.part.now c.in-Forall.variables c.in-Forall.inner c.in-Forall.variables.items c.deref-in-Forall.result.now c.in-Forall.is refl c.deref-in-Forall.ensures
+    (bound_of u read g.P.Lowerable.seen env c.args.part.now c.in-Forall.variables c.in-Forall.inner c.in-Forall.variables.items c.deref-in-Forall-2.result.now c.in-Forall.is refl c.deref-in-Forall-2.ensures
     ∙ ap (λ (vs : List Typed). flat_map f (inner u env (map typed_view vs))) (sym c.in_ok-named-in-Forall.ensures)) c.push_under_each.ensures
