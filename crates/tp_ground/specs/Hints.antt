@@ -29,7 +29,8 @@ same_lists = pointwise same_words
 
 -- the lists at these places are those of the variables, and what is known inside fits
 abbrev pub bound_fits : Universe → List ℕ → (Condition → Bool) → List Declared → Condition → Bool
-bound_fits u ps inside vs c = same_lists (map (listed u) ps) (map (choices (universe_view u)) vs) && inside c
+bound_fits u ps inside vs c =
+    same_lists (map (listed u) ps) (map (choices (universe_view u)) vs) && inside c
 
 -- what is known of each fits, as far as something is
 abbrev pub each_fits : List (Condition → Bool) → Conditions → Bool
@@ -106,7 +107,8 @@ abbrev mutual
   pub joined_fits : {A : Type 0} → Universe → (Hint → A → Bool) → Hint → Joined A → Bool
   joined_fits u leaf h (all_parts ps) = parts_fits u leaf (parts_step (out-Hint h)) ps
   joined_fits u leaf h (for_each vs p) =
-      if_bound (bound_step (out-Hint h)) (λ ps g. same_lists (map (listed u) ps) (map (choices (universe_view u)) vs) && joined_fits u leaf g p)
+      if_bound (bound_step (out-Hint h)) (λ ps g.
+      same_lists (map (listed u) ps) (map (choices (universe_view u)) vs) && joined_fits u leaf g p)
   joined_fits u leaf h (one a) = leaf h a
 
   pub parts_fits : {A : Type 0} → Universe → (Hint → A → Bool) → List Hint → Parts A → Bool
@@ -130,6 +132,8 @@ abbrev pub timed_effect_fits : Universe → Hint → Timed Effect → Bool
 timed_effect_fits u h t = joined_fits u (nothing_fits u) h t.what
 
 abbrev pub body_fits : Universe → BodyHint → actions.Body → Bool
-body_fits u h (actions.instant c e) = fits u h.condition c && joined_fits u (nothing_fits u) h.effect e
+body_fits u h (actions.instant c e) =
+    fits u h.condition c && joined_fits u (nothing_fits u) h.effect e
 body_fits u h (actions.durative r c e) =
-    joined_fits u (timed_condition_fits u) h.condition c && joined_fits u (timed_effect_fits u) h.effect e
+    joined_fits u (timed_condition_fits u) h.condition c
+    && joined_fits u (timed_effect_fits u) h.effect e
