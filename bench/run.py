@@ -12,6 +12,7 @@ are split among agents alone. Each list is read from a file by a process of its 
 the command to reading its answer, the mean of all of them. A verdict's time is that of the whole process, the best of three, or
 where one takes seconds the first; its memory is the greatest that the process held.
 """
+import functools
 import itertools
 import os
 import pathlib
@@ -408,6 +409,12 @@ def worst_reads(program):
     listed = " ".join(f"?{name}" for name in short_names(500))
     action = f"(:action a :parameters (?a ?b - the-other) :precondition (exists ({listed} - a) (p)) :effect ())"
     judged(program, "an exists of 500 variables under 62,500 actions", f"(define (domain d) {declared} {action})", problem, "")
+    listed = " ".join(f"?{name} - t{name}" for name in short_names(2_000))
+    kinds = f"(:types {' '.join(f't{name}' for name in short_names(2_000))} none the-other - object)"
+    own = " ".join(f"c{name} - t{name}" for name in short_names(2_000))
+    declared = f"{kinds} (:constants {own} {each('o#', 250)} - the-other) (:predicates (p))"
+    action = f"(:action a :parameters (?a ?b - the-other) :precondition (exists ({listed} ?x - none) (p)) :effect ())"
+    judged(program, "one of 2,000 types, the last without objects", f"(define (domain d) {declared} {action})", problem, "")
     names = " ".join(colliding(20_000))
     judged(program, "20,000 constants whose names collide", f"(define (domain d) (:constants {names}))", problem, "")
     judged(program, "20,000 types whose names collide", f"(define (domain d) (:types {names}))", problem, "")
@@ -448,6 +455,12 @@ def quantified(program):
     problem = f"(define (problem q) (:domain d) (:objects {each('o#', 400)}) (:init) (:goal (forall (?a ?b ?c) (p #))))"
     judged(program, "a forall over 64,000,000 bindings, each of its own atom", domain, problem.replace("#", "?a ?b ?c"), "")
     judged(program, "the same over 400 atoms", domain, problem.replace("#", "?a o0 o0"), "")
+    nested = functools.reduce(lambda inner, k: f"(forall (?v{k}) {inner})", range(55), "(p o0 o0 o0)")
+    two = "(define (problem q) (:domain d) (:objects o0 o1) (:init) (:goal #))"
+    judged(program, "55 foralls in one another over two objects", domain, two.replace("#", nested), "")
+    nothing = nested.replace("(p o0 o0 o0)", "()")
+    empty = f"(define (domain d) (:predicates (p ?x ?y ?z)) (:action a :parameters () :effect {nothing}))"
+    judged(program, "the same in an effect, above nothing", empty, two.replace("#", "()"), "")
     judged(program, "a forall over 400^10 bindings", domain, problem.replace("#", "o0 o0 o0").replace("?c)", "?c ?d ?e ?f ?g ?h ?i ?j)"), "")
 
 

@@ -8,9 +8,10 @@ use Rattle.tp_ast.specs.Conditions.{Condition, conditions, for_all, for_some}
 use Rattle.tp_ast.specs.Symbols.{Name, Declared}
 use Rattle.tp_task.specs.Words.{same_words}
 use Rattle.tp_task.proofs.OnWords.{same_words_are, same_words_self}
-use Rattle.tp_ground.specs.Bindings.{choices}
+use Rattle.tp_ground.specs.Bindings.{bindings}
+use Rattle.tp_ground.specs.Rows.{product}
 use Rattle.tp_ground.specs.Views.{universe_view}
-use Rattle.tp_ground.specs.Hints.{fits, each_fits, bound_fits, quantifier_fits, same_lists, listed, AreListed, joined_fits, parts_fits, under_fits, bound_step, if_bound}
+use Rattle.tp_ground.specs.Hints.{fits, each_fits, rows_fit, bound_fits, quantifier_fits, same_lists, listed, AreListed, joined_fits, parts_fits, under_fits, bound_step, if_bound}
 use Rattle.tp_ast.specs.Parts as specs
 use Rattle.tp_ast.specs.PartViews.{joined_view}
 use Rattle.tp_ast.specs.declared.joined.Joined.{Joined}
@@ -42,8 +43,8 @@ module _ (u : Universe) where
   listed_inside None places vs ws c is same fit = subst (λ (o : Option (Bor (List ℕ))). AreListed u o ws) (sym is) tt
   listed_inside (Some i) places vs ws c is same fit =
       subst (λ (o : Option (Bor (List ℕ))). AreListed u o ws) (sym is)
-      (same_lists_are (map (listed u) i.places.now) (map (choices (universe_view u)) vs) (both (same_lists (map (listed u) i.places.now) (map (choices (universe_view u)) vs)) (fits u i.hint.now c) fit).0
-      ∙ ap (map (choices (universe_view u))) (sym same))
+      (same_lists_are (product (map (listed u) i.places.now)) (bindings (universe_view u) vs) (both (rows_fit u i.places.now vs) (fits u i.hint.now c) fit).0
+      ∙ ap (bindings (universe_view u)) (sym same))
 
   each_here : (hs : List Hint) (cs : List Condition) (i : ℕ) (h : Hint) (c : Condition) → each_fits (map (fits u) hs) (conditions cs) ≡ true → i < length hs → h ≡ get_or hs i h → i < length cs → c ≡ get_or cs i c → fits u h c ≡ true
   each_here [] cs i h c all known is lt item = absurd (omega (arith, known))
@@ -62,12 +63,12 @@ module _ (u : Universe) where
   fits_Bound : (v : Vec ℕ Global) (b : Box Hint Global) (c : Condition) → fits u (hints.Bound v b) c ≡ quantifier_fits u v.items (fits u b.value) c
   fits_Bound v b c = search (rules, hints.the_lemmas)
 
-  module _ (v : Vec ℕ Global) (b : Box Hint Global) (h : Hint) (vs : List Declared) (c : Condition) (o : Option (Vec ℕ Global)) (some : o ≡ Some v) (there : IfSome o (λ w. map (listed u) w.items ≡ map (choices (universe_view u)) vs)) (boxed : b.value ≡ h) (inside : fits u h c ≡ true) where
+  module _ (v : Vec ℕ Global) (b : Box Hint Global) (h : Hint) (vs : List Declared) (c : Condition) (o : Option (Vec ℕ Global)) (some : o ≡ Some v) (there : IfSome o (λ w. product (map (listed u) w.items) ≡ bindings (universe_view u) vs)) (boxed : b.value ≡ h) (inside : fits u h c ≡ true) where
     both_fit : bound_fits u v.items (fits u b.value) vs c ≡ true
     both_fit =
-        let lists = subst (λ (p : Option (Vec ℕ Global)). IfSome p (λ w. map (listed u) w.items ≡ map (choices (universe_view u)) vs)) some there in
-        and_from (same_lists (map (listed u) v.items) (map (choices (universe_view u)) vs)) (fits u b.value c)
-        (ap (λ ls. same_lists ls (map (choices (universe_view u)) vs)) lists ∙ same_lists_self (map (choices (universe_view u)) vs))
+        let lists = subst (λ (p : Option (Vec ℕ Global)). IfSome p (λ w. product (map (listed u) w.items) ≡ bindings (universe_view u) vs)) some there in
+        and_from (rows_fit u v.items vs) (fits u b.value c)
+        (ap (λ rows. same_lists rows (bindings (universe_view u) vs)) lists ∙ same_lists_self (bindings (universe_view u) vs))
         (ap (λ (x : Hint). fits u x c) boxed ∙ inside)
 
     pub every_fits : fits u (hints.Bound v b) (for_all vs c) ≡ true
@@ -99,19 +100,19 @@ module _ {A : Type 0} (u : Universe) (leaf : Hint → A → Bool) where
   listed_under None places vs ws p is same fit = subst (λ (o : Option (Bor (List ℕ))). AreListed u o ws) (sym is) tt
   listed_under (Some i) places vs ws p is same fit =
       subst (λ (o : Option (Bor (List ℕ))). AreListed u o ws) (sym is)
-      (same_lists_are (map (listed u) i.places.now) (map (choices (universe_view u)) vs) (both (same_lists (map (listed u) i.places.now) (map (choices (universe_view u)) vs)) (joined_fits u leaf i.hint.now p) fit).0
-      ∙ ap (map (choices (universe_view u))) (sym same))
+      (same_lists_are (product (map (listed u) i.places.now)) (bindings (universe_view u) vs) (both (rows_fit u i.places.now vs) (joined_fits u leaf i.hint.now p) fit).0
+      ∙ ap (bindings (universe_view u)) (sym same))
 
   bound_out : (v : Vec ℕ Global) (b : Box Hint Global) → bound_step (out-Hint (hints.Bound v b)) ≡ Some (v.items, b.value)
   bound_out v b = search (rules, hints.the_lemmas)
 
   -- what is known of a 'forall'
-  pub under_known : (v : Vec ℕ Global) (b : Box Hint Global) (h : Hint) (vs : List Declared) (p : specs.Joined A) (o : Option (Vec ℕ Global)) → o ≡ Some v → IfSome o (λ w. map (listed u) w.items ≡ map (choices (universe_view u)) vs) → b.value ≡ h → joined_fits u leaf h p ≡ true → joined_fits u leaf (hints.Bound v b) (specs.for_each vs p) ≡ true
+  pub under_known : (v : Vec ℕ Global) (b : Box Hint Global) (h : Hint) (vs : List Declared) (p : specs.Joined A) (o : Option (Vec ℕ Global)) → o ≡ Some v → IfSome o (λ w. product (map (listed u) w.items) ≡ bindings (universe_view u) vs) → b.value ≡ h → joined_fits u leaf h p ≡ true → joined_fits u leaf (hints.Bound v b) (specs.for_each vs p) ≡ true
   under_known v b h vs p o some there boxed inside =
-      let lists = subst (λ (q : Option (Vec ℕ Global)). IfSome q (λ w. map (listed u) w.items ≡ map (choices (universe_view u)) vs)) some there in
+      let lists = subst (λ (q : Option (Vec ℕ Global)). IfSome q (λ w. product (map (listed u) w.items) ≡ bindings (universe_view u) vs)) some there in
       ap (λ (q : Option (List ℕ × Hint)). if_bound q (λ ps g. under_fits u leaf ps g vs p)) (bound_out v b)
-      ∙ and_from (same_lists (map (listed u) v.items) (map (choices (universe_view u)) vs)) (joined_fits u leaf b.value p)
-      (ap (λ ls. same_lists ls (map (choices (universe_view u)) vs)) lists ∙ same_lists_self (map (choices (universe_view u)) vs))
+      ∙ and_from (rows_fit u v.items vs) (joined_fits u leaf b.value p)
+      (ap (λ rows. same_lists rows (bindings (universe_view u) vs)) lists ∙ same_lists_self (bindings (universe_view u) vs))
       (ap (λ (x : Hint). joined_fits u leaf x p) boxed ∙ inside)
 
   parts_here : (hs : List Hint) (ps : List (specs.Joined A)) (i : ℕ) (h : Hint) (p : specs.Joined A) → parts_fits u leaf hs (specs.parts ps) ≡ true → i < length hs → h ≡ get_or hs i h → i < length ps → p ≡ get_or ps i p → joined_fits u leaf h p ≡ true

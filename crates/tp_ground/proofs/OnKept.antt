@@ -1,5 +1,5 @@
 -- What was written out says the same in all tables that come after.
-use Rattle.std.proofs.Common.{◌≡◌, ℕ, Bool, true, false, ◌||◌, List, [], ◌∷◌, ◌++◌, map, drop, length, if◌then◌else◌, Global, Result, Ok, Err, OnOk, OnErr, refl, sym, ap, subst, ◌∙◌, arith, length-append, rules}
+use Rattle.std.proofs.Common.{◌≡◌, ℕ, Bool, true, false, ◌||◌, List, [], ◌∷◌, ◌++◌, map, drop, length, if◌then◌else◌, Global, Result, Ok, Err, OnOk, OnErr, Option, Some, None, IfSome, Bor, refl, sym, ap, subst, ◌∙◌, arith, length-append, rules}
 use Rattle.std.specs.declared.rc.Rc.{Rc}
 use Rattle.std.specs.List.{list_any, All, Contains}
 use Rattle.std.proofs.lemmas.List.Elements.{All-weaker, All-drop, All-push, All-contains}
@@ -158,6 +158,11 @@ found_stands w ks k c objects h there of =
     subst (λ os. Stands w c os k.written.value) of.same_objects
     (subst (λ d. Stands w d (map (λ o. o.now) k.objects.items) k.written.value) of.same_condition
     (All-contains (StillStands w) ks k h there))
+
+-- the same of what may be found
+pub if_found : (w : WriterView) (ks : List Kept) (o : Option (Bor Kept)) (c : Condition) (objects : List Name) → All (StillStands w) ks → IfSome o (λ k. Contains ks k.now) → IfSome o (λ k. IsOf k.now c objects) → IfSome o (λ k. Stands w c objects k.now.written.value)
+if_found w ks None c objects h there of = tt
+if_found w ks (Some k) c objects h there of = found_stands w ks k.now c objects h there of
 
 -- ---- tables after a try to number more
 

@@ -1,14 +1,18 @@
 -- The rows of lists that stand at some places.
-use Rattle.std.proofs.Common.{◌≡◌, ℕ, zero, suc, ◌==◌, true, ◌+◌, ◌*◌, ◌<◌, Bor, Vec, Global, List, ◌∷◌, [], ◌++◌, map, length, get_or, take, drop, sym, ap, ◌∙◌, arith}
+use Rattle.std.proofs.Common.{◌≡◌, ℕ, zero, suc, ◌==◌, true, ◌+◌, ◌*◌, ◌<◌, Vec, Global, Option, Some, None, IfSome, List, ◌∷◌, [], ◌++◌, map, length, get_or, take, drop, refl, sym, ap, ◌∙◌, arith}
 use Rattle.std.proofs.Math.Nat.{mul_comm, mul_assoc}
 use Rattle.std.proofs.lemmas.Bool.Decides.{nat_tests}
 use Rattle.std.proofs.lemmas.List.{map-append, take_more, at_drop_more}
-use Rattle.tp_ground.specs.Rows.{product, names_of, lists_of, EndsWith}
+use Rattle.tp_ground.specs.Rows.{product, Names, names_in, lists_of, EndsWith}
 use Rattle.tp_ast.specs.Symbols.{typed_view}
 use Rattle.tp_ast.specs.declared.symbols.Typed.{Typed}
-use Rattle.tp_ground.specs.Bindings.{Universe, choices}
+use Rattle.tp_ground.specs.Bindings.{Universe, choices, bindings}
+use Rattle.tp_ast.specs.Symbols.{Declared}
+use Rattle.tp_ground.specs.declared.objects.Universe as objects
+use Rattle.tp_ground.specs.Hints.{listed, listed_in}
+use Rattle.tp_ground.specs.declared.objects.Known.{Known}
 use Rattle.tp_ground.proofs.Along.{map_next}
-use Rattle.tp_ground.proofs.OnRows.{Row, length-product}
+use Rattle.tp_ground.proofs.OnRows.{Row, length-product, rows_bindings}
 
 module _ (f : ℕ → Row) (ps : List ℕ) (i d : ℕ) (lt : i < length ps) where
   abbrev p : ℕ
@@ -36,13 +40,18 @@ module _ (f : ℕ → Row) (ps : List ℕ) (i d : ℕ) (lt : i < length ps) wher
       nothing_times a b = omega arith
 
   -- one more list
-  pub listed_more : (old new : List (Vec (Bor (List ℕ)) Global)) (v : Vec (Bor (List ℕ)) Global) → new ≡ old ++ v ∷ [] → names_of v ≡ f p → lists_of old ≡ map f (take i ps) → lists_of new ≡ map f (take (i + 1) ps)
+  pub listed_more : (old new : List Names) (v : Names) → new ≡ old ++ v ∷ [] → names_in v ≡ f p → lists_of old ≡ map f (take i ps) → lists_of new ≡ map f (take (i + 1) ps)
   listed_more old new v grown is made =
       ap lists_of grown
-      ∙ map-append names_of old (v ∷ [])
-      ∙ ap (λ (ls : List Row). ls ++ names_of v ∷ []) made
+      ∙ map-append names_in old (v ∷ [])
+      ∙ ap (λ (ls : List Row). ls ++ names_in v ∷ []) made
       ∙ ap (λ (ns : Row). map f (take i ps) ++ ns ∷ []) is
       ∙ sym (ap (map f) (take_more ps i d lt) ∙ map-append f (take i ps) (get_or ps i d ∷ []))
+
+-- no names stand behind all lists
+pub none_behind : (ks : List Known) → listed_in ks (length ks) ≡ []
+none_behind [] = refl
+none_behind (k ∷ ks) = none_behind ks
 
 pub emptied : (n : ℕ) → (n == 0) ≡ true → n ≡ 0
 emptied n h = grind (arith, nat_tests)
@@ -63,3 +72,8 @@ place_more f u old new p xs k x grown is made lt item =
     ∙ ap (λ (ls : List Row). ls ++ f p ∷ []) made
     ∙ ap (λ (ns : Row). map (choices u) (map typed_view (take k xs)) ++ ns ∷ []) is
     ∙ sym (ap (map (choices u)) (map_next typed_view xs k x lt item) ∙ map-append (choices u) (map typed_view (take k xs)) (typed_view x ∷ []))
+
+-- the rows of the lists that are those of some variables
+pub if_rows : (v : objects.Universe) (u : Universe) (vs : List Declared) (o : Option (Vec ℕ Global)) → IfSome o (λ ps. map (listed v) ps.items ≡ map (choices u) vs) → IfSome o (λ ps. product (map (listed v) ps.items) ≡ bindings u vs)
+if_rows v u vs None is = tt
+if_rows v u vs (Some ps) is = ap product is ∙ rows_bindings u vs

@@ -1,6 +1,6 @@
 -- The row at a place, name by name.
-use Rattle.std.proofs.Common.{◌≡◌, ℕ, zero, suc, ◌+◌, ◌*◌, ◌/◌, ◌%◌, ◌<◌, ◌≤◌, Bor, Vec, Global, Result, Ok, Err, IfOk, List, [], ◌∷◌, ◌++◌, map, length, get_or, take, drop, refl, sym, ap, subst, ◌∙◌, arith, length-append, append_assoc, append-nil}
-use Rattle.std.proofs.Math.Nat.{mul-div_cancel_left, div-lt_iff_lt-mul, mod-lt}
+use Rattle.std.proofs.Common.{◌≡◌, ℕ, zero, suc, ◌+◌, ◌*◌, ◌/◌, ◌%◌, ◌<◌, ◌≤◌, Bor, Result, Ok, Err, IfOk, List, [], ◌∷◌, ◌++◌, map, length, get_or, take, drop, refl, sym, ap, subst, ◌∙◌, arith, length-append, append_assoc, append-nil}
+use Rattle.std.proofs.Math.Nat.{mul-div_cancel_left, div-lt_iff_lt-mul, div-one, div-eq_of_lt, mod-lt, mod-eq_of_lt}
 use Rattle.std.proofs.lemmas.Nat.{div-add-mod'}
 use Rattle.std.specs.List.{flat_map}
 use Rattle.std.proofs.lemmas.List.{map-append, length-map, take_more, take_all, drop_all, get_or_append_left, get_or-append-add, get_or-map, at_drop_more}
@@ -10,7 +10,8 @@ use Rattle.tp_ast.specs.Symbols.{Name, Declared, typed_view}
 use Rattle.tp_ast.specs.declared.symbols.Typed.{Typed}
 use Rattle.tp_ground.specs.Bindings.{Universe, choices, bindings}
 use Rattle.tp_ground.specs.KnownChoices.{of_types}
-use Rattle.tp_ground.specs.Rows.{product, names_of, lists_of, EndsWith}
+use Rattle.std.specs.Cow.{cow_slice_items}
+use Rattle.tp_ground.specs.Rows.{product, Names, names_in, lists_of, EndsWith}
 
 abbrev pub Row : Type 0
 Row = List (List ℕ)
@@ -65,23 +66,31 @@ parts place names more lt =
       whole = div-add-mod' place more;
     }
 
-module _ (lists : List (Vec (Bor (List ℕ)) Global)) (i : ℕ) (x : Vec (Bor (List ℕ)) Global) (lt : i < length lists) (item : x ≡ get_or lists i x) where
+module _ (lists : List Names) (i : ℕ) (x : Names) (lt : i < length lists) (item : x ≡ get_or lists i x) where
   abbrev behind_it : List Row
   behind_it = product (lists_of (drop (i + 1) lists))
 
-  split : product (lists_of (drop i lists)) ≡ flat_map (λ n. map (λ r. n ∷ r) behind_it) (names_of x)
+  split : product (lists_of (drop i lists)) ≡ flat_map (λ n. map (λ r. n ∷ r) behind_it) (names_in x)
   split =
       at_drop_more (λ vs. product (lists_of vs)) lists i x lt
-      ∙ ap (λ (y : Vec (Bor (List ℕ)) Global). product (lists_of (y ∷ drop (i + 1) lists))) (sym item)
+      ∙ ap (λ (y : Names). product (lists_of (y ∷ drop (i + 1) lists))) (sym item)
 
-  module _ (names : List (Bor (List ℕ))) (same : names ≡ x.items) where
+  module _ (names : List (Bor (List ℕ))) (same : names ≡ (cow_slice_items x)) where
     -- how many rows are left behind a list
     pub rows_left : (left rest : ℕ) → left ≡ length (product (lists_of (drop i lists))) → rest < left → Parts rest (length names) (length behind_it) × (left / length names ≡ length behind_it)
     rows_left left rest counted within =
         let whole : left ≡ length names * length behind_it =
-        counted ∙ ap length split ∙ length-rows (names_of x) behind_it ∙ ap (λ n. n * length behind_it) (length-map x.items (λ o. o.now) ∙ ap length (sym same)) in
+        counted ∙ ap length split ∙ length-rows (names_in x) behind_it ∙ ap (λ n. n * length behind_it) (length-map (cow_slice_items x) (λ o. o.now) ∙ ap length (sym same)) in
         let are = parts rest (length names) (length behind_it) (subst (λ n. rest < n) whole within) in
         (are, ap (λ n. n / length names) whole ∙ are.left)
+
+    -- of a list of one name there is nothing to choose
+    pub only_left : (left rest : ℕ) → left ≡ length (product (lists_of (drop i lists))) → rest < left → length names ≡ 1 → (left ≡ length behind_it) × (rest / length behind_it ≡ 0) × (rest % length behind_it ≡ rest)
+    only_left left rest counted within one =
+        let step = rows_left left rest counted within in
+        let same_left : left ≡ length behind_it = sym (div-one left) ∙ ap (λ n. left / n) (sym one) ∙ step.1 in
+        let below = subst (λ n. rest < n) same_left within in
+        (same_left, div-eq_of_lt below, mod-eq_of_lt below)
 
     -- the row so far with one more name
     pub row_on : (row new : List (Bor (List ℕ))) (name d : Bor (List ℕ)) (rest : ℕ) (total : Row) → Parts rest (length names) (length behind_it) → name ≡ get_or names (rest / length behind_it) d → take (i + 1) new ≡ take i row ++ name ∷ [] → map (λ o. o.now) (take i row) ++ get_or (product (lists_of (drop i lists))) rest [] ≡ total → map (λ o. o.now) (take (i + 1) new) ++ get_or behind_it (rest % length behind_it) [] ≡ total
@@ -92,32 +101,32 @@ module _ (lists : List (Vec (Bor (List ℕ)) Global)) (i : ℕ) (x : Vec (Bor (L
         ∙ ap (λ ns. map (λ (o : Bor (List ℕ)). o.now) (take i row) ++ ns) (sym here)
         ∙ so_far
       where
-        all_same : map (λ (o : Bor (List ℕ)). o.now) names ≡ names_of x
+        all_same : map (λ (o : Bor (List ℕ)). o.now) names ≡ names_in x
         all_same = ap (map (λ (o : Bor (List ℕ)). o.now)) same
 
-        first : get_or (names_of x) (rest / length behind_it) [] ≡ name.now
+        first : get_or (names_in x) (rest / length behind_it) [] ≡ name.now
         first =
             ap (λ ns. get_or ns (rest / length behind_it) []) (sym all_same)
             ∙ get_or-map (λ (o : Bor (List ℕ)). o.now) names (rest / length behind_it) d [] are.within
             ∙ ap (λ (o : Bor (List ℕ)). o.now) (sym is)
 
-        within : rest / length behind_it < length (names_of x)
+        within : rest / length behind_it < length (names_in x)
         within = subst (λ n. rest / length behind_it < n) (sym (length-map names (λ (o : Bor (List ℕ)). o.now)) ∙ ap length all_same) are.within
 
         here : get_or (product (lists_of (drop i lists))) rest [] ≡ name.now ∷ get_or behind_it (rest % length behind_it) []
         here =
             ap (λ rs. get_or rs rest []) split
-            ∙ ap (λ k. get_or (flat_map (λ n. map (λ r. n ∷ r) behind_it) (names_of x)) k []) (sym are.whole)
-            ∙ row_at (names_of x) behind_it (rest / length behind_it) (rest % length behind_it) within are.behind
+            ∙ ap (λ k. get_or (flat_map (λ n. map (λ r. n ∷ r) behind_it) (names_in x)) k []) (sym are.whole)
+            ∙ row_at (names_in x) behind_it (rest / length behind_it) (rest % length behind_it) within are.behind
             ∙ ap (λ n. n ∷ get_or behind_it (rest % length behind_it) []) first
 
 -- the row at the last list
-pub row_whole : (lists : List (Vec (Bor (List ℕ)) Global)) (i : ℕ) (row : List (Bor (List ℕ))) (rest : ℕ) (total : Row) → length lists ≤ i → length row ≡ length lists → rest < length (product (lists_of (drop i lists))) → map (λ o. o.now) (take i row) ++ get_or (product (lists_of (drop i lists))) rest [] ≡ total → map (λ o. o.now) row ≡ total
+pub row_whole : (lists : List Names) (i : ℕ) (row : List (Bor (List ℕ))) (rest : ℕ) (total : Row) → length lists ≤ i → length row ≡ length lists → rest < length (product (lists_of (drop i lists))) → map (λ o. o.now) (take i row) ++ get_or (product (lists_of (drop i lists))) rest [] ≡ total → map (λ o. o.now) row ≡ total
 row_whole lists i row rest total le long within so_far =
     sym (append-nil (map (λ (o : Bor (List ℕ)). o.now) row))
     ∙ ap (λ ns. map (λ (o : Bor (List ℕ)). o.now) ns ++ []) (sym (take_all i row (omega arith)))
-    ∙ ap (λ ns. map (λ (o : Bor (List ℕ)). o.now) (take i row) ++ ns) (sym (last rest (subst (λ (vs : List (Vec (Bor (List ℕ)) Global)). rest < length (product (lists_of vs))) none within)))
-    ∙ ap (λ (vs : List (Vec (Bor (List ℕ)) Global)). map (λ (o : Bor (List ℕ)). o.now) (take i row) ++ get_or (product (lists_of vs)) rest []) (sym none)
+    ∙ ap (λ ns. map (λ (o : Bor (List ℕ)). o.now) (take i row) ++ ns) (sym (last rest (subst (λ (vs : List Names). rest < length (product (lists_of vs))) none within)))
+    ∙ ap (λ (vs : List Names). map (λ (o : Bor (List ℕ)). o.now) (take i row) ++ get_or (product (lists_of vs)) rest []) (sym none)
     ∙ so_far
   where
     none : drop i lists ≡ []
@@ -158,19 +167,19 @@ ends_with u [] x ts is = tt
 ends_with u (v ∷ []) x ts is = ap (λ (us : List Name). choices u (of_types us)) is
 ends_with u (v ∷ (w ∷ vs)) x ts is = ends_with u (w ∷ vs) (types_in v) ts is
 
-pub ends_at : (vs : List (Vec (Bor (List ℕ)) Global)) (ns : List (List ℕ)) (v : Vec (Bor (List ℕ)) Global) (k : ℕ) → EndsWith (lists_of vs) ns → length vs ≡ k + 1 → v ≡ get_or vs k v → names_of v ≡ ns
+pub ends_at : (vs : List Names) (ns : List (List ℕ)) (v : Names) (k : ℕ) → EndsWith (lists_of vs) ns → length vs ≡ k + 1 → v ≡ get_or vs k v → names_in v ≡ ns
 ends_at [] ns v k ends long at = absurd (omega (arith, long))
-ends_at (w ∷ []) ns v zero ends long at = ap names_of at ∙ ends
+ends_at (w ∷ []) ns v zero ends long at = ap names_in at ∙ ends
 ends_at (w ∷ []) ns v (suc k) ends long at = absurd (omega (arith, long))
 ends_at (w ∷ (y ∷ vs)) ns v zero ends long at = absurd (omega (arith, long))
 ends_at (w ∷ (y ∷ vs)) ns v (suc k) ends long at = ends_at (y ∷ vs) ns v k ends (omega (arith, long)) at
 
 -- one more list
-pub lists_more : (u : Universe) (old new : List (Vec (Bor (List ℕ)) Global)) (v : Vec (Bor (List ℕ)) Global) (xs : List Typed) (k : ℕ) (x : Typed) → new ≡ old ++ v ∷ [] → names_of v ≡ choices u (typed_view x) → lists_of old ≡ map (choices u) (map typed_view (take k xs)) → k < length xs → x ≡ get_or xs k x → lists_of new ≡ map (choices u) (map typed_view (take (k + 1) xs))
+pub lists_more : (u : Universe) (old new : List Names) (v : Names) (xs : List Typed) (k : ℕ) (x : Typed) → new ≡ old ++ v ∷ [] → names_in v ≡ choices u (typed_view x) → lists_of old ≡ map (choices u) (map typed_view (take k xs)) → k < length xs → x ≡ get_or xs k x → lists_of new ≡ map (choices u) (map typed_view (take (k + 1) xs))
 lists_more u old new v xs k x grown is made lt item =
     ap lists_of grown
-    ∙ map-append names_of old (v ∷ [])
-    ∙ ap (λ (ls : List Row). ls ++ names_of v ∷ []) made
+    ∙ map-append names_in old (v ∷ [])
+    ∙ ap (λ (ls : List Row). ls ++ names_in v ∷ []) made
     ∙ ap (λ (ns : Row). map (choices u) (map typed_view (take k xs)) ++ ns ∷ []) (is ∙ ap (λ (y : Typed). choices u (typed_view y)) item)
     ∙ sym (
     ap (λ (ys : List Typed). map (choices u) (map typed_view ys)) (take_more xs k x lt)

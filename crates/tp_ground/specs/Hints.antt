@@ -8,8 +8,8 @@ use Rattle.tp_ast.specs.Parts.{Joined, Parts, all_parts, for_each, one, no_parts
 use Rattle.tp_ast.specs.Effects.{SimpleEffect, Effect, Timed}
 use Rattle.tp_ast.specs.Actions as actions
 use Rattle.tp_task.specs.Words.{same_words}
-use Rattle.tp_ground.specs.Bindings.{choices}
-use Rattle.tp_ground.specs.Rows.{names_of}
+use Rattle.tp_ground.specs.Bindings.{bindings}
+use Rattle.tp_ground.specs.Rows.{product, names_of}
 use Rattle.tp_ground.specs.Views.{universe_view}
 use Rattle.tp_ground.specs.declared.objects.Universe.{Universe}
 use Rattle.tp_ground.specs.declared.objects.Known.{Known}
@@ -27,10 +27,13 @@ listed u p = listed_in u.known.items p
 abbrev pub same_lists : List (List Name) → List (List Name) → Bool
 same_lists = pointwise same_words
 
--- the lists at these places are those of the variables, and what is known inside fits
+-- the rows of the lists at these places are the bindings of the variables
+abbrev pub rows_fit : Universe → List ℕ → List Declared → Bool
+rows_fit u ps vs = same_lists (product (map (listed u) ps)) (bindings (universe_view u) vs)
+
+-- so they are, and what is known inside fits
 abbrev pub bound_fits : Universe → List ℕ → (Condition → Bool) → List Declared → Condition → Bool
-bound_fits u ps inside vs c =
-    same_lists (map (listed u) ps) (map (choices (universe_view u)) vs) && inside c
+bound_fits u ps inside vs c = rows_fit u ps vs && inside c
 
 -- what is known of each fits, as far as something is
 abbrev pub each_fits : List (Condition → Bool) → Conditions → Bool
@@ -74,10 +77,10 @@ abbrev pub if_known : {A : Type 0} → (Hint → A → Bool) → Option (Bor Hin
 if_known f None x = true
 if_known f (Some h) x = f h.now x
 
--- the lists at these places, if they are known, are those of the variables
+-- the rows of the lists at these places, if they are known, are the bindings of the variables
 abbrev pub AreListed : Universe → Option (Bor (List ℕ)) → List Declared → Type 0
 AreListed u places vs =
-    IfSome places (λ ps. map (listed u) ps.now ≡ map (choices (universe_view u)) vs)
+    IfSome places (λ ps. product (map (listed u) ps.now) ≡ bindings (universe_view u) vs)
 
 -- ---- parts: what is known of each, and of what stands under a 'forall'
 
@@ -107,8 +110,7 @@ abbrev mutual
   pub joined_fits : {A : Type 0} → Universe → (Hint → A → Bool) → Hint → Joined A → Bool
   joined_fits u leaf h (all_parts ps) = parts_fits u leaf (parts_step (out-Hint h)) ps
   joined_fits u leaf h (for_each vs p) =
-      if_bound (bound_step (out-Hint h)) (λ ps g.
-      same_lists (map (listed u) ps) (map (choices (universe_view u)) vs) && joined_fits u leaf g p)
+      if_bound (bound_step (out-Hint h)) (λ ps g. rows_fit u ps vs && joined_fits u leaf g p)
   joined_fits u leaf h (one a) = leaf h a
 
   pub parts_fits : {A : Type 0} → Universe → (Hint → A → Bool) → List Hint → Parts A → Bool
@@ -118,8 +120,7 @@ abbrev mutual
 
 abbrev pub under_fits :
     {A : Type 0} → Universe → (Hint → A → Bool) → List ℕ → Hint → List Declared → Joined A → Bool
-under_fits u leaf ps h vs p =
-    same_lists (map (listed u) ps) (map (choices (universe_view u)) vs) && joined_fits u leaf h p
+under_fits u leaf ps h vs p = rows_fit u ps vs && joined_fits u leaf h p
 
 -- of a simple effect there is nothing to know
 abbrev pub nothing_fits : Universe → Hint → SimpleEffect → Bool

@@ -5,17 +5,17 @@ ghost use Rattle.tp_ast.specs.Symbols.{typed_view};
 ghost use Rattle.tp_ast.specs.CondViews.{cond_view};
 ghost use Rattle.tp_ast.specs.DomainViews.{body_view};
 ghost use Rattle.tp_ast.specs.Conditions.{conditions, for_all, for_some};
-ghost use Rattle.tp_ground.specs.Bindings.{choices};
+ghost use Rattle.tp_ground.specs.Bindings.{choices, bindings};
 ghost use Rattle.tp_ast.specs.PartViews.{joined_view};
 ghost use Rattle.tp_ast.specs.Parts.{for_each};
 ghost use Rattle.tp_ast.specs.Parts.{parts as syntax_parts};
 ghost use Rattle.tp_ground.specs.Hints.{fits, each_fits, body_fits, joined_fits, parts_fits, listed};
-ghost use Rattle.tp_ground.specs.Rows.{EndsWith};
+ghost use Rattle.tp_ground.specs.Rows.{product, EndsWith};
 ghost use Rattle.tp_ground.specs.Views.{universe_view};
 
 use crate::hints::{BodyHint, Hint};
 use crate::lowering::Lowerable;
-use crate::universe::{Universe, place_for};
+use crate::universe::{Universe, have_choices, place_for};
 use std::alloc::{AllocError, Global};
 use tp_ast::action::Body;
 use tp_ast::cond::Cond;
@@ -41,6 +41,15 @@ fn place_in_row(
     }
 }
 
+// A place where no object stands.
+fn empty_place(alloc: Global, universe: &Universe) -> Result<Vec<usize>, AllocError>
+    ensures { IfOk result (λ v. product (map (listed universe.now) v.items) ≡ []) }
+{
+    let mut places = Vec::with_capacity(alloc, 1)?;
+    places.push(universe.known.len())?;
+    Ok(places)
+}
+
 // Where the objects for each variable stand, if they were all looked for.
 fn places_for(
     alloc: Global,
@@ -60,6 +69,22 @@ fn places_for(
         places.push(found)?;
     }
     Ok(Some(places))
+}
+
+// Places of lists whose rows are the bindings of some variables, if they are known: where the objects for each stand, or where there
+// are no bindings one place without an object.
+fn places_with(
+    alloc: Global,
+    universe: &Universe,
+    variables: &TypedList,
+) -> Result<Option<Vec<usize>>, AllocError>
+    ensures { IfOk result (λ o. IfSome o (λ v. product (map (listed universe.now) v.items)
+        ≡ bindings (universe_view universe.now) (map typed_view variables.now.items))) }
+{
+    if !have_choices(universe, variables) {
+        return Ok(Some(empty_place(alloc, universe)?));
+    }
+    places_for(alloc, universe, variables)
 }
 
 // Whether there may be a quantifier in some conditions.
@@ -104,7 +129,7 @@ fn bound_hint(
     ensures some { IfOk result (λ h. fits universe.now h
         (for_some (map typed_view variables.now.items) (cond_view inner.now)) ≡ true) }
 {
-    let Some(places) = places_for(alloc, universe, variables)? else {
+    let Some(places) = places_with(alloc, universe, variables)? else {
         return Ok(Hint::Nothing);
     };
     let hint = hint_of(alloc, universe, inner)?;
@@ -180,7 +205,7 @@ fn under_hint<P: Lowerable>(
     ensures { IfOk result (λ h. joined_fits universe.now (P.fits universe.now) h
         (for_each (map typed_view variables.now.items) (joined_view P.seen part.now)) ≡ true) }
 {
-    let Some(places) = places_for(alloc, universe, variables)? else {
+    let Some(places) = places_with(alloc, universe, variables)? else {
         return Ok(Hint::Nothing);
     };
     let hint = joined_hint(alloc, universe, part)?;

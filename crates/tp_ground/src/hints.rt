@@ -16,7 +16,7 @@ pub enum Hint {
     Nothing,
     /// Of the parts of a condition, one after another; of those behind the last, nothing.
     Parts(Vec<Hint>),
-    /// Where the objects for each variable of a quantifier stand, and what is known of what stands inside.
+    /// Places of lists whose rows are the bindings of a quantifier's variables, and what is known of what stands inside.
     Bound(Vec<usize>, Box<Hint>),
 }
 
@@ -27,7 +27,7 @@ pub struct BodyHint {
     pub effect: Hint,
 }
 
-/// Where the objects for the variables of a quantifier stand, and what is known of what stands inside.
+/// Places of lists whose rows are the bindings of a quantifier's variables, and what is known of what stands inside.
 #[derive(Clone, Copy)]
 pub struct Inside<'h> {
     pub places: &'h [usize],
@@ -84,7 +84,7 @@ pub fn inside_of<'h>(hint: Option<&'h Hint>) -> Option<Inside<'h>>
     }
 }
 
-/// Where the objects for the variables of a quantifier stand, if that is known.
+/// Places of lists whose rows are the bindings of a quantifier's variables, if they are known.
 pub fn places_in<'h>(inside: Option<Inside<'h>>) -> Option<&'h [usize]>
     ensures { result ≡ option_map (λ i. i.places) inside.entry }
 {

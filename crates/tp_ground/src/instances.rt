@@ -40,7 +40,7 @@ pub struct Instance<'s, 'a> {
 fn push_rows<'s, 'a>(
     alloc: Global,
     schema: &'s Schema<'a>,
-    rows: &mut Rows<'a>,
+    rows: &mut Rows<'_, 'a>,
     into: &mut Vec<Instance<'s, 'a>>,
 ) -> Result<(), AllocError>
     ensures items { OnOk result (map instance_view into.new.items

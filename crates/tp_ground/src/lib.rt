@@ -3,6 +3,7 @@
 //! - `objects`, `universe`, `noting`, `rows`: the objects, what variables may stand for, and their bindings
 //! - `hints`, `hinting`: where the objects for the variables of quantifiers stand, noted before an action's bindings
 //! - `variables`, `environment`, `lowering`: conditions, expressions, effects and bodies grounded under a binding
+//! - `extent`: how many bindings of quantifiers that takes, and a bound of it
 //! - `numbers`, `beginning`, `grounding`, `grounder`: numbers past the limit, the initial state, all ground actions, the task
 //! - `schema`, `schemas`, `instances`, `reached`: all bindings, and the task of those that the relaxed reach keeps
 //! - `laws`: what holds of the tasks that are made
@@ -10,6 +11,7 @@
 
 mod beginning;
 mod environment;
+mod extent;
 mod grounder;
 mod grounding;
 mod hinting;

@@ -16,12 +16,13 @@ use tp_task::Cond;
 // The most conditions that are kept, and how many places there are to look at: one for each number of 12 bits.
 const MOST: usize = 4_096;
 
-/// A condition, what its terms stood for, and what it was written out to.
+/// A condition, what its terms stood for, what it was written out to, and how many bindings of quantifiers that took.
 #[derive(Drop)]
 pub struct Kept<'a> {
     pub cond: &'a tp_ast::cond::Cond,
     pub objects: Objects<'a>,
     pub written: Rc<Cond>,
+    pub bindings: usize,
 }
 
 /// The conditions that are kept, and where each may stand: a place is looked at before it is believed.

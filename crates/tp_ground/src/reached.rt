@@ -365,7 +365,7 @@ fn reached_within<'a>(
 /// order. Atoms, fluents and actions are counted as far as what is kept mentions them. All type-correct bindings are
 /// written out once to find these, whatever the limits, so it takes time and memory in what all of them write out. Before
 /// that it asks for 4,096 bytes for each of them behind the 65,535th, and gives them back, so that many more than memory holds
-/// are refused at once; what a binding writes out beyond that, as by a quantifier, is not foreseen.
+/// are refused at once; what a binding writes out beyond that, as by a quantifier, is asked for as it is gone through, as by `ground`.
 pub fn ground_reached(
     alloc: Global,
     domain: &Domain,

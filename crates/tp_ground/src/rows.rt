@@ -6,25 +6,26 @@ ghost use Rattle.tp_ground.specs.Bindings.{choices, bindings};
 ghost use Rattle.tp_ground.specs.Counts.{IsCount};
 ghost use Rattle.tp_ground.specs.Hints.{listed, AreListed};
 ghost use Rattle.tp_ground.specs.Views.{universe_view};
-ghost use Rattle.tp_ground.specs.Rows.{product, lists_of, EndsWith};
+ghost use Rattle.tp_ground.specs.Rows.{product, names_in, lists_of, EndsWith};
 
 use crate::universe::{Universe, choices, copied, count_bindings, listed, times};
 use std::alloc::{AllocError, Global};
+use std::borrow::CowSlice;
 use tp_ast::marks::is_marked;
 use tp_ast::symbols::Typed;
 use tp_ast::typed_list::TypedList;
 
 /// The names that each variable may stand for, how many bindings they have, and one of those.
 #[derive(Drop)]
-pub struct Rows<'a> {
-    pub lists: Vec<Vec<&'a str>>,
+pub struct Rows<'u, 'a> {
+    pub lists: Vec<CowSlice<'u, &'a str>>,
     pub row: Vec<&'a str>,
     pub count: usize,
     ghost counted: { count ≡ length (product (lists_of lists.items)) },
     ghost long: { length row.items ≡ length lists.items },
 }
 
-impl<'a> Rows<'a> {
+impl<'u, 'a> Rows<'u, 'a> {
     /// Makes the row the binding at a place: a name of each list, the first of which varies slowest.
     pub fn turn_to(&mut self, place: usize)
         requires { place < self.old.count }
@@ -38,7 +39,7 @@ impl<'a> Rows<'a> {
 }
 
 // Writes the row at a place.
-fn fill<'a>(row: &mut [&'a str], lists: &[Vec<&'a str>], count: usize, place: usize)
+fn fill<'a>(row: &mut [&'a str], lists: &[CowSlice<'_, &'a str>], count: usize, place: usize)
     requires long { length row.old ≡ length lists.now }
     requires counted { count ≡ length (product (lists_of lists.now)) }
     requires within { place < count }
@@ -50,36 +51,52 @@ fn fill<'a>(row: &mut [&'a str], lists: &[Vec<&'a str>], count: usize, place: us
     let mut rest = place;
     for index in 0..lists.len() {
         let names = lists[index].as_slice();
-        left /= names.len();
-        row[index] = names[rest / left];
-        rest %= left;
+        if names.len() == 1 {
+            row[index] = names[0];
+        } else {
+            left /= names.len();
+            row[index] = names[rest / left];
+            rest %= left;
+        }
+    }
+}
+
+// The same names, lent again or in a list of their own.
+fn again<'u, 'a>(
+    alloc: Global,
+    names: &CowSlice<'u, &'a str>,
+) -> Result<CowSlice<'u, &'a str>, AllocError>
+    ensures { IfOk result (λ v. names_in v ≡ names_in names.now) }
+{
+    match names {
+        CowSlice::Borrowed(lent) => Ok(CowSlice::Borrowed(lent)),
+        CowSlice::Owned(own) => Ok(CowSlice::Owned(copied(alloc, own)?)),
     }
 }
 
 // The objects that a variable may stand for: the last of these lists, if it is marked.
-fn choices_in_row<'a>(
+fn choices_in_row<'u, 'a>(
     alloc: Global,
-    universe: &Universe<'a>,
+    universe: &'u Universe<'a>,
     mark: bool,
-    lists: &[Vec<&'a str>],
+    lists: &[CowSlice<'u, &'a str>],
     variable: &Typed,
-) -> Result<Vec<&'a str>, AllocError>
+) -> Result<CowSlice<'u, &'a str>, AllocError>
     ensures { let ns = choices (universe_view universe.now) (typed_view variable.now) in
-        (mark ≡ true → EndsWith (lists_of lists.now) ns)
-        → IfOk result (λ v. map (λ o. o.now) v.items ≡ ns) }
+        (mark ≡ true → EndsWith (lists_of lists.now) ns) → IfOk result (λ v. names_in v ≡ ns) }
 {
     match lists {
-        [.., last] if mark => copied(alloc, last),
+        [.., last] if mark => again(alloc, last),
         _ => choices(alloc, universe, variable),
     }
 }
 
 // The objects that each variable may stand for.
-fn lists_of<'a>(
+fn lists_of<'u, 'a>(
     alloc: Global,
-    universe: &Universe<'a>,
+    universe: &'u Universe<'a>,
     variables: &TypedList,
-) -> Result<Vec<Vec<&'a str>>, AllocError>
+) -> Result<Vec<CowSlice<'u, &'a str>>, AllocError>
     ensures { IfOk result (λ v. lists_of v.items
         ≡ map (choices (universe_view universe.now)) (map typed_view variables.now.items)) }
 {
@@ -94,15 +111,22 @@ fn lists_of<'a>(
 }
 
 // One list with no name in it.
-fn no_name<'a>(alloc: Global) -> Result<Vec<Vec<&'a str>>, AllocError>
+fn no_name<'u, 'a>(
+    alloc: Global,
+    universe: &'u Universe<'a>,
+) -> Result<Vec<CowSlice<'u, &'a str>>, AllocError>
     ensures { IfOk result (λ v. product (lists_of v.items) ≡ []) }
 {
     let mut lists = Vec::with_capacity(alloc, 1)?;
-    lists.push(Vec::new(alloc))?;
+    lists.push(CowSlice::Borrowed(listed(universe, universe.known.len())))?;
     Ok(lists)
 }
 
-fn begun<'a>(alloc: Global, lists: Vec<Vec<&'a str>>, count: usize) -> Result<Rows<'a>, AllocError>
+fn begun<'u, 'a>(
+    alloc: Global,
+    lists: Vec<CowSlice<'u, &'a str>>,
+    count: usize,
+) -> Result<Rows<'u, 'a>, AllocError>
     requires { count ≡ length (product (lists_of lists.items)) }
     ensures lists { IfOk result (λ r. r.lists ≡ lists.entry) }
     ensures count { IfOk result (λ r. r.count ≡ count) }
@@ -112,7 +136,7 @@ fn begun<'a>(alloc: Global, lists: Vec<Vec<&'a str>>, count: usize) -> Result<Ro
 }
 
 // Asks for the room of more rows than can be told, which is refused.
-fn too_many<'a>(alloc: Global) -> Result<Rows<'a>, AllocError>
+fn too_many<'u, 'a>(alloc: Global) -> Result<Rows<'u, 'a>, AllocError>
     ensures { IfOk result (λ _. ⊥) }
 {
     let _room: Vec<u8> = Vec::with_capacity(alloc, usize::MAX)?;
@@ -136,43 +160,43 @@ fn count_rows(universe: &Universe, places: &[usize]) -> Option<usize>
 }
 
 // The lists at some places.
-fn lists_at<'a>(
+fn lists_at<'u, 'a>(
     alloc: Global,
-    universe: &Universe<'a>,
+    universe: &'u Universe<'a>,
     places: &[usize],
-) -> Result<Vec<Vec<&'a str>>, AllocError>
+) -> Result<Vec<CowSlice<'u, &'a str>>, AllocError>
     ensures { IfOk result (λ v. lists_of v.items ≡ map (listed universe.now) places.now) }
 {
     let mut lists = Vec::with_capacity(alloc, places.len())?;
     for place in places {
-        lists.push(copied(alloc, listed(universe, *place))?)?;
+        lists.push(CowSlice::Borrowed(listed(universe, *place)))?;
     }
     Ok(lists)
 }
 
 // The rows of the lists at some places.
-fn rows_at<'a>(
+fn rows_at<'u, 'a>(
     alloc: Global,
-    universe: &Universe<'a>,
+    universe: &'u Universe<'a>,
     places: &[usize],
-) -> Result<Rows<'a>, AllocError>
+) -> Result<Rows<'u, 'a>, AllocError>
     ensures { IfOk result (λ r. product (lists_of r.lists.items)
         ≡ product (map (listed universe.now) places.now)) }
 {
     match count_rows(universe, places) {
         None => too_many(alloc),
-        Some(0) => begun(alloc, no_name(alloc)?, 0),
+        Some(0) => begun(alloc, no_name(alloc, universe)?, 0),
         Some(count) => begun(alloc, lists_at(alloc, universe, places)?, count),
     }
 }
 
 /// As `rows_of`, where it may be known where the objects for the variables stand.
-pub fn rows_with<'a>(
+pub fn rows_with<'u, 'a>(
     alloc: Global,
-    universe: &Universe<'a>,
+    universe: &'u Universe<'a>,
     variables: &TypedList,
     places: Option<&[usize]>,
-) -> Result<Rows<'a>, AllocError>
+) -> Result<Rows<'u, 'a>, AllocError>
     requires { AreListed universe.now places (map typed_view variables.now.items) }
     ensures { IfOk result (λ r. product (lists_of r.lists.items)
         ≡ bindings (universe_view universe.now) (map typed_view variables.now.items)) }
@@ -184,18 +208,18 @@ pub fn rows_with<'a>(
 }
 
 /// The bindings of variables, none of them made yet. Where there are 2^64 or more, room is asked for as many bytes, and refused.
-pub fn rows_of<'a>(
+pub fn rows_of<'u, 'a>(
     alloc: Global,
-    universe: &Universe<'a>,
+    universe: &'u Universe<'a>,
     variables: &TypedList,
-) -> Result<Rows<'a>, AllocError>
+) -> Result<Rows<'u, 'a>, AllocError>
     ensures { IfOk result (λ r. product (lists_of r.lists.items)
         ≡ bindings (universe_view universe.now) (map typed_view variables.now.items)) }
 {
     match count_bindings(universe, variables, usize::MAX) {
         None => too_many(alloc),
         // No list is made: many variables may have many objects each.
-        Some(0) => begun(alloc, no_name(alloc)?, 0),
+        Some(0) => begun(alloc, no_name(alloc, universe)?, 0),
         Some(count) => begun(alloc, lists_of(alloc, universe, variables)?, count),
     }
 }

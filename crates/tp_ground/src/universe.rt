@@ -10,11 +10,13 @@ ghost use Rattle.tp_task.specs.Words.{same_words};
 ghost use Rattle.tp_ground.specs.Views.{universe_view};
 ghost use Rattle.tp_ground.specs.KnownChoices.{of_types, is_known};
 ghost use Rattle.tp_ground.specs.Hints.{listed, listed_in};
+ghost use Rattle.tp_ground.specs.Rows.{names_in};
 
 use crate::objects::Known;
 pub use crate::objects::Universe;
 use indexmap::IndexMap;
 use std::alloc::{AllocError, Global};
+use std::borrow::CowSlice;
 use tp_ast::marks::is_marked;
 use tp_ast::symbols::Typed;
 use tp_ast::typed_list::TypedList;
@@ -38,11 +40,14 @@ pub fn are_same(left: &[String], right: &[String]) -> bool
     others.is_empty()
 }
 
-// A mix of what was mixed before and the last letters of a word, by the steps of FNV-1a.
+// So many letters at the end of a name are mixed: longer names with one end can't be many.
+const LETTERS: usize = 256;
+
+// A mix of what was mixed before, and of the length and the last letters of a word, by the steps of FNV-1a.
 fn mixed(before: u64, word: &str) -> u64 {
     let letters = word.as_bytes();
-    let mut mixed = before ^ 0x2f;
-    for letter in &letters[letters.len().saturating_sub(32)..] {
+    let mut mixed = before ^ 0x2f ^ ((letters.len() as u64) << 8);
+    for letter in &letters[letters.len().saturating_sub(LETTERS)..] {
         mixed = (mixed ^ u64::from(*letter)).wrapping_mul(0x0000_0100_0000_01b3);
     }
     mixed
@@ -141,17 +146,18 @@ pub fn copied<'a>(alloc: Global, names: &[&'a str]) -> Result<Vec<&'a str>, Allo
 }
 
 /// The objects that a variable may stand for.
-pub fn choices<'a>(
+pub fn choices<'u, 'a>(
     alloc: Global,
-    universe: &Universe<'a>,
+    universe: &'u Universe<'a>,
     variable: &Typed,
-) -> Result<Vec<&'a str>, AllocError>
+) -> Result<CowSlice<'u, &'a str>, AllocError>
     ensures { IfOk result (λ v.
-        map (λ o. o.now) v.items ≡ choices (universe_view universe.now) (typed_view variable.now)) }
+        names_in v ≡ choices (universe_view universe.now) (typed_view variable.now)) }
 {
-    match find_known(&universe.known, &universe.places, variable.type_names()) {
-        Some(names) => copied(alloc, names),
-        None => universe.objects.fitting(alloc, variable.type_names()),
+    let types = variable.type_names();
+    match find_known(&universe.known, &universe.places, types) {
+        Some(names) => Ok(CowSlice::Borrowed(names)),
+        None => Ok(CowSlice::Owned(universe.objects.fitting(alloc, types)?)),
     }
 }
 

@@ -71,28 +71,28 @@ fn object_among<'a>(variables: &[Typed], objects: &[&'a str], name: &str) -> Opt
 }
 
 impl<'v> Variables<'v> {
-    /// Variables in their order, without a table.
-    pub fn plain(items: &'v TypedList) -> Self
-        ensures { result ≡ items.now.items }
-    {
-        Variables {
-            items,
-            places: None,
-        }
-    }
-
-    /// Variables in their order.
-    pub fn new(alloc: Global, items: &'v TypedList) -> Result<Self, AllocError>
+    /// Variables in their order. No table of them is made if they stand over something brief, in which few are looked for.
+    pub fn over(alloc: Global, items: &'v TypedList, brief: bool) -> Result<Self, AllocError>
         ensures { IfOk result (λ v. v ≡ items.now.items) }
     {
-        if items.as_slice().len() <= FEW {
-            return Ok(Variables::plain(items));
+        if brief || items.as_slice().len() <= FEW {
+            return Ok(Variables {
+                items,
+                places: None,
+            });
         }
         let places = own_places(alloc, items.as_slice())?;
         Ok(Variables {
             items,
             places: Some(places),
         })
+    }
+
+    /// Variables in their order.
+    pub fn new(alloc: Global, items: &'v TypedList) -> Result<Self, AllocError>
+        ensures { IfOk result (λ v. v ≡ items.now.items) }
+    {
+        Variables::over(alloc, items, false)
     }
 
     /// The same in a list.

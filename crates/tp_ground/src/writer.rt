@@ -9,13 +9,13 @@ ghost use Rattle.tp_ground.specs.Mentions.{an_atom, a_fluent};
 ghost use Rattle.tp_ground.specs.Lowered.{Lowers};
 ghost use Rattle.tp_ground.specs.Kept.{Stands, StillStands};
 
+use crate::extent::Extent;
 use crate::memory::{Kept, Memory};
 use std::alloc::{AllocError, Global};
 use std::marker::Model;
-use std::rc::Rc;
 use tp_ast::domain::Domain;
 use tp_ast::problem::Problem;
-use tp_task::{Cond, GroundFault, Numbering};
+use tp_task::{GroundFault, Numbering};
 
 /// The numbers of what is mentioned, and the conditions that were written out over the objects of a problem.
 #[derive(Drop)]
@@ -24,6 +24,7 @@ pub struct Writer<'a> {
     domain: &'a Domain,
     problem: &'a Problem,
     memory: Memory<'a>,
+    extent: Extent,
 }
 
 impl<'a> Model for Writer<'a> {
@@ -60,6 +61,7 @@ impl<'a> Writer<'a> {
             domain,
             problem,
             memory: Memory::new(alloc),
+            extent: Extent::new(),
         }
     }
 
@@ -91,12 +93,16 @@ impl<'a> Writer<'a> {
     }
 
     /// What a condition was written out to where its terms stood for these objects, if that is found.
-    pub fn recall(&self, cond: &tp_ast::cond::Cond, objects: &[&str]) -> Option<&Rc<Cond>>
-        ensures { IfSome result (λ r.
-            Stands self.now (cond_view cond.now) (map (λ o. o.now) objects.now) r.now.value) }
+    pub fn recall(&self, cond: &tp_ast::cond::Cond, objects: &[&str]) -> Option<&Kept<'a>>
+        ensures { IfSome result (λ k. Stands self.now
+            (cond_view cond.now) (map (λ o. o.now) objects.now) k.now.written.value) }
     {
-        let kept = self.memory.find(cond, objects)?;
-        Some(&kept.written)
+        self.memory.find(cond, objects)
+    }
+
+    /// How many bindings of quantifiers are written out.
+    pub fn extent(&self) -> &Extent {
+        &self.extent
     }
 
     /// Keeps what a condition was written out to.

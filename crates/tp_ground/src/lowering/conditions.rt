@@ -164,6 +164,7 @@ fn under_each<'a>(
     let mut lowered = Vec::with_capacity(alloc, rows.count)?;
     let hint = hint_in(inside);
     for place in 0..rows.count {
+        writer.extent().count(alloc, 1)?;
         rows.turn_to(place);
         let inner = Env::Inner(&*variables, &rows.row, &*env);
         lowered.push(condition(alloc, universe, &inner, writer, cond, hint)?)?;
@@ -232,21 +233,6 @@ fn disjunction<'a>(
     Ok(Cond::Or(conditions(alloc, universe, env, writer, conds, hints)?))
 }
 
-// The variables of a condition: no table of them is made for one in which little stands.
-fn named<'a>(
-    alloc: Global,
-    variables: &'a TypedList,
-    cond: &tp_ast::cond::Cond,
-) -> Result<Variables<'a>, AllocError>
-    ensures { IfOk result (λ v. v ≡ variables.now.items) }
-{
-    if is_brief(cond) {
-        Ok(Variables::plain(variables))
-    } else {
-        Variables::new(alloc, variables)
-    }
-}
-
 #[cycle(condition)]
 fn for_all<'a>(
     alloc: Global,
@@ -270,7 +256,7 @@ fn for_all<'a>(
         (inner (universe_view universe.now) (env_view env.now)
         (map typed_view variables.now.items)))))) }
 {
-    let named = named(alloc, variables, cond)?;
+    let named = Variables::over(alloc, variables, is_brief(cond))?;
     Ok(Cond::And(under_each(alloc, universe, env, writer, &named, cond, inside)?))
 }
 
@@ -297,7 +283,7 @@ fn for_some<'a>(
         (inner (universe_view universe.now) (env_view env.now)
         (map typed_view variables.now.items)))))) }
 {
-    let named = named(alloc, variables, cond)?;
+    let named = Variables::over(alloc, variables, is_brief(cond))?;
     Ok(Cond::Or(under_each(alloc, universe, env, writer, &named, cond, inside)?))
 }
 
@@ -365,6 +351,7 @@ fn written_out<'a>(
 
 // What the condition was written out to where its terms stood for these objects, if that is found.
 fn recalled(
+    alloc: Global,
     env: &Env,
     writer: &Writer,
     cond: &tp_ast::cond::Cond,
@@ -376,10 +363,11 @@ fn recalled(
         (condition_in writer.now.universe (env_view env.now) (cond_view cond.now)) (of_condition
         (condition_in writer.now.universe (env_view env.now) (cond_view cond.now))))) }
 {
-    match writer.recall(cond, objects) {
-        Some(known) => Ok(Some(Cond::Shared(known.clone()?))),
-        None => Ok(None),
-    }
+    let Some(kept) = writer.recall(cond, objects) else {
+        return Ok(None);
+    };
+    writer.extent().count(alloc, kept.bindings)?;
+    Ok(Some(Cond::Shared(kept.written.clone()?)))
 }
 
 // A condition that is kept from now on, and shared.
@@ -389,6 +377,7 @@ fn kept<'a>(
     cond: &'a tp_ast::cond::Cond,
     objects: Objects<'a>,
     written: Cond,
+    bindings: usize,
 ) -> Result<Cond, AllocError>
     requires { Stands writer.old (cond_view cond.now) (map (λ o. o.now) objects.items) written }
     ensures same { IfOk result
@@ -403,6 +392,7 @@ fn kept<'a>(
             cond,
             objects,
             written: again,
+            bindings,
         },
     )?;
     Ok(Cond::Shared(shared))
@@ -427,8 +417,10 @@ fn written_once<'a>(
         (universe_view universe.now) (env_view env.now) (cond_view cond.now)) (of_condition
         (condition_in (universe_view universe.now) (env_view env.now) (cond_view cond.now))) }
 {
+    let before = writer.extent().so_far();
     let written = written_out(alloc, universe, env, writer, cond, hint)?;
-    Ok(kept(alloc, writer, cond, objects, written)?)
+    let bindings = writer.extent().so_far().saturating_sub(before);
+    Ok(kept(alloc, writer, cond, objects, written, bindings)?)
 }
 
 // A condition that is written out once for all places where its terms stand for the same objects.
@@ -448,7 +440,7 @@ fn shared<'a>(
         (condition_in (universe_view universe.now) (env_view env.now) (cond_view cond.now))) }
 {
     let objects = objects_in(alloc, env, cond)?;
-    match recalled(env, &*writer, cond, &objects)? {
+    match recalled(alloc, env, &*writer, cond, &objects)? {
         Some(known) => Ok(known),
         None => written_once(alloc, universe, env, writer, cond, hint, objects),
     }
@@ -490,5 +482,6 @@ pub fn closed_condition<'a>(
         (condition_in (universe_view universe.now) [] (cond_view cond.now))) }
 {
     let hint = hint_of(alloc, universe, cond)?;
+    writer.extent().begin();
     condition(alloc, universe, &Env::Empty, writer, cond, Some(&hint))
 }

@@ -26,7 +26,6 @@ use crate::variables::Variables;
 use crate::writer::Writer;
 use std::alloc::{AllocError, Global};
 use tp_ast::joined::Joined;
-use tp_ast::typed_list::TypedList;
 use tp_ast::words::TimeSpecifier;
 use tp_task::GroundFault;
 
@@ -81,21 +80,6 @@ pub trait Lowerable: Drop {
             (universe_view universe.now) specifier (env_view env.now) (seen self.now))
             (of_each mentions (written
             (universe_view universe.now) specifier (env_view env.now) (seen self.now))) };
-}
-
-// The variables of parts: no table of them is made for those in which little stands.
-fn named<'a, P: Lowerable>(
-    alloc: Global,
-    variables: &'a TypedList,
-    part: &Joined<P>,
-) -> Result<Variables<'a>, AllocError>
-    ensures { IfOk result (λ v. v ≡ variables.now.items) }
-{
-    if is_brief_part(part) {
-        Ok(Variables::plain(variables))
-    } else {
-        Variables::new(alloc, variables)
-    }
 }
 
 // What is known of one of some parts, the one at a place.
@@ -179,6 +163,7 @@ fn push_under_each<'a, P: Lowerable>(
     into.reserve(rows.count)?;
     let hint = hint_in(inside);
     for place in 0..rows.count {
+        writer.extent().count(alloc, 1)?;
         rows.turn_to(place);
         let inner = Env::Inner(&*variables, &rows.row, &*env);
         push_part(alloc, universe, &inner, specifier, writer, part, hint, into)?;
@@ -213,7 +198,7 @@ pub fn push_part<'a, P: Lowerable>(
             push_parts(alloc, universe, env, specifier, writer, parts, hints, into)
         }
         Joined::Forall(variables, inner) => {
-            let named = named(alloc, variables, inner)?;
+            let named = Variables::over(alloc, variables, is_brief_part(inner))?;
             let inside = inside_of(hint);
             push_under_each(
                 alloc, universe, env, specifier, writer, &named, inner, inside, into,

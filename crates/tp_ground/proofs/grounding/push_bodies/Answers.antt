@@ -4,7 +4,7 @@ use Rattle.tp_ast.specs.Symbols.{Name, typed_view}
 use Rattle.tp_ast.specs.DomainViews.{body_view}
 use Rattle.tp_ast.specs.declared.symbols.Typed.{Typed}
 use Rattle.tp_ground.specs.Bindings.{Env, bindings}
-use Rattle.tp_ground.specs.Rows.{product, lists_of}
+use Rattle.tp_ground.specs.Rows.{product, Names, lists_of}
 use Rattle.tp_ground.proofs.OnRows.{row_there, within, behind_all}
 use Rattle.tp_ground.specs.Views.{universe_view}
 use Rattle.tp_ground.specs.Written.{body_in}
@@ -35,7 +35,7 @@ loop-place-preserved c =
     let env = plain_env _ _ _ row refl names in
     record {
       appended = each_push named_body (mentions_under u vs x) xs place row lt.1 item _ _ _ _ _ _ (body_under u vs x) _ _ _ c.in_ok-push.ensures.items (ap (λ (e : Env). body_in u e x) env) (ap (λ (e : Env). of_body u e x) env) c.loop-place.invariant.appended c.in_ok-body.ensures;
-      lists = ap (λ (v : Vec (Vec (Bor Name) Global) Global). product (lists_of v.items)) c.turn_to.ensures.lists ∙ c.loop-place.invariant.lists;
+      lists = ap (λ (v : Vec Names Global). product (lists_of v.items)) c.turn_to.ensures.lists ∙ c.loop-place.invariant.lists;
       count = c.turn_to.ensures.count ∙ c.loop-place.invariant.count;
     }
 

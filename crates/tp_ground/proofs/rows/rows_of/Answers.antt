@@ -1,7 +1,7 @@
-use Rattle.std.proofs.Common.{Bor, Vec, Global, map, length, sym, ap, ◌∙◌}
-use Rattle.tp_ast.specs.Symbols.{Name, typed_view}
+use Rattle.std.proofs.Common.{Vec, Global, map, length, sym, ap, ◌∙◌}
+use Rattle.tp_ast.specs.Symbols.{typed_view}
 use Rattle.tp_ground.specs.Views.{universe_view}
-use Rattle.tp_ground.specs.Rows.{product, lists_of}
+use Rattle.tp_ground.specs.Rows.{product, Names, lists_of}
 use Rattle.tp_ground.proofs.OnRows.{weaker, rows_bindings}
 use Rattle.tp_ground.proofs.rows.rows_of.Goals as goal
 
@@ -12,5 +12,5 @@ begun-requires-in-Some c =
 
 pub returns-in_ok-lists_of-in-Some : goal.returns-in_ok-lists_of-in-Some
 returns-in_ok-lists_of-in-Some c =
-    weaker (λ r is. ap (λ (v : Vec (Vec (Bor Name) Global) Global). product (lists_of v.items)) is
+    weaker (λ r is. ap (λ (v : Vec Names Global). product (lists_of v.items)) is
     ∙ (ap product c.in_ok-lists_of-in-Some.ensures ∙ rows_bindings (universe_view c.args.universe.now) (map typed_view c.args.variables.now.items))) c.begun-in-Some.result c.begun-in-Some.ensures.lists

@@ -5,7 +5,7 @@ use Rattle.tp_ast.specs.CondViews.{cond_view}
 use Rattle.tp_ast.specs.declared.symbols.Typed.{Typed}
 use Rattle.tp_ast.specs.declared.cond.Cond as syntax
 use Rattle.tp_ground.specs.Bindings.{Env, bound, bindings}
-use Rattle.tp_ground.specs.Rows.{product, lists_of}
+use Rattle.tp_ground.specs.Rows.{product, Names, lists_of}
 use Rattle.tp_ground.proofs.OnRows.{row_there, within, behind_all}
 use Rattle.tp_ground.specs.Views.{env_view, universe_view}
 use Rattle.tp_ground.specs.WriterViews.{WriterView}
@@ -56,7 +56,7 @@ under_each-loop-place-preserved t c =
       lowered =
           all_push named_condition of_condition _ _ _ _ _ _ _ _ _ c.in_ok-push.ensures.items (map_next f xs place row lt.1 item) c.loop-place.invariant.lowered
           (as_written of_condition _ _ (ap (λ (e : Env). condition_in u e x) (sym (inner_env _ _ _ row names))) c.in_ok-condition.ensures);
-      lists = ap (λ (v : Vec (Vec (Bor Name) Global) Global). product (lists_of v.items)) c.turn_to.ensures.lists ∙ c.loop-place.invariant.lists;
+      lists = ap (λ (v : Vec Names Global). product (lists_of v.items)) c.turn_to.ensures.lists ∙ c.loop-place.invariant.lists;
       count = c.turn_to.ensures.count ∙ c.loop-place.invariant.count;
     }
 

@@ -6,8 +6,8 @@ use Rattle.tp_ground.proofs.OnLowered.{lowered_as}
 use Rattle.tp_ground.proofs.OnKept.{named_Shared}
 use Rattle.tp_ground.proofs.lowering.conditions.recalled.Goals as goal
 
-pub returns-in_ok-clone-in-Some : goal.returns-in_ok-clone-in-Some
-returns-in_ok-clone-in-Some c =
-    let same : c.in_ok-clone-in-Some.field-0.value ≡ c.in-Some.known.now.value = search rules in
-    lowered_as (λ (y : GroundCondition). y) _ (λ t. named_Shared t c.in_ok-clone-in-Some.field-0 ∙ ap (named_condition t) same)
+pub returns : goal.returns
+returns c =
+    let same : c.in_ok-clone.field-0.value ≡ c.in-Some.kept.now.written.value = search rules in
+    lowered_as (λ (y : GroundCondition). y) _ (λ t. named_Shared t c.in_ok-clone.field-0 ∙ ap (named_condition t) same)
     (c.in-Some.ensures (env_view c.args.env.now) c.requires)

@@ -4,7 +4,7 @@ use Rattle.tp_ast.specs.Symbols.{Name, typed_view}
 use Rattle.tp_ast.specs.PartViews.{joined_view}
 use Rattle.tp_ast.specs.declared.symbols.Typed.{Typed}
 use Rattle.tp_ground.specs.Bindings.{Env, bindings}
-use Rattle.tp_ground.specs.Rows.{product, lists_of}
+use Rattle.tp_ground.specs.Rows.{product, Names, lists_of}
 use Rattle.tp_ground.proofs.OnRows.{row_there, within, behind_all}
 use Rattle.tp_ground.specs.Views.{env_view, universe_view}
 use Rattle.tp_ground.specs.Written.{parts_in, inner}
@@ -64,7 +64,7 @@ push_under_each-loop-place-preserved g t c =
       appended =
           all_appended g.P.Lowerable.named g.P.Lowerable.mentions _ _ _ _ _ _ (flat_map f (take place xs)) (f row) _ (next f xs place row lt.1 item) c.loop-place.invariant.appended
           (appended_as g.P.Lowerable.named g.P.Lowerable.mentions _ _ _ _ _ _ (ap (λ (e : Env). parts_in u read e x) (sym (inner_env _ _ _ row names))) c.in_ok-push_part.ensures);
-      lists = ap (λ (v : Vec (Vec (Bor Name) Global) Global). product (lists_of v.items)) c.turn_to.ensures.lists ∙ c.loop-place.invariant.lists;
+      lists = ap (λ (v : Vec Names Global). product (lists_of v.items)) c.turn_to.ensures.lists ∙ c.loop-place.invariant.lists;
       count = c.turn_to.ensures.count ∙ c.loop-place.invariant.count;
     }
 
