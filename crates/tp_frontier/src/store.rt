@@ -104,8 +104,11 @@ fn run_hash(hash: u64, run: &Running) -> u64 {
     mixed(second, u64::from(run.left))
 }
 
+// Where a hash is looked for first, among a power of two of places. A product's low bits know nothing of the high ones of what was
+// multiplied, so both halves are mixed once more, and the high bits of that are taken.
 fn place_of(hash: u64, len: usize) -> usize {
-    (hash.wrapping_shr(20) as usize) & len.saturating_sub(1)
+    let folded = (hash ^ hash.wrapping_shr(32)).wrapping_mul(MIX);
+    (folded.wrapping_shr(32) as usize) & len.saturating_sub(1)
 }
 
 // The number of the next of so many, if 32 bits can tell it and how many there are then.

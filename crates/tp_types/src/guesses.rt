@@ -25,10 +25,14 @@ pub struct Guesses {
     slots: Vec<Slot>,
 }
 
-// A mix of the letters of a name. It is odd, so not that of an open slot.
+// So many letters at the end of a name are mixed, so that a long name costs no more at each place where it is named.
+const LETTERS: usize = 32;
+
+// A mix of a name's length and its last letters. It is odd, so not that of an open slot.
 fn mix_of(name: &str) -> u32 {
-    let mut mix = 0u32;
-    for letter in name.as_bytes() {
+    let letters = name.as_bytes();
+    let mut mix = u32::try_from(letters.len()).unwrap_or(u32::MAX);
+    for letter in &letters[letters.len().saturating_sub(LETTERS)..] {
         mix = (mix ^ u32::from(*letter)).wrapping_mul(0x0100_0193);
     }
     mix.wrapping_mul(0x9E37_79B1) | 1
