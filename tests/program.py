@@ -9,6 +9,7 @@ import os
 import pathlib
 import re
 import resource
+import select
 import signal
 import socket
 import struct
@@ -189,6 +190,45 @@ def call(words, files={}, given=whole(""), room=None, log_room=None):
     if around and wants_memory(outcome):
         outcome = attempt(words, files, given, room, log_room, {})
     return outcome
+
+
+def next_line(stream, latest):
+    """The next line of what a program writes to a pipe; None if it is not whole when the time is over or the pipe is closed."""
+    line = b""
+    while not line.endswith(b"\n"):
+        ready, _, _ = select.select([stream], [], [], max(0, latest - time.monotonic()))
+        byte = os.read(stream.fileno(), 1) if ready else b""
+        if not byte:
+            return None
+        line += byte
+    return line.decode(errors="replace").removesuffix("\n")
+
+
+def in_turns(words, files, lines):
+    """Hands in one line after another, each only when the one before has its answer, where it is to have one. `lines` are pairs of a
+    line and whether it has an answer. Answers what came for each and the journal by then, up to the first line that got no answer in
+    time, and the exit status."""
+    with tempfile.TemporaryDirectory() as top:
+        folder = pathlib.Path(top)
+        lay_out(folder, files)
+        how = {"cwd": folder, "stdin": subprocess.PIPE, "stdout": subprocess.PIPE, "stderr": subprocess.DEVNULL}
+        with subprocess.Popen([str(built), *words.split()], **how) as ran:
+            turns = []
+            for line, has_answer in lines:
+                ran.stdin.write(raw(f"{line}\n"))
+                ran.stdin.flush()
+                if has_answer:
+                    answer = next_line(ran.stdout, time.monotonic() + SECONDS)
+                    if answer is None:
+                        break
+                    log = folder / LOG
+                    turns.append((answer, log.read_text() if log.is_file() else None))
+            ran.stdin.close()
+            try:
+                return turns, ran.wait(timeout=SECONDS)
+            except subprocess.TimeoutExpired:
+                ran.kill()
+                raise AssertionError(f"the call did not end within {SECONDS} seconds") from None
 
 
 def lines_of(part):

@@ -15,7 +15,7 @@ use Rattle.tp_task.specs.Valid.{Planned, count_of}
 use Rattle.tp_happen.specs.declared.plans.Step.{Step}
 use Rattle.tp_validate.specs.OfTask.{step_of, planned, plan_of}
 use Rattle.tp_validate.proofs.Planning.{planned_few}
-use Rattle.tp_deorder.specs.Answers.{IsNetOf, IsPlanNetOf, own_ticks}
+use Rattle.tp_deorder.specs.Answers.{IsNetOf, IsPlanNetOf, own_ticks, bounds_in}
 use Rattle.tp_deorder.specs.Inequalities.{event_count_of}
 use Rattle.tp_deorder.specs.EventTexts.{has_two, step_lines, lines_from, event_lines}
 
@@ -53,5 +53,5 @@ plan_is_net t steps horizon h k bs n few is in_time count =
     }))
 
 pub is_plan_net : (t : Task) (steps : List Step) (l : RunLimits) (n : PlanNet) → n.horizon ≡ l.horizon → map string_bytes n.events.items ≡ event_lines t steps → length n.events.items ≡ event_count_of (plan_of t steps)
-    → event_count_of (plan_of t steps) ≤ l.events → length n.bounds.items ≤ l.bounds → IsNetOf t steps l.horizon n.bounds.items → IsPlanNetOf t steps l n
-is_plan_net t steps l n h x k e b net = record { horizon = h; texts = x; events = k; few_events = omega arith; few_bounds = b; net = net }
+    → event_count_of (plan_of t steps) ≤ l.events → length n.bounds.items ≤ l.bounds → n.bounds.items ≡ bounds_in t steps l.horizon → IsNetOf t steps l.horizon n.bounds.items → IsPlanNetOf t steps l n
+is_plan_net t steps l n h x k e b bs net = record { horizon = h; texts = x; events = k; few_events = omega arith; few_bounds = b; bounds = bs; net = net }

@@ -18,6 +18,7 @@ use Rattle.tp_deorder.specs.declared.DeorderFault.{DeorderFault}
 use Rattle.tp_deorder.specs.declared.DeorderFault.TheVariants.{Memory, TooMany}
 use Rattle.tp_deorder.specs.EventTexts.{event_lines}
 use Rattle.tp_deorder.specs.Inequalities.{event_count_of, bound_count}
+use Rattle.tp_deorder.specs.Kept.{net_bounds}
 
 -- a fact of the fault, if it is not out of memory
 abbrev pub OnTooMany : DeorderFault → Type 0 → Type 0
@@ -50,12 +51,18 @@ pub record IsNetOf (t : Task) (steps : List Step) (horizon : ℕ) (bounds : List
   -- it is one that a network takes: `horizon` is at most that of the limits
   pub suit : horizon ≤ 1_000_000_000 → All (SuitsNet (event_count_of (plan_of t steps))) bounds
 
--- A network of a plan within limits: its horizon is theirs, its events are the plan's, told as text, its bounds are the plan's,
--- and there are no more of either than the limits allow.
+-- the bounds of the network of a plan, one after another
+abbrev pub bounds_in : Task → List Step → ℕ → List Bound
+bounds_in t steps horizon =
+    net_bounds horizon (scale_of t) (state_at t steps) (plan_of t steps)
+
+-- The network of a plan within limits: its horizon is theirs, its events are the plan's, told as text, its bounds are the plan's,
+-- one after another, and there are no more of either than the limits allow.
 pub record IsPlanNetOf (t : Task) (steps : List Step) (l : RunLimits) (n : PlanNet) : Type 0 where
   pub horizon : n.horizon ≡ l.horizon
   pub texts : map string_bytes n.events.items ≡ event_lines t steps
   pub events : length n.events.items ≡ event_count_of (plan_of t steps)
   pub few_events : length n.events.items ≤ l.events
   pub few_bounds : length n.bounds.items ≤ l.bounds
+  pub bounds : n.bounds.items ≡ bounds_in t steps l.horizon
   pub net : IsNetOf t steps l.horizon n.bounds.items

@@ -12,7 +12,7 @@ ghost use Rattle.tp_validate.specs.OfTask.{scale_of, begin, plan_of};
 ghost use Rattle.tp_deorder.specs.Spans.{plan_ticks};
 ghost use Rattle.tp_deorder.specs.Inequalities.{comes_before, steps_by, bound_count, event_count_of};
 ghost use Rattle.tp_deorder.specs.Kept.{kept_orders, net_bounds, AreNumbered};
-ghost use Rattle.tp_deorder.specs.Answers.{OnTooMany, PassesLimits, IsNetOf, IsPlanNetOf};
+ghost use Rattle.tp_deorder.specs.Answers.{OnTooMany, PassesLimits, IsNetOf, IsPlanNetOf, bounds_in};
 
 use crate::DeorderFault;
 use crate::event_texts::event_texts;
@@ -136,6 +136,8 @@ fn bounds_within(
     requires plan { IsPlan steps.now }
     requires sound { IsSound task.now steps.now }
     ensures net { IfOk result (λ v. IsNetOf task.now steps.now limits.now.horizon v.items) }
+    ensures bounds { IfOk result
+        (λ v. v.items ≡ bounds_in task.now steps.now limits.now.horizon) }
     ensures events { IfOk result
         (λ _. event_count_of (plan_of task.now steps.now) ≤ limits.now.events) }
     ensures few { IfOk result (λ v. length v.items ≤ limits.now.bounds) }
@@ -180,7 +182,8 @@ fn net_within(
 /// each 64 events at each thing that an event changes, and at each that an invariant mentions and an event changes. It leaves out the order of two events where one between them
 /// interferes with both, since it follows from two others: for each pair in order it looks through the events behind the first
 /// up to one that stands between, at most the cube of the events in looks at a table. For each durative step it looks at each
-/// event and each pair of those that write into its invariant. Which bounds express the schedules is this function's own choice.
+/// event and each pair of those that write into its invariant. Which bounds express the schedules is this function's own choice,
+/// the same for a plan whenever it is asked.
 pub fn deorder(
     alloc: Global,
     plan: &ValidPlan<'_>,

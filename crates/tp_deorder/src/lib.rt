@@ -12,7 +12,7 @@
 //! - `deordering`: all of it, `deorder`
 #![tactic(auto)]
 
-ghost use Rattle.std.specs.Prelude.{◌≡◌, ℕ, List, ◌↔◌};
+ghost use Rattle.std.specs.Prelude.{◌≡◌, ℕ, List, ◌↔◌, map, string_bytes};
 ghost use Rattle.tp_task.specs.State.{State};
 ghost use Rattle.tp_task.specs.Valid.{Planned};
 ghost use Rattle.tp_task.specs.Bounds.{MeetsBounds, retimed};
@@ -22,6 +22,9 @@ ghost use Rattle.tp_validate.specs.OfTask.{plan_of};
 ghost use Rattle.tp_deorder.specs.RunPlans.{run_steps};
 ghost use Rattle.tp_bounds.specs.Schedule.{IsSchedule};
 ghost use Rattle.tp_bounds.specs.OwnBounds.{setting_of, IsWithin};
+ghost use Rattle.tp_bounds.specs.declared.plan_nets.PlanNet.{PlanNet};
+ghost use Rattle.tp_bounds.specs.RunLimits.{RunLimits};
+ghost use Rattle.tp_deorder.specs.Answers.{IsPlanNetOf};
 ghost use Rattle.tp_deorder.specs.Inequalities.{plan_bounds, event_count_of};
 
 mod deordering;
@@ -78,4 +81,13 @@ pub fn bounds_are_listed()
 pub fn runs_are_retimed()
     ensures { (task : Task) (t : ℕ → ℕ) (steps : List Step)
         → plan_of task (run_steps task t steps) ≡ retimed t (plan_of task steps) }
+{}
+
+/// A plan has one network within the same limits: the same events, and the same bounds under the same numbers.
+pub fn networks_agree()
+    ensures { (task : Task) (steps : List Step) (limits : RunLimits) (m n : PlanNet)
+        → IsPlanNetOf task steps limits m → IsPlanNetOf task steps limits n
+        → (m.horizon ≡ n.horizon)
+        × (map string_bytes m.events.items ≡ map string_bytes n.events.items)
+        × (m.bounds.items ≡ n.bounds.items) }
 {}

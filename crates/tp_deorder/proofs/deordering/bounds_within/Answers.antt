@@ -34,6 +34,12 @@ bounds_of-requires-clause-fits c =
     subst (λ (ps : List Planned). list_all (fits (length c.args.task.now.initial_atoms.items) (length c.args.task.now.initial_numbers.items)) ps ≡ true) (sym (c.deref-2.ensures.value ∙ c.in_ok-planned.ensures))
     (planned_fits (length c.args.task.now.initial_atoms.items) (length c.args.task.now.initial_numbers.items) c.args.task.now.actions.items c.args.steps.now c.args.task.now.fits)
 
+pub returns-clause-bounds : goal.returns-clause-bounds
+returns-clause-bounds c =
+    let t = c.args.task.now in
+    let same = ap₂ (λ (k : ℕ) (ps : List Planned). net_bounds k (scale_of t) (states (scale_of t) (begin t) (events ps)) ps) c.horizon.ensures.horizon (c.deref-2.ensures.value ∙ c.in_ok-planned.ensures) in
+    ok_weaker c.bounds_of.result _ _ (λ v q. q ∙ same) c.bounds_of.ensures.ok
+
 pub returns-clause-net : goal.returns-clause-net
 returns-clause-net c =
     let t = c.args.task.now in

@@ -12,4 +12,4 @@ invariant_of-result c =
 pub returns-clause-net : goal.returns-clause-net
 returns-clause-net c =
     let few : length c.in_ok-events.events.items ≡ event_count_of (plan_of c.args.task.now c.args.steps.now) = texts_count c.args.task.now c.args.steps.now c.in_ok-events.events.items c.in_ok-events.ensures in
-    is_plan_net c.args.task.now c.args.steps.now c.args.limits.now _ c.horizon.ensures.horizon c.in_ok-events.ensures few c.in_ok-bounds.ensures.events c.in_ok-bounds.ensures.few c.in_ok-bounds.ensures.net
+    is_plan_net c.args.task.now c.args.steps.now c.args.limits.now _ c.horizon.ensures.horizon c.in_ok-events.ensures few c.in_ok-bounds.ensures.events c.in_ok-bounds.ensures.few c.in_ok-bounds.ensures.bounds c.in_ok-bounds.ensures.net
