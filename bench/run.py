@@ -413,8 +413,11 @@ def worst_reads(program):
     kinds = f"(:types {' '.join(f't{name}' for name in short_names(2_000))} none the-other - object)"
     own = " ".join(f"c{name} - t{name}" for name in short_names(2_000))
     declared = f"{kinds} (:constants {own} {each('o#', 250)} - the-other) (:predicates (p))"
-    action = f"(:action a :parameters (?a ?b - the-other) :precondition (exists ({listed} ?x - none) (p)) :effect ())"
+    action = f"(:action a :parameters (?a ?b - the-other) :precondition (exists ({listed} ?no-such - none) (p)) :effect ())"
     judged(program, "one of 2,000 types, the last without objects", f"(define (domain d) {declared} {action})", problem, "")
+    long = "x" * 250_000
+    atoms = asking(f"(:types {long}) (:constants a - {long}) (:predicates (p ?x))", "(p a)" * 90_000)
+    judged(program, "90,000 atoms of a constant of a type of 250,000 letters", atoms, problem, "")
     names = " ".join(colliding(20_000))
     judged(program, "20,000 constants whose names collide", f"(define (domain d) (:constants {names}))", problem, "")
     judged(program, "20,000 types whose names collide", f"(define (domain d) (:types {names}))", problem, "")
@@ -563,6 +566,17 @@ def comparisons(places, count):
     return domain, f"(define (problem q) (:domain sums) (:objects {each('o#', places)}) (:init (= (sum) 0)) (:goal (and {goal})))"
 
 
+def moving_lamps(count, still):
+    """One of some lamps is switched a tick; their atoms are numbered behind others that never come about."""
+    domain = "(define (domain lamps) (:types l m) (:predicates (lit ?l - l) (b ?m - m) (tok)) (:functions (x))" + (
+        " (:action move :parameters (?m - m) :precondition (> (x) 5) :effect (b ?m))"
+        " (:action light :parameters (?l - l) :precondition (and (not (lit ?l)) (not (tok))) :effect (and (lit ?l) (not (tok))))"
+        " (:action dark :parameters (?l - l) :precondition (and (lit ?l) (not (tok))) :effect (and (not (lit ?l)) (not (tok)))))"
+    )
+    objects = f"{each('a#', count)} - l {each('b#', still)} - m"
+    return domain, f"(define (problem p) (:domain lamps) (:objects {objects}) (:init (= (x) 0)) (:goal (> (x) 5)))"
+
+
 def painters(count, places):
     """Actions that read the same atoms and change as many of their own, and a goal that only one that never can start would meet."""
     paint = "(:action a# :precondition (and (not (d#)) (forall (?x) (q ?x))) :effect (and (d#) (forall (?x) (r# ?x))))"
@@ -596,6 +610,7 @@ def searches(program):
     judged(program, "a ring of 250 lamps: 62,500 actions, 250 of which can start", *ring(250), None, "plan", ("--budget", "1000"))
     judged(program, "a goal of 5,001 conjuncts, a budget of 300", *many_goals(5000), None, "plan", ("--budget", "300"))
     judged(program, "20,000 comparisons of a number that 62,500 actions raise", *comparisons(250, 20_000), None, "plan", ("--budget", "0"))
+    judged(program, "20 lamps behind 43 atoms that stay, a budget of 1,000,000", *moving_lamps(20, 43), None, "plan", ("--budget", "1000000"))
     judged(program, "10 actions of 600 atoms each, until no node is left", *painters(10, 600), None, "plan", ("--budget", "1000000"))
     judged(program, "100 actions of 10,000 atoms each that all interfere, until no node is left", *rivals(100, 5000), None, "plan", ("--horizon", "0"))
     judged(program, "65,025 actions that share a condition of 8,000 atoms", *sharers(255, 8000), None, "plan")
