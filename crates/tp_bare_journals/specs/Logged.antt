@@ -1,5 +1,5 @@
 -- What is written for a network and its commands, and what their journal is.
-use Rattle.std.specs.Prelude.{◌≡◌, ℕ, ◌+◌, List, [], Option, Some, None, Result, Ok, Err, ◌⊎◌}
+use Rattle.std.specs.Prelude.{◌≡◌, ℕ, ◌+◌, List, [], Option, Some, None, IfSome, Result, Ok, Err, ◌⊎◌}
 use Rattle.std.specs.Io.KnownBytes.{Appends}
 use Rattle.tp_bounds.specs.Setting.{Setting}
 use Rattle.tp_machine.specs.Machine.{Machine}
@@ -65,6 +65,12 @@ StopsLogged input held now log logged (Beginning fault) =
 StopsLogged input held now log logged (Journaling fault) =
     LogsLines input held now log logged (Err fault)
 
+-- the name that was asked for, and the one under which the file was made, if it was made: they are the same, where the latter is told
+abbrev pub NamesFile : List ℕ → Option (List ℕ) → JournalStop → Type 0
+NamesFile name named Making = Unit {0}
+NamesFile name named (Beginning fault) = IfSome named (λ n. n ≡ name)
+NamesFile name named (Journaling fault) = IfSome named (λ n. n ≡ name)
+
 -- nothing was written, or the answers to the first lines behind the head and the lags, and their journal, as far as a fault let them
 abbrev pub LogsPart : Option (List ℕ) → Option (List ℕ) → Option (List ℕ) → Option (List ℕ)
     → Option (List ℕ) → Type 0
@@ -115,12 +121,14 @@ log_failures n (Err (Journaling Write)) = n
 log_failures n (Err (Journaling Log)) = n + 1
 log_failures n (Err (Journaling TooLong)) = n
 
--- The stop that ended it with that status was told, and it is as it tells. A failed write is one that the count of failures tells of.
+-- The stop that ended it with that status was told, and it is as it tells; a file that was made has the name that was asked for. A failed
+-- write is one that the count of failures tells of.
 pub record EndsJournaled (status : ℕ) (input held held-now log logged : Option (List ℕ))
-    (output output-now : ℕ) (failures : ℕ) (before : Option (List ℕ)) (failures-now : ℕ)
-    (now : Option (List ℕ)) : Type 0 where
+    (name : List ℕ) (named : Option (List ℕ)) (output output-now : ℕ) (failures : ℕ)
+    (before : Option (List ℕ)) (failures-now : ℕ) (now : Option (List ℕ)) : Type 0 where
   pub stop : JournalStop
   pub is : stop_status stop ≡ status
   pub cause : StopsLogged input held held-now log logged stop
+  pub names : NamesFile name named stop
   pub write : output-now ≡ output_failures {T = Unit {0}} output (Err stop)
   pub told : Tells (stop_text stop) failures before failures-now now

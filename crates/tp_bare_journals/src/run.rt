@@ -1,9 +1,9 @@
 //! The commands of the input, with the journal file of a name.
 
-ghost use Rattle.std.specs.Prelude.{◌≡◌, ◌≢◌, ◌≤◌, [], OnOk, IfErr, IfSome};
+ghost use Rattle.std.specs.Prelude.{◌≡◌, ◌≢◌, ◌≤◌, suc, [], option_map, OnOk, IfErr, IfSome};
 ghost use Rattle.tp_files.specs.FaultLines.{TellsFault};
 ghost use Rattle.tp_bare.specs.Bare.{IsRefused};
-ghost use Rattle.tp_bare_journals.specs.Logged.{EndsJournaled, LogsAll, LogsPart, StopsLogged, output_failures};
+ghost use Rattle.tp_bare_journals.specs.Logged.{EndsJournaled, LogsAll, LogsPart, NamesFile, StopsLogged, output_failures};
 
 use crate::journal_lines::{JournalStop, journal_stop_line};
 use crate::journaling::log_bare;
@@ -25,7 +25,9 @@ fn journaled<N: Logs, I: Source + Drop, O: Sink>(
         (O.held output.new) N.blank (N.kept files.new)) }
     ensures cause { IfErr result (StopsLogged (I.left input) (O.held output.old)
         (O.held output.new) N.blank (N.kept files.new)) }
+    ensures asked { N.asked files.new ≡ option_map suc (N.asked files.old) }
     ensures named { OnOk result (IfSome (N.named files.new) (λ n. n ≡ name.now)) }
+    ensures names { IfErr result (NamesFile name.now (N.named files.new)) }
     ensures told { O.failures output.new ≡ output_failures (O.failures output.old) result }
 {
     match files.make(name) {
@@ -55,6 +57,9 @@ pub fn run_bare_journal<N: Logs, I: Source + Drop, O: Sink, F: Sink>(
     ensures part { result ≢ 0 →
         LogsPart (I.left input) (O.held output.old) (O.held output.new) N.blank (N.kept files.new) }
     ensures refused { result ≡ REFUSED → IsRefused (I.left input) }
+
+    // Just one file is asked for. Where it is made, its name is the one that was asked for: so `ends` says it of each fault.
+    ensures asked { N.asked files.new ≡ option_map suc (N.asked files.old) }
     ensures named { result ≡ 0 → IfSome (N.named files.new) (λ n. n ≡ name.now) }
 
     // No status says no, a write that failed is always told, and a fault line goes with each fault and with nothing else.
@@ -65,7 +70,8 @@ pub fn run_bare_journal<N: Logs, I: Source + Drop, O: Sink, F: Sink>(
     ensures line { result ≢ 0 → TellsFault [] (F.failures faults.old) (F.held faults.old)
         (F.failures faults.new) (F.held faults.new) }
     ensures ends { result ≢ 0 → EndsJournaled result (I.left input) (O.held output.old) (O.held
-        output.new) N.blank (N.kept files.new) (O.failures output.old) (O.failures output.new)
+        output.new) N.blank (N.kept files.new) name.now (N.named files.new)
+        (O.failures output.old) (O.failures output.new)
         (F.failures faults.old) (F.held faults.old) (F.failures faults.new) (F.held faults.new) }
 {
     match journaled(alloc, files, name, input, output) {

@@ -62,6 +62,8 @@ impl<'r, R: HostFileSystem> HostLogs<'r, R> {
 impl<R: HostFileSystem> Logs for HostLogs<'_, R> {
     type Log = HostLog<R::File>;
 
+    ghost asked = { λ _. None };
+
     ghost named = { λ _. None };
 
     ghost kept = { λ _. None };

@@ -1,6 +1,6 @@
 //! Journal files under names.
 
-ghost use Rattle.std.specs.Prelude.{◌≡◌, ℕ, List, [], Option, IfOk, IfSome};
+ghost use Rattle.std.specs.Prelude.{◌≡◌, ℕ, suc, List, [], Option, option_map, IfOk, IfSome};
 
 use tp_device::{Failed, Sink};
 
@@ -8,6 +8,9 @@ use tp_device::{Failed, Sink};
 pub trait Logs {
     /// A file that is written. It was made empty, and each of its pushes goes to the file at once.
     type Log: Sink + Drop;
+
+    /// How many files were asked for so far, where that is told. One that could not be made counts, too.
+    ghost asked: { Self → Option ℕ };
 
     /// The name of the file that was made last, where that is told.
     ghost named: { Self → Option (List ℕ) };
@@ -20,12 +23,14 @@ pub trait Logs {
 
     /// Makes the file of a name, empty. What stood under that name before is gone.
     fn make(&mut self, name: &str) -> Result<Self::Log, Failed>
+        ensures asked { asked self.new ≡ option_map suc (asked self.old) }
         ensures blank { IfOk result (λ log. Self.Log.held log ≡ blank) }
         ensures named { IfOk result (λ _. IfSome (named self.new) (λ n. n ≡ name.now)) };
 
     /// Ends the writing of a file, which holds what its log does from then on.
     fn keep(&mut self, log: Self::Log)
         ensures kept { kept self.new ≡ Self.Log.held log }
+        ensures asked { asked self.new ≡ asked self.old }
         ensures named { named self.new ≡ named self.old };
 
     // A file is made empty.

@@ -59,23 +59,34 @@ impl<L: Ledger> Sink for Sheet<L> {
     }
 }
 
-/// Room for one file that is made and written. It is made of the sheet that lies there, if there is one.
+/// Room for one file that is made and written. It is made of the sheet that lies there, if there is one. How many files were asked for
+/// is counted.
 #[derive(Drop)]
-pub(crate) struct Desk<L: Ledger> {
+pub(crate) struct Desk<L: Ledger, A: Ledger> {
     alloc: Global,
     sheet: Option<Sheet<L>>,
     name: Option<String>,
     last: Option<Sheet<L>>,
+    asked: Book<A>,
+    share: Share<A>,
+    ghost counts: { 0 < share.parts },
 }
 
-impl<L: Ledger> Desk<L> {
-    /// A desk with that sheet, if there is one.
-    pub(crate) fn new(alloc: Global, sheet: Option<Sheet<L>>) -> Self {
+impl<L: Ledger, A: Ledger> Desk<L, A> {
+    /// A desk with that sheet, if there is one. The files that are asked for are counted in the blank ledger.
+    pub(crate) fn new(alloc: Global, sheet: Option<Sheet<L>>, blank: Blank) -> Self
+        requires name { blank.name ≡ A.name }
+        requires parts { blank.parts ≡ A.parts }
+        requires some { 0 < blank.parts }
+    {
+        let (asked, share) = blank.open();
         Desk {
             alloc,
             sheet,
             name: None,
             last: None,
+            asked,
+            share,
         }
     }
 
@@ -86,6 +97,8 @@ impl<L: Ledger> Desk<L> {
             sheet: _,
             name: _,
             last,
+            asked: _,
+            share: _,
         } = self;
         match last {
             Some(sheet) => Some(sheet.into_text()),
@@ -94,8 +107,10 @@ impl<L: Ledger> Desk<L> {
     }
 }
 
-impl<L: Ledger> Logs for Desk<L> {
+impl<L: Ledger, A: Ledger> Logs for Desk<L, A> {
     type Log = Sheet<L>;
+
+    ghost asked = { λ d. Some d.asked.total };
 
     ghost named = { λ d. option_map string_bytes d.name };
 
@@ -106,6 +121,7 @@ impl<L: Ledger> Logs for Desk<L> {
     ghost is_blank = { refl };
 
     fn make(&mut self, name: &str) -> Result<Sheet<L>, Failed> {
+        self.asked.add(&mut self.share, 1);
         let Ok(name) = String::from_str(self.alloc, name) else {
             return Err(Failed);
         };

@@ -54,13 +54,14 @@ pub(crate) struct Outcome {
     pub(crate) journal: Option<Vec<u8>>,
 }
 
-/// The ledgers of the failures of a reader, of two writers and of a journal file.
+/// The ledgers of the failures of a reader, of two writers and of a journal file, and that of the files that are asked for.
 #[derive(Drop)]
 struct Blanks {
     reads: Blank,
     writes: Blank,
     tells: Blank,
     logs: Blank,
+    asks: Blank,
 }
 
 impl Blanks {
@@ -70,12 +71,14 @@ impl Blanks {
         ensures writes { result.writes.parts ≡ 1 }
         ensures tells { result.tells.parts ≡ 1 }
         ensures logs { result.logs.parts ≡ 1 }
+        ensures asks { result.asks.parts ≡ 1 }
     {
         Blanks {
             reads: Blank::new(1),
             writes: Blank::new(1),
             tells: Blank::new(1),
             logs: Blank::new(1),
+            asks: Blank::new(1),
         }
     }
 }
@@ -93,7 +96,7 @@ fn blank_sheet<J: Ledger>(alloc: Global, room: Option<usize>, logs: Blank) -> Op
 }
 
 /// Commands whose journal is kept, over streams whose failures are counted.
-fn kept<R: Read + Drop, I: Ledger, O: Ledger, F: Ledger, J: Ledger>(
+fn kept<R: Read + Drop, I: Ledger, O: Ledger, F: Ledger, J: Ledger, A: Ledger>(
     alloc: Global,
     reader: R,
     room: Room,
@@ -111,11 +114,15 @@ fn kept<R: Read + Drop, I: Ledger, O: Ledger, F: Ledger, J: Ledger>(
     requires logs_name { blanks.logs.name ≡ J.name }
     requires logs_parts { blanks.logs.parts ≡ J.parts }
     requires logs_some { 0 < blanks.logs.parts }
+    requires asks_name { blanks.asks.name ≡ A.name }
+    requires asks_parts { blanks.asks.parts ≡ A.parts }
+    requires asks_some { 0 < blanks.asks.parts }
 {
     let input = FromRead::<R, I>::new(reader, blanks.reads);
     let mut output = Sheet::<O>::new(alloc, room.output, blanks.writes);
     let mut faults = Sheet::<F>::new(alloc, usize::MAX, blanks.tells);
-    let mut desk = Desk::<J>::new(alloc, blank_sheet(alloc, room.file, blanks.logs));
+    let sheet = blank_sheet(alloc, room.file, blanks.logs);
+    let mut desk = Desk::<J, A>::new(alloc, sheet, blanks.asks);
     let status = run_bare_journal(alloc, &mut desk, NAME, input, &mut output, &mut faults);
     Outcome {
         status,
@@ -127,13 +134,13 @@ fn kept<R: Read + Drop, I: Ledger, O: Ledger, F: Ledger, J: Ledger>(
 
 /// What comes of commands whose journal is kept.
 pub(crate) fn journaled(alloc: Global, commands: &[u8], room: Room) -> Outcome {
-    kept::<_, Brand, Brand, Brand, Brand>(alloc, commands, room, Blanks::new())
+    kept::<_, Brand, Brand, Brand, Brand, Brand>(alloc, commands, room, Blanks::new())
 }
 
 /// The same, where reading fails behind the commands.
 pub(crate) fn broken_off(alloc: Global, commands: &[u8]) -> Outcome {
     let reader = Broken { bytes: commands };
-    kept::<_, Brand, Brand, Brand, Brand>(alloc, reader, WIDE, Blanks::new())
+    kept::<_, Brand, Brand, Brand, Brand, Brand>(alloc, reader, WIDE, Blanks::new())
 }
 
 /// What an audit writes, and its exit status.

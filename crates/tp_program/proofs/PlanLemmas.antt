@@ -1,10 +1,10 @@
 -- What is said of the plan that the words name, and why nothing is.
-use Rattle.std.proofs.Common.{◌≡◌, ◌≤◌, ◌∙◌, ℕ, ◌+◌, List, [], Option, Bool, true, false, ◌⊎◌, inl, inr, refl, subst, sym, arith}
+use Rattle.std.proofs.Common.{◌≡◌, ◌≤◌, ◌∙◌, ℕ, List, [], Option, Bool, true, false, ◌⊎◌, inl, inr, refl, subst, sym}
 use Rattle.std.specs.Prelude.{Err}
 use Rattle.std.specs.Io.KnownBytes.{Appends}
 use Rattle.tp_device.specs.Bytes.{AppendsPart}
 use Rattle.tp_device.proofs.Parts.{appends_none}
-use Rattle.tp_bounds.specs.RunLimits.{RunLimits, greatest_limits}
+use Rattle.tp_bounds.specs.RunLimits.{RunLimits}
 use Rattle.tp_task.specs.declared.task.Task.{Task}
 use Rattle.tp_happen.specs.declared.plans.Step.{Step}
 use Rattle.tp_validate.specs.Answers.{IsVerdict}
@@ -14,14 +14,13 @@ use Rattle.tp_validate.specs.declared.verdicts.Verdict.TheVariants.{Valid, Inval
 use Rattle.tp_deorder.specs.Answers.{IsPlanNetOf, OnTooMany, PassesLimits}
 use Rattle.tp_deorder.specs.declared.DeorderFault.{DeorderFault}
 use Rattle.tp_files.specs.FaultLines.{Tells}
-use Rattle.tp_plan_files.specs.Causes.{Explains}
 use Rattle.tp_plan_files.specs.Named.{IsNamedPlan}
 use Rattle.tp_plan_files.specs.VerdictLines.{invalid_line, verdict_line}
 use Rattle.tp_plan_files.specs.declared.plan_words.PlanWords.{PlanWords}
 use Rattle.tp_plan_files.proofs.NamedLemmas.{Same, explains_over, plan_over}
 use Rattle.tp_plan_runs.proofs.StatusLemmas.{IsStatus, judge_is, network_is, three}
-use Rattle.tp_program.specs.Checks.{IsVerdictLine, Says, SaysPart, StopsCheck, StopsLine, TellsVerdict}
-use Rattle.tp_program.specs.Networks.{IsShownText, Shows, ShowsPart, ShowsVerdict, StopsNet, StopsShown, TellsNetwork}
+use Rattle.tp_program.specs.Checks.{IsVerdictLine, Says, StopsCheck, StopsLine, TellsVerdict}
+use Rattle.tp_program.specs.Networks.{Shows, ShowsVerdict, StopsNet, StopsShown, TellsNetwork}
 use Rattle.tp_program.specs.Stops.{EndsPlan, StopsOn, stop_failures, stop_status, stop_text}
 use Rattle.tp_program.specs.declared.stops.PlanStop.{PlanStop}
 use Rattle.tp_program.specs.declared.stops.PlanStop.TheVariants.{Judging, Network, Write}

@@ -2,7 +2,6 @@
 use Rattle.std.proofs.Common.{◌≡◌, ◌≢◌, ◌∙◌, ◌≤◌, zero, suc, ap, ℕ, List, [], ◌++◌, Option, Some, None, ◌⊎◌, inl, inr, codes, sym, subst, refl, arith}
 use Rattle.std.specs.Prelude.{MatchOption, Result, Ok, Err}
 use Rattle.std.specs.Io.KnownBytes.{Appends, Keeps}
-use Rattle.std.specs.String.{string_bytes}
 use Rattle.tp_device.specs.Bytes.{AppendsPart}
 use Rattle.tp_device.proofs.Parts.{appends_none}
 use Rattle.tp_bare.specs.Bare.{AnswersAll, AnswersPart, IsRefused, first_machine}
@@ -24,17 +23,17 @@ use Rattle.tp_log_audits.specs.Audits.{found_line}
 use Rattle.tp_log_audits.specs.declared.auditing.Found.{Found}
 use Rattle.tp_log_audits.specs.declared.auditing.Found.TheVariants as found
 use Rattle.tp_plan_audits.specs.PlanAudits.{IsPlanFound, SaysFound, SaysPlanJournal, SaysPlanNo, WithHead, WritesAuditPart}
-use Rattle.tp_run_journals.specs.LogFile.{LogFile, log_file}
+use Rattle.tp_run_journals.specs.LogFile.{LogFile}
 use Rattle.tp_run_journals.specs.RunJournals.{LogsInNone, LogsInPlan, LogsToNone, LogsToPlan}
 use Rattle.tp_plan_search.specs.Searches.{SaysNoPlan, SearchesPart, WritesPlan}
 use Rattle.tp_plan_splits.specs.Splits.{SplitsPart, WritesPlan as WritesIntervals, WritesSome, WritesSplit}
 use Rattle.tp_plan_search.specs.declared.search_words.SearchWords.{SearchWords}
-use Rattle.tp_program.specs.CallFiles.{CallFiles}
+use Rattle.tp_program.specs.CallFiles.{CallFiles, journal_file}
 use Rattle.tp_program.specs.Checks.{SaysPart, SaysValid}
 use Rattle.tp_program.specs.Done.{AnswersNo, DoesPart, DoesWhatIsAsked, IsAnsweredNo, IsDone, IsPartDone}
-use Rattle.tp_program.specs.Journaled.{LogsSome, LogsTo}
+use Rattle.tp_program.specs.Journaled.{LogsSome}
 use Rattle.tp_program.specs.Networks.{ShowsNetwork, ShowsPart}
-use Rattle.tp_files.specs.FaultLines.{Tells, TellsFault, TellsRefusal, fault_line}
+use Rattle.tp_files.specs.FaultLines.{TellsFault, TellsRefusal, fault_line}
 use Rattle.tp_arguments.specs.Requests.{AsksFor, AsksForNoCommands}
 use Rattle.tp_program.specs.Streams.{Ends, HandsOn, Runs, TellsSome}
 use Rattle.tp_plan_files.specs.declared.plan_words.PlanWords.{PlanWords}
@@ -342,15 +341,15 @@ log_none_over task steps horizon file input a b c d over h =
       named = h.named;
     }
 
-run_log_over : (files : CallFiles) (w : PlanWords) (name : List ℕ) (input a b c d : Option (List ℕ)) → Shift a b c d → LogsToPlan files.held w input a b (log_file name files.named files.blank files.kept) → LogsToPlan files.held w input c d (log_file name files.named files.blank files.kept)
+run_log_over : (files : CallFiles) (w : PlanWords) (name : List ℕ) (input a b c d : Option (List ℕ)) → Shift a b c d → LogsToPlan files.held w input a b (journal_file name files) → LogsToPlan files.held w input c d (journal_file name files)
 run_log_over files w name input a b c d over h =
-    let file = log_file name files.named files.blank files.kept in
+    let file = journal_file name files in
     named_over files.held w (λ task steps. LogsInPlan task steps w.horizon input a b file) (λ task steps. LogsInPlan task steps w.horizon input c d file) (λ task steps. log_plan_over task steps w.horizon file input a b c d over) h
 
-run_log_none_over : (files : CallFiles) (w : PlanWords) (name : List ℕ) (input a b c d : Option (List ℕ)) → Shift a b c d → LogsToNone files.held w input a b (log_file name files.named files.blank files.kept) → LogsToNone files.held w input c d (log_file name files.named files.blank files.kept)
-run_log_none_over files w name input a b c d over (inl h) = inl (invalid_over files.held w a b c d over h)
+run_log_none_over : (files : CallFiles) (w : PlanWords) (name : List ℕ) (input a b c d : Option (List ℕ)) → Shift a b c d → LogsToNone files.held w input a b (journal_file name files) → LogsToNone files.held w input c d (journal_file name files)
+run_log_none_over files w name input a b c d over (inl h) = inl (invalid_over files.held w a b c d over h.0, h.1)
 run_log_none_over files w name input a b c d over (inr h) =
-    let file = log_file name files.named files.blank files.kept in
+    let file = journal_file name files in
     inr (named_over files.held w (λ task steps. LogsInNone task steps w.horizon input a b file) (λ task steps. LogsInNone task steps w.horizon input c d file) (λ task steps. log_none_over task steps w.horizon file input a b c d over) h)
 
 -- ---- audits of the runs of plans
@@ -422,7 +421,7 @@ split_part_over held w owners a b c d over (inr (inr h)) =
 
 done_over : (request : Request) (files : CallFiles) (input a b c d : Option (List ℕ)) → Shift a b c d → IsDone request files input a b → IsDone request files input c d
 done_over Bare files input a b c d over h = all_over input a b c d over h
-done_over (BareLog log) files input a b c d over h = (logs_over input a b c d files.blank files.kept over h.0, h.1)
+done_over (BareLog log) files input a b c d over h = (logs_over input a b c d files.blank files.kept over h.0, h.1, h.2)
 done_over (Check w) files input a b c d over h = valid_over files.held w a b c d over h
 done_over (Net w) files input a b c d over h = network_over files.held w a b c d over h
 done_over (Run w) files input a b c d over h = run_over files.held w input a b c d over h

@@ -10,9 +10,8 @@ use Rattle.tp_plan_runs.specs.Invalid.{SaysInvalid}
 use Rattle.tp_plan_runs.specs.Runs.{RunsPart, RunsToNone, RunsToPlan}
 use Rattle.tp_plan_search.specs.Searches.{SaysNoPlan, SearchesPart, WritesPlan}
 use Rattle.tp_plan_splits.specs.Splits.{SplitsPart, WritesSplit}
-use Rattle.tp_run_journals.specs.LogFile.{log_file}
 use Rattle.tp_run_journals.specs.RunJournals.{LogsToNone, LogsToPlan}
-use Rattle.tp_program.specs.CallFiles.{CallFiles}
+use Rattle.tp_program.specs.CallFiles.{CallFiles, journal_file}
 use Rattle.tp_program.specs.Checks.{SaysPart, SaysValid}
 use Rattle.tp_program.specs.Journaled.{LogsSome, LogsTo}
 use Rattle.tp_program.specs.Networks.{ShowsNetwork, ShowsPart}
@@ -32,7 +31,7 @@ IsDone (Check w) files input held now = SaysValid files.held w held now
 IsDone (Net w) files input held now = ShowsNetwork files.held w held now
 IsDone (Run w) files input held now = RunsToPlan files.held w input held now
 IsDone (RunLog w log) files input held now =
-    LogsToPlan files.held w input held now (log_file log.now files.named files.blank files.kept)
+    LogsToPlan files.held w input held now (journal_file log.now files)
 IsDone (Plan w) files input held now = WritesPlan files.held w held now
 IsDone (Audit log) files input held now = SaysJournal (files.held log.now) held now
 IsDone (PlanAudit log w) files input held now =
@@ -57,7 +56,7 @@ IsAnsweredNo (Check w) files input held now = SaysInvalid files.held w held now
 IsAnsweredNo (Net w) files input held now = SaysInvalid files.held w held now
 IsAnsweredNo (Run w) files input held now = RunsToNone files.held w input held now
 IsAnsweredNo (RunLog w log) files input held now =
-    LogsToNone files.held w input held now (log_file log.now files.named files.blank files.kept)
+    LogsToNone files.held w input held now (journal_file log.now files)
 IsAnsweredNo (Plan w) files input held now = SaysNoPlan files.held w held now
 IsAnsweredNo (Audit log) files input held now = SaysWrong (files.held log.now) held now
 IsAnsweredNo (PlanAudit log w) files input held now =

@@ -10,9 +10,8 @@ use Rattle.tp_plan_audits.specs.PlanAudits.{EndsPlanAudit}
 use Rattle.tp_plan_runs.specs.Runs.{EndsRun}
 use Rattle.tp_plan_search.specs.SearchStops.{EndsSearch}
 use Rattle.tp_plan_splits.specs.Splits.{EndsSplit}
-use Rattle.tp_run_journals.specs.LogFile.{log_file}
 use Rattle.tp_run_journals.specs.RunJournals.{EndsRunLog}
-use Rattle.tp_program.specs.CallFiles.{CallFiles}
+use Rattle.tp_program.specs.CallFiles.{AskedOnce, CallFiles, journal_file}
 use Rattle.tp_program.specs.Checks.{EndsCheck}
 use Rattle.tp_program.specs.Networks.{EndsNet}
 use Rattle.tp_arguments.specs.Requests.{AsksFor}
@@ -54,8 +53,8 @@ EndsRequest Bare files input status held held-now output output-now failures bef
     = StopsBare status input held held-now output output-now failures before failures-now now
 EndsRequest (BareLog log) files input status held held-now output output-now failures before
     failures-now now
-    = EndsJournaled status input held held-now files.blank files.kept output output-now failures
-    before failures-now now
+    = EndsJournaled status input held held-now files.blank files.kept log.now files.named output
+    output-now failures before failures-now now × AskedOnce files
 EndsRequest
     (Check w) files input status held held-now output output-now failures before failures-now now
     = EndsCheck files.held w status held held-now output output-now failures before failures-now now
@@ -67,8 +66,8 @@ EndsRequest (Run w) files input status held held-now output output-now failures 
     failures-now now
 EndsRequest (RunLog w log) files input status held held-now output output-now failures before
     failures-now now
-    = EndsRunLog files.held w status input held held-now (log_file log.now files.named files.blank
-    files.kept) output output-now failures before failures-now now
+    = EndsRunLog files.held w status input held held-now (journal_file log.now files) output
+    output-now failures before failures-now now
 EndsRequest
     (Plan w) files input status held held-now output output-now failures before failures-now now =
     EndsSearch files.held w status held held-now output output-now failures before failures-now now

@@ -3,13 +3,22 @@ use Rattle.std.specs.Prelude.{◌≡◌, ℕ, List, [], Option, IfSome, Err, ◌
 use Rattle.std.specs.Io.KnownBytes.{Appends}
 use Rattle.tp_journal.specs.declared.faults.JournalFault.{JournalFault}
 use Rattle.tp_bare_journals.specs.Logged.{LogsAll, LogsLines}
-use Rattle.tp_program.specs.CallFiles.{CallFiles}
+use Rattle.tp_plan_files.specs.declared.plan_words.PlanWords.{PlanWords}
+use Rattle.tp_arguments.specs.Requests.{AsksFor}
+use Rattle.tp_arguments.specs.declared.requests.Request.TheVariants.{BareLog, RunLog}
+use Rattle.tp_program.specs.CallFiles.{AskedOnce, CallFiles}
 
--- all commands were answered, and the file of that name, which was made anew, holds the journal of that run
+-- the words ask for no journal
+pub record AsksForNoJournal (words : List (List ℕ)) : Type 0 where
+  pub no_log : (log : _) → AsksFor words (BareLog log) → ⊥
+  pub no_run_log : (w : PlanWords) (log : _) → AsksFor words (RunLog w log) → ⊥
+
+-- all commands were answered, and the file of that name, which was made anew, holds the journal of that run; no other was made
 abbrev pub LogsTo : CallFiles → List ℕ → Option (List ℕ) → Option (List ℕ) → Option (List ℕ)
     → Type 0
 LogsTo files name input held now =
     LogsAll input held now files.blank files.kept × IfSome files.named (λ n. n ≡ name)
+    × AskedOnce files
 
 -- nothing was written, or the answers to the first lines behind the head and the lags, and their journal, as far as a fault let them
 abbrev pub LogsSome : CallFiles → Option (List ℕ) → Option (List ℕ) → Option (List ℕ) → Type 0

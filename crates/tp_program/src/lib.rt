@@ -4,11 +4,11 @@
 //! or the journal in a file is audited; or the plan's network is split among agents, and their intervals go out.
 //!
 //! - `words`: the doing of what the words of a call ask for, over any files, reader and writers
+//! - `desk`: the files of a call
 //! - `check`: the judging of the plan in a file
 //! - `net`: the network of the plan in a file
 //! - `stops`: why a command on a plan stopped, and its line
 //! - `streams`: a run over readers and writers of std
-//! - `host`: the files of the host, those that are read and those of journals
 //!
 //! The words of a call are read by `tp_arguments`. Commands on a network of bounds alone are those of `tp_bare`, those with a journal
 //! of `tp_bare_journals`, files and fault lines those of `tp_files`, tasks and verdicts of files those of `tp_plan_files`, runs of
@@ -17,13 +17,13 @@
 #![tactic(auto)]
 
 mod check;
-mod host;
+mod desk;
 mod net;
 mod stops;
 mod streams;
 mod words;
 
-pub use host::HostDesk;
+pub use desk::Desk;
 pub use stops::{PlanStop, stop_line};
 pub use streams::{Ended, Refused, refuse_streams, run_streams};
 pub use tp_arguments::{

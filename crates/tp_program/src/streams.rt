@@ -10,6 +10,7 @@ ghost use Rattle.tp_device.specs.Bytes.{AppendsPart};
 ghost use Rattle.tp_program.specs.CallFiles.{call_files};
 ghost use Rattle.tp_program.specs.Streams.{Ends, HandsOn, TellsSome};
 
+use crate::desk::Desk;
 use crate::words::run_words;
 use std::alloc::Global;
 use std::io::{LineWriter, Read, Write};
@@ -106,14 +107,15 @@ fn run_counted<
     I: Ledger,
     O: Ledger,
     F: Ledger,
-    N: Files + Logs,
+    N: Files,
+    L: Logs,
     R: Read + Drop,
     W: Write + Drop,
     V: Write + Drop,
 >(
     alloc: Global,
     words: &[String],
-    files: &mut N,
+    files: &mut Desk<N, L>,
     input: Counted<R>,
     output: Counted<LineWriter<W>>,
     faults: Counted<V>,
@@ -127,8 +129,9 @@ fn run_counted<
     requires f { faults.blank.name ≡ F.name }
     requires f_parts { faults.blank.parts ≡ F.parts }
     requires f_some { 0 < faults.blank.parts }
-    ensures { Ends (map string_bytes words.now) (call_files (N.held files.old) N.blank
-        (N.named files.new) (N.kept files.new)) (R.remaining input.stream)
+    ensures { Ends (map string_bytes words.now) (call_files (N.held files.old.shelf)
+        (L.asked files.old.logs) (L.asked files.new.logs) L.blank (L.named files.new.logs) (L.kept files.new.logs))
+        (R.remaining input.stream)
         (line_writer_contents W.contents output.stream) (V.contents faults.stream) W.contents
         result.status result.output (V.contents result.faults) }
 {
@@ -175,24 +178,25 @@ fn end_lost<F: Ledger, W, V: Write + Drop>(faults: Counted<V>) -> Ended<W, V>
 ///
 /// Each answer is handed to `output` as soon as its line is whole. What could not be written to `output` in the end is told
 /// as a failed write.
-pub fn run_streams<N: Files + Logs, R: Read + Drop, W: Write + Drop, V: Write + Drop>(
+pub fn run_streams<N: Files, L: Logs, R: Read + Drop, W: Write + Drop, V: Write + Drop>(
     alloc: Global,
     words: &[String],
-    files: &mut N,
+    files: &mut Desk<N, L>,
     input: R,
     output: W,
     faults: V,
 ) -> Ended<W, V>
-    ensures { Ends (map string_bytes words.now) (call_files (N.held files.old) N.blank
-        (N.named files.new) (N.kept files.new)) (R.remaining input) (W.contents output)
-        (V.contents faults) W.contents result.status result.output (V.contents result.faults) }
+    ensures { Ends (map string_bytes words.now) (call_files (N.held files.old.shelf)
+        (L.asked files.old.logs) (L.asked files.new.logs) L.blank (L.named files.new.logs) (L.kept files.new.logs))
+        (R.remaining input) (W.contents output) (V.contents faults) W.contents result.status
+        result.output (V.contents result.faults) }
 {
     let input = Counted::new(input);
     let faults = Counted::new(faults);
     match LineWriter::new(alloc, output) {
         Ok(writer) => {
             let output = Counted::new(writer);
-            run_counted::<Brand, Brand, Brand, _, _, _, _>(
+            run_counted::<Brand, Brand, Brand, _, _, _, _, _>(
                 alloc, words, files, input, output, faults,
             )
         }

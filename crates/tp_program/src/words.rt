@@ -7,11 +7,13 @@ ghost use Rattle.tp_device.specs.Bytes.{AppendsPart};
 ghost use Rattle.tp_bare.specs.Bare.{AnswersAll, AnswersPart, IsRefused};
 ghost use Rattle.tp_program.specs.CallFiles.{call_files};
 ghost use Rattle.tp_program.specs.Done.{AnswersNo, DoesPart, DoesWhatIsAsked};
+ghost use Rattle.tp_program.specs.Journaled.{AsksForNoJournal};
 ghost use Rattle.tp_files.specs.FaultLines.{TellsFault, TellsRefusal};
 ghost use Rattle.tp_program.specs.Endings.{EndsBare, EndsCall, RefusesWords, StopsHelp};
 ghost use Rattle.tp_arguments.specs.Requests.{AsksFor, AsksForNoCommands};
 
 use crate::check::run_check;
+use crate::desk::Desk;
 use crate::net::run_net;
 use std::alloc::Global;
 use tp_arguments::{NoRequest, Request, read_words};
@@ -28,19 +30,21 @@ use tp_plan_splits::run_split;
 use tp_run_journals::run_run_journal;
 
 /// Does what the words ask for. Answers the exit status, and for another than 0 and 1 writes one fault line.
-pub fn run_words<N: Files + Logs, I: Source + Drop, O: Sink, F: Sink>(
+pub fn run_words<N: Files, L: Logs, I: Source + Drop, O: Sink, F: Sink>(
     alloc: Global,
     words: &[String],
-    files: &mut N,
+    files: &mut Desk<N, L>,
     input: I,
     output: &mut O,
     faults: &mut F,
 ) -> u8
     ensures done { result ≡ 0 → DoesWhatIsAsked (map string_bytes words.now)
-        (call_files (N.held files.old) N.blank (N.named files.new) (N.kept files.new))
+        (call_files (N.held files.old.shelf) (L.asked files.old.logs) (L.asked files.new.logs)
+        L.blank (L.named files.new.logs) (L.kept files.new.logs))
         (I.left input) (O.held output.old) (O.held output.new) }
     ensures no { result ≡ 1 → AnswersNo (map string_bytes words.now)
-        (call_files (N.held files.old) N.blank (N.named files.new) (N.kept files.new))
+        (call_files (N.held files.old.shelf) (L.asked files.old.logs) (L.asked files.new.logs)
+        L.blank (L.named files.new.logs) (L.kept files.new.logs))
         (I.left input) (O.held output.old) (O.held output.new) }
 
     // Of a network of bounds alone all is answered, or where the status tells otherwise a first part.
@@ -58,19 +62,25 @@ pub fn run_words<N: Files + Logs, I: Source + Drop, O: Sink, F: Sink>(
         (F.failures faults.new) (F.held faults.new) }
 
     // What stopped the call is told, and is as it is told.
-    ensures stopped { 2 ≤ result → EndsCall (map string_bytes words.now) (call_files
-        (N.held files.old) N.blank (N.named files.new) (N.kept files.new)) (I.left input) result
+    ensures stopped { 2 ≤ result → EndsCall (map string_bytes words.now)
+        (call_files (N.held files.old.shelf) (L.asked files.old.logs) (L.asked files.new.logs)
+        L.blank (L.named files.new.logs) (L.kept files.new.logs)) (I.left input) result
         (O.held output.old) (O.held output.new) (O.failures output.old) (O.failures output.new)
         (F.failures faults.old) (F.held faults.old) (F.failures faults.new) (F.held faults.new) }
 
     // Where memory or a device is wanting, a first part of what is asked for is written, or nothing.
     ensures broken { result ≡ OUT_OF_ORDER → DoesPart (map string_bytes words.now)
-        (call_files (N.held files.old) N.blank (N.named files.new) (N.kept files.new))
+        (call_files (N.held files.old.shelf) (L.asked files.old.logs) (L.asked files.new.logs)
+        L.blank (L.named files.new.logs) (L.kept files.new.logs))
         (I.left input) (O.held output.old) (O.held output.new) }
 
     // Where no answers to commands are asked for, nothing is written for what is refused.
     ensures kept { AsksForNoCommands (map string_bytes words.now) → result ≡ REFUSED
         → O.held output.new ≡ O.held output.old }
+
+    // A journal file is asked for only where the words ask for a journal.
+    ensures unlogged { AsksForNoJournal (map string_bytes words.now)
+        → L.asked files.new.logs ≡ L.asked files.old.logs }
 
     // A write that failed is always told. A fault line goes with each fault, and with nothing else; behind it stands only what
     // `clap` says of words that are refused.
@@ -80,22 +90,23 @@ pub fn run_words<N: Files + Logs, I: Source + Drop, O: Sink, F: Sink>(
     ensures fault { 2 ≤ result → TellsRefusal result (F.failures faults.old) (F.held faults.old)
         (F.failures faults.new) (F.held faults.new) }
 {
+    let Desk { shelf, logs } = files;
     match read_words(alloc, words) {
         Ok(Request::Bare) => run_bare(alloc, input, output, faults),
-        Ok(Request::BareLog(log)) => run_bare_journal(alloc, files, log, input, output, faults),
-        Ok(Request::Check(plan)) => run_check(alloc, files, plan, output, faults),
-        Ok(Request::Net(plan)) => run_net(alloc, files, plan, output, faults),
-        Ok(Request::Run(plan)) => run_run(alloc, files, plan, input, output, faults),
+        Ok(Request::BareLog(log)) => run_bare_journal(alloc, logs, log, input, output, faults),
+        Ok(Request::Check(plan)) => run_check(alloc, shelf, plan, output, faults),
+        Ok(Request::Net(plan)) => run_net(alloc, shelf, plan, output, faults),
+        Ok(Request::Run(plan)) => run_run(alloc, shelf, plan, input, output, faults),
         Ok(Request::RunLog(plan, log)) => run_run_journal(
-            alloc, files, plan, log, input, output, faults,
+            alloc, shelf, logs, plan, log, input, output, faults,
         ),
-        Ok(Request::Plan(search)) => run_plan(alloc, files, search, output, faults),
-        Ok(Request::Audit(log)) => run_bare_audit(alloc, files, log, output, faults),
+        Ok(Request::Plan(search)) => run_plan(alloc, shelf, search, output, faults),
+        Ok(Request::Audit(log)) => run_bare_audit(alloc, shelf, log, output, faults),
         Ok(Request::PlanAudit(log, plan)) => run_plan_audit(
-            alloc, files, log, plan, output, faults,
+            alloc, shelf, log, plan, output, faults,
         ),
         Ok(Request::Split(plan, owners)) => {
-            run_split(alloc, files, plan, owners, output, faults)
+            run_split(alloc, shelf, plan, owners, output, faults)
         }
         Ok(Request::Help(text)) => show(text.as_str(), output, faults),
         Err(NoRequest::Words(text)) => refuse_words(text, faults),

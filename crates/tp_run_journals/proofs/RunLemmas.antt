@@ -137,11 +137,11 @@ logs_named held w task (Valid plan) input before now file done judged h =
     (subst (λ (t : Task). LogsSteps t plan.steps w.horizon input before now file done) judged.2.0 h))
 logs_named held w task (Invalid plan tick why) input before now file done judged h =
     subst (LogsTo held w input before now file) (sym h.0)
-    (inl (record { task = task; steps = judged.0; tick = tick; why = why; named = judged.1; first = judged.2.1; invalid = judged.2.2; written = h.1 }))
+    (inl (record { task = task; steps = judged.0; tick = tick; why = why; named = judged.1; first = judged.2.1; invalid = judged.2.2; written = h.1 }, h.2))
 
 stops_steps : (held : List ℕ → Option (List ℕ)) (w : PlanWords) (task : Task) (steps : List Step) (input before now : Option (List ℕ)) (file : LogFile) (stop : RunJournalStop) → IsNamedPlan held w task steps → IsVerdict task steps (Valid (record { task = task; steps = steps })) → StopsSteps task steps w.horizon input before now file stop → StopsRunLog held w input before now file stop
 stops_steps held w task steps input before now file (Judging fault) named is h = absurd h
-stops_steps held w task steps input before now file (Network fault) named is h = ((task, steps, named, is.2, h.0), h.1)
+stops_steps held w task steps input before now file (Network fault) named is h = ((task, steps, named, is.2, h.0), h.1, h.2)
 stops_steps held w task steps input before now file (Journal stop) named is h = (task, steps, named, is.2, h)
 stops_steps held w task steps input before now file Telling named is h = (task, steps, named, is.2, h)
 stops_steps held w task steps input before now file Write named is h = inr (task, steps, named, is.2, h)
@@ -153,21 +153,21 @@ stops_named held w task (Valid plan) input before now file stop judged h =
     (subst (λ (t : Task). StopsSteps t plan.steps w.horizon input before now file stop) judged.2.0 h))
 stops_named held w task (Invalid plan tick why) input before now file stop judged h =
     subst (StopsRunLog held w input before now file) (sym h.0)
-    (inl (record { task = task; steps = judged.0; tick = tick; why = why; named = judged.1; first = judged.2.1; invalid = judged.2.2; part = h.1 }))
+    (inl (record { task = task; steps = judged.0; tick = tick; why = why; named = judged.1; first = judged.2.1; invalid = judged.2.2; part = h.1 }, h.2))
 
 -- ---- the same of files that hold the same
 
 pub logs_over : (a b : List ℕ → Option (List ℕ)) (w : PlanWords) (input before now : Option (List ℕ)) (file : LogFile) (done : Bool) → Same a b → LogsTo a w input before now file done → LogsTo b w input before now file done
 logs_over a b w input before now file true same h = named_over a b w _ same h
-logs_over a b w input before now file false same (inl h) = inl (invalid_over a b w before now same h)
+logs_over a b w input before now file false same (inl h) = inl (invalid_over a b w before now same h.0, h.1)
 logs_over a b w input before now file false same (inr h) = inr (named_over a b w _ same h)
 
 pub stops_over : (a b : List ℕ → Option (List ℕ)) (w : PlanWords) (input before now : Option (List ℕ)) (file : LogFile) (stop : RunJournalStop) → Same a b → StopsRunLog a w input before now file stop → StopsRunLog b w input before now file stop
-stops_over a b w input before now file (Judging fault) same h = (explains_over a b w fault same h.0, h.1)
-stops_over a b w input before now file (Network fault) same h = (named_over a b w _ same h.0, h.1)
+stops_over a b w input before now file (Judging fault) same h = (explains_over a b w fault same h.0, h.1, h.2)
+stops_over a b w input before now file (Network fault) same h = (named_over a b w _ same h.0, h.1, h.2)
 stops_over a b w input before now file (Journal stop) same h = named_over a b w _ same h
 stops_over a b w input before now file Telling same h = named_over a b w _ same h
-stops_over a b w input before now file Write same (inl h) = inl (invalid_part_over a b w before now same h)
+stops_over a b w input before now file Write same (inl h) = inl (invalid_part_over a b w before now same h.0, h.1)
 stops_over a b w input before now file Write same (inr h) = inr (named_over a b w _ same h)
 
 -- ---- what was written by then
@@ -188,7 +188,7 @@ module _ (held : List ℕ → Option (List ℕ)) (w : PlanWords) (input before n
       early_part ([], whole.text, last, whole.answered, whole_part before now whole.text whole.written)
 
   early : (file : LogFile) (stop : JournalStop) → StopsInFile net input before now file stop → RunsPart held w input before now
-  early file Making h = none_part held w input before now h
+  early file Making h = none_part held w input before now h.0
   early file (Beginning fault) h = none_part held w input before now h.1.1
   early file (Journaling journal.Read) h = early_some h.1.0
   early file (Journaling journal.Write) h = early_part h.1.0
@@ -202,11 +202,11 @@ part_then held w input before now file (Judging fault) h = none_part held w inpu
 part_then held w input before now file (Network fault) h = none_part held w input before now h.1
 part_then held w input before now file (Journal stop) h = early held w input before now h.0 h.1 h.4.net h.2 h.3 h.4.is_net file stop h.4.stops
 part_then held w input before now file Telling h = untold held w input before now h.0 h.1 h.4.net h.2 h.3 h.4.is_net file.blank file.kept h.4.last h.4.whole
-part_then held w input before now file Write (inl h) = inr (inl h)
+part_then held w input before now file Write (inl h) = inr (inl h.0)
 part_then held w input before now file Write (inr h) = inr (inr (h.0, h.1, h.2, h.3, inr h.4.ends))
 
 early_kept : (net : PlanNet) (input before now : Option (List ℕ)) (file : LogFile) (stop : JournalStop) → StopsInFile net input before now file stop → stop_status stop ≡ 2 → (now ≡ before) ⊎ IsLong input
-early_kept net input before now file Making h two = inl h
+early_kept net input before now file Making h two = inl h.0
 early_kept net input before now file (Beginning fault) h two = inl h.1.1
 early_kept net input before now file (Journaling journal.Read) h two = cc
 early_kept net input before now file (Journaling journal.Write) h two = cc

@@ -12,7 +12,7 @@ use Rattle.tp_deorder.specs.Answers.{OnTooMany, PassesLimits}
 use Rattle.tp_plan_files.specs.VerdictLines.{invalid_line}
 use Rattle.tp_plan_runs.specs.declared.run_lines.RunStop.{RunStop}
 use Rattle.tp_plan_runs.specs.declared.run_lines.RunStop.TheVariants as run
-use Rattle.tp_run_journals.specs.LogFile.{LogFile}
+use Rattle.tp_run_journals.specs.LogFile.{LogFile, MadeNone}
 use Rattle.tp_run_journals.specs.RunJournals.{LogsEarly, LogsInNone, LogsInPart, LogsInPlan, LogsUntold}
 use Rattle.tp_run_journals.specs.declared.stop_lines.RunJournalStop.{RunJournalStop}
 use Rattle.tp_run_journals.specs.declared.stop_lines.RunJournalStop.TheVariants.{Judging, Network, Journal, Telling, Write}
@@ -42,6 +42,7 @@ abbrev pub StopsSteps : Task → List Step → ℕ → Option (List ℕ) → Opt
 StopsSteps task steps horizon input before now file (Judging fault) = ⊥
 StopsSteps task steps horizon input before now file (Network fault) =
     OnTooMany fault (PassesLimits (greatest_limits horizon) (plan_of task steps)) × (now ≡ before)
+    × MadeNone file
 StopsSteps task steps horizon input before now file (Journal stop) =
     LogsEarly task steps horizon input before now file stop
 StopsSteps task steps horizon input before now file Telling =
@@ -49,17 +50,17 @@ StopsSteps task steps horizon input before now file Telling =
 StopsSteps task steps horizon input before now file Write =
     LogsInPart task steps horizon input before now file
 
--- the same of a plan that is valid; of another, its first fault was written
+-- the same of a plan that is valid; of another, its first fault was written, and no file was made
 abbrev pub LogsVerdict : Verdict → ℕ → Option (List ℕ) → Option (List ℕ) → Option (List ℕ)
     → LogFile → Bool → Type 0
 LogsVerdict (Valid plan) horizon input before now file done =
     LogsSteps plan.task plan.steps horizon input before now file done
 LogsVerdict (Invalid plan tick why) horizon input before now file done =
-    (done ≡ false) × Appends before now (invalid_line tick why)
+    (done ≡ false) × Appends before now (invalid_line tick why) × MadeNone file
 
 abbrev pub StopsVerdict : Verdict → ℕ → Option (List ℕ) → Option (List ℕ) → Option (List ℕ)
     → LogFile → RunJournalStop → Type 0
 StopsVerdict (Valid plan) horizon input before now file stop =
     StopsSteps plan.task plan.steps horizon input before now file stop
 StopsVerdict (Invalid plan tick why) horizon input before now file stop =
-    (stop ≡ Write) × AppendsPart before now (invalid_line tick why)
+    (stop ≡ Write) × AppendsPart before now (invalid_line tick why) × MadeNone file

@@ -14,14 +14,14 @@ use Rattle.tp_bare_journals.specs.declared.journal_lines.JournalStop.{JournalSto
 use Rattle.tp_bare_journals.specs.declared.journal_lines.JournalStop.TheVariants as journal
 use Rattle.tp_plan_runs.specs.Invalid.{SaysInvalid, SaysInvalidPart}
 use Rattle.tp_plan_runs.specs.Runs.{EndsInNone, EndsInPart, EndsInPlan, RunsNamed}
-use Rattle.tp_run_journals.specs.LogFile.{IsNamed, LogFile}
+use Rattle.tp_run_journals.specs.LogFile.{AskedOnce, IsNamed, LogFile, MadeNone}
 use Rattle.tp_run_journals.specs.Logged.{IsLogged, LogsWhole, StopsLogged}
 use Rattle.tp_run_journals.specs.StopLines.{run_stop_failures, run_stop_status, run_stop_text}
 use Rattle.tp_run_journals.specs.declared.stop_lines.RunJournalStop.{RunJournalStop}
 use Rattle.tp_run_journals.specs.declared.stop_lines.RunJournalStop.TheVariants.{Judging, Network, Journal, Telling, Write}
 
 -- All lines were answered on the network of a plan, and behind the answers stands the plan of the run, which is valid: just as without a
--- journal. The file of the name that was asked for holds the journal of that very run.
+-- journal. The file of the name that was asked for holds the journal of that very run, and no other was made.
 pub record LogsInPlan (task : Task) (steps : List Step) (horizon : ℕ)
     (input before now : Option (List ℕ)) (file : LogFile) : Type 0 where
   pub ends : EndsInPlan task steps horizon input before now
@@ -54,10 +54,11 @@ pub record LogsUntold (task : Task) (steps : List Step) (horizon : ℕ)
   pub whole : LogsWhole net input before now file.blank file.kept last
   pub named : IsNamed file
 
--- no journal file was made, and nothing was written; or not all lines were answered with their journal in the file of that name
+-- The journal file was asked for and not made, and nothing was written; or not all lines were answered with their journal in the file of
+-- that name. No other file was made.
 abbrev pub StopsInFile : PlanNet → Option (List ℕ) → Option (List ℕ) → Option (List ℕ) → LogFile
     → JournalStop → Type 0
-StopsInFile net input before now file journal.Making = now ≡ before
+StopsInFile net input before now file journal.Making = (now ≡ before) × AskedOnce file
 StopsInFile net input before now file (journal.Beginning fault) =
     IsNamed file
     × StopsLogged net input before now file.blank file.kept (journal.Beginning fault)
@@ -82,7 +83,7 @@ LogsToPlan held w input before now file =
 abbrev pub LogsToNone : (List ℕ → Option (List ℕ)) → PlanWords → Option (List ℕ) → Option (List ℕ)
     → Option (List ℕ) → LogFile → Type 0
 LogsToNone held w input before now file =
-    SaysInvalid held w before now
+    (SaysInvalid held w before now × MadeNone file)
     ⊎ RunsNamed held w (λ task steps. LogsInNone task steps w.horizon input before now file)
 
 -- whether the run has a plan
@@ -91,19 +92,21 @@ abbrev pub LogsTo : (List ℕ → Option (List ℕ)) → PlanWords → Option (L
 LogsTo held w input before now file true = LogsToPlan held w input before now file
 LogsTo held w input before now file false = LogsToNone held w input before now file
 
--- why a run stopped, what was written by then, and what is in the file
+-- Why a run stopped, what was written by then, and what is in the file. Where the plan is not valid or has no network no file was made.
 abbrev pub StopsRunLog : (List ℕ → Option (List ℕ)) → PlanWords → Option (List ℕ)
     → Option (List ℕ) → Option (List ℕ) → LogFile → RunJournalStop → Type 0
-StopsRunLog held w input before now file (Judging fault) = Explains held w fault × (now ≡ before)
+StopsRunLog held w input before now file (Judging fault) =
+    Explains held w fault × (now ≡ before) × MadeNone file
 StopsRunLog held w input before now file (Network fault) =
     RunsNamed held w (λ task steps. OnTooMany fault
     (PassesLimits (greatest_limits w.horizon) (plan_of task steps))) × (now ≡ before)
+    × MadeNone file
 StopsRunLog held w input before now file (Journal stop) =
     RunsNamed held w (λ task steps. LogsEarly task steps w.horizon input before now file stop)
 StopsRunLog held w input before now file Telling =
     RunsNamed held w (λ task steps. LogsUntold task steps w.horizon input before now file)
 StopsRunLog held w input before now file Write =
-    SaysInvalidPart held w before now
+    (SaysInvalidPart held w before now × MadeNone file)
     ⊎ RunsNamed held w (λ task steps. LogsInPart task steps w.horizon input before now file)
 
 -- It stopped so with that status, and that was told. A failed write is one that the count of failures tells of.

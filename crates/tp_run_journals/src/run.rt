@@ -1,6 +1,6 @@
 //! The run of the plan that words name, with the journal file of a name.
 
-ghost use Rattle.std.specs.Prelude.{◌≡◌, ◌≢◌, ◌≤◌, ◌⊎◌, List, [], length, IfOk, IfErr, IfSome};
+ghost use Rattle.std.specs.Prelude.{◌≡◌, ◌≢◌, ◌≤◌, ◌⊎◌, suc, List, [], length, option_map, IfOk, IfErr, IfSome};
 ghost use Rattle.tp_bounds.specs.RunLimits.{greatest_limits};
 ghost use Rattle.tp_task.specs.declared.task.Task.{Task};
 ghost use Rattle.tp_happen.specs.declared.plans.Step.{Step};
@@ -34,9 +34,9 @@ use tp_task::Task;
 use tp_validate::{ValidPlan, Verdict};
 
 /// Answers the commands of the input on the network of a plan, with their journal in the file of a name.
-fn journaled<N: Logs, I: Source + Drop, O: Sink>(
+fn journaled<L: Logs, I: Source + Drop, O: Sink>(
     alloc: Global,
-    files: &mut N,
+    logs: &mut L,
     name: &str,
     network: &PlanNet,
     input: I,
@@ -44,19 +44,21 @@ fn journaled<N: Logs, I: Source + Drop, O: Sink>(
 ) -> Result<Executive<RepairNet>, JournalStop>
     requires { length network.now.bounds.items ≤ 65535 }
     ensures whole { IfOk result (LogsWhole network.now (I.left input) (O.held output.old)
-        (O.held output.new) N.blank (N.kept files.new)) }
-    ensures named { IfOk result (λ _. IfSome (N.named files.new) (λ n. n ≡ name.now)) }
+        (O.held output.new) L.blank (L.kept logs.new)) }
+    ensures asked { L.asked logs.new ≡ option_map suc (L.asked logs.old) }
+    ensures named { IfOk result (λ _. IfSome (L.named logs.new) (λ n. n ≡ name.now)) }
     ensures cause { IfErr result (StopsInFile network.now (I.left input) (O.held output.old)
-        (O.held output.new) (log_file name.now (N.named files.new) N.blank (N.kept files.new))) }
+        (O.held output.new) (log_file name.now (L.asked logs.old) (L.asked logs.new)
+        (L.named logs.new) L.blank (L.kept logs.new))) }
     ensures came { IfOk result (λ e. (t : Task) (steps : List Step) → IsPlanNetOf t steps
         (greatest_limits network.now.horizon) network.now → CameFrom t steps e) }
     ensures told { O.failures output.new ≡ output_failures (O.failures output.old) result }
 {
-    match files.make(name) {
+    match logs.make(name) {
         Ok(log) => {
             let mut log = log;
             let ran = log_run(alloc, input, network, output, &mut log);
-            files.keep(log);
+            logs.keep(log);
             ran
         }
         Err(_) => Err(JournalStop::Making),
@@ -76,9 +78,9 @@ fn of_telling(told: Result<bool, RunStop>) -> Result<bool, RunJournalStop>
 
 /// Answers the commands of the input on the network of a plan, with their journal in the file of a name, and writes the plan of the
 /// run. Answers whether there is one.
-fn run_on<N: Logs, I: Source + Drop, O: Sink>(
+fn run_on<L: Logs, I: Source + Drop, O: Sink>(
     alloc: Global,
-    files: &mut N,
+    logs: &mut L,
     name: &str,
     plan: &ValidPlan<'_>,
     network: &PlanNet,
@@ -89,22 +91,24 @@ fn run_on<N: Logs, I: Source + Drop, O: Sink>(
         (greatest_limits network.now.horizon) network.now }
     ensures said { IfOk result (LogsSteps plan.now.task plan.now.steps network.now.horizon
         (I.left input) (O.held output.old) (O.held output.new)
-        (log_file name.now (N.named files.new) N.blank (N.kept files.new))) }
+        (log_file name.now (L.asked logs.old) (L.asked logs.new)
+        (L.named logs.new) L.blank (L.kept logs.new))) }
     ensures cause { IfErr result (StopsSteps plan.now.task plan.now.steps network.now.horizon
         (I.left input) (O.held output.old) (O.held output.new)
-        (log_file name.now (N.named files.new) N.blank (N.kept files.new))) }
+        (log_file name.now (L.asked logs.old) (L.asked logs.new)
+        (L.named logs.new) L.blank (L.kept logs.new))) }
     ensures failures { O.failures output.new ≡ run_stop_failures (O.failures output.old) result }
 {
-    match journaled(alloc, files, name, network, input, output) {
+    match journaled(alloc, logs, name, network, input, output) {
         Ok(executive) => of_telling(tell_run(&executive, plan, output)),
         Err(stop) => Err(RunJournalStop::Journal(stop)),
     }
 }
 
 /// The same on the network of a validated plan.
-fn run_valid<N: Logs, I: Source + Drop, O: Sink>(
+fn run_valid<L: Logs, I: Source + Drop, O: Sink>(
     alloc: Global,
-    files: &mut N,
+    logs: &mut L,
     name: &str,
     plan: &ValidPlan<'_>,
     horizon: u32,
@@ -114,22 +118,24 @@ fn run_valid<N: Logs, I: Source + Drop, O: Sink>(
     requires { horizon ≤ 1000000000 }
     ensures said { IfOk result (LogsSteps plan.now.task plan.now.steps horizon (I.left input)
         (O.held output.old) (O.held output.new)
-        (log_file name.now (N.named files.new) N.blank (N.kept files.new))) }
+        (log_file name.now (L.asked logs.old) (L.asked logs.new)
+        (L.named logs.new) L.blank (L.kept logs.new))) }
     ensures cause { IfErr result (StopsSteps plan.now.task plan.now.steps horizon (I.left input)
         (O.held output.old) (O.held output.new)
-        (log_file name.now (N.named files.new) N.blank (N.kept files.new))) }
+        (log_file name.now (L.asked logs.old) (L.asked logs.new)
+        (L.named logs.new) L.blank (L.kept logs.new))) }
     ensures failures { O.failures output.new ≡ run_stop_failures (O.failures output.old) result }
 {
     match deorder(alloc, plan, &Limits::greatest(horizon)) {
-        Ok(network) => run_on(alloc, files, name, plan, &network, input, output),
+        Ok(network) => run_on(alloc, logs, name, plan, &network, input, output),
         Err(fault) => Err(RunJournalStop::Network(fault)),
     }
 }
 
 /// The same of a plan that is valid; of another, writes its first fault, and makes no file.
-fn run_verdict<N: Logs, I: Source + Drop, O: Sink>(
+fn run_verdict<L: Logs, I: Source + Drop, O: Sink>(
     alloc: Global,
-    files: &mut N,
+    logs: &mut L,
     name: &str,
     verdict: &Verdict<'_>,
     horizon: u32,
@@ -139,14 +145,16 @@ fn run_verdict<N: Logs, I: Source + Drop, O: Sink>(
     requires { horizon ≤ 1000000000 }
     ensures said { IfOk result (LogsVerdict verdict.now horizon (I.left input)
         (O.held output.old) (O.held output.new)
-        (log_file name.now (N.named files.new) N.blank (N.kept files.new))) }
+        (log_file name.now (L.asked logs.old) (L.asked logs.new)
+        (L.named logs.new) L.blank (L.kept logs.new))) }
     ensures cause { IfErr result (StopsVerdict verdict.now horizon (I.left input)
         (O.held output.old) (O.held output.new)
-        (log_file name.now (N.named files.new) N.blank (N.kept files.new))) }
+        (log_file name.now (L.asked logs.old) (L.asked logs.new)
+        (L.named logs.new) L.blank (L.kept logs.new))) }
     ensures failures { O.failures output.new ≡ run_stop_failures (O.failures output.old) result }
 {
     match verdict {
-        Verdict::Valid(plan) => run_valid(alloc, files, name, plan, horizon, input, output),
+        Verdict::Valid(plan) => run_valid(alloc, logs, name, plan, horizon, input, output),
         Verdict::Invalid { plan: _, tick, why } => match write_invalid(output, *tick, *why) {
             Ok(()) => Ok(false),
             Err(_) => Err(RunJournalStop::Write),
@@ -155,9 +163,10 @@ fn run_verdict<N: Logs, I: Source + Drop, O: Sink>(
 }
 
 /// The same of the plan that the words name, of their task.
-fn run_of<N: Files + Logs, I: Source + Drop, O: Sink>(
+fn run_of<N: Files, L: Logs, I: Source + Drop, O: Sink>(
     alloc: Global,
     files: &mut N,
+    logs: &mut L,
     words: PlanWords<'_>,
     name: &str,
     task: &Task,
@@ -167,22 +176,25 @@ fn run_of<N: Files + Logs, I: Source + Drop, O: Sink>(
     requires { words.horizon ≤ 1000000000 }
     ensures said { IsNamedTask (N.held files.old) words.entry task.now → IfOk result (LogsTo
         (N.held files.old) words.entry (I.left input) (O.held output.old) (O.held output.new)
-        (log_file name.now (N.named files.new) N.blank (N.kept files.new))) }
+        (log_file name.now (L.asked logs.old) (L.asked logs.new)
+        (L.named logs.new) L.blank (L.kept logs.new))) }
     ensures cause { IsNamedTask (N.held files.old) words.entry task.now → IfErr result (StopsRunLog
         (N.held files.old) words.entry (I.left input) (O.held output.old) (O.held output.new)
-        (log_file name.now (N.named files.new) N.blank (N.kept files.new))) }
+        (log_file name.now (L.asked logs.old) (L.asked logs.new)
+        (L.named logs.new) L.blank (L.kept logs.new))) }
     ensures failures { O.failures output.new ≡ run_stop_failures (O.failures output.old) result }
 {
     match verdict_in(alloc, files, words, task) {
-        Ok(verdict) => run_verdict(alloc, files, name, &verdict, words.horizon, input, output),
+        Ok(verdict) => run_verdict(alloc, logs, name, &verdict, words.horizon, input, output),
         Err(fault) => Err(RunJournalStop::Judging(fault)),
     }
 }
 
 /// The same of the task of the files, too. A file is opened, and the journal file made, only when what stands before it is done.
-fn run<N: Files + Logs, I: Source + Drop, O: Sink>(
+fn run<N: Files, L: Logs, I: Source + Drop, O: Sink>(
     alloc: Global,
     files: &mut N,
+    logs: &mut L,
     words: PlanWords<'_>,
     name: &str,
     input: I,
@@ -191,14 +203,16 @@ fn run<N: Files + Logs, I: Source + Drop, O: Sink>(
     requires { words.horizon ≤ 1000000000 }
     ensures said { IfOk result (LogsTo (N.held files.old) words.entry (I.left input)
         (O.held output.old) (O.held output.new)
-        (log_file name.now (N.named files.new) N.blank (N.kept files.new))) }
+        (log_file name.now (L.asked logs.old) (L.asked logs.new)
+        (L.named logs.new) L.blank (L.kept logs.new))) }
     ensures cause { IfErr result (StopsRunLog (N.held files.old) words.entry (I.left input)
         (O.held output.old) (O.held output.new)
-        (log_file name.now (N.named files.new) N.blank (N.kept files.new))) }
+        (log_file name.now (L.asked logs.old) (L.asked logs.new)
+        (L.named logs.new) L.blank (L.kept logs.new))) }
     ensures failures { O.failures output.new ≡ run_stop_failures (O.failures output.old) result }
 {
     match task_in(alloc, files, words) {
-        Ok(task) => run_of(alloc, files, words, name, &task, input, output),
+        Ok(task) => run_of(alloc, files, logs, words, name, &task, input, output),
         Err(fault) => Err(RunJournalStop::Judging(fault)),
     }
 }
@@ -208,9 +222,10 @@ fn run<N: Files + Logs, I: Source + Drop, O: Sink>(
 /// plan of the run behind the answers. Answers the exit status: 0 where that plan was written; 1 where there is none, or the plan that
 /// the words name is not valid, and its first fault was written; and for another writes one fault line. The file is made once the plan
 /// has its network. The cost is that of `run_run`, and each answer is written twice.
-pub fn run_run_journal<N: Files + Logs, I: Source + Drop, O: Sink, F: Sink>(
+pub fn run_run_journal<N: Files, L: Logs, I: Source + Drop, O: Sink, F: Sink>(
     alloc: Global,
     files: &mut N,
+    logs: &mut L,
     words: PlanWords<'_>,
     name: &str,
     input: I,
@@ -220,15 +235,18 @@ pub fn run_run_journal<N: Files + Logs, I: Source + Drop, O: Sink, F: Sink>(
     requires { words.horizon ≤ 1000000000 }
     ensures ran { result ≡ 0 → LogsToPlan (N.held files.old) words.entry (I.left input)
         (O.held output.old) (O.held output.new)
-        (log_file name.now (N.named files.new) N.blank (N.kept files.new)) }
+        (log_file name.now (L.asked logs.old) (L.asked logs.new)
+        (L.named logs.new) L.blank (L.kept logs.new)) }
     ensures none { result ≡ 1 → LogsToNone (N.held files.old) words.entry (I.left input)
         (O.held output.old) (O.held output.new)
-        (log_file name.now (N.named files.new) N.blank (N.kept files.new)) }
+        (log_file name.now (L.asked logs.old) (L.asked logs.new)
+        (L.named logs.new) L.blank (L.kept logs.new)) }
 
     // What stopped it is told, and is as it is told.
     ensures stopped { 2 ≤ result → EndsRunLog (N.held files.old) words.entry result (I.left input)
         (O.held output.old) (O.held output.new)
-        (log_file name.now (N.named files.new) N.blank (N.kept files.new))
+        (log_file name.now (L.asked logs.old) (L.asked logs.new)
+        (L.named logs.new) L.blank (L.kept logs.new))
         (O.failures output.old) (O.failures output.new)
         (F.failures faults.old) (F.held faults.old) (F.failures faults.new) (F.held faults.new) }
 
@@ -246,7 +264,7 @@ pub fn run_run_journal<N: Files + Logs, I: Source + Drop, O: Sink, F: Sink>(
     ensures fault { 2 ≤ result → TellsFault [] (F.failures faults.old) (F.held faults.old)
         (F.failures faults.new) (F.held faults.new) }
 {
-    match run(alloc, files, words, name, input, output) {
+    match run(alloc, files, logs, words, name, input, output) {
         Ok(true) => 0,
         Ok(false) => 1,
         Err(stop) => complain(faults, run_stop_line(stop, words)),

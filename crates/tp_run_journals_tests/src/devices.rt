@@ -5,7 +5,7 @@ use tp_log_audits::run_bare_audit;
 use tp_plan_audits::run_plan_audit;
 use tp_plan_files::PlanWords;
 use tp_run_journals::run_run_journal;
-use tp_small_devices::{Desk, Note, Stored};
+use tp_small_devices::{Desk, Note, Shelf, Stored};
 use tp_text::Scale;
 
 /// The texts of a domain, a problem and a plan.
@@ -55,14 +55,29 @@ impl Outcome {
     }
 }
 
-/// What comes of the commands to the plan of a world, with that much room in the output. The journal is kept on the desk.
-fn run(alloc: Global, desk: &mut Desk<'_>, commands: &str, room: usize) -> Outcome {
+/// What comes of the commands to the plan in the files, with that much room in the output. The journal is kept on the desk.
+fn run(
+    alloc: Global,
+    shelf: &mut Shelf<'_>,
+    desk: &mut Desk<'_>,
+    commands: &str,
+    room: usize,
+) -> Outcome {
     let input = Stored {
         bytes: commands.as_bytes(),
     };
     let mut output = Note::new(alloc, room);
     let mut faults = Note::new(alloc, usize::MAX);
-    let status = run_run_journal(alloc, desk, WORDS, "log", input, &mut output, &mut faults);
+    let status = run_run_journal(
+        alloc,
+        shelf,
+        desk,
+        WORDS,
+        "log",
+        input,
+        &mut output,
+        &mut faults,
+    );
     Outcome {
         output,
         faults,
@@ -94,8 +109,9 @@ pub fn logs(
         ("plan", world.plan.as_bytes()),
     ];
     let log = rooms.1.map(|room| ("log", room));
-    let mut desk = Desk::new(alloc, &files, log);
-    let outcome = run(alloc, &mut desk, commands, rooms.0);
+    let mut shelf = Shelf { files: &files };
+    let mut desk = Desk::new(alloc, log);
+    let outcome = run(alloc, &mut shelf, &mut desk, commands, rooms.0);
     outcome.is(told) && kept(&desk, journal)
 }
 
@@ -107,10 +123,10 @@ fn audits_bytes(alloc: Global, world: World, log: &[u8], told: Told) -> bool {
         ("plan", world.plan.as_bytes()),
         ("log", log),
     ];
-    let mut desk = Desk::new(alloc, &files, None);
+    let mut shelf = Shelf { files: &files };
     let mut output = Note::new(alloc, usize::MAX);
     let mut faults = Note::new(alloc, usize::MAX);
-    let status = run_plan_audit(alloc, &mut desk, "log", WORDS, &mut output, &mut faults);
+    let status = run_plan_audit(alloc, &mut shelf, "log", WORDS, &mut output, &mut faults);
     let outcome = Outcome {
         output,
         faults,
@@ -127,10 +143,10 @@ pub fn audits(alloc: Global, world: World, journal: &str, told: Told) -> bool {
 /// Whether an audit of these bytes as the journal of a network of bounds alone comes to that.
 fn audits_bare(alloc: Global, log: &[u8], told: Told) -> bool {
     let files: [(&str, &[u8]); 1] = [("log", log)];
-    let mut desk = Desk::new(alloc, &files, None);
+    let mut shelf = Shelf { files: &files };
     let mut output = Note::new(alloc, usize::MAX);
     let mut faults = Note::new(alloc, usize::MAX);
-    let status = run_bare_audit(alloc, &mut desk, "log", &mut output, &mut faults);
+    let status = run_bare_audit(alloc, &mut shelf, "log", &mut output, &mut faults);
     let outcome = Outcome {
         output,
         faults,
@@ -153,8 +169,9 @@ pub fn audits_its_own(
         ("problem", world.problem.as_bytes()),
         ("plan", world.plan.as_bytes()),
     ];
-    let mut desk = Desk::new(alloc, &files, Some(("log", usize::MAX)));
-    let _ran = run(alloc, &mut desk, commands, usize::MAX);
+    let mut shelf = Shelf { files: &files };
+    let mut desk = Desk::new(alloc, Some(("log", usize::MAX)));
+    let _ran = run(alloc, &mut shelf, &mut desk, commands, usize::MAX);
     match &desk.last {
         Some(note) => {
             audits_bytes(alloc, world, note.text(), with_files)

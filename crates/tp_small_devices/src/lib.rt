@@ -114,45 +114,31 @@ impl Sink for Note {
     }
 }
 
-/// Files in memory, and the one journal that can be made: its name and its room.
+/// The one journal that can be made: its name and its room.
 #[derive(Drop)]
 pub struct Desk<'a> {
     alloc: Global,
-    shelf: Shelf<'a>,
     journal: Option<(&'a str, usize)>,
     pub last: Option<Note>,
 }
 
 impl<'a> Desk<'a> {
-    /// These files, and that journal.
-    pub fn new(
-        alloc: Global,
-        files: &'a [(&'a str, &'a [u8])],
-        journal: Option<(&'a str, usize)>,
-    ) -> Desk<'a>
+    /// That journal, if there is one.
+    pub fn new(alloc: Global, journal: Option<(&'a str, usize)>) -> Desk<'a>
         ensures last { result.last ≡ None }
     {
         Desk {
             alloc,
-            shelf: Shelf { files },
             journal,
             last: None,
         }
     }
 }
 
-impl<'a> Files for Desk<'a> {
-    type Input = Stored<'a>;
-
-    ghost held = { λ d name. option_map (λ f. f.1.now) (find (λ f. bytes_eq f.0.now name) d.shelf.files.now) };
-
-    fn open(&mut self, name: &str) -> Result<Stored<'a>, Failed> {
-        self.shelf.open(name)
-    }
-}
-
 impl Logs for Desk<'_> {
     type Log = Note;
+
+    ghost asked = { λ _. None };
 
     ghost named = { λ _. None };
 

@@ -11,3 +11,6 @@ ghosts-kept-F-Ledger a = record { name = a.blanks.tells.name; parts = a.blanks.t
 
 abbrev pub ghosts-kept-J-Ledger : goal.ghosts-kept-J-Ledger
 ghosts-kept-J-Ledger a = record { name = a.blanks.logs.name; parts = a.blanks.logs.parts }
+
+abbrev pub ghosts-kept-A-Ledger : goal.ghosts-kept-A-Ledger
+ghosts-kept-A-Ledger a = record { name = a.blanks.asks.name; parts = a.blanks.asks.parts }

@@ -38,17 +38,22 @@ returns-in-Ok-Bare-clause-stopped g c =
 pub returns-in-Ok-BareLog-clause-stopped : goal.returns-in-Ok-BareLog-clause-stopped
 returns-in-Ok-BareLog-clause-stopped g c =
     λ two.
-    inr (inr (BareLog c.in-Ok-BareLog.log, rw c.in-Ok-BareLog.field-0-is at c.in-Ok-BareLog.ensures.asked, c.run_bare_journal.ensures.ends (λ none. omega (arith, two, none))))
+    inr (inr (BareLog c.in-Ok-BareLog.log, rw c.in-Ok-BareLog.field-0-is at c.in-Ok-BareLog.ensures.asked, (c.run_bare_journal.ensures.ends (λ none. omega (arith, two, none)), c.run_bare_journal.ensures.asked)))
 
 pub returns-in-Ok-BareLog-clause-broken : goal.returns-in-Ok-BareLog-clause-broken
 returns-in-Ok-BareLog-clause-broken g c =
     λ three.
-    let files = call_files (g.N.Files.held c.args.files.now) g.N.Logs.blank (g.N.Logs.named c.run_bare_journal.new.files) (g.N.Logs.kept c.run_bare_journal.new.files) in
+    let files = call_files (g.N.Files.held c.args.files.now.shelf) (g.L.Logs.asked c.args.files.now.logs) (g.L.Logs.asked c.run_bare_journal.new.files) g.L.Logs.blank (g.L.Logs.named c.run_bare_journal.new.files) (g.L.Logs.kept c.run_bare_journal.new.files) in
     inr (BareLog c.in-Ok-BareLog.log, rw c.in-Ok-BareLog.field-0-is at c.in-Ok-BareLog.ensures.asked, logs_part files (g.I.Source.left c.args.input) (g.O.Sink.held c.args.output.now) (g.O.Sink.held c.run_bare_journal.new.output) (c.run_bare_journal.ensures.part (λ none. omega (arith, three, none))))
 
 pub returns-in-Ok-BareLog-clause-kept : goal.returns-in-Ok-BareLog-clause-kept
 returns-in-Ok-BareLog-clause-kept g c =
     λ none two.
+    absurd (none.no_log c.in-Ok-BareLog.log (rw c.in-Ok-BareLog.field-0-is at c.in-Ok-BareLog.ensures.asked))
+
+pub returns-in-Ok-BareLog-clause-unlogged : goal.returns-in-Ok-BareLog-clause-unlogged
+returns-in-Ok-BareLog-clause-unlogged g c =
+    λ none.
     absurd (none.no_log c.in-Ok-BareLog.log (rw c.in-Ok-BareLog.field-0-is at c.in-Ok-BareLog.ensures.asked))
 
 pub returns-in-Ok-Check-clause-stopped : goal.returns-in-Ok-Check-clause-stopped
@@ -79,6 +84,11 @@ returns-in-Ok-RunLog-clause-stopped g c =
 pub returns-in-Ok-RunLog-clause-kept : goal.returns-in-Ok-RunLog-clause-kept
 returns-in-Ok-RunLog-clause-kept g c =
     λ none two.
+    absurd (none.no_run_log c.in-Ok-RunLog.plan c.in-Ok-RunLog.log (rw c.in-Ok-RunLog.field-0-is at c.in-Ok-RunLog.ensures.asked))
+
+pub returns-in-Ok-RunLog-clause-unlogged : goal.returns-in-Ok-RunLog-clause-unlogged
+returns-in-Ok-RunLog-clause-unlogged g c =
+    λ none.
     absurd (none.no_run_log c.in-Ok-RunLog.plan c.in-Ok-RunLog.log (rw c.in-Ok-RunLog.field-0-is at c.in-Ok-RunLog.ensures.asked))
 
 pub returns-in-Ok-Plan-clause-stopped : goal.returns-in-Ok-Plan-clause-stopped

@@ -19,4 +19,4 @@ returns-in-Ok-clause-cause g c =
     (c.run_of.ensures.cause (task_over held later c.args.words c.in-Ok.task (back later held c.task_in.ensures.same) c.in-Ok.ensures.named))
 
 pub returns-in-Err-clause-cause : goal.returns-in-Err-clause-cause
-returns-in-Err-clause-cause g c = (c.in-Err.ensures.cause, refl)
+returns-in-Err-clause-cause g c = (c.in-Err.ensures.cause, refl, refl)

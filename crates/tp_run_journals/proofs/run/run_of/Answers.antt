@@ -14,4 +14,4 @@ returns-in-Ok-clause-cause g c =
     IfErr-weaker c.run_verdict.result _ _ (λ stop h. stops_named (g.N.Files.held c.args.files.now) c.args.words c.args.task.now c.in-Ok.verdict _ _ _ _ stop (c.in-Ok.ensures.verdict named) h) c.run_verdict.ensures.cause
 
 pub returns-in-Err-clause-cause : goal.returns-in-Err-clause-cause
-returns-in-Err-clause-cause g c = λ named. (c.in-Err.ensures.cause named, refl)
+returns-in-Err-clause-cause g c = λ named. (c.in-Err.ensures.cause named, refl, refl)

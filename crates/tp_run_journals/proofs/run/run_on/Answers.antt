@@ -5,11 +5,11 @@ use Rattle.tp_run_journals.proofs.run.run_on.Goals as goal
 
 pub returns-in-Ok-clause-said : goal.returns-in-Ok-clause-said
 returns-in-Ok-clause-said g c =
-    said_steps c.args.plan.now.task c.args.plan.now.steps c.args.network.now.horizon c.args.network.now c.requires _ _ _ _ _ c.in-Ok.executive c.in-Ok.ensures.whole c.in-Ok.ensures.named c.tell_run.result c.of_telling.result c.of_telling.ensures c.tell_run.ensures.said
+    said_steps c.args.plan.now.task c.args.plan.now.steps c.args.network.now.horizon c.args.network.now c.requires _ _ _ _ _ c.in-Ok.executive c.in-Ok.ensures.whole (c.journaled.ensures.asked, c.in-Ok.ensures.named) c.tell_run.result c.of_telling.result c.of_telling.ensures c.tell_run.ensures.said
 
 pub returns-in-Ok-clause-cause : goal.returns-in-Ok-clause-cause
 returns-in-Ok-clause-cause g c =
-    unsaid_steps c.args.plan.now.task c.args.plan.now.steps c.args.network.now.horizon c.args.network.now c.requires _ _ _ _ _ c.in-Ok.executive c.in-Ok.ensures.whole c.in-Ok.ensures.named c.tell_run.result c.of_telling.result c.of_telling.ensures c.tell_run.ensures.cause
+    unsaid_steps c.args.plan.now.task c.args.plan.now.steps c.args.network.now.horizon c.args.network.now c.requires _ _ _ _ _ c.in-Ok.executive c.in-Ok.ensures.whole (c.journaled.ensures.asked, c.in-Ok.ensures.named) c.tell_run.result c.of_telling.result c.of_telling.ensures c.tell_run.ensures.cause
 
 pub returns-in-Err-clause-cause : goal.returns-in-Err-clause-cause
 returns-in-Err-clause-cause g c = record { net = c.args.network.now; is_net = c.requires; stops = c.in-Err.ensures.cause }
