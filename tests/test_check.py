@@ -111,6 +111,13 @@ def verdict(line):
     return told(line, "", 0 if line == "valid\n" else 1)
 
 
+def nested(inner):
+    """55 quantifiers in one another, none of which depends on another."""
+    for number in range(55):
+        inner = f"(forall (?v{number}) {inner})"
+    return inner
+
+
 class Check(Case):
     def writes(self, example, plan, words, line):
         """A call with those files writes that line, and ends with its status."""
@@ -164,6 +171,15 @@ class Check(Case):
 
     def test_tasks_that_are_too_large(self):
         self.writes(LARGE, "", CALL, "fault ground 2 too-many actions\n")
+
+    def test_quantifiers_in_one_another_that_would_be_gone_through_for_ever(self):
+        """2^55 bindings: small where what they are written out to is shared, nothing where they stand above nothing."""
+        problem = "(define (problem q) (:domain d) (:objects a b) (:init (p)) (:goal {}))"
+        domain = "(define (domain d) (:predicates (p)) (:action act :parameters () :precondition {} :effect {}))"
+        shared, above_nothing = nested("(p)"), nested("()")
+        for condition, effect, goal in ((shared, "(p)", "(p)"), ("(p)", above_nothing, "(p)"), ("(p)", "(p)", shared)):
+            files = {"domain": domain.format(condition, effect), "problem": problem.format(goal), "plan": "0: (act)\n"}
+            self.comes_to(told("", "fault ground 1 memory\n", 3), "check domain problem plan", files)
 
     def test_plans_that_cannot_be_read(self):
         self.each_writes(CHARGE, PLANS)
