@@ -1,5 +1,5 @@
 -- The files of a call: those that it reads, and the one that it writes a journal to.
-use Rattle.std.specs.Prelude.{◌≡◌, ℕ, suc, List, Option, option_map}
+use Rattle.std.specs.Prelude.{ℕ, List, Option}
 use Rattle.tp_run_journals.specs.LogFile.{LogFile, log_file}
 
 -- As far as these are told, held: what the file of a name holds; asked_before, asked_now: how many journal files were asked for before the
@@ -24,10 +24,6 @@ call_files held before now blank named kept =
       named = named;
       kept = kept;
     }
-
--- just one journal file was asked for
-abbrev pub AskedOnce : CallFiles → Type 0
-AskedOnce files = files.asked_now ≡ option_map suc files.asked_before
 
 -- the journal file of a name, as the call leaves it
 abbrev pub journal_file : List ℕ → CallFiles → LogFile

@@ -11,7 +11,8 @@ use Rattle.tp_plan_runs.specs.Runs.{EndsRun}
 use Rattle.tp_plan_search.specs.SearchStops.{EndsSearch}
 use Rattle.tp_plan_splits.specs.Splits.{EndsSplit}
 use Rattle.tp_run_journals.specs.RunJournals.{EndsRunLog}
-use Rattle.tp_program.specs.CallFiles.{AskedOnce, CallFiles, journal_file}
+use Rattle.tp_program.specs.CallFiles.{CallFiles, journal_file}
+use Rattle.tp_run_journals.specs.LogFile.{AskedOnce}
 use Rattle.tp_program.specs.Checks.{EndsCheck}
 use Rattle.tp_program.specs.Networks.{EndsNet}
 use Rattle.tp_arguments.specs.Requests.{AsksFor}
@@ -54,7 +55,7 @@ EndsRequest Bare files input status held held-now output output-now failures bef
 EndsRequest (BareLog log) files input status held held-now output output-now failures before
     failures-now now
     = EndsJournaled status input held held-now files.blank files.kept log.now files.named output
-    output-now failures before failures-now now × AskedOnce files
+    output-now failures before failures-now now × AskedOnce (journal_file log.now files)
 EndsRequest
     (Check w) files input status held held-now output output-now failures before failures-now now
     = EndsCheck files.held w status held held-now output output-now failures before failures-now now

@@ -6,7 +6,8 @@ use Rattle.tp_bare_journals.specs.Logged.{LogsAll, LogsLines}
 use Rattle.tp_plan_files.specs.declared.plan_words.PlanWords.{PlanWords}
 use Rattle.tp_arguments.specs.Requests.{AsksFor}
 use Rattle.tp_arguments.specs.declared.requests.Request.TheVariants.{BareLog, RunLog}
-use Rattle.tp_program.specs.CallFiles.{AskedOnce, CallFiles}
+use Rattle.tp_run_journals.specs.LogFile.{AskedOnce}
+use Rattle.tp_program.specs.CallFiles.{CallFiles, journal_file}
 
 -- the words ask for no journal
 pub record AsksForNoJournal (words : List (List ℕ)) : Type 0 where
@@ -18,7 +19,7 @@ abbrev pub LogsTo : CallFiles → List ℕ → Option (List ℕ) → Option (Lis
     → Type 0
 LogsTo files name input held now =
     LogsAll input held now files.blank files.kept × IfSome files.named (λ n. n ≡ name)
-    × AskedOnce files
+    × AskedOnce (journal_file name files)
 
 -- nothing was written, or the answers to the first lines behind the head and the lags, and their journal, as far as a fault let them
 abbrev pub LogsSome : CallFiles → Option (List ℕ) → Option (List ℕ) → Option (List ℕ) → Type 0
