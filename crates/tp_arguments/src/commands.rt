@@ -25,8 +25,8 @@ Examples:
   tempo check domain.pddl problem.pddl plan.txt
   tempo net domain.pddl problem.pddl plan.txt
   printf 'dispatch 0\\nadvance 3\\ndispatch 1\\n' | tempo run domain.pddl problem.pddl plan.txt
-  printf 'dispatch 0\\n' | tempo run domain.pddl problem.pddl plan.txt --journal night.log
-  tempo audit night.log domain.pddl problem.pddl plan.txt
+  printf 'dispatch 0\\n' | tempo run domain.pddl problem.pddl plan.txt --journal run.log
+  tempo audit run.log domain.pddl problem.pddl plan.txt
   tempo split domain.pddl problem.pddl plan.txt owners.txt";
 
 const BARE_ABOUT: &str = "Answers commands on a network of events and bounds";
@@ -150,7 +150,7 @@ that breaks the format (`fault journal 3 line N`), or where its network is not t
 
 Examples:
   tempo audit night.log
-  tempo audit night.log domain.pddl problem.pddl plan.txt
+  tempo audit run.log domain.pddl problem.pddl plan.txt
 print
   audit ok 7";
 

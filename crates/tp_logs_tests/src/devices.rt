@@ -62,7 +62,7 @@ impl<L: Ledger> Sink for Sheet<L> {
 /// Room for one file that is made and written. It is made of the sheet that lies there, if there is one. How many files were asked for
 /// is counted.
 #[derive(Drop)]
-pub(crate) struct Desk<L: Ledger, A: Ledger> {
+pub(crate) struct CountedLogs<L: Ledger, A: Ledger> {
     alloc: Global,
     sheet: Option<Sheet<L>>,
     name: Option<String>,
@@ -72,15 +72,15 @@ pub(crate) struct Desk<L: Ledger, A: Ledger> {
     ghost counts: { 0 < share.parts },
 }
 
-impl<L: Ledger, A: Ledger> Desk<L, A> {
-    /// A desk with that sheet, if there is one. The files that are asked for are counted in the blank ledger.
+impl<L: Ledger, A: Ledger> CountedLogs<L, A> {
+    /// A place for that sheet, if there is one. The files that are asked for are counted in the blank ledger.
     pub(crate) fn new(alloc: Global, sheet: Option<Sheet<L>>, blank: Blank) -> Self
         requires name { blank.name ≡ A.name }
         requires parts { blank.parts ≡ A.parts }
         requires some { 0 < blank.parts }
     {
         let (asked, share) = blank.open();
-        Desk {
+        CountedLogs {
             alloc,
             sheet,
             name: None,
@@ -92,7 +92,7 @@ impl<L: Ledger, A: Ledger> Desk<L, A> {
 
     /// What the file that was kept holds, if one was.
     pub(crate) fn into_text(self) -> Option<Vec<u8>> {
-        let Desk {
+        let CountedLogs {
             alloc: _,
             sheet: _,
             name: _,
@@ -107,7 +107,7 @@ impl<L: Ledger, A: Ledger> Desk<L, A> {
     }
 }
 
-impl<L: Ledger, A: Ledger> Logs for Desk<L, A> {
+impl<L: Ledger, A: Ledger> Logs for CountedLogs<L, A> {
     type Log = Sheet<L>;
 
     ghost asked = { λ d. Some d.asked.total };

@@ -2,7 +2,7 @@
 
 ghost use Rattle.std.specs.Prelude.{◌≡◌, ◌<◌};
 
-use super::devices::{Desk, Sheet};
+use super::devices::{CountedLogs, Sheet};
 use std::alloc::Global;
 use std::io;
 use std::io::{ErrorKind, Read};
@@ -122,13 +122,13 @@ fn kept<R: Read + Drop, I: Ledger, O: Ledger, F: Ledger, J: Ledger, A: Ledger>(
     let mut output = Sheet::<O>::new(alloc, room.output, blanks.writes);
     let mut faults = Sheet::<F>::new(alloc, usize::MAX, blanks.tells);
     let sheet = blank_sheet(alloc, room.file, blanks.logs);
-    let mut desk = Desk::<J, A>::new(alloc, sheet, blanks.asks);
-    let status = run_bare_journal(alloc, &mut desk, NAME, input, &mut output, &mut faults);
+    let mut logs = CountedLogs::<J, A>::new(alloc, sheet, blanks.asks);
+    let status = run_bare_journal(alloc, &mut logs, NAME, input, &mut output, &mut faults);
     Outcome {
         status,
         answers: output.into_text(),
         faults: faults.into_text(),
-        journal: desk.into_text(),
+        journal: logs.into_text(),
     }
 }
 

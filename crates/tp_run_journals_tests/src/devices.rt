@@ -5,7 +5,7 @@ use tp_log_audits::run_bare_audit;
 use tp_plan_audits::run_plan_audit;
 use tp_plan_files::PlanWords;
 use tp_run_journals::run_run_journal;
-use tp_small_devices::{Desk, Note, Shelf, Stored};
+use tp_small_devices::{Note, OneLog, Shelf, Stored};
 use tp_text::Scale;
 
 /// The texts of a domain, a problem and a plan.
@@ -55,11 +55,11 @@ impl Outcome {
     }
 }
 
-/// What comes of the commands to the plan in the files, with that much room in the output. The journal is kept on the desk.
+/// What comes of the commands to the plan in the files, with that much room in the output. The journal is kept in the log.
 fn run(
     alloc: Global,
     shelf: &mut Shelf<'_>,
-    desk: &mut Desk<'_>,
+    logs: &mut OneLog<'_>,
     commands: &str,
     room: usize,
 ) -> Outcome {
@@ -71,7 +71,7 @@ fn run(
     let status = run_run_journal(
         alloc,
         shelf,
-        desk,
+        logs,
         WORDS,
         "log",
         input,
@@ -86,8 +86,8 @@ fn run(
 }
 
 /// Whether the file that was kept last holds that text; where none was kept, there is none.
-fn kept(desk: &Desk<'_>, journal: Option<&str>) -> bool {
-    match (&desk.last, journal) {
+fn kept(logs: &OneLog<'_>, journal: Option<&str>) -> bool {
+    match (&logs.last, journal) {
         (Some(note), Some(text)) => holds(note, text),
         (None, None) => true,
         _ => false,
@@ -110,9 +110,9 @@ pub fn logs(
     ];
     let log = rooms.1.map(|room| ("log", room));
     let mut shelf = Shelf { files: &files };
-    let mut desk = Desk::new(alloc, log);
-    let outcome = run(alloc, &mut shelf, &mut desk, commands, rooms.0);
-    outcome.is(told) && kept(&desk, journal)
+    let mut logs = OneLog::new(alloc, log);
+    let outcome = run(alloc, &mut shelf, &mut logs, commands, rooms.0);
+    outcome.is(told) && kept(&logs, journal)
 }
 
 /// Whether an audit of these bytes against the plan of a world comes to that.
@@ -170,9 +170,9 @@ pub fn audits_its_own(
         ("plan", world.plan.as_bytes()),
     ];
     let mut shelf = Shelf { files: &files };
-    let mut desk = Desk::new(alloc, Some(("log", usize::MAX)));
-    let _ran = run(alloc, &mut shelf, &mut desk, commands, usize::MAX);
-    match &desk.last {
+    let mut logs = OneLog::new(alloc, Some(("log", usize::MAX)));
+    let _ran = run(alloc, &mut shelf, &mut logs, commands, usize::MAX);
+    match &logs.last {
         Some(note) => {
             audits_bytes(alloc, world, note.text(), with_files)
                 && audits_bare(alloc, note.text(), without)

@@ -116,18 +116,18 @@ impl Sink for Note {
 
 /// The one journal that can be made: its name and its room.
 #[derive(Drop)]
-pub struct Desk<'a> {
+pub struct OneLog<'a> {
     alloc: Global,
     journal: Option<(&'a str, usize)>,
     pub last: Option<Note>,
 }
 
-impl<'a> Desk<'a> {
+impl<'a> OneLog<'a> {
     /// That journal, if there is one.
-    pub fn new(alloc: Global, journal: Option<(&'a str, usize)>) -> Desk<'a>
+    pub fn new(alloc: Global, journal: Option<(&'a str, usize)>) -> OneLog<'a>
         ensures last { result.last ≡ None }
     {
-        Desk {
+        OneLog {
             alloc,
             journal,
             last: None,
@@ -135,7 +135,7 @@ impl<'a> Desk<'a> {
     }
 }
 
-impl Logs for Desk<'_> {
+impl Logs for OneLog<'_> {
     type Log = Note;
 
     ghost asked = { λ _. None };
