@@ -7,23 +7,23 @@ use Rattle.tp_ast.specs.Actions as actions
 use Rattle.tp_ast.specs.DomainViews.{action_view}
 use Rattle.tp_ast.specs.declared.symbols.Typed.{Typed}
 use Rattle.tp_ast.specs.declared.action.Action.{Action}
-use Rattle.tp_ground.specs.WriterViews.{WriterView}
-use Rattle.tp_ground.specs.Views.{env_view}
-use Rattle.tp_ground.specs.Bindings.{Universe, Env, bindings, bound}
-use Rattle.tp_ground.specs.Written.{GroundBody, body_in}
+use Rattle.tp_lower.specs.WriterViews.{WriterView}
+use Rattle.tp_bindings.specs.Views.{env_view}
+use Rattle.tp_bindings.specs.Bindings.{Universe, Env, bindings, bound}
+use Rattle.tp_lower.specs.Written.{GroundBody, body_in}
 use Rattle.tp_task.specs.Tables.{Tables}
-use Rattle.tp_ground.specs.Mentions.{Mentions, ◌then◌, of_body, of_each}
-use Rattle.tp_ground.specs.Lowered.{Notes, IsLowered, Overflows}
-use Rattle.tp_ground.specs.Appended.{IsAppended}
+use Rattle.tp_lower.specs.Mentions.{Mentions, ◌then◌, of_body, of_each}
+use Rattle.tp_lower.specs.Lowered.{Notes, IsLowered, Overflows}
+use Rattle.tp_lower.specs.Appended.{IsAppended}
 use Rattle.tp_ground.specs.Grounding.{ground_action, ground_actions, of_action}
-use Rattle.tp_ground.specs.declared.environment.Env as code
-use Rattle.tp_ground.specs.declared.environment.Env.{Inner, Empty}
+use Rattle.tp_bindings.specs.declared.environment.Env as code
+use Rattle.tp_bindings.specs.declared.environment.Env.{Inner, Empty}
 use Rattle.tp_task.specs.declared.fault.GroundFault.{GroundFault}
-use Rattle.tp_ground.proofs.Along.{next, map_next}
-use Rattle.tp_ground.proofs.OnEntries.{empty_env}
-use Rattle.tp_ground.proofs.OnInner.{inner_env}
-use Rattle.tp_ground.proofs.OnLowered.{then_assoc, of_each-append, of_each_one, lowered_same, lowered_both, overflows_first, overflows_then}
-use Rattle.tp_ground.proofs.OnAppended.{appended_one, appended_then, appended_same}
+use Rattle.tp_bindings.proofs.Along.{next, map_next}
+use Rattle.tp_bindings.proofs.OnEnvironments.{empty_env}
+use Rattle.tp_lower.proofs.OnInner.{inner_env}
+use Rattle.tp_lower.proofs.OnLowered.{then_assoc, of_each-append, of_each_one, lowered_same, lowered_both, overflows_first, overflows_then}
+use Rattle.tp_lower.proofs.OnAppended.{appended_one, appended_then, appended_same}
 
 module _ {X : Type 0} (of : X → Mentions) (xs : List X) (i : ℕ) (x : X) (lt : i < length xs) (item : x ≡ get_or xs i x) where
   pub each_next : of_each of (take (i + 1) xs) ≡ (of_each of (take i xs) then of x)

@@ -1,21 +1,19 @@
 -- Entries of ':init' that cannot be numbered.
-use Rattle.std.proofs.Common.{◌≡◌, ℤ, [], sym, subst, rules}
+use Rattle.std.proofs.Common.{◌≡◌, ℤ, sym, subst}
 use Rattle.tp_ast.specs.Terms.{atom_view}
 use Rattle.tp_ast.specs.DomainViews.{initial_view}
 use Rattle.tp_ast.specs.declared.term.Atom.{Atom}
 use Rattle.tp_ast.specs.declared.problem.Initial.{Initial}
 use Rattle.tp_ast.specs.declared.problem.Initial.TheVariants.{Holds, Fails, HasValue}
-use Rattle.tp_ground.specs.WriterViews.{WriterView}
-use Rattle.tp_ground.specs.Bindings.{Env, words_in}
-use Rattle.tp_ground.specs.Views.{env_view}
-use Rattle.tp_ground.specs.Mentions.{an_atom, a_fluent}
+use Rattle.tp_lower.specs.WriterViews.{WriterView}
+use Rattle.tp_bindings.specs.Bindings.{Env, words_in}
+use Rattle.tp_bindings.specs.Views.{env_view}
+use Rattle.tp_lower.specs.Mentions.{an_atom, a_fluent}
 use Rattle.tp_ground.specs.Initially.{initial_in, of_initial}
-use Rattle.tp_ground.specs.Lowered.{Overflows}
-use Rattle.tp_ground.specs.declared.environment.Env.{Empty, the_lemmas}
+use Rattle.tp_lower.specs.Lowered.{Overflows}
+use Rattle.tp_bindings.specs.declared.environment.Env.{Empty}
+use Rattle.tp_bindings.proofs.OnEnvironments.{empty_env}
 use Rattle.tp_task.specs.declared.fault.GroundFault.{GroundFault}
-
-pub empty_env : env_view Empty ≡ []
-empty_env = search (rules, the_lemmas)
 
 module _ (a : WriterView) (i : Initial) (f : Atom) where
   pub holds_stopped : (e : GroundFault) → i ≡ Holds f → Overflows a (an_atom (words_in (env_view Empty) (atom_view f))) e → Overflows a (of_initial (initial_in (initial_view i))) e

@@ -11,11 +11,11 @@ use Rattle.tp_ast.specs.Actions as actions
 use Rattle.tp_ast.specs.declared.words.TimeSpecifier.{TimeSpecifier}
 use Rattle.tp_ast.specs.declared.words.TimeSpecifier.TheVariants.{AtStart, AtEnd}
 use Rattle.tp_task.specs.Words.{Words}
-use Rattle.tp_ground.specs.Bindings.{Universe, Env}
+use Rattle.tp_bindings.specs.Bindings.{Universe, Env}
 use Rattle.tp_task.specs.Tables.{Tables, words_at}
 use Rattle.tp_task.specs.Fits.{event_fits, body_fits}
-use Rattle.tp_ground.specs.Written.{GroundEffect, GroundHappening, GroundBody, adds, deletes, writes, added, deleted, written, inner, parts_in, all_parts_in, simple_effect_part, simple_effects_part, simple_effects_in, simple_effects_at, is_specifier, instant, durative, body_in}
-use Rattle.tp_ground.specs.ReadBack.{named_write, named_event, named_body}
+use Rattle.tp_lower.specs.Written.{GroundEffect, GroundHappening, GroundBody, adds, deletes, writes, added, deleted, written, inner, parts_in, all_parts_in, simple_effect_part, simple_effects_part, simple_effects_in, simple_effects_at, is_specifier, instant, durative, body_in}
+use Rattle.tp_lower.specs.ReadBack.{named_write, named_event, named_body}
 use Rattle.tp_task.specs.declared.events.NumericEffect.{NumericEffect}
 use Rattle.tp_task.specs.declared.events.GroundEvent.{GroundEvent}
 use Rattle.tp_task.specs.declared.events.Body.{Body}

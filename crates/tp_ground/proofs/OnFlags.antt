@@ -12,17 +12,17 @@ use Rattle.tp_task.specs.Tables.{Tables}
 use Rattle.tp_task.specs.declared.events.Body.{Body}
 use Rattle.tp_task.specs.declared.events.Body.TheVariants.{Instant, Durative}
 use Rattle.tp_reach.specs.Rounds.{adds_in, adds_fit}
-use Rattle.tp_ground.specs.Bindings.{Universe, bound}
-use Rattle.tp_ground.specs.ReadBack.{named_body}
+use Rattle.tp_bindings.specs.Bindings.{Universe, bound, universe_of}
+use Rattle.tp_lower.specs.ReadBack.{named_body}
 use Rattle.tp_ground.specs.Initially.{GroundInitial, initial_in, named_initial}
 use Rattle.tp_bounds.specs.RunLimits.{RunLimits}
-use Rattle.tp_ground.specs.Grounding.{HasNoTask, ground_actions, mentioned, universe_of}
+use Rattle.tp_ground.specs.Grounding.{HasNoTask, ground_actions, mentioned}
 use Rattle.tp_task.specs.declared.fault.GroundFault.{GroundFault}
 use Rattle.tp_task.specs.declared.fault.GroundFault.TheVariants as faults
 use Rattle.tp_task.specs.declared.fault.TooManyKind.TheVariants as kinds
 use Rattle.tp_ground.specs.Reached.{AreKept, HasNoReachedTask, Instance, IsReach, action_of, happenings_of, instances, is_kept}
-use Rattle.tp_ground.specs.WriterViews.{WriterView}
-use Rattle.tp_ground.specs.Lowered.{IsLowered}
+use Rattle.tp_lower.specs.WriterViews.{WriterView}
+use Rattle.tp_lower.specs.Lowered.{IsLowered}
 use Rattle.tp_ground.specs.Instances.{written_with, of_task_with, AreReached, AreFlags, AreKeptOf}
 use Rattle.tp_ground.specs.WrittenTasks.{WrittenTask, named_task}
 use Rattle.tp_ground.specs.declared.grounder.LoweredTask.{LoweredTask}

@@ -6,7 +6,7 @@ use Rattle.tp_ast.specs.Actions as actions
 use Rattle.tp_ast.specs.DomainViews.{action_view}
 use Rattle.tp_ast.specs.declared.action.Action.{Action}
 use Rattle.tp_task.specs.Words.{Words}
-use Rattle.tp_ground.specs.Bindings.{Universe, bindings}
+use Rattle.tp_bindings.specs.Bindings.{Universe, bindings}
 use Rattle.tp_ground.specs.Grounding.{ground_action, ground_actions}
 
 words_of : (u : Universe) (a : actions.Action) (bs : List (List Name)) → map (λ g. g.words) (map (ground_action u a) bs) ≡ map (λ ns. a.name ∷ ns) bs

@@ -10,7 +10,7 @@ use Rattle.std.specs.List.{AllByRecursion, IsDistinct}
 use Rattle.tp_task.specs.Words.{Words, same_words, has_words, with_words, with_all}
 use Rattle.tp_ast.specs.Problems as problems
 use Rattle.tp_ast.specs.Problems.{Initial}
-use Rattle.tp_ground.specs.Bindings.{object_for, words_in}
+use Rattle.tp_bindings.specs.Bindings.{object_for, words_in}
 use Rattle.tp_task.specs.Tables.{Tables, words_at}
 use Rattle.tp_ground.specs.Initially.{initial_in, is_initially_true, initial_value, or_else, named_initial, true_at, value_at}
 use Rattle.tp_ground.specs.declared.beginning.NumberedInitial.{NumberedInitial}

@@ -7,12 +7,12 @@ use Rattle.std.proofs.lemmas.List.Folds.{flat_map-map}
 use Rattle.std.proofs.lemmas.List.Elements.{filter-append}
 use Rattle.tp_ast.specs.Symbols.{Name}
 use Rattle.tp_ast.specs.Actions as actions
-use Rattle.tp_ground.specs.Bindings.{Universe, bindings}
+use Rattle.tp_bindings.specs.Bindings.{Universe, bindings}
 use Rattle.tp_ground.specs.Reached.{Instance, instances}
 use Rattle.tp_ground.specs.Schemas.{schema_view}
-use Rattle.tp_ground.specs.Mentions.{Mentions, ◌then◌, of_each}
+use Rattle.tp_lower.specs.Mentions.{Mentions, ◌then◌, of_each}
 use Rattle.tp_ground.specs.declared.schema.Schema.{Schema}
-use Rattle.tp_ground.proofs.Along.{map_next}
+use Rattle.tp_bindings.proofs.Along.{map_next}
 
 -- the instances of an action
 abbrev pub bound_to : actions.Action → List Name → Instance

@@ -13,9 +13,9 @@ use Rattle.tp_task.specs.Reach as numbers
 use Rattle.tp_task.specs.declared.events.GroundEvent.{GroundEvent}
 use Rattle.tp_task.specs.declared.events.Body.{Body}
 use Rattle.tp_task.specs.declared.events.Body.TheVariants.{Instant, Durative}
-use Rattle.tp_ground.specs.Bindings.{Universe}
-use Rattle.tp_ground.specs.Written.{GroundHappening, GroundBody}
-use Rattle.tp_ground.specs.ReadBack.{named_event, named_body}
+use Rattle.tp_bindings.specs.Bindings.{Universe}
+use Rattle.tp_lower.specs.Written.{GroundHappening, GroundBody}
+use Rattle.tp_lower.specs.ReadBack.{named_event, named_body}
 use Rattle.tp_ground.specs.Initially.{initial_in, is_initially_true, named_initial, true_at}
 use Rattle.tp_ground.specs.declared.beginning.NumberedInitial.{NumberedInitial}
 use Rattle.tp_ground.specs.declared.beginning.NumberedInitial.TheVariants as numbered

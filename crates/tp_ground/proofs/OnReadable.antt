@@ -10,7 +10,7 @@ use Rattle.tp_ast.specs.Terms.{is_name}
 use Rattle.tp_ast.specs.Symbols.{Name, Declared, types_fit}
 use Rattle.tp_ast.specs.TypedLists.{has_twice}
 use Rattle.tp_task.specs.Words.{Words, same_words}
-use Rattle.tp_ground.specs.Bindings.{Universe, choices, bindings}
+use Rattle.tp_bindings.specs.Bindings.{Universe, choices, bindings}
 use Rattle.tp_ground.specs.OwnNames.{IsOwnName}
 use Rattle.tp_task.specs.Readable.{are_names, AreReadable}
 

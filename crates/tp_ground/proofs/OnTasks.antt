@@ -13,19 +13,19 @@ use Rattle.tp_ast.specs.declared.action.Action.{Action}
 use Rattle.tp_ast.specs.declared.problem.Initial.{Initial}
 use Rattle.tp_bounds.specs.RunLimits.{RunLimits}
 use Rattle.tp_text.specs.declared.number.Scale.{Scale}
-use Rattle.tp_ground.specs.WriterViews.{WriterView}
+use Rattle.tp_lower.specs.WriterViews.{WriterView}
 use Rattle.tp_task.specs.Words.{Words, same_words, with_all, firsts}
-use Rattle.tp_ground.specs.Bindings.{Universe, Env, bindings, bound}
+use Rattle.tp_bindings.specs.Bindings.{Universe, Env, bindings, bound, universe_of}
 use Rattle.tp_task.specs.Fits.{body_fits}
 use Rattle.tp_task.specs.Tables.{Tables, CannotNumber}
-use Rattle.tp_ground.specs.Written.{GroundCondition, GroundBody, GroundAction, condition_in, body_in}
-use Rattle.tp_ground.specs.Mentions.{Mentions, ◌then◌, of_condition, of_each}
-use Rattle.tp_ground.specs.ReadBack.{named_condition, named_body}
+use Rattle.tp_lower.specs.Written.{GroundCondition, GroundBody, GroundAction, condition_in, body_in}
+use Rattle.tp_lower.specs.Mentions.{Mentions, ◌then◌, of_condition, of_each}
+use Rattle.tp_lower.specs.ReadBack.{named_condition, named_body}
 use Rattle.tp_ground.specs.Initially.{GroundInitial, initial_in, of_initial, named_initial, is_initially_true, initial_value}
-use Rattle.tp_ground.specs.Lowered.{Notes, Extends, IsLowered, Overflows, Lowers}
+use Rattle.tp_lower.specs.Lowered.{Notes, Extends, IsLowered, Overflows, Lowers}
 use Rattle.tp_ground.specs.Reached.{Instance, IsTaskOf, action_of, mentioned_of}
 use Rattle.tp_ground.specs.Instances.{written_with}
-use Rattle.tp_ground.specs.Grounding.{universe_of, ground_action, ground_actions, mentioned, IsTask, HasNoTask}
+use Rattle.tp_ground.specs.Grounding.{ground_action, ground_actions, mentioned, IsTask, HasNoTask}
 use Rattle.tp_ground.specs.WrittenTasks.{WrittenTask, written_task, named_task, of_task, IsMade}
 use Rattle.tp_ground.specs.declared.beginning.NumberedInitial.{NumberedInitial}
 use Rattle.tp_ground.specs.declared.grounder.LoweredTask.{LoweredTask}
@@ -35,10 +35,10 @@ use Rattle.tp_task.specs.declared.fault.GroundFault.TheVariants as faults
 use Rattle.tp_task.specs.declared.fault.TooManyKind.TheVariants as kinds
 use Rattle.tp_task.specs.declared.events.Cond.{Cond}
 use Rattle.tp_task.specs.declared.events.Body.{Body}
-use Rattle.tp_ground.proofs.OnBodies.{at_first, at_second, at_third}
+use Rattle.tp_lower.proofs.OnBodies.{at_first, at_second, at_third}
 use Rattle.tp_ground.proofs.OnFits.{body_fits_of}
 use Rattle.tp_ground.proofs.OnInitially.{with_all_distinct, true_there, value_there, same_reads}
-use Rattle.tp_ground.proofs.OnLowered.{lowered_both, lowered_same}
+use Rattle.tp_lower.proofs.OnLowered.{lowered_both, lowered_same}
 
 entries_view : (is : List Initial) → map (λ i. initial_in (initial_view i)) is ≡ map initial_in (map initial_view is)
 entries_view [] = refl

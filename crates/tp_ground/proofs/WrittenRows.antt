@@ -12,9 +12,9 @@ use Rattle.tp_ast.specs.declared.words.Comparison.TheVariants as comparisons
 use Rattle.tp_ast.specs.declared.words.TimeSpecifier.TheVariants.{AtStart, AtEnd}
 use Rattle.tp_task.specs.declared.events.Comparison.TheVariants.{Equal}
 use Rattle.tp_task.specs.Words.{firsts}
-use Rattle.tp_ground.specs.Bindings.{Universe, Env, bindings, bound}
-use Rattle.tp_ground.specs.Written.{number, atom, negation, all_of, any_of, no_conditions, condition, always, never, durative, condition_in, body_in}
-use Rattle.tp_ground.specs.Mentions.{of_body}
+use Rattle.tp_bindings.specs.Bindings.{Universe, Env, bindings, bound}
+use Rattle.tp_lower.specs.Written.{number, atom, negation, all_of, any_of, no_conditions, condition, always, never, durative, condition_in, body_in}
+use Rattle.tp_lower.specs.Mentions.{of_body}
 
 -- (:types match fuse), (:objects m1 - match f1 - fuse)
 abbrev universe : Universe

@@ -8,20 +8,16 @@ use Rattle.tp_ast.specs.Problems.{Problem}
 use Rattle.tp_bounds.specs.RunLimits.{RunLimits}
 use Rattle.tp_text.specs.declared.number.Scale.{Scale}
 use Rattle.tp_task.specs.Words.{firsts}
-use Rattle.tp_ground.specs.Bindings.{Universe, bound, bindings}
-use Rattle.tp_ground.specs.Written.{GroundAction, condition_in, body_in}
-use Rattle.tp_ground.specs.Mentions.{Mentions, ◌then◌, of_condition, of_body, of_each}
+use Rattle.tp_bindings.specs.Bindings.{Universe, universe_of, bound, bindings}
+use Rattle.tp_lower.specs.Written.{GroundAction, condition_in, body_in}
+use Rattle.tp_lower.specs.Mentions.{Mentions, ◌then◌, of_condition, of_body, of_each}
 use Rattle.tp_ground.specs.Great.{has_great_number}
-use Rattle.tp_ground.specs.ReadBack.{named_condition, named_body}
+use Rattle.tp_lower.specs.ReadBack.{named_condition, named_body}
 use Rattle.tp_ground.specs.Initially.{initial_in, of_initial, is_initially_true, initial_value}
 use Rattle.tp_task.specs.declared.fault.GroundFault.{GroundFault}
 use Rattle.tp_task.specs.declared.fault.GroundFault.TheVariants as faults
 use Rattle.tp_task.specs.declared.fault.TooManyKind.TheVariants as kinds
 use Rattle.tp_task.specs.declared.task.Task.{Task}
-
--- objects: the domain's constants, then the problem's
-abbrev pub universe_of : Domain → Problem → Universe
-universe_of d p = record { types = d.types; objects = d.constants ++ p.objects }
 
 -- an action under a binding of its parameters
 abbrev pub ground_action : Universe → Action → List Name → GroundAction

@@ -3,9 +3,9 @@ use Rattle.std.specs.Prelude.{ℕ, Bool, false, ◌||◌, ◌==◌, List, [], �
 use Rattle.tp_ast.specs.Problems as problems
 use Rattle.tp_ast.specs.Problems.{Initial}
 use Rattle.tp_task.specs.Words.{Words, same_words}
-use Rattle.tp_ground.specs.Bindings.{words_in}
+use Rattle.tp_bindings.specs.Bindings.{words_in}
 use Rattle.tp_task.specs.Tables.{Tables, words_at}
-use Rattle.tp_ground.specs.Mentions.{Mentions, an_atom, a_fluent}
+use Rattle.tp_lower.specs.Mentions.{Mentions, an_atom, a_fluent}
 use Rattle.tp_ground.specs.declared.beginning.NumberedInitial.{NumberedInitial}
 use Rattle.tp_ground.specs.declared.beginning.NumberedInitial.TheVariants as numbered
 

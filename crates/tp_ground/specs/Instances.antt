@@ -9,15 +9,15 @@ use Rattle.tp_task.specs.Words.{Words}
 use Rattle.tp_task.specs.declared.events.Body.{Body}
 use Rattle.tp_reach.specs.Rounds.{set_of, acts_in, acts_of_bodies}
 use Rattle.tp_reach.specs.Adding.{Adds, IsSettled}
-use Rattle.tp_ground.specs.Bindings.{Universe}
-use Rattle.tp_ground.specs.Written.{condition_in}
+use Rattle.tp_bindings.specs.Bindings.{Universe}
+use Rattle.tp_lower.specs.Written.{condition_in}
 use Rattle.tp_ground.specs.Schemas.{schema_view, is_hinted}
-use Rattle.tp_ground.specs.Mentions.{Mentions, ◌then◌, of_condition, of_each}
+use Rattle.tp_lower.specs.Mentions.{Mentions, ◌then◌, of_condition, of_each}
 use Rattle.tp_ground.specs.Initially.{GroundInitial, initial_in, of_initial, true_at}
 use Rattle.tp_ground.specs.WrittenTasks.{WrittenTask}
 use Rattle.tp_ground.specs.Reached.{Instance, instances, action_of, of_instance, happenings_of, is_kept, IsReach}
 use Rattle.tp_ground.specs.declared.instances.Instance as code
-use Rattle.tp_ground.specs.declared.objects.Universe as objects
+use Rattle.tp_bindings.specs.declared.objects.Universe as objects
 use Rattle.tp_ground.specs.declared.grounder.LoweredTask.{LoweredTask}
 
 abbrev pub instance_view : code.Instance → Instance

@@ -2,8 +2,8 @@
 use Rattle.std.specs.Prelude.{Bool}
 use Rattle.tp_ast.specs.Actions.{Action}
 use Rattle.tp_ast.specs.DomainViews.{action_view, body_view}
-use Rattle.tp_ground.specs.Hints.{body_fits}
-use Rattle.tp_ground.specs.declared.objects.Universe.{Universe}
+use Rattle.tp_bindings.specs.Hints.{body_fits}
+use Rattle.tp_bindings.specs.declared.objects.Universe.{Universe}
 use Rattle.tp_ground.specs.declared.schema.Schema.{Schema}
 
 abbrev pub schema_view : Schema → Action

@@ -5,11 +5,11 @@ use Rattle.tp_ast.specs.Actions.{Action}
 use Rattle.tp_ast.specs.Problems.{Initial}
 use Rattle.tp_bounds.specs.RunLimits.{RunLimits}
 use Rattle.tp_text.specs.declared.number.Scale.{Scale}
-use Rattle.tp_ground.specs.Bindings.{Universe}
+use Rattle.tp_bindings.specs.Bindings.{Universe}
 use Rattle.tp_task.specs.Tables.{Tables}
-use Rattle.tp_ground.specs.Written.{GroundCondition, GroundBody, condition_in}
-use Rattle.tp_ground.specs.Mentions.{Mentions, ◌then◌, of_condition, of_each}
-use Rattle.tp_ground.specs.ReadBack.{named_condition, named_body}
+use Rattle.tp_lower.specs.Written.{GroundCondition, GroundBody, condition_in}
+use Rattle.tp_lower.specs.Mentions.{Mentions, ◌then◌, of_condition, of_each}
+use Rattle.tp_lower.specs.ReadBack.{named_condition, named_body}
 use Rattle.tp_ground.specs.Initially.{GroundInitial, initial_in, of_initial, named_initial, true_at, value_at}
 use Rattle.tp_ground.specs.Grounding.{ground_actions, of_action}
 use Rattle.tp_ground.specs.declared.grounder.LoweredTask.{LoweredTask}

@@ -3,14 +3,15 @@
 ghost use Rattle.std.specs.Prelude.{◌≡◌, ℕ, ◌<◌, ◌||◌, length, map, slice_index_or, false, None, IfOk};
 ghost use Rattle.tp_ast.specs.DomainViews.{initial_view};
 ghost use Rattle.tp_ground.specs.Initially.{or_else, true_at, value_at, initial_in, named_initial, of_initial};
-ghost use Rattle.tp_ground.specs.Mentions.{of_each};
-ghost use Rattle.tp_ground.specs.Lowered.{Lowers};
+ghost use Rattle.tp_lower.specs.Mentions.{of_each};
+ghost use Rattle.tp_lower.specs.Lowered.{Lowers};
 
-use crate::environment::Env;
-use crate::lowering::{atom, fluent};
-use crate::writer::Writer;
 use std::alloc::{AllocError, Global};
 use tp_ast::problem::Initial;
+use tp_bindings::environment::Env;
+use tp_lower::conditions::atom;
+use tp_lower::expressions::fluent;
+use tp_lower::writer::Writer;
 use tp_task::GroundFault;
 
 /// What one entry of `:init` says, by number.

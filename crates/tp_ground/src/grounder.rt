@@ -9,28 +9,27 @@ ghost use Rattle.tp_bounds.specs.RunLimits.{RunLimits};
 ghost use Rattle.tp_ground.specs.Great.{has_great_number};
 ghost use Rattle.tp_task.specs.Fits.{body_fits};
 ghost use Rattle.tp_task.specs.Words.{firsts};
-ghost use Rattle.tp_ground.specs.Views.{universe_view};
-ghost use Rattle.tp_ground.specs.Lowered.{Lowers};
-ghost use Rattle.tp_ground.specs.Grounding.{universe_of, ground_actions, mentioned, IsTask, HasNoTask};
-ghost use Rattle.tp_ground.specs.WriterViews.{with_tables};
+ghost use Rattle.tp_bindings.specs.Views.{universe_view};
+ghost use Rattle.tp_lower.specs.Lowered.{Lowers};
+ghost use Rattle.tp_bindings.specs.Bindings.{universe_of};
+ghost use Rattle.tp_ground.specs.Grounding.{ground_actions, mentioned, IsTask, HasNoTask};
+ghost use Rattle.tp_lower.specs.WriterViews.{with_tables};
 ghost use Rattle.tp_ground.specs.Initially.{true_at, value_at};
 ghost use Rattle.tp_ground.specs.WrittenTasks.{written_task, named_task, of_task, IsMade};
 
 use crate::beginning::{NumberedInitial, entries, numbers, truths};
 use crate::grounding::{actions_fit, lower_actions, name_actions};
-use crate::lowering::closed_condition;
-use crate::noting::{note_bodies, note_condition};
 use crate::numbers::has_great_number;
-use crate::universe::Universe;
-use crate::writer::Writer;
-use indexmap::IndexMap;
 use std::alloc::{AllocError, Global};
 use tp_ast::action::Action;
 use tp_ast::domain::Domain;
 use tp_ast::problem::{Initial, Problem};
 use tp_ast::symbols::Typed;
+use tp_bindings::noting::{note_bodies, note_condition};
+use tp_bindings::universe::{Universe, plain_universe};
 use tp_bounds::Limits;
-use tp_objects::objects::Objects;
+use tp_lower::conditions::closed_condition;
+use tp_lower::writer::Writer;
 use tp_task::{Body, Cond, GroundFault, Numbering, Task, TooManyKind};
 use tp_text::Scale;
 
@@ -57,22 +56,6 @@ fn has_too_many_objects(constants: &[Typed], objects: &[Typed]) -> bool
         ≡ nat_lt 65_535 (length (map typed_view constants.now ++ map typed_view objects.now)) }
 {
     constants.len() + objects.len() > MOST_OBJECTS
-}
-
-/// The types and objects, before anything is looked for among them.
-pub fn plain_universe<'a>(
-    alloc: Global,
-    domain: &'a Domain,
-    problem: &'a Problem,
-) -> Result<Universe<'a>, AllocError>
-    ensures { IfOk result
-        (λ u. universe_view u ≡ universe_of (domain_view domain.now) (problem_view problem.now)) }
-{
-    Ok(Universe {
-        objects: Objects::new(alloc, &domain.types, &domain.constants, &problem.objects)?,
-        known: Vec::new(alloc),
-        places: IndexMap::new(alloc),
-    })
 }
 
 /// What can be told before the types are looked at, whatever the limits.

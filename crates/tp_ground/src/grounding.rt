@@ -3,27 +3,27 @@
 ghost use Rattle.std.specs.Prelude.{◌≡◌, ◌++◌, ◌∷◌, map, length, nat_le, true, IfOk, OnOk, string_bytes};
 ghost use Rattle.tp_ast.specs.Symbols.{typed_view};
 ghost use Rattle.tp_ast.specs.DomainViews.{action_view, body_view};
-ghost use Rattle.tp_ground.specs.Views.{universe_view};
-ghost use Rattle.tp_ground.specs.Bindings.{bound, bindings};
-ghost use Rattle.tp_ground.specs.Written.{body_in};
-ghost use Rattle.tp_ground.specs.Mentions.{of_body, of_each};
-ghost use Rattle.tp_ground.specs.ReadBack.{named_body};
-ghost use Rattle.tp_ground.specs.Lowered.{Lowers};
-ghost use Rattle.tp_ground.specs.Appended.{Appends};
+ghost use Rattle.tp_bindings.specs.Views.{universe_view};
+ghost use Rattle.tp_bindings.specs.Bindings.{bound, bindings};
+ghost use Rattle.tp_lower.specs.Written.{body_in};
+ghost use Rattle.tp_lower.specs.Mentions.{of_body, of_each};
+ghost use Rattle.tp_lower.specs.ReadBack.{named_body};
+ghost use Rattle.tp_lower.specs.Lowered.{Lowers};
+ghost use Rattle.tp_lower.specs.Appended.{Appends};
 ghost use Rattle.tp_ground.specs.Grounding.{ground_actions, of_action};
-ghost use Rattle.tp_ground.specs.Rows.{product, lists_of};
-ghost use Rattle.tp_ground.specs.Hints.{body_fits};
+ghost use Rattle.tp_bindings.specs.Rows.{product, lists_of};
+ghost use Rattle.tp_bindings.specs.Hints.{body_fits};
 
-use crate::environment::Env;
-use crate::hinting::body_hint;
-use crate::hints::BodyHint;
-use crate::lowering::body;
-use crate::rows::{Rows, rows_of};
-use crate::universe::{Universe, count_and_note, refill};
-use crate::variables::Variables;
-use crate::writer::Writer;
 use std::alloc::{AllocError, Global};
 use tp_ast::action::Action;
+use tp_bindings::environment::Env;
+use tp_bindings::hints::BodyHint;
+use tp_bindings::rows::{Rows, rows_of};
+use tp_bindings::universe::{Universe, count_and_note, refill};
+use tp_bindings::variables::Variables;
+use tp_lower::bodies::body;
+use tp_lower::hinting::body_hint;
+use tp_lower::writer::Writer;
 use tp_task::{Body, GroundFault};
 
 /// Whether all actions together have no more bindings than so many. Where they do, the objects that their parameters may

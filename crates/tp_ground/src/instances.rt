@@ -4,29 +4,29 @@ ghost use Rattle.std.specs.Prelude.{◌≡◌, ◌++◌, ◌∷◌, Bool, true, 
 ghost use Rattle.std.specs.List.{list_all};
 ghost use Rattle.tp_ast.specs.Symbols.{typed_view};
 ghost use Rattle.tp_ast.specs.DomainViews.{body_view};
-ghost use Rattle.tp_ground.specs.Views.{universe_view};
-ghost use Rattle.tp_ground.specs.Bindings.{bound, bindings};
-ghost use Rattle.tp_ground.specs.Written.{body_in};
-ghost use Rattle.tp_ground.specs.Mentions.{of_body, of_each};
-ghost use Rattle.tp_ground.specs.ReadBack.{named_body};
-ghost use Rattle.tp_ground.specs.Lowered.{Lowers};
+ghost use Rattle.tp_bindings.specs.Views.{universe_view};
+ghost use Rattle.tp_bindings.specs.Bindings.{bound, bindings};
+ghost use Rattle.tp_lower.specs.Written.{body_in};
+ghost use Rattle.tp_lower.specs.Mentions.{of_body, of_each};
+ghost use Rattle.tp_lower.specs.ReadBack.{named_body};
+ghost use Rattle.tp_lower.specs.Lowered.{Lowers};
 ghost use Rattle.tp_ground.specs.Reached as reached;
 ghost use Rattle.tp_ground.specs.Reached.{instances, action_of, of_instance};
 ghost use Rattle.tp_ground.specs.Schemas.{schema_view, is_hinted};
 ghost use Rattle.tp_ground.specs.Instances.{instance_view, has_hints};
-ghost use Rattle.tp_ground.specs.Hints.{body_fits};
-ghost use Rattle.tp_ground.specs.declared.objects.Universe as objects;
-ghost use Rattle.tp_ground.specs.Rows.{product, lists_of};
+ghost use Rattle.tp_bindings.specs.Hints.{body_fits};
+ghost use Rattle.tp_bindings.specs.declared.objects.Universe as objects;
+ghost use Rattle.tp_bindings.specs.Rows.{product, lists_of};
 
-use crate::environment::Env;
-use crate::hints::BodyHint;
-use crate::lowering::body;
-use crate::rows::{Rows, rows_of};
 use crate::schema::Schema;
-use crate::universe::{Universe, copied, refill};
-use crate::variables::Variables;
-use crate::writer::Writer;
 use std::alloc::{AllocError, Global};
+use tp_bindings::environment::Env;
+use tp_bindings::hints::BodyHint;
+use tp_bindings::rows::{Rows, rows_of};
+use tp_bindings::universe::{Universe, copied, refill};
+use tp_bindings::variables::Variables;
+use tp_lower::bodies::body;
+use tp_lower::writer::Writer;
 use tp_task::{Body, GroundFault};
 
 /// An action, and the objects that its parameters stand for.

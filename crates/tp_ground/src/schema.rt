@@ -2,9 +2,9 @@
 
 ghost use Rattle.std.specs.Prelude.{◌≡◌};
 
-use crate::hints::BodyHint;
-use crate::variables::Variables;
 use tp_ast::action::Action;
+use tp_bindings::hints::BodyHint;
+use tp_bindings::variables::Variables;
 
 /// An action with a table of its parameters and what is known of its quantifiers, which are made once for all its bindings.
 #[derive(Drop)]

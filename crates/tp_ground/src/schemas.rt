@@ -4,12 +4,12 @@ ghost use Rattle.std.specs.Prelude.{◌≡◌, map, true, IfOk};
 ghost use Rattle.std.specs.List.{list_all};
 ghost use Rattle.tp_ground.specs.Schemas.{is_hinted};
 
-use crate::hinting::body_hint;
 use crate::schema::Schema;
-use crate::universe::Universe;
-use crate::variables::Variables;
 use std::alloc::{AllocError, Global};
 use tp_ast::action::Action;
+use tp_bindings::universe::Universe;
+use tp_bindings::variables::Variables;
+use tp_lower::hinting::body_hint;
 
 fn schema_of<'a>(
     alloc: Global,

@@ -9,7 +9,8 @@ use Rattle.tp_bounds.specs.RunLimits.{RunLimits}
 use Rattle.tp_text.specs.declared.number.Scale.{Scale}
 use Rattle.tp_syntax.specs.Domains.{Domain, SpellsDomain}
 use Rattle.tp_syntax.specs.Problems.{Problem, SpellsProblem}
-use Rattle.tp_ground.specs.Grounding.{IsTask, ground_actions, universe_of}
+use Rattle.tp_ground.specs.Bindings.{universe_of}
+use Rattle.tp_ground.specs.Grounding.{IsTask, ground_actions}
 use Rattle.tp_ground.specs.Reached.{IsReachedTask, action_of as reached_action}
 use Rattle.tp_ground.specs.ReadBack.{named_body}
 use Rattle.tp_task.specs.Readable.{AreReadable, are_names}

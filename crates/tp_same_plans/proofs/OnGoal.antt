@@ -21,11 +21,10 @@ use Rattle.tp_task.proofs.Lists.{all_at}
 use Rattle.tp_reach.specs.Rounds.{acts_in, acts_of_bodies}
 use Rattle.tp_reach.specs.TaskReach.{acts_of, first_state, GoalIs}
 use Rattle.tp_reach.proofs.Adding.{met_more}
-use Rattle.tp_ground.specs.Bindings.{Universe}
+use Rattle.tp_ground.specs.Bindings.{Universe, universe_of}
 use Rattle.tp_ground.specs.Written.{GroundCondition, GroundConditions, atom, compared, negation, all_of, any_of, no_conditions, condition, GroundHappening, GroundBody, condition_in}
 use Rattle.tp_ground.specs.ReadBack.{named_event, named_body}
 use Rattle.tp_ground.specs.Initially.{initial_in, is_initially_true}
-use Rattle.tp_ground.specs.Grounding.{universe_of}
 use Rattle.tp_ground.specs.Reached.{met, each_met, some_met, happenings_of, IsClosed, IsReach, Instance, instances, action_of, is_kept, all_happenings, AreKept}
 use Rattle.tp_ground.proofs.OnFits.{are_words, in_range}
 use Rattle.tp_same_plans.proofs.OnLists.{in_map, from_map, in_flat_map, from_flat_map, in_filter, of_filter}

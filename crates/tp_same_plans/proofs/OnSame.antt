@@ -19,10 +19,9 @@ use Rattle.tp_happen.specs.declared.plans.Step.{Step}
 use Rattle.tp_happen.specs.PlanPrints.{plan_text, step_text, time_text, words_text, end_text}
 use Rattle.tp_happen.specs.TaskWords.{is_durative, readable as told_as}
 use Rattle.tp_validate.specs.OfTask.{is_step_of, IsOfTask}
-use Rattle.tp_ground.specs.Bindings.{Universe}
+use Rattle.tp_ground.specs.Bindings.{Universe, universe_of}
 use Rattle.tp_ground.specs.Written.{GroundBody, condition_in}
 use Rattle.tp_ground.specs.Initially.{initial_in}
-use Rattle.tp_ground.specs.Grounding.{universe_of}
 use Rattle.tp_ground.specs.Reached.{Instance, instances, action_of, happenings_of, is_kept, all_happenings, AreKept}
 use Rattle.tp_same_plans.proofs.OnLists.{get_map, got_in, below, at_index, in_at, words_got, of_filter, in_filter, in_flat_map}
 use Rattle.tp_same_plans.specs.SamePlans.{IsSameStep, AreSameSteps, HaveSamePlans}

@@ -25,11 +25,11 @@ use Rattle.tp_task.specs.Valid.{IsValid}
 use Rattle.tp_happen.specs.declared.plans.Step.{Step}
 use Rattle.tp_happen.specs.TaskWords.{is_durative}
 use Rattle.tp_validate.specs.OfTask.{is_step_of, step_of, planned, plan_of, scale_of, begin, IsValidPlan}
-use Rattle.tp_ground.specs.Bindings.{Universe, Env, bound, bindings}
+use Rattle.tp_ground.specs.Bindings.{Universe, Env, bound, bindings, universe_of}
 use Rattle.tp_ground.specs.Written.{GroundCondition, GroundEffect, GroundLimit, GroundHappening, GroundBody, GroundAction, instant, durative, happening, simple_effects_in, simple_effects_at, condition_in, body_in}
 use Rattle.tp_ground.specs.ReadBack.{named_condition, named_body}
 use Rattle.tp_ground.specs.Initially.{GroundInitial, initial_in, is_initially_true, initial_value, or_else}
-use Rattle.tp_ground.specs.Grounding.{universe_of, ground_action, ground_actions, mentioned, IsTask}
+use Rattle.tp_ground.specs.Grounding.{ground_action, ground_actions, mentioned, IsTask}
 use Rattle.tp_ground.specs.Reached.{Instance, instances, action_of, happenings_of, mentioned_of, IsTaskOf}
 use Rattle.tp_ground.proofs.OnFits.{has_words, simple_effects_ok, simple_effects_at_ok, added_ok, deleted_ok, written_ok}
 use Rattle.tp_ground.proofs.OnInitially.{with_all_distinct}

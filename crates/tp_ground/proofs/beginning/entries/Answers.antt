@@ -2,9 +2,9 @@ use Rattle.std.proofs.Common.{refl}
 use Rattle.tp_ast.specs.DomainViews.{initial_view}
 use Rattle.tp_ast.specs.declared.problem.Initial.{Initial}
 use Rattle.tp_ground.specs.Initially.{initial_in, named_initial, of_initial}
-use Rattle.tp_ground.proofs.Along.{map_next, map_ended}
-use Rattle.tp_ground.proofs.Stopped.{map_stopped}
-use Rattle.tp_ground.proofs.OnLowered.{all_push, all_same}
+use Rattle.tp_bindings.proofs.Along.{map_next, map_ended}
+use Rattle.tp_lower.proofs.Stopped.{map_stopped}
+use Rattle.tp_lower.proofs.OnLowered.{all_push, all_same}
 use Rattle.tp_ground.proofs.beginning.entries.Goals as goal
 
 pub loop-one-preserved : goal.loop-one-preserved

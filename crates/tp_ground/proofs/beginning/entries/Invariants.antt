@@ -1,7 +1,7 @@
 use Rattle.std.proofs.Common.{map, take}
 use Rattle.tp_ast.specs.DomainViews.{initial_view}
 use Rattle.tp_ground.specs.Initially.{initial_in, named_initial, of_initial}
-use Rattle.tp_ground.proofs.OnLowered.{AllLowered}
+use Rattle.tp_lower.proofs.OnLowered.{AllLowered}
 use Rattle.tp_ground.proofs.beginning.entries.Given as goal
 
 abbrev pub invariant-loop-one : goal.invariant-loop-one

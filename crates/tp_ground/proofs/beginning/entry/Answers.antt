@@ -1,5 +1,5 @@
 use Rattle.tp_ground.specs.Initially.{named_initial}
-use Rattle.tp_ground.proofs.OnLowered.{failed}
+use Rattle.tp_lower.proofs.OnLowered.{failed}
 use Rattle.tp_ground.proofs.OnEntries.{holds_stopped, fails_stopped, value_stopped}
 use Rattle.tp_ground.proofs.beginning.entry.Goals as goal
 

@@ -1,11 +1,11 @@
 use Rattle.std.proofs.Common.{map, refl}
 use Rattle.tp_ast.specs.CondViews.{cond_view}
 use Rattle.tp_ast.specs.DomainViews.{action_view}
-use Rattle.tp_ground.specs.Mentions.{of_each}
+use Rattle.tp_lower.specs.Mentions.{of_each}
 use Rattle.tp_ground.specs.Grounding.{ground_actions, of_action}
-use Rattle.tp_ground.specs.Views.{universe_view}
+use Rattle.tp_bindings.specs.Views.{universe_view}
 use Rattle.tp_ground.specs.WrittenTasks.{named_task}
-use Rattle.tp_ground.proofs.OnLowered.{failed}
+use Rattle.tp_lower.proofs.OnLowered.{failed}
 use Rattle.tp_ground.proofs.OnTasks.{entries_stopped, goal_stopped, actions_stopped, task_lowered}
 use Rattle.tp_ground.proofs.grounder.lower.Goals as goal
 

@@ -1,7 +1,7 @@
 use Rattle.std.proofs.Common.{ℕ, [], ap, ◌∙◌}
 use Rattle.tp_ast.specs.DomainViews.{domain_view, problem_view}
 use Rattle.tp_task.specs.Tables.{Tables}
-use Rattle.tp_ground.specs.WriterViews.{WriterView, with_tables}
+use Rattle.tp_lower.specs.WriterViews.{WriterView, with_tables}
 use Rattle.tp_ground.proofs.OnTasks.{few_here, few_atoms, few_fluents, fits_here, named_here, is_task}
 use Rattle.tp_ground.proofs.grounder.made.Goals as goal
 

@@ -1,4 +1,4 @@
-use Rattle.tp_ground.proofs.OnKept.{more_named}
+use Rattle.tp_lower.proofs.OnKept.{more_named}
 use Rattle.tp_ground.proofs.grounder.prepare.Goals as goal
 
 pub returns-clause-lowered : goal.returns-clause-lowered

@@ -3,11 +3,11 @@ use Rattle.std.specs.List.{flat_map}
 use Rattle.std.proofs.lemmas.List.{take_all}
 use Rattle.tp_ast.specs.DomainViews.{action_view}
 use Rattle.tp_ast.specs.declared.action.Action.{Action}
-use Rattle.tp_ground.specs.Views.{universe_view}
-use Rattle.tp_ground.specs.Mentions.{of_each}
+use Rattle.tp_bindings.specs.Views.{universe_view}
+use Rattle.tp_lower.specs.Mentions.{of_each}
 use Rattle.tp_ground.specs.Grounding.{of_action}
-use Rattle.tp_ground.specs.ReadBack.{named_body}
-use Rattle.tp_ground.proofs.OnLowered.{lowered_same, failed}
+use Rattle.tp_lower.specs.ReadBack.{named_body}
+use Rattle.tp_lower.proofs.OnLowered.{lowered_same, failed}
 use Rattle.tp_ground.proofs.OnActions.{every, each_append, each_stopped, bodies_of, bodies_all, mentions_all}
 use Rattle.tp_ground.proofs.grounding.lower_actions.Goals as goal
 

@@ -1,11 +1,11 @@
 use Rattle.std.proofs.Common.{take}
 use Rattle.std.specs.List.{flat_map}
 use Rattle.tp_ast.specs.DomainViews.{action_view}
-use Rattle.tp_ground.specs.Views.{universe_view}
-use Rattle.tp_ground.specs.Mentions.{of_each}
+use Rattle.tp_bindings.specs.Views.{universe_view}
+use Rattle.tp_lower.specs.Mentions.{of_each}
 use Rattle.tp_ground.specs.Grounding.{of_action}
-use Rattle.tp_ground.specs.ReadBack.{named_body}
-use Rattle.tp_ground.specs.Lowered.{IsLowered}
+use Rattle.tp_lower.specs.ReadBack.{named_body}
+use Rattle.tp_lower.specs.Lowered.{IsLowered}
 use Rattle.tp_ground.proofs.OnActions.{every, bodies_of}
 use Rattle.tp_ground.proofs.grounding.lower_actions.Given as goal
 

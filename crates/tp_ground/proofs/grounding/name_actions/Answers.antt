@@ -1,5 +1,5 @@
 use Rattle.std.proofs.Common.{◌∙◌}
-use Rattle.tp_ground.specs.Views.{universe_view}
+use Rattle.tp_bindings.specs.Views.{universe_view}
 use Rattle.tp_ground.proofs.OnGrounding.{named_on}
 use Rattle.tp_ground.proofs.grounding.name_actions.Goals as goal
 

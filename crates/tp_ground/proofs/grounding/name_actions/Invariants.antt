@@ -1,6 +1,6 @@
 use Rattle.std.proofs.Common.{◌≡◌, ◌++◌, map, drop}
 use Rattle.tp_ast.specs.DomainViews.{action_view}
-use Rattle.tp_ground.specs.Views.{universe_view}
+use Rattle.tp_bindings.specs.Views.{universe_view}
 use Rattle.tp_ground.specs.Grounding.{ground_actions}
 use Rattle.tp_ground.proofs.grounding.name_actions.Given as goal
 

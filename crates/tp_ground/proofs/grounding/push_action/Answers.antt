@@ -2,12 +2,12 @@ use Rattle.std.proofs.Common.{List, map, subst}
 use Rattle.tp_ast.specs.Symbols.{typed_view}
 use Rattle.tp_ast.specs.DomainViews.{body_view}
 use Rattle.tp_ast.specs.declared.symbols.Typed.{Typed}
-use Rattle.tp_ground.specs.Appended.{Appends}
-use Rattle.tp_ground.specs.Bindings.{bound, bindings}
-use Rattle.tp_ground.specs.Views.{universe_view}
-use Rattle.tp_ground.specs.Written.{body_in}
-use Rattle.tp_ground.specs.Mentions.{of_body, of_each}
-use Rattle.tp_ground.specs.ReadBack.{named_body}
+use Rattle.tp_lower.specs.Appended.{Appends}
+use Rattle.tp_bindings.specs.Bindings.{bound, bindings}
+use Rattle.tp_bindings.specs.Views.{universe_view}
+use Rattle.tp_lower.specs.Written.{body_in}
+use Rattle.tp_lower.specs.Mentions.{of_body, of_each}
+use Rattle.tp_lower.specs.ReadBack.{named_body}
 use Rattle.tp_ground.proofs.grounding.push_action.Goals as goal
 
 pub returns : goal.returns

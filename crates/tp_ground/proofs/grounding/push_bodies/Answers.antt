@@ -3,14 +3,14 @@ use Rattle.std.proofs.lemmas.List.{take_all}
 use Rattle.tp_ast.specs.Symbols.{Name, typed_view}
 use Rattle.tp_ast.specs.DomainViews.{body_view}
 use Rattle.tp_ast.specs.declared.symbols.Typed.{Typed}
-use Rattle.tp_ground.specs.Bindings.{Env, bindings}
-use Rattle.tp_ground.specs.Rows.{product, Names, lists_of}
-use Rattle.tp_ground.proofs.OnRows.{row_there, within, behind_all}
-use Rattle.tp_ground.specs.Views.{universe_view}
-use Rattle.tp_ground.specs.Written.{body_in}
-use Rattle.tp_ground.specs.Mentions.{of_body, of_each}
-use Rattle.tp_ground.specs.ReadBack.{named_body}
-use Rattle.tp_ground.proofs.OnAppended.{appended_none, appended_same, appends_failed}
+use Rattle.tp_bindings.specs.Bindings.{Env, bindings}
+use Rattle.tp_bindings.specs.Rows.{product, Names, lists_of}
+use Rattle.tp_bindings.proofs.OnRows.{row_there, within, behind_all}
+use Rattle.tp_bindings.specs.Views.{universe_view}
+use Rattle.tp_lower.specs.Written.{body_in}
+use Rattle.tp_lower.specs.Mentions.{of_body, of_each}
+use Rattle.tp_lower.specs.ReadBack.{named_body}
+use Rattle.tp_lower.proofs.OnAppended.{appended_none, appended_same, appends_failed}
 use Rattle.tp_ground.proofs.OnActions.{each_push, each_stopped, plain_env, body_under, mentions_under}
 use Rattle.tp_ground.proofs.grounding.push_bodies.Goals as goal
 

@@ -1,12 +1,12 @@
 use Rattle.std.proofs.Common.{◌≡◌, map, take}
 use Rattle.tp_ast.specs.Symbols.{typed_view}
 use Rattle.tp_ast.specs.DomainViews.{body_view}
-use Rattle.tp_ground.specs.Views.{universe_view}
-use Rattle.tp_ground.specs.Bindings.{bindings}
-use Rattle.tp_ground.specs.Rows.{product, lists_of}
-use Rattle.tp_ground.specs.Mentions.{of_each}
-use Rattle.tp_ground.specs.ReadBack.{named_body}
-use Rattle.tp_ground.specs.Appended.{IsAppended}
+use Rattle.tp_bindings.specs.Views.{universe_view}
+use Rattle.tp_bindings.specs.Bindings.{bindings}
+use Rattle.tp_bindings.specs.Rows.{product, lists_of}
+use Rattle.tp_lower.specs.Mentions.{of_each}
+use Rattle.tp_lower.specs.ReadBack.{named_body}
+use Rattle.tp_lower.specs.Appended.{IsAppended}
 use Rattle.tp_ground.proofs.OnActions.{body_under, mentions_under}
 use Rattle.tp_ground.proofs.grounding.push_bodies.Given as goal
 

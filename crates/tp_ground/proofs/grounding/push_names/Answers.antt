@@ -1,9 +1,9 @@
 use Rattle.std.proofs.Common.{List, [], ◌∷◌, ◌++◌, Bor, Vec, Global, map, take, string_bytes, sym, ap, ap₂, ◌∙◌, append_assoc}
 use Rattle.tp_ast.specs.Symbols.{Name}
 use Rattle.tp_task.specs.Words.{Words}
-use Rattle.tp_ground.specs.Rows.{product, Names, lists_of}
-use Rattle.tp_ground.proofs.Along.{map_next, map_ended}
-use Rattle.tp_ground.proofs.OnRows.{row_there, within, behind_all}
+use Rattle.tp_bindings.specs.Rows.{product, Names, lists_of}
+use Rattle.tp_bindings.proofs.Along.{map_next, map_ended}
+use Rattle.tp_bindings.proofs.OnRows.{row_there, within, behind_all}
 use Rattle.tp_ground.proofs.grounding.push_names.Goals as goal
 
 abbrev all_of : Vec Names Global → List Words

@@ -1,5 +1,5 @@
 use Rattle.std.proofs.Common.{◌≡◌, ◌++◌, ◌∷◌, map, take, string_bytes}
-use Rattle.tp_ground.specs.Rows.{product, lists_of}
+use Rattle.tp_bindings.specs.Rows.{product, lists_of}
 use Rattle.tp_ground.proofs.grounding.push_names.Given as goal
 
 abbrev pub invariant-loop-place : goal.invariant-loop-place

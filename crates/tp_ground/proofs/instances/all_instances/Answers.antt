@@ -4,10 +4,10 @@ use Rattle.std.proofs.lemmas.List.{take_all}
 use Rattle.tp_ast.specs.Symbols.{Name}
 use Rattle.tp_ground.specs.Schemas.{schema_view, is_hinted}
 use Rattle.tp_ground.specs.Reached.{Instance}
-use Rattle.tp_ground.specs.Rows.{product, lists_of}
-use Rattle.tp_ground.specs.Views.{universe_view}
-use Rattle.tp_ground.proofs.Along.{next}
-use Rattle.tp_ground.proofs.OnKnown.{all_there}
+use Rattle.tp_bindings.specs.Rows.{product, lists_of}
+use Rattle.tp_bindings.specs.Views.{universe_view}
+use Rattle.tp_bindings.proofs.Along.{next}
+use Rattle.tp_bindings.proofs.OnKnown.{all_there}
 use Rattle.tp_ground.proofs.OnInstances.{bound_to, instances_of, all_of}
 use Rattle.tp_ground.proofs.instances.all_instances.Goals as goal
 

@@ -4,7 +4,7 @@ use Rattle.std.specs.List.{filter, list_all}
 use Rattle.tp_ground.specs.Schemas.{is_hinted}
 use Rattle.tp_ground.specs.Instances.{instance_view, has_hints}
 use Rattle.tp_ground.specs.declared.instances.Instance.{Instance}
-use Rattle.tp_ground.proofs.OnKnown.{all_and, all_there}
+use Rattle.tp_bindings.proofs.OnKnown.{all_and, all_there}
 use Rattle.tp_ground.proofs.OnInstances.{item_at, taken, passed}
 use Rattle.tp_ground.proofs.instances.flagged.Goals as goal
 use Rattle.tp_ground.proofs.instances.flagged.Goals.{then-flags-place+in_ok-copy_of+in_ok-push, else-flags-place}

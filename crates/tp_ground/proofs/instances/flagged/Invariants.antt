@@ -2,7 +2,7 @@ use Rattle.std.proofs.Common.{◌≡◌, Bool, true, map, filter, take}
 use Rattle.std.specs.List.{list_all}
 use Rattle.tp_ground.specs.Reached.{Instance}
 use Rattle.tp_ground.specs.Instances.{instance_view, has_hints}
-use Rattle.tp_ground.specs.declared.objects.Universe.{Universe}
+use Rattle.tp_bindings.specs.declared.objects.Universe.{Universe}
 use Rattle.tp_ground.proofs.instances.flagged.Given as goal
 
 abbrev pub invariant-loop-place : goal.invariant-loop-place

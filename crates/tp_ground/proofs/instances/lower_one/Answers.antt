@@ -2,12 +2,12 @@ use Rattle.std.proofs.Common.{List, Bor, map, subst}
 use Rattle.tp_ast.specs.Symbols.{Name, typed_view}
 use Rattle.tp_ast.specs.declared.symbols.Typed.{Typed}
 use Rattle.tp_ast.specs.DomainViews.{body_view}
-use Rattle.tp_ground.specs.Bindings.{bound}
-use Rattle.tp_ground.specs.Views.{universe_view}
-use Rattle.tp_ground.specs.Written.{body_in}
-use Rattle.tp_ground.specs.Mentions.{of_body}
-use Rattle.tp_ground.specs.ReadBack.{named_body}
-use Rattle.tp_ground.specs.Lowered.{Lowers}
+use Rattle.tp_bindings.specs.Bindings.{bound}
+use Rattle.tp_bindings.specs.Views.{universe_view}
+use Rattle.tp_lower.specs.Written.{body_in}
+use Rattle.tp_lower.specs.Mentions.{of_body}
+use Rattle.tp_lower.specs.ReadBack.{named_body}
+use Rattle.tp_lower.specs.Lowered.{Lowers}
 use Rattle.tp_ground.proofs.instances.lower_one.Goals as goal
 
 pub returns : goal.returns

@@ -1,11 +1,11 @@
 use Rattle.std.proofs.Common.{map, refl, subst}
 use Rattle.tp_ast.specs.DomainViews.{body_view}
-use Rattle.tp_ground.specs.Bindings.{Env}
-use Rattle.tp_ground.specs.Views.{universe_view}
-use Rattle.tp_ground.specs.Written.{body_in}
-use Rattle.tp_ground.specs.Mentions.{of_body}
-use Rattle.tp_ground.specs.ReadBack.{named_body}
-use Rattle.tp_ground.specs.Lowered.{Lowers}
+use Rattle.tp_bindings.specs.Bindings.{Env}
+use Rattle.tp_bindings.specs.Views.{universe_view}
+use Rattle.tp_lower.specs.Written.{body_in}
+use Rattle.tp_lower.specs.Mentions.{of_body}
+use Rattle.tp_lower.specs.ReadBack.{named_body}
+use Rattle.tp_lower.specs.Lowered.{Lowers}
 use Rattle.tp_ground.proofs.OnActions.{plain_env}
 use Rattle.tp_ground.proofs.instances.lower_under.Goals as goal
 

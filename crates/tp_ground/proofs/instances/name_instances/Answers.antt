@@ -6,7 +6,7 @@ use Rattle.tp_task.specs.Words.{Words}
 use Rattle.tp_ground.specs.Reached as reached
 use Rattle.tp_ground.specs.Instances.{instance_view}
 use Rattle.tp_ground.specs.declared.instances.Instance.{Instance}
-use Rattle.tp_ground.proofs.Along.{map_next}
+use Rattle.tp_bindings.proofs.Along.{map_next}
 use Rattle.tp_ground.proofs.instances.name_instances.Goals as goal
 
 abbrev words_of : Instance → Words

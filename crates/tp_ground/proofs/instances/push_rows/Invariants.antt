@@ -1,9 +1,9 @@
 use Rattle.std.proofs.Common.{◌≡◌, true, ◌++◌, map, take}
 use Rattle.std.specs.List.{list_all}
 use Rattle.tp_ground.specs.Schemas.{schema_view, is_hinted}
-use Rattle.tp_ground.specs.Rows.{product, lists_of}
+use Rattle.tp_bindings.specs.Rows.{product, lists_of}
 use Rattle.tp_ground.specs.Instances.{instance_view, has_hints}
-use Rattle.tp_ground.specs.declared.objects.Universe.{Universe}
+use Rattle.tp_bindings.specs.declared.objects.Universe.{Universe}
 use Rattle.tp_ground.proofs.OnInstances.{bound_to}
 use Rattle.tp_ground.proofs.instances.push_rows.Given as goal
 

@@ -4,8 +4,7 @@ use Rattle.std.proofs.lemmas.List.{map-append}
 use Rattle.tp_ast.specs.Symbols.{Name}
 use Rattle.tp_ast.specs.Actions.{Action}
 use Rattle.tp_task.specs.Words.{Words}
-use Rattle.tp_ground.specs.Bindings.{Universe, bindings}
-use Rattle.tp_ground.specs.Grounding.{universe_of}
+use Rattle.tp_bindings.specs.Bindings.{Universe, bindings, universe_of}
 use Rattle.tp_ground.specs.Reached.{Instance, instances, action_of, is_kept}
 use Rattle.tp_task.specs.Readable.{AreReadable}
 use Rattle.tp_ground.proofs.OnSpelled.{spelled_names}

@@ -1,5 +1,5 @@
 use Rattle.std.proofs.Common.{◌≡◌}
-use Rattle.tp_ground.specs.Views.{universe_view}
+use Rattle.tp_bindings.specs.Views.{universe_view}
 use Rattle.tp_ground.proofs.reached.ask_for_room.Given as goal
 
 abbrev pub invariant-loop-action : goal.invariant-loop-action

@@ -3,9 +3,9 @@ use Rattle.std.specs.List.{list_all}
 use Rattle.std.proofs.lemmas.Result.{IfOk-weaker}
 use Rattle.tp_ast.specs.DomainViews.{problem_view}
 use Rattle.tp_reach.specs.Rounds.{adds_fit}
-use Rattle.tp_ground.specs.Views.{universe_view}
+use Rattle.tp_bindings.specs.Views.{universe_view}
 use Rattle.tp_ground.specs.Instances.{instance_view, AreReached}
-use Rattle.tp_ground.specs.WriterViews.{WriterView}
+use Rattle.tp_lower.specs.WriterViews.{WriterView}
 use Rattle.tp_ground.proofs.OnFlags.{adds_there, flags_of}
 use Rattle.tp_ground.proofs.reached.flags_of.Goals as goal
 

@@ -2,7 +2,7 @@ use Rattle.std.proofs.Common.{◌≡◌, Bool, List, map, filter, ap, subst, ◌
 use Rattle.std.specs.List.{list_all}
 use Rattle.std.proofs.lemmas.Result.{IfOk-weaker}
 use Rattle.tp_ast.specs.DomainViews.{problem_view}
-use Rattle.tp_ground.specs.Views.{universe_view}
+use Rattle.tp_bindings.specs.Views.{universe_view}
 use Rattle.tp_ground.specs.Initially.{initial_in}
 use Rattle.tp_ground.specs.Reached.{Instance}
 use Rattle.tp_ground.specs.Schemas.{schema_view}

@@ -2,11 +2,11 @@ use Rattle.std.proofs.Common.{ℕ, ◌≤◌, [], map, sym, ap, subst, ◌∙◌
 use Rattle.std.proofs.lemmas.List.{length-map}
 use Rattle.tp_ast.specs.DomainViews.{domain_view, problem_view}
 use Rattle.tp_task.specs.Tables.{Tables}
-use Rattle.tp_ground.specs.Bindings.{Universe}
-use Rattle.tp_ground.specs.Lowered.{IsLowered}
+use Rattle.tp_bindings.specs.Bindings.{Universe}
+use Rattle.tp_lower.specs.Lowered.{IsLowered}
 use Rattle.tp_ground.specs.Instances.{instance_view, of_task_with, written_with}
 use Rattle.tp_ground.specs.WrittenTasks.{named_task}
-use Rattle.tp_ground.specs.WriterViews.{WriterView, with_tables}
+use Rattle.tp_lower.specs.WriterViews.{WriterView, with_tables}
 use Rattle.tp_ground.proofs.OnTasks.{few_some, fits_some, named_some, is_task_of}
 use Rattle.tp_ground.proofs.reached.task_with.Goals as goal
 

@@ -1,0 +1,9 @@
+pub mod OnVariables
+pub mod OnEnvironments
+pub mod OnBindings
+pub mod OnObjects
+pub mod Along
+pub mod OnKnown
+pub mod OnRows
+pub mod OnListed
+pub mod OnHints

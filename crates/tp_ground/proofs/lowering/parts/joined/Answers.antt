@@ -1,5 +1,0 @@
-use Rattle.tp_ground.proofs.OnAppended.{appended_whole}
-use Rattle.tp_ground.proofs.lowering.parts.joined.Goals as goal
-
-pub returns : goal.returns
-returns g c = appended_whole g.P.Lowerable.named _ _ _ _ _ _ c.in_ok-lowered.ensures.items c.in_ok-push_part.ensures

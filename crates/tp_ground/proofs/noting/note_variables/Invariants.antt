@@ -1,6 +1,0 @@
-use Rattle.std.proofs.Common.{◌≡◌}
-use Rattle.tp_ground.specs.Views.{universe_view}
-use Rattle.tp_ground.proofs.noting.note_variables.Given as goal
-
-abbrev pub invariant-loop-place : goal.invariant-loop-place
-invariant-loop-place l = universe_view l.universe ≡ universe_view l.initial.universe

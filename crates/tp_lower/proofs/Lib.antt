@@ -1,0 +1,11 @@
+pub mod OnLowered
+pub mod OnAppended
+pub mod OnTerms
+pub mod OnKept
+pub mod OnExpressions
+pub mod OnEvents
+pub mod OnConditions
+pub mod OnInner
+pub mod OnPartLists
+pub mod OnBodies
+pub mod Stopped

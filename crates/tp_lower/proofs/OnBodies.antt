@@ -1,0 +1,101 @@
+-- Events and bodies of what was numbered one after another.
+use Rattle.std.proofs.Common.{◌≡◌, List, [], map, Result, IsErrAnd, Vec, Global, refl, sym, ap, subst, ◌∙◌}
+use Rattle.tp_ast.specs.ConstraintViews.{constraint_view}
+use Rattle.tp_ast.specs.EffectViews.{timed_condition_view, timed_effect_view}
+use Rattle.tp_ast.specs.DomainViews.{body_view}
+use Rattle.tp_ast.specs.declared.constraint.DurationRule.{DurationRule}
+use Rattle.tp_ast.specs.declared.joined.Joined.{Joined}
+use Rattle.tp_ast.specs.declared.timed.Timed.{Timed}
+use Rattle.tp_ast.specs.declared.effect.SimpleEffect.{SimpleEffect}
+use Rattle.tp_ast.specs.declared.cond.Cond as syntax_conds
+use Rattle.tp_ast.specs.declared.action.Body as syntax
+use Rattle.tp_ast.specs.declared.action.Body.TheVariants as bodies
+use Rattle.tp_ast.specs.declared.words.TimeSpecifier.TheVariants.{OverAll}
+use Rattle.tp_lower.specs.WriterViews.{WriterView}
+use Rattle.tp_bindings.specs.Bindings.{Universe, Env}
+use Rattle.tp_task.specs.Tables.{Tables}
+use Rattle.tp_lower.specs.Written.{GroundCondition, GroundEffect, GroundLimit, GroundHappening, instant, durative, happening, condition_at, start_in, end_in, body_in}
+use Rattle.tp_lower.specs.Mentions.{Mentions, ◌then◌, of_condition, of_simple_effect, of_limit, of_each, of_start, of_end, of_body}
+use Rattle.tp_lower.specs.ReadBack.{named_condition, named_limit, named_event, named_body}
+use Rattle.tp_lower.specs.NumberedEffects.{named_simple_effect}
+use Rattle.tp_lower.specs.NumberedEnds.{named_ends}
+use Rattle.tp_lower.specs.declared.bodies.Ends.{Ends}
+use Rattle.tp_lower.specs.Lowered.{Notes, IsLowered, Overflows, Lowers}
+use Rattle.tp_task.specs.declared.fault.GroundFault.{GroundFault}
+use Rattle.tp_task.specs.declared.events.Cond.{Cond}
+use Rattle.tp_task.specs.declared.events.Limit.{Limit}
+use Rattle.tp_task.specs.declared.events.GroundEvent.{GroundEvent}
+use Rattle.tp_task.specs.declared.events.Body.{Body}
+use Rattle.tp_task.specs.declared.events.Body.TheVariants.{Instant, Durative}
+use Rattle.tp_lower.specs.declared.effects.NumberedEffect.{NumberedEffect}
+use Rattle.tp_lower.proofs.OnLowered.{AllLowered, failed, notes_then, overflows_first, overflows_then, lowered_as, lowered_both}
+
+-- a fault at the first, the second or the third of three
+module _ (a : WriterView) (m n k : Mentions) (f : GroundFault) where
+  pub at_first : Overflows a m f → Overflows a (m then n then k) f
+  at_first h = overflows_first a (m then n) k f (overflows_first a m n f h)
+
+  pub at_second : (b : WriterView) → Notes a b m → Overflows b n f → Overflows a (m then n then k) f
+  at_second b l h = overflows_first a (m then n) k f (overflows_then a b m n f l h)
+
+  pub at_third : (b d : WriterView) → Notes a b m → Notes b d n → Overflows d k f → Overflows a (m then n then k) f
+  at_third b d l g h = overflows_then a d (m then n) k f (notes_then a b d m n l g) h
+
+-- a condition and simple effects
+abbrev named_pair : Tables → Cond × Vec NumberedEffect Global → GroundCondition × List GroundEffect
+named_pair t p = (named_condition t p.0, map (named_simple_effect t) p.1.items)
+
+abbrev with_constraint : GroundCondition × List GroundEffect → List GroundLimit → GroundHappening
+with_constraint p ls = happening p.0 p.1 ls
+
+abbrev pub Assembled : GroundEvent → Cond → List NumberedEffect → List Limit → Type 0
+Assembled e c os ls = (t : Tables) → named_event t e ≡ happening (named_condition t c) (map (named_simple_effect t) os) (map (named_limit t) ls)
+
+module _ (a b d : WriterView) (c : Cond) (os : Vec NumberedEffect Global) (e : GroundEvent) (cond : GroundCondition) (outs : List GroundEffect) (l : IsLowered named_condition a b c cond (of_condition cond)) (k : AllLowered named_simple_effect of_simple_effect b d os outs) where
+  pair_lowered : IsLowered named_pair a d (c, os) (cond, outs) (of_condition cond then of_each of_simple_effect outs)
+  pair_lowered = lowered_both (λ (p : GroundCondition) (q : List GroundEffect). (p, q)) (c, os) (λ t. refl) l k
+
+  pub start_lowered : (w : WriterView) (ls : Vec Limit Global) (limits : List GroundLimit) → AllLowered named_limit of_limit d w ls limits → Assembled e c os.items ls.items → IsLowered named_event a w e (happening cond outs limits) (of_condition cond then of_each of_simple_effect outs then of_each of_limit limits)
+  start_lowered w ls limits g h = lowered_both with_constraint e (λ t. h t) pair_lowered g
+
+  pub plain_lowered : (ls : List Limit) → ls ≡ [] → Assembled e c os.items ls → IsLowered named_event a d e (happening cond outs []) (of_condition cond then of_each of_simple_effect outs)
+  plain_lowered ls none h = lowered_as (λ (p : GroundCondition × List GroundEffect). with_constraint p []) e (λ t. h t ∙ ap (λ (zs : List Limit). happening (named_condition t c) (map (named_simple_effect t) os.items) (map (named_limit t) zs)) none) pair_lowered
+
+-- a start and an end, one after the other
+module _ (a b c : WriterView) (start end : GroundHappening) (m n : Mentions) where
+  pub start_stopped : (res : Result Ends GroundFault) (e : GroundFault) → IsErrAnd res (λ g. g ≡ e) → Overflows a m e → Lowers named_ends a res c (start, end) (m then n)
+  start_stopped res e err h = failed named_ends a c (start, end) (m then n) res e err (overflows_first a m n e h)
+
+  pub end_stopped : (res : Result Ends GroundFault) (e : GroundFault) → IsErrAnd res (λ g. g ≡ e) → Notes a b m → Overflows b n e → Lowers named_ends a res c (start, end) (m then n)
+  end_stopped res e err l h = failed named_ends a c (start, end) (m then n) res e err (overflows_then a b m n e l h)
+
+  pub ends_lowered : (first last : GroundEvent) (x : Ends) → x ≡ record { first = first; last = last } → IsLowered named_event a b first start m → IsLowered named_event b c last end n → IsLowered named_ends a c x (start, end) (m then n)
+  ends_lowered first last x is l k = subst (λ y. IsLowered named_ends a c y (start, end) (m then n)) (sym is) (lowered_both (λ (p q : GroundHappening). (p, q)) (record { first = first; last = last }) (λ t. refl) l k)
+
+pub instant_lowered : (a b : WriterView) (e : GroundEvent) (h : GroundHappening) (m : Mentions) → IsLowered named_event a b e h m → IsLowered named_body a b (Instant e) (instant h) m
+instant_lowered a b e h m l = lowered_as instant (Instant e) (λ t. refl) l
+
+-- a durative action, its ends and its invariant numbered one after another
+module _ (u : Universe) (env : Env) (x : syntax.Body) (r : DurationRule) (c : Joined (Timed syntax_conds.Cond)) (f : Joined (Timed (Joined SimpleEffect))) (is : x ≡ bodies.Durative r c f) where
+  abbrev of_ends : Mentions
+  of_ends = of_start u env (constraint_view r) (timed_condition_view c) (timed_effect_view f) then of_end u env (timed_condition_view c) (timed_effect_view f)
+
+  abbrev of_between : Mentions
+  of_between = of_condition (condition_at u OverAll env (timed_condition_view c))
+
+  abbrev both_ends : GroundHappening × GroundHappening
+  both_ends = (start_in u env (constraint_view r) (timed_condition_view c) (timed_effect_view f), end_in u env (timed_condition_view c) (timed_effect_view f))
+
+  stopped : (a b : WriterView) (res : Result Body GroundFault) (e : GroundFault) → IsErrAnd res (λ g. g ≡ e) → Overflows a (of_ends then of_between) e → Lowers named_body a res b (body_in u env (body_view x)) (of_body u env (body_view x))
+  stopped a b res e err h = failed named_body a b (body_in u env (body_view x)) (of_body u env (body_view x)) res e err (subst (λ y. Overflows a (of_body u env (body_view y)) e) (sym is) h)
+
+  pub ends_stopped : (a b : WriterView) (res : Result Body GroundFault) (e : GroundFault) → IsErrAnd res (λ g. g ≡ e) → Overflows a of_ends e → Lowers named_body a res b (body_in u env (body_view x)) (of_body u env (body_view x))
+  ends_stopped a b res e err h = stopped a b res e err (overflows_first a of_ends of_between e h)
+
+  pub between_stopped : (a b d : WriterView) (res : Result Body GroundFault) (e : GroundFault) → IsErrAnd res (λ g. g ≡ e) → Notes a d of_ends → Overflows d of_between e → Lowers named_body a res b (body_in u env (body_view x)) (of_body u env (body_view x))
+  between_stopped a b d res e err l h = stopped a b res e err (overflows_then a d of_ends of_between e l h)
+
+  pub whole_lowered : (a b d : WriterView) (ends : Ends) (between : Cond) → IsLowered named_ends a d ends both_ends of_ends → IsLowered named_condition d b between (condition_at u OverAll env (timed_condition_view c)) of_between → IsLowered named_body a b (Durative ends.first ends.last between) (body_in u env (body_view x)) (of_body u env (body_view x))
+  whole_lowered a b d ends between l h =
+      subst (λ y. IsLowered named_body a b (Durative ends.first ends.last between) (body_in u env (body_view y)) (of_body u env (body_view y))) (sym is)
+      (lowered_both (λ (p : GroundHappening × GroundHappening) (q : GroundCondition). durative p.0 p.1 q) (Durative ends.first ends.last between) (λ t. refl) l h)

@@ -1,0 +1,24 @@
+use Rattle.tp_ast.specs.EffectViews.{timed_condition_view, timed_effect_view}
+use Rattle.tp_ast.specs.declared.words.TimeSpecifier.TheVariants.{AtEnd}
+use Rattle.tp_bindings.specs.Views.{env_view, universe_view}
+use Rattle.tp_lower.specs.Written.{condition_at, simple_effects_at}
+use Rattle.tp_lower.specs.Mentions.{of_condition, of_simple_effect, of_each}
+use Rattle.tp_lower.specs.ReadBack.{named_event}
+use Rattle.tp_lower.proofs.OnLowered.{failed, overflows_first, overflows_then}
+use Rattle.tp_lower.proofs.OnBodies.{plain_lowered}
+use Rattle.tp_lower.proofs.bodies.end.Goals as goal
+
+pub returns-in_err-condition : goal.returns-in_err-condition
+returns-in_err-condition c =
+    let u = universe_view c.args.universe.now in
+    let env = env_view c.args.env.now in
+    failed named_event _ _ _ _ _ _ c.from_residual.ensures.1 (overflows_first c.args.writer.now (of_condition (condition_at u AtEnd env (timed_condition_view c.args.condition.now))) (of_each of_simple_effect (simple_effects_at u AtEnd env (timed_effect_view c.args.effect.now))) _ c.in_err-condition.ensures)
+
+pub returns-in_err-simple_effects : goal.returns-in_err-simple_effects
+returns-in_err-simple_effects c =
+    let u = universe_view c.args.universe.now in
+    let env = env_view c.args.env.now in
+    failed named_event _ _ _ _ _ _ c.from_residual-in_err-simple_effects.ensures.1 (overflows_then _ _ (of_condition (condition_at u AtEnd env (timed_condition_view c.args.condition.now))) (of_each of_simple_effect (simple_effects_at u AtEnd env (timed_effect_view c.args.effect.now))) _ c.in_ok-condition.ensures.notes c.in_err-simple_effects.ensures)
+
+pub returns : goal.returns
+returns c = plain_lowered _ _ _ _ _ _ _ _ c.in_ok-condition.ensures c.in_ok-simple_effects.ensures _ c.new.ensures.items c.in_ok-event.ensures

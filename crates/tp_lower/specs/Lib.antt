@@ -1,0 +1,9 @@
+pub mod Written
+pub mod Mentions
+pub mod ReadBack
+pub mod WriterViews
+pub mod Lowered
+pub mod Appended
+pub mod Kept
+pub mod NumberedEffects
+pub mod NumberedEnds

@@ -1,0 +1,306 @@
+//! The bodies of actions.
+
+ghost use Rattle.std.specs.Prelude.{◌≡◌, [], map, true, IfOk};
+ghost use Rattle.tp_ast.specs.CondViews.{cond_view};
+ghost use Rattle.tp_ast.specs.ConstraintViews.{constraint_view};
+ghost use Rattle.tp_ast.specs.EffectViews.{effect_view, timed_condition_view, timed_effect_view};
+ghost use Rattle.tp_ast.specs.DomainViews.{body_view};
+ghost use Rattle.tp_ast.specs.Actions.{durative};
+ghost use Rattle.tp_bindings.specs.Views.{env_view, universe_view};
+ghost use Rattle.tp_task.specs.Tables.{Tables};
+ghost use Rattle.tp_lower.specs.Written.{happening, condition_at, start_in, end_in, instant_in, body_in};
+ghost use Rattle.tp_lower.specs.Mentions.{◌then◌, of_condition, of_start, of_end, of_instant, of_body};
+ghost use Rattle.tp_lower.specs.ReadBack.{named_condition, named_limit, named_event, named_body};
+ghost use Rattle.tp_lower.specs.NumberedEnds.{named_ends};
+ghost use Rattle.tp_lower.specs.NumberedEffects.{named_simple_effect, AreSplit};
+ghost use Rattle.tp_lower.specs.Lowered.{Lowers};
+ghost use Rattle.tp_bindings.specs.Hints.{fits, if_known, joined_fits, nothing_fits, timed_condition_fits, timed_effect_fits, body_fits};
+
+use crate::conditions::condition;
+use crate::constraints::limits;
+use crate::effects::NumberedEffect;
+use crate::parts::joined;
+use crate::writer::Writer;
+use std::alloc::{AllocError, Global};
+use tp_ast::constraint::DurationRule;
+use tp_ast::effect::Effect;
+use tp_ast::timed::{TimedCond, TimedEffect};
+use tp_ast::words::TimeSpecifier;
+use tp_ast::words::TimeSpecifier::{AtEnd, AtStart, OverAll};
+use tp_bindings::environment::Env;
+use tp_bindings::hints::{BodyHint, Hint};
+use tp_bindings::universe::Universe;
+use tp_task::{Body, Cond, GroundEvent, GroundFault, Limit, NumericEffect};
+
+// The adds, the deletes and the writes among simple effects.
+struct Changes {
+    adds: Vec<u32>,
+    deletes: Vec<u32>,
+    writes: Vec<NumericEffect>,
+}
+
+// For how many writes there is to be room.
+fn count_writes(simple_effects: &[NumberedEffect]) -> usize {
+    let mut count = 0usize;
+    for simple_effect in simple_effects {
+        if let NumberedEffect::Write(_) = simple_effect {
+            count = count.saturating_add(1);
+        }
+    }
+    count
+}
+
+fn split(alloc: Global, simple_effects: Vec<NumberedEffect>) -> Result<Changes, AllocError>
+    ensures { IfOk result
+        (λ s. AreSplit simple_effects.items s.adds.items s.deletes.items s.writes.items) }
+{
+    let mut adds = Vec::new(alloc);
+    let mut deletes = Vec::new(alloc);
+    let mut writes = Vec::with_capacity(alloc, count_writes(&simple_effects))?;
+    for simple_effect in simple_effects {
+        match simple_effect {
+            NumberedEffect::Add(atom) => adds.push(atom)?,
+            NumberedEffect::Delete(atom) => deletes.push(atom)?,
+            NumberedEffect::Write(write) => writes.push(write)?,
+        }
+    }
+    Ok(Changes {
+        adds,
+        deletes,
+        writes,
+    })
+}
+
+// The event of these simple effects.
+fn event(
+    alloc: Global,
+    condition: Cond,
+    simple_effects: Vec<NumberedEffect>,
+    constraint: Vec<Limit>,
+) -> Result<GroundEvent, AllocError>
+    ensures { IfOk result
+        (λ e. (t : Tables) → named_event t e ≡ happening (named_condition t condition)
+        (map (named_simple_effect t) simple_effects.items) (map (named_limit t) constraint.items)) }
+{
+    let Changes {
+        adds,
+        deletes,
+        writes,
+    } = split(alloc, simple_effects)?;
+    Ok(GroundEvent {
+        condition,
+        adds,
+        deletes,
+        writes,
+        constraint,
+    })
+}
+
+// The conjuncts of a durative action's condition at a specifier.
+fn condition_at<'a>(
+    alloc: Global,
+    universe: &Universe<'a>,
+    env: &Env<'_, 'a>,
+    specifier: TimeSpecifier,
+    writer: &mut Writer<'a>,
+    condition: &'a TimedCond,
+    hint: Option<&Hint>,
+) -> Result<Cond, GroundFault>
+    requires of_universe { universe_view universe.now ≡ writer.old.universe }
+    requires fit { if_known (joined_fits universe.now (timed_condition_fits universe.now)) hint
+        (timed_condition_view condition.now) ≡ true }
+    ensures { Lowers named_condition writer.old result writer.new (condition_at
+        (universe_view universe.now) specifier (env_view env.now)
+        (timed_condition_view condition.now))
+        (of_condition (condition_at (universe_view universe.now) specifier
+        (env_view env.now) (timed_condition_view condition.now))) }
+{
+    Ok(Cond::And(joined(alloc, universe, env, specifier, writer, condition, hint)?))
+}
+
+fn start<'a>(
+    alloc: Global,
+    universe: &Universe<'a>,
+    env: &Env<'_, 'a>,
+    writer: &mut Writer<'a>,
+    duration: &'a DurationRule,
+    condition: &'a TimedCond,
+    effect: &'a TimedEffect,
+    hints: &BodyHint,
+) -> Result<GroundEvent, GroundFault>
+    requires of_universe { universe_view universe.now ≡ writer.old.universe }
+    requires condition { joined_fits universe.now (timed_condition_fits universe.now)
+        hints.now.condition (timed_condition_view condition.now) ≡ true }
+    requires effect { joined_fits universe.now (timed_effect_fits universe.now)
+        hints.now.effect (timed_effect_view effect.now) ≡ true }
+    ensures { Lowers named_event writer.old result writer.new
+        (start_in (universe_view universe.now) (env_view env.now) (constraint_view duration.now)
+        (timed_condition_view condition.now) (timed_effect_view effect.now))
+        (of_start (universe_view universe.now) (env_view env.now) (constraint_view duration.now)
+        (timed_condition_view condition.now) (timed_effect_view effect.now)) }
+{
+    let known = Some(&hints.condition);
+    let condition = condition_at(alloc, universe, env, AtStart, writer, condition, known)?;
+    let known = Some(&hints.effect);
+    let simple_effects = joined(alloc, universe, env, AtStart, writer, effect, known)?;
+    let constraint = limits(alloc, env, writer, duration)?;
+    Ok(event(alloc, condition, simple_effects, constraint)?)
+}
+
+fn end<'a>(
+    alloc: Global,
+    universe: &Universe<'a>,
+    env: &Env<'_, 'a>,
+    writer: &mut Writer<'a>,
+    condition: &'a TimedCond,
+    effect: &'a TimedEffect,
+    hints: &BodyHint,
+) -> Result<GroundEvent, GroundFault>
+    requires of_universe { universe_view universe.now ≡ writer.old.universe }
+    requires condition { joined_fits universe.now (timed_condition_fits universe.now)
+        hints.now.condition (timed_condition_view condition.now) ≡ true }
+    requires effect { joined_fits universe.now (timed_effect_fits universe.now)
+        hints.now.effect (timed_effect_view effect.now) ≡ true }
+    ensures { Lowers named_event writer.old result writer.new
+        (end_in (universe_view universe.now) (env_view env.now) (timed_condition_view condition.now)
+        (timed_effect_view effect.now)) (of_end (universe_view universe.now)
+        (env_view env.now) (timed_condition_view condition.now) (timed_effect_view effect.now)) }
+{
+    let known = Some(&hints.condition);
+    let condition = condition_at(alloc, universe, env, AtEnd, writer, condition, known)?;
+    let known = Some(&hints.effect);
+    let simple_effects = joined(alloc, universe, env, AtEnd, writer, effect, known)?;
+    Ok(event(alloc, condition, simple_effects, Vec::new(alloc))?)
+}
+
+fn instant<'a>(
+    alloc: Global,
+    universe: &Universe<'a>,
+    env: &Env<'_, 'a>,
+    writer: &mut Writer<'a>,
+    precondition: &'a tp_ast::cond::Cond,
+    effect: &'a Effect,
+    hints: &BodyHint,
+) -> Result<GroundEvent, GroundFault>
+    requires of_universe { universe_view universe.now ≡ writer.old.universe }
+    requires condition { fits universe.now hints.now.condition (cond_view precondition.now)
+        ≡ true }
+    requires effect { joined_fits universe.now (nothing_fits universe.now) hints.now.effect
+        (effect_view effect.now) ≡ true }
+    ensures { Lowers named_event writer.old result writer.new
+        (instant_in (universe_view universe.now) (env_view env.now) (cond_view precondition.now)
+        (effect_view effect.now)) (of_instant (universe_view universe.now)
+        (env_view env.now) (cond_view precondition.now) (effect_view effect.now)) }
+{
+    let known = Some(&hints.condition);
+    let condition = condition(alloc, universe, env, writer, precondition, known)?;
+    let known = Some(&hints.effect);
+    let simple_effects = joined(alloc, universe, env, AtStart, writer, effect, known)?;
+    Ok(event(alloc, condition, simple_effects, Vec::new(alloc))?)
+}
+
+// A start and an end.
+#[derive(Drop)]
+struct Ends {
+    first: GroundEvent,
+    last: GroundEvent,
+}
+
+fn ends_of<'a>(
+    alloc: Global,
+    universe: &Universe<'a>,
+    env: &Env<'_, 'a>,
+    writer: &mut Writer<'a>,
+    duration: &'a DurationRule,
+    condition: &'a TimedCond,
+    effect: &'a TimedEffect,
+    hints: &BodyHint,
+) -> Result<Ends, GroundFault>
+    requires of_universe { universe_view universe.now ≡ writer.old.universe }
+    requires condition { joined_fits universe.now (timed_condition_fits universe.now)
+        hints.now.condition (timed_condition_view condition.now) ≡ true }
+    requires effect { joined_fits universe.now (timed_effect_fits universe.now)
+        hints.now.effect (timed_effect_view effect.now) ≡ true }
+    ensures { Lowers named_ends writer.old result writer.new (
+      start_in (universe_view universe.now) (env_view env.now) (constraint_view duration.now)
+          (timed_condition_view condition.now) (timed_effect_view effect.now),
+      end_in (universe_view universe.now) (env_view env.now) (timed_condition_view condition.now)
+          (timed_effect_view effect.now),
+    ) (of_start (universe_view universe.now) (env_view env.now)
+        (constraint_view duration.now) (timed_condition_view condition.now)
+        (timed_effect_view effect.now)
+        then of_end (universe_view universe.now)
+        (env_view env.now) (timed_condition_view condition.now) (timed_effect_view effect.now)) }
+{
+    let first = start(
+        alloc, universe, env, writer, duration, condition, effect, hints,
+    )?;
+    let last = end(alloc, universe, env, writer, condition, effect, hints)?;
+    Ok(Ends { first, last })
+}
+
+// A start, an end, and what holds between them.
+fn durative<'a>(
+    alloc: Global,
+    universe: &Universe<'a>,
+    env: &Env<'_, 'a>,
+    writer: &mut Writer<'a>,
+    duration: &'a DurationRule,
+    condition: &'a TimedCond,
+    effect: &'a TimedEffect,
+    hints: &BodyHint,
+) -> Result<Body, GroundFault>
+    requires of_universe { universe_view universe.now ≡ writer.old.universe }
+    requires condition { joined_fits universe.now (timed_condition_fits universe.now)
+        hints.now.condition (timed_condition_view condition.now) ≡ true }
+    requires effect { joined_fits universe.now (timed_effect_fits universe.now)
+        hints.now.effect (timed_effect_view effect.now) ≡ true }
+    ensures { Lowers named_body writer.old result writer.new
+        (body_in (universe_view universe.now) (env_view env.now)
+        (durative (constraint_view duration.now)
+        (timed_condition_view condition.now) (timed_effect_view effect.now)))
+        (of_body (universe_view universe.now) (env_view env.now)
+        (durative (constraint_view duration.now)
+        (timed_condition_view condition.now) (timed_effect_view effect.now))) }
+{
+    let ends = ends_of(
+        alloc, universe, env, writer, duration, condition, effect, hints,
+    )?;
+    let known = Some(&hints.condition);
+    let between = condition_at(alloc, universe, env, OverAll, writer, condition, known)?;
+    Ok(Body::Durative(ends.first, ends.last, between))
+}
+
+/// The body of an action, under a binding of its parameters.
+pub fn body<'a>(
+    alloc: Global,
+    universe: &Universe<'a>,
+    env: &Env<'_, 'a>,
+    writer: &mut Writer<'a>,
+    body: &'a tp_ast::action::Body,
+    hints: &BodyHint,
+) -> Result<Body, GroundFault>
+    requires of_universe { universe_view universe.now ≡ writer.old.universe }
+    requires fit { body_fits universe.now hints.now (body_view body.now) ≡ true }
+    ensures { Lowers named_body writer.old result writer.new
+        (body_in (universe_view universe.now) (env_view env.now) (body_view body.now))
+        (of_body (universe_view universe.now) (env_view env.now) (body_view body.now)) }
+{
+    writer.extent().begin();
+    match body {
+        tp_ast::action::Body::Instant {
+            precondition,
+            effect,
+        } => {
+            let event = instant(alloc, universe, env, writer, precondition, effect, hints)?;
+            Ok(Body::Instant(event))
+        }
+        tp_ast::action::Body::Durative {
+            duration,
+            condition,
+            effect,
+        } => durative(
+            alloc, universe, env, writer, duration, condition, effect, hints,
+        ),
+    }
+}

@@ -1,0 +1,63 @@
+//! Duration constraints.
+
+ghost use Rattle.std.specs.Prelude.{◌≡◌, map};
+ghost use Rattle.std.specs.List.{flat_map};
+ghost use Rattle.tp_ast.specs.ConstraintViews.{constraint_view};
+ghost use Rattle.tp_bindings.specs.Views.{env_view};
+ghost use Rattle.tp_lower.specs.Written.{limits_in};
+ghost use Rattle.tp_lower.specs.Mentions.{of_limit, of_each};
+ghost use Rattle.tp_lower.specs.ReadBack.{named_limit};
+ghost use Rattle.tp_lower.specs.Lowered.{Lowers};
+
+use crate::expressions::{comparison_of, expression};
+use crate::writer::Writer;
+use std::alloc::Global;
+use tp_ast::constraint::DurationRule;
+use tp_bindings::environment::Env;
+use tp_task::{GroundFault, Limit};
+
+#[cycle(limits)]
+fn all_limits<'a>(
+    alloc: Global,
+    env: &Env<'_, 'a>,
+    writer: &mut Writer<'a>,
+    constraints: &'a [DurationRule],
+) -> Result<Vec<Limit>, GroundFault>
+    ensures { Lowers (λ t v. map (named_limit t) v.items) writer.old result writer.new
+        (flat_map (λ r. limits_in (env_view env.now) (constraint_view r)) constraints.now)
+        (of_each of_limit
+        (flat_map (λ r. limits_in (env_view env.now) (constraint_view r)) constraints.now)) }
+{
+    let mut lowered = Vec::new(alloc);
+    for constraint in constraints {
+        let mut more = limits(alloc, env, writer, constraint)?;
+        lowered.append(&mut more)?;
+    }
+    Ok(lowered)
+}
+
+/// The comparisons of a duration constraint.
+#[cycle(limits)]
+pub fn limits<'a>(
+    alloc: Global,
+    env: &Env<'_, 'a>,
+    writer: &mut Writer<'a>,
+    constraint: &'a DurationRule,
+) -> Result<Vec<Limit>, GroundFault>
+    ensures { Lowers (λ t v. map (named_limit t) v.items) writer.old result writer.new
+        (limits_in (env_view env.now) (constraint_view constraint.now))
+        (of_each of_limit (limits_in (env_view env.now) (constraint_view constraint.now))) }
+{
+    match constraint {
+        DurationRule::And(constraints) => all_limits(alloc, env, writer, constraints),
+        DurationRule::Limit(comparison, value) => {
+            let value = expression(alloc, env, writer, value)?;
+            let mut one = Vec::with_capacity(alloc, 1)?;
+            one.push(Limit {
+                how: comparison_of(*comparison),
+                value,
+            })?;
+            Ok(one)
+        }
+    }
+}

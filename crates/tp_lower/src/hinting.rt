@@ -1,0 +1,255 @@
+//! What can be known of quantifiers before they are written out, once their variables' objects were looked for.
+
+ghost use Rattle.std.specs.Prelude.{◌≡◌, ◌∷◌, [], map, true, IfOk, IfSome};
+ghost use Rattle.tp_ast.specs.Symbols.{typed_view};
+ghost use Rattle.tp_ast.specs.CondViews.{cond_view};
+ghost use Rattle.tp_ast.specs.DomainViews.{body_view};
+ghost use Rattle.tp_ast.specs.Conditions.{conditions, for_all, for_some};
+ghost use Rattle.tp_bindings.specs.Bindings.{choices, bindings};
+ghost use Rattle.tp_ast.specs.PartViews.{joined_view};
+ghost use Rattle.tp_ast.specs.Parts.{for_each};
+ghost use Rattle.tp_ast.specs.Parts.{parts as syntax_parts};
+ghost use Rattle.tp_bindings.specs.Hints.{fits, each_fits, body_fits, joined_fits, parts_fits, listed};
+ghost use Rattle.tp_bindings.specs.Rows.{product, EndsWith};
+ghost use Rattle.tp_bindings.specs.Views.{universe_view};
+
+use crate::parts::Lowerable;
+use std::alloc::{AllocError, Global};
+use tp_ast::action::Body;
+use tp_ast::cond::Cond;
+use tp_ast::joined::Joined;
+use tp_ast::marks::is_marked;
+use tp_ast::symbols::Typed;
+use tp_ast::typed_list::TypedList;
+use tp_bindings::hints::{BodyHint, Hint};
+use tp_bindings::universe::{Universe, have_choices, place_for};
+
+// Where the objects for a variable stand: at the last of these places, if it is marked.
+fn place_in_row(
+    universe: &Universe,
+    mark: bool,
+    places: &[usize],
+    variable: &Typed,
+) -> Option<usize>
+    ensures { let ns = choices (universe_view universe.now) (typed_view variable.now) in
+        (mark ≡ true → EndsWith (map (listed universe.now) places.now) ns)
+        → IfSome result (λ p. listed universe.now p ≡ ns) }
+{
+    match places {
+        [.., last] if mark => Some(*last),
+        _ => place_for(universe, variable),
+    }
+}
+
+// A place where no object stands.
+fn empty_place(alloc: Global, universe: &Universe) -> Result<Vec<usize>, AllocError>
+    ensures { IfOk result (λ v. product (map (listed universe.now) v.items) ≡ []) }
+{
+    let mut places = Vec::with_capacity(alloc, 1)?;
+    places.push(universe.known.len())?;
+    Ok(places)
+}
+
+// Where the objects for each variable stand, if they were all looked for.
+fn places_for(
+    alloc: Global,
+    universe: &Universe,
+    variables: &TypedList,
+) -> Result<Option<Vec<usize>>, AllocError>
+    ensures { IfOk result (λ o. IfSome o (λ v. map (listed universe.now) v.items
+        ≡ map (choices (universe_view universe.now)) (map typed_view variables.now.items))) }
+{
+    let marks = variables.marks();
+    let items = variables.as_slice();
+    let mut places = Vec::with_capacity(alloc, items.len())?;
+    for (place, variable) in items.iter().enumerate() {
+        let Some(found) = place_in_row(universe, is_marked(marks, place), &places, variable) else {
+            return Ok(None);
+        };
+        places.push(found)?;
+    }
+    Ok(Some(places))
+}
+
+// Places of lists whose rows are the bindings of some variables, if they are known: where the objects for each stand, or where there
+// are no bindings one place without an object.
+fn places_with(
+    alloc: Global,
+    universe: &Universe,
+    variables: &TypedList,
+) -> Result<Option<Vec<usize>>, AllocError>
+    ensures { IfOk result (λ o. IfSome o (λ v. product (map (listed universe.now) v.items)
+        ≡ bindings (universe_view universe.now) (map typed_view variables.now.items))) }
+{
+    if !have_choices(universe, variables) {
+        return Ok(Some(empty_place(alloc, universe)?));
+    }
+    places_for(alloc, universe, variables)
+}
+
+// Whether there may be a quantifier in some conditions.
+fn may_have_quantifiers(conds: &[Cond]) -> bool {
+    for cond in conds {
+        if !matches!(
+            cond,
+            Cond::Atom(_) | Cond::Same(_, _) | Cond::Compare(_, _, _)
+        ) {
+            return true;
+        }
+    }
+    false
+}
+
+// What can be known of the quantifiers in some conditions.
+#[cycle(hint_of)]
+fn hints_of(alloc: Global, universe: &Universe, conds: &[Cond]) -> Result<Vec<Hint>, AllocError>
+    ensures { IfOk result (λ v. each_fits (map (fits universe.now) v.items)
+        (conditions (map cond_view conds.now)) ≡ true) }
+{
+    let mut hints = Vec::new(alloc);
+    if !may_have_quantifiers(conds) {
+        return Ok(hints);
+    }
+    for cond in conds {
+        hints.push(hint_of(alloc, universe, cond)?)?;
+    }
+    Ok(hints)
+}
+
+// What can be known of a quantifier.
+#[cycle(hint_of)]
+fn bound_hint(
+    alloc: Global,
+    universe: &Universe,
+    variables: &TypedList,
+    inner: &Cond,
+) -> Result<Hint, AllocError>
+    ensures every { IfOk result (λ h. fits universe.now h
+        (for_all (map typed_view variables.now.items) (cond_view inner.now)) ≡ true) }
+    ensures some { IfOk result (λ h. fits universe.now h
+        (for_some (map typed_view variables.now.items) (cond_view inner.now)) ≡ true) }
+{
+    let Some(places) = places_with(alloc, universe, variables)? else {
+        return Ok(Hint::Nothing);
+    };
+    let hint = hint_of(alloc, universe, inner)?;
+    Ok(Hint::Bound(places, Box::new(alloc, hint)?))
+}
+
+// Two in a list.
+fn two(alloc: Global, first: Hint, second: Hint) -> Result<Vec<Hint>, AllocError>
+    ensures { IfOk result (λ v. v.items ≡ first ∷ second ∷ []) }
+{
+    let mut hints = Vec::with_capacity(alloc, 2)?;
+    hints.push(first)?;
+    hints.push(second)?;
+    Ok(hints)
+}
+
+// What can be known of one condition, in a list.
+#[cycle(hint_of)]
+fn hints_of_one(alloc: Global, universe: &Universe, cond: &Cond) -> Result<Vec<Hint>, AllocError>
+    ensures { IfOk result (λ v. each_fits (map (fits universe.now) v.items)
+        (conditions (cond_view cond.now ∷ [])) ≡ true) }
+{
+    let mut hints = Vec::with_capacity(alloc, 1)?;
+    hints.push(hint_of(alloc, universe, cond)?)?;
+    Ok(hints)
+}
+
+/// What can be known of the quantifiers in a condition.
+#[cycle(hint_of)]
+pub fn hint_of(alloc: Global, universe: &Universe, cond: &Cond) -> Result<Hint, AllocError>
+    ensures { IfOk result (λ h. fits universe.now h (cond_view cond.now) ≡ true) }
+{
+    match cond {
+        Cond::And(conds) | Cond::Or(conds) => Ok(Hint::Parts(hints_of(alloc, universe, conds)?)),
+        Cond::Not(inner) => Ok(Hint::Parts(hints_of_one(alloc, universe, inner)?)),
+        Cond::Imply(a, b) => {
+            let first = hint_of(alloc, universe, a)?;
+            let second = hint_of(alloc, universe, b)?;
+            Ok(Hint::Parts(two(alloc, first, second)?))
+        }
+        Cond::Forall(variables, inner) | Cond::Exists(variables, inner) => {
+            bound_hint(alloc, universe, variables, inner)
+        }
+        Cond::Atom(_) | Cond::Same(_, _) | Cond::Compare(_, _, _) => Ok(Hint::Nothing),
+    }
+}
+
+// What can be known of the quantifiers in some parts.
+#[cycle(joined_hint)]
+fn part_hints<P: Lowerable>(
+    alloc: Global,
+    universe: &Universe,
+    parts: &[Joined<P>],
+) -> Result<Vec<Hint>, AllocError>
+    ensures { IfOk result (λ v. parts_fits universe.now (P.fits universe.now) v.items
+        (syntax_parts (map (joined_view P.seen) parts.now)) ≡ true) }
+{
+    let mut hints = Vec::with_capacity(alloc, parts.len())?;
+    for part in parts {
+        hints.push(joined_hint(alloc, universe, part)?)?;
+    }
+    Ok(hints)
+}
+
+// What can be known of a part for each binding of variables.
+#[cycle(joined_hint)]
+fn under_hint<P: Lowerable>(
+    alloc: Global,
+    universe: &Universe,
+    variables: &TypedList,
+    part: &Joined<P>,
+) -> Result<Hint, AllocError>
+    ensures { IfOk result (λ h. joined_fits universe.now (P.fits universe.now) h
+        (for_each (map typed_view variables.now.items) (joined_view P.seen part.now)) ≡ true) }
+{
+    let Some(places) = places_with(alloc, universe, variables)? else {
+        return Ok(Hint::Nothing);
+    };
+    let hint = joined_hint(alloc, universe, part)?;
+    Ok(Hint::Bound(places, Box::new(alloc, hint)?))
+}
+
+/// What can be known of the quantifiers in what is joined by `and` and `forall`.
+#[cycle(joined_hint)]
+pub fn joined_hint<P: Lowerable>(
+    alloc: Global,
+    universe: &Universe,
+    part: &Joined<P>,
+) -> Result<Hint, AllocError>
+    ensures { IfOk result (λ h. joined_fits universe.now (P.fits universe.now) h
+        (joined_view P.seen part.now) ≡ true) }
+{
+    match part {
+        Joined::And(parts) => Ok(Hint::Parts(part_hints(alloc, universe, parts)?)),
+        Joined::Forall(variables, inner) => under_hint(alloc, universe, variables, inner),
+        Joined::One(one) => one.hint(alloc, universe),
+    }
+}
+
+/// What can be known of the quantifiers in the body of an action.
+pub fn body_hint(alloc: Global, universe: &Universe, body: &Body) -> Result<BodyHint, AllocError>
+    ensures { IfOk result (λ h. body_fits universe.now h (body_view body.now) ≡ true) }
+{
+    match body {
+        Body::Instant {
+            precondition,
+            effect,
+        } => {
+            let condition = hint_of(alloc, universe, precondition)?;
+            let effect = joined_hint(alloc, universe, effect)?;
+            Ok(BodyHint { condition, effect })
+        }
+        Body::Durative {
+            duration: _,
+            condition,
+            effect,
+        } => {
+            let condition = joined_hint(alloc, universe, condition)?;
+            let effect = joined_hint(alloc, universe, effect)?;
+            Ok(BodyHint { condition, effect })
+        }
+    }
+}
