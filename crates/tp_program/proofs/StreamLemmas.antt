@@ -1,6 +1,6 @@
 -- What was written to a writer of bytes that are kept before and after.
 use Rattle.std.proofs.Common.{◌≡◌, ◌≢◌, ◌∙◌, ◌≤◌, zero, suc, ap, ℕ, List, [], ◌++◌, Option, Some, None, ◌⊎◌, inl, inr, codes, sym, subst, refl, arith}
-use Rattle.std.specs.Prelude.{MatchOption, Result, Ok, Err}
+use Rattle.std.specs.Prelude.{IfSome, MatchOption, Result, Ok, Err}
 use Rattle.std.specs.Io.KnownBytes.{Appends, Keeps}
 use Rattle.tp_device.specs.Bytes.{AppendsPart}
 use Rattle.tp_device.proofs.Parts.{appends_none}
@@ -31,11 +31,12 @@ use Rattle.tp_plan_search.specs.declared.search_words.SearchWords.{SearchWords}
 use Rattle.tp_program.specs.CallFiles.{CallFiles, journal_file}
 use Rattle.tp_program.specs.Checks.{SaysPart, SaysValid}
 use Rattle.tp_program.specs.Done.{AnswersNo, DoesPart, DoesWhatIsAsked, IsAnsweredNo, IsDone, IsPartDone}
-use Rattle.tp_program.specs.Journaled.{LogsSome}
+use Rattle.tp_program.specs.Journaled.{AsksForNoJournal, LogsSome}
 use Rattle.tp_program.specs.Networks.{ShowsNetwork, ShowsPart}
 use Rattle.tp_files.specs.FaultLines.{TellsFault, TellsRefusal, fault_line}
 use Rattle.tp_arguments.specs.Requests.{AsksFor, AsksForNoCommands}
-use Rattle.tp_program.specs.Streams.{Ends, HandsOn, Runs, TellsSome}
+use Rattle.tp_program.specs.Endings.{EndsCall}
+use Rattle.tp_program.specs.Streams.{Ends, HandsOn, IsStopped, Runs, TellsSome}
 use Rattle.tp_plan_files.specs.declared.plan_words.PlanWords.{PlanWords}
 use Rattle.tp_arguments.specs.declared.requests.Request.{Request}
 use Rattle.tp_arguments.specs.declared.requests.Request.TheVariants.{Bare, BareLog, Check, Net, Run, RunLog, Plan, Audit, PlanAudit, Split, Help}
@@ -537,30 +538,76 @@ is_told status ended b first before now f fnow contents None on silent fault two
 is_told status ended b first before now f fnow contents (Some w) on silent fault two =
     subst (λ n. TellsSome first n) (sym on.2) (fault (omega (arith, on.0, two)))
 
-pub ends : {W : Type 0} (words : List (List ℕ)) (files : CallFiles) (input : Option (List ℕ)) (status ended : ℕ) (a b first before now : Option (List ℕ)) (f fnow : ℕ) (contents : W → Option (List ℕ)) (output : Option W) → HandsOn contents status b f before fnow now ended output → Runs words files input status a b → (AsksFor words Bare → status ≡ 2 → IsRefused input) → status ≤ 3 → (status ≤ 1 → before ≡ first) → (2 ≤ status → TellsSome first before) → Ends words files input a first contents ended output now
-ends words files input status ended a b first before now f fnow contents output on runs refused within silent fault =
+keeps_over : (a b c : Option (List ℕ)) → Keeps a b → Keeps b c → Keeps a c
+keeps_over None b c h k = tt
+keeps_over (Some xs) None c h k = absurd h
+keeps_over (Some xs) (Some ys) None h k = absurd k
+keeps_over (Some xs) (Some ys) (Some zs) h k = k ∙ h
+
+is_stopped : {W : Type 0} (words : List (List ℕ)) (files : CallFiles) (input : Option (List ℕ)) (status ended : ℕ) (a b first before now : Option (List ℕ)) (f fnow o onow l lnow : ℕ) (contents : W → Option (List ℕ)) (output : Option W) → HandsOn contents status b f before fnow now ended output → (2 ≤ status → EndsCall words files input status a b o onow l first lnow before) → 2 ≤ ended → IfSome output (λ w. IsStopped words files input a first (contents w) ended now)
+is_stopped words files input status ended a b first before now f fnow o onow l lnow contents None on told two = tt
+is_stopped words files input status ended a b first before now f fnow o onow l lnow contents (Some w) on told two =
+    record {
+      inside = a;
+      inside_now = b;
+      failures = o;
+      failures_now = onow;
+      lost = l;
+      lost_now = lnow;
+      begins = keeps_same a;
+      ends = on.1;
+      told = subst (λ n. EndsCall words files input ended a b o onow l first lnow n) (sym on.2)
+          (subst (λ s. EndsCall words files input s a b o onow l first lnow before) (sym on.0) (told (omega (arith, on.0, two))));
+    }
+
+pub ends : {W : Type 0} (words : List (List ℕ)) (files : CallFiles) (input : Option (List ℕ)) (status ended : ℕ) (a b first before now : Option (List ℕ)) (f fnow : ℕ) (contents : W → Option (List ℕ)) (output : Option W) → HandsOn contents status b f before fnow now ended output → Runs words files input status a b → (AsksFor words Bare → status ≡ 2 → IsRefused input) → status ≤ 3 → (status ≤ 1 → before ≡ first) → (2 ≤ status → TellsSome first before) → (o onow l lnow : ℕ) → (2 ≤ status → EndsCall words files input status a b o onow l first lnow before) → (AsksForNoJournal words → files.asked_now ≡ files.asked_before) → Ends words files input a first contents ended output now
+ends words files input status ended a b first before now f fnow contents output on runs refused within silent fault o onow l lnow told unlogged =
     record {
       output_holds = holds words files input status ended a b before now f fnow contents output on runs;
       refused = λ asks. refuses status ended b before now f fnow contents output on (refused asks);
       within = few status ended b before now f fnow contents output on within;
       silent = is_silent status ended b first before now f fnow contents output on silent;
       fault = is_told status ended b first before now f fnow contents output on silent fault;
+      stopped = is_stopped words files input status ended a b first before now f fnow o onow l lnow contents output on told;
+      unlogged = unlogged;
     }
 
 -- what `run_words` and the handing on tell, over the streams as they were
-pub counted : {W : Type 0} (words : List (List ℕ)) (files : CallFiles) (left input : Option (List ℕ)) (status ended : ℕ) (held a kept b first f0 f1 f2 now : Option (List ℕ)) (f fnow : ℕ) (contents : W → Option (List ℕ)) (output : Option W) → left ≡ input → held ≡ a → b ≡ kept → f0 ≡ first → now ≡ f2 → HandsOn contents status b f f1 fnow f2 ended output → Runs words files left status held kept → (AsksFor words Bare → status ≡ 2 → IsRefused left) → status ≤ 3 → (status ≤ 1 → f1 ≡ f0) → (2 ≤ status → TellsSome f0 f1) → Ends words files input a first contents ended output now
-counted words files left input status ended held a kept b first f0 f1 f2 now f fnow contents output from was is start end on runs refused within silent fault =
+pub counted : {W : Type 0} (words : List (List ℕ)) (files : CallFiles) (left input : Option (List ℕ)) (status ended : ℕ) (held a kept b first f0 f1 f2 now : Option (List ℕ)) (f fnow : ℕ) (contents : W → Option (List ℕ)) (output : Option W) → left ≡ input → held ≡ a → b ≡ kept → f0 ≡ first → now ≡ f2 → HandsOn contents status b f f1 fnow f2 ended output → Runs words files left status held kept → (AsksFor words Bare → status ≡ 2 → IsRefused left) → status ≤ 3 → (status ≤ 1 → f1 ≡ f0) → (2 ≤ status → TellsSome f0 f1) → (o onow l lnow : ℕ) → (2 ≤ status → EndsCall words files left status held kept o onow l f0 lnow f1) → (AsksForNoJournal words → files.asked_now ≡ files.asked_before) → Ends words files input a first contents ended output now
+counted words files left input status ended held a kept b first f0 f1 f2 now f fnow contents output from was is start end on runs refused within silent fault o onow l lnow told unlogged =
     let here : Runs words files input status a b = subst (λ i. Runs words files i status a b) from (subst (λ o. Runs words files left status o b) was (subst (λ n. Runs words files left status held n) (sym is) runs)) in
     let refuses_here : AsksFor words Bare → status ≡ 2 → IsRefused input = subst (λ i. AsksFor words Bare → status ≡ 2 → IsRefused i) from refused in
     let tells_here : 2 ≤ status → TellsSome first f1 = subst (λ f. 2 ≤ status → TellsSome f f1) start fault in
+    let told_here : 2 ≤ status → EndsCall words files input status a b o onow l first lnow f1 =
+    λ two.
+    subst (λ i. EndsCall words files i status a b o onow l first lnow f1) from
+    (subst (λ h. EndsCall words files left status h b o onow l first lnow f1) was
+    (subst (λ k. EndsCall words files left status held k o onow l first lnow f1) (sym is)
+    (subst (λ g. EndsCall words files left status held kept o onow l g lnow f1) start (told two))))
+    in
     subst (λ n. Ends words files input a first contents ended output n) (sym end)
-    (ends words files input status ended a b first f1 f2 f fnow contents output on here refuses_here within (λ one. silent one ∙ start) tells_here)
+    (ends words files input status ended a b first f1 f2 f fnow contents output on here refuses_here within (λ one. silent one ∙ start) tells_here o onow l lnow told_here unlogged)
 
 -- the same over the writer that a buffer stands before
 over_buffer : {W : Type 0} (words : List (List ℕ)) (files : CallFiles) (input : Option (List ℕ)) (status : ℕ) (a held : Option (List ℕ)) (contents : W → Option (List ℕ)) (output : Option W) → Keeps held a → MatchOption output (status ≡ 3) (λ w. Runs words files input status a (contents w)) → MatchOption output (status ≡ 3) (λ w. Runs words files input status held (contents w))
 over_buffer words files input status a held contents None keeps h = h
 over_buffer words files input status a held contents (Some w) keeps h =
     runs_over words files input status a (contents w) held (contents w) (shift a (contents w) held (contents w) keeps (keeps_same (contents w))) h
+
+stopped_over : {W : Type 0} (words : List (List ℕ)) (files : CallFiles) (input a held first : Option (List ℕ)) (contents : W → Option (List ℕ)) (status : ℕ) (output : Option W) (now : Option (List ℕ)) → Keeps held a → IfSome output (λ w. IsStopped words files input a first (contents w) status now) → IfSome output (λ w. IsStopped words files input held first (contents w) status now)
+stopped_over words files input a held first contents status None now keeps h = tt
+stopped_over words files input a held first contents status (Some w) now keeps h =
+    record {
+      inside = h.inside;
+      inside_now = h.inside_now;
+      failures = h.failures;
+      failures_now = h.failures_now;
+      lost = h.lost;
+      lost_now = h.lost_now;
+      begins = keeps_over held a h.inside keeps h.begins;
+      ends = h.ends;
+      told = h.told;
+    }
 
 ends_over : {W : Type 0} (words : List (List ℕ)) (files : CallFiles) (input a held first : Option (List ℕ)) (contents : W → Option (List ℕ)) (status : ℕ) (output : Option W) (now : Option (List ℕ)) → Keeps held a → Ends words files input a first contents status output now → Ends words files input held first contents status output now
 ends_over words files input a held first contents status output now keeps h =
@@ -570,6 +617,8 @@ ends_over words files input a held first contents status output now keeps h =
       within = h.within;
       silent = h.silent;
       fault = h.fault;
+      stopped = λ two. stopped_over words files input a held first contents status output now keeps (h.stopped two);
+      unlogged = h.unlogged;
     }
 
 pub ends_from : {W : Type 0} (words : List (List ℕ)) (files : CallFiles) (left input inside a held start first : Option (List ℕ)) (contents : W → Option (List ℕ)) (status : ℕ) (output : Option W) (now : Option (List ℕ)) → left ≡ input → inside ≡ a → start ≡ first → Keeps held a → Ends words files left inside start contents status output now → Ends words files input held first contents status output now
@@ -580,8 +629,8 @@ ends_from words files left input inside a held start first contents status outpu
     (subst (λ f. Ends words files left inside f contents status output now) begin h)))
 
 -- nothing was done, since memory ran out
-pub ends_lost : {W : Type 0} (words : List (List ℕ)) (files : CallFiles) (input held first : Option (List ℕ)) (contents : W → Option (List ℕ)) (status : ℕ) (output : Option W) (now : Option (List ℕ)) → status ≡ 3 → output ≡ None → TellsSome first now → Ends words files input held first contents status output now
-ends_lost words files input held first contents status output now three none told =
+pub ends_lost : {W : Type 0} (words : List (List ℕ)) (files : CallFiles) (input held first : Option (List ℕ)) (contents : W → Option (List ℕ)) (status : ℕ) (output : Option W) (now : Option (List ℕ)) → status ≡ 3 → output ≡ None → TellsSome first now → files.asked_now ≡ files.asked_before → Ends words files input held first contents status output now
+ends_lost words files input held first contents status output now three none told same =
     record {
       output_holds = subst (λ o. MatchOption o (status ≡ 3) (λ w. Runs words files input status held (contents w))) (sym none) three;
       refused = λ asks two. cc;
@@ -590,4 +639,6 @@ ends_lost words files input held first contents status output now three none tol
           let no : ⊥ = omega (arith, three, one) in
           absurd no;
       fault = λ two. told;
+      stopped = λ two. subst (λ o. IfSome o (λ w. IsStopped words files input held first (contents w) status now)) (sym none) tt;
+      unlogged = λ asks. same;
     }

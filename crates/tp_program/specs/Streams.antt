@@ -1,10 +1,12 @@
 -- A run over readers and writers of std.
-use Rattle.std.specs.Prelude.{◌≡◌, ◌≢◌, ◌≤◌, ◌⊎◌, ℕ, List, [], ◌++◌, Option, Some, None, MatchOption, codes}
+use Rattle.std.specs.Prelude.{◌≡◌, ◌≢◌, ◌≤◌, ◌⊎◌, ℕ, List, [], ◌++◌, Option, Some, None, MatchOption, IfSome, codes}
 use Rattle.std.specs.Io.KnownBytes.{Appends, Keeps}
 use Rattle.tp_device.specs.Bytes.{AppendsPart}
 use Rattle.tp_bare.specs.Bare.{AnswersAll, AnswersPart, IsRefused}
 use Rattle.tp_program.specs.CallFiles.{CallFiles}
 use Rattle.tp_program.specs.Done.{AnswersNo, DoesPart, DoesWhatIsAsked}
+use Rattle.tp_program.specs.Endings.{EndsCall}
+use Rattle.tp_program.specs.Journaled.{AsksForNoJournal}
 use Rattle.tp_files.specs.FaultLines.{IsFaultText, TellsFault, fault_line}
 use Rattle.tp_arguments.specs.Requests.{AsksFor, AsksForNoCommands}
 use Rattle.tp_arguments.specs.declared.requests.Request.TheVariants.{Bare}
@@ -38,8 +40,25 @@ HandsOn contents status held failures before failures-now now ended None =
     (ended ≡ 3) × (status ≤ 1 → TellsFault [] failures before failures-now now)
     × (2 ≤ status → now ≡ before)
 
+-- What stopped a run was told, and is as it is told: of the output as its buffer took it, from when it held what the writer did until it held
+-- what the writer does now, and for some counts of writes that failed
+pub record IsStopped (words : List (List ℕ)) (files : CallFiles)
+    (input held faults now : Option (List ℕ)) (status : ℕ)
+    (faults-now : Option (List ℕ)) : Type 0 where
+  pub inside : Option (List ℕ)
+  pub inside_now : Option (List ℕ)
+  pub failures : ℕ
+  pub failures_now : ℕ
+  pub lost : ℕ
+  pub lost_now : ℕ
+  pub begins : Keeps held inside
+  pub ends : Keeps inside_now now
+  pub told : EndsCall words files input status inside inside_now failures failures_now lost faults
+      lost_now faults-now
+
 -- How a run ends. The output holds what the status tells, or it is gone and the status is 3. A network is refused only where it has no head
--- or comes with too many bytes. A fault line goes with each fault, and with nothing else
+-- or comes with too many bytes. A fault line goes with each fault, and with nothing else; where the output is not gone, it is as the line
+-- tells. A journal file is asked for only where the words ask for a journal
 pub record Ends (words : List (List ℕ)) (files : CallFiles)
     (input held faults : Option (List ℕ)) {W : Type 0} (contents : W → Option (List ℕ)) (status : ℕ)
     (output : Option W) (faults-now : Option (List ℕ)) : Type 0 where
@@ -49,3 +68,7 @@ pub record Ends (words : List (List ℕ)) (files : CallFiles)
   pub within : status ≤ 3
   pub silent : status ≤ 1 → Appends faults faults-now []
   pub fault : 2 ≤ status → TellsSome faults faults-now
+  pub stopped :
+      2 ≤ status → IfSome output (λ w.
+      IsStopped words files input held faults (contents w) status faults-now)
+  pub unlogged : AsksForNoJournal words → files.asked_now ≡ files.asked_before

@@ -1,4 +1,4 @@
-use Rattle.std.proofs.Common.{ap, map, subst}
+use Rattle.std.proofs.Common.{ap, map, refl, subst}
 use Rattle.std.specs.String.{string_bytes}
 use Rattle.std.specs.Io.Buffered.{line_writer_contents}
 use Rattle.tp_program.specs.CallFiles.{call_files}
@@ -13,4 +13,4 @@ returns-in-Ok g c =
 pub returns-in-Err : goal.returns-in-Err
 returns-in-Err g c =
     let told = subst (λ f. TellsSome f (g.V.Write.contents c.end_lost.result.faults)) (ap g.V.Write.contents c.new-faults.ensures.stream) c.end_lost.ensures.fault in
-    ends_lost (map string_bytes c.args.words.now) (call_files (g.N.Files.held c.args.files.now.shelf) (g.L.Logs.asked c.args.files.now.logs) (g.L.Logs.asked c.args.files.now.logs) g.L.Logs.blank (g.L.Logs.named c.args.files.now.logs) (g.L.Logs.kept c.args.files.now.logs)) (g.R.Read.remaining c.args.input) (g.W.Write.contents c.args.output) (g.V.Write.contents c.args.faults) g.W.Write.contents c.end_lost.result.status c.end_lost.result.output (g.V.Write.contents c.end_lost.result.faults) c.end_lost.ensures.status c.end_lost.ensures.output told
+    ends_lost (map string_bytes c.args.words.now) (call_files (g.N.Files.held c.args.files.now.shelf) (g.L.Logs.asked c.args.files.now.logs) (g.L.Logs.asked c.args.files.now.logs) g.L.Logs.blank (g.L.Logs.named c.args.files.now.logs) (g.L.Logs.kept c.args.files.now.logs)) (g.R.Read.remaining c.args.input) (g.W.Write.contents c.args.output) (g.V.Write.contents c.args.faults) g.W.Write.contents c.end_lost.result.status c.end_lost.result.output (g.V.Write.contents c.end_lost.result.faults) c.end_lost.ensures.status c.end_lost.ensures.output told refl
