@@ -2,6 +2,7 @@
 use Rattle.std.proofs.Common.{◌≡◌, ◌≢◌, ◌∙◌, ◌≤◌, zero, suc, ap, ℕ, List, [], ◌++◌, Option, Some, None, ◌⊎◌, inl, inr, codes, sym, subst, refl, arith}
 use Rattle.std.specs.Prelude.{IfSome, MatchOption, Result, Ok, Err}
 use Rattle.std.specs.Io.KnownBytes.{Appends, Keeps}
+use Rattle.std.proofs.KnownBytes.{Keeps-refl, Keeps-trans}
 use Rattle.tp_device.specs.Bytes.{AppendsPart}
 use Rattle.tp_device.proofs.Parts.{appends_none}
 use Rattle.tp_bare.specs.Bare.{AnswersAll, AnswersPart, IsRefused, first_machine}
@@ -51,10 +52,6 @@ shift None b (Some zs) d before after xs h = absurd before
 shift (Some ys) None (Some zs) d before after xs h = absurd h
 shift (Some ys) (Some ws) (Some zs) None before after xs h = absurd after
 shift (Some ys) (Some ws) (Some zs) (Some vs) before after xs h = after ∙ (h ∙ ap (λ t. t ++ xs) before)
-
-pub keeps_same : (a : Option (List ℕ)) → Keeps a a
-keeps_same None = tt
-keeps_same (Some xs) = refl
 
 part_over : (a b c d : Option (List ℕ)) (xs : List ℕ) → Shift a b c d → AppendsPart a b xs → AppendsPart c d xs
 part_over a b c d xs over h = record { count = h.count; within = h.within; held = over _ h.held }
@@ -509,7 +506,7 @@ runs_over words files input status a b c d over h =
 holds : {W : Type 0} (words : List (List ℕ)) (files : CallFiles) (input : Option (List ℕ)) (status ended : ℕ) (a b before now : Option (List ℕ)) (f fnow : ℕ) (contents : W → Option (List ℕ)) (output : Option W) → HandsOn contents status b f before fnow now ended output → Runs words files input status a b → MatchOption output (ended ≡ 3) (λ w. Runs words files input ended a (contents w))
 holds words files input status ended a b before now f fnow contents None on runs = on.0
 holds words files input status ended a b before now f fnow contents (Some w) on runs =
-    subst (λ s. Runs words files input s a (contents w)) (sym on.0) (runs_over words files input status a b a (contents w) (shift a b a (contents w) (keeps_same a) on.1) runs)
+    subst (λ s. Runs words files input s a (contents w)) (sym on.0) (runs_over words files input status a b a (contents w) (shift a b a (contents w) (Keeps-refl a) on.1) runs)
 
 refuses : {W : Type 0} {P : Type 0} (status ended : ℕ) (b before now : Option (List ℕ)) (f fnow : ℕ) (contents : W → Option (List ℕ)) (output : Option W) → HandsOn contents status b f before fnow now ended output → (status ≡ 2 → P) → ended ≡ 2 → P
 refuses status ended b before now f fnow contents None on give two =
@@ -538,12 +535,6 @@ is_told status ended b first before now f fnow contents None on silent fault two
 is_told status ended b first before now f fnow contents (Some w) on silent fault two =
     subst (λ n. TellsSome first n) (sym on.2) (fault (omega (arith, on.0, two)))
 
-keeps_over : (a b c : Option (List ℕ)) → Keeps a b → Keeps b c → Keeps a c
-keeps_over None b c h k = tt
-keeps_over (Some xs) None c h k = absurd h
-keeps_over (Some xs) (Some ys) None h k = absurd k
-keeps_over (Some xs) (Some ys) (Some zs) h k = k ∙ h
-
 is_stopped : {W : Type 0} (words : List (List ℕ)) (files : CallFiles) (input : Option (List ℕ)) (status ended : ℕ) (a b first before now : Option (List ℕ)) (f fnow o onow l lnow : ℕ) (contents : W → Option (List ℕ)) (output : Option W) → HandsOn contents status b f before fnow now ended output → (2 ≤ status → EndsCall words files input status a b o onow l first lnow before) → 2 ≤ ended → IfSome output (λ w. IsStopped words files input a first (contents w) ended now)
 is_stopped words files input status ended a b first before now f fnow o onow l lnow contents None on told two = tt
 is_stopped words files input status ended a b first before now f fnow o onow l lnow contents (Some w) on told two =
@@ -554,7 +545,7 @@ is_stopped words files input status ended a b first before now f fnow o onow l l
       failures_now = onow;
       lost = l;
       lost_now = lnow;
-      begins = keeps_same a;
+      begins = Keeps-refl a;
       ends = on.1;
       told = subst (λ n. EndsCall words files input ended a b o onow l first lnow n) (sym on.2)
           (subst (λ s. EndsCall words files input s a b o onow l first lnow before) (sym on.0) (told (omega (arith, on.0, two))));
@@ -592,7 +583,7 @@ counted words files left input status ended held a kept b first f0 f1 f2 now f f
 over_buffer : {W : Type 0} (words : List (List ℕ)) (files : CallFiles) (input : Option (List ℕ)) (status : ℕ) (a held : Option (List ℕ)) (contents : W → Option (List ℕ)) (output : Option W) → Keeps held a → MatchOption output (status ≡ 3) (λ w. Runs words files input status a (contents w)) → MatchOption output (status ≡ 3) (λ w. Runs words files input status held (contents w))
 over_buffer words files input status a held contents None keeps h = h
 over_buffer words files input status a held contents (Some w) keeps h =
-    runs_over words files input status a (contents w) held (contents w) (shift a (contents w) held (contents w) keeps (keeps_same (contents w))) h
+    runs_over words files input status a (contents w) held (contents w) (shift a (contents w) held (contents w) keeps (Keeps-refl (contents w))) h
 
 stopped_over : {W : Type 0} (words : List (List ℕ)) (files : CallFiles) (input a held first : Option (List ℕ)) (contents : W → Option (List ℕ)) (status : ℕ) (output : Option W) (now : Option (List ℕ)) → Keeps held a → IfSome output (λ w. IsStopped words files input a first (contents w) status now) → IfSome output (λ w. IsStopped words files input held first (contents w) status now)
 stopped_over words files input a held first contents status None now keeps h = tt
@@ -604,7 +595,7 @@ stopped_over words files input a held first contents status (Some w) now keeps h
       failures_now = h.failures_now;
       lost = h.lost;
       lost_now = h.lost_now;
-      begins = keeps_over held a h.inside keeps h.begins;
+      begins = Keeps-trans held a h.inside keeps h.begins;
       ends = h.ends;
       told = h.told;
     }
