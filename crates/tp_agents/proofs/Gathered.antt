@@ -139,9 +139,6 @@ module _ (s old r : Setting) (ys : List (ℕ × Bound)) (p : ℕ × Bound) (rest
   pub next_weight : IsLawful s → IsInRange p.1.w
   next_weight lawful = (lawful.in_force p.0 p.1 next_there).weight
 
-  pub next_unbegun : IsUnbegun r
-  next_unbegun = subst IsUnbegun (sym (is ∙ ap (λ (q : Setting). record q { bounds = held ys }) new)) (unbegun_fresh (event_count s) s.horizon (held ys))
-
   pushed : insert (held ys) p.0 p.1 ≡ held (ys ++ p ∷ [])
   pushed = sym (from_entries_push nat_cmp_total nat_cmp-IsAntisymmetric ys p.0 p.1 not_found)
 

@@ -11,7 +11,6 @@ pub mod Told
 pub mod Decoupling
 pub mod OnParts
 pub mod Words
-pub mod Kept
 pub mod Joins
 pub mod Inner
 pub mod PartNets

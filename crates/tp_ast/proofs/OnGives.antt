@@ -1,6 +1,6 @@
 -- What a refusal of one step means for those that follow.
 use Rattle.std.proofs.Common.{◌≡◌, List, [], ◌∷◌, ◌++◌, append_assoc, Option, Some, None, option_map, Result, refl, sym, ap, subst}
-use Rattle.tp_ast.specs.Gives.{◌>>=◌, Fails, Gives, IsKept, with_front}
+use Rattle.tp_ast.specs.Gives.{◌>>=◌, Fails, Gives, with_front}
 use Rattle.tp_ast.specs.declared.fault.SyntaxFault.{SyntaxFault}
 use Rattle.tp_ast.specs.declared.fault.SyntaxFault.TheVariants as faults
 
@@ -38,16 +38,6 @@ fails_same e a b is h = subst (λ o. Fails e o) (sym is) h
 
 pub gives_same : {X Y : Type 0} (view : X → Y) (r : Result X SyntaxFault) (a b : Option Y) → a ≡ b → Gives view r b → Gives view r a
 gives_same view r a b e h = subst (λ o. Gives view r o) (sym e) h
-
--- another fault in the place of one
-pub fails_kept : {A : Type 0} (e k : SyntaxFault) (o : Option A) → IsKept e k → Fails e o → Fails k o
-fails_kept faults.Memory k o is h = subst (λ f. Fails f o) (sym is) tt
-fails_kept (faults.Text t) k o is h = fails_with k o h
-fails_kept (faults.Shape at) k o is h = fails_with k o h
-fails_kept (faults.Unknown at) k o is h = fails_with k o h
-fails_kept (faults.Twice at) k o is h = fails_with k o h
-fails_kept (faults.Types at) k o is h = fails_with k o h
-fails_kept (faults.LeftOut at part) k o is h = fails_with k o h
 
 pub bind_bind : {A B C : Type 0} (o : Option A) (f : A → Option B) (g : B → Option C) → ((o >>= f) >>= g) ≡ (o >>= λ x. f x >>= g)
 bind_bind None f g = refl

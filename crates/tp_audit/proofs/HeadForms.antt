@@ -264,10 +264,6 @@ pub record LagsRead (v events least : ℕ) (ps : List (ℕ × ℕ)) : Type 0 whe
 some_pair : (p : ℕ × ℕ) (ps : List (ℕ × ℕ)) → p ∷ ps ≡ [] → ⊥
 some_pair p ps is = let f : ⊥ = cc in f
 
-second : (v : ℕ) (p : ℕ × ℕ) (ps : List (ℕ × ℕ)) → IsVersion v → (v ≡ 1 → p ∷ ps ≡ []) → v ≡ 2
-second v p ps (inl is) none = absurd (some_pair p ps (none is))
-second v p ps (inr is) none = is
-
 lags_read : (v events least : ℕ) (ps : List (ℕ × ℕ)) → (v ≡ 2) ⊎ (ps ≡ []) → events ≤ 1_024 → AreLags least events ps → LagsRead v events least ps
 lags_read v events least [] two few are = record { last = least; is = refl }
 lags_read v events least (p ∷ ps) (inr none) few are = absurd (some_pair p ps none)

@@ -12,7 +12,7 @@ use Rattle.tp_machine.specs.Machine.{Machine}
 use Rattle.tp_script.specs.Pending.{Reading}
 use Rattle.tp_script.specs.Reading.{Free}
 use Rattle.tp_script.proofs.LineLemmas.{consumes_more, consumes_is}
-use Rattle.tp_journal.specs.Journal.{IsHead, IsVersion, head_of, head_lines, text_of, longest_line}
+use Rattle.tp_journal.specs.Journal.{IsHead, head_of, head_lines, text_of, longest_line}
 use Rattle.tp_journal.proofs.WriteLemmas.{text_more}
 use Rattle.tp_audit.specs.declared.form.Asked.{Asked}
 use Rattle.tp_audit.specs.declared.form.Place.{Place}
@@ -55,9 +55,6 @@ behind_more start mid new seen line b t =
       short = All-push (λ l. length l ≤ longest_line) seen line b.short t.short;
       counted = omega (arith, b.counted, t.counted, ap length (text_one seen line), length-append (text_of seen) (line ++ 10 ∷ []), length-append line (10 ∷ []));
     }
-
-then_place : (o : Option Place) (line : List ℕ) (q r : Place) (f : Place → Option Place) → o ≡ Some q → f q ≡ Some r → option_and_then f o ≡ Some r
-then_place o line q r f is next = ap (option_and_then f) is ∙ next
 
 pub place_more : (p q r : Place) (seen : List (List ℕ)) (line : List ℕ) → place_after p seen ≡ Some q → next_place q line ≡ Some r → place_after p (seen ++ line ∷ []) ≡ Some r
 place_more p q r [] line is next =
@@ -219,19 +216,6 @@ pub ends_behind : (start mid new : Reading) (seen : List (List ℕ)) → IsBehin
 ends_behind start mid new seen b e =
     record { took = consumes_is start.rest new.rest (text_of seen ++ []) (text_of seen) (append-nil (text_of seen)) (consumes_more start.rest mid.rest new.rest (text_of seen) [] b.took e.took); free = b.free; short = b.short; counted = e.counted ∙ b.counted }
 
-pub head_stops : (old : Machine) (start mid new : Reading) (version count : ℕ) (place : Place) (left : List ℕ) → IsHead (head_of version old) → HeadSoFar old start mid version count place left → TurnsHead place version left (count + 1) mid new (Ok Stops) → HasHead old start new (record { version = version; count = count; asked = None })
-head_stops old start mid new version count place left allowed h turn =
-    record {
-      seen = h.seen;
-      place = place;
-      allowed = allowed;
-      reached = h.reached;
-      names = h.names;
-      over = turn.1;
-      head = whole_head old start mid version count place left h turn.2;
-      ends = (ends_behind start mid new h.seen h.behind turn.0, turn.0.over);
-    }
-
 pub head_fails : (old : Machine) (start mid new : Reading) (version count : ℕ) (place : Place) (left : List ℕ) (fault : AuditFault) → HeadSoFar old start mid version count place left → TurnsHead place version left (count + 1) mid new (Err fault) → Heads old start new (Err fault)
 head_fails old start mid new version count place left Memory h turn = tt
 head_fails old start mid new version count place left Read h turn = tt
@@ -248,9 +232,6 @@ version_chosen false false line v one two is = absurd (let f : ⊥ = cc in f)
 
 pub version_is : (line : List ℕ) (v : ℕ) → version_of line ≡ Some v → ((v ≡ 1) × (line ≡ codes "journal 1")) ⊎ ((v ≡ 2) × (line ≡ codes "journal 2"))
 version_is line v is = version_chosen (bytes_eq line (codes "journal 1")) (bytes_eq line (codes "journal 2")) line v refl refl is
-
-pub is_version : (line : List ℕ) (v : ℕ) → version_of line ≡ Some v → IsVersion v
-is_version line v is = elim (version_is line v is) [ inl a ↦ inl a.0 | inr b ↦ inr b.0 ]
 
 pub version_long : (line : List ℕ) (v : ℕ) → version_of line ≡ Some v → length line ≡ 9
 version_long line v is = elim (version_is line v is) [ inl a ↦ ap length a.1 | inr b ↦ ap length b.1 ]
@@ -274,12 +255,6 @@ head_two m = head_by m 2 (codes "journal 2") (ap (λ ds. codes "journal " ++ ds)
 
 head_dropped : (m : Machine) → drop 10 (text_of (head_lines (head_of 2 m))) ≡ tail_text m
 head_dropped m = ap (drop 10) (head_two m)
-
-pub head_long : (m : Machine) → 10 ≤ length (text_of (head_lines (head_of 2 m)))
-head_long m =
-    let n : length (text_of (head_lines (head_of 2 m))) ≡ length (codes "journal 2" ++ 10 ∷ []) + length (tail_text m) = ap length (head_two m) ∙ length-append (codes "journal 2" ++ 10 ∷ []) (tail_text m) in
-    let k : length (codes "journal 2" ++ 10 ∷ []) ≡ 10 = refl in
-    omega (arith, n, k)
 
 line_by : (line : List ℕ) (v : ℕ) → version_of line ≡ Some v → codes "journal " ++ decimal v ≡ line
 line_by line v is =

@@ -8,7 +8,7 @@ use Rattle.tp_script.specs.Reading.{Free, EndsLine, TakesWhole}
 use Rattle.tp_script.specs.Transcript.{lines_of}
 use Rattle.tp_script.proofs.ServeLemmas.{line_first}
 use Rattle.tp_journal.specs.Journal.{longest_line}
-use Rattle.tp_audit.specs.Auditing.{TakesOne, TakesOpen, IsTorn, IsLong}
+use Rattle.tp_audit.specs.Auditing.{TakesOpen, IsTorn, IsLong}
 
 pub cancel : (xs ys zs : List ℕ) → xs ++ ys ≡ xs ++ zs → ys ≡ zs
 cancel [] ys zs e = e
@@ -89,20 +89,6 @@ open_by old new line text took free (inr without) apart =
 
 pub whole_open : (old new : Reading) (line : List ℕ) → TakesWhole old new line → new.taken ≢ old.taken + (length line + 1) → TakesOpen old new line
 whole_open old new line t apart = open_by old new line t.text t.took t.free t.ends (λ is. apart (t.counted ∙ ap (λ n. old.taken + n) is))
-
-ended : (c : Option (List ℕ)) (line text : List ℕ) → EndsLine line text c → length text ≡ length line + 1 → text ≡ line ++ 10 ∷ []
-ended c line text (inl with) is = with
-ended c line text (inr without) is = absurd (let n : length text ≡ length line = ap length without.0 in let f : ⊥ = omega (arith, n) in f)
-
-pub whole_one : (old new : Reading) (line : List ℕ) → TakesWhole old new line → length line ≤ longest_line → new.taken ≡ old.taken + (length line + 1) → TakesOne old new line
-whole_one old new line t short counted =
-    let n : length t.text ≡ length line + 1 = omega (arith, counted, t.counted) in
-    record {
-      took = subst (λ xs. Consumes old.rest new.rest xs) (ended new.rest line t.text t.ends n) t.took;
-      free = t.free;
-      short = short;
-      counted = counted;
-    }
 
 -- bytes that begin with a line and its end
 pub line_then : (bytes line : List ℕ) → length line < length bytes → take (length line) bytes ≡ line → get_or bytes (length line) 0 ≡ 10 → bytes ≡ line ++ 10 ∷ drop (length line + 1) bytes

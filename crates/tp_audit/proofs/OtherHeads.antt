@@ -36,10 +36,6 @@ abbrev Stay : Option Place → Type 0
 Stay None = Unit {0}
 Stay (Some p) = IsInPairs p
 
-no_place : (o : Option Place) (q : Place) (f : Place → Option Place) → o ≡ None → option_and_then f o ≡ Some q → ⊥
-no_place None q f none is = let g : ⊥ = cc in g
-no_place (Some p) q f none is = let g : ⊥ = cc in g
-
 replies_stay : (version : ℕ) (o : Option Asked) → Stay (option_map (λ asked. Reply version) o)
 replies_stay version None = tt
 replies_stay version (Some asked) = tt

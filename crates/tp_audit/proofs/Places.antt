@@ -26,18 +26,6 @@ pair_at_end (Reply v) version line names end = absurd (let f : ⊥ = cc in f)
 pub question_next : (place : Place) (version : ℕ) (line : List ℕ) → head_version place ≡ Some version → may_end place ≡ true → is_of_pair line ≡ true → next_place place line ≡ option_map (λ asked. Reply version) (question_of version line)
 question_next place version line names end pair = of_pair place line pair ∙ pair_at_end place version line names end
 
-pair_before : (place : Place) (version : ℕ) (line : List ℕ) → head_version place ≡ Some version → may_end place ≡ false → pair_place place line ≡ None
-pair_before Start version line names end = refl
-pair_before (Network v) version line names end = refl
-pair_before (Kind v n) version line names end = refl
-pair_before (Own v n id k) version line names end = refl
-pair_before (Lag v n least) version line names end = absurd (let f : ⊥ = cc in f)
-pair_before (Question v) version line names end = absurd (let f : ⊥ = cc in f)
-pair_before (Reply v) version line names end = absurd (let f : ⊥ = cc in f)
-
-pub no_question_next : (place : Place) (version : ℕ) (line : List ℕ) → head_version place ≡ Some version → may_end place ≡ false → is_of_pair line ≡ true → next_place place line ≡ None
-no_question_next place version line names end pair = of_pair place line pair ∙ pair_before place version line names end
-
 -- ---- a head keeps its version
 
 mapped : {X : Type 0} (f : X → Place) (o : Option X) (next : Place) (version : ℕ) → ((x : X) → head_version (f x) ≡ Some version) → option_map f o ≡ Some next → head_version next ≡ Some version

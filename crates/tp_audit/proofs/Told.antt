@@ -19,7 +19,7 @@ use Rattle.tp_audit.specs.Form.{version_of, is_of_pair, head_place, next_place, 
 use Rattle.tp_audit.specs.Auditing.{TakesOne, TakesOpen, Ends, IsTorn, IsLong, IsCut, IsBehind, BreaksAt, BreaksLine, head_version, NoNext, TakesVersion}
 use Rattle.tp_audit.specs.Telling.{nothing_told, tell, new_lag, told_or, told_after, lags_or, lags_after, is_in_head, EndsTold, EndsNot, MatchesPart, MatchesAny, BreaksIn, CutsIn, TurnsAny, IsHeadTold, TellsHead, BreaksHead, StaysInHead}
 use Rattle.tp_audit.proofs.LineLemmas.{if_some, long_breaks, no_line, open_left}
-use Rattle.tp_audit.proofs.Places.{keeps, no_question_next}
+use Rattle.tp_audit.proofs.Places.{keeps}
 use Rattle.tp_audit.proofs.Heads.{behind_none, behind_more, place_more, start_next, known}
 
 -- ---- where a head ends
@@ -60,9 +60,6 @@ in_head (Reply v) is = absurd (let f : ⊥ = cc in f)
 
 pub keeps_name : (place next : Place) (line : List ℕ) → is_some (head_version place) ≡ true → head_place place line ≡ Some next → head_version next ≡ head_version place
 keeps_name place next line is goes = let n = named (head_version place) is in keeps place n.0 line next n.1 goes
-
-pub no_pair : (place : Place) (line : List ℕ) → is_some (head_version place) ≡ true → may_end place ≡ false → is_of_pair line ≡ true → next_place place line ≡ None
-no_pair place line is early pair = let n = named (head_version place) is in no_question_next place n.0 line n.1 early pair
 
 not_by : (place : Place) (line left : List ℕ) → is_some (head_version place) ≡ true → is_of_pair left ≡ is_of_pair line → (may_end place ≡ false) ⊎ (is_of_pair line ≡ false) → EndsNot place left
 not_by place line left names same h = (in_head place names, elim h [ inl early ↦ inl early | inr other ↦ inr (same ∙ other) ])
@@ -142,12 +139,6 @@ over_at P old new e h = known P old.rest new.rest [] e.took (λ left is. subst P
     is_nil : (c : Option (List ℕ)) (left : List ℕ) → c ≡ Some left → IsAtEnd c → left ≡ []
     is_nil None left is over = absurd (let f : ⊥ = cc in f)
     is_nil (Some xs) left is over = let same : xs ≡ left = cc in sym same ∙ over
-
-pub over_done : (place : Place) (number : ℕ) (old new : Reading) → Ends old new → may_end place ≡ true → TurnsAny place number old new (Ok Done)
-over_done place number old new e end = over_at (EndsTold place) old new e (end, inl refl)
-
-pub over_line : (place : Place) (number : ℕ) (old new : Reading) → is_some (head_version place) ≡ true → Ends old new → may_end place ≡ false → TurnsAny place number old new (Err (Line number))
-over_line place number old new names e early = (refl, inl (over_at (BreaksIn place) old new e (inl (refl, early), (in_head place names, inl early))))
 
 -- ---- what is told
 

@@ -3,7 +3,7 @@ use Rattle.std.proofs.Common.{◌≡◌, ◌+◌, ◌-◌, ◌≤◌, ◌<◌, �
 use Rattle.std.specs.Prelude.{Result, Ok, Err, IfErr, IfSome, IsErrAnd, OnOk, OnErr}
 use Rattle.std.specs.Io.KnownBytes.{Appends, Consumes, IsAtEnd}
 use Rattle.tp_device.specs.Bytes.{AppendsPart}
-use Rattle.tp_device.proofs.Parts.{appends_none}
+use Rattle.std.proofs.KnownBytes.{Appends-nil}
 use Rattle.tp_bounds.specs.Setting.{Setting}
 use Rattle.tp_script.specs.Machine.{Machine}
 use Rattle.tp_script.specs.Pending.{Reading}
@@ -16,12 +16,11 @@ use Rattle.tp_script.specs.declared.serving.ServeFault.{ServeFault}
 use Rattle.tp_script.specs.declared.serving.ServeFault.TheVariants.{Read, Write, Memory, TooLong, Head}
 use Rattle.tp_script.proofs.ServeLemmas.{first_whole}
 use Rattle.tp_script.specs.Reading.{HasMore, SameLimits}
-use Rattle.tp_bare.specs.Bare.{first_setting, first_machine, EndLags, AnswersAll, AnswersLines, AnswersLinesTo, AnswersPart, BareStops, TakesAllLags, BeginsLines, HasNoHead, HasBadLag, IsRefused, bare_failures, bare_result}
-use Rattle.tp_bare.specs.ServeLines.{bare_status, serve_status}
+use Rattle.tp_bare.specs.Bare.{first_setting, first_machine, EndLags, AnswersAll, AnswersLines, AnswersLinesTo, AnswersPart, BareStops, TakesAllLags, BeginsLines, HasNoHead, IsRefused, bare_failures, bare_result}
+use Rattle.tp_bare.specs.ServeLines.{bare_status}
 use Rattle.tp_bare.specs.declared.bare.BareFault.{BareFault}
 use Rattle.tp_bare.specs.declared.bare.BareFault.TheVariants.{Network, Serving}
 use Rattle.tp_files.proofs.FaultLemmas.{whole_part}
-use Rattle.tp_files.proofs.FileLemmas.{consumes_more}
 
 -- ---- the lines of lags
 
@@ -113,7 +112,7 @@ part_answered (Some xs) (Some ys) (Some zs) (Some ws) held now line text more he
 -- nothing is written yet
 pub none_written : (source held : Option (List ℕ)) → AnswersPart source held held
 none_written None held = tt
-none_written (Some xs) held = inl (appends_none held)
+none_written (Some xs) held = inl (Appends-nil held)
 
 -- ---- what came of the commands on a network of a head
 
@@ -145,10 +144,6 @@ same_failures (Err Memory) q n is = ap (bare_failures n) (sym is)
 same_failures (Err TooLong) q n is = ap (bare_failures n) (sym is)
 same_failures (Err Head) q n is = ap (bare_failures n) (sym is)
 
-pub refused_by : {P : Type 0} (r : Result Served BareFault) (fault : ServeFault) → IsErrAnd r (λ e. e ≡ Serving fault) → (serve_status fault ≡ 2 → P) → IfErr r (λ f. bare_status f ≡ 2 → P)
-refused_by (Ok x) fault is give = absurd is
-refused_by (Err f) fault is give = λ two. give (sym (ap bare_status is) ∙ two)
-
 pub lines_all : (r : Result Served BareFault) (source held now : Option (List ℕ)) (before reading after : Reading) (head : ℕ × ℕ) → before.rest ≡ source → before.taken ≡ 0 → before.most ≡ 4_294_967_296 → TakesHead before reading (Ok head) → reading.most ≡ before.most → AnswersLines head reading after held now r → OnOk r (AnswersAll source held now)
 lines_all (Err e) source held now before reading after head from none most takes same answers = tt
 lines_all (Ok x) source held now before reading after head from none most takes same answers =
@@ -175,33 +170,33 @@ lines_part (Err (Serving fault)) source held now before reading after head from 
 
 none_read : (source held : Option (List ℕ)) → BareStops source held held (Serving Read)
 none_read None held = tt
-none_read (Some xs) held = inl (appends_none held)
+none_read (Some xs) held = inl (Appends-nil held)
 
 network_stops : (source held : Option (List ℕ)) → BareStops source held held Network
 network_stops None held = tt
-network_stops (Some xs) held = appends_none held
+network_stops (Some xs) held = Appends-nil held
 
 pub memory_stops : (source held : Option (List ℕ)) → BareStops source held held (Serving Memory)
 memory_stops None held = tt
-memory_stops (Some xs) held = appends_none held
+memory_stops (Some xs) held = Appends-nil held
 
 head_too_long : (a c held : Option (List ℕ)) (text : List ℕ) → Consumes a c text → Free text → HasMore c → length text ≡ 4_294_967_296 → BareStops a held held (Serving TooLong)
 head_too_long None c held text took free more is = tt
 head_too_long (Some xs) None held text took free more is = absurd took
 head_too_long (Some xs) (Some []) held text took free more is = absurd more
-head_too_long (Some xs) (Some (y ∷ ys)) held text took free more is = inl (text, y ∷ ys, took, free, is, omega arith, appends_none held)
+head_too_long (Some xs) (Some (y ∷ ys)) held text took free more is = inl (text, y ∷ ys, took, free, is, omega arith, Appends-nil held)
 
 no_head : (a c held : Option (List ℕ)) (line text : List ℕ) → Free line → EndsLine line text c → Consumes a c text → (256 < length line) ⊎ (head_of line ≡ None) → BareStops a held held (Serving Head)
 no_head None c held line text free ends took bad = tt
 no_head (Some xs) None held line text free ends took bad = absurd took
-no_head (Some xs) (Some zs) held line text free ends took bad = (inl (subst HasNoHead (sym (first_whole (Some xs) (Some zs) line text free ends took)) bad), appends_none held)
+no_head (Some xs) (Some zs) held line text free ends took bad = (inl (subst HasNoHead (sym (first_whole (Some xs) (Some zs) line text free ends took)) bad), Appends-nil held)
 
 no_line : (a c held : Option (List ℕ)) → Consumes a c [] → IsAtEnd c → BareStops a held held (Serving Head)
 no_line None c held took end = tt
 no_line (Some xs) None held took end = absurd took
 no_line (Some xs) (Some zs) held took end =
     let is : xs ≡ [] = took ∙ end in
-    (inl (subst (λ bytes. HasNoHead (lines_of bytes)) (sym is) tt), appends_none held)
+    (inl (subst (λ bytes. HasNoHead (lines_of bytes)) (sym is) tt), Appends-nil held)
 
 -- no head was read
 pub head_stops : (fault : ServeFault) (source held : Option (List ℕ)) (before after : Reading) → before.rest ≡ source → before.taken ≡ 0 → before.most ≡ 4_294_967_296 → TakesHead before after (Err fault) → SameLimits before after → BareStops source held held (Serving fault)
@@ -241,7 +236,7 @@ bad_lag (Some xs) (Some ys) (Some zs) (Some ws) held line text more bad last hea
     names = names;
     unfit = unfit;
   }),
-  appends_none held,
+  Appends-nil held,
 )
 
 lags_stop : (fault : ServeFault) (before reading after : Reading) (held : Option (List ℕ)) (head : ℕ × ℕ) (setting : Setting) → TakesHead before reading (Ok head) → ReadsLags reading after (first_setting head) setting (Err fault) → BareStops before.rest held held (Serving fault)

@@ -1,5 +1,5 @@
 -- The rows of lists that stand at some places.
-use Rattle.std.proofs.Common.{◌≡◌, ℕ, zero, suc, ◌==◌, true, ◌+◌, ◌*◌, ◌<◌, Vec, Global, Option, Some, None, IfSome, List, ◌∷◌, [], ◌++◌, map, length, get_or, take, drop, refl, sym, ap, ◌∙◌, arith}
+use Rattle.std.proofs.Common.{◌≡◌, ℕ, zero, suc, ◌==◌, true, ◌+◌, ◌*◌, ◌<◌, Vec, Global, Option, Some, None, IfSome, List, ◌∷◌, [], ◌++◌, map, length, get_or, take, drop, sym, ap, ◌∙◌, arith}
 use Rattle.std.proofs.Math.Nat.{mul_comm, mul_assoc}
 use Rattle.std.proofs.lemmas.Bool.Decides.{nat_tests}
 use Rattle.std.proofs.lemmas.List.{map-append, take_more, at_drop_more}
@@ -9,8 +9,7 @@ use Rattle.tp_ast.specs.declared.symbols.Typed.{Typed}
 use Rattle.tp_bindings.specs.Bindings.{Universe, choices, bindings}
 use Rattle.tp_ast.specs.Symbols.{Declared}
 use Rattle.tp_bindings.specs.declared.objects.Universe as objects
-use Rattle.tp_bindings.specs.Hints.{listed, listed_in}
-use Rattle.tp_bindings.specs.declared.objects.Known.{Known}
+use Rattle.tp_bindings.specs.Hints.{listed}
 use Rattle.tp_bindings.proofs.Along.{map_next}
 use Rattle.tp_bindings.proofs.OnRows.{Row, length-product, rows_bindings}
 
@@ -47,11 +46,6 @@ module _ (f : ℕ → Row) (ps : List ℕ) (i d : ℕ) (lt : i < length ps) wher
       ∙ ap (λ (ls : List Row). ls ++ names_in v ∷ []) made
       ∙ ap (λ (ns : Row). map f (take i ps) ++ ns ∷ []) is
       ∙ sym (ap (map f) (take_more ps i d lt) ∙ map-append f (take i ps) (get_or ps i d ∷ []))
-
--- no names stand behind all lists
-pub none_behind : (ks : List Known) → listed_in ks (length ks) ≡ []
-none_behind [] = refl
-none_behind (k ∷ ks) = none_behind ks
 
 pub emptied : (n : ℕ) → (n == 0) ≡ true → n ≡ 0
 emptied n h = grind (arith, nat_tests)

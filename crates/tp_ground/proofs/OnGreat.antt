@@ -1,7 +1,6 @@
 -- What stands in a list is past the limit if one of its members is.
-use Rattle.std.proofs.Common.{◌≡◌, ℕ, ◌≤◌, List, [], ◌∷◌, map, length, drop, Bool, true, false, ◌||◌, Vec, Global, refl, sym, ap, ◌∙◌, rules}
+use Rattle.std.proofs.Common.{◌≡◌, List, [], ◌∷◌, map, Bool, true, false, ◌||◌, Vec, Global, refl, sym, ap, ◌∙◌, rules}
 use Rattle.std.specs.List.{list_any}
-use Rattle.std.proofs.lemmas.List.{at_drop_all}
 use Rattle.tp_ast.specs.Conditions.{all_of, any_of, conditions}
 use Rattle.tp_ast.specs.CondViews.{cond_view}
 use Rattle.tp_ast.specs.declared.cond.Cond as conds
@@ -15,10 +14,6 @@ use Rattle.tp_ast.specs.ConstraintViews.{constraint_view}
 use Rattle.tp_ast.specs.declared.constraint.DurationRule as the_constraints
 use Rattle.tp_ast.specs.declared.constraint.DurationRule.{DurationRule}
 use Rattle.tp_ground.specs.Great.{great_condition, great_conditions, great_part, great_parts, great_constraint, great_constraints}
-
--- a loop that has seen none so far sees none
-pub none_left : {X : Type 0} (great : X → Bool) (xs : List X) (i : ℕ) → length xs ≤ i → list_any great (drop i xs) ≡ list_any great xs → false ≡ list_any great xs
-none_left great xs i le so_far = sym (at_drop_all (list_any great) xs i le) ∙ so_far
 
 pub cond_And : (v : Vec Cond Global) → cond_view (conds.And v) ≡ all_of (conditions (map cond_view v.items))
 cond_And v = search (rules, conds.the_lemmas)

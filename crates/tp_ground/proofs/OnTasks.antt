@@ -1,5 +1,5 @@
 -- What is written out of a problem, numbered one after another, and the task of it.
-use Rattle.std.proofs.Common.{◌≡◌, ℕ, ◌<◌, ◌≤◌, true, false, None, List, [], ◌∷◌, ◌++◌, length, map, Result, Ok, Err, IfErr, IsErrAnd, Vec, Global, refl, sym, ap, ap₂, subst, ◌∙◌, arith, append-nil}
+use Rattle.std.proofs.Common.{◌≡◌, ◌<◌, ◌≤◌, true, false, None, List, [], ◌∷◌, ◌++◌, length, map, Result, Ok, Err, IfErr, IsErrAnd, Vec, Global, refl, sym, ap, ap₂, subst, ◌∙◌, arith, append-nil}
 use Rattle.std.specs.List.{AllByRecursion, IsDistinct, list_all}
 use Rattle.std.proofs.lemmas.Bool.{and_from}
 use Rattle.std.proofs.lemmas.List.{length-map, get_or-map}
@@ -8,7 +8,7 @@ use Rattle.tp_ast.specs.Conditions.{Condition}
 use Rattle.tp_ast.specs.Actions as actions
 use Rattle.tp_ast.specs.Domains.{Domain}
 use Rattle.tp_ast.specs.Problems.{Problem}
-use Rattle.tp_ast.specs.DomainViews.{initial_view, action_view}
+use Rattle.tp_ast.specs.DomainViews.{initial_view}
 use Rattle.tp_ast.specs.declared.action.Action.{Action}
 use Rattle.tp_ast.specs.declared.problem.Initial.{Initial}
 use Rattle.tp_bounds.specs.RunLimits.{RunLimits}
@@ -17,16 +17,16 @@ use Rattle.tp_lower.specs.WriterViews.{WriterView}
 use Rattle.tp_task.specs.Words.{Words, same_words, with_all, firsts}
 use Rattle.tp_bindings.specs.Bindings.{Universe, Env, bindings, bound, universe_of}
 use Rattle.tp_task.specs.Fits.{body_fits}
-use Rattle.tp_task.specs.Tables.{Tables, CannotNumber}
+use Rattle.tp_task.specs.Tables.{Tables}
 use Rattle.tp_lower.specs.Written.{GroundCondition, GroundBody, GroundAction, condition_in, body_in}
 use Rattle.tp_lower.specs.Mentions.{Mentions, ◌then◌, of_condition, of_each}
 use Rattle.tp_lower.specs.ReadBack.{named_condition, named_body}
 use Rattle.tp_ground.specs.Initially.{GroundInitial, initial_in, of_initial, named_initial, is_initially_true, initial_value}
-use Rattle.tp_lower.specs.Lowered.{Notes, Extends, IsLowered, Overflows, Lowers}
+use Rattle.tp_lower.specs.Lowered.{Notes, Extends, IsLowered, Overflows}
 use Rattle.tp_ground.specs.Reached.{Instance, IsTaskOf, action_of, mentioned_of}
 use Rattle.tp_ground.specs.Instances.{written_with}
-use Rattle.tp_ground.specs.Grounding.{ground_action, ground_actions, mentioned, IsTask, HasNoTask}
-use Rattle.tp_ground.specs.WrittenTasks.{WrittenTask, written_task, named_task, of_task, IsMade}
+use Rattle.tp_ground.specs.Grounding.{ground_action, ground_actions, mentioned, IsTask}
+use Rattle.tp_ground.specs.WrittenTasks.{WrittenTask, written_task, named_task, IsMade}
 use Rattle.tp_ground.specs.declared.beginning.NumberedInitial.{NumberedInitial}
 use Rattle.tp_ground.specs.declared.grounder.LoweredTask.{LoweredTask}
 use Rattle.tp_task.specs.declared.task.Task.{Task}
@@ -91,13 +91,6 @@ module _ (u : Universe) (is : List Initial) (c : Condition) (third : Mentions) (
       (lowered_same _ first (entries_view is) (ap (of_each of_initial) (entries_view is)) l) k)
       h)
 
-module _ (a b : WriterView) (r : Result LoweredTask GroundFault) (c : Condition) where
-  abbrev pub TaskLowers : Universe → List Initial → List Action → Type 0
-  TaskLowers u is each = Lowers named_task a r b (written_task u (map initial_view is) c (map action_view each)) (of_task u (map initial_view is) c (map action_view each))
-
-  pub same_task : (u v : Universe) (is js : List Initial) (each bs : List Action) → u ≡ v → is ≡ js → each ≡ bs → TaskLowers u is each → TaskLowers v js bs
-  same_task u v is js each bs p q s l = subst (λ w. TaskLowers w js bs) p (subst (λ xs. TaskLowers u xs bs) q (subst (λ ys. TaskLowers u is ys) s l))
-
 -- ---- what the actions change is there
 
 abbrev pub IsWritten : Universe → GroundBody → Type 0
@@ -161,9 +154,6 @@ module _ (limits : RunLimits) (scale : Scale) (d : Domain) (p : Problem) (bodies
 
   most_atoms : later.most ≡ limits.atoms
   most_atoms = most ∙ lowered.notes.most ∙ ap (λ (t : Tables). t.most) empty
-
-  pub within_most : (n : ℕ) → n ≤ later.most → n ≤ limits.atoms
-  within_most n h = let m = most_atoms in omega arith
 
   pub atoms_of : length later.atoms ≤ later.most → length (firsts m.atoms) ≤ limits.atoms
   atoms_of h = let e : length later.atoms ≡ length (firsts m.atoms) = ap length all_atoms in let k = most_atoms in omega arith
@@ -295,9 +285,6 @@ module _ (limits : RunLimits) (scale : Scale) (d : Domain) (p : Problem) (is : L
   pub few_some : length is ≤ 65_535 → length l.actions.items ≤ 65_535
   few_some h = few_of limits scale d p some_bodies some_labels (mentioned_of d p is) none new later l empty lowered names atoms fluents most (let e = as_many_of in omega arith)
 
-  pub some_within : (n : ℕ) → n ≤ later.most → n ≤ limits.atoms
-  some_within n h = within_most limits scale d p some_bodies some_labels (mentioned_of d p is) none new later l empty lowered names atoms fluents most n h
-
   pub fits_some : list_all (body_fits (length later.atoms) (length later.fluents)) l.actions.items ≡ true
   fits_some = fits_of limits scale d p some_bodies some_labels (mentioned_of d p is) none new later l empty lowered names atoms fluents most (written_some is)
 
@@ -316,22 +303,6 @@ module _ (limits : RunLimits) (scale : Scale) (d : Domain) (p : Problem) (is : L
     initial_atoms = same_truths limits scale d p some_bodies some_labels (mentioned_of d p is) none new later l empty lowered names atoms fluents most t made;
     initial_numbers = same_values limits scale d p some_bodies some_labels (mentioned_of d p is) none new later l empty lowered names atoms fluents most t made;
   }
-
--- what cannot be numbered is too much
-pub overflowed : (limits : RunLimits) (d : Domain) (p : Problem) (none : WriterView) (e : GroundFault) → none.tables ≡ record { atoms = []; fluents = []; actions = []; most = limits.atoms } → Overflows none (mentioned d p) e → HasNoTask limits d p e
-overflowed limits d p none e empty h = by e (subst (λ (t : Tables). CannotNumber t.most (with_all t.atoms (mentioned d p).atoms) (with_all t.fluents (mentioned d p).fluents) e) empty h)
-  where
-    by : (f : GroundFault) → CannotNumber limits.atoms (firsts (mentioned d p).atoms) (firsts (mentioned d p).fluents) f → HasNoTask limits d p f
-    by faults.Memory k = tt
-    by (faults.TooMany kinds.Atoms) k = k
-    by (faults.TooMany kinds.Fluents) k = k
-    by (faults.TooMany kinds.Objects) k = absurd k
-    by (faults.TooMany kinds.Actions) k = absurd k
-    by faults.Range k = absurd k
-
--- the names of all actions, where the universe and the actions are told in other words
-pub names_then : (new later : List Words) (u v : Universe) (each bs : List Action) → u ≡ v → each ≡ bs → later ≡ new ++ map (λ a. a.words) (ground_actions u (map action_view each)) → later ≡ new ++ map (λ a. a.words) (ground_actions v (map action_view bs))
-names_then new later u v each bs p q e = e ∙ ap₂ (λ (w : Universe) (xs : List Action). new ++ map (λ a. a.words) (ground_actions w (map action_view xs))) p q
 
 -- a fault that was passed on
 pub not_made : {X : Type 0} (Why : GroundFault → Type 0) (r : Result X GroundFault) (f : GroundFault) → IsErrAnd r (λ e. e ≡ f) → Why f → IfErr r Why

@@ -7,7 +7,7 @@ use Rattle.std.specs.List.{AllByRecursion}
 use Rattle.std.proofs.lemmas.Bool.Decides.{nat_tests}
 use Rattle.std.proofs.lemmas.Str.{IsUtf8-from_ascii}
 use Rattle.std.proofs.lemmas.Str.Ascii.{IsAscii-from_all, IsAscii-cons}
-use Rattle.std.proofs.lemmas.List.{at_drop_more, at_drop_all, take_rest}
+use Rattle.std.proofs.lemmas.List.{at_drop_more, take_rest}
 use Rattle.std.proofs.lemmas.List.Elements.{recursion_from_All}
 use Rattle.tp_happen.specs.PlanLexemes.{Lexeme, word, sign, kind, is_blank, is_letter, begins_blank, begins_word, letter, longer, lexemes}
 use Rattle.tp_happen.specs.declared.tokens.ByteKind.{ByteKind}
@@ -39,15 +39,6 @@ no_lexemes (b ∷ bs) lt = absurd (let no : ⊥ = omega arith in no)
 -- blanks do not count
 pub blank_passed : (line : List ℕ) (n : ℕ) → n < length line → kind (get_or line n 0) ≡ Blank → lexemes (drop n line) ≡ lexemes (drop (n + 1) line)
 blank_passed line n lt is = at_drop_more lexemes line n 0 lt ∙ lexeme_step (get_or line n 0) (drop (n + 1) line) Blank is
-
-pub all_passed : (line : List ℕ) (n : ℕ) → length line ≤ n → lexemes (drop n line) ≡ lexemes []
-all_passed line n le = at_drop_all lexemes line n le
-
-pub begins_other : (line : List ℕ) (n : ℕ) (k : ByteKind) → n < length line → kind (get_or line n 0) ≡ k → (k ≡ Blank → ⊥) → begins_blank (drop n line) ≡ false
-begins_other line n Blank lt is ne = absurd (ne refl)
-begins_other line n Semicolon lt is ne = at_drop_more begins_blank line n 0 lt ∙ ap is_blank is
-begins_other line n Letter lt is ne = at_drop_more begins_blank line n 0 lt ∙ ap is_blank is
-begins_other line n Alone lt is ne = at_drop_more begins_blank line n 0 lt ∙ ap is_blank is
 
 letter_ascii : (b : ℕ) → kind b ≡ Letter → b < 128
 unfolding kind

@@ -1,24 +1,9 @@
 -- Lemmas on the actions of a task, told by their words.
-use Rattle.std.proofs.Common.{◌≡◌, ℕ, ◌+◌, ◌<◌, Bool, true, false, cond, List, [], ◌∷◌, length, map, refl, sym, ap, ◌∙◌, arith, Option, Some, None, option_map, Bor}
+use Rattle.std.proofs.Common.{◌≡◌, ℕ, ◌+◌, ◌<◌, Bool, true, false, cond, List, [], ◌∷◌, length, sym, arith, Option, Some, None, option_map}
 use Rattle.std.specs.List.{position_from}
 use Rattle.std.specs.Option.{IfSome}
 use Rattle.tp_task.specs.declared.task.ActionId.{ActionId}
-use Rattle.tp_task.specs.Words.{Words, same_words}
-use Rattle.tp_happen.specs.TaskWords.{action_of}
-
-made_back : (r : Option ActionId) → option_map (λ n. let a : ActionId = record { 0 = n } in a) (option_map (λ (i : ActionId). i.0) r) ≡ r
-made_back None = refl
-made_back (Some i) = refl
-
-pub action_found : (actions : List Words) (words : List (Bor (List ℕ))) (name : Bor (List ℕ)) (args : List (Bor (List ℕ))) (r : Option ActionId) → words ≡ name ∷ args → option_map (λ (i : ActionId). i.0) r ≡ position_from (same_words (name.now ∷ map (λ a. a.now) args)) 0 actions → r ≡ action_of actions (map (λ w. w.now) words)
-action_found actions words name args r is found =
-    sym (made_back r)
-    ∙ ap (option_map (λ n. let a : ActionId = record { 0 = n } in a)) found
-    ∙ ap (λ (ws : List (Bor (List ℕ))). action_of actions (map (λ w. w.now) ws)) (sym is)
-
-pub no_action : (actions : List Words) (words : List (Bor (List ℕ))) → length words ≡ 0 → None ≡ action_of actions (map (λ w. w.now) words)
-no_action actions [] none = refl
-no_action actions (w ∷ ws) none = absurd (let no : ⊥ = omega (arith, none) in no)
+use Rattle.tp_task.specs.Words.{Words}
 
 within : (t : Bool) (p : Words → Bool) (k i : ℕ) (x : Words) (xs : List Words) → ((j : ℕ) → position_from p (k + 1) xs ≡ Some j → j < k + 1 + length xs) → cond t (Some k) (position_from p (k + 1) xs) ≡ Some i → i < k + length (x ∷ xs)
 within true p k i x xs more h = let e : k ≡ i = cc in omega (arith, e)

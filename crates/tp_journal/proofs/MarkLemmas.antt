@@ -1,5 +1,5 @@
 -- Marks of the points at which bounds begin.
-use Rattle.std.proofs.Common.{◌≡◌, ◌≢◌, ℕ, zero, suc, ◌+◌, ◌<◌, ◌≤◌, Bool, true, false, List, [], ◌∷◌, length, get_or, set, replicate, drop, Option, Some, None, inl, inr, refl, ap, sym, ◌∙◌, arith, length-set}
+use Rattle.std.proofs.Common.{◌≡◌, ◌≢◌, ℕ, zero, suc, ◌<◌, ◌≤◌, Bool, true, false, List, [], ◌∷◌, length, get_or, set, replicate, drop, Option, Some, None, inl, inr, refl, ap, sym, ◌∙◌, arith, length-set}
 use Rattle.std.specs.List.{AllByRecursion, filter_map, cons_option}
 use Rattle.std.proofs.lemmas.Bool.{cases_eq}
 use Rattle.std.proofs.lemmas.List.{get_or-set_same, get_or-set_other}
@@ -20,10 +20,6 @@ same_place Origin Origin h = refl
 same_place Origin (Event e) h = absurd (let f : ⊥ = omega arith in f)
 same_place (Event e) Origin h = absurd (let f : ⊥ = omega arith in f)
 same_place (Event e) (Event k) h = let f : e ≡ k = omega arith in ap (λ n. Event n) f
-
-pub marked_none : (marks : List Bool) → ((k : ℕ) → get_or marks k false ≡ false) → Marked marks []
-marked_none marks none =
-    record { unmarked = λ p lt is. tt; marked = λ p is all. (let f : true ≡ false = sym is ∙ none (number_of p) in let g : ⊥ = cc in g) }
 
 pub marked_more : (marks : List Bool) (bs : List Bound) (b : Bound) → number_of b.from < length marks → Marked marks bs → Marked (set marks (number_of b.from) true) (b ∷ bs)
 marked_more marks bs b there h =

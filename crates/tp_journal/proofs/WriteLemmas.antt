@@ -7,7 +7,8 @@ use Rattle.std.proofs.lemmas.Grind.{flat_map-append}
 use Rattle.std.specs.Io.KnownBytes.{Appends}
 use Rattle.tp_device.specs.Bytes.{AppendsPart, Writes, failures_after}
 use Rattle.tp_device.specs.declared.Failed.{Failed}
-use Rattle.tp_device.proofs.Parts.{appends_more, appends_none, appends_is, part_after}
+use Rattle.std.proofs.KnownBytes.{Appends-trans, Appends-nil}
+use Rattle.tp_device.proofs.Parts.{appends_is, part_after}
 use Rattle.tp_machine.specs.Machine.{Machine}
 use Rattle.tp_machine.specs.declared.command.Command.{Command}
 use Rattle.tp_machine.specs.declared.command.Command.TheVariants.{Advance, Add, Withdraw, Window, Dispatch, Happened, Report}
@@ -160,7 +161,7 @@ records_more old mid new start before after held now then log logged further n k
       entries = r.entries ++ fs;
       ran = enters_more r.goes.lines old mid new r.entries fs r.goes.text line piece r.ran enters;
       runs = runs_more old mid new r.entries fs r.runs (enters_runs mid new line fs piece enters);
-      logs = appends_is log further _ _ (sym (journal_more old r.entries fs)) (appends_more log logged further (journal_bytes old r.entries) (pairs_text fs) r.logs logs);
+      logs = appends_is log further _ _ (sym (journal_more old r.entries fs)) (Appends-trans log logged further (journal_bytes old r.entries) (pairs_text fs) r.logs logs);
     }
 
 -- ---- how it ends
@@ -212,7 +213,7 @@ unlogged old mid new lines line es fs text piece held now log logged further ran
       count = length (journal_bytes old es) + part.count;
       within = omega (arith, size, part.within);
       pairs_before = λ _. omega arith;
-      logs = appends_is log further _ _ (sym (taken (journal_bytes old es) (pairs_text fs) part.count (journal_bytes old (es ++ fs)) whole)) (appends_more log logged further (journal_bytes old es) (take part.count (pairs_text fs)) logs part.held);
+      logs = appends_is log further _ _ (sym (taken (journal_bytes old es) (pairs_text fs) part.count (journal_bytes old (es ++ fs)) whole)) (Appends-trans log logged further (journal_bytes old es) (take part.count (pairs_text fs)) logs part.held);
     }
 
 pub journals_err : (old mid new : Machine) (before reading after : Reading) (held now then log logged further : Option (List ℕ)) (n : ℕ) (fault : JournalFault) → Records old mid before reading held now log logged n → Turns mid new reading after now then logged further (Err fault) → Journals old new before after held then log further (Err fault)
@@ -269,7 +270,7 @@ journals_err old mid new before reading after held now then log logged further n
       ended = (
         refl,
         part_after held now then r.goes.text turns.2 [] (r.goes.text ++ turns.2) (ap (λ t. r.goes.text ++ t) (sym (append-nil turns.2))) r.goes.written turns.5,
-        appends_is log further _ _ (sym (journal_more old r.entries turns.1)) (appends_more log logged further (journal_bytes old r.entries) (pairs_text turns.1) r.logs turns.6),
+        appends_is log further _ _ (sym (journal_more old r.entries turns.1)) (Appends-trans log logged further (journal_bytes old r.entries) (pairs_text turns.1) r.logs turns.6),
       );
     }
 journals_err old mid new before reading after held now then log logged further n Log r turns =
@@ -325,7 +326,7 @@ journals_headless m r held log logged part =
           one = omega arith;
           ran_before = (refl, refl, refl);
           ran_last = (refl, refl, refl);
-          answered = appends_none held;
+          answered = Appends-nil held;
           count = part.count;
           within = omega (arith, part.within, ap length (journal_none m));
           pairs_before = λ some. absurd (some refl);
@@ -373,13 +374,6 @@ lag_written e lags lt some =
     ap (λ ls. text_of (map lag_line (lags_from e ls))) (drop_next e lags lt)
     ∙ ap (λ b. text_of (map lag_line (cond b (lags_from (e + 1) (drop (e + 1) lags)) ((e, get_or lags e 0) ∷ lags_from (e + 1) (drop (e + 1) lags))))) (ne_eqb (get_or lags e 0) 0 some)
 
-pub lags_done : (lags : List ℕ) → lags_after (length lags) lags ≡ []
-lags_done lags = ap (λ ls. text_of (map lag_line (lags_from (length lags) ls))) (all_dropped lags)
-  where
-    all_dropped : (xs : List ℕ) → drop (length xs) xs ≡ []
-    all_dropped [] = refl
-    all_dropped (x ∷ xs) = all_dropped xs
-
 -- the lines of lags so far, and those to come
 pub record WritesLags (lags : List ℕ) (log logged : Option (List ℕ)) (e : ℕ) : Type 0 where
   pub written : List ℕ
@@ -396,7 +390,7 @@ lags_write lags a b d e n l lt number is some w logs =
     ap (λ k. codes "lag " ++ decimal k ++ codes " " ++ decimal l ++ codes "\n") number ∙ ap (λ k. codes "lag " ++ decimal e ++ codes " " ++ decimal k ++ codes "\n") is in
     record {
       written = w.written ++ (codes "lag " ++ decimal n ++ codes " " ++ decimal l ++ codes "\n");
-      logs = appends_more a b d w.written _ w.logs logs;
+      logs = Appends-trans a b d w.written _ w.logs logs;
       whole =
           w.whole ∙ (ap (λ t. w.written ++ t) (lag_written e lags lt (λ h. some (is ∙ h)) ∙ ap (λ t. t ++ lags_after (e + 1) lags) (sym line))
           ∙ sym (append_assoc w.written (codes "lag " ++ decimal n ++ codes " " ++ decimal l ++ codes "\n") (lags_after (e + 1) lags)));
@@ -431,7 +425,7 @@ pub own_write : (held : FinMap nat_cmp Bound) (next : ℕ) (a b d : Option (List
 own_write held next a b d id bound lt is w logs =
     record {
       written = w.written ++ bound_line id bound;
-      logs = appends_more a b d w.written _ w.logs logs;
+      logs = Appends-trans a b d w.written _ w.logs logs;
       whole = w.whole ∙ (ap (λ t. w.written ++ t) (own_next held next id bound lt is) ∙ sym (append_assoc w.written (bound_line id bound) (own_after held next (id + 1))));
     }
 

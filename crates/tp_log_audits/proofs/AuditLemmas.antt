@@ -1,20 +1,19 @@
 -- What is found of a journal in a file, and what is said of it.
-use Rattle.std.proofs.Common.{◌≡◌, ◌∙◌, ◌⊎◌, ◌≤◌, ℕ, List, [], ◌∷◌, ◌++◌, Option, Some, None, Bool, true, false, refl, subst, sym, ap, arith, inl, inr}
-use Rattle.std.specs.Prelude.{IfSome, IfOk, IfErr, Result, Ok, Err}
+use Rattle.std.proofs.Common.{◌≡◌, ◌∙◌, ◌≤◌, ℕ, List, [], Option, Some, None, Bool, true, false, refl, subst, sym, arith, inl, inr}
+use Rattle.std.specs.Prelude.{IfSome, Err}
 use Rattle.std.specs.Io.KnownBytes.{Appends}
 use Rattle.tp_device.specs.Bytes.{AppendsPart}
-use Rattle.tp_device.proofs.Parts.{appends_none}
+use Rattle.std.proofs.KnownBytes.{Appends-nil}
 use Rattle.std.proofs.lemmas.List.{length-replicate}
-use Rattle.tp_bounds.specs.Setting.{Setting, event_count}
+use Rattle.tp_bounds.specs.Setting.{event_count}
 use Rattle.tp_net.specs.NewNet.{new_setting}
-use Rattle.tp_bounds.specs.RunLimits.{RunLimits}
 use Rattle.tp_machine.specs.Machine.{Machine}
 use Rattle.tp_files.specs.FaultLines.{Tells}
 use Rattle.tp_audit.specs.Telling.{IsHeadTold}
 use Rattle.tp_audit.specs.declared.faults.JournalHead.{JournalHead}
 use Rattle.tp_log_audits.specs.AuditLines.{stop_status, stop_text}
 use Rattle.tp_log_audits.specs.Audits.{Hinders, HindersHead, IsFound, Says, found_line, is_journal, say_failures}
-use Rattle.tp_log_audits.specs.Bare.{EndsBareAudit, HeadFits, HindersBare, HindersTold, IsBareFound, IsToldFound, SaysAuditPart, SaysBare, SaysJournal, SaysWrong, StopsBareAudit, bare_machine}
+use Rattle.tp_log_audits.specs.Bare.{EndsBareAudit, HindersBare, HindersTold, IsBareFound, IsToldFound, SaysAuditPart, SaysBare, SaysJournal, SaysWrong, StopsBareAudit, bare_machine}
 use Rattle.tp_log_audits.specs.declared.audit_lines.AuditStop.{AuditStop}
 use Rattle.tp_log_audits.specs.declared.audit_lines.AuditStop.TheVariants.{Open, Network, Memory, Read, Line, Head, Write}
 use Rattle.tp_log_audits.specs.declared.auditing.Found.{Found}
@@ -126,7 +125,7 @@ kept Head input held now h is = h.1
 kept Write input held now h is = absurd (let f : ⊥ = omega (arith, is) in f)
 
 unwritten : (input held now : Option (List ℕ)) → now ≡ held → SaysAuditPart input held now
-unwritten input held now same = inl (subst (λ n. Appends held n []) (sym same) (appends_none held))
+unwritten input held now same = inl (subst (λ n. Appends held n []) (sym same) (Appends-nil held))
 
 pub part : (stop : AuditStop) (input held now : Option (List ℕ)) → StopsBareAudit input held now stop → SaysAuditPart input held now
 part Open input held now h = unwritten input held now h

@@ -14,7 +14,7 @@ use Rattle.tp_ast.specs.declared.words.TimeSpecifier.TheVariants.{OverAll}
 use Rattle.tp_lower.specs.WriterViews.{WriterView}
 use Rattle.tp_bindings.specs.Bindings.{Universe, Env}
 use Rattle.tp_task.specs.Tables.{Tables}
-use Rattle.tp_lower.specs.Written.{GroundCondition, GroundEffect, GroundLimit, GroundHappening, instant, durative, happening, condition_at, start_in, end_in, body_in}
+use Rattle.tp_lower.specs.Written.{GroundCondition, GroundEffect, GroundLimit, GroundHappening, durative, happening, condition_at, start_in, end_in, body_in}
 use Rattle.tp_lower.specs.Mentions.{Mentions, ◌then◌, of_condition, of_simple_effect, of_limit, of_each, of_start, of_end, of_body}
 use Rattle.tp_lower.specs.ReadBack.{named_condition, named_limit, named_event, named_body}
 use Rattle.tp_lower.specs.NumberedEffects.{named_simple_effect}
@@ -26,7 +26,7 @@ use Rattle.tp_task.specs.declared.events.Cond.{Cond}
 use Rattle.tp_task.specs.declared.events.Limit.{Limit}
 use Rattle.tp_task.specs.declared.events.GroundEvent.{GroundEvent}
 use Rattle.tp_task.specs.declared.events.Body.{Body}
-use Rattle.tp_task.specs.declared.events.Body.TheVariants.{Instant, Durative}
+use Rattle.tp_task.specs.declared.events.Body.TheVariants.{Durative}
 use Rattle.tp_lower.specs.declared.effects.NumberedEffect.{NumberedEffect}
 use Rattle.tp_lower.proofs.OnLowered.{AllLowered, failed, notes_then, overflows_first, overflows_then, lowered_as, lowered_both}
 
@@ -71,9 +71,6 @@ module _ (a b c : WriterView) (start end : GroundHappening) (m n : Mentions) whe
 
   pub ends_lowered : (first last : GroundEvent) (x : Ends) → x ≡ record { first = first; last = last } → IsLowered named_event a b first start m → IsLowered named_event b c last end n → IsLowered named_ends a c x (start, end) (m then n)
   ends_lowered first last x is l k = subst (λ y. IsLowered named_ends a c y (start, end) (m then n)) (sym is) (lowered_both (λ (p q : GroundHappening). (p, q)) (record { first = first; last = last }) (λ t. refl) l k)
-
-pub instant_lowered : (a b : WriterView) (e : GroundEvent) (h : GroundHappening) (m : Mentions) → IsLowered named_event a b e h m → IsLowered named_body a b (Instant e) (instant h) m
-instant_lowered a b e h m l = lowered_as instant (Instant e) (λ t. refl) l
 
 -- a durative action, its ends and its invariant numbered one after another
 module _ (u : Universe) (env : Env) (x : syntax.Body) (r : DurationRule) (c : Joined (Timed syntax_conds.Cond)) (f : Joined (Timed (Joined SimpleEffect))) (is : x ≡ bodies.Durative r c f) where

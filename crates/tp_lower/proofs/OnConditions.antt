@@ -1,9 +1,8 @@
 -- Conditions over atoms' words, and over their numbers.
 use Rattle.std.proofs.Common.{◌≡◌, ℕ, List, [], ◌∷◌, map, Bool, true, false, if◌then◌else◌, Result, IsErrAnd, Vec, Box, Global, refl, sym, ap, subst, ◌∙◌, rules}
-use Rattle.tp_ast.specs.Terms.{atom_view, term_view}
+use Rattle.tp_ast.specs.Terms.{term_view}
 use Rattle.tp_ast.specs.Symbols.{typed_view}
 use Rattle.tp_ast.specs.Conditions as conditions
-use Rattle.tp_ast.specs.ExprViews.{expr_view}
 use Rattle.tp_ast.specs.CondViews.{cond_view}
 use Rattle.tp_ast.specs.declared.words.Comparison.{Comparison}
 use Rattle.tp_ast.specs.declared.term.Atom.{Atom}
@@ -14,9 +13,9 @@ use Rattle.tp_ast.specs.declared.cond.Cond as syntax
 use Rattle.std.specs.Str.{bytes_eq}
 use Rattle.tp_ast.specs.Terms.{Argument}
 use Rattle.tp_lower.specs.WriterViews.{WriterView}
-use Rattle.tp_bindings.specs.Bindings.{Universe, Env, object_for, words_in}
+use Rattle.tp_bindings.specs.Bindings.{Universe, Env, object_for}
 use Rattle.tp_task.specs.Tables.{Tables, words_at}
-use Rattle.tp_lower.specs.Written.{GroundCondition, atom, compared, negation, all_of, any_of, conditions_from, always, never, either, same_in, compared_in, inner, condition_in, conditions_in}
+use Rattle.tp_lower.specs.Written.{GroundCondition, atom, compared, negation, all_of, any_of, conditions_from, always, never, either, same_in, inner, condition_in, conditions_in}
 use Rattle.tp_lower.specs.Mentions.{nothing, of_condition, of_conditions, of_each, ◌then◌}
 use Rattle.tp_lower.specs.ReadBack.{named_condition, named_expression}
 use Rattle.tp_lower.specs.Lowered.{IsLowered, Overflows, Lowers}
@@ -42,9 +41,6 @@ module _ (u : Universe) (env : Env) where
   see_Or : (v : Vec syntax.Cond Global) → cond_view (syntax.Or v) ≡ conditions.any_of (conditions.conditions (map cond_view v.items))
   see_Or v = search (rules, syntax.the_lemmas)
 
-  see_Not : (b : Box syntax.Cond Global) → cond_view (syntax.Not b) ≡ conditions.negation (cond_view b.value)
-  see_Not b = search (rules, syntax.the_lemmas)
-
   see_Imply : (a b : Box syntax.Cond Global) → cond_view (syntax.Imply a b) ≡ conditions.implies (cond_view a.value) (cond_view b.value)
   see_Imply a b = search (rules, syntax.the_lemmas)
 
@@ -54,14 +50,8 @@ module _ (u : Universe) (env : Env) where
   see_Exists : (vs : Vec Typed Global) (b : Box syntax.Cond Global) → cond_view (syntax.Exists vs b) ≡ conditions.for_some (map typed_view vs.items) (cond_view b.value)
   see_Exists vs b = search (rules, syntax.the_lemmas)
 
-  see_Atom : (a : Atom) → cond_view (syntax.Atom a) ≡ conditions.fact (atom_view a)
-  see_Atom a = search (rules, syntax.the_lemmas)
-
   see_Same : (a b : Term) → cond_view (syntax.Same a b) ≡ conditions.same (term_view a) (term_view b)
   see_Same a b = search (rules, syntax.the_lemmas)
-
-  see_Compare : (op : Comparison) (a b : Expr) → cond_view (syntax.Compare op a b) ≡ conditions.compared op (expr_view a) (expr_view b)
-  see_Compare op a b = search (rules, syntax.the_lemmas)
 
   module _ (x : syntax.Cond) where
     seen : (y : syntax.Cond) (c : conditions.Condition) → x ≡ y → cond_view y ≡ c → condition_in u env (cond_view x) ≡ condition_in u env c
@@ -73,9 +63,6 @@ module _ (u : Universe) (env : Env) where
     pub or_of : (v : Vec syntax.Cond Global) (cs : List syntax.Cond) → x ≡ syntax.Or v → cs ≡ v.items → condition_in u env (cond_view x) ≡ any_of (conditions_from (map (λ c. condition_in u env (cond_view c)) cs))
     or_of v cs is items = seen (syntax.Or v) _ is (see_Or v) ∙ ap (λ ds. any_of (conditions_from ds)) (each v.items) ∙ ap (λ ds. any_of (conditions_from (map (λ c. condition_in u env (cond_view c)) ds))) (sym items)
 
-    pub not_of : (b : Box syntax.Cond Global) (l : syntax.Cond) → x ≡ syntax.Not b → l ≡ b.value → condition_in u env (cond_view x) ≡ negation (condition_in u env (cond_view l))
-    not_of b l is lent = seen (syntax.Not b) _ is (see_Not b) ∙ ap (λ z. negation (condition_in u env (cond_view z))) (sym lent)
-
     pub imply_of : (a b : Box syntax.Cond Global) (l r : syntax.Cond) → x ≡ syntax.Imply a b → l ≡ a.value → r ≡ b.value → condition_in u env (cond_view x) ≡ condition_in u env (conditions.implies (cond_view l) (cond_view r))
     imply_of a b l r is left right = seen (syntax.Imply a b) _ is (see_Imply a b) ∙ ap (λ z. condition_in u env (conditions.implies (cond_view z) (cond_view b.value))) (sym left) ∙ ap (λ z. condition_in u env (conditions.implies (cond_view l) (cond_view z))) (sym right)
 
@@ -85,14 +72,8 @@ module _ (u : Universe) (env : Env) where
     pub exists_of : (vs : Vec Typed Global) (b : Box syntax.Cond Global) (ws : List Typed) (l : syntax.Cond) → x ≡ syntax.Exists vs b → ws ≡ vs.items → l ≡ b.value → condition_in u env (cond_view x) ≡ any_of (conditions_from (map (λ e. condition_in u e (cond_view l)) (inner u env (map typed_view ws))))
     exists_of vs b ws l is vars lent = seen (syntax.Exists vs b) _ is (see_Exists vs b) ∙ ap (λ (zs : List Typed). any_of (conditions_from (map (λ e. condition_in u e (cond_view b.value)) (inner u env (map typed_view zs))))) (sym vars) ∙ ap (λ z. any_of (conditions_from (map (λ e. condition_in u e (cond_view z)) (inner u env (map typed_view ws))))) (sym lent)
 
-    pub atom_of : (a : Atom) → x ≡ syntax.Atom a → condition_in u env (cond_view x) ≡ atom (words_in env (atom_view a))
-    atom_of a is = seen (syntax.Atom a) _ is (see_Atom a)
-
     pub same_of : (a b : Term) → x ≡ syntax.Same a b → condition_in u env (cond_view x) ≡ same_in env (term_view a) (term_view b)
     same_of a b is = seen (syntax.Same a b) _ is (see_Same a b)
-
-    pub compare_of : (op : Comparison) (a b : Expr) → x ≡ syntax.Compare op a b → condition_in u env (cond_view x) ≡ compared_in env op (expr_view a) (expr_view b)
-    compare_of op a b is = seen (syntax.Compare op a b) _ is (see_Compare op a b)
 
 module _ (t : Tables) where
   pub named_And : (v : Vec Cond Global) → named_condition t (conds.And v) ≡ all_of (conditions_from (map (named_condition t) v.items))

@@ -27,9 +27,6 @@ written-append (adds w ∷ xs) ys = written-append xs ys
 written-append (deletes w ∷ xs) ys = written-append xs ys
 written-append (writes w ∷ xs) ys = ap (λ zs. w ∷ zs) (written-append xs ys)
 
-pub split_none : AreSplit [] [] [] []
-split_none = record { adds = λ t. refl; deletes = λ t. refl; writes = λ t. refl }
-
 module _ (os : List NumberedEffect) (o : NumberedEffect) (t : Tables) where
   more_added : added (map (named_simple_effect t) (os ++ o ∷ [])) ≡ added (map (named_simple_effect t) os) ++ added (named_simple_effect t o ∷ [])
   more_added = ap added (map-append (named_simple_effect t) os (o ∷ [])) ∙ added-append (map (named_simple_effect t) os) (named_simple_effect t o ∷ [])

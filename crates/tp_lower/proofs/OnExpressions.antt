@@ -1,10 +1,8 @@
 -- Expressions over fluents' words, and over their numbers.
 use Rattle.std.proofs.Common.{◌≡◌, ℕ, ℤ, Box, Global, sym, ap, ◌∙◌, rules}
-use Rattle.tp_ast.specs.Terms.{atom_view}
 use Rattle.tp_ast.specs.ExprViews.{expr_view}
-use Rattle.tp_ast.specs.declared.term.Atom.{Atom}
 use Rattle.tp_ast.specs.declared.expr.Expr as syntax
-use Rattle.tp_bindings.specs.Bindings.{Env, words_in}
+use Rattle.tp_bindings.specs.Bindings.{Env}
 use Rattle.tp_task.specs.Tables.{Tables, words_at}
 use Rattle.tp_lower.specs.Written.{GroundExpression, number, fluent, the_duration, negative, sum, difference, product, expression_in}
 use Rattle.tp_lower.specs.ReadBack.{named_expression}
@@ -12,15 +10,6 @@ use Rattle.tp_task.specs.declared.events.Expr as exprs
 use Rattle.tp_task.specs.declared.events.Expr.{Expr}
 
 module _ (env : Env) (x : syntax.Expr) where
-  pub at_Number : (n : ℤ) → x ≡ syntax.Number n → expression_in env (expr_view x) ≡ number n
-  at_Number n is = ap (λ y. expression_in env (expr_view y)) is ∙ search (rules, syntax.the_lemmas)
-
-  pub at_Duration : x ≡ syntax.Duration → expression_in env (expr_view x) ≡ the_duration
-  at_Duration is = ap (λ y. expression_in env (expr_view y)) is ∙ search (rules, syntax.the_lemmas)
-
-  pub at_Fluent : (a : Atom) → x ≡ syntax.Fluent a → expression_in env (expr_view x) ≡ fluent (words_in env (atom_view a))
-  at_Fluent a is = ap (λ y. expression_in env (expr_view y)) is ∙ search (rules, syntax.the_lemmas)
-
   pub at_Negated : (a : Box syntax.Expr Global) → x ≡ syntax.Negated a → expression_in env (expr_view x) ≡ negative (expression_in env (expr_view a.value))
   at_Negated a is = ap (λ y. expression_in env (expr_view y)) is ∙ search (rules, syntax.the_lemmas)
 

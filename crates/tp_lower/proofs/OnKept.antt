@@ -134,10 +134,6 @@ stands_over w v u env c objects x same h l =
     stands w v env c objects x h
     (subst (λ z. IsLowered named_condition w v x (condition_in z env c) (of_condition (condition_in z env c))) (same ∙ sym l.notes.universe) l)
 
--- the same of a universe that is told in other words
-pub said_over : (w : WriterView) (u : Universe) (env : Env) (c : Condition) (x : Cond) → u ≡ w.universe → IsLowered named_condition w w x (condition_in w.universe env c) (of_condition (condition_in w.universe env c)) → IsLowered named_condition w w x (condition_in u env c) (of_condition (condition_in u env c))
-said_over w u env c x same l = subst (λ z. IsLowered named_condition w w x (condition_in z env c) (of_condition (condition_in z env c))) (sym same) l
-
 still : (w v : WriterView) → v.universe ≡ w.universe → Extends w.tables v.tables → (k : Kept) → StillStands w k → StillStands v k
 still w v same grown k h =
     λ env e.

@@ -78,9 +78,6 @@ overflows_then a b m n e f h =
     (subst (λ ws. CannotNumber a.tables.most (with_all b.tables.atoms n.atoms) (with_all ws n.fluents) e) f.fluents
     (subst (λ k. CannotNumber k (with_all b.tables.atoms n.atoms) (with_all b.tables.fluents n.fluents) e) f.most h))))
 
-pub overflows_memory : (a : WriterView) (m : Mentions) (e : GroundFault) → e ≡ faults.Memory → Overflows a m e
-overflows_memory a m e is = subst (λ f. Overflows a m f) (sym is) tt
-
 -- ---- what is lowered
 
 module _ {X Y : Type 0} {named : Tables → X → Y} where
@@ -198,6 +195,3 @@ module _ {C Y : Type 0} (named : Tables → C → Y) (of : Y → Mentions) where
 
 pub as_written : {X Y : Type 0} {named : Tables → X → Y} (of : Y → Mentions) {a b : WriterView} {x : X} (y z : Y) → y ≡ z → IsLowered named a b x z (of z) → IsLowered named a b x y (of y)
 as_written of y z is l = lowered_same y (of y) (sym is) (sym (ap of is)) l
-
-pub overflows_same : {Y : Type 0} (of : Y → Mentions) (a : WriterView) (f : GroundFault) (y z : Y) → y ≡ z → Overflows a (of z) f → Overflows a (of y) f
-overflows_same of a f y z is h = subst (λ v. Overflows a (of v) f) (sym is) h

@@ -1,6 +1,5 @@
 -- A setting is copied bound by bound and event by event.
-use Rattle.std.proofs.Common.{◌≡◌, ℕ, ◌+◌, ◌<◌, ◌≤◌, inl, inr, List, length, Option, Some, None, refl, sym, ap, subst, ◌∙◌, arith, get_or-set_other, get_or-set_same}
-use Rattle.std.proofs.Math.ListN.{length-set}
+use Rattle.std.proofs.Common.{◌≡◌, ℕ, ◌+◌, ◌<◌, ◌≤◌, inl, inr, List, length, Option, Some, None, refl, sym, ap, subst, ◌∙◌, arith}
 use Rattle.std.proofs.lemmas.Bool.{cases_eq, cases_lt}
 use Rattle.std.proofs.lemmas.List.{ext_get_or}
 use Rattle.std.specs.Ordering.{nat_cmp}
@@ -9,8 +8,8 @@ use Rattle.std.specs.FinMap.{FinMap, get, insert, empty, get-empty, same_map, na
 use Rattle.tp_bounds.specs.declared.Point.{Point}
 use Rattle.tp_bounds.specs.declared.Point.TheVariants.{Origin, Event}
 use Rattle.tp_bounds.specs.declared.Bound.{Bound}
-use Rattle.tp_bounds.specs.Setting.{Setting, event_count, lag_of, HasPoint}
-use Rattle.tp_bounds.specs.Changes.{with_bound, with_lag}
+use Rattle.tp_bounds.specs.Setting.{Setting, event_count, HasPoint}
+use Rattle.tp_bounds.specs.Changes.{with_bound}
 use Rattle.tp_net.proofs.Laws.{get_inserted, get_insert_other}
 use Rattle.tp_machine.specs.Copies.{HasBoundsBelow, HasPastBelow, HasLagsBelow}
 
@@ -57,18 +56,6 @@ past_all s start copy number h all =
 
 pub lags_none : (s start : Setting) → length start.lags ≡ length s.lags → HasLagsBelow s start start 0
 lags_none s start room = record { same = refl; events = room; below = λ e lt. absurd (let f : ⊥ = omega arith in f) }
-
-pub lags_more : (s start copy : Setting) (e : ℕ) → HasLagsBelow s start copy e → e < length s.lags → HasLagsBelow s start (with_lag copy e (lag_of s e)) (e + 1)
-lags_more s start copy e h lt =
-    let inside : e < length copy.lags = omega (arith, lt, h.events) in
-    record {
-      same = ap (λ (r : Setting). with_lag (record r { lags = copy.lags }) e (lag_of s e)) h.same;
-      events = length-set copy.lags e (lag_of s e) ∙ h.events;
-      below = λ k less. elim (cases_eq k e) [
-        | inl same ↦ ap (lag_of (with_lag copy e (lag_of s e))) same ∙ (get_or-set_same copy.lags e (lag_of s e) 0 inside ∙ ap (lag_of s) (sym same))
-        | inr ne ↦ get_or-set_other copy.lags e k (lag_of s e) 0 ne ∙ h.below k (omega arith)
-      ];
-    }
 
 pub lags_all : (s start copy : Setting) (number : ℕ) → HasLagsBelow s start copy number → length s.lags ≤ number → copy ≡ record start { lags = s.lags }
 lags_all s start copy number h all =

@@ -198,9 +198,6 @@ dispatched_more s xs m h is e lt =
       | inr ne ↦ let less : e < length xs = omega (arith, lt, length_push xs m) in h e less ∙ ap Some (sym (front_is xs m e less))
     ]
 
-pub not_done : (s : Setting) (e : ℕ) → e < event_count s → fixed_at s e ≡ None → IsDone s → ⊥
-not_done s e lt none done = done e lt none
-
 pub are_done : (s : Setting) (xs : List ℕ) → AreDispatched s xs → IsDone s
 are_done s xs d e lt none =
     let f : None ≡ Some (get_or xs e 0) = sym none ∙ d.each e (subst (λ n. e < n) (sym d.count) lt) in

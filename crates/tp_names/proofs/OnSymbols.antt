@@ -6,7 +6,7 @@ use Rattle.tp_types.specs.Tables.{item_of}
 use Rattle.tp_ast.specs.declared.symbols.Signature.{Signature}
 use Rattle.tp_types.proofs.OnTables.{seen}
 use Rattle.tp_ast.specs.declared.symbols.Typed.{Typed}
-use Rattle.tp_names.specs.declared.symbols.Scope.{Scope, Empty, Inner, the_lemmas}
+use Rattle.tp_names.specs.declared.symbols.Scope.{Scope, Inner, the_lemmas}
 
 abbrev pub or_else : Option (List Name) → Option (List Name) → Option (List Name)
 or_else (Some ts) o = Some ts
@@ -29,9 +29,6 @@ in_scope n s vars outer o is found =
     ∙ ap (types_of n) (scope_Inner vars outer)
     ∙ types_of-append n (map typed_view vars.now) (scope_view outer.now)
     ∙ ap (λ p. or_else p (types_of n (scope_view outer.now))) (sym found)
-
-pub scope_Empty : scope_view Empty ≡ []
-scope_Empty = search (rules, the_lemmas)
 
 -- ---- what is found by a name
 

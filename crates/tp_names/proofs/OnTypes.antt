@@ -37,12 +37,6 @@ inserted n ks k true is = or_known (has_key n ks) (bytes_eq n k.now) (λ t. ap (
 pub key_inserted : (n : Name) (ks : List (Bor (List ℕ))) (k : Bor (List ℕ)) → has_key n (insert_key same_text ks k) ≡ (has_key n ks || bytes_eq n k.now)
 key_inserted n ks k = inserted n ks k (has_key k.now ks) refl
 
-or_swap : (a b c : Bool) → ((a || b) || c) ≡ (a || (b || (c || false)))
-or_swap true b c = refl
-or_swap false true c = refl
-or_swap false false true = refl
-or_swap false false false = refl
-
 -- one more name
 pub knows_more : (ks : List (Bor (List ℕ))) (k : Bor (List ℕ)) (ns : List Name) → Knows ks ns → Knows (insert_key same_text ks k) (ns ++ k.now ∷ [])
 knows_more ks k ns known = λ n.

@@ -69,22 +69,6 @@ IsBelow n (PastLow e) = ⊥
 IsBelow n (Now e) = e < n
 IsBelow n (End e) = e < n
 
-pub star_none : (events horizon : ℕ) → ListsArcs (IsBelow 0) (new_setting events horizon) [] []
-star_none events horizon =
-    record {
-      len = refl;
-      exist = λ k within. absurd (omega (arith, within));
-      all = λ e b is below. absurd (nothing e below);
-    }
-  where
-    nothing : (e : Edge) → IsBelow 0 e → ⊥
-    nothing (Own id) h = h
-    nothing New h = h
-    nothing (PastHigh e) h = h
-    nothing (PastLow e) h = h
-    nothing (Now e) h = let f : ⊥ = omega (arith, h) in f
-    nothing (End e) h = let f : ⊥ = omega (arith, h) in f
-
 later : (n : ℕ) (e : Edge) → IsBelow (n + 1) e → (e ≡ End n) ⊎ ((e ≡ Now n) ⊎ IsBelow n e)
 later n (Own id) h = absurd h
 later n New h = absurd h

@@ -66,13 +66,6 @@ among_next names k f h =
       | inr ne ↦ inr (h.0, omega (arith, h.1, ne), h.2)
     ]
 
-pub without_none : (s : Setting) (names : List Edge) → ListsArcs (IsAmong names 0) s [] []
-without_none s names = record {
-  len = refl;
-  exist = λ k within. absurd (omega (arith, within));
-  all = λ e b is below. absurd (omega (arith, below.1));
-}
-
 pub without_kept : (s : Setting) (names : List Edge) (arcs : List Arc) (id : BoundId) (k : ℕ) (ns : List Edge) (xs : List Arc)
     → AreArcs s names arcs → k < length arcs → name_at names k ≢ Own id → ListsArcs (IsAmong names k) (without_bound s id.0) ns xs
     → ListsArcs (IsAmong names (k + 1)) (without_bound s id.0) (ns ++ name_at names k ∷ []) (xs ++ arc_at arcs k ∷ [])

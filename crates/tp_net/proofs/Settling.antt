@@ -1,14 +1,13 @@
 -- How moments come nearer to the least, or to the greatest, solution, arc by arc.
-use Rattle.std.proofs.Common.{◌≡◌, ℕ, zero, suc, ◌+◌, ◌<◌, ◌≤◌, ◌^◌, inl, inr, Bool, false, IsTrue, List, [], ◌∷◌, length, set, get_or, replicate, refl, ap, ◌∙◌, arith, get_or-set_same, get_or-set_other, length-set}
+use Rattle.std.proofs.Common.{◌≡◌, ℕ, zero, suc, ◌+◌, ◌<◌, ◌≤◌, ◌^◌, Bool, false, IsTrue, List, [], ◌∷◌, length, set, get_or, replicate, refl, ap, arith}
 use Rattle.std.specs.Prelude.{All, ℤ, pos, ◌+ℤ◌, ◌≤ℤ◌}
 use Rattle.std.proofs.lemmas.Int.{ints}
 use Rattle.std.proofs.lemmas.List.{length-replicate}
 use Rattle.tp_net.specs.declared.slacks.Arc.{Arc}
 use Rattle.tp_net.specs.Graph.{MeetsArc, IsSolution, IsLeast, IsGreatest, arc_at, no_arc, moment}
-use Rattle.tp_net.specs.Slacks.{JoinsPoints, IsGap}
+use Rattle.tp_net.specs.Slacks.{JoinsPoints}
 use Rattle.tp_net.specs.Moments.{ReachOrigin, FromOrigin}
-use Rattle.tp_net.specs.Rounds.{IsBelow, IsAbove, AreLow, AreHigh, AreFar, total, IsKnown}
-use Rattle.tp_net.proofs.Spreads.{same_or}
+use Rattle.tp_net.specs.Rounds.{AreLow, AreHigh, AreFar, total, IsKnown}
 
 -- one moment in place of another
 total_set : (ms : List ℕ) (i m : ℕ) → i < length ms → total (set ms i m) + get_or ms i 0 ≡ total ms + m
@@ -16,68 +15,11 @@ total_set [] i m within = absurd (omega (arith, within))
 total_set (n ∷ ms) zero m within = omega arith
 total_set (n ∷ ms) (suc i) m within = (let rest : total (set ms i m) + get_or ms i 0 ≡ total ms + m = total_set ms i m (omega (arith, within)) in omega (arith, rest))
 
--- a point that was raised no further than t has it
-pub lifted : (low : List ℕ) (arc : Arc) (wanted : ℕ) → JoinsPoints (length low) arc → IsGap 0 (get_or low arc.to 0) arc.weight wanted → get_or low arc.from 0 < wanted
-    → (t : ℕ → ℤ) → MeetsArc t arc → IsBelow low t → IsBelow (set low arc.from wanted) t
-lifted low arc wanted joins gap rises t met below x within =
-    let inside : x < length low = omega (arith, within, length-set low arc.from wanted) in
-    elim (same_or x arc.from) [
-      | inl e ↦
-          (let is : get_or (set low arc.from wanted) x 0 ≡ wanted = ap (λ y. get_or (set low arc.from wanted) y 0) e ∙ get_or-set_same low arc.from wanted 0 joins.0 in
-          let at : t x ≡ t arc.from = ap t e in
-          let end : pos (get_or low arc.to 0) ≤ℤ t arc.to = below arc.to joins.1 in
-          let exact : pos (get_or low arc.to 0) ≡ pos (0 + wanted) +ℤ arc.weight = gap.exact (omega (arith, rises)) in
-          omega (arith, ints, is, at, end, exact, met))
-      | inr ne ↦
-          (let is : get_or (set low arc.from wanted) x 0 ≡ get_or low x 0 = get_or-set_other low arc.from x wanted 0 ne in
-          let so : pos (get_or low x 0) ≤ℤ t x = below x inside in
-          omega (arith, ints, is, so))
-    ]
-
 pub lifted_more : (low : List ℕ) (i wanted : ℕ) → i < length low → get_or low i 0 < wanted → total low < total (set low i wanted)
 lifted_more low i wanted within more = (let s = total_set low i wanted within in omega (arith, s, more))
 
--- a point that was lowered no further than t has it
-pub fallen : (high : List ℕ) (arc : Arc) (allowed : ℕ) → JoinsPoints (length high) arc → pos allowed ≡ pos (get_or high arc.from 0) +ℤ arc.weight
-    → (t : ℕ → ℤ) → MeetsArc t arc → IsAbove high t → IsAbove (set high arc.to allowed) t
-fallen high arc allowed joins exact t met above x within =
-    let inside : x < length high = omega (arith, within, length-set high arc.to allowed) in
-    elim (same_or x arc.to) [
-      | inl e ↦
-          (let is : get_or (set high arc.to allowed) x 0 ≡ allowed = ap (λ y. get_or (set high arc.to allowed) y 0) e ∙ get_or-set_same high arc.to allowed 0 joins.1 in
-          let at : t x ≡ t arc.to = ap t e in
-          let begin : t arc.from ≤ℤ pos (get_or high arc.from 0) = above arc.from joins.0 in
-          omega (arith, ints, is, at, begin, exact, met))
-      | inr ne ↦
-          (let is : get_or (set high arc.to allowed) x 0 ≡ get_or high x 0 = get_or-set_other high arc.to x allowed 0 ne in
-          let so : t x ≤ℤ pos (get_or high x 0) = above x inside in
-          omega (arith, ints, is, so))
-    ]
-
 pub fallen_less : (high : List ℕ) (i allowed : ℕ) → i < length high → allowed < get_or high i 0 → total (set high i allowed) < total high
 fallen_less high i allowed within less = (let s = total_set high i allowed within in omega (arith, s, less))
-
-pub fallen_far : (high : List ℕ) (i allowed : ℕ) → i < length high → allowed < get_or high i 0 → AreFar high → AreFar (set high i allowed)
-fallen_far high i allowed lt less far x within =
-    let inside : x < length high = omega (arith, within, length-set high i allowed) in
-    elim (same_or x i) [
-      | inl e ↦
-          (let is : get_or (set high i allowed) x 0 ≡ allowed = ap (λ y. get_or (set high i allowed) y 0) e ∙ get_or-set_same high i allowed 0 lt in
-          let f : get_or high i 0 < 2 ^ 42 = far i lt in
-          omega (arith, is, f, less))
-      | inr ne ↦
-          (let is : get_or (set high i allowed) x 0 ≡ get_or high x 0 = get_or-set_other high i x allowed 0 ne in
-          let f : get_or high x 0 < 2 ^ 42 = far x inside in
-          omega (arith, is, f))
-    ]
-
--- the origin stays at 0
-pub fallen_start : (high : List ℕ) (i allowed : ℕ) → i < length high → allowed < get_or high i 0 → get_or high 0 0 ≡ 0 → get_or (set high i allowed) 0 0 ≡ 0
-fallen_start high i allowed lt less start =
-    elim (same_or 0 i) [
-      | inl e ↦ absurd (let at : get_or high 0 0 ≡ get_or high i 0 = ap (λ y. get_or high y 0) e in omega (arith, at, less, start))
-      | inr ne ↦ get_or-set_other high i 0 allowed 0 ne ∙ start
-    ]
 
 -- moments between those of a known solution and none are far from the ends of the machine's numbers
 pub known_small : (arcs : List Arc) (known low : List ℕ) → length known ≡ length low → IsKnown arcs known → AreLow arcs low → (x : ℕ) → x < length low → get_or low x 0 < 2 ^ 40

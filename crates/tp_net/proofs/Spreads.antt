@@ -270,24 +270,6 @@ module _ (links : List Link) (seed amount last point n : ℕ) (g r p r' : ℕ �
       parents = λ x not_seed some. parents_on x (p x) (s.parents x not_seed some);
     }
 
--- nothing is settled yet
-pub nothing_settled : (links : List Link) (seed amount : ℕ) (g r p : ℕ → ℕ)
-    → g seed ≡ amount → ((x : ℕ) → x ≢ seed → g x ≡ 0) → ((x : ℕ) → r x ≡ 0)
-    → Spreading links seed amount 0 (λ k. k < length links) g r p
-nothing_settled links seed amount g r p here there ranks = record {
-  seeded = here;
-  first = λ _. there;
-  order = λ x y done. (let a : r x ≡ 0 = ranks x in absurd (omega arith));
-  positive = λ x done. (let a : r x ≡ 0 = ranks x in absurd (omega arith));
-  closed = λ k inside done. (let a : r (link_at links k).to ≡ 0 = ranks _ in absurd (omega arith));
-  least = λ h h_closed h_seed x.
-      elim (same_or x seed) [
-        | inl e ↦ (let a : g x ≡ amount = ap g e ∙ here in let b : h x ≡ h seed = ap h e in omega arith)
-        | inr ne ↦ (let a : g x ≡ 0 = there x ne in omega arith)
-      ];
-  parents = λ x ne some. (let a : g x ≡ 0 = there x ne in absurd (omega arith));
-}
-
 -- which point is gone through does not matter once all links are seen
 pub all_seen : (links : List Link) (seed amount point point' : ℕ) (g r p : ℕ → ℕ)
     → Spreading links seed amount point (λ k. k < length links) g r p → Spreading links seed amount point' (λ k. k < length links) g r p
@@ -337,9 +319,6 @@ module _ (links : List Link) (points seed amount settled point : ℕ) (amounts r
 
     pub settled_state : Spreading links seed amount point (λ k. k < 0) (λ x. get_or amounts x 0) (λ x. get_or (set ranks point (settled + 1)) x 0) (λ x. get_or parents x 0)
     settled_state = settle links seed amount 0 point (settled + 1) (λ x. get_or amounts x 0) (λ x. get_or ranks x 0) (λ x. get_or parents x 0) (λ x. get_or (set ranks point (settled + 1)) x 0) s.state next above_now rank_here rank_there
-
-    pub settled_last : (x : ℕ) → 0 < get_or (set ranks point (settled + 1)) x 0 → get_or amounts point 0 ≤ get_or amounts x 0
-    settled_last = settle_last links seed amount 0 point (settled + 1) (λ x. get_or amounts x 0) (λ x. get_or ranks x 0) (λ x. get_or parents x 0) (λ x. get_or (set ranks point (settled + 1)) x 0) s.state next above_now rank_here rank_there
 
     pub settled_more : (amounts' parents' : List ℕ) → length amounts' ≡ length amounts → length parents' ≡ length parents
         → Spreading links seed amount point (λ k. k < length links) (λ x. get_or amounts' x 0) (λ x. get_or (set ranks point (settled + 1)) x 0) (λ x. get_or parents' x 0)

@@ -1,15 +1,9 @@
 -- Objects that fit, one after another.
 use Rattle.std.proofs.Common.{◌≡◌, ℕ, ◌+◌, ◌<◌, Bool, true, false, cond, List, [], ◌∷◌, ◌++◌, map, filter, length, get_or, drop, string_bytes, refl, sym, ap, ◌∙◌, append_assoc, subst, arith}
-use Rattle.std.proofs.lemmas.List.{map-append, at_drop_more}
-use Rattle.std.proofs.lemmas.List.Elements.{filter-append}
+use Rattle.std.proofs.lemmas.List.{at_drop_more}
 use Rattle.tp_ast.specs.Symbols.{Name, Declared, Parent, typed_view, types_fit}
 use Rattle.tp_ast.specs.declared.symbols.Typed.{Typed}
 use Rattle.tp_objects.specs.Declarations.{fitting_among}
-
-pub fitting-append : (types : List Parent) (xs ys : List Declared) (ws : List Name) → fitting_among types (xs ++ ys) ws ≡ fitting_among types xs ws ++ fitting_among types ys ws
-fitting-append types xs ys ws =
-    ap (map (λ o. o.name)) (filter-append (λ o. types_fit types o.types ws) xs ys)
-    ∙ map-append (λ o. o.name) (filter (λ o. types_fit types o.types ws) xs) (filter (λ o. types_fit types o.types ws) ys)
 
 chosen : (b : Bool) (d : Declared) (ds : List Declared) → map (λ o. o.name) (cond b (d ∷ ds) ds) ≡ cond b (d.name ∷ map (λ o. o.name) ds) (map (λ o. o.name) ds)
 chosen true d ds = refl

@@ -56,12 +56,6 @@ module _ (types : List Parent) (all : List Declared) (ws : List Name) where
   abbrev names : ℕ → List Name
   names k = fitting_among types (take k all) ws
 
-  nobody : Declared
-  nobody = record { name = []; types = [] }
-
-  one : (d : Declared) → List Name
-  one d = map (λ o. o.name) (cond (types_fit types d.types ws) (d ∷ []) [])
-
   pub add : (i : ℕ) (d : Declared) → slice_get all i ≡ Some d → fits i ≡ true → names (i + 1) ≡ names i ++ d.name ∷ []
   add i d is fit =
       let lt : i < length all = slice_get_within all i d is in

@@ -3,7 +3,7 @@ use Rattle.std.proofs.Common.{◌≡◌, ◌∙◌, ℕ, List, [], Option, Bool,
 use Rattle.std.specs.Prelude.{Result, Ok, Err, IfErr, IfOk, IfSome}
 use Rattle.std.specs.Io.KnownBytes.{Appends}
 use Rattle.tp_device.specs.Bytes.{AppendsPart}
-use Rattle.tp_device.proofs.Parts.{appends_none}
+use Rattle.std.proofs.KnownBytes.{Appends-nil}
 use Rattle.tp_bounds.specs.RunLimits.{greatest_limits}
 use Rattle.tp_bounds.specs.declared.plan_nets.PlanNet.{PlanNet}
 use Rattle.tp_task.specs.declared.task.Task.{Task}
@@ -240,7 +240,7 @@ head_counts input Write n h = absurd h
 -- ---- what was written by then
 
 unwritten : (held : List ℕ → Option (List ℕ)) (w : PlanWords) (input before now : Option (List ℕ)) → now ≡ before → WritesAuditPart held w input before now
-unwritten held w input before now is = inl (subst (λ n. Appends before n []) (sym is) (appends_none before))
+unwritten held w input before now is = inl (subst (λ n. Appends before n []) (sym is) (Appends-nil before))
 
 part_by : (held : List ℕ → Option (List ℕ)) (w : PlanWords) (input before now : Option (List ℕ)) (stop : AuditStop) → StopsAuditing held w input before now stop → WritesAuditPart held w input before now
 part_by held w input before now Open h = unwritten held w input before now h

@@ -2,7 +2,7 @@
 use Rattle.std.proofs.Common.{◌≡◌, ◌+◌, ◌-◌, ◌≤◌, ℕ, List, [], ◌++◌, ◌⊎◌, length-append, length, Bool, true, false, nat_lt, Option, Some, None, refl, subst, sym, ap, ◌∷◌, ◌∙◌, inl, inr, arith}
 use Rattle.std.specs.Prelude.{Result, Ok, Err, IfErr, IfOk, IfSome, MatchBool, MatchOption}
 use Rattle.std.specs.Io.KnownBytes.{Consumes, IsAtEnd}
-use Rattle.tp_device.proofs.Parts.{appends_none}
+use Rattle.std.proofs.KnownBytes.{Appends-nil}
 use Rattle.tp_bounds.specs.Setting.{Setting}
 use Rattle.tp_bounds.specs.declared.plan_nets.PlanNet.{PlanNet}
 use Rattle.tp_machine.specs.Machine.{Machine}
@@ -135,7 +135,7 @@ unfit_lag net (Some xs) (Some ys) (Some zs) more bad last lag setting lags took 
     }
 
 lags_stop : (fault : ServeFault) (net : PlanNet) (before after : Reading) (held : Option (List ℕ)) (setting : Setting) → ReadsLags before after (first_setting (net_head net)) setting (Err fault) → StopsAnswers net before.rest held held (Serving fault)
-lags_stop Read net before after held setting lags = inl (appends_none held)
+lags_stop Read net before after held setting lags = inl (Appends-nil held)
 lags_stop Write net before after held setting lags = absurd lags
 lags_stop Memory net before after held setting lags = absurd lags
 lags_stop TooLong net before after held setting lags = absurd lags

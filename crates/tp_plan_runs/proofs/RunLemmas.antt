@@ -2,7 +2,7 @@
 use Rattle.std.proofs.Common.{◌≡◌, ◌∙◌, ℕ, List, [], take, Option, Some, None, Bool, true, false, ◌⊎◌, inl, inr, refl, subst, sym, arith}
 use Rattle.std.specs.Prelude.{Err}
 use Rattle.std.specs.Io.KnownBytes.{Appends}
-use Rattle.tp_device.proofs.Parts.{appends_more, appends_none}
+use Rattle.std.proofs.KnownBytes.{Appends-trans, Appends-nil}
 use Rattle.tp_bounds.specs.RunLimits.{greatest_limits}
 use Rattle.tp_bounds.specs.declared.plan_nets.PlanNet.{PlanNet}
 use Rattle.tp_task.specs.declared.task.Task.{Task}
@@ -44,7 +44,7 @@ module _ (task : Task) (steps : List Step) (horizon : ℕ) (net : PlanNet) (is_n
         answered = whole.1;
         run = h.0;
         is = h.1;
-        written = appends_more before mid now whole.0 (run_lines task h.0) whole.2 h.2;
+        written = Appends-trans before mid now whole.0 (run_lines task h.0) whole.2 h.2;
       }
   ran_steps false h =
       record {
@@ -74,7 +74,7 @@ module _ (task : Task) (steps : List Step) (horizon : ℕ) (net : PlanNet) (is_n
         is = h.1;
         count = h.2.count;
         within = h.2.within;
-        written = appends_more before mid now whole.0 (take h.2.count (run_lines task h.0)) whole.2 h.2.held;
+        written = Appends-trans before mid now whole.0 (take h.2.count (run_lines task h.0)) whole.2 h.2.held;
       }
 
 -- ---- from a verdict to the words
@@ -157,7 +157,7 @@ stops_over a b w input before now Write same (inr h) = inr (named_over a b w _ s
 -- ---- what was written by then
 
 none_part : (held : List ℕ → Option (List ℕ)) (w : PlanWords) (input before now : Option (List ℕ)) → now ≡ before → RunsPart held w input before now
-none_part held w input before now is = inl (subst (λ n. Appends before n []) (sym is) (appends_none before))
+none_part held w input before now is = inl (subst (λ n. Appends before n []) (sym is) (Appends-nil before))
 
 early_part : (held : List ℕ → Option (List ℕ)) (w : PlanWords) (input before now : Option (List ℕ)) (task : Task) (steps : List Step) (net : PlanNet) → IsNamedPlan held w task steps → IsValidPlan task steps → IsPlanNetOf task steps (greatest_limits w.horizon) net → AnswersPart net input before now → RunsPart held w input before now
 early_part held w input before now task steps net named valid is h = inr (inr (task, steps, named, valid, inl (net, is, h)))

@@ -2,7 +2,7 @@
 use Rattle.std.proofs.Common.{◌≡◌, ◌≤◌, ◌∙◌, ℕ, List, [], Option, Bool, inl, inr, refl, subst, sym, arith}
 use Rattle.std.specs.Prelude.{Err}
 use Rattle.std.specs.Io.KnownBytes.{Appends}
-use Rattle.tp_device.proofs.Parts.{appends_none}
+use Rattle.std.proofs.KnownBytes.{Appends-nil}
 use Rattle.tp_text.specs.declared.fault.TextFault.{TextFault}
 use Rattle.tp_text.specs.declared.fault.TextFault.TheVariants as text_fault
 use Rattle.tp_ast.specs.declared.fault.SyntaxFault.{SyntaxFault}
@@ -84,8 +84,8 @@ module _ (held : List ℕ → Option (List ℕ)) (w : SearchWords) (before now :
   ends_within status stop h is = subst (λ n. n ≤ 3) (sym is) (stop_most stop h)
 
   pub part_then : (stop : SearchStop) → StopsSearch held w before now stop → SearchesPart held w before now
-  part_then (Files fault) h = inl (subst (λ n. Appends before n []) (sym h.1) (appends_none before))
-  part_then (Searching fault) h = inl (subst (λ n. Appends before n []) (sym h.1) (appends_none before))
+  part_then (Files fault) h = inl (subst (λ n. Appends before n []) (sym h.1) (Appends-nil before))
+  part_then (Searching fault) h = inl (subst (λ n. Appends before n []) (sym h.1) (Appends-nil before))
   part_then Write h = inr h
 
   kept_then : (stop : SearchStop) → StopsSearch held w before now stop → stop_status stop ≡ 2 → now ≡ before

@@ -3,25 +3,12 @@ use Rattle.std.proofs.Common.{ℕ, List, Option}
 use Rattle.tp_syntax.specs.Domains.{Domain, SpellsDomain}
 use Rattle.tp_syntax.specs.Problems.{SpellsProblem}
 use Rattle.tp_task.specs.declared.task.Task.{Task}
-use Rattle.tp_plan_files.specs.Causes.{Explains, IsTextFault}
 use Rattle.tp_plan_files.specs.Named.{IsIn}
 use Rattle.tp_plan_files.specs.declared.judging.JudgeFault.{JudgeFault}
 use Rattle.tp_plan_files.specs.declared.judging.JudgeFault.TheVariants as judge
 use Rattle.tp_plan_files.specs.declared.plan_words.PlanWords.{PlanWords}
 use Rattle.tp_plan_files.proofs.NamedLemmas.{Same, explains_over, in_over}
 use Rattle.tp_plan_search.specs.SearchTasks.{ExplainsTask, IsSearchTask, IsSearchTaskWith}
-
--- a fault of a text is one of the task's
-pub of_text : (held : List ℕ → Option (List ℕ)) (w : PlanWords) (fault : JudgeFault) → IsTextFault fault → Explains held w fault → ExplainsTask held w fault
-of_text held w (judge.DomainFile fault) is h = h
-of_text held w (judge.Domain fault) is h = h
-of_text held w (judge.ProblemFile fault) is h = h
-of_text held w (judge.Problem fault) is h = h
-of_text held w (judge.Task fault) is h = absurd is
-of_text held w (judge.PlanFile fault) is h = absurd is
-of_text held w (judge.Plan fault) is h = absurd is
-of_text held w judge.Memory is h = absurd is
-of_text held w judge.Range is h = absurd is
 
 pub search_task : (held later : List ℕ → Option (List ℕ)) (w : PlanWords) (domain : Domain) (task : Task) → IsIn (held w.domain.now) (λ text. SpellsDomain text domain) → Same later held → IsSearchTaskWith later w domain task → IsSearchTask held w task
 search_task held later w domain task spelled same is =

@@ -3,7 +3,7 @@ use Rattle.std.proofs.Common.{◌≡◌, ◌∙◌, ◌≤◌, ℕ, suc, List, [
 use Rattle.std.proofs.lemmas.List.{length-replicate}
 use Rattle.std.specs.Prelude.{Err, None}
 use Rattle.std.specs.Io.KnownBytes.{Appends}
-use Rattle.tp_device.proofs.Parts.{appends_none}
+use Rattle.std.proofs.KnownBytes.{Appends-nil}
 use Rattle.tp_bounds.specs.Changes.{fresh, with_bound}
 use Rattle.tp_bounds.specs.OwnBounds.{setting_of, with_bounds}
 use Rattle.tp_bounds.specs.RunLimits.{greatest_limits}
@@ -173,7 +173,7 @@ stop_is Conflict = two
 stop_is Write = three
 
 none_then : (before now : Option (List ℕ)) → now ≡ before → Appends before now []
-none_then before now same = subst (λ n. Appends before n []) (sym same) (appends_none before)
+none_then before now same = subst (λ n. Appends before n []) (sym same) (Appends-nil before)
 
 pub part_then : (held : List ℕ → Option (List ℕ)) (w : PlanWords) (owners : List ℕ) (before now : Option (List ℕ)) (stop : SplitStop) → StopsSplit held w owners before now stop → SplitsPart held w owners before now
 part_then held w owners before now (Judging fault) h = inl (none_then before now h.1)

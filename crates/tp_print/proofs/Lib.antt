@@ -1,4 +1,3 @@
-pub mod OnPrinters
 pub mod OnPrinting
 pub mod OnPrintingForms
 pub mod OnPrintingWords

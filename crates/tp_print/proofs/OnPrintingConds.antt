@@ -12,7 +12,8 @@ use Rattle.tp_ast.specs.Symbols.{Declared, argument_types, Symbols, atom_in}
 use Rattle.tp_ast.specs.TypedLists.{parameters_at}
 use Rattle.tp_ast.specs.Expressions.{Expression, terms_for, expressions_of}
 use Rattle.tp_ast.specs.Conditions.{Condition, all_of, any_of, negation, implies, for_all, for_some, fact, same, compared, no_conditions, conditions, kind_of, negated, implied, combined, bound, is_term, are_terms, equated, related, equality, relation, simple, condition_of, bound_condition, only_condition, conditions_of}
-use Rattle.tp_print.specs.Printing.{two_shapes, argument_shape, argument_shapes, typed_shapes, expression_shape, comparison_word, condition_shape, condition_shapes}
+use Rattle.tp_print.specs.Printing.{two_shapes, argument_shape, argument_shapes, typed_shapes, expression_shape, condition_shape, condition_shapes}
+use Rattle.tp_printer.specs.Words.{comparison_word}
 use Rattle.tp_ast.specs.declared.words.Comparison.{Comparison}
 use Rattle.tp_ast.specs.declared.words.Comparison.TheVariants as comparisons
 use Rattle.tp_ast.specs.declared.words.CondKind.{CondKind}

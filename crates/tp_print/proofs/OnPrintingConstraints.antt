@@ -9,7 +9,8 @@ use Rattle.tp_ast.specs.Lists.{only, both}
 use Rattle.tp_ast.specs.Symbols.{Declared, Symbols}
 use Rattle.tp_ast.specs.Expressions.{Expression, terms_for, expression_of}
 use Rattle.tp_ast.specs.Effects.{Constraint, all_constraints, constraint, no_constraints, constraints_in, is_duration, limited, is_start, constraint_of, start_constraint, only_constraint, constraints_of}
-use Rattle.tp_print.specs.Printing.{two_shapes, expression_shape, comparison_word, constraint_shape, constraint_shapes}
+use Rattle.tp_print.specs.Printing.{two_shapes, expression_shape, constraint_shape, constraint_shapes}
+use Rattle.tp_printer.specs.Words.{comparison_word}
 use Rattle.tp_ast.specs.declared.words.Comparison.{Comparison}
 use Rattle.tp_ast.specs.declared.words.Comparison.TheVariants as comparisons
 use Rattle.tp_ast.specs.declared.words.CondWord.{CondWord}

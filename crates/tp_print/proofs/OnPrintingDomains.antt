@@ -85,14 +85,6 @@ abbrev part_before : Section → Shapes → List SectionBody → List SectionBod
 part_before k no_shapes ps = ps
 part_before k (shape s ss) ps = record { section = k; body = shape s ss } ∷ ps
 
-abbrev parts_of : List Name → List Parent → List Declared → List SignatureView → List SignatureView → List Action → List SectionBody
-parts_of r t c p f all =
-    part_before Requirements (name_shapes r)
-    (part_before Types (type_shapes t)
-    (part_before Constants (typed_shapes c)
-    (part_before Predicates (signature_shapes p)
-    (part_before Functions (signature_shapes f) (action_parts all)))))
-
 body_section_word : (b : Body) → section_of (body_word b) ≡ Some (body_section b)
 unfolding section_of is_word
 body_section_word (instant c e) = refl

@@ -11,7 +11,8 @@ use Rattle.tp_ast.specs.Expressions.{Expression, terms_for, expression_of}
 use Rattle.tp_ast.specs.Conditions.{Condition, condition_of}
 use Rattle.tp_ast.specs.Parts.{Joined, Reader, one, joined_of}
 use Rattle.tp_ast.specs.Effects.{SimpleEffect, adds, deletes, writes, atom_at, deleted, written, changed, simple_effect_of, Effect, effect_of, Timed, specifier_at, specified_tree, specified, timed_condition_of, effect_at, timed_effect_of}
-use Rattle.tp_print.specs.Printing.{one_shape, two_shapes, argument_shapes, fact_shape, expression_shape, condition_shape, writing_word, simple_effect_shape, effect_shape, specifier_word, specifier_place, timed_shape}
+use Rattle.tp_print.specs.Printing.{one_shape, two_shapes, argument_shapes, fact_shape, expression_shape, condition_shape, simple_effect_shape, effect_shape, specifier_word, specifier_place, timed_shape}
+use Rattle.tp_printer.specs.Words.{writing_word}
 use Rattle.tp_ast.specs.declared.words.Writing.{Writing}
 use Rattle.tp_ast.specs.declared.words.Writing.TheVariants as writings
 use Rattle.tp_ast.specs.declared.words.TimeSpecifier.{TimeSpecifier}

@@ -16,7 +16,8 @@ use Rattle.tp_ast.specs.declared.symbols.Typed.{Typed}
 use Rattle.tp_ast.specs.declared.words.Comparison.{Comparison}
 use Rattle.tp_ast.specs.declared.words.TimeSpecifier.{TimeSpecifier}
 use Rattle.tp_ast.specs.declared.words.TimeSpecifier.TheVariants.{AtStart, OverAll, AtEnd}
-use Rattle.tp_print.specs.Printing.{headed, one_shape, two_shapes, typed_shapes, expression_shape, condition_shape, comparison_word, constraint_shape, constraint_shapes, specifier_word, specifier_place}
+use Rattle.tp_print.specs.Printing.{headed, one_shape, two_shapes, typed_shapes, expression_shape, condition_shape, constraint_shape, constraint_shapes, specifier_word, specifier_place}
+use Rattle.tp_printer.specs.Words.{comparison_word}
 use Rattle.tp_print.specs.DomainTexts.{specifier_text}
 use Rattle.tp_print.proofs.OnPrinting.{two_text}
 

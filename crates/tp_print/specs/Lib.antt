@@ -1,3 +1,2 @@
-pub mod Printers
 pub mod Printing
 pub mod DomainTexts

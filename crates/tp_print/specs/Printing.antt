@@ -10,10 +10,7 @@ use Rattle.tp_ast.specs.Parts.{Joined, Parts, all_parts, for_each, one, no_parts
 use Rattle.tp_ast.specs.Effects.{SimpleEffect, adds, deletes, writes, Effect, Timed, Constraint, Constraints, all_constraints, constraint, no_constraints, more_constraints}
 use Rattle.tp_ast.specs.Actions.{Action, Body, instant, durative}
 use Rattle.tp_ast.specs.Domains.{Domain}
-use Rattle.tp_ast.specs.declared.words.Comparison.{Comparison}
-use Rattle.tp_ast.specs.declared.words.Comparison.TheVariants.{Less, AtMost, Equal, AtLeast, Greater}
-use Rattle.tp_ast.specs.declared.words.Writing.{Writing}
-use Rattle.tp_ast.specs.declared.words.Writing.TheVariants.{Assign, Increase, Decrease, ScaleUp}
+use Rattle.tp_printer.specs.Words.{comparison_word, writing_word}
 use Rattle.tp_ast.specs.declared.words.TimeSpecifier.{TimeSpecifier}
 use Rattle.tp_ast.specs.declared.words.TimeSpecifier.TheVariants.{AtStart, OverAll, AtEnd}
 
@@ -66,13 +63,6 @@ expression_shape (product x y) =
     headed (codes "*") (two_shapes (expression_shape x) (expression_shape y))
 expression_shape the_duration = leaf (codes "?duration")
 
-abbrev pub comparison_word : Comparison → List ℕ
-comparison_word Less = codes "<"
-comparison_word AtMost = codes "<="
-comparison_word Equal = codes "="
-comparison_word AtLeast = codes ">="
-comparison_word Greater = codes ">"
-
 abbrev mutual
   pub condition_shape : Condition → Shape
   condition_shape (all_of cs) = headed (codes "and") (condition_shapes cs)
@@ -103,12 +93,6 @@ abbrev mutual
   pub part_shapes : {A : Type 0} → (A → Shape) → Parts A → Shapes
   part_shapes f no_parts = no_shapes
   part_shapes f (part j ps) = shape (joined_shape f j) (part_shapes f ps)
-
-abbrev pub writing_word : Writing → List ℕ
-writing_word Assign = codes "assign"
-writing_word Increase = codes "increase"
-writing_word Decrease = codes "decrease"
-writing_word ScaleUp = codes "scale-up"
 
 abbrev pub simple_effect_shape : SimpleEffect → Shape
 simple_effect_shape (adds f) = fact_shape f

@@ -6,20 +6,20 @@ ghost use Rattle.tp_text.specs.Texts.{shape_text, more_text};
 ghost use Rattle.tp_ast.specs.Symbols.{typed_view, parent_view, signature_view};
 ghost use Rattle.tp_ast.specs.EffectViews.{timed_condition_view, timed_effect_view};
 ghost use Rattle.tp_ast.specs.DomainViews.{body_view, action_view, domain_view};
-ghost use Rattle.tp_print.specs.Printers.{Prints};
+ghost use Rattle.tp_printer.specs.Printers.{Prints};
 ghost use Rattle.tp_print.specs.Printing.{name_shapes, typed_shapes, timed_shapes, body_shapes, body_word, field_shapes, action_shape, action_shapes, type_shapes, signature_shape, signature_shapes, name_shape};
 ghost use Rattle.tp_print.specs.DomainTexts.{lines_text, section_line, declarations_text, domain_text, IsSpelledAgain};
 
 use crate::print_parts::{
     print_cond, print_constraint, print_items, print_joined, print_names, print_variables,
 };
-use crate::printer::Printer;
 use tp_ast::action::{Action, Body};
 use tp_ast::domain::Domain;
 use tp_ast::symbols::{Signature, Typed};
 use tp_ast::timed::{TimedCond, TimedEffect};
 use tp_ast::types::TypeName;
 use tp_device::{Failed, Sink};
+use tp_printer::printer::Printer;
 
 // Conditions and effects at their time specifiers, each behind its word.
 fn print_timed<W: Sink>(out: &mut Printer<W>, condition: &TimedCond, effect: &TimedEffect)

@@ -15,11 +15,10 @@ ghost use Rattle.tp_ast.specs.PartViews.{joined_view};
 ghost use Rattle.tp_ast.specs.Effects.{constraints_in, writes};
 ghost use Rattle.tp_ast.specs.EffectViews.{simple_effect_view, effect_view, timed_view};
 ghost use Rattle.tp_ast.specs.ConstraintViews.{constraint_view};
-ghost use Rattle.tp_print.specs.Printers.{Prints};
-ghost use Rattle.tp_print.specs.Printing.{argument_shape, argument_shapes, fact_shape, name_shapes, types_shape, typed_shapes, expression_shape, comparison_word, condition_shape, condition_shapes, joined_shape, part_shapes, writing_word, simple_effect_shape, effect_shape, timed_shape, constraint_shape, constraint_shapes};
+ghost use Rattle.tp_printer.specs.Printers.{Prints};
+ghost use Rattle.tp_print.specs.Printing.{argument_shape, argument_shapes, fact_shape, name_shapes, types_shape, typed_shapes, expression_shape, condition_shape, condition_shapes, joined_shape, part_shapes, simple_effect_shape, effect_shape, timed_shape, constraint_shape, constraint_shapes};
 ghost use Rattle.tp_print.specs.DomainTexts.{item_text, operands_text, specifier_text};
 
-use crate::printer::Printer;
 use itoa::Buffer;
 use tp_ast::cond::Cond;
 use tp_ast::constraint::DurationRule;
@@ -32,6 +31,8 @@ use tp_ast::timed::Timed;
 use tp_ast::typed_list::TypedList;
 use tp_ast::words::{Comparison, TimeSpecifier, Writing};
 use tp_device::Sink;
+use tp_printer::printer::Printer;
+use tp_printer::words::{comparison_word, writing_word};
 
 // Names, each after a space.
 pub fn print_names<W: Sink>(out: &mut Printer<W>, names: &[String])
@@ -170,18 +171,6 @@ fn print_expr<W: Sink>(out: &mut Printer<W>, expr: &Expr)
             print_last_operand(out, b);
         }
         Expr::Duration => out.put(b"?duration"),
-    }
-}
-
-fn comparison_word(comparison: Comparison) -> &'static [u8]
-    ensures { result.now ≡ comparison_word comparison }
-{
-    match comparison {
-        Comparison::Less => b"<",
-        Comparison::AtMost => b"<=",
-        Comparison::Equal => b"=",
-        Comparison::AtLeast => b">=",
-        Comparison::Greater => b">",
     }
 }
 
@@ -330,17 +319,6 @@ pub fn print_joined<P: Printed, W: Sink>(out: &mut Printer<W>, joined: &Joined<P
             out.put(b")");
         }
         Joined::One(part) => part.print(out),
-    }
-}
-
-fn writing_word(writing: Writing) -> &'static [u8]
-    ensures { result.now ≡ writing_word writing }
-{
-    match writing {
-        Writing::Assign => b"assign",
-        Writing::Increase => b"increase",
-        Writing::Decrease => b"decrease",
-        Writing::ScaleUp => b"scale-up",
     }
 }
 

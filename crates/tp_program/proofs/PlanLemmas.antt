@@ -3,7 +3,7 @@ use Rattle.std.proofs.Common.{◌≡◌, ◌≤◌, ◌∙◌, ℕ, List, [], Op
 use Rattle.std.specs.Prelude.{Err}
 use Rattle.std.specs.Io.KnownBytes.{Appends}
 use Rattle.tp_device.specs.Bytes.{AppendsPart}
-use Rattle.tp_device.proofs.Parts.{appends_none}
+use Rattle.std.proofs.KnownBytes.{Appends-nil}
 use Rattle.tp_bounds.specs.RunLimits.{RunLimits}
 use Rattle.tp_task.specs.declared.task.Task.{Task}
 use Rattle.tp_happen.specs.declared.plans.Step.{Step}
@@ -133,8 +133,8 @@ PartOn tells held w before now =
     Appends before now [] ⊎ ((task : Task) × (steps : List Step) × (text : List ℕ) × IsNamedPlan held w task steps × tells task steps text × AppendsPart before now text)
 
 pub part_then : (tells : Task → List Step → List ℕ → Type 0) (passes : Task → List Step → DeorderFault → Type 0) (held : List ℕ → Option (List ℕ)) (w : PlanWords) (before now : Option (List ℕ)) (stop : PlanStop) → StopsOn tells passes held w before now stop → PartOn tells held w before now
-part_then tells passes held w before now (Judging fault) h = inl (subst (λ n. Appends before n []) (sym h.1) (appends_none before))
-part_then tells passes held w before now (Network fault) h = inl (subst (λ n. Appends before n []) (sym h.4) (appends_none before))
+part_then tells passes held w before now (Judging fault) h = inl (subst (λ n. Appends before n []) (sym h.1) (Appends-nil before))
+part_then tells passes held w before now (Network fault) h = inl (subst (λ n. Appends before n []) (sym h.4) (Appends-nil before))
 part_then tells passes held w before now Write h = inr h
 
 pub kept_then : (tells : Task → List Step → List ℕ → Type 0) (passes : Task → List Step → DeorderFault → Type 0) (held : List ℕ → Option (List ℕ)) (w : PlanWords) (before now : Option (List ℕ)) (stop : PlanStop) → StopsOn tells passes held w before now stop → stop_status stop ≡ 2 → now ≡ before

@@ -2,9 +2,8 @@
 use Rattle.std.proofs.Common.{◌≡◌, ◌≢◌, ◌∙◌, ◌≤◌, zero, suc, ap, ℕ, List, [], ◌++◌, Option, Some, None, ◌⊎◌, inl, inr, codes, sym, subst, refl, arith}
 use Rattle.std.specs.Prelude.{IfSome, MatchOption, Result, Ok, Err}
 use Rattle.std.specs.Io.KnownBytes.{Appends, Keeps}
-use Rattle.std.proofs.KnownBytes.{Keeps-refl, Keeps-trans}
+use Rattle.std.proofs.KnownBytes.{Keeps-refl, Keeps-trans, Appends-nil}
 use Rattle.tp_device.specs.Bytes.{AppendsPart}
-use Rattle.tp_device.proofs.Parts.{appends_none}
 use Rattle.tp_bare.specs.Bare.{AnswersAll, AnswersPart, IsRefused, first_machine}
 use Rattle.tp_machine.specs.Machine.{Machine}
 use Rattle.tp_script.specs.Pending.{Reading}
@@ -299,7 +298,7 @@ logs_some_over files input a b c d over (inr h) = inr (h.0, log_lines_over input
 
 -- what a run with a journal tells of a fault
 pub logs_part : (files : CallFiles) (input a b : Option (List ℕ)) → LogsPart input a b files.blank files.kept → LogsSome files input a b
-logs_part files input a b (inl same) = inl (subst (λ n. Appends a n []) (sym same) (appends_none a))
+logs_part files input a b (inl same) = inl (subst (λ n. Appends a n []) (sym same) (Appends-nil a))
 logs_part files input a b (inr h) = inr h
 
 -- what is said of the run of a named plan may be said otherwise
@@ -489,7 +488,7 @@ runs_from words files input status held now done answered all part broken kept =
       all = all;
       part = part;
       broken = broken;
-      kept = λ none two. subst (λ n. Appends held n []) (sym (kept none two)) (appends_none held);
+      kept = λ none two. subst (λ n. Appends held n []) (sym (kept none two)) (Appends-nil held);
     }
 
 runs_over : (words : List (List ℕ)) (files : CallFiles) (input : Option (List ℕ)) (status : ℕ) (a b c d : Option (List ℕ)) → Shift a b c d → Runs words files input status a b → Runs words files input status c d
@@ -523,7 +522,7 @@ is_silent status ended b first before now f fnow contents None on silent one =
     let no : ⊥ = omega (arith, on.0, one) in
     absurd no
 is_silent status ended b first before now f fnow contents (Some w) on silent one =
-    subst (λ n. Appends first n []) (sym (on.2 ∙ silent (omega (arith, on.0, one)))) (appends_none first)
+    subst (λ n. Appends first n []) (sym (on.2 ∙ silent (omega (arith, on.0, one)))) (Appends-nil first)
 
 tells_lost : (status : ℕ) (first before now : Option (List ℕ)) → (status ≤ 1 → before ≡ first) → (2 ≤ status → TellsSome first before) → (status ≤ 1 → TellsSome before now) → (2 ≤ status → now ≡ before) → TellsSome first now
 tells_lost zero first before now silent fault lost same = subst (λ f. TellsSome f now) (silent (omega arith)) (lost (omega arith))

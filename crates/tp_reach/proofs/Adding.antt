@@ -49,11 +49,6 @@ ones (x ∷ xs) = cond x (1 + ones xs) (ones xs)
 pub ones_is : (xs : List Bool) → ones xs ≡ count_by (λ b. b) xs
 ones_is xs = is_count_by ones (λ b. b) refl (λ x ys. refl) xs
 
-pub ones_bound : (xs : List Bool) → ones xs ≤ length xs
-ones_bound [] = omega arith
-ones_bound (true ∷ xs) = omega (arith, ones_bound xs)
-ones_bound (false ∷ xs) = omega (arith, ones_bound xs)
-
 ones_true : (xs : List Bool) → ones (true ∷ xs) ≡ 1 + ones xs
 ones_true xs = refl
 
@@ -109,11 +104,6 @@ set_same : (xs : List Bool) (a : ℕ) → set_of xs a ≡ true → slice_set xs 
 set_same [] a h = refl
 set_same (x ∷ xs) zero h = ap (λ y. y ∷ xs) (sym h)
 set_same (x ∷ xs) (suc a) h = ap (λ ys. x ∷ ys) (set_same xs a h)
-
--- several
-pub marked_length : (xs : List Bool) (as' : List ℕ) → length (marked xs as') ≡ length xs
-marked_length xs [] = refl
-marked_length xs (a ∷ as') = marked_length (slice_set xs a true) as' ∙ set_length xs a
 
 below_marked : (xs : List Bool) (as' : List ℕ) → Below xs (marked xs as')
 below_marked xs [] = below_refl xs
@@ -175,13 +165,6 @@ below_event xs e = go (met (set_of xs) true e.condition)
     go true = below_marked xs e.adds.items
     go false = below_refl xs
 
-pub event_length : (xs : List Bool) (e : GroundEvent) → length (after_event xs e) ≡ length xs
-event_length xs e = go (met (set_of xs) true e.condition)
-  where
-    go : (b : Bool) → length (cond b (marked xs e.adds.items) xs) ≡ length xs
-    go true = marked_length xs e.adds.items
-    go false = refl
-
 -- an event whose adds are there already
 pub event_kept : (xs : List Bool) (e : GroundEvent) → list_all (set_of xs) e.adds.items ≡ true → after_event xs e ≡ xs
 event_kept xs e h = go (met (set_of xs) true e.condition)
@@ -212,10 +195,6 @@ below_body : (xs : List Bool) (b : Body) → Below xs (after_body xs b)
 below_body xs (Instant e) = below_event xs e
 below_body xs (Durative start end invariant) = below_trans xs (after_event xs start) (after_event (after_event xs start) end) (below_event xs start) (below_event (after_event xs start) end)
 
-pub body_length : (xs : List Bool) (b : Body) → length (after_body xs b) ≡ length xs
-body_length xs (Instant e) = event_length xs e
-body_length xs (Durative start end invariant) = event_length (after_event xs start) end ∙ event_length xs start
-
 body_least : (acts : List GroundEvent) (other : ℕ → Bool) → HasAdded acts other → (xs : List Bool) (b : Body) (bs : List Body) → ((e : GroundEvent) → In e (acts_of_bodies (b ∷ bs)) → In e acts) → Least other xs → Least other (after_body xs b)
 body_least acts other closed xs (Instant e) bs i sub = event_least acts other closed xs e (i e (inl refl)) sub
 body_least acts other closed xs (Durative start end invariant) bs i sub =
@@ -229,10 +208,6 @@ in_rest e (Durative start end invariant) bs i = inr (inr i)
 pub below_round : (xs : List Bool) (bs : List Body) → Below xs (after_round xs bs)
 below_round xs [] = below_refl xs
 below_round xs (b ∷ bs) = below_trans xs (after_body xs b) (after_round (after_body xs b) bs) (below_body xs b) (below_round (after_body xs b) bs)
-
-pub round_length : (xs : List Bool) (bs : List Body) → length (after_round xs bs) ≡ length xs
-round_length xs [] = refl
-round_length xs (b ∷ bs) = round_length (after_body xs b) bs ∙ body_length xs b
 
 round_least : (acts : List GroundEvent) (other : ℕ → Bool) → HasAdded acts other → (xs : List Bool) (bs : List Body) → ((e : GroundEvent) → In e (acts_of_bodies bs) → In e acts) → Least other xs → Least other (after_round xs bs)
 round_least acts other closed xs [] i sub = sub
@@ -279,9 +254,6 @@ adds_trans acts xs ys zs p q = record {
   kept = λ a h. q.kept a (p.kept a h);
   least = λ other closed sub. q.least other closed (p.least other closed sub);
 }
-
-pub adds_refl : (acts : List GroundEvent) (xs : List Bool) → Adds acts xs xs
-adds_refl acts xs = record { kept = λ a h. h; least = λ other closed sub. sub }
 
 body_done : (xs : List Bool) (b : Body) (bs : List Body) → adds_fit (length xs) b ≡ true → after_body xs b ≡ xs → ((e : GroundEvent) → In e (acts_of_bodies bs) → IsDone xs e) → (e : GroundEvent) → In e (acts_of_bodies (b ∷ bs)) → IsDone xs e
 body_done xs (Instant x) bs fits q rest e i = ⊎_elim (λ w. subst (IsDone xs) (sym w) (event_done xs x fits q)) (rest e) i

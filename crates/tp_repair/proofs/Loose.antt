@@ -1,5 +1,5 @@
 -- The edge of a bound that holds no moment is one that leaves at once.
-use Rattle.std.proofs.Common.{◌≡◌, ℕ, suc, ◌⊎◌, inl, inr, List, Some, None, get_or, sym, ap, subst, arith}
+use Rattle.std.proofs.Common.{◌≡◌, ℕ, suc, inl, inr, List, Some, None, get_or, sym, ap, subst, arith}
 use Rattle.std.specs.Prelude.{slice_index_or}
 use Rattle.std.specs.BTreeMap.{BTreeMap}
 use Rattle.std.specs.BTreeMap as tree
@@ -14,13 +14,13 @@ use Rattle.tp_bounds.specs.Setting.{Setting, HasPoint}
 use Rattle.tp_bounds.specs.Schedule.{moment_of}
 use Rattle.tp_net.specs.Arcs.{number_of, arc_of}
 use Rattle.tp_net.proofs.KeptMoments.{kept_least, kept_greatest}
-use Rattle.tp_repair.specs.declared.engine.Engine.{Engine}
-use Rattle.tp_repair.specs.declared.store.Node.{Node}
-use Rattle.tp_repair.specs.Engine.{IsRepaired, IsLoose}
-use Rattle.tp_repair.specs.Costs.{AreWindows, HoldsNoMoment}
-use Rattle.tp_repair.proofs.Repaired.{kept}
+use Rattle.tp_moments.specs.declared.engine.Engine.{Engine}
+use Rattle.tp_moments.specs.declared.store.Node.{Node}
+use Rattle.tp_moments.specs.Engine.{IsRepaired, IsLoose}
+use Rattle.tp_moments.specs.Costs.{AreWindows, HoldsNoMoment}
+use Rattle.tp_moments.proofs.Repaired.{kept}
 use Rattle.tp_repair.proofs.Renewed.{own_there, own_arc}
-use Rattle.tp_repair.proofs.Cheap.{one_least, one_greatest}
+use Rattle.tp_moments.proofs.Cheap.{one_least, one_greatest}
 
 module _ (s : Setting) (count : ℕ) (keys : BTreeMap ℕ ℕ) (floors ends : List ℕ) (g : Engine) (r : IsRepaired s count keys floors ends g)
     (low high : ℕ → ℕ)

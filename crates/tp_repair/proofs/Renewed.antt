@@ -15,30 +15,29 @@ use Rattle.tp_bounds.specs.Changes.{without_bound, at_moment, with_fixed}
 use Rattle.tp_bounds.specs.Reasons.{bound_of, at_least, at_most, is_open}
 use Rattle.tp_bounds.proofs.Chains.{from_cond, opened}
 use Rattle.tp_net.specs.declared.slacks.Arc.{Arc}
-use Rattle.tp_net.specs.Graph.{arc_at}
-use Rattle.tp_net.specs.Arcs.{arc_of, name_at, raised_by, AreRaised, past_name, past_arc, AreNamesPast, AreArcsPast}
+use Rattle.tp_net.specs.Arcs.{arc_of, name_at, raised_by, past_name, past_arc, AreNamesPast}
 use Rattle.tp_net.proofs.Spreads.{same_or}
 use Rattle.tp_net.proofs.Laws.{key_itself, other_key}
 use Rattle.tp_net.proofs.Listings.{now_edge, end_edge}
 use Rattle.tp_net.proofs.Raises.{raised_bound, raised_arc, moved, there_was, fit_raised}
 use Rattle.tp_net.proofs.Fixes.{past_bound, past_arc_is, moved_past, was, fit_fixed}
 use Rattle.tp_net.proofs.Removals.{still_there, was_there, none_left, get_remove_other, fit_removed, start_removed}
-use Rattle.tp_repair.specs.declared.store.Node.{Node}
-use Rattle.tp_repair.specs.declared.engine.Engine.{Engine}
+use Rattle.tp_moments.specs.declared.store.Node.{Node}
+use Rattle.tp_moments.specs.declared.engine.Engine.{Engine}
 use Rattle.tp_net.specs.Moments.{IsStart}
-use Rattle.tp_repair.specs.Store.{names_of, kept_arcs, KeepsOthers, keys_of, near, one_at}
-use Rattle.tp_repair.proofs.Degrees.{counted_same, counted_left}
-use Rattle.tp_repair.specs.Kept.{IsUnder, AreNodes}
-use Rattle.tp_repair.specs.Engine.{IsWired, IsRepaired, AreMapped, IsChanged, IsLeft, IsUntouched}
-use Rattle.tp_repair.specs.Slots.{raised_node, raised_slots, past_node, past_slots, left_slots, IsOpenFloor}
-use Rattle.tp_repair.specs.Bringing.{IsUnbrought}
-use Rattle.tp_repair.specs.Asked.{IsFromEvent}
+use Rattle.tp_moments.specs.Store.{names_of, kept_arcs, KeepsOthers, keys_of, near, one_at}
+use Rattle.tp_moments.proofs.Degrees.{counted_same, counted_left}
+use Rattle.tp_moments.specs.Kept.{IsUnder, AreNodes}
+use Rattle.tp_moments.specs.Engine.{IsWired, IsRepaired, AreMapped, IsChanged, IsLeft, IsUntouched}
+use Rattle.tp_moments.specs.Slots.{raised_node, past_node, past_slots, left_slots, IsOpenFloor}
+use Rattle.tp_moments.specs.Bringing.{IsUnbrought}
+use Rattle.tp_moments.specs.Asked.{IsFromEvent}
 use Rattle.tp_net.specs.Graph.{HasNoSolution}
 use Rattle.tp_net.specs.Arcs.{NamesCycle}
 use Rattle.tp_net.proofs.Additions.{with_new, without_new}
-use Rattle.tp_repair.specs.Store.{arcs_of}
-use Rattle.tp_repair.proofs.Nodes.{nodes_listed, solution_kept}
-use Rattle.tp_repair.proofs.Changes.{left_here, left_other}
+use Rattle.tp_moments.specs.Store.{arcs_of}
+use Rattle.tp_moments.proofs.Nodes.{nodes_listed, solution_kept}
+use Rattle.tp_moments.proofs.Changes.{left_here, left_other}
 use Rattle.std.proofs.lemmas.Int.{ints}
 use Rattle.tp_net.specs.Kept.{IsKept}
 use Rattle.tp_net.specs.Sizes.{IsSmallWeight}
@@ -47,8 +46,8 @@ use Rattle.tp_net.proofs.KeptMoments.{kept_low_fits, kept_high_fits, high_schedu
 use Rattle.tp_net.proofs.Starts.{start}
 use Rattle.tp_net.proofs.Laws.{withdrawn}
 use Rattle.tp_net.proofs.Listings.{events_of}
-use Rattle.tp_repair.proofs.Stores.{arc_has}
-use Rattle.tp_repair.proofs.Repaired.{kept, among, weights, wired_here, under_kept, repaired_unbrought}
+use Rattle.tp_moments.proofs.Stores.{arc_has}
+use Rattle.tp_moments.proofs.Repaired.{kept, among, weights, wired_here, under_kept, repaired_unbrought}
 
 -- ---- nothing changed
 
@@ -61,20 +60,6 @@ changed_wired : (f : Node → Node) (s : Setting) (count : ℕ) (keys : BTreeMap
 changed_wired f s count keys floors ends g g' r c = subst (λ p. IsWired p (count + 2 * event_count s) g') r.wired.low_len (c.wired (count + 2 * event_count s) (wired_here s count keys floors ends g r))
 
 -- ---- now is raised
-
-pub are_raised : (now : ℕ) (lags : List ℕ) (slots : List (Option Node)) → AreRaised now lags (names_of slots) (kept_arcs slots) (kept_arcs (raised_slots now lags slots))
-are_raised now lags slots = record { len = len slots; each = each slots }
-  where
-    len : (slots : List (Option Node)) → length (kept_arcs (raised_slots now lags slots)) ≡ length (kept_arcs slots)
-    len [] = refl
-    len (None ∷ slots) = len slots
-    len (Some n ∷ slots) = ap suc (len slots)
-
-    each : (slots : List (Option Node)) (k : ℕ) → k < length (kept_arcs slots) → arc_at (kept_arcs (raised_slots now lags slots)) k ≡ raised_by now lags (name_at (names_of slots) k) (arc_at (kept_arcs slots) k)
-    each [] k within = absurd (omega (arith, within))
-    each (None ∷ slots) k within = each slots k within
-    each (Some n ∷ slots) zero within = refl
-    each (Some n ∷ slots) (suc k) within = each slots k (omega (arith, within))
 
 pub nodes_raised : (s : Setting) (now : ℕ) (keys : BTreeMap ℕ ℕ) (floors ends : List ℕ) (old new : List (Option Node)) → AreNodes s keys floors ends old → AreMapped (raised_node now s.lags) old new → AreNodes (at_moment s now) keys floors ends new
 nodes_raised s now keys floors ends old new a m = record {
@@ -156,20 +141,6 @@ are_names_past e m slots = record { len = len slots; each = each slots }
     len (Some n ∷ slots) = ap suc (len slots)
 
     each : (slots : List (Option Node)) (k : ℕ) → k < length (names_of slots) → name_at (names_of (past_slots e m slots)) k ≡ past_name e (name_at (names_of slots) k)
-    each [] k within = absurd (omega (arith, within))
-    each (None ∷ slots) k within = each slots k within
-    each (Some n ∷ slots) zero within = refl
-    each (Some n ∷ slots) (suc k) within = each slots k (omega (arith, within))
-
-pub are_arcs_past : (e m : ℕ) (slots : List (Option Node)) → AreArcsPast e m (names_of slots) (kept_arcs slots) (kept_arcs (past_slots e m slots))
-are_arcs_past e m slots = record { len = len slots; each = each slots }
-  where
-    len : (slots : List (Option Node)) → length (kept_arcs (past_slots e m slots)) ≡ length (kept_arcs slots)
-    len [] = refl
-    len (None ∷ slots) = len slots
-    len (Some n ∷ slots) = ap suc (len slots)
-
-    each : (slots : List (Option Node)) (k : ℕ) → k < length (kept_arcs slots) → arc_at (kept_arcs (past_slots e m slots)) k ≡ past_arc e m (name_at (names_of slots) k) (arc_at (kept_arcs slots) k)
     each [] k within = absurd (omega (arith, within))
     each (None ∷ slots) k within = each slots k within
     each (Some n ∷ slots) zero within = refl

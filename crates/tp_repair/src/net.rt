@@ -5,24 +5,24 @@ ghost use Rattle.tp_bounds.specs.Setting.{event_count, fixed_at, floor_of, HasPo
 ghost use Rattle.tp_bounds.specs.Schedule.{HasSchedule};
 ghost use Rattle.tp_bounds.specs.Changes.{with_bound, without_bound, proposing, at_moment, with_fixed, with_lag};
 ghost use Rattle.tp_net.specs.Faults.{RefusesBy, IsNew, IsNow, IsPastOf, SaysBetween, IsBetween};
-ghost use Rattle.tp_repair.specs.Told.{edge_count};
-ghost use Rattle.tp_repair.specs.Costs.{IsCheap, AreWindows, HoldsNoMoment, SeesConflict};
+ghost use Rattle.tp_moments.specs.Told.{edge_count};
+ghost use Rattle.tp_moments.specs.Costs.{IsCheap, AreWindows, HoldsNoMoment, SeesConflict};
 ghost use Rattle.tp_bounds.specs.declared.Bound.{Bound};
 ghost use Rattle.std.specs.Ordering.{nat_cmp};
 ghost use Rattle.std.specs.BTreeMap.{BTreeMap, get};
 ghost use Rattle.tp_net.specs.NewNet.{new_setting};
 ghost use Rattle.tp_net.specs.Arcs.{past_name};
-ghost use Rattle.tp_repair.specs.Work.{IsIdle};
+ghost use Rattle.tp_moments.specs.Work.{IsIdle};
 
-use crate::change::{leave, raise, settle};
-use crate::engine::{Engine, bring, refute};
-use crate::flow::Work;
-use crate::star::star;
-use crate::store::named;
 use std::alloc::{AllocError, Global};
 use std::collections::BTreeMap;
 use std::marker::Model;
 use tp_bounds::{Bound, BoundId, Edge, MOST_LAG, Reason};
+use tp_moments::change::{leave, raise, settle};
+use tp_moments::engine::{Engine, bring, refute};
+use tp_moments::flow::Work;
+use tp_moments::star::star;
+use tp_moments::store::named;
 use tp_net::edges::{floor, name_past, start_arc, stop_arc};
 use tp_net::{Net, NetFault, late, tops};
 
@@ -45,8 +45,8 @@ pub struct RepairNet {
 
 impl Model for RepairNet {
     ghost use Rattle.std.specs.Prelude.{length};
-    ghost use Rattle.tp_repair.specs.Told.{Told, coded_told, settled};
-    ghost use Rattle.tp_repair.specs.Engine.{IsRepaired};
+    ghost use Rattle.tp_moments.specs.Told.{Told, coded_told, settled};
+    ghost use Rattle.tp_moments.specs.Engine.{IsRepaired};
 
     ghost Value = { Told };
 

@@ -2,7 +2,7 @@
 use Rattle.std.proofs.Common.{◌≡◌, ◌∙◌, ℕ, List, [], take, Option, Bool, true, false, ◌⊎◌, inl, inr, refl, subst, sym}
 use Rattle.std.specs.Prelude.{Result, Ok, Err, IfErr, IfOk}
 use Rattle.std.specs.Io.KnownBytes.{Appends}
-use Rattle.tp_device.proofs.Parts.{appends_more, appends_none}
+use Rattle.std.proofs.KnownBytes.{Appends-trans, Appends-nil}
 use Rattle.tp_bounds.specs.RunLimits.{greatest_limits}
 use Rattle.tp_bounds.specs.declared.plan_nets.PlanNet.{PlanNet}
 use Rattle.tp_task.specs.declared.task.Task.{Task}
@@ -55,7 +55,7 @@ module _ (task : Task) (steps : List Step) (horizon : ℕ) (net : PlanNet) (is_n
           answered = whole.answered;
           run = h.0;
           is = h.1;
-          written = appends_more before mid now whole.text (run_lines task h.0) whole.written h.2;
+          written = Appends-trans before mid now whole.text (run_lines task h.0) whole.written h.2;
         };
         logged = whole.journal;
         named = named;
@@ -99,7 +99,7 @@ module _ (task : Task) (steps : List Step) (horizon : ℕ) (net : PlanNet) (is_n
           is = h.1;
           count = h.2.count;
           within = h.2.within;
-          written = appends_more before mid now whole.text (take h.2.count (run_lines task h.0)) whole.written h.2.held;
+          written = Appends-trans before mid now whole.text (take h.2.count (run_lines task h.0)) whole.written h.2.held;
         };
         logged = whole.journal;
         named = named;
@@ -173,7 +173,7 @@ stops_over a b w input before now file Write same (inr h) = inr (named_over a b 
 -- ---- what was written by then
 
 none_part : (held : List ℕ → Option (List ℕ)) (w : PlanWords) (input before now : Option (List ℕ)) → now ≡ before → RunsPart held w input before now
-none_part held w input before now is = inl (subst (λ n. Appends before n []) (sym is) (appends_none before))
+none_part held w input before now is = inl (subst (λ n. Appends before n []) (sym is) (Appends-nil before))
 
 module _ (held : List ℕ → Option (List ℕ)) (w : PlanWords) (input before now : Option (List ℕ)) (task : Task) (steps : List Step) (net : PlanNet) (named : IsNamedPlan held w task steps) (valid : IsValidPlan task steps) (is : IsPlanNetOf task steps (greatest_limits w.horizon) net) where
   early_part : AnswersPart net input before now → RunsPart held w input before now

@@ -31,22 +31,6 @@ pulls old new before buffer post end (Err e) within size le took =
     let front : length (take end before) ≡ end = length-take-le end before within in
     (take-append-le end (take end before) (buffer ++ post) (omega (arith, front)) ∙ take_all end (take end before) (omega (arith, front)), took)
 
-pub keeps_more : (a b : Option (List ℕ)) (xs more : List ℕ) → Consumes a b more → Keeps (prepend_known xs a) (prepend_known (xs ++ more) b)
-keeps_more None b xs more h = tt
-keeps_more (Some ys) None xs more h = absurd h
-keeps_more (Some ys) (Some zs) xs more h = append_assoc xs more zs ∙ ap (λ t. xs ++ t) (sym h)
-
-pub keeps_left : (a b : Option (List ℕ)) (xs : List ℕ) → Keeps a b → Keeps (prepend_known xs a) (prepend_known xs b)
-keeps_left None b xs h = tt
-keeps_left (Some ys) None xs h = absurd h
-keeps_left (Some ys) (Some zs) xs h = ap (λ t. xs ++ t) h
-
-pub keeps_all : (a b c : Option (List ℕ)) → Keeps a b → Keeps b c → Keeps a c
-keeps_all None b c h k = tt
-keeps_all (Some a) None c h k = absurd h
-keeps_all (Some a) (Some b) None h k = absurd k
-keeps_all (Some a) (Some b) (Some c) h k = k ∙ h
-
 -- ---- the first line
 
 no_lines : (xs : List ℕ) → lines_of xs ≡ [] → length xs ≡ 0

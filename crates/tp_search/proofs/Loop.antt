@@ -68,15 +68,6 @@ all_numbers : (m : ℕ) (cs : List Choice) → AllByRecursion (λ (c : Choice). 
 all_numbers m [] h = tt
 all_numbers m (c ∷ cs) h = (h.0, all_numbers m cs h.1)
 
--- what an action that is one event does
-abbrev event_of : GroundEvent → Option Body → GroundEvent
-event_of d None = d
-event_of d (Some (Instant e)) = e
-event_of d (Some (Durative start end invariant)) = d
-
-pub same_event : (o : Option Body) (x y : GroundEvent) → o ≡ Some (Instant x) → o ≡ Some (Instant y) → x ≡ y
-same_event o x y h k = ap (event_of x) (sym h ∙ k)
-
 in_take : (n : ℕ) (cs : List Choice) (c : Choice) → In c (take n cs) → In c cs
 in_take zero [] c i = absurd i
 in_take zero (d ∷ ds) c i = absurd i

@@ -8,9 +8,7 @@ use Rattle.tp_happen.specs.declared.plans.Step.{Step}
 use Rattle.tp_happen.specs.Steps.{IsPlan, ends_in_time}
 use Rattle.tp_validate.specs.OfTask.{IsOfTask, IsValidPlan, is_step_of}
 use Rattle.tp_validate.specs.Validated.{Validated}
-use Rattle.tp_reach.specs.TaskReach.{GoalIs}
 use Rattle.tp_search.specs.Plans.{EndsBy, ends_by, is_step_within, is_plan_within}
-use Rattle.tp_search.specs.Promised.{FindsPlan}
 
 each : (p q : Step → Bool) → ((s : Step) → p s ≡ true → q s ≡ true) → (steps : List Step) → list_all p steps ≡ true → list_all q steps ≡ true
 each p q h [] e = refl
@@ -34,9 +32,6 @@ module _ (t : Task) (horizon : ℕ) (steps : List Step) (h : is_plan_within t ho
 
   pub certifies : (v : Validated) → (v.task ≡ t) × (v.steps ≡ steps) × IsValidPlan t steps → (v.task ≡ t) × EndsBy horizon v.steps × IsValidPlan t v.steps
   certifies v (e, q, valid) = (e, subst (EndsBy horizon) (sym q) ends, subst (IsValidPlan t) (sym q) valid)
-
-pub finds_it : (t : Task) (horizon : ℕ) (v : Validated) → GoalIs t true → (v.task ≡ t) × EndsBy horizon v.steps × IsValidPlan t v.steps → FindsPlan t horizon v
-finds_it t horizon v g (e, q, valid) = record { in_reach = g; task = e; valid = valid; within = q }
 
 -- what is known of what was found
 pub each_found : {E X : Type 0} (P Q : X → Type 0) → ((x : X) → P x → Q x) → (r : Result (Option X) E) → IfOk r (λ o. IfSome o P) → IfOk r (λ o. IfSome o Q)

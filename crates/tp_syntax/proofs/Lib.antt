@@ -1,10 +1,3 @@
-pub mod OnActions
-pub mod OnKeyed
-pub mod OnFields
-pub mod OnSections
-pub mod OnProblemSections
 pub mod OnReadings
 pub mod OnDomains
-pub mod OnAtoms
-pub mod OnClashes
 pub mod OnProblems

@@ -1,13 +1,11 @@
 -- What the refusal of a text's tree says of the text.
 use Rattle.std.proofs.Common.{◌≡◌, ℕ, ◌≤◌, List, Option, Some, None, sym, ap, ◌∙◌, subst}
 use Rattle.tp_text.specs.Shapes.{Shape, Spells, nesting}
-use Rattle.tp_text.specs.Trees.{IsRefused}
-use Rattle.tp_text.specs.declared.fault.TextFault.{TextFault}
 use Rattle.tp_text.specs.declared.fault.TextFault.TheVariants as text_faults
 use Rattle.tp_text.proofs.OnTrees.{spells_one_tree}
 use Rattle.tp_ast.specs.Gives.{Fails}
 use Rattle.tp_syntax.specs.Limits.{NestsUpTo}
-use Rattle.tp_ast.specs.Readings.{SpellsNone, IsRefusedAs, of_text, of_tree}
+use Rattle.tp_ast.specs.Readings.{SpellsNone, IsRefusedAs, of_tree}
 use Rattle.tp_ast.specs.declared.fault.SyntaxFault.{SyntaxFault}
 use Rattle.tp_ast.specs.declared.fault.SyntaxFault.TheVariants as faults
 
@@ -26,15 +24,6 @@ module _ {Y : Type 0} (meaning : Shape → Option Y) (text : List ℕ) where
   refused_tree s (faults.Twice at) is h = no_meaning s is h
   refused_tree s (faults.Types at) is h = no_meaning s is h
   refused_tree s (faults.LeftOut at part) is h = no_meaning s is h
-
-  pub refused_text : (f : TextFault) → IsRefused text f → IsRefusedAs meaning text (of_text f)
-  refused_text text_faults.Memory h = tt
-  refused_text text_faults.TooLong h = h
-  refused_text (text_faults.BadByte at) h = h
-  refused_text (text_faults.Unclosed at) h = h
-  refused_text (text_faults.Extra at) h = h
-  refused_text (text_faults.Depth at) h = h
-  refused_text text_faults.Empty h = h
 
 -- a text spells one tree
 pub nests : (text : List ℕ) (s : Shape) (most : ℕ) → Spells text s → nesting s ≤ most → NestsUpTo text most

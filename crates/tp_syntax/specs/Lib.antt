@@ -1,10 +1,5 @@
-pub mod Fields
-pub mod KeyedParts
-pub mod SectionViews
 pub mod Refusals
 pub mod Limits
-pub mod ProblemViews
-pub mod Clashes
 pub use Rattle.tp_ast.specs.Words
 pub use Rattle.tp_ast.specs.Gives
 pub use Rattle.tp_ast.specs.Terms

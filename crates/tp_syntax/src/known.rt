@@ -4,7 +4,7 @@ ghost use Rattle.std.specs.Prelude.{◌≡◌, ◌++◌, map, IfOk};
 ghost use Rattle.tp_ast.specs.Symbols.{typed_view, signature_view};
 ghost use Rattle.tp_types.specs.TypeViews.{types_view};
 ghost use Rattle.tp_names.specs.SymbolViews.{symbols_view};
-ghost use Rattle.tp_syntax.specs.SectionViews.{domain_symbols};
+ghost use Rattle.tp_parts.specs.SectionViews.{domain_symbols};
 
 use std::alloc::{AllocError, Global};
 use tp_ast::symbols::{Signature, Typed};

@@ -1,24 +1,17 @@
 //! Domains and problems of planning texts.
 //!
-//! - `keyed`: items that begin with a word of their kind, in any order: sections and fields
-//! - `sections`, `problem_sections`: the sections of a domain and of a problem
-//! - `fields`, `action_reader`: the fields of an action; actions
+//! - `action_reader`: actions
 //! - `known`: what actions and a problem may name
 //! - `domain_reader`: domains
-//! - `initial`, `clash`: what a problem says of its initial state, and whether that agrees with itself
+//! - `initial`: what a problem says of its initial state
 //! - `problem`: problems
 #![tactic(auto)]
 
 mod action_reader;
-mod clash;
 mod domain_reader;
-mod fields;
 mod initial;
-mod keyed;
 mod known;
 mod problem;
-mod problem_sections;
-mod sections;
 
 pub use domain_reader::read_domain;
 pub use problem::read_problem;

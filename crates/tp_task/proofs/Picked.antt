@@ -33,10 +33,6 @@ module _ (pick : Placed → Bool) (ticks : Placed → ℕ) where
   pub picked_no : (x : Placed) (es : List Placed) → pick x ≡ false → picked pick ticks (x ∷ es) ≡ picked pick ticks es
   picked_no x es p = ap (map (timed_by ticks)) (cond-false (pick x) _ _ p)
 
-  -- the head is picked, or something of the rest is
-  at_head : {A : Type 0} (x e : Placed) → e ≡ x → pick e ≡ true → pick x ≡ false → A
-  at_head x e w p q = absurd (both_ways (pick x) (subst (λ y. pick y ≡ true) w p) q)
-
   -- what holds of each event that is picked
   pub all_picked_at : (P : EventOfStep → Type 0) (es : List Placed) → AllByRecursion P (picked pick ticks es) → (e : Placed) → In e es → pick e ≡ true → P (timed_by ticks e)
   all_picked_at P [] h e i p = absurd i

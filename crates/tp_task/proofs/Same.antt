@@ -42,9 +42,6 @@ right_part : {d d' : Option ℤ} (x y : Bool) → SameDuration d d' (x || y) →
 right_part x y h = ⊎_elim inl (λ e. inr (or_parts x y e).1) h
 
 module _ (s s' : State) (d d' : Option ℤ) where
-  two : (op : ℤ → ℤ → ℤ) (x y x' y' : Option ℤ) → x ≡ x' → y ≡ y' → both op x y ≡ both op x' y'
-  two op x y x' y' e f = ap₂ (both op) e f
-
   pub value_same : (x : Expr) → SameNumbers s s' (fluents_of x) → SameDuration d d' (mentions_duration x) → value s d x ≡ value s' d' x
   value_same (Number n) h k = refl
   value_same (Fluent f) h k = h f (or_left (f == f) false (eq-eqb f f refl))

@@ -5,7 +5,7 @@ use Rattle.std.specs.Prelude.{IfErr}
 use Rattle.tp_text.specs.Lexemes.{Lexeme, left, right, word, placed}
 use Rattle.tp_text.specs.Shapes.{Shape, leaf, node, Shapes, no_shapes, shape, written, all_written, lexemes_only, Spells, SpellsOneTree}
 use Rattle.tp_text.specs.Trees.{shapes_of, shape_of, tree_written, trees_written, frames_written, lefts, rights, IsNoTree, IsOneTree, IsOpen, built, CannotGoOn, HasNoTree, IsDeep, IsRefused, lexemes_of}
-use Rattle.tp_text.specs.Tokens.{lexeme_of, placed_of, HasNoLexemes}
+use Rattle.tp_text.specs.Tokens.{lexeme_of, placed_of}
 use Rattle.tp_text.specs.declared.token.Token.{Token}
 use Rattle.tp_text.specs.declared.fault.TextFault.{TextFault}
 use Rattle.tp_text.specs.declared.fault.TextFault.TheVariants as faults
@@ -226,15 +226,6 @@ refused_tree text ts (faults.Unclosed at) is h = λ s spells. h s (spells_lexeme
 refused_tree text ts (faults.Extra at) is h = λ s spells. h s (spells_lexemes text ts s is spells)
 refused_tree text ts (faults.Depth at) is h = (map placed_of ts, is, subst IsDeep (sym (lexemes_are ts)) h)
 refused_tree text ts faults.Empty is h = λ s spells. h s (spells_lexemes text ts s is spells)
-
-pub refused_lexemes : (text : List ℕ) (e : TextFault) → HasNoLexemes text e → IsRefused text e
-refused_lexemes text faults.Memory h = tt
-refused_lexemes text faults.TooLong h = h
-refused_lexemes text (faults.BadByte at) h = λ s spells. let same = sym h ∙ spells.1 in absurd cc
-refused_lexemes text (faults.Unclosed at) h = absurd h
-refused_lexemes text (faults.Extra at) h = absurd h
-refused_lexemes text (faults.Depth at) h = absurd h
-refused_lexemes text faults.Empty h = absurd h
 
 pub if_err : {X Y : Type 0} (r : Result X Y) (P Q : Y → Type 0) → ((y : Y) → P y → Q y) → IfErr r P → IfErr r Q
 if_err (Ok x) P Q f h = tt

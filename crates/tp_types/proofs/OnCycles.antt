@@ -31,9 +31,6 @@ is_highest ps (suc k) t p apart none =
     ap (λ b. b || climbs (parent_of t ps) (λ r. at_or_below ps k r p)) apart
     ∙ ap (λ o. climbs o (λ r. at_or_below ps k r p)) none
 
-pub no_step : (ps : List Parent) (left : ℕ) (t p : Name) → left ≡ 0 → at_or_below ps left t p ≡ bytes_eq t p
-no_step ps left t p e = ap (λ (n : ℕ). at_or_below ps n t p) e
-
 -- ---- parents by their places
 
 module _ (d : TypeName) (ts : List TypeName) where

@@ -248,6 +248,3 @@ module _ (ts : List TypeName) (jumps : List ℕ) where
       jump_at_place t k up o is above leap =
           let placed : place t ≡ Some k = sym (is_table t) ∙ is in
           by_places t k up o placed (above_at t k (slice_get ts k) placed refl ∙ above) leap
-
-  pub no_jump : (t : Name) → place t ≡ None → is_jump ts jumps t ≡ true
-  no_jump t none = ap (leads_up ts jumps (parent_of t (map parent_view ts))) (jump_by_place t None none)

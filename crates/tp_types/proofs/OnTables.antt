@@ -1,10 +1,9 @@
-use Rattle.std.proofs.Common.{◌≡◌, ℕ, ◌+◌, ◌<◌, ◌≤◌, List, [], ◌∷◌, ◌++◌, length, map, take, get_or, Bool, true, false, ◌||◌, cond, Option, Some, None, option_map, Bor, refl, sym, ap, ◌∙◌, add-one, arith}
+use Rattle.std.proofs.Common.{◌≡◌, ℕ, ◌+◌, ◌<◌, ◌≤◌, List, [], ◌∷◌, ◌++◌, length, map, take, get_or, Bool, true, false, cond, Option, Some, None, option_map, Bor, refl, sym, ap, ◌∙◌, add-one, arith}
 use Rattle.std.proofs.lemmas.List.{take_more, map-append, length-map, length-take-le}
-use Rattle.std.specs.List.{list_any, slice_get}
+use Rattle.std.specs.List.{slice_get}
 use Rattle.std.specs.Option.{is_some}
 use Rattle.std.specs.Str.{bytes_eq}
 use Rattle.std.specs.Cmp.Lexicographic.{bytes_decides}
-use Rattle.std.proofs.lemmas.List.Folds.{list_any-append}
 use Rattle.tp_ast.specs.Gives.{◌>>=◌}
 use Rattle.tp_ast.specs.Symbols.{Name}
 use Rattle.tp_types.specs.Tables.{place_of, or_place, item_of}
@@ -28,21 +27,6 @@ place_of-push n (k ∷ ns) m =
     ∙ one_more (bytes_eq k n) (bytes_eq m n) (place_of n ns) (length ns)
     ∙ sym (as_elim (place_of n (k ∷ ns)) m n (length ns + 1))
     ∙ ap (λ l. or_place (place_of n (k ∷ ns)) m l n) (add-one (length ns))
-
-regroup : (a b h : Bool) (o : Option ℕ) → ((a || (b || false)) || (h || is_some o)) ≡ ((a || h) || is_some (cond b (Some 0) (option_map (λ k. k + 1) o)))
-regroup true b h o = refl
-regroup false true true o = refl
-regroup false true false o = refl
-regroup false false true o = refl
-regroup false false false (Some k) = refl
-regroup false false false None = refl
-
-pub has_twice-push : (ns : List Name) (m : Name) → has_twice (ns ++ m ∷ []) ≡ (has_twice ns || is_some (place_of m ns))
-has_twice-push [] m = refl
-has_twice-push (n ∷ ns) m =
-    ap (λ a. a || has_twice (ns ++ m ∷ [])) (list_any-append (bytes_eq n) ns (m ∷ []))
-    ∙ ap (λ a. (list_any (bytes_eq n) ns || (bytes_eq n m || false)) || a) (has_twice-push ns m)
-    ∙ regroup (list_any (bytes_eq n) ns) (bytes_eq n m) (has_twice ns) (place_of m ns)
 
 chosen : (b : Bool) (o : Option ℕ) (l : ℕ) → (b ≡ true → o ≡ None) → cond b (Some l) o ≡ elim o as (λ v. Option ℕ) [ Some k ↦ Some k | None ↦ cond b (Some l) None ]
 chosen true None l h = refl

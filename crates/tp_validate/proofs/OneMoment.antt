@@ -12,7 +12,7 @@ use Rattle.tp_task.specs.Verdict.{Fault, fault_or, is_unlawful, is_broken}
 use Rattle.tp_happen.specs.declared.faults.Why.{Why}
 use Rattle.tp_happen.specs.Fault.{fault_of}
 use Rattle.tp_happen.specs.Small.{all_small}
-use Rattle.tp_happen.specs.Bounded.{event_small, effects_small, constraint_small, Passes}
+use Rattle.tp_happen.specs.Bounded.{event_small, effects_small, constraint_small}
 use Rattle.tp_validate.specs.Places.{here, numbers}
 use Rattle.tp_validate.specs.Tick.{after_of, of_events, fault_from, renumbered, invariant_small, PassesAt}
 use Rattle.tp_validate.specs.Constraints.{start_small, constraint_small_at}
@@ -25,9 +25,6 @@ module _ (scale : ℕ) (s : State) (m : ℕ) (ps : List Planned) (es : List Plac
 
   abbrev first : Option ℕ
   first = position_from (λ (p : Planned). (p.moment == m) && is_unlawful scale s p.duration p.body) 0 ps
-
-  pub unlawful : (i : ℕ) → Some i ≡ first → fault_from scale s m ps es ≡ Some (fault.Duration i)
-  unlawful i h = ap (λ r. fault_or fault.Duration r (of_events scale s m es rest)) (sym h)
 
   pub failing : IsNumbered 0 es → None ≡ first → (i : ℕ) (why : Why) → fault_of scale s (at m es) ≡ Some (i, why) → fault_from scale s m ps es ≡ Some (renumbered (numbers (here m es)) i why)
   failing o n i why h = ap (λ r. fault_or fault.Duration r (of_events scale s m es rest)) (sym n) ∙ fails scale s m es o i why rest h
@@ -77,9 +74,6 @@ module _ (scale : ℕ) (s : State) (m : ℕ) where
 module _ (scale : ℕ) (s : State) (m : ℕ) (ps : List Planned) (es : List Placed) where
   pub constraint_range : es ≡ events_from 0 ps → list_all (constraint_small_at s m) ps ≡ false → PassesAt scale s m ps es
   constraint_range e h = inl (inl (subst (λ (xs : List Placed). list_all (event_small scale s) (at m xs) ≡ false) (sym e) (constraints_pass scale s m 0 ps h)))
-
-  pub event_range : (ts : List EventOfStep) → ts ≡ at m es → Passes scale s ts → PassesAt scale s m ps es
-  event_range ts e h = inl (subst (λ xs. Passes scale s xs) e h)
 
   pub invariant_range : (new : State) → Happens scale s (at m es) new → list_all (λ (p : Planned). invariant_small new m p p.body) ps ≡ false → PassesAt scale s m ps es
   invariant_range new h n =

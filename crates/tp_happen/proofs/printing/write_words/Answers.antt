@@ -4,7 +4,8 @@ use Rattle.std.proofs.lemmas.Result.{err_from_is_err_and}
 use Rattle.std.proofs.lemmas.Option.{slice_get_within}
 use Rattle.tp_device.specs.Bytes.{AppendsPart}
 use Rattle.std.specs.Io.KnownBytes.{Appends}
-use Rattle.tp_device.proofs.Parts.{part_after, appends_more, appends_is}
+use Rattle.std.proofs.KnownBytes.{Appends-trans}
+use Rattle.tp_device.proofs.Parts.{part_after, appends_is}
 use Rattle.tp_happen.specs.PlanPrints.{space_before, words_text}
 use Rattle.tp_happen.specs.TaskWords.{readable}
 use Rattle.tp_happen.proofs.OnPrints.{words_more, words_split, words_all}
@@ -40,7 +41,7 @@ words-preserved g c =
     let more : Appends (g.W.Sink.held c.words.writer) (g.W.Sink.held c.write_word.new.writer) (space_before c.words.place ++ c.in-Some.word.now) = subst (λ s. Appends (g.W.Sink.held c.words.writer) (g.W.Sink.held c.write_word.new.writer) (s ++ c.in-Some.word.now)) c.space_before.ensures c.in_ok-write_word.ensures.bytes in
     record {
       held = appends_is (g.W.Sink.held c.args.writer.now) (g.W.Sink.held c.write_word.new.writer) (words_text (take c.words.place ws) ++ (space_before c.words.place ++ c.in-Some.word.now)) _ (sym (words_more ws c.words.place c.in-Some.word.now here))
-          (appends_more (g.W.Sink.held c.args.writer.now) (g.W.Sink.held c.words.writer) (g.W.Sink.held c.write_word.new.writer) (words_text (take c.words.place ws)) (space_before c.words.place ++ c.in-Some.word.now) c.words.invariant.held more);
+          (Appends-trans (g.W.Sink.held c.args.writer.now) (g.W.Sink.held c.words.writer) (g.W.Sink.held c.write_word.new.writer) (words_text (take c.words.place ws)) (space_before c.words.place ++ c.in-Some.word.now) c.words.invariant.held more);
       count = search rules;
     }
 

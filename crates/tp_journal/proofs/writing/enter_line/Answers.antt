@@ -1,5 +1,5 @@
 use Rattle.std.proofs.Common.{◌≡◌, ◌<◌, length, ℕ, [], ◌∷◌, None, Some, rules, sym}
-use Rattle.tp_device.proofs.Parts.{appends_none}
+use Rattle.std.proofs.KnownBytes.{Appends-nil}
 use Rattle.tp_script.specs.Commands.{command_of}
 use Rattle.tp_script.specs.Transcript.{line_of, refused_line}
 use Rattle.tp_journal.proofs.WriteLemmas.{enters_command, enters_blank, enters_refused, says_err}
@@ -18,7 +18,7 @@ returns-in-Err-clause-enters g c =
 pub returns-then-is_empty-clause-enters : goal.returns-then-is_empty-clause-enters
 returns-then-is_empty-clause-enters g c =
     let none : length c.next_word.result.0.now ≡ 0 = search rules in
-    ([], [], enters_blank _ c.args.line.now c.next_word.result.0.now c.next_word.result.1.now c.requires c.next_word.ensures none, (appends_none _, appends_none _))
+    ([], [], enters_blank _ c.args.line.now c.next_word.result.0.now c.next_word.result.1.now c.requires c.next_word.ensures none, (Appends-nil _, Appends-nil _))
 
 pub returns-in-Ok-refuse_line-clause-enters : goal.returns-in-Ok-refuse_line-clause-enters
 returns-in-Ok-refuse_line-clause-enters g c =

@@ -1,7 +1,8 @@
 use Rattle.std.proofs.Common.{◌≡◌, ◌++◌, ap, sym, ◌∙◌, map, append_assoc}
 use Rattle.std.proofs.lemmas.Result.{err_from_is_err_and}
 use Rattle.tp_bounds.specs.Setting.{event_count}
-use Rattle.tp_device.proofs.Parts.{part_first, part_after, appends_more, writes_after}
+use Rattle.std.proofs.KnownBytes.{Appends-trans}
+use Rattle.tp_device.proofs.Parts.{part_first, part_after, writes_after}
 use Rattle.tp_journal.specs.Journal.{head_of, head_lines, kind_lines, own_of, lag_line, lags_of, text_of}
 use Rattle.tp_journal.proofs.WriteLemmas.{start_text, head_bytes}
 use Rattle.tp_journal.proofs.writing.write_head.Goals as goal
@@ -40,5 +41,5 @@ returns-clause-bytes g c =
     let is : text_of (head_lines (head_of 2 m)) ≡ (start_text c.events.result c.horizon.result ++ kind) ++ lags =
     head_bytes m ∙ (ap (λ n. (start_text n m.setting.horizon ++ kind) ++ lags) es ∙ ap (λ n. (start_text c.events.result n ++ kind) ++ lags) hs) in
     writes_after c.write_lags.result (g.V.Sink.held c.args.log.now) (g.V.Sink.held c.write_kind.new.log) _ (start_text c.events.result c.horizon.result ++ kind) lags _ is
-    (appends_more (g.V.Sink.held c.args.log.now) (g.V.Sink.held c.write_start.new.log) (g.V.Sink.held c.write_kind.new.log) (start_text c.events.result c.horizon.result) kind c.in_ok-write_start.ensures.bytes c.in_ok-write_kind.ensures.bytes)
+    (Appends-trans (g.V.Sink.held c.args.log.now) (g.V.Sink.held c.write_start.new.log) (g.V.Sink.held c.write_kind.new.log) (start_text c.events.result c.horizon.result) kind c.in_ok-write_start.ensures.bytes c.in_ok-write_kind.ensures.bytes)
     c.write_lags.ensures.bytes

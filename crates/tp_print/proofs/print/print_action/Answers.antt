@@ -2,7 +2,7 @@ use Rattle.std.proofs.Common.{string_bytes}
 use Rattle.tp_text.specs.Texts.{more_text}
 use Rattle.tp_ast.specs.DomainViews.{body_view, action_view}
 use Rattle.tp_print.specs.Printing.{body_word, field_shapes}
-use Rattle.tp_print.proofs.OnPrinters.{prints_more, prints_as}
+use Rattle.tp_printer.proofs.OnPrinters.{prints_more, prints_as}
 use Rattle.tp_print.proofs.OnPrinting.{action_text}
 use Rattle.tp_print.proofs.print.print_action.Goals as goal
 

@@ -3,7 +3,7 @@ use Rattle.tp_text.specs.Texts.{shape_text}
 use Rattle.tp_ast.specs.DomainViews.{action_view}
 use Rattle.tp_print.specs.Printing.{action_shape, action_shapes}
 use Rattle.tp_print.specs.DomainTexts.{lines_text}
-use Rattle.tp_print.proofs.OnPrinters.{goes_on, ends}
+use Rattle.tp_printer.proofs.OnPrinters.{goes_on, ends}
 use Rattle.tp_print.proofs.print.print_actions.Goals as goal
 
 pub loop-action-preserved : goal.loop-action-preserved

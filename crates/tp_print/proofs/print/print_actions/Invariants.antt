@@ -1,7 +1,7 @@
 use Rattle.std.proofs.Common.{map, drop}
 use Rattle.tp_ast.specs.DomainViews.{action_view}
-use Rattle.tp_print.specs.declared.printer.Printer.{Printer}
-use Rattle.tp_print.specs.Printers.{Prints}
+use Rattle.tp_printer.specs.declared.printer.Printer.{Printer}
+use Rattle.tp_printer.specs.Printers.{Prints}
 use Rattle.tp_print.specs.Printing.{action_shapes}
 use Rattle.tp_print.specs.DomainTexts.{lines_text}
 use Rattle.tp_print.proofs.print.print_actions.Given as goal

@@ -1,4 +1,4 @@
-use Rattle.tp_print.proofs.OnPrinters.{prints_more, prints_as}
+use Rattle.tp_printer.proofs.OnPrinters.{prints_more, prints_as}
 use Rattle.tp_print.proofs.OnPrinting.{instant_text, durative_text}
 use Rattle.tp_print.proofs.print.print_body.Goals as goal
 

@@ -1,7 +1,7 @@
 use Rattle.std.proofs.Common.{arith}
 use Rattle.std.proofs.lemmas.Grind.{common_steps}
 use Rattle.tp_ast.specs.DomainViews.{domain_view}
-use Rattle.tp_print.proofs.OnPrinters.{whole}
+use Rattle.tp_printer.proofs.OnPrinters.{whole}
 use Rattle.tp_print.proofs.OnPrintingTexts.{spelled_again}
 use Rattle.tp_print.proofs.print.print_domain.Goals as goal
 

@@ -1,4 +1,4 @@
-use Rattle.tp_print.proofs.OnPrinters.{prints_more}
+use Rattle.tp_printer.proofs.OnPrinters.{prints_more}
 use Rattle.tp_print.proofs.print.print_fields.Goals as goal
 
 pub returns : goal.returns

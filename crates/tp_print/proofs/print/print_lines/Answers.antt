@@ -1,5 +1,5 @@
 use Rattle.tp_ast.specs.DomainViews.{domain_view}
-use Rattle.tp_print.proofs.OnPrinters.{prints_more, prints_as}
+use Rattle.tp_printer.proofs.OnPrinters.{prints_more, prints_as}
 use Rattle.tp_print.proofs.OnPrinting.{whole_text}
 use Rattle.tp_print.proofs.print.print_lines.Goals as goal
 

@@ -4,7 +4,7 @@ use Rattle.tp_text.specs.Texts.{more_text}
 use Rattle.tp_ast.specs.Symbols.{parent_view}
 use Rattle.tp_ast.specs.declared.types.TypeName.{TypeName}
 use Rattle.tp_print.specs.Printing.{type_shapes}
-use Rattle.tp_print.proofs.OnPrinters.{prints_more, prints_as, goes_on, ends}
+use Rattle.tp_printer.proofs.OnPrinters.{prints_more, prints_as, goes_on, ends}
 use Rattle.tp_print.proofs.print.print_parents.Goals as goal
 
 pub loop-declared-preserved : goal.loop-declared-preserved

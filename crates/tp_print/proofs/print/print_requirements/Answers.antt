@@ -1,6 +1,6 @@
 use Rattle.std.proofs.Common.{refl, sym, map, codes, string_bytes, ◌∙◌}
 use Rattle.tp_print.specs.Printing.{name_shapes}
-use Rattle.tp_print.proofs.OnPrinters.{prints_more, prints_as}
+use Rattle.tp_printer.proofs.OnPrinters.{prints_more, prints_as}
 use Rattle.tp_print.proofs.OnPrinting.{section_is}
 use Rattle.tp_print.proofs.print.print_requirements.Goals as goal
 

@@ -3,7 +3,7 @@ use Rattle.std.proofs.lemmas.Grind.{common_steps}
 use Rattle.tp_text.specs.Texts.{shape_text, more_text}
 use Rattle.tp_ast.specs.Symbols.{signature_view}
 use Rattle.tp_print.specs.Printing.{signature_shape, signature_shapes}
-use Rattle.tp_print.proofs.OnPrinters.{prints_more, prints_as, goes_on, ends}
+use Rattle.tp_printer.proofs.OnPrinters.{prints_more, prints_as, goes_on, ends}
 use Rattle.tp_print.proofs.print.print_signatures.Goals as goal
 
 pub loop-signature-preserved : goal.loop-signature-preserved

@@ -1,6 +1,6 @@
 use Rattle.tp_ast.specs.EffectViews.{timed_condition_view, timed_effect_view}
 use Rattle.tp_print.specs.Printing.{condition_shape, effect_shape, joined_shape, timed_shape}
-use Rattle.tp_print.proofs.OnPrinters.{prints_more, prints_as}
+use Rattle.tp_printer.proofs.OnPrinters.{prints_more, prints_as}
 use Rattle.tp_print.proofs.OnPrinting.{moments_text}
 use Rattle.tp_print.proofs.print.print_timed.Goals as goal
 

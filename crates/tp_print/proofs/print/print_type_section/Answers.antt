@@ -1,7 +1,7 @@
 use Rattle.std.proofs.Common.{refl, sym, map, codes, ◌∙◌}
 use Rattle.tp_ast.specs.Symbols.{parent_view}
 use Rattle.tp_print.specs.Printing.{type_shapes}
-use Rattle.tp_print.proofs.OnPrinters.{prints_more, prints_as}
+use Rattle.tp_printer.proofs.OnPrinters.{prints_more, prints_as}
 use Rattle.tp_print.proofs.OnPrinting.{section_is}
 use Rattle.tp_print.proofs.print.print_type_section.Goals as goal
 

@@ -4,7 +4,7 @@ use Rattle.tp_text.specs.Texts.{shape_text, more_text}
 use Rattle.tp_ast.specs.CondViews.{cond_view}
 use Rattle.tp_ast.specs.Conditions.{conditions}
 use Rattle.tp_print.specs.Printing.{condition_shape, condition_shapes}
-use Rattle.tp_print.proofs.OnPrinters.{prints_more, prints_as, goes_on, ends}
+use Rattle.tp_printer.proofs.OnPrinters.{prints_more, prints_as, goes_on, ends}
 use Rattle.tp_print.proofs.OnPrintingForms.{not_text, imply_text, all_text, some_text}
 use Rattle.tp_print.proofs.print_parts.+print_cond.Goals as goal
 

@@ -4,7 +4,7 @@ use Rattle.tp_text.specs.Texts.{shape_text, more_text}
 use Rattle.tp_ast.specs.Effects.{constraints_in}
 use Rattle.tp_ast.specs.ConstraintViews.{constraint_view}
 use Rattle.tp_print.specs.Printing.{constraint_shape, constraint_shapes}
-use Rattle.tp_print.proofs.OnPrinters.{prints_more, prints_as, goes_on, ends}
+use Rattle.tp_printer.proofs.OnPrinters.{prints_more, prints_as, goes_on, ends}
 use Rattle.tp_print.proofs.OnPrintingForms.{constraints_text, limit_text}
 use Rattle.tp_print.proofs.print_parts.+print_constraint.Goals as goal
 

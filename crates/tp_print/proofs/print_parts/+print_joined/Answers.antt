@@ -3,7 +3,7 @@ use Rattle.tp_text.specs.Texts.{shape_text, more_text}
 use Rattle.tp_ast.specs.Parts.{parts}
 use Rattle.tp_ast.specs.PartViews.{joined_view}
 use Rattle.tp_print.specs.Printing.{joined_shape, part_shapes}
-use Rattle.tp_print.proofs.OnPrinters.{prints_more, prints_as, goes_on, ends}
+use Rattle.tp_printer.proofs.OnPrinters.{prints_more, prints_as, goes_on, ends}
 use Rattle.tp_print.proofs.OnPrinting.{and_text, forall_text}
 use Rattle.tp_print.proofs.print_parts.+print_joined.Goals as goal
 

@@ -4,7 +4,7 @@ use Rattle.tp_text.specs.Texts.{more_text}
 use Rattle.tp_ast.specs.Symbols.{typed_view}
 use Rattle.tp_print.specs.Printing.{typed_shapes}
 use Rattle.tp_print.specs.DomainTexts.{item_text}
-use Rattle.tp_print.proofs.OnPrinters.{prints_more, prints_as, goes_on, ends}
+use Rattle.tp_printer.proofs.OnPrinters.{prints_more, prints_as, goes_on, ends}
 use Rattle.tp_print.proofs.print_parts.print_items.Goals as goal
 
 pub loop-item-preserved : goal.loop-item-preserved

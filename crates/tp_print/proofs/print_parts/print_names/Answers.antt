@@ -2,7 +2,7 @@ use Rattle.std.proofs.Common.{refl, map, string_bytes, arith, ◌∷◌}
 use Rattle.std.proofs.lemmas.Grind.{common_steps}
 use Rattle.tp_text.specs.Texts.{more_text}
 use Rattle.tp_print.specs.Printing.{name_shapes}
-use Rattle.tp_print.proofs.OnPrinters.{prints_more, prints_as, goes_on, ends}
+use Rattle.tp_printer.proofs.OnPrinters.{prints_more, prints_as, goes_on, ends}
 use Rattle.tp_print.proofs.print_parts.print_names.Goals as goal
 
 pub loop-name-preserved : goal.loop-name-preserved

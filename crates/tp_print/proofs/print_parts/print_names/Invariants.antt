@@ -1,7 +1,7 @@
 use Rattle.std.proofs.Common.{map, drop, string_bytes}
 use Rattle.tp_text.specs.Texts.{more_text}
-use Rattle.tp_print.specs.declared.printer.Printer.{Printer}
-use Rattle.tp_print.specs.Printers.{Prints}
+use Rattle.tp_printer.specs.declared.printer.Printer.{Printer}
+use Rattle.tp_printer.specs.Printers.{Prints}
 use Rattle.tp_print.specs.Printing.{name_shapes}
 use Rattle.tp_print.proofs.print_parts.print_names.Given as goal
 

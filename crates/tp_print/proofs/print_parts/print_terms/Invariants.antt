@@ -1,8 +1,8 @@
 use Rattle.std.proofs.Common.{map, drop}
 use Rattle.tp_text.specs.Texts.{more_text}
 use Rattle.tp_ast.specs.Terms.{term_view}
-use Rattle.tp_print.specs.declared.printer.Printer.{Printer}
-use Rattle.tp_print.specs.Printers.{Prints}
+use Rattle.tp_printer.specs.declared.printer.Printer.{Printer}
+use Rattle.tp_printer.specs.Printers.{Prints}
 use Rattle.tp_print.specs.Printing.{argument_shapes}
 use Rattle.tp_print.proofs.print_parts.print_terms.Given as goal
 

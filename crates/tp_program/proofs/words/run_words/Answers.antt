@@ -1,5 +1,5 @@
 use Rattle.std.proofs.Common.{◌∙◌, List, ℕ, arith, inl, inr, refl, subst}
-use Rattle.tp_device.proofs.Parts.{appends_none}
+use Rattle.std.proofs.KnownBytes.{Appends-nil}
 use Rattle.tp_files.specs.FaultLines.{Tells}
 use Rattle.tp_arguments.specs.declared.requests.Request.TheVariants.{Bare, BareLog, Check, Net, Run, RunLog, Plan, Audit, PlanAudit, Split, Help}
 use Rattle.tp_program.specs.CallFiles.{call_files}
@@ -28,7 +28,7 @@ returns-clause-bare g c =
     })
 
 pub returns-clause-broken : goal.returns-clause-broken
-returns-clause-broken g c = λ three. inl (appends_none (g.O.Sink.held c.args.output.now))
+returns-clause-broken g c = λ three. inl (Appends-nil (g.O.Sink.held c.args.output.now))
 
 pub returns-in-Ok-Bare-clause-stopped : goal.returns-in-Ok-Bare-clause-stopped
 returns-in-Ok-Bare-clause-stopped g c =

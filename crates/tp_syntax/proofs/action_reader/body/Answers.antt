@@ -1,11 +1,11 @@
 use Rattle.std.proofs.Common.{List, Bool, map, refl, ap, sym, true, false, ◌∙◌}
 use Rattle.tp_ast.specs.Actions.{body_of}
-use Rattle.tp_syntax.specs.Fields.{field_view}
+use Rattle.tp_parts.specs.Fields.{field_view}
 use Rattle.tp_ast.specs.Symbols.{Declared, typed_view}
 use Rattle.tp_names.specs.SymbolViews.{symbols_view}
 use Rattle.tp_ast.specs.DomainViews.{body_view}
 use Rattle.tp_ast.proofs.OnGives.{gives_same}
-use Rattle.tp_syntax.proofs.OnActions.{scope_alone}
+use Rattle.tp_parts.proofs.OnActions.{scope_alone}
 use Rattle.tp_syntax.proofs.action_reader.body.Goals as goal
 
 pub returns-then-lasts : goal.returns-then-lasts

@@ -1,6 +1,6 @@
 use Rattle.tp_ast.specs.CondViews.{cond_view}
 use Rattle.tp_print.specs.Printing.{condition_shape}
-use Rattle.tp_print.proofs.OnPrinters.{prints_more, prints_as}
+use Rattle.tp_printer.proofs.OnPrinters.{prints_more, prints_as}
 use Rattle.tp_print.proofs.OnPrintingForms.{specified_text}
 use Rattle.tp_print.proofs.print_parts.TimedCondPrinted.print.Goals as goal
 

@@ -1,6 +1,6 @@
 use Rattle.tp_ast.specs.EffectViews.{effect_view}
 use Rattle.tp_print.specs.Printing.{effect_shape}
-use Rattle.tp_print.proofs.OnPrinters.{prints_more, prints_as}
+use Rattle.tp_printer.proofs.OnPrinters.{prints_more, prints_as}
 use Rattle.tp_print.proofs.OnPrintingForms.{specified_text}
 use Rattle.tp_print.proofs.print_parts.TimedEffectPrinted.print.Goals as goal
 

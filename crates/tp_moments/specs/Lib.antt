@@ -1,0 +1,13 @@
+pub mod Flow
+pub mod Store
+pub mod Queue
+pub mod Work
+pub mod Kept
+pub mod Engine
+pub mod Bringing
+pub mod Told
+pub mod Costs
+pub mod Star
+pub mod Slots
+pub mod Asked
+pub mod Loosened

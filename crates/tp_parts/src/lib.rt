@@ -1,0 +1,14 @@
+//! The parts of domains, problems and actions: sections and fields under their words, each at most once, and entries of
+//! `:init` that may not contradict one another.
+//!
+//! - `keyed`: items that begin with a word of their kind, in any order
+//! - `sections`, `problem_sections`: the sections of a domain and of a problem
+//! - `fields`: the fields of an action
+//! - `clash`: whether what a problem says of its initial state agrees with itself
+#![tactic(auto)]
+
+pub mod clash;
+pub mod fields;
+pub mod keyed;
+pub mod problem_sections;
+pub mod sections;

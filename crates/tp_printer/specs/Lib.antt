@@ -1,0 +1,2 @@
+pub mod Printers
+pub mod Words
