@@ -545,6 +545,15 @@ def many_goals(count):
     return domain, f"(define (problem q) (:domain lamps) (:objects {each('l#', count)}) (:init) (:goal (and {goal})))"
 
 
+def starters(count):
+    """Actions for all pairs of so many objects that can always start and have nothing to do with the goal, and one that adds it and
+    can never start."""
+    look = "(:action look :parameters (?x ?y) :effect (seen ?x ?y))"
+    never = "(:action never :precondition (and (on) (not (on))) :effect (done)) (:action switch :effect (on))"
+    domain = f"(define (domain idle) (:predicates (seen ?x ?y) (on) (done)) {look} {never})"
+    return domain, f"(define (problem q) (:domain idle) (:objects {each('o#', count)}) (:init) (:goal (done)))"
+
+
 ROADS = """(define (domain roads) (:requirements :typing) (:types place)
  (:predicates (at ?x - place) (road ?x ?y ?z - place))
  (:action go :parameters (?a ?b ?c - place) :precondition (and (at ?a) (road ?a ?b ?c))
@@ -607,8 +616,10 @@ def searches(program):
     judged(program, "40 lamps, no plan, a budget of 1,000,000", *lamps(40), None, "plan", ("--budget", "1000000"))
     judged(program, "12 lamps, no plan, until no node is left", *lamps(12), None, "plan", ("--budget", "1000000"))
     judged(program, "2,000 lamps, no plan, the default budget", *lamps(2000), None, "plan")
+    judged(program, "59,536 actions that can always start, the default budget", *starters(244), None, "plan")
     judged(program, "a ring of 250 lamps: 62,500 actions, 250 of which can start", *ring(250), None, "plan", ("--budget", "1000"))
     judged(program, "a goal of 5,001 conjuncts, a budget of 300", *many_goals(5000), None, "plan", ("--budget", "300"))
+    judged(program, "a goal of 5,001 conjuncts, the default budget", *many_goals(5000), None, "plan")
     judged(program, "20,000 comparisons of a number that 62,500 actions raise", *comparisons(250, 20_000), None, "plan", ("--budget", "0"))
     judged(program, "20 lamps behind 43 atoms that stay, a budget of 1,000,000", *moving_lamps(20, 43), None, "plan", ("--budget", "1000000"))
     judged(program, "10 actions of 600 atoms each, until no node is left", *painters(10, 600), None, "plan", ("--budget", "1000000"))

@@ -31,7 +31,7 @@ impl<'t> Model for Frontier<'t> {
 
     ghost Value = { List (List ℕ) };
 
-    ghost view = { λ f. f.queues };
+    ghost view = { λ f. f.queues.queues };
 }
 
 fn first_moment(kept: u32) -> Moment {
@@ -53,27 +53,30 @@ fn next_start(starts: Span, choice: Choice) -> u32 {
 }
 
 impl<'t> Frontier<'t> {
-    /// The frontier of a task at the root: tick 0, the state in which the task begins.
+    /// The frontier of a task at the root: tick 0, the state in which the task begins. At most so many nodes are expanded,
+    /// and one more is taken.
     pub fn new(
         alloc: Global,
         task: &'t Task,
         reach: &[bool],
+        budget: u32,
         horizon: u32,
     ) -> Result<Self, SearchFault> {
         let forms = Forms::new(alloc, task, reach)?;
         let state = forms.initial_state(alloc, task)?;
         let known = Known::new(alloc, task, forms, &state, horizon)?;
-        Frontier::from_known(alloc, known, state)
+        Frontier::from_known(alloc, known, state, budget as usize + 1)
     }
 
     fn from_known(
         alloc: Global,
         known: Known<'t>,
         state: SearchState,
+        most: usize,
     ) -> Result<Self, SearchFault> {
         let forms = &known.forms;
         let marks = Marks::new(alloc, forms)?;
-        let queues = Queues::new(alloc, forms.conjuncts.len())?;
+        let queues = Queues::new(alloc, forms.conjuncts.len(), most)?;
         let store = Store::new(alloc, known.width(), forms.fluents.moving)?;
         let current = Current::new(alloc, forms.conjuncts.len())?;
         let mut frontier = Frontier {
@@ -98,11 +101,14 @@ impl<'t> Frontier<'t> {
         Ok(())
     }
 
-    // Makes a child, by the number of its start, or of its moment if it waits.
+    // Makes a child, by the number of its start, or of its moment if it waits, unless it is never taken.
     #[tactic(auto, using(crate::proofs::Waiting::goes_on_same, crate::proofs::Waiting::goes_on_node))]
     fn make(&mut self, choice: u32, lacking: usize) -> Result<(), AllocError>
         ensures { GoesOn self.old self.new }
     {
+        if !self.queues.is_open(lacking) {
+            return Ok(());
+        }
         let number = self.store.add_child(choice)?;
         self.queues.put(number, lacking)?;
         Ok(())
@@ -151,9 +157,10 @@ impl<'t> Frontier<'t> {
         if let Some(node) = self.store.node(number) {
             self.load(node)?;
             self.store.begin(node)?;
-            self.make_starts(number, node)?;
+            let lacking = self.lacking_at(number)?;
+            self.make_starts(node, lacking)?;
             self.store.begin_waits();
-            self.make_waits(node)?;
+            self.make_waits(node, lacking)?;
         }
         Ok(())
     }
@@ -166,7 +173,7 @@ impl<'t> Frontier<'t> {
             return Ok(());
         };
         self.store.unpack(moment.kept, &mut self.state);
-        if moment.starts.is_none() {
+        if moment.starts.is_none() && usize::from(node.steps) < MOST_STEPS {
             self.find_starts(node.moment, moment.tick)?;
         }
         self.store.push_chain(node, &mut self.current.chain)?;
@@ -202,7 +209,7 @@ impl<'t> Frontier<'t> {
 
     // The children that choose one more start at the node's tick.
     #[tactic(auto, using(crate::proofs::Waiting::goes_on_same, crate::proofs::Waiting::goes_on_further))]
-    fn make_starts(&mut self, number: u32, node: Node) -> Result<(), SearchFault>
+    fn make_starts(&mut self, node: Node, lacking: usize) -> Result<(), SearchFault>
         ensures { GoesOn self.old self.new }
     {
         let Some((first, end)) = self.starts_after(node) else {
@@ -211,14 +218,34 @@ impl<'t> Frontier<'t> {
         if usize::from(node.steps) >= MOST_STEPS || first >= end {
             return Ok(());
         }
-        let lacking = self.lacking_at(number)?;
         self.current.lack(lacking);
         mark_events(&self.known, &mut self.marks, &self.current.events, true);
-        for start in first..end {
-            self.make_start(start)?;
+        let mut next = first;
+        for _ in first..end {
+            if next >= end {
+                break;
+            }
+            self.make_start(next)?;
+            next = self.start_after(next, end);
         }
         mark_events(&self.known, &mut self.marks, &self.current.events, false);
         Ok(())
+    }
+
+    // The number of the start to look at behind one: the next, or where a child that lacks as much as its parent is never
+    // taken, the next that may change that.
+    fn start_after(&self, start: u32, end: u32) -> u32 {
+        let next = start.saturating_add(1);
+        if next >= end || self.queues.is_open(self.current.lacking) {
+            return next;
+        }
+        match self.store.start(next) {
+            Some(there) => {
+                let action = self.known.touching.loud_from(there.action);
+                self.store.start_from(next, end, action)
+            }
+            None => next,
+        }
     }
 
     #[tactic(auto, using(crate::proofs::Waiting::goes_on_same))]
@@ -243,7 +270,7 @@ impl<'t> Frontier<'t> {
 
     // The children that wait.
     #[tactic(auto, using(crate::proofs::Waiting::goes_on_same, crate::proofs::Waiting::goes_on_further))]
-    fn make_waits(&mut self, node: Node) -> Result<(), SearchFault>
+    fn make_waits(&mut self, node: Node, lacking: usize) -> Result<(), SearchFault>
         ensures { GoesOn self.old self.new }
     {
         if !self.current.invariants_hold(&self.known, &self.state)? {
@@ -251,19 +278,19 @@ impl<'t> Frontier<'t> {
         }
         let least = self.current.least_left();
         if !self.current.events.is_empty() {
-            self.make_wait(node, 1)?;
+            self.make_wait(node, lacking, 1)?;
             if least == Some(1) {
                 return Ok(());
             }
         }
         if let Some(ticks) = least {
-            self.make_wait(node, ticks)?;
+            self.make_wait(node, lacking, ticks)?;
         }
         Ok(())
     }
 
     #[tactic(auto, using(crate::proofs::Waiting::goes_on_same))]
-    fn make_wait(&mut self, node: Node, ticks: u32) -> Result<(), SearchFault>
+    fn make_wait(&mut self, node: Node, lacking: usize, ticks: u32) -> Result<(), SearchFault>
         ensures { GoesOn self.old self.new }
     {
         let Some(moment) = self.store.moment(node.moment) else {
@@ -274,19 +301,22 @@ impl<'t> Frontier<'t> {
             return Ok(());
         }
         let runs = self.current.runs_after(self.alloc, ticks)?;
-        self.wait_with(tick, &runs)
+        self.wait_with(lacking, tick, &runs)
     }
 
     #[tactic(auto, using(crate::proofs::Waiting::goes_on_same))]
-    fn wait_with(&mut self, tick: u32, runs: &[Running]) -> Result<(), SearchFault>
+    fn wait_with(&mut self, lacking: usize, tick: u32, runs: &[Running]) -> Result<(), SearchFault>
         ensures { GoesOn self.old self.new }
     {
         let hash = self.store.hash_of(&self.state, runs);
         if self.store.is_known(hash, &self.state, runs) || !self.ends_can_happen(runs)? {
             return Ok(());
         }
+        let lacking = self.lacking_after(lacking, runs)?;
+        if !self.queues.is_open(lacking) {
+            return Ok(());
+        }
         let moment = self.add_moment(hash, tick, runs)?;
-        let lacking = self.lacking_after_ends(runs)?;
         self.make(moment, lacking)?;
         Ok(())
     }
@@ -317,6 +347,17 @@ impl<'t> Frontier<'t> {
         })?;
         self.store.enter_last(self.alloc)?;
         Ok(moment)
+    }
+
+    // How many conjuncts lack once the ends that are due have happened: as many as before where none is.
+    fn lacking_after(&mut self, lacking: usize, runs: &[Running]) -> Result<usize, SearchFault>
+        ensures { self.new ≡ self.old }
+    {
+        if runs.iter().any(|r| r.left == 0) {
+            self.lacking_after_ends(runs)
+        } else {
+            Ok(lacking)
+        }
     }
 
     fn lacking_after_ends(&mut self, runs: &[Running]) -> Result<usize, SearchFault>

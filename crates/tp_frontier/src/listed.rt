@@ -2,15 +2,16 @@
 
 use crate::known::push_copy;
 use std::alloc::{AllocError, Global};
-use tp_forms::{Forms, Touches, touched};
+use tp_forms::{Forms, Touches, small, touched};
 
-/// What the first event of each action may change of the goal, by way of atoms and of fluents, and which actions are quiet:
-/// their first event changes nothing of the goal, and no number.
+/// What the first event of each action may change of the goal, by way of atoms and of fluents; which actions are quiet:
+/// their first event changes nothing of the goal, and no number; and for each action the next that isn't, from itself on.
 #[derive(Drop)]
 pub struct Touching {
     by_atoms: Touches,
     by_fluents: Touches,
     quiet: Vec<bool>,
+    loud: Vec<u32>,
 }
 
 fn writes_nothing(forms: &Forms<'_>, event: u32) -> bool {
@@ -43,16 +44,38 @@ fn quiet_actions(
     Ok(quiet)
 }
 
+// For each action the first from it on that is not quiet, past all where there is none.
+fn loud_actions(alloc: Global, quiet: &[bool]) -> Result<Vec<u32>, AllocError> {
+    let mut loud = Vec::from_elem(alloc, u32::MAX, quiet.len())?;
+    let mut next = u32::MAX;
+    for place in (0..quiet.len()).rev() {
+        if !quiet[place] {
+            next = small(place);
+        }
+        if let Some(at) = loud.get_mut(place) {
+            *at = next;
+        }
+    }
+    Ok(loud)
+}
+
 impl Touching {
     pub fn new(alloc: Global, forms: &Forms<'_>) -> Result<Self, AllocError> {
         let by_atoms = touched(alloc, forms, true)?;
         let by_fluents = touched(alloc, forms, false)?;
         let quiet = quiet_actions(alloc, forms, &by_atoms, &by_fluents)?;
+        let loud = loud_actions(alloc, &quiet)?;
         Ok(Touching {
             by_atoms,
             by_fluents,
             quiet,
+            loud,
         })
+    }
+
+    /// The first action from one on that is not quiet; past all where there is none.
+    pub fn loud_from(&self, action: u32) -> u32 {
+        self.loud.get(action as usize).copied().unwrap_or(action)
     }
 
     pub fn is_quiet(&self, action: u32) -> bool {

@@ -245,6 +245,27 @@ impl Store {
         if let Some(last) = self.parents.last_mut() {
             last.first_wait = next;
         }
+        self.leave_startless();
+    }
+
+    // What can start at the moment of a node that waited, which was kept last, is not asked for again if no child starts
+    // any of it.
+    fn leave_startless(&mut self) {
+        let Some(last) = self.parents.last().copied() else {
+            return;
+        };
+        if last.first == last.first_wait && matches!(last.node.choice, Choice::Wait) {
+            self.leave_starts(last.node.moment);
+        }
+    }
+
+    fn leave_starts(&mut self, moment: u32) {
+        if let Some(there) = self.moments.get_mut(moment as usize) {
+            if let Some(span) = there.starts {
+                self.starts.truncate(span.at as usize);
+                there.starts = None;
+            }
+        }
     }
 
     /// A child more, by the number of its start, or of its moment if it waits; and its own number.
@@ -284,6 +305,16 @@ impl Store {
     /// A start by its number.
     pub fn start(&self, number: u32) -> Option<Start> {
         self.starts.get(number as usize).copied()
+    }
+
+    /// The number of the first of some starts of a moment, from one on, whose action is this or a greater one.
+    pub fn start_from(&self, from: u32, end: u32, action: u32) -> u32 {
+        let span = Span {
+            at: from,
+            count: end.saturating_sub(from),
+        };
+        let before = part(&self.starts, span).partition_point(|s| s.action < action);
+        from.saturating_add(small(before))
     }
 
     /// Steps that run, as they were kept.

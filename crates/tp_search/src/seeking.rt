@@ -91,13 +91,13 @@ fn seek_in<'t>(
     if let Some(plan) = judge(alloc, task, &[])? {
         return Ok(Found::Plan(plan));
     }
-    let mut frontier = Frontier::new(alloc, task, reached, horizon)?;
+    let mut frontier = Frontier::new(alloc, task, reached, budget, horizon)?;
     seek(alloc, task, &mut frontier, budget, horizon)
 }
 
 /// Searches for a plan that ends by a horizon, with at most so many expansions. Nodes are taken by the least number of
-/// goal conjuncts that they lack, and then in the order in which they were made. It takes the time and memory of the
-/// nodes made, and what the relaxed reach takes; where no node is left, also a look at all sets of actions that can
+/// goal conjuncts that they lack, and then in the order in which they were made. It takes the time of the nodes made, the
+/// memory of those that the budget may still reach, and what the relaxed reach takes; where no node is left, also a look at all sets of actions that can
 /// happen at once at tick 0.
 #[tactic(auto, using(crate::proofs::Unreachable::unreachable))]
 pub fn search<'t>(
