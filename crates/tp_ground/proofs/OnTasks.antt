@@ -9,7 +9,6 @@ use Rattle.tp_ast.specs.Actions as actions
 use Rattle.tp_ast.specs.Domains.{Domain}
 use Rattle.tp_ast.specs.Problems.{Problem}
 use Rattle.tp_ast.specs.DomainViews.{initial_view}
-use Rattle.tp_ast.specs.declared.action.Action.{Action}
 use Rattle.tp_ast.specs.declared.problem.Initial.{Initial}
 use Rattle.tp_bounds.specs.RunLimits.{RunLimits}
 use Rattle.tp_text.specs.declared.number.Scale.{Scale}
@@ -31,8 +30,6 @@ use Rattle.tp_ground.specs.declared.beginning.NumberedInitial.{NumberedInitial}
 use Rattle.tp_ground.specs.declared.grounder.LoweredTask.{LoweredTask}
 use Rattle.tp_task.specs.declared.task.Task.{Task}
 use Rattle.tp_task.specs.declared.fault.GroundFault.{GroundFault}
-use Rattle.tp_task.specs.declared.fault.GroundFault.TheVariants as faults
-use Rattle.tp_task.specs.declared.fault.TooManyKind.TheVariants as kinds
 use Rattle.tp_task.specs.declared.events.Cond.{Cond}
 use Rattle.tp_task.specs.declared.events.Body.{Body}
 use Rattle.tp_lower.proofs.OnBodies.{at_first, at_second, at_third}

@@ -22,7 +22,7 @@ use Rattle.tp_ground.specs.declared.grounder.LoweredTask.{LoweredTask}
 
 abbrev pub instance_view : code.Instance → Instance
 instance_view i =
-    record { action = schema_view i.schema.now; objects = map (λ o. o.now) i.objects.items }
+    record { action = schema_view i.schema.now; objects = map (λ o. o.now) i.objects.value.items }
 
 -- what is known of the quantifiers of its action fits
 abbrev pub has_hints : objects.Universe → code.Instance → Bool

@@ -20,6 +20,7 @@ ghost use Rattle.tp_bindings.specs.Rows.{product, lists_of};
 
 use crate::schema::Schema;
 use std::alloc::{AllocError, Global};
+use std::rc::Rc;
 use tp_bindings::environment::Env;
 use tp_bindings::hints::BodyHint;
 use tp_bindings::rows::{Rows, rows_of};
@@ -33,7 +34,7 @@ use tp_task::{Body, GroundFault};
 #[derive(Drop)]
 pub struct Instance<'s, 'a> {
     pub schema: &'s Schema<'a>,
-    pub objects: Vec<&'a str>,
+    pub objects: Rc<Vec<&'a str>>,
 }
 
 // Puts the bindings of an action at the end of a list.
@@ -53,7 +54,7 @@ fn push_rows<'s, 'a>(
 {
     for place in 0..rows.count {
         rows.turn_to(place);
-        let objects = copied(alloc, &rows.row)?;
+        let objects = Rc::new(alloc, copied(alloc, &rows.row)?)?;
         into.push(Instance { schema, objects })?;
     }
     Ok(())
@@ -119,7 +120,7 @@ fn lower_one<'a>(
         universe,
         writer,
         &schema.parameters,
-        &instance.objects,
+        instance.objects.as_slice(),
         &schema.action.body,
         &schema.hints,
     )
@@ -162,21 +163,19 @@ pub fn name_instances(
         refill(
             &mut words,
             instance.schema.action.name.as_str(),
-            &instance.objects,
+            instance.objects.as_slice(),
         )?;
         writer.push_action(&words)?;
     }
     Ok(())
 }
 
-fn copy_of<'s, 'a>(
-    alloc: Global,
-    instance: &Instance<'s, 'a>,
-) -> Result<Instance<'s, 'a>, AllocError>
+// The same instance, whose objects are shared.
+fn copy_of<'s, 'a>(instance: &Instance<'s, 'a>) -> Result<Instance<'s, 'a>, AllocError>
     ensures shown { IfOk result (λ i. instance_view i ≡ instance_view instance.now) }
     ensures schema { IfOk result (λ i. i.schema.now ≡ instance.now.schema.now) }
 {
-    let objects = copied(alloc, &instance.objects)?;
+    let objects = instance.objects.clone()?;
     Ok(Instance {
         schema: instance.schema,
         objects,
@@ -199,7 +198,7 @@ pub fn flagged<'s, 'a>(
     let mut kept = Vec::new(alloc);
     for place in 0..all.len() {
         if flags[place] {
-            kept.push(copy_of(alloc, &all[place])?)?;
+            kept.push(copy_of(&all[place])?)?;
         }
     }
     Ok(kept)

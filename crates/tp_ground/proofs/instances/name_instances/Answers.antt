@@ -1,4 +1,4 @@
-use Rattle.std.proofs.Common.{List, Bor, [], ◌∷◌, ◌++◌, map, sym, ap, ap₂, ◌∙◌, append_assoc}
+use Rattle.std.proofs.Common.{List, Vec, Global, Bor, [], ◌∷◌, ◌++◌, map, sym, ap, ap₂, ◌∙◌, append_assoc}
 use Rattle.std.proofs.lemmas.List.{take_all}
 use Rattle.std.proofs.lemmas.Simd.{map-map}
 use Rattle.tp_ast.specs.Symbols.{Name}
@@ -19,7 +19,7 @@ loop-instance-preserved c =
     let label =
     ap (map (λ (o : Bor Name). o.now)) c.deref-in-loop-instance.ensures.value
     ∙ c.in_ok-refill.ensures
-    ∙ ap₂ (λ (n : Name) (ns : List Name). n ∷ ns) c.as_str.ensures.value (ap (map (λ (o : Bor Name). o.now)) c.deref.ensures.value) in
+    ∙ ap₂ (λ (n : Name) (ns : List Name). n ∷ ns) c.as_str.ensures.value (ap (map (λ (o : Bor Name). o.now)) (c.as_slice.ensures.value ∙ ap (λ (v : Vec (Bor Name) Global). v.items) c.deref.ensures)) in
     record {
       actions =
           c.in_ok-push_action.ensures.actions
