@@ -119,12 +119,12 @@ class Arguments(Case):
                 with self.subTest(f"tempo {words}"):
                     self.helps(words, texts)
 
-    def test_the_version_is_that_of_the_kit(self):
-        kit = subprocess.run(["rt", "version"], capture_output=True, check=True).stdout
+    def test_the_version_is_the_logic_of_the_kit(self):
+        _, logic = subprocess.run(["rt", "version"], capture_output=True, check=True).stdout.split(b" logic ")
         for words in ("--version", "-V"):
             with self.subTest(f"tempo {words}"):
                 found = call(words)
-                self.assertEqual((found.answers, found.faults, found.status), (b"tempo " + kit, b"", 0))
+                self.assertEqual((found.answers, found.faults, found.status), (b"tempo rattle logic " + logic, b"", 0))
 
     def test_other_scales_and_horizons_are_refused(self):
         for words, why in OTHERS:

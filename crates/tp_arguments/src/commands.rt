@@ -8,8 +8,9 @@ ghost use Rattle.tp_arguments.specs.Commands.{audit_app, auditing_app, bare_app,
 use clap::{Arg, ArgAction, Command, value_parser};
 use std::alloc::{AllocError, Global};
 
-/// The kit that the program is proved with, as `rt version` tells it.
-const KIT: &str = "rattle-kit-13f logic dac8208d650f15bf";
+/// The logic that the program is proved in, as `rt version` tells it behind the kit's name: kits that differ in nothing that a
+/// proof rests on have one logic.
+const LOGIC: &str = "rattle logic dac8208d650f15bf";
 
 const ABOUT: &str =
     "Plans over time: judges them, and answers commands on networks of events and bounds";
@@ -382,7 +383,7 @@ fn tempo_start<'a>(alloc: Global) -> Result<Command<'a>, AllocError>
     ensures { IfOk result (λ c. app_of c ≡ start_app) }
 {
     Command::new(alloc, "tempo")
-        .version(KIT)
+        .version(LOGIC)
         .no_binary_name(true)
         .about(ABOUT)
         .after_help(EXIT)
