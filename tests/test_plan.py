@@ -82,6 +82,20 @@ SHARED = (
 )
 
 
+# twenty things that may be looked at, all before what leads to the goal
+CROWD = """(define (domain crowd) (:types thing) (:predicates (seen ?x - thing) (ready) (done))
+ (:action look :parameters (?x - thing) :effect (seen ?x))
+ (:action prepare :effect (ready))
+ (:action finish :precondition (ready) :effect (done)))"""
+
+CROWDED = f"""(define (problem p) (:domain crowd) (:objects {" ".join(f"x{i}" for i in range(20))} - thing)
+ (:init) (:goal (done)))"""
+
+# All nodes lack the goal, so they are expanded in the order in which they are made: the root, its 21 starts, for each look
+# the starts behind it and a wait (20 + 19 + .. + 1, and 20), and then the wait behind `prepare`, whose child is the plan.
+LAST = 1 + 21 + 230 + 1
+
+
 class Plan(Case):
     def test_plans_and_why_there_is_none(self):
         for domain, problem, words, text, status in ROWS:
@@ -103,3 +117,9 @@ class Plan(Case):
     def test_more_bindings_than_there_may_be_actions(self):
         files = {"domain": ROADS, "problem": CHAIN}
         self.comes_to(told_by("0: (go o0 o1 o0)\n1: (go o1 o2 o0)\n", 0), CALL, files)
+
+    def test_the_last_node_that_a_budget_reaches(self):
+        files = {"domain": CROWD, "problem": CROWDED}
+        for budget, text, status in ((LAST, "0: (prepare)\n1: (finish)\n", 0), (LAST - 1, f"spent {LAST - 1}\n", 1)):
+            with self.subTest(f"{budget} nodes"):
+                self.comes_to(told_by(text, status), f"{CALL} --budget {budget}", files)
