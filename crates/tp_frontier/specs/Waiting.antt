@@ -35,8 +35,8 @@ pub record Waiting : Type 0 where
   pub queues : List (List ℕ)
   pub left : ℕ
 
--- A node that lacks so many or more is never taken any more, since as many nodes wait before it as are taken at most. No more are
--- counted than wait before that.
+-- One more node that lacks so many or more would never be taken, since at least as many wait before it as are still taken. No
+-- more are counted than wait before that.
 abbrev pub IsClosed : List (List ℕ) → ℕ → ℕ → ℕ → Type 0
 IsClosed queues left closed count =
     (closed ≤ length queues) × (count ≤ waiting_below queues closed)

@@ -75,7 +75,7 @@ const BEFORE_ROOT: Parent = Parent {
     first_wait: 0,
 };
 
-/// All nodes that were made, by number, and what they share. Kept of each is what it chose, by number: a start, or where
+/// All nodes that were kept, by number, and what they share. Kept of each is what it chose, by number: a start, or where
 /// it waits a moment. The rest is found by its parent, the last one whose first child is not behind it.
 #[derive(Drop)]
 pub struct Store {
