@@ -116,7 +116,7 @@ fn has_steps(plan: &Option<Plan>, told: Option<&[(u32, u32, u32)]>) -> bool {
 /// Whether the run over the network of a plan comes to that.
 fn is_so(alloc: Global, plan: &ValidPlan<'_>, limits: &Limits, run: Run) -> Result<bool, Fail> {
     let network = again!(deorder(alloc, plan, limits))?;
-    let found = plan_over(alloc, plan, limits, &network, run.commands)?;
+    let found = again!(plan_over(alloc, plan, limits, &network, run.commands))?;
     Ok(has_steps(&found, run.steps))
 }
 
