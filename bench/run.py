@@ -371,6 +371,7 @@ def worst_reads(program):
     problem = "(define (problem q) (:domain d) (:goal ()))"
     judged(program, "one atom over two lists of 40,000 types", asked(40_000, 1), problem, "")
     judged(program, "20,000 atoms over two lists of 2,000 types", asked(2_000, 20_000), problem, "")
+    judged(program, "90,000 atoms over two lists of 20,000 types", asked(20_000, 90_000), problem, "")
     types = "(either " + "t " * 100_000 + ")"
     run = f"(define (domain d) (:types t) (:predicates (p {each('?v#', 70_000)} - {types})))"
     judged(program, "70,000 variables of a list of 100,000 types", run, problem, "")
@@ -554,6 +555,17 @@ def starters(count):
     return domain, f"(define (problem q) (:domain idle) (:objects {each('o#', count)}) (:init) (:goal (done)))"
 
 
+def makers(count, places):
+    """Things that are each made by a step of their own, one of them not to be made, beside actions that can always start and have
+    nothing to do with that."""
+    make = "(:durative-action make :parameters (?j - job) :duration (= ?duration 1) :condition () :effect (at end (made ?j)))"
+    look = "(:action look :parameters (?x ?y - place) :effect (seen ?x ?y))"
+    domain = f"(define (domain makers) (:types job place) (:predicates (made ?j - job) (seen ?x ?y - place)) {make} {look})"
+    objects = f"{each('j#', count)} - job {each('p#', places)} - place"
+    goal = f"(and {each('(made j#)', count)} (not (made j1)))"
+    return domain, f"(define (problem q) (:domain makers) (:objects {objects}) (:init) (:goal {goal}))"
+
+
 ROADS = """(define (domain roads) (:requirements :typing) (:types place)
  (:predicates (at ?x - place) (road ?x ?y ?z - place))
  (:action go :parameters (?a ?b ?c - place) :precondition (and (at ?a) (road ?a ?b ?c))
@@ -624,6 +636,8 @@ def searches(program):
     judged(program, "20 lamps behind 43 atoms that stay, a budget of 1,000,000", *moving_lamps(20, 43), None, "plan", ("--budget", "1000000"))
     judged(program, "10 actions of 600 atoms each, until no node is left", *painters(10, 600), None, "plan", ("--budget", "1000000"))
     judged(program, "100 actions of 10,000 atoms each that all interfere, until no node is left", *rivals(100, 5000), None, "plan", ("--horizon", "0"))
+    judged(program, "the same with time to go on, a budget of 10,000", *rivals(100, 5000), None, "plan", ("--budget", "10000"))
+    judged(program, "400 things to be made beside 57,600 actions that can always start", *makers(400, 240), None, "plan")
     judged(program, "65,025 actions that share a condition of 8,000 atoms", *sharers(255, 8000), None, "plan")
     judged(program, "65,025 actions that share one of 8,000 atoms, out of reach", *sharers(255, 8000, 1), None, "plan")
     judged(program, "90 places: 729,000 bindings, 89 in reach", *roads(90), None, "plan")
