@@ -1,23 +1,23 @@
--- An invariant into which no event of a moment writes stays as it was.
-use Rattle.std.proofs.Common.{◌≡◌, ◌≢◌, ℕ, ◌+◌, ◌<◌, Bool, true, false, not, ◌&&◌, ◌||◌, ◌==◌, nat_le, nat_lt, List, [], ◌∷◌, ◌++◌, length, get_or, ⊎_elim, refl, ap, ap₂, ◌∙◌, arith, Option, ℤ, pos, ◌+ℤ◌}
+-- An invariant stays as it was where no event of a moment changes anything that it mentions.
+use Rattle.std.proofs.Common.{◌≡◌, ◌≢◌, ℕ, ◌+◌, ◌<◌, Bool, true, false, not, ◌&&◌, ◌||◌, ◌==◌, nat_le, nat_lt, List, [], ◌∷◌, ◌++◌, length, get_or, filter, ⊎_elim, refl, sym, ap, ap₂, ◌∙◌, arith, Option, ℤ, pos, ◌+ℤ◌}
 use Rattle.std.specs.List.{list_any}
-use Rattle.std.proofs.lemmas.Bool.{both_ways, cases_Bool, cond-false, eqb-false, leb-true, ltb-true, not_from_true, or_parts, or_cases, or_left, or_right}
+use Rattle.std.specs.Cmp.{booleans_Decides}
+use Rattle.std.proofs.lemmas.Bool.{both_ways, cases_Bool, cond-true, cond-false, eqb-true, eqb-false, leb-true, ltb-true, not_from_true, not-false, or_parts, or_cases, or_left, or_right}
 use Rattle.tp_task.specs.declared.events.Body.{Body}
 use Rattle.tp_task.specs.declared.events.Body.TheVariants.{Instant, Durative}
-use Rattle.tp_task.specs.declared.events.Cond.{Cond}
-use Rattle.tp_task.specs.declared.events.GroundEvent.{GroundEvent}
-use Rattle.tp_task.specs.State.{State, holds, atoms_in, fluents_in, units}
-use Rattle.tp_task.specs.Event.{has, meets, fluents_set, fluents_written}
+use Rattle.tp_task.specs.State.{State, holds, units}
+use Rattle.tp_task.specs.Event.{has, fluents_set, fluents_written}
 use Rattle.tp_task.specs.Happens.{EventOfStep, Happens, atom_after, number_after, set_by, added_by, plus}
-use Rattle.tp_task.specs.Bounds.{writes_into}
 use Rattle.tp_task.specs.Valid.{Planned, Placed}
 use Rattle.tp_task.specs.Verdict.{is_broken}
-use Rattle.tp_task.proofs.Same.{has_left, has_right, meets_at, holds_same}
+use Rattle.tp_task.proofs.Same.{has_left, has_right, holds_same}
 use Rattle.tp_task.proofs.Bridge.{plus_zero, set_written, added_none}
+use Rattle.tp_happen.proofs.Compared.{numbers_Decides}
 use Rattle.tp_number_sets.specs.declared.sets.NumberSet.{NumberSet}
 use Rattle.tp_number_sets.specs.Sets.{has_number, is_met}
 use Rattle.tp_validate.specs.declared.mentions.Mentions.{Mentions}
-use Rattle.tp_validate.specs.Touched.{invariant_atoms, invariant_fluents, writes_invariant, invariant_holds, HasMentions, reaches, HasTouched, HoldsSoFar, AreKept}
+use Rattle.tp_validate.specs.Changed.{is_atom_changed, is_fluent_changed, changed_atoms}
+use Rattle.tp_validate.specs.Touched.{invariant_holds, HasMentions, reaches, Agree, HasTouched, HoldsSoFar, AreKept}
 use Rattle.tp_validate.proofs.Numbers.{times}
 use Rattle.tp_validate.proofs.Quiet.{behind, and_true}
 
@@ -29,6 +29,18 @@ any_weaker p q f (x ∷ xs) h = ⊎_elim (λ e. or_left (q x) _ (f x e)) (λ e. 
 -- a test that leads to one that fails fails too
 not_so : (a b : Bool) → (a ≡ true → b ≡ true) → b ≡ false → a ≡ false
 not_so a b f h = ⊎_elim (λ e. absurd (both_ways b h (f e))) (λ e. e) (cases_Bool a)
+
+-- what is in a list and passes a filter is found among those that pass it
+any_kept : (p q : ℕ → Bool) (xs : List ℕ) (a : ℕ) → has xs a ≡ true → p a ≡ true → q a ≡ true → list_any q (filter p xs) ≡ true
+any_kept p q [] a h i j = absurd (cc)
+any_kept p q (x ∷ xs) a h i j =
+    ⊎_elim
+    (λ e. ap (list_any q) (cond-true (p x) _ _ (ap p (eqb-true x a e) ∙ i)) ∙ or_left (q x) _ (ap q (eqb-true x a e) ∙ j))
+    (λ e. ⊎_elim
+    (λ t. ap (list_any q) (cond-true (p x) _ _ t) ∙ or_right (q x) _ (any_kept p q xs a e i j))
+    (λ f. ap (list_any q) (cond-false (p x) _ _ f) ∙ any_kept p q xs a e i j)
+    (cases_Bool (p x)))
+    (or_cases (x == a) (has xs a) h)
 
 -- an event adds or deletes an atom, or writes a fluent
 abbrev changes : ℕ → Placed → Bool
@@ -71,45 +83,55 @@ module _ (scale : ℕ) (s : State) (f : ℕ) where
   number_stays : (fs : List Placed) → list_any (writes f) fs ≡ false → number_after scale s (times fs) f ≡ s.number f
   number_stays fs h = none_sets fs _ h ∙ (ap (λ z. plus z (s.number f)) (none_adds_to fs h) ∙ plus_zero (s.number f))
 
--- what happens where no event writes into a condition
-module _ (scale : ℕ) (old new : State) (fs : List Placed) (h : Happens scale old (times fs) new) where
-  stays : (c : Cond) → list_any (λ (e : Placed). writes_into e.timed.event c) fs ≡ false → holds new c ≡ holds old c
-  stays c n =
-      holds_same new old c
-      (λ a q. h.atoms a ∙ atom_stays a old fs
-      (not_so (list_any (changes a) fs) _ (any_weaker (changes a) (λ (e : Placed). writes_into e.timed.event c) (λ (e : Placed) w. or_left (meets (e.timed.event.adds.items ++ e.timed.event.deletes.items) (atoms_in c)) _ (meets_at _ _ a w q)) fs) n))
-      (λ f q. h.numbers f ∙ number_stays scale old f fs
-      (not_so (list_any (writes f) fs) _ (any_weaker (writes f) (λ (e : Placed). writes_into e.timed.event c) (λ (e : Placed) w. or_right (meets (e.timed.event.adds.items ++ e.timed.event.deletes.items) (atoms_in c)) _ (meets_at _ _ f w q)) fs) n))
+-- two states agree on an atom and on a fluent that are not changed
+module _ (old new : State) where
+  same_atom : (a : ℕ) → is_atom_changed old new a ≡ false → new.atom a ≡ old.atom a
+  same_atom a h = sym ((booleans_Decides (old.atom a) (new.atom a)).0 (not-false _ h))
 
-  unbroken : (m : ℕ) (p : Planned) (b : Body) → p.moment ≢ m → list_any (λ (e : Placed). writes_invariant b e.timed.event) fs ≡ false → (p.moment < m → m < p.moment + p.duration → invariant_holds old b ≡ true) → is_broken new m p b ≡ false
-  unbroken m p (Instant e) apart n held = refl
-  unbroken m p (Durative x y c) apart n held =
+  same_number : (f : ℕ) → is_fluent_changed old new f ≡ false → new.number f ≡ old.number f
+  same_number f h = sym ((numbers_Decides (old.number f) (new.number f)).0 (not-false _ h))
+
+  -- where a step's invariant mentions nothing that is changed, it stays unbroken
+  unbroken : (m : ℕ) (p : Planned) (b : Body) → p.moment ≢ m → Agree old new b → (p.moment < m → m < p.moment + p.duration → invariant_holds old b ≡ true) → is_broken new m p b ≡ false
+  unbroken m p (Instant e) apart same held = refl
+  unbroken m p (Durative x y c) apart same held =
       behind (nat_le p.moment m) _ (λ u. behind (nat_lt m (p.moment + p.duration)) _ (λ v.
       let low = leb-true p.moment m u in
       let high = ltb-true m (p.moment + p.duration) v in
-      not_from_true (holds new c) (stays c n ∙ held (omega arith) high)))
+      not_from_true (holds new c) (holds_same new old c same.atoms same.numbers ∙ held (omega arith) high)))
 
-  -- the steps that don't start at the moment, and aren't in a set with all that are written into, stay unbroken
-  pub kept : (m : ℕ) (ps : List Planned) (touched : NumberSet) → HoldsSoFar old m ps → HasTouched ps fs touched → AreKept new m touched ps
+  -- the steps that don't start at the moment, and aren't in a set with all whose invariants mention what is changed, stay unbroken
+  pub kept : (m : ℕ) (ps : List Planned) (touched : NumberSet) → HoldsSoFar old m ps → HasTouched ps old new touched → AreKept new m touched ps
   kept m ps touched held has_all k d b n =
       let p : Planned = get_or ps k d in
       let q = or_parts (p.moment == m) (has_number touched k) n in
-      unbroken m p p.body (eqb-false p.moment m q.0)
-      (not_so (list_any (λ (e : Placed). writes_invariant p.body e.timed.event) fs) (has_number touched k) (has_all k d b) q.1)
-      (held k d b)
+      unbroken m p p.body (eqb-false p.moment m q.0) (has_all k d b q.1) (held k d b)
 
--- the steps that events reach by the indexes are all into whose invariants they write
-module _ (m : Mentions) (k : ℕ) where
-  reached : (b : Body) (e : GroundEvent) → ((x : ℕ) → has (invariant_atoms b) x ≡ true → is_met m.atoms x k ≡ true) → ((x : ℕ) → has (invariant_fluents b) x ≡ true → is_met m.fluents x k ≡ true) → writes_invariant b e ≡ true → reaches m e k ≡ true
-  reached (Instant x) e atoms fluents h = absurd (cc)
-  reached (Durative x y c) e atoms fluents h =
+-- the steps that events reach by the indexes are all whose invariants mention what they change
+module _ (scale : ℕ) (old new : State) (fs : List Placed) (h : Happens scale old (times fs) new) (m : Mentions) (k : ℕ) (n : list_any (λ (e : Placed). reaches m old new e.timed.event k) fs ≡ false) where
+  -- no event writes what is changed and the step is entered at, since it would reach the step; so that stays as it was
+  atom_agrees : (a : ℕ) → is_met m.atoms a k ≡ true → new.atom a ≡ old.atom a
+  atom_agrees a i =
       ⊎_elim
-      (λ w. or_left (list_any (λ x. is_met m.atoms x k) (e.adds.items ++ e.deletes.items)) _ (any_weaker (has (atoms_in c)) (λ x. is_met m.atoms x k) atoms (e.adds.items ++ e.deletes.items) w))
-      (λ w. or_right (list_any (λ x. is_met m.atoms x k) (e.adds.items ++ e.deletes.items)) _ (any_weaker (has (fluents_in c)) (λ x. is_met m.fluents x k) fluents (fluents_written e) w))
-      (or_cases (meets (e.adds.items ++ e.deletes.items) (atoms_in c)) (meets (fluents_written e) (fluents_in c)) h)
+      (λ t. h.atoms a ∙ atom_stays a old fs
+      (not_so (list_any (changes a) fs) _ (any_weaker (changes a) (λ (e : Placed). reaches m old new e.timed.event k)
+      (λ (e : Placed) w. or_left (list_any (λ x. is_met m.atoms x k) (changed_atoms old new e.timed.event)) _ (any_kept (is_atom_changed old new) (λ x. is_met m.atoms x k) _ a w t i)) fs) n))
+      (same_atom old new a)
+      (cases_Bool (is_atom_changed old new a))
 
-pub has_touched : (ps : List Planned) (m : Mentions) (fs : List Placed) (touched : NumberSet) → HasMentions ps (length ps) m → ((k : ℕ) → has_number touched k ≡ list_any (λ (e : Placed). reaches m e.timed.event k) fs) → HasTouched ps fs touched
-has_touched ps m fs touched h all k d b w =
-    let p : Planned = get_or ps k d in
-    all k ∙ any_weaker (λ (e : Placed). writes_invariant p.body e.timed.event) (λ (e : Placed). reaches m e.timed.event k)
-    (λ (e : Placed) q. reached m k p.body e.timed.event (λ x i. h.atoms k x d b i) (λ x i. h.fluents k x d b i) q) fs w
+  number_agrees : (f : ℕ) → is_met m.fluents f k ≡ true → new.number f ≡ old.number f
+  number_agrees f i =
+      ⊎_elim
+      (λ t. h.numbers f ∙ number_stays scale old f fs
+      (not_so (list_any (writes f) fs) _ (any_weaker (writes f) (λ (e : Placed). reaches m old new e.timed.event k)
+      (λ (e : Placed) w. or_right (list_any (λ x. is_met m.atoms x k) (changed_atoms old new e.timed.event)) _ (any_kept (is_fluent_changed old new) (λ x. is_met m.fluents x k) _ f w t i)) fs) n))
+      (same_number old new f)
+      (cases_Bool (is_fluent_changed old new f))
+
+module _ (scale : ℕ) (old new : State) (fs : List Placed) (h : Happens scale old (times fs) new) where
+  pub has_touched : (ps : List Planned) (m : Mentions) (touched : NumberSet) → HasMentions ps (length ps) m → ((k : ℕ) → has_number touched k ≡ list_any (λ (e : Placed). reaches m old new e.timed.event k) fs) → HasTouched ps old new touched
+  has_touched ps m touched mentioned all k d b u =
+      record {
+        atoms = λ a i. atom_agrees scale old new fs h m k (sym (all k) ∙ u) a (mentioned.atoms k a d b i);
+        numbers = λ f i. number_agrees scale old new fs h m k (sym (all k) ∙ u) f (mentioned.fluents k f d b i);
+      }

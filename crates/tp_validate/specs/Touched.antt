@@ -1,4 +1,4 @@
--- The steps whose invariants the events of a moment write into.
+-- The steps whose invariants mention what the events of a moment change.
 use Rattle.std.specs.Prelude.{◌≡◌, ℕ, ◌+◌, ◌<◌, Bool, true, false, ◌||◌, ◌==◌, List, [], length, slice_index_or}
 use Rattle.std.specs.List.{All, list_any}
 use Rattle.tp_task.specs.declared.events.GroundEvent.{GroundEvent}
@@ -6,13 +6,11 @@ use Rattle.tp_task.specs.declared.events.Body.{Body}
 use Rattle.tp_task.specs.declared.events.Body.TheVariants.{Instant, Durative}
 use Rattle.tp_task.specs.State.{State, holds, atoms_in, fluents_in}
 use Rattle.tp_task.specs.Event.{has}
-use Rattle.tp_task.specs.Bounds.{writes_into}
-use Rattle.tp_task.specs.Valid.{Planned, Placed}
+use Rattle.tp_task.specs.Valid.{Planned}
 use Rattle.tp_task.specs.Verdict.{is_broken}
-use Rattle.tp_happen.specs.declared.meetings.Meeting.TheVariants.{ChangedAndAsked, WrittenAndRead}
-use Rattle.tp_happen.specs.Meetings.{done}
 use Rattle.tp_number_sets.specs.declared.sets.NumberSet.{NumberSet}
 use Rattle.tp_number_sets.specs.Sets.{has_number, is_met}
+use Rattle.tp_validate.specs.Changed.{changed_atoms, changed_fluents}
 use Rattle.tp_validate.specs.declared.mentions.Mentions.{Mentions}
 
 -- the atoms and the fluents that a step's invariant mentions
@@ -23,11 +21,6 @@ invariant_atoms (Durative start end invariant) = atoms_in invariant
 abbrev pub invariant_fluents : Body → List ℕ
 invariant_fluents (Instant e) = []
 invariant_fluents (Durative start end invariant) = fluents_in invariant
-
--- an event writes into a step's invariant
-abbrev pub writes_invariant : Body → GroundEvent → Bool
-writes_invariant (Instant e) event = false
-writes_invariant (Durative start end invariant) event = writes_into event invariant
 
 -- a step's invariant holds
 abbrev pub invariant_holds : State → Body → Bool
@@ -44,18 +37,22 @@ pub record HasMentions (ps : List Planned) (count : ℕ) (m : Mentions) : Type 0
       → has (invariant_fluents (slice_index_or ps k d).body) x ≡ true
       → is_met m.fluents x k ≡ true
 
--- a step is entered at an atom that an event changes, or at a fluent that it writes
-abbrev pub reaches : Mentions → GroundEvent → ℕ → Bool
-reaches m e k =
-    list_any (λ x. is_met m.atoms x k) (done ChangedAndAsked e)
-    || list_any (λ x. is_met m.fluents x k) (done WrittenAndRead e)
+-- a step is entered at an atom or at a fluent that an event changes, by the states before and after its moment
+abbrev pub reaches : Mentions → State → State → GroundEvent → ℕ → Bool
+reaches m before after e k =
+    list_any (λ x. is_met m.atoms x k) (changed_atoms before after e)
+    || list_any (λ x. is_met m.fluents x k) (changed_fluents before after e)
 
--- each step whose invariant one of some events writes into is in a set
-abbrev pub HasTouched : List Planned → List Placed → NumberSet → Type 0
-HasTouched ps es touched =
-    (k : ℕ) (d : Planned) → k < length ps
-    → list_any (λ (e : Placed). writes_invariant (slice_index_or ps k d).body e.timed.event) es
-    ≡ true → has_number touched k ≡ true
+-- Two states agree on all that a step's invariant mentions.
+pub record Agree (before after : State) (b : Body) : Type 0 where
+  pub atoms : (a : ℕ) → has (invariant_atoms b) a ≡ true → after.atom a ≡ before.atom a
+  pub numbers : (f : ℕ) → has (invariant_fluents b) f ≡ true → after.number f ≡ before.number f
+
+-- two states agree on what the invariants of all steps mention but those in a set
+abbrev pub HasTouched : List Planned → State → State → NumberSet → Type 0
+HasTouched ps before after touched =
+    (k : ℕ) (d : Planned) → k < length ps → has_number touched k ≡ false
+    → Agree before after (slice_index_or ps k d).body
 
 -- the invariant of each step that runs past a moment from before it holds
 abbrev pub HoldsSoFar : State → ℕ → List Planned → Type 0

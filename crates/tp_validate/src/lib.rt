@@ -4,12 +4,14 @@
 //! - `agenda`: the events in the order of their moments, tick after tick
 //! - `durations`: whether a step's duration is lawful
 //! - `rosters`: the steps in the order of their starts
-//! - `mentions`: the steps into whose invariants the events of a tick write
+//! - `changes`: the atoms and fluents that an event of a tick changes
+//! - `mentions`: the steps whose invariants mention what the events of a tick change
 //! - `ticks`: what happens at one tick, or the first fault there
 //! - `verdicts`: tick after tick, `validate`
 #![tactic(auto)]
 
 mod agenda;
+mod changes;
 mod durations;
 mod mentions;
 mod placing;

@@ -1,16 +1,18 @@
-//! Which steps' invariants the events of a tick write into, by indexes of what the invariants mention.
+//! Which steps' invariants mention what the events of a tick change, by indexes of what the invariants mention.
 
 ghost use Rattle.std.specs.Prelude.{◌≡◌, ℕ, ◌==◌, ◌&&◌, ◌||◌, length, IfOk, OnOk};
 ghost use Rattle.std.specs.List.{list_any};
 ghost use Rattle.tp_task.specs.State.{atoms_in, fluents_in};
 ghost use Rattle.tp_task.specs.Event.{has};
-ghost use Rattle.tp_happen.specs.Meetings.{done};
+ghost use Rattle.tp_happen.specs.Stored.{state_of};
 ghost use Rattle.tp_number_sets.specs.Sets.{has_number, is_met};
+ghost use Rattle.tp_validate.specs.Changed.{changed_atoms, changed_fluents};
 ghost use Rattle.tp_validate.specs.Touched.{invariant_atoms, invariant_fluents, HasMentions, reaches};
 
+use crate::changes::{changed_atoms, changed_fluents};
 use crate::placing::{PlacedEvent, PlannedStep};
 use std::alloc::{AllocError, Global};
-use tp_happen::{Event, Meeting, atoms_of, fluents_of};
+use tp_happen::{Event, State, atoms_of, fluents_of};
 use tp_number_sets::{Index, NumberSet};
 use tp_task::{Body, Cond};
 
@@ -84,59 +86,72 @@ pub fn mentions_of(alloc: Global, steps: &[PlannedStep<'_>]) -> Result<Mentions,
     Ok(mentions)
 }
 
-// Adds to a set those that an index has at what an event does.
-fn meet(
+// Adds to a set those that an index has at the atoms that an event changes.
+fn touch_by_atoms(
     alloc: Global,
     index: &Index,
+    before: &State,
+    after: &State,
     event: &Event<'_>,
-    way: Meeting,
     into: &mut NumberSet,
 ) -> Result<(), AllocError>
     ensures { OnOk result ((k : ℕ) → has_number into.new k
-        ≡ (has_number into.old k || list_any (λ x. is_met index.now x k) (done way event.now))) }
+        ≡ (has_number into.old k || list_any (λ x. is_met index.now x k)
+        (changed_atoms (state_of before.now) (state_of after.now) event.now))) }
 {
-    let numbers = event.done(alloc, way)?;
-    index.meet(&numbers, into)
+    let atoms = changed_atoms(alloc, before, after, event)?;
+    index.meet(&atoms, into)
 }
 
-// Adds to a set the steps into whose invariants an event writes.
+// The same of the fluents that it changes.
+fn touch_by_fluents(
+    alloc: Global,
+    index: &Index,
+    before: &State,
+    after: &State,
+    event: &Event<'_>,
+    into: &mut NumberSet,
+) -> Result<(), AllocError>
+    ensures { OnOk result ((k : ℕ) → has_number into.new k
+        ≡ (has_number into.old k || list_any (λ x. is_met index.now x k)
+        (changed_fluents (state_of before.now) (state_of after.now) event.now))) }
+{
+    let fluents = changed_fluents(alloc, before, after, event)?;
+    index.meet(&fluents, into)
+}
+
+// Adds to a set the steps whose invariants mention something that an event changes.
 fn touch(
     alloc: Global,
     mentions: &Mentions,
+    before: &State,
+    after: &State,
     event: &Event<'_>,
     into: &mut NumberSet,
 ) -> Result<(), AllocError>
     ensures { OnOk result ((k : ℕ) → has_number into.new k
-        ≡ (has_number into.old k || reaches mentions.now event.now k)) }
+        ≡ (has_number into.old k
+        || reaches mentions.now (state_of before.now) (state_of after.now) event.now k)) }
 {
-    meet(
-        alloc,
-        &mentions.atoms,
-        event,
-        Meeting::ChangedAndAsked,
-        into,
-    )?;
-    meet(
-        alloc,
-        &mentions.fluents,
-        event,
-        Meeting::WrittenAndRead,
-        into,
-    )
+    touch_by_atoms(alloc, &mentions.atoms, before, after, event, into)?;
+    touch_by_fluents(alloc, &mentions.fluents, before, after, event, into)
 }
 
-/// The places of the steps into whose invariants some events write.
+/// The places of the steps whose invariants mention what some events change, by the states before and after them.
 pub fn touched_by(
     alloc: Global,
     mentions: &Mentions,
+    before: &State,
+    after: &State,
     there: &[PlacedEvent<'_>],
 ) -> Result<NumberSet, AllocError>
     ensures { IfOk result (λ s. (k : ℕ) → has_number s k
-        ≡ list_any (λ e. reaches mentions.now e.timed.event k) there.now) }
+        ≡ list_any (λ e. reaches mentions.now
+        (state_of before.now) (state_of after.now) e.timed.event k) there.now) }
 {
     let mut touched = NumberSet::new(alloc);
     for event in there {
-        touch(alloc, mentions, &event.event(), &mut touched)?;
+        touch(alloc, mentions, before, after, &event.event(), &mut touched)?;
     }
     Ok(touched)
 }

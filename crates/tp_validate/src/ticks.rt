@@ -1,7 +1,8 @@
 //! What happens at one tick of a plan, or the first fault there.
 
-ghost use Rattle.std.specs.Prelude.{◌≡◌, ◌<◌, ◌≤◌, ◌==◌, ◌||◌, true, false, length, IfOk, IfErr, IfSome, OnErr};
+ghost use Rattle.std.specs.Prelude.{◌≡◌, ◌<◌, ◌≤◌, ◌==◌, ◌||◌, true, false, length, map, IfOk, IfErr, IfSome, OnErr};
 ghost use Rattle.std.specs.List.{list_all, position_from};
+ghost use Rattle.tp_task.specs.Happens.{Happens};
 ghost use Rattle.tp_task.specs.Valid.{events, at};
 ghost use Rattle.tp_task.specs.Verdict as verdict;
 ghost use Rattle.tp_happen.specs.Stored.{state_of, fits_in};
@@ -10,10 +11,11 @@ ghost use Rattle.tp_number_sets.specs.Sets.{has_number};
 ghost use Rattle.tp_validate.specs.Agenda.{starting_at};
 ghost use Rattle.tp_validate.specs.Places.{here, numbers};
 ghost use Rattle.tp_validate.specs.Tick.{renumbered, invariant_small, PassesAt};
-ghost use Rattle.tp_validate.specs.Touched.{HoldsSoFar, HasTouched, AreKept};
+ghost use Rattle.tp_validate.specs.Touched.{HasMentions, HoldsSoFar, AreKept};
 ghost use Rattle.tp_validate.specs.Found.{told, IsFound};
 
 use crate::durations::first_unlawful;
+use crate::mentions::{Mentions, touched_by};
 use crate::placing::{PlacedEvent, PlannedStep, event_refs, number_at};
 use std::alloc::Global;
 use tp_happen::{ApplyFault, Outcome, Range, State, Why, apply, holds};
@@ -124,21 +126,47 @@ fn first_broken(
     Ok(None)
 }
 
+// The first step whose invariant runs past a moment and does not hold after its events. Of the steps that ran before
+// it, only the invariants that mention something that the events change are evaluated.
+fn broken_after(
+    alloc: Global,
+    before: &State,
+    after: &State,
+    steps: &[PlannedStep<'_>],
+    mentions: &Mentions,
+    there: &[PlacedEvent<'_>],
+    moment: u32,
+) -> Result<Option<usize>, ApplyFault>
+    requires held { HoldsSoFar (state_of before.now) moment steps.now }
+    requires mentions { HasMentions steps.now (length steps.now) mentions.now }
+    requires happened { Happens before.now.scale
+        (state_of before.now) (map (λ e. e.timed) there.now) (state_of after.now) }
+    ensures ok { IfOk result (λ r. r
+        ≡ position_from (λ p. verdict.is_broken (state_of after.now) moment p p.body) 0 steps.now) }
+    ensures place { IfOk result (λ r. IfSome r (λ i. i < length steps.now)) }
+    ensures err { IfErr result (λ e. OnRange e
+        (list_all (λ p. invariant_small (state_of after.now) moment p p.body) steps.now ≡ false)) }
+{
+    let touched = touched_by(alloc, mentions, before, after, there)?;
+    let broken = first_broken(after, steps, &touched, moment)?;
+    Ok(broken)
+}
+
 /// What the events of a tick make of the state before it, or the first fault there. Of the steps that ran before it, it
-/// evaluates the invariants of those in `touched`, which has all into whose invariants an event there writes.
+/// evaluates the invariants of those that mention something that an event there changes.
 pub fn judge_tick(
     alloc: Global,
     state: &State,
     steps: &[PlannedStep<'_>],
     starting: &[PlannedStep<'_>],
-    touched: &NumberSet,
+    mentions: &Mentions,
     there: &[PlacedEvent<'_>],
     moment: u32,
 ) -> Result<Judged, ApplyFault>
     requires few { length steps.now ≤ 512 }
     requires starting { starting_at moment starting.now ≡ starting_at moment steps.now }
     requires held { HoldsSoFar (state_of state.now) moment steps.now }
-    requires touched { HasTouched steps.now there.now touched.now }
+    requires mentions { HasMentions steps.now (length steps.now) mentions.now }
     requires there { there.now ≡ here moment (events steps.now) }
     requires fits { list_all (fits_in state.now) (at moment (events steps.now)) ≡ true }
     ensures found { IfOk result (IsFound state.now moment steps.now (events steps.now)) }
@@ -151,7 +179,9 @@ pub fn judge_tick(
     let happening = event_refs(alloc, there)?;
     match apply(alloc, state, &happening)? {
         Outcome::Fails(place, why) => Ok(Judged::Faulty(named(there, place, why))),
-        Outcome::Next(next) => match first_broken(&next, steps, touched, moment)? {
+        Outcome::Next(next) => match broken_after(
+            alloc, state, &next, steps, mentions, there, moment,
+        )? {
             Some(step) => Ok(Judged::Faulty(Fault::OverAll(step as u16))),
             None => Ok(Judged::Next(next)),
         },

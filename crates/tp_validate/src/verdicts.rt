@@ -15,7 +15,7 @@ ghost use Rattle.tp_validate.specs.Reached.{IsRan, PassesBy};
 ghost use Rattle.tp_validate.specs.Answers.{IsFirst, IsVerdict, IsFault};
 
 use crate::agenda::{agenda_of, next_tick};
-use crate::mentions::{Mentions, mentions_of, touched_by};
+use crate::mentions::{Mentions, mentions_of};
 use crate::placing::{PlacedEvent, PlannedStep, placed_events, planned_steps};
 use crate::rosters::{count_started, roster_of};
 use crate::ticks::{Fault, Judged, judge_tick};
@@ -121,8 +121,7 @@ fn run(
         let moment = tick.moment;
         let waiting = &roster[started..];
         let (starting, _) = waiting.split_at(count_started(waiting, moment));
-        let touched = touched_by(alloc, mentions, tick.there)?;
-        match judge_tick(alloc, &state, steps, starting, &touched, tick.there, moment)? {
+        match judge_tick(alloc, &state, steps, starting, mentions, tick.there, moment)? {
             Judged::Faulty(why) => return Ok(Ran::Faulty(moment, why)),
             Judged::Next(next) => state = next,
         }
@@ -209,7 +208,7 @@ fn judge(alloc: Global, task: &Task, steps: &[Step]) -> Result<Option<(u32, Faul
 
 /// Judges a plan of a task: whether it is valid, or its first fault by tick, kind and number. Takes the time of each mention
 /// of an event and of an invariant once, and at each tick that of a copy of the state, and of the invariants that begin
-/// there or that something there writes into.
+/// there or that mention something that an event there changes.
 pub fn validate<'t>(alloc: Global, task: &'t Task, plan: Plan) -> Result<Verdict<'t>, ValidateFault>
     requires { IsOfTask task.now plan }
     ensures verdict { IfOk result (IsVerdict task.now plan) }

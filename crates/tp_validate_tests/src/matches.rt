@@ -111,3 +111,47 @@ const WATCHED_TO_THE_END: [Row<'static>; 6] = [
 fn what_is_watched_ends_before_the_last_tick(rt: HostRuntime) -> Result<(), Fail> {
     are_judged(&rt, rt.alloc(), SWITCHES, &WATCHED_TO_THE_END)
 }
+
+const LAMPS: World<'static> = World {
+    domain: "(define (domain lamp)
+ (:predicates (lit) (open) (done))
+ (:functions (fuel))
+ (:durative-action watch :parameters () :duration (= ?duration 5)
+  :condition (over all (and (lit) (not (open)) (>= (fuel) 2))) :effect (at end (done)))
+ (:action light :parameters () :effect (lit))
+ (:action light-anew :parameters () :effect (and (not (lit)) (lit)))
+ (:action put-out :parameters () :effect (not (lit)))
+ (:action shut :parameters () :effect (not (open)))
+ (:action fill :parameters () :effect (assign (fuel) 2))
+ (:action add-none :parameters () :effect (increase (fuel) 0))
+ (:action burn :parameters () :effect (decrease (fuel) 1)))",
+    problem: "(define (problem p) (:domain lamp) (:init (lit) (= (fuel) 2)) (:goal (done)))",
+    scale: Scale::One,
+    horizon: 1000,
+};
+
+// What writes into an invariant, and changes nothing that it mentions, leaves it as it is.
+const WRITTEN_AGAIN: [Row<'static>; 8] = [
+    ("0: (watch) [5]\n2: (light)", None),
+    ("0: (watch) [5]\n2: (light-anew)", None),
+    ("0: (watch) [5]\n2: (shut)", None),
+    ("0: (watch) [5]\n2: (fill)", None),
+    ("0: (watch) [5]\n2: (add-none)", None),
+    (
+        "0: (watch) [5]\n1: (light)\n2: (put-out)",
+        Some((2, Fault::OverAll(0))),
+    ),
+    (
+        "0: (watch) [5]\n2: (light)\n2: (shut)\n3: (burn)",
+        Some((3, Fault::OverAll(0))),
+    ),
+    (
+        "0: (watch) [5]\n1: (fill)\n2: (light)\n2: (burn)",
+        Some((2, Fault::OverAll(0))),
+    ),
+];
+
+#[test]
+fn what_is_written_again_and_what_is_changed(rt: HostRuntime) -> Result<(), Fail> {
+    are_judged(&rt, rt.alloc(), LAMPS, &WRITTEN_AGAIN)
+}

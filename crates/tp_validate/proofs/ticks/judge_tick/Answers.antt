@@ -1,16 +1,15 @@
 use Rattle.std.proofs.Common.{◌≡◌, Some, None, List, refl, sym, ap, ◌∙◌, subst}
-use Rattle.std.proofs.lemmas.Result.{MatchResult-from_err}
+use Rattle.std.proofs.lemmas.Result.{MatchResult-from_err, err_from_is_err_and}
 use Rattle.tp_task.specs.Happens.{EventOfStep, Happens}
 use Rattle.tp_task.specs.Valid.{Placed, events}
 use Rattle.tp_happen.specs.Stored.{state_of, OfOneTask}
 use Rattle.tp_happen.specs.Bounded.{StaysSmall}
 use Rattle.tp_happen.specs.Fault.{Applies, OnNext, OnRange, fault_of}
-use Rattle.tp_happen.proofs.Answered.{on_range}
+use Rattle.tp_happen.proofs.Answered.{on_range, on_range_weaker}
 use Rattle.tp_validate.specs.Places.{numbers}
 use Rattle.tp_validate.specs.Tick.{renumbered, PassesAt}
 use Rattle.tp_validate.proofs.Numbers.{numbered, times}
 use Rattle.tp_validate.proofs.OneMoment.{failing, is_after, going_on, constraint_range, invariant_range}
-use Rattle.tp_validate.proofs.Untouched.{kept}
 use Rattle.tp_validate.proofs.ticks.judge_tick.Goals as goal
 
 pub returns-in_err-step-clause-range : goal.returns-in_err-step-clause-range
@@ -32,19 +31,18 @@ returns-in-Fails-clause-found c =
 pub returns-in_err-step-in-Next-clause-range : goal.returns-in_err-step-in-Next-clause-range
 returns-in_err-step-in-Next-clause-range c =
     let s = c.args.state.now in
-    MatchResult-from_err c.from_residual-in_err-step-in-Next.result (λ _. Unit {0}) (λ e. OnRange e (PassesAt s.scale (state_of s) c.args.moment c.args.steps.now (events c.args.steps.now))) c.from_residual-in_err-step-in-Next.ensures.0
-    (λ e. on_range e _ (invariant_range s.scale (state_of s) c.args.moment c.args.steps.now (events c.args.steps.now) (state_of c.in-Next.next)
+    let p = err_from_is_err_and c.from_residual-in_err-step-in-Next.result c.from_residual-in_err-step-in-Next.ensures.1 in
+    rw (p.1, p.2) (on_range_weaker c.in_err-step-in-Next.field-0.0 _ _
+    (invariant_range s.scale (state_of s) c.args.moment c.args.steps.now (events c.args.steps.now) (state_of c.in-Next.next)
     (subst (λ (ts : List EventOfStep). Happens s.scale (state_of s) ts (state_of c.in-Next.next)) (c.deref.ensures.value ∙ (c.in_ok-happening.ensures ∙ ap times c.requires.there))
-    (subst (λ o. Applies s c.deref.result.now o) c.in-Next.is c.in_ok-place.ensures.ok))
-    c.in_err-step-in-Next.ensures.err))
+    (subst (λ o. Applies s c.deref.result.now o) c.in-Next.is c.in_ok-place.ensures.ok)))
+    c.in_err-step-in-Next.ensures.err)
 
-pub first_broken-requires : goal.first_broken-requires
-first_broken-requires c =
+pub broken_after-requires-clause-happened : goal.broken_after-requires-clause-happened
+broken_after-requires-clause-happened c =
     let s = c.args.state.now in
-    kept s.scale (state_of s) (state_of c.in-Next.next) c.args.there.now
-    (subst (λ (ts : List EventOfStep). Happens s.scale (state_of s) ts (state_of c.in-Next.next)) (c.deref.ensures.value ∙ c.in_ok-happening.ensures)
-    (subst (λ o. Applies s c.deref.result.now o) c.in-Next.is c.in_ok-place.ensures.ok))
-    c.args.moment c.args.steps.now c.args.touched.now c.requires.held c.requires.touched
+    subst (λ (ts : List EventOfStep). Happens s.scale (state_of s) ts (state_of c.in-Next.next)) (c.deref.ensures.value ∙ c.in_ok-happening.ensures)
+    (subst (λ o. Applies s c.deref.result.now o) c.in-Next.is c.in_ok-place.ensures.ok)
 
 pub returns-in-Some-2-clause-found : goal.returns-in-Some-2-clause-found
 returns-in-Some-2-clause-found c =

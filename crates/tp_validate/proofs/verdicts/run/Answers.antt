@@ -6,7 +6,6 @@ use Rattle.tp_validate.specs.Found.{IsFound, told}
 use Rattle.tp_validate.proofs.Starting.{in_order_after, starts_after, begun_after}
 use Rattle.tp_validate.proofs.Ordered.{turn_after, rest_after, within_after, all_done_after}
 use Rattle.tp_validate.proofs.Runs.{before, held_here, fault_here, passes_here, fits_here, next}
-use Rattle.tp_validate.proofs.Untouched.{has_touched}
 use Rattle.tp_validate.proofs.verdicts.run.Goals as goal
 
 pub judge_tick-requires-clause-there : goal.judge_tick-requires-clause-there
@@ -26,9 +25,6 @@ pub judge_tick-requires-clause-held : goal.judge_tick-requires-clause-held
 judge_tick-requires-clause-held c =
     let t = turn_after (events c.args.steps.now) c.loop-tick.from c.args.agenda.now c.loop-tick.done c.loop-tick.invariant.left c.in-Some.tick.moment c.in-Some.tick.there.now c.in-Some.ensures in
     held_here c.args.task.now c.args.steps.now c.loop-tick.from c.in-Some.tick.moment c.loop-tick.state c.loop-tick.invariant.reached t.onward t.covered
-
-pub judge_tick-requires-clause-touched : goal.judge_tick-requires-clause-touched
-judge_tick-requires-clause-touched c = has_touched c.args.steps.now c.args.mentions.now c.in-Some.tick.there.now c.in_ok-touched.touched c.requires.mentions c.in_ok-touched.ensures
 
 pub judge_tick-requires-clause-fits : goal.judge_tick-requires-clause-fits
 judge_tick-requires-clause-fits c =
