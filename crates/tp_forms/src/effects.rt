@@ -73,6 +73,27 @@ fn set_all(state: &mut SearchState, places: &[u32], truth: bool) -> Result<(), A
     Ok(())
 }
 
+/// Carries out what an event writes to fluents on the state at hand. `into` has room for the values of its right sides.
+pub fn carry_out_writes(
+    forms: &Forms<'_>,
+    state: &mut SearchState,
+    event_form: &EventForm<'_>,
+    units: Option<i64>,
+    into: &mut Vec<Option<i64>>,
+) -> Result<(), SearchFault> {
+    if !event_form.writes_nothing() {
+        right_sides(forms, state, event_form, units, into)?;
+        write_all(forms, state, event_form, into)?;
+    }
+    Ok(())
+}
+
+/// Makes some atoms false, and then some true.
+pub fn set_atoms(state: &mut SearchState, deletes: &[u32], adds: &[u32]) -> Result<(), AllocError> {
+    set_all(state, deletes, false)?;
+    set_all(state, adds, true)
+}
+
 /// Carries out an event on the state at hand; no other event of its tick interferes with it. `into` has room for the
 /// values of its right sides.
 pub fn carry_out(
@@ -82,11 +103,11 @@ pub fn carry_out(
     units: Option<i64>,
     into: &mut Vec<Option<i64>>,
 ) -> Result<(), SearchFault> {
-    if !event_form.event.writes.is_empty() {
-        right_sides(forms, state, event_form, units, into)?;
-        write_all(forms, state, event_form, into)?;
-    }
-    set_all(state, forms.list(event_form.deletes), false)?;
-    set_all(state, forms.list(event_form.adds), true)?;
+    carry_out_writes(forms, state, event_form, units, into)?;
+    set_atoms(
+        state,
+        forms.list(event_form.deletes),
+        forms.list(event_form.adds),
+    )?;
     Ok(())
 }

@@ -57,7 +57,8 @@ const EMPTY: CondForm = CondForm {
 };
 
 /// An event. `reads` are the fluents of its condition, but for what that shares, right sides and duration constraint;
-/// `needs` those of its right sides and duration constraint, and those that it changes by what they were.
+/// `needs` those of its right sides and duration constraint, and those that it changes by what they were; `sums` those that
+/// it raises or lowers, `sets` those that it sets.
 #[derive(Clone, Copy)]
 pub struct EventForm<'t> {
     pub event: &'t GroundEvent,
@@ -66,8 +67,17 @@ pub struct EventForm<'t> {
     pub deletes: Span,
     pub reads: Span,
     pub needs: Span,
+    pub sums: Span,
+    pub sets: Span,
     pub mixes: bool,
     uses_duration: bool,
+}
+
+impl<'t> EventForm<'t> {
+    /// Whether it writes no fluent.
+    pub fn writes_nothing(&self) -> bool {
+        self.sums.count == 0 && self.sets.count == 0
+    }
 }
 
 /// An action by its first event, which its end follows; with the number of its invariant where it lasts. One that can
@@ -263,6 +273,8 @@ impl<'t> Forms<'t> {
         let needs = self.add_needs(event, condition.fluents)?;
         let adds = self.add_atoms(&event.adds)?;
         let deletes = self.add_atoms(&event.deletes)?;
+        let sums = self.add_written(&event.writes, false)?;
+        let sets = self.add_written(&event.writes, true)?;
         let mixes = mixes(alloc, &event.writes)?;
         self.event_forms.push(EventForm {
             event,
@@ -271,6 +283,8 @@ impl<'t> Forms<'t> {
             deletes,
             reads,
             needs,
+            sums,
+            sets,
             mixes,
             uses_duration: uses_duration(event),
         })?;
@@ -302,6 +316,17 @@ impl<'t> Forms<'t> {
         let at = self.here();
         for a in atoms {
             self.push_atom(*a)?;
+        }
+        Ok(self.since(at))
+    }
+
+    // The fluents that writes set, or those that they raise or lower.
+    fn add_written(&mut self, writes: &[NumericEffect], sets: bool) -> Result<Span, AllocError> {
+        let at = self.here();
+        for w in writes {
+            if is_set(w.change) == sets {
+                self.push_fluent(w.fluent)?;
+            }
         }
         Ok(self.since(at))
     }

@@ -7,6 +7,7 @@
 //! - `forms`: a task by lists of places
 //! - `holding`: whether conditions hold in the state at hand
 //! - `index`: the actions that wait for an atom, what an action changes and the conjuncts that mention it
+//! - `steps`: how many conjuncts that compare a fluent with a number hold
 //! - `marks`: what the events of a tick mention, change, read and write
 //! - `effects`: what an event does
 //! - `durations`: the least lawful duration
@@ -23,12 +24,13 @@ mod looks;
 mod marks;
 mod startable;
 mod state;
+mod steps;
 mod values;
 
 pub use durations::{least_duration, units_of};
-pub use effects::carry_out;
+pub use effects::{carry_out, carry_out_writes, set_atoms};
 pub use fault::SearchFault;
 pub use forms::{Action, CondForm, EventForm, Forms};
 pub use index::{Lists, Touches, Waiting, touched, waiting_for};
-pub use marks::Marks;
+pub use marks::{Marks, weight};
 pub use state::{Places, SearchState, Span, part, small};

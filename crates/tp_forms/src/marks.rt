@@ -3,9 +3,7 @@
 
 use crate::forms::{CondForm, EventForm, Forms, Part};
 use crate::looks::Looks;
-use crate::state::place_in;
 use std::alloc::{AllocError, Global};
-use tp_task::{Change, NumericEffect};
 
 #[derive(Clone, Copy)]
 struct AtomMark {
@@ -33,20 +31,14 @@ const NO_FLUENT: FluentMark = FluentMark {
     set: false,
 };
 
-/// The marks of some events on atoms and fluents, by place, and which shared conditions mention what these change, as
-/// far as that was looked at.
+/// The marks of some events on atoms and fluents, by place; which shared conditions are marked, each of them once for all
+/// events that have it; and which mention what the events change, as far as that was looked at.
 #[derive(Drop)]
 pub struct Marks {
     atoms: Vec<AtomMark>,
     fluents: Vec<FluentMark>,
+    shared: Vec<bool>,
     changed: Looks,
-}
-
-fn is_sum(effect: &NumericEffect) -> bool {
-    match effect.change {
-        Change::Increase | Change::Decrease => true,
-        Change::Assign | Change::ScaleUp => false,
-    }
 }
 
 impl Marks {
@@ -54,10 +46,12 @@ impl Marks {
     pub fn new(alloc: Global, forms: &Forms<'_>) -> Result<Self, AllocError> {
         let atoms = Vec::from_elem(alloc, NO_ATOM, forms.atoms.places.len())?;
         let fluents = Vec::from_elem(alloc, NO_FLUENT, forms.fluents.places.len())?;
+        let shared = Vec::from_elem(alloc, false, forms.shared_count())?;
         let changed = Looks::new(alloc, forms.shared_count())?;
         Ok(Marks {
             atoms,
             fluents,
+            shared,
             changed,
         })
     }
@@ -75,10 +69,28 @@ impl Marks {
         self.mention_atoms(forms.list(form.atoms));
         for p in forms.parts_of(form) {
             if let Part::Shared(number) = p {
-                let shared = forms.shared_form(*number);
-                self.mention_atoms(forms.list(shared.atoms));
-                self.read_fluents(forms.list(shared.fluents));
+                self.mention_shared(forms, *number);
             }
+        }
+    }
+
+    fn mention_shared(&mut self, forms: &Forms<'_>, number: u32) {
+        if self.set_shared(number, true) {
+            let shared = forms.shared_form(number);
+            self.mention_atoms(forms.list(shared.atoms));
+            self.read_fluents(forms.list(shared.fluents));
+        }
+    }
+
+    // Notes whether a shared condition is marked, and tells whether that is new.
+    fn set_shared(&mut self, number: u32, marked: bool) -> bool {
+        match self.shared.get_mut(number as usize) {
+            Some(at) => {
+                let is_new = *at != marked;
+                *at = marked;
+                is_new
+            }
+            None => true,
         }
     }
 
@@ -113,43 +125,51 @@ impl Marks {
 
     fn put_fluents(&mut self, forms: &Forms<'_>, event_form: &EventForm<'_>) {
         self.read_fluents(forms.list(event_form.reads));
-        for w in &event_form.event.writes {
-            if let Some(at) = self.fluents.get_mut(place_of(forms, w)) {
-                if is_sum(w) {
-                    at.summed = true;
-                } else {
-                    at.set = true;
-                }
+        for f in forms.list(event_form.sums) {
+            if let Some(at) = self.fluents.get_mut(*f as usize) {
+                at.summed = true;
+            }
+        }
+        for f in forms.list(event_form.sets) {
+            if let Some(at) = self.fluents.get_mut(*f as usize) {
+                at.set = true;
             }
         }
     }
 
-    /// Takes away all marks on what an event mentions, changes, reads and writes.
+    /// Takes away all marks on what an event mentions, changes, reads and writes; so are those of all others to be.
     pub fn wipe(&mut self, forms: &Forms<'_>, event_form: &EventForm<'_>) {
         self.changed.forget();
         self.wipe_condition(forms, event_form.condition);
         self.wipe_atoms(forms.list(event_form.adds));
         self.wipe_atoms(forms.list(event_form.deletes));
         self.wipe_fluents(forms.list(event_form.reads));
-        for w in &event_form.event.writes {
-            self.wipe_fluent(place_of(forms, w));
-        }
+        self.wipe_fluents(forms.list(event_form.sums));
+        self.wipe_fluents(forms.list(event_form.sets));
     }
 
     fn wipe_condition(&mut self, forms: &Forms<'_>, form: CondForm) {
         self.wipe_atoms(forms.list(form.atoms));
         for p in forms.parts_of(form) {
             if let Part::Shared(number) = p {
-                let shared = forms.shared_form(*number);
-                self.wipe_atoms(forms.list(shared.atoms));
-                self.wipe_fluents(forms.list(shared.fluents));
+                self.wipe_shared(forms, *number);
             }
+        }
+    }
+
+    fn wipe_shared(&mut self, forms: &Forms<'_>, number: u32) {
+        if self.set_shared(number, false) {
+            let shared = forms.shared_form(number);
+            self.wipe_atoms(forms.list(shared.atoms));
+            self.wipe_fluents(forms.list(shared.fluents));
         }
     }
 
     fn wipe_fluents(&mut self, fluents: &[u32]) {
         for f in fluents {
-            self.wipe_fluent(*f as usize);
+            if let Some(at) = self.fluents.get_mut(*f as usize) {
+                *at = NO_FLUENT;
+            }
         }
     }
 
@@ -161,18 +181,15 @@ impl Marks {
         }
     }
 
-    fn wipe_fluent(&mut self, place: usize) {
-        if let Some(at) = self.fluents.get_mut(place) {
-            *at = NO_FLUENT;
-        }
-    }
-
     fn atom(&self, place: u32) -> AtomMark {
         self.atoms.get(place as usize).copied().unwrap_or(NO_ATOM)
     }
 
-    fn fluent(&self, place: usize) -> FluentMark {
-        self.fluents.get(place).copied().unwrap_or(NO_FLUENT)
+    fn fluent(&self, place: u32) -> FluentMark {
+        self.fluents
+            .get(place as usize)
+            .copied()
+            .unwrap_or(NO_FLUENT)
     }
 
     fn is_mentioned_or_deleted(&self, place: u32) -> bool {
@@ -191,11 +208,11 @@ impl Marks {
     }
 
     fn is_written(&self, place: u32) -> bool {
-        let mark = self.fluent(place as usize);
+        let mark = self.fluent(place);
         mark.summed || mark.set
     }
 
-    fn meets_write(&self, place: usize, sum: bool) -> bool {
+    fn meets_write(&self, place: u32, sum: bool) -> bool {
         let mark = self.fluent(place);
         mark.read || mark.set || (mark.summed && !sum)
     }
@@ -243,17 +260,44 @@ impl Marks {
 
     fn fluents_meet(&self, forms: &Forms<'_>, event_form: &EventForm<'_>) -> bool {
         let reads = forms.list(event_form.reads);
+        let sums = forms.list(event_form.sums);
+        let sets = forms.list(event_form.sets);
         reads.iter().any(|f| self.is_written(*f))
-            || self.writes_meet(forms, &event_form.event.writes)
-    }
-
-    fn writes_meet(&self, forms: &Forms<'_>, writes: &[NumericEffect]) -> bool {
-        writes
-            .iter()
-            .any(|w| self.meets_write(place_of(forms, w), is_sum(w)))
+            || sums.iter().any(|f| self.meets_write(*f, true))
+            || sets.iter().any(|f| self.meets_write(*f, false))
     }
 }
 
-fn place_of(forms: &Forms<'_>, effect: &NumericEffect) -> usize {
-    place_in(&forms.fluents.places, effect.fluent) as usize
+// What a shared condition adds to the weight of each event that has it.
+fn shared_weight(forms: &Forms<'_>, part: Part<'_>) -> usize {
+    match part {
+        Part::Judged(_, _) => 0,
+        Part::Shared(number) => {
+            let shared = forms.shared_form(number);
+            let mentions = (shared.atoms.count as usize).saturating_add(
+                shared.fluents.count as usize,
+            );
+            mentions / 64
+        }
+    }
+}
+
+/// How long it takes to compare an event with marks, in atoms and fluents that it mentions, reads and changes. A shared
+/// condition is compared once for all events that have it, and counts a 64th at each.
+pub fn weight(forms: &Forms<'_>, event_form: &EventForm<'_>) -> usize {
+    let mut weight: usize = 0;
+    for span in [
+        event_form.condition.atoms,
+        event_form.adds,
+        event_form.deletes,
+        event_form.reads,
+        event_form.sums,
+        event_form.sets,
+    ] {
+        weight = weight.saturating_add(span.count as usize);
+    }
+    for p in forms.parts_of(event_form.condition) {
+        weight = weight.saturating_add(shared_weight(forms, *p));
+    }
+    weight
 }

@@ -1,10 +1,11 @@
 //! The node at hand.
 
+use crate::interference::Interference;
 use crate::known::{Known, push_copy};
 use crate::listed::Listed;
 use crate::store::{Running, Start};
 use std::alloc::{AllocError, Global};
-use tp_forms::{EventForm, Marks, SearchFault, SearchState, carry_out};
+use tp_forms::{EventForm, SearchFault, SearchState, carry_out, carry_out_writes, set_atoms};
 
 /// The node at hand: the steps that run past its tick, the events of its tick, which conjuncts its state meets, as far as
 /// they were looked at, how many it lacks, those that the start looked at may change, and the state's number once it is kept.
@@ -136,7 +137,8 @@ impl Current {
         Ok(count)
     }
 
-    // How many conjuncts lack with one more event, whose effects may change some of them.
+    // How many conjuncts lack with one more event, of whose effects on atoms only those that the goal mentions are
+    // carried out.
     pub fn lacking_with(
         &mut self,
         known: &Known<'_>,
@@ -147,18 +149,26 @@ impl Current {
         if known.touching.is_quiet(start.action) {
             return Ok(self.lacking);
         }
-        self.changed.list(&known.touching, start.action)?;
+        let touches = &known.touching.touches;
+        self.changed.list(touches, start.action)?;
         look_at(
             known,
             state,
             self.changed.numbers(),
             self.met.as_mut_slice(),
         )?;
+        let before = touches.met_by_steps(state, start.action);
         let units = known.units(start.duration);
-        carry_out(&known.forms, state, event_form, units, &mut self.values)?;
+        carry_out_writes(&known.forms, state, event_form, units, &mut self.values)?;
+        set_atoms(
+            state,
+            touches.deleted.of(start.action),
+            touches.added.of(start.action),
+        )?;
         let lacking = self.lacking_after(known, state)?;
+        let after = touches.met_by_steps(state, start.action);
         state.undo();
-        Ok(lacking)
+        Ok(lacking.saturating_add(before).saturating_sub(after))
     }
 
     // The least count of ticks that a running step has left.
@@ -241,7 +251,7 @@ fn running_from(start: Start) -> Running {
 /// How many conjuncts lack with one more start, None where it interferes with an event of the tick.
 pub fn lacking_with(
     known: &Known<'_>,
-    marks: &Marks,
+    interference: &mut Interference,
     state: &mut SearchState,
     current: &mut Current,
     start: Start,
@@ -249,7 +259,9 @@ pub fn lacking_with(
     let Some(event_form) = known.first_of(start.action) else {
         return Ok(None);
     };
-    if !current.events.is_empty() && marks.interferes(&known.forms, event_form) {
+    if !current.events.is_empty()
+        && interference.meets(known, &current.events, start.action, event_form)?
+    {
         return Ok(None);
     }
     let lacking = current.lacking_with(known, state, event_form, start)?;

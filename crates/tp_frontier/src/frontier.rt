@@ -4,12 +4,13 @@ ghost use Rattle.std.specs.Prelude.{◌≡◌, MatchOption};
 ghost use Rattle.tp_frontier.specs.Waiting.{AreEmpty, IsTaken, GoesOn};
 
 use crate::current::{Current, lacking_with};
-use crate::known::{Known, carry_out_ends, ends_are_apart, mark_events, wipe_ends};
+use crate::interference::Interference;
+use crate::known::{Known, carry_out_ends, ends_are_apart, wipe_ends};
 use crate::queues::Queues;
 use crate::store::{Choice, Chosen, Moment, Node, Running, Store};
 use std::alloc::{AllocError, Global};
 use std::marker::Model;
-use tp_forms::{Forms, Marks, SearchFault, SearchState, Span};
+use tp_forms::{Forms, SearchFault, SearchState, Span};
 use tp_task::{MOST_STEPS, Task};
 
 /// The nodes of a search, seen as those that still wait: a queue for each number of goal conjuncts that they lack, each in
@@ -20,7 +21,7 @@ pub struct Frontier<'t> {
     known: Known<'t>,
     store: Store,
     queues: Queues,
-    marks: Marks,
+    interference: Interference,
     state: SearchState,
     current: Current,
     taken: Option<(u32, usize)>,
@@ -75,7 +76,7 @@ impl<'t> Frontier<'t> {
         most: usize,
     ) -> Result<Self, SearchFault> {
         let forms = &known.forms;
-        let marks = Marks::new(alloc, forms)?;
+        let interference = Interference::new(alloc, &known)?;
         let queues = Queues::new(alloc, forms.conjuncts.len(), most)?;
         let store = Store::new(alloc, known.width(), forms.fluents.moving)?;
         let current = Current::new(alloc, forms.conjuncts.len())?;
@@ -84,7 +85,7 @@ impl<'t> Frontier<'t> {
             known,
             store,
             queues,
-            marks,
+            interference,
             state,
             current,
             taken: None,
@@ -219,7 +220,6 @@ impl<'t> Frontier<'t> {
             return Ok(());
         }
         self.current.lack(lacking);
-        mark_events(&self.known, &mut self.marks, &self.current.events, true);
         let mut next = first;
         for _ in first..end {
             if next >= end {
@@ -228,7 +228,7 @@ impl<'t> Frontier<'t> {
             self.make_start(next)?;
             next = self.start_after(next, end);
         }
-        mark_events(&self.known, &mut self.marks, &self.current.events, false);
+        self.interference.leave(&self.known, &self.current.events);
         Ok(())
     }
 
@@ -257,7 +257,7 @@ impl<'t> Frontier<'t> {
         };
         let lacking = lacking_with(
             &self.known,
-            &self.marks,
+            &mut self.interference,
             &mut self.state,
             &mut self.current,
             start,
@@ -379,8 +379,9 @@ impl<'t> Frontier<'t> {
                 return Ok(false);
             }
         }
-        let free = ends_are_apart(&self.known, &mut self.marks, runs);
-        wipe_ends(&self.known, &mut self.marks, runs);
+        let marks = &mut self.interference.marks;
+        let free = ends_are_apart(&self.known, marks, runs);
+        wipe_ends(&self.known, marks, runs);
         Ok(free)
     }
 }

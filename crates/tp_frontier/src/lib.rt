@@ -5,14 +5,18 @@
 //! - `queues`: the nodes still to be taken
 //! - `known`: what the search looks up
 //! - `listed`: the conjuncts that an event may change
+//! - `pairs`: which events and starts interfere, as far as that was found out
+//! - `interference`: whether a start interferes with the events at hand
 //! - `current`: the node at hand
 //! - `frontier`: taking and expanding
 #![tactic(auto)]
 
 mod current;
 mod frontier;
+mod interference;
 mod known;
 mod listed;
+mod pairs;
 mod queues;
 mod store;
 

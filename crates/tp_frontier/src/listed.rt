@@ -2,43 +2,37 @@
 
 use crate::known::push_copy;
 use std::alloc::{AllocError, Global};
-use tp_forms::{Forms, Touches, small, touched};
+use tp_forms::{Forms, Lists, Touches, small, touched};
 
-/// What the first event of each action may change of the goal, by way of atoms and of fluents; which actions are quiet:
-/// their first event changes nothing of the goal, and no number; and for each action the next that isn't, from itself on.
+/// What the first event of each action may change of the goal; which actions are quiet: their first event changes nothing
+/// of the goal, and no number; and for each action the next that isn't, from itself on.
 #[derive(Drop)]
 pub struct Touching {
-    by_atoms: Touches,
-    by_fluents: Touches,
+    pub touches: Touches,
     quiet: Vec<bool>,
     loud: Vec<u32>,
 }
 
 fn writes_nothing(forms: &Forms<'_>, event: u32) -> bool {
     match forms.event_forms.get(event as usize) {
-        Some(event_form) => event_form.event.writes.is_empty(),
+        Some(event_form) => event_form.writes_nothing(),
         None => true,
     }
 }
 
-fn touch_nothing(touches: &Touches, action: u32) -> bool {
-    touches.changed.of(action).is_empty()
+fn touches_no_atom(touches: &Touches, action: u32) -> bool {
+    touches.added.of(action).is_empty() && touches.deleted.of(action).is_empty()
 }
 
 fn quiet_actions(
     alloc: Global,
     forms: &Forms<'_>,
-    by_atoms: &Touches,
-    by_fluents: &Touches,
+    touches: &Touches,
 ) -> Result<Vec<bool>, AllocError> {
     let mut quiet = Vec::new(alloc);
     let mut number: u32 = 0;
     for action in &forms.actions {
-        quiet.push(
-            touch_nothing(by_atoms, number)
-                && touch_nothing(by_fluents, number)
-                && writes_nothing(forms, action.first),
-        )?;
+        quiet.push(touches_no_atom(touches, number) && writes_nothing(forms, action.first))?;
         number = number.saturating_add(1);
     }
     Ok(quiet)
@@ -61,13 +55,11 @@ fn loud_actions(alloc: Global, quiet: &[bool]) -> Result<Vec<u32>, AllocError> {
 
 impl Touching {
     pub fn new(alloc: Global, forms: &Forms<'_>) -> Result<Self, AllocError> {
-        let by_atoms = touched(alloc, forms, true)?;
-        let by_fluents = touched(alloc, forms, false)?;
-        let quiet = quiet_actions(alloc, forms, &by_atoms, &by_fluents)?;
+        let touches = touched(alloc, forms)?;
+        let quiet = quiet_actions(alloc, forms, &touches)?;
         let loud = loud_actions(alloc, &quiet)?;
         Ok(Touching {
-            by_atoms,
-            by_fluents,
+            touches,
             quiet,
             loud,
         })
@@ -133,15 +125,16 @@ impl Listed {
     }
 
     // Lists those that the first event of an action may change.
-    pub fn list(&mut self, touching: &Touching, action: u32) -> Result<(), AllocError> {
+    pub fn list(&mut self, touches: &Touches, action: u32) -> Result<(), AllocError> {
         self.clear();
-        self.add_touched(&touching.by_atoms, action)?;
-        self.add_touched(&touching.by_fluents, action)
+        self.add_touched(&touches.by_atoms, touches.added.of(action))?;
+        self.add_touched(&touches.by_atoms, touches.deleted.of(action))?;
+        self.add_touched(&touches.by_fluents, touches.written.of(action))
     }
 
-    fn add_touched(&mut self, touches: &Touches, action: u32) -> Result<(), AllocError> {
-        for place in touches.changed.of(action) {
-            self.add_all(touches.conjuncts.of(*place))?;
+    fn add_touched(&mut self, conjuncts: &Lists, places: &[u32]) -> Result<(), AllocError> {
+        for place in places {
+            self.add_all(conjuncts.of(*place))?;
         }
         Ok(())
     }
