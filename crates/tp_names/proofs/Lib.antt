@@ -1,6 +1,9 @@
 pub mod OnTerms
 pub mod OnNames
 pub mod OnSymbols
+pub mod OnFits
+pub mod OnScope
+pub mod OnArguments
 pub mod OnTypedLists
 pub mod OnSignatures
 pub mod OnTypes

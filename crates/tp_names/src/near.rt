@@ -1,8 +1,9 @@
 //! Where in a long list of types one may stand that a type is or is below. These are guesses: what stands there is looked at before
 //! it is believed, so nothing is promised of them.
 
-ghost use Rattle.std.specs.Prelude.{◌≡◌, map, string_bytes, true, IfOk};
-ghost use Rattle.tp_ast.specs.Symbols.{types_fit};
+ghost use Rattle.std.specs.Prelude.{◌≡◌, map, length, string_bytes, true, IfOk};
+ghost use Rattle.std.specs.List.{list_any};
+ghost use Rattle.tp_ast.specs.Symbols.{at_or_below, types_fit};
 ghost use Rattle.tp_types.specs.TypeViews.{types_view};
 
 use std::alloc::{AllocError, Global};
@@ -28,6 +29,7 @@ pub type Near = Vec<Option<Rc<Guesses>>>;
 pub struct Hints<'a> {
     predicates: BTreeMap<&'a str, Near>,
     functions: BTreeMap<&'a str, Near>,
+    most: usize,
 }
 
 fn is_long(parameter: &Typed) -> bool {
@@ -96,18 +98,42 @@ fn by_names<'a>(
     Ok(by_name)
 }
 
+/// How many types an item has at most.
+pub fn most_types(items: &[Typed]) -> usize {
+    let mut most = 0;
+    for item in items {
+        most = most.max(item.type_names().len());
+    }
+    most
+}
+
+fn most_of_any(signatures: &[Signature]) -> usize {
+    let mut most = 0;
+    for signature in signatures {
+        most = most.max(most_types(signature.parameters.as_slice()));
+    }
+    most
+}
+
 impl<'a> Hints<'a> {
     pub fn new(
         alloc: Global,
         predicates: &'a [Signature],
         functions: &'a [Signature],
     ) -> Result<Self, AllocError> {
+        let most = most_of_any(predicates).max(most_of_any(functions));
         let predicates = by_names(alloc, predicates)?;
         let functions = by_names(alloc, functions)?;
         Ok(Hints {
             predicates,
             functions,
+            most,
         })
+    }
+
+    /// How many types a parameter has at most.
+    pub fn most_types(&self) -> usize {
+        self.most
     }
 
     /// Those of a signature: none where no parameter of it has many types.
@@ -127,19 +153,11 @@ impl<'a> Hints<'a> {
     }
 }
 
-/// The guesses for the first parameter.
-pub fn first_near(near: &[Option<Rc<Guesses>>]) -> Option<&Guesses> {
-    match near {
-        [Some(first), ..] => Some(first.as_ref()),
+/// The guesses for the parameter at a place.
+pub fn near_at(near: &[Option<Rc<Guesses>>], place: usize) -> Option<&Guesses> {
+    match near.get(place) {
+        Some(Some(guesses)) => Some(guesses.as_ref()),
         _ => None,
-    }
-}
-
-/// The guesses for the others.
-pub fn others_near(near: &[Option<Rc<Guesses>>]) -> &[Option<Rc<Guesses>>] {
-    match near {
-        [_, others @ ..] => others,
-        [] => &[],
     }
 }
 
@@ -169,24 +187,35 @@ fn guessed_place(
     None
 }
 
-// Whether one type is seen to fit by a guess.
-fn fits_near(types: &Types, argument: &[String], parameter: &[String], guesses: &Guesses) -> bool
-    ensures { result ≡ true → types_fit (types_view types.now)
-        (map string_bytes argument.now) (map string_bytes parameter.now) ≡ true }
+// Whether a type is seen by a guess to be or be below one of a list.
+fn is_near(types: &Types, below: &str, parameter: &[String], guesses: &Guesses) -> bool
+    ensures { result ≡ true → list_any
+        (λ p. at_or_below (types_view types.now) (length (types_view types.now)) below.now p)
+        (map string_bytes parameter.now) ≡ true }
 {
-    let [below] = argument else {
-        return false;
-    };
-    let Some(place) = guessed_place(types, below.as_str(), parameter, guesses) else {
+    let Some(place) = guessed_place(types, below, parameter, guesses) else {
         return false;
     };
     let Some(above) = parameter.get(place) else {
         return false;
     };
-    is_below(types, below.as_str(), above.as_str())
+    is_below(types, below, above.as_str())
 }
 
-/// As `long_lists_fit`. One type alone that is in a list, or below one of its types, is mostly found there by a guess.
+// Whether each of some types is seen to fit by a guess.
+fn fits_near(types: &Types, argument: &[String], parameter: &[String], guesses: &Guesses) -> bool
+    ensures { result ≡ true → types_fit (types_view types.now)
+        (map string_bytes argument.now) (map string_bytes parameter.now) ≡ true }
+{
+    for below in argument {
+        if !is_near(types, below.as_str(), parameter, guesses) {
+            return false;
+        }
+    }
+    true
+}
+
+/// As `long_lists_fit`. A type that is in a list, or below one of its types, is mostly found there by a guess.
 pub fn lists_fit(
     alloc: Global,
     types: &Types,

@@ -1,38 +1,54 @@
 //! Variables that are found by their names.
 
-ghost use Rattle.std.specs.Prelude.{◌≡◌, map, option_map, IfOk};
+ghost use Rattle.std.specs.Prelude.{◌≡◌, map, option_map, true, IfOk};
+ghost use Rattle.tp_ast.specs.Symbols.{typed_view, types_of};
 ghost use Rattle.tp_types.specs.Tables.{item_of};
-ghost use Rattle.tp_types.specs.OwnTables.{variable_name, IsTextTable};
+ghost use Rattle.tp_types.specs.OwnTables.{variable_name, IsTextTable, IsTextTableIfAny};
+ghost use Rattle.tp_names.specs.SymbolViews.{symbols_view};
+ghost use Rattle.tp_names.specs.Fits.{parameter_types, fit_if_any, AllFit, AreStarts};
 
+use crate::asked::{Asked, takes_long};
+use crate::fits::{Fit, is_kept, kept_of, starts_of};
+use crate::near::most_types;
+use crate::symbols::{Kind, Symbols};
 use std::alloc::{AllocError, Global};
 use std::collections::BTreeMap;
 use std::marker::Model;
 use tp_ast::symbols::Typed;
 use tp_ast::typed_list::TypedList;
+use tp_text::Tree;
 use tp_types::lookup::first_named;
 use tp_types::own_places::own_places;
 
 // Up to so many variables are walked over as fast as a table would be asked.
 const FEW: usize = 8;
 
-/// Variables with a table of their names, unless they are few.
+/// Variables over what is declared, with a table of their names, unless they are few. Where it takes long to see whether one fits a
+/// parameter, that is found out before, once for all that were given their types together.
 #[derive(Drop)]
-pub struct Variables {
+pub struct Variables<'s, 'd> {
+    symbols: &'s Symbols<'d>,
     items: TypedList,
+    most: usize,
     places: Option<BTreeMap<String, usize>>,
+    starts: Vec<usize>,
+    fits: Vec<Fit<'d>>,
 }
 
-impl Model for Variables {
-    ghost use Rattle.std.specs.Prelude.{List, map};
-    ghost use Rattle.tp_ast.specs.declared.symbols.Typed.{Typed};
-
-    ghost Value = { List Typed };
-
+impl<'s, 'd> Model for Variables<'s, 'd> {
+    ghost use Rattle.std.specs.Prelude.{map};
+    ghost use Rattle.tp_names.specs.Bound.{Bound};
+    ghost use Rattle.tp_names.specs.SymbolViews.{symbols_view};
+    ghost use Rattle.tp_names.specs.Fits.{AllFit, AreStarts};
     ghost use Rattle.tp_types.specs.OwnTables.{variable_name, IsTextTableIfAny};
 
-    ghost view = { λ v. v.items.items };
+    ghost Value = { Bound };
 
-    ghost invariant = { λ v. IsTextTableIfAny v.places (map variable_name v.items.items) };
+    ghost view = { λ v. record { symbols = symbols_view v.symbols.now; items = v.items.items } };
+
+    ghost invariant = { λ v. IsTextTableIfAny v.places (map variable_name v.items.items)
+        × AreStarts v.starts.items v.items.items
+        × AllFit (symbols_view v.symbols.now) v.items.items v.fits.items };
 }
 
 fn at_place<'a>(
@@ -52,26 +68,87 @@ fn at_place<'a>(
     Some(item)
 }
 
-impl Variables {
-    pub fn new(alloc: Global, items: TypedList) -> Result<Variables, AllocError>
-        ensures { IfOk result (λ v. v ≡ items.items) }
+// A table of the names, unless there are few and nothing is looked up of them beside their types.
+fn places_of(
+    alloc: Global,
+    items: &[Typed],
+    is_asked: bool,
+) -> Result<Option<BTreeMap<String, usize>>, AllocError>
+    ensures { IfOk result (λ p. IsTextTableIfAny p (map variable_name items.now)) }
+{
+    if items.len() <= FEW && !is_asked {
+        return Ok(None);
+    }
+    Ok(Some(own_places(alloc, items)?))
+}
+
+// Of each variable the first that was given its types together with it.
+fn starts_if(alloc: Global, items: &TypedList, is_asked: bool) -> Result<Vec<usize>, AllocError>
+    ensures { IfOk result (λ v. AreStarts v.items items.now.items) }
+{
+    if is_asked {
+        starts_of(alloc, items)
+    } else {
+        Ok(Vec::new(alloc))
+    }
+}
+
+// Which of the variables fit parameters that a text asks them for.
+fn fits_of<'a, 'b>(
+    alloc: Global,
+    symbols: &'b Symbols<'a>,
+    items: &'b TypedList,
+    places: Option<&'b BTreeMap<String, usize>>,
+    starts: &'b [usize],
+    text: &[Tree],
+) -> Result<Vec<Fit<'a>>, AllocError>
+    ensures { IfOk result (λ v. AllFit (symbols_view symbols.now) items.now.items v.items) }
+{
+    let mut asked = Vec::new(alloc);
+    if let Some(places) = places {
+        let mut asking = Asked::new(alloc, symbols, items, places, starts);
+        asking.add_trees(alloc, text)?;
+        asked = asking.into_found();
+    }
+    kept_of(alloc, symbols, items.as_slice(), asked)
+}
+
+impl<'s, 'd> Variables<'s, 'd> {
+    /// Variables over these symbols, that are named in these trees.
+    pub fn new(
+        alloc: Global,
+        symbols: &'s Symbols<'d>,
+        items: TypedList,
+        text: &[Tree],
+    ) -> Result<Variables<'s, 'd>, AllocError>
+        ensures symbols { IfOk result (λ v. v.symbols ≡ symbols_view symbols.now) }
+        ensures items { IfOk result (λ v. v.items ≡ items.items) }
     {
-        if items.as_slice().len() <= FEW {
-            return Ok(Variables {
-                items,
-                places: None,
-            });
-        }
-        let places = own_places(alloc, items.as_slice())?;
+        let most = most_types(items.as_slice());
+        let is_asked = takes_long(most, symbols.hints.most_types());
+        let places = places_of(alloc, items.as_slice(), is_asked)?;
+        let starts = starts_if(alloc, &items, is_asked)?;
+        let fits = fits_of(alloc, &*symbols, &items, places.as_ref(), &starts, text)?;
         Ok(Variables {
+            symbols,
             items,
-            places: Some(places),
+            most,
+            places,
+            starts,
+            fits,
         })
+    }
+
+    /// What they are over.
+    pub fn symbols(&self) -> &'s Symbols<'d>
+        ensures { symbols_view result.now ≡ self.now.symbols }
+    {
+        self.symbols
     }
 
     /// The first variable of a name.
     pub fn find(&self, name: &str) -> Option<&Typed>
-        ensures { option_map (λ t. t.now) result ≡ item_of variable_name name.now self.now }
+        ensures { option_map (λ t. t.now) result ≡ item_of variable_name name.now self.now.items }
     {
         match &self.places {
             Some(places) => at_place(self.items.as_slice(), places, name),
@@ -79,9 +156,38 @@ impl Variables {
         }
     }
 
+    /// How many types a variable has at most.
+    pub fn most_types(&self) -> usize {
+        self.most
+    }
+
+    /// Whether it is known that the first variable of a name fits a parameter of the predicate or function of another.
+    pub fn is_known_to_fit(&self, kind: Kind, name: &str, variable: &str, parameter: usize) -> bool
+        ensures { result ≡ true → fit_if_any self.now.symbols.types
+            (types_of variable.now (map typed_view self.now.items))
+            (parameter_types kind self.now.symbols name.now parameter) ≡ true }
+    {
+        let Some(places) = &self.places else {
+            return false;
+        };
+        let Some(place) = places.get(variable) else {
+            return false;
+        };
+        let Some(start) = self.starts.get(*place) else {
+            return false;
+        };
+        let fit = Fit {
+            kind,
+            name,
+            variable: *start,
+            parameter,
+        };
+        is_kept(self.fits.as_slice(), &fit)
+    }
+
     /// The variables, in their order.
     pub fn into_items(self) -> TypedList
-        ensures { result.items ≡ self }
+        ensures { result.items ≡ self.entry.items }
     {
         let Variables { items, .. } = self;
         items

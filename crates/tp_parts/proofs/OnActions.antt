@@ -1,14 +1,11 @@
 -- Fields and actions.
-use Rattle.std.proofs.Common.{◌≡◌, ℕ, ◌<◌, ◌≤◌, ◌-◌, List, [], ◌∷◌, ◌++◌, length, take, drop, get_or, map, Bool, true, false, ◌&&◌, Option, Some, None, option_map, refl, sym, ap, ◌∙◌, arith, rules, append-nil, Bor}
+use Rattle.std.proofs.Common.{◌≡◌, ℕ, ◌<◌, ◌≤◌, ◌-◌, List, [], ◌∷◌, ◌++◌, length, take, drop, get_or, Bool, true, false, ◌&&◌, Option, Some, None, option_map, refl, sym, ap, ◌∙◌, arith, append-nil}
 use Rattle.tp_text.specs.Shapes.{Shape, leaf, node, Shapes, no_shapes, shape}
 use Rattle.tp_text.specs.Trees.{shape_of}
 use Rattle.tp_text.specs.declared.tree.Tree.{Tree}
 use Rattle.tp_ast.specs.Gives.{◌>>=◌, provided, with_front, Fails}
 use Rattle.tp_ast.specs.Terms.{shapes, name_of}
-use Rattle.tp_ast.specs.Symbols.{Name, Declared, Symbols, typed_view}
-use Rattle.tp_names.specs.SymbolViews.{scope_view}
-use Rattle.tp_ast.specs.declared.symbols.Typed.{Typed}
-use Rattle.tp_names.specs.declared.symbols.Scope.{Scope, Inner, Empty, the_lemmas}
+use Rattle.tp_ast.specs.Symbols.{Name, Declared, Symbols}
 use Rattle.tp_ast.specs.Conditions.{Condition, all_of, no_conditions, condition_of}
 use Rattle.tp_ast.specs.Parts.{Joined, all_parts, no_parts}
 use Rattle.tp_ast.specs.Effects.{Effect, Timed, Constraint, effect_of, timed_condition_of, timed_effect_of}
@@ -20,7 +17,6 @@ use Rattle.tp_ast.specs.declared.words.Key.TheVariants.{Parameters}
 use Rattle.tp_ast.specs.declared.words.Key.TheVariants as keys
 use Rattle.tp_ast.specs.declared.fault.SyntaxFault.{SyntaxFault}
 use Rattle.tp_ast.proofs.OnGives.{fails_same, fails_bind, bind_bind, joins_front, keeps_front}
-use Rattle.tp_names.proofs.OnSymbols.{scope_Inner}
 use Rattle.tp_ast.proofs.OnFaults.{fails_from}
 use Rattle.tp_ast.proofs.OnFirsts.{no_trees, a_first}
 
@@ -158,10 +154,3 @@ module _ (σ : Symbols) (vs : List Declared) (fs : List Field) where
 
   pub durative_made : (r : Constraint) (c : Joined (Timed Condition)) (e : Joined (Timed Effect)) → duration_field σ vs fs ≡ Some r → timed_condition_field ≡ Some c → timed_effect_field ≡ Some e → body_of σ true vs fs ≡ Some (durative r c e)
   durative_made r c e is also h = after_condition r c is also ∙ ap (λ (o : Option (Joined (Timed Effect))). o >>= λ d. Some (durative r c d)) h
-
--- parameters are the only variables in scope
-no_scope : scope_view Empty ≡ []
-no_scope = search (rules, the_lemmas)
-
-pub scope_alone : (vars : Bor (List Typed)) (outer : Bor Scope) → outer.now ≡ Empty → scope_view (Inner vars outer) ≡ map typed_view vars.now
-scope_alone vars outer is = scope_Inner vars outer ∙ ap (λ (s : Scope). map typed_view vars.now ++ scope_view s) is ∙ ap (λ (ds : List Declared). map typed_view vars.now ++ ds) no_scope ∙ append-nil (map typed_view vars.now)

@@ -3,11 +3,10 @@
 ghost use Rattle.std.specs.Prelude.{◌≡◌, map, option_map};
 ghost use Rattle.tp_text.specs.Trees.{shape_of};
 ghost use Rattle.tp_ast.specs.Terms.{shapes, term_view};
-ghost use Rattle.tp_names.specs.SymbolViews.{scope_view};
+ghost use Rattle.tp_names.specs.ScopeViews.{scope_view, symbols_of};
 ghost use Rattle.tp_ast.specs.Symbols.{typed_view, parent_view};
 ghost use Rattle.tp_ast.specs.Gives.{Gives, IsKept};
 ghost use Rattle.tp_ast.specs.Words.{comparison};
-ghost use Rattle.tp_names.specs.SymbolViews.{symbols_view};
 ghost use Rattle.tp_ast.specs.Symbols.{atom_in};
 ghost use Rattle.tp_ast.specs.ExprViews.{expr_view};
 ghost use Rattle.tp_ast.specs.Conditions.{kind_of, combined, negated, implied, bound, is_term, are_terms, equated, related, equality, relation, simple, condition_of, conditions_of, bound_condition, fact, pair_of};
@@ -21,7 +20,8 @@ use tp_ast::fault::{LeftOutPart, SyntaxFault};
 use tp_ast::term::{Atom, Term};
 use tp_ast::typed_list::TypedList;
 use tp_ast::words::{Comparison, CondKind, CondWord, cond_word_of};
-use tp_names::symbols::{Scope, Symbols, argument_known, atom_in};
+use tp_names::scope::{Scope, argument_known, atom_in};
+use tp_names::symbols::Kind;
 use tp_names::term::{is_name, is_variable, terms_of};
 use tp_names::typed::{parameters_at, place};
 use tp_names::variables::Variables;
@@ -137,16 +137,15 @@ fn has_term(trees: &[Tree]) -> bool {
 
 fn relation(
     alloc: Global,
-    symbols: &Symbols,
     scope: &Scope,
     head: CondWord,
     args: &[Tree],
     at: u32,
 ) -> Result<Cond, SyntaxFault>
     ensures { Gives cond_view result
-        (relation (symbols_view symbols.now) (scope_view scope.now) head (shapes args.now)) }
+        (relation (symbols_of scope.now) (scope_view scope.now) head (shapes args.now)) }
 {
-    match read_exprs(alloc, args, symbols, scope, false, at) {
+    match read_exprs(alloc, args, scope, false, at) {
         Ok(exprs) => related(head, exprs, at),
         Err(fault) => Err(relation_fault(fault, head, args)),
     }
@@ -166,22 +165,21 @@ fn unknown_fault(term: &Term, trees: &[Tree], number: usize, at: u32) -> SyntaxF
 }
 
 fn equated(
-    symbols: &Symbols,
     scope: &Scope,
     mut terms: Vec<Term>,
     trees: &[Tree],
     at: u32,
 ) -> Result<Cond, SyntaxFault>
     ensures { Gives cond_view result
-        (equated (symbols_view symbols.now) (scope_view scope.now) (map term_view terms.items)) }
+        (equated (symbols_of scope.now) (scope_view scope.now) (map term_view terms.items)) }
 {
     let second = terms.pop();
     let first = terms.pop();
     match (first, second, terms.is_empty()) {
         (Some(a), Some(b), true) => {
-            if !argument_known(symbols, scope, &a) {
+            if !argument_known(scope, &a) {
                 Err(unknown_fault(&a, trees, 0, at))
-            } else if !argument_known(symbols, scope, &b) {
+            } else if !argument_known(scope, &b) {
                 Err(unknown_fault(&b, trees, 1, at))
             } else {
                 Ok(Cond::Same(a, b))
@@ -191,33 +189,26 @@ fn equated(
     }
 }
 
-fn equality(
-    alloc: Global,
-    symbols: &Symbols,
-    scope: &Scope,
-    args: &[Tree],
-    at: u32,
-) -> Result<Cond, SyntaxFault>
+fn equality(alloc: Global, scope: &Scope, args: &[Tree], at: u32) -> Result<Cond, SyntaxFault>
     ensures { Gives cond_view result
-        (equality (symbols_view symbols.now) (scope_view scope.now) (shapes args.now)) }
+        (equality (symbols_of scope.now) (scope_view scope.now) (shapes args.now)) }
 {
     let terms = terms_of(alloc, args, at)?;
-    equated(symbols, scope, terms, args, at)
+    equated(scope, terms, args, at)
 }
 
 fn fact(
     alloc: Global,
-    symbols: &Symbols,
     scope: &Scope,
     word: &Token,
     args: &[Tree],
     at: u32,
 ) -> Result<Cond, SyntaxFault>
     ensures { Gives cond_view result
-        (option_map fact (atom_in (symbols_view symbols.now) (symbols_view symbols.now).predicates
+        (option_map fact (atom_in (symbols_of scope.now) (symbols_of scope.now).predicates
         (scope_view scope.now) word.now.text.now (shapes args.now))) }
 {
-    let atom = atom_in(alloc, symbols, &symbols.predicates, scope, word, args, at)?;
+    let atom = atom_in(alloc, scope, Kind::Predicate, word, args, at)?;
     Ok(Cond::Atom(atom))
 }
 
@@ -245,28 +236,27 @@ fn are_terms(trees: &[Tree]) -> bool
 #[tactic(auto, unfolding(tp_ast::specs::Conditions::simple))]
 fn simple(
     alloc: Global,
-    symbols: &Symbols,
     scope: &Scope,
     head: CondWord,
     word: &Token,
     args: &[Tree],
     at: u32,
 ) -> Result<Cond, SyntaxFault>
-    ensures { Gives cond_view result (simple (symbols_view symbols.now)
+    ensures { Gives cond_view result (simple (symbols_of scope.now)
         (scope_view scope.now) head word.now.text.now (shapes args.now)) }
 {
     match head {
         CondWord::Equal => {
             if are_terms(args) {
-                equality(alloc, symbols, scope, args, at)
+                equality(alloc, scope, args, at)
             } else {
-                relation(alloc, symbols, scope, head, args, at)
+                relation(alloc, scope, head, args, at)
             }
         }
         CondWord::Less | CondWord::AtMost | CondWord::AtLeast | CondWord::Greater => {
-            relation(alloc, symbols, scope, head, args, at)
+            relation(alloc, scope, head, args, at)
         }
-        CondWord::Other => fact(alloc, symbols, scope, word, args, at),
+        CondWord::Other => fact(alloc, scope, word, args, at),
         CondWord::Preference => Err(SyntaxFault::LeftOut(at, LeftOutPart::Preference)),
         _ => Err(SyntaxFault::Shape(at)),
     }
@@ -276,16 +266,15 @@ fn simple(
 fn read_conds(
     alloc: Global,
     trees: &[Tree],
-    symbols: &Symbols,
     scope: &Scope,
     at: u32,
 ) -> Result<Vec<Cond>, SyntaxFault>
     ensures { Gives (λ v. map cond_view v.items) result
-        (conditions_of (symbols_view symbols.now) (scope_view scope.now) (shapes trees.now)) }
+        (conditions_of (symbols_of scope.now) (scope_view scope.now) (shapes trees.now)) }
 {
     let mut conds = Vec::new(alloc);
     for tree in trees {
-        conds.push(read_cond(alloc, tree, symbols, scope, at)?)?;
+        conds.push(read_cond(alloc, tree, scope, at)?)?;
     }
     Ok(conds)
 }
@@ -295,41 +284,34 @@ fn read_conds(
 fn read_bound(
     alloc: Global,
     args: &[Tree],
-    symbols: &Symbols,
     scope: &Scope,
     head: CondWord,
     at: u32,
 ) -> Result<Cond, SyntaxFault>
     ensures { Gives cond_view result
-        (bound_condition (symbols_view symbols.now) (scope_view scope.now) head (shapes args.now)) }
+        (bound_condition (symbols_of scope.now) (scope_view scope.now) head (shapes args.now)) }
 {
     let [list, body @ ..] = args else {
         return Err(SyntaxFault::Shape(at));
     };
-    let vars = parameters_at(alloc, &symbols.types, list, at)?;
+    let vars = parameters_at(alloc, &scope.symbols.types, list, at)?;
     let [tree, more @ ..] = body else {
         return Err(SyntaxFault::Shape(at));
     };
     if !more.is_empty() {
         return Err(SyntaxFault::Shape(at));
     }
-    let known = Variables::new(alloc, vars)?;
-    let wider = Scope::Inner(&known, &*scope);
-    let inner = read_cond(alloc, tree, symbols, &wider, at)?;
+    let known = Variables::new(alloc, scope.symbols, vars, body)?;
+    let wider = Scope::inside(&*scope, &known);
+    let inner = read_cond(alloc, tree, &wider, at)?;
     bound(alloc, head, known.into_items(), inner)
 }
 
 /// The condition that a member of the list at `at` spells.
 #[cycle(cond)]
-pub fn read_cond(
-    alloc: Global,
-    tree: &Tree,
-    symbols: &Symbols,
-    scope: &Scope,
-    at: u32,
-) -> Result<Cond, SyntaxFault>
+pub fn read_cond(alloc: Global, tree: &Tree, scope: &Scope, at: u32) -> Result<Cond, SyntaxFault>
     ensures { Gives cond_view result
-        (condition_of (symbols_view symbols.now) (scope_view scope.now) (shape_of tree.now)) }
+        (condition_of (symbols_of scope.now) (scope_view scope.now) (shape_of tree.now)) }
 {
     let (items, at) = match tree {
         Tree::Word(_) => return Err(SyntaxFault::Shape(at)),
@@ -344,10 +326,10 @@ pub fn read_cond(
     let head = cond_word_of(word.text);
     match kind_of(head) {
         CondKind::Joined => {
-            let conds = read_conds(alloc, args, symbols, scope, at)?;
+            let conds = read_conds(alloc, args, scope, at)?;
             combined(alloc, head, conds, at)
         }
-        CondKind::Bound => read_bound(alloc, args, symbols, scope, head, at),
-        CondKind::Simple => simple(alloc, symbols, scope, head, word, args, at),
+        CondKind::Bound => read_bound(alloc, args, scope, head, at),
+        CondKind::Simple => simple(alloc, scope, head, word, args, at),
     }
 }

@@ -3,7 +3,7 @@
 ghost use Rattle.std.specs.Prelude.{◌≡◌, map};
 ghost use Rattle.tp_text.specs.Trees.{shape_of};
 ghost use Rattle.tp_ast.specs.Terms.{shapes};
-ghost use Rattle.tp_names.specs.SymbolViews.{scope_view, symbols_view};
+ghost use Rattle.tp_names.specs.ScopeViews.{scope_view, symbols_of};
 ghost use Rattle.tp_ast.specs.Effects.{is_duration, is_start, limited, constraint_of, constraints_of, start_constraint};
 ghost use Rattle.tp_ast.specs.ConstraintViews.{constraint_view};
 ghost use Rattle.tp_ast.specs.Gives.{Gives};
@@ -18,7 +18,7 @@ use tp_ast::words::{
     Comparison, CondWord, ConstraintForm, cond_word_of, constraint_form_of, is_word,
 };
 use tp_names::lists::both;
-use tp_names::symbols::{Scope, Symbols};
+use tp_names::scope::Scope;
 use tp_text::{Token, Tree};
 
 fn duration_comparison(head: CondWord) -> Option<Comparison>
@@ -55,14 +55,13 @@ fn is_start(tree: &Tree) -> bool
 #[tactic(auto, unfolding(tp_ast::specs::Effects::limited))]
 fn limited(
     alloc: Global,
-    symbols: &Symbols,
     scope: &Scope,
     word: &Token,
     args: &[Tree],
     at: u32,
 ) -> Result<DurationRule, SyntaxFault>
     ensures { Gives constraint_view result (limited
-        (symbols_view symbols.now) (scope_view scope.now) word.now.text.now (shapes args.now)) }
+        (symbols_of scope.now) (scope_view scope.now) word.now.text.now (shapes args.now)) }
 {
     let Some(comparison) = duration_comparison(cond_word_of(word.text)) else {
         return Err(SyntaxFault::Shape(at));
@@ -73,7 +72,7 @@ fn limited(
     if !is_duration(subject) {
         return Err(SyntaxFault::Shape(at));
     }
-    let value = read_value(alloc, value, symbols, scope, false, at)?;
+    let value = read_value(alloc, value, scope, false, at)?;
     Ok(DurationRule::Limit(comparison, value))
 }
 
@@ -82,12 +81,11 @@ fn limited(
 fn read_start(
     alloc: Global,
     args: &[Tree],
-    symbols: &Symbols,
     scope: &Scope,
     at: u32,
 ) -> Result<DurationRule, SyntaxFault>
     ensures { Gives constraint_view result
-        (start_constraint (symbols_view symbols.now) (scope_view scope.now) (shapes args.now)) }
+        (start_constraint (symbols_of scope.now) (scope_view scope.now) (shapes args.now)) }
 {
     let [moment, body @ ..] = args else {
         return Err(SyntaxFault::Shape(at));
@@ -101,7 +99,7 @@ fn read_start(
     if !more.is_empty() {
         return Err(SyntaxFault::Shape(at));
     }
-    read_constraint(alloc, tree, symbols, scope, at)
+    read_constraint(alloc, tree, scope, at)
 }
 
 // What is wrong with the word behind `at`, where it is not `start`.
@@ -118,16 +116,15 @@ fn specifier_fault(moment: &Tree, at: u32) -> SyntaxFault {
 fn read_constraints(
     alloc: Global,
     trees: &[Tree],
-    symbols: &Symbols,
     scope: &Scope,
     at: u32,
 ) -> Result<Vec<DurationRule>, SyntaxFault>
     ensures { Gives (λ v. map constraint_view v.items) result
-        (constraints_of (symbols_view symbols.now) (scope_view scope.now) (shapes trees.now)) }
+        (constraints_of (symbols_of scope.now) (scope_view scope.now) (shapes trees.now)) }
 {
     let mut constraints = Vec::new(alloc);
     for tree in trees {
-        constraints.push(read_constraint(alloc, tree, symbols, scope, at)?)?;
+        constraints.push(read_constraint(alloc, tree, scope, at)?)?;
     }
     Ok(constraints)
 }
@@ -137,12 +134,11 @@ fn read_constraints(
 pub fn read_constraint(
     alloc: Global,
     tree: &Tree,
-    symbols: &Symbols,
     scope: &Scope,
     at: u32,
 ) -> Result<DurationRule, SyntaxFault>
     ensures { Gives constraint_view result
-        (constraint_of (symbols_view symbols.now) (scope_view scope.now) (shape_of tree.now)) }
+        (constraint_of (symbols_of scope.now) (scope_view scope.now) (shape_of tree.now)) }
 {
     let (items, at) = match tree {
         Tree::Word(_) => return Err(SyntaxFault::Shape(at)),
@@ -156,10 +152,10 @@ pub fn read_constraint(
     };
     match constraint_form_of(word.text) {
         ConstraintForm::And => {
-            let constraints = read_constraints(alloc, args, symbols, scope, at)?;
+            let constraints = read_constraints(alloc, args, scope, at)?;
             Ok(DurationRule::And(constraints))
         }
-        ConstraintForm::At => read_start(alloc, args, symbols, scope, at),
-        ConstraintForm::Limit => limited(alloc, symbols, scope, word, args, at),
+        ConstraintForm::At => read_start(alloc, args, scope, at),
+        ConstraintForm::Limit => limited(alloc, scope, word, args, at),
     }
 }

@@ -1,10 +1,10 @@
 //! Effects.
 
-ghost use Rattle.std.specs.Prelude.{◌≡◌, map, false};
+ghost use Rattle.std.specs.Prelude.{◌≡◌, false};
 ghost use Rattle.tp_text.specs.Trees.{shape_of};
 ghost use Rattle.tp_ast.specs.Terms.{shapes, atom_view};
-ghost use Rattle.tp_ast.specs.Symbols.{signature_view};
-ghost use Rattle.tp_names.specs.SymbolViews.{scope_view, symbols_view};
+ghost use Rattle.tp_names.specs.Fits.{signatures_of};
+ghost use Rattle.tp_names.specs.ScopeViews.{scope_view, symbols_of};
 ghost use Rattle.tp_ast.specs.Expressions.{terms_for};
 ghost use Rattle.tp_ast.specs.Effects.{SimpleEffect, atom_at, deleted, written, changed, simple_effect_of, effect_of};
 ghost use Rattle.tp_ast.specs.EffectViews.{simple_effect_view, effect_view};
@@ -17,25 +17,23 @@ use tp_ast::effect::{Effect, SimpleEffect};
 use tp_ast::expr::Expr;
 use tp_ast::fault::{LeftOutPart, SyntaxFault};
 use tp_ast::joined::Joined;
-use tp_ast::symbols::Signature;
 use tp_ast::term::Atom;
 use tp_ast::words::{EffectWord, Writing, effect_word_of};
 use tp_names::lists::{both, only};
-use tp_names::symbols::{Scope, Symbols, atom_in};
+use tp_names::scope::{Scope, atom_in};
+use tp_names::symbols::Kind;
 use tp_text::{Token, Tree};
-use tp_types::lookup::Lookup;
 
 /// The atom that a member of the list at `at` spells, its name one of these.
 pub fn atom_at(
     alloc: Global,
-    symbols: &Symbols,
-    signatures: &Lookup<Signature>,
     scope: &Scope,
+    kind: Kind,
     tree: &Tree,
     at: u32,
 ) -> Result<Atom, SyntaxFault>
-    ensures { Gives atom_view result (atom_at (symbols_view symbols.now)
-        (map signature_view signatures.now) (scope_view scope.now) (shape_of tree.now)) }
+    ensures { Gives atom_view result (atom_at (symbols_of scope.now)
+        (signatures_of kind (symbols_of scope.now)) (scope_view scope.now) (shape_of tree.now)) }
 {
     let (items, at) = match tree {
         Tree::Word(_) => return Err(SyntaxFault::Shape(at)),
@@ -47,45 +45,43 @@ pub fn atom_at(
     let Tree::Word(word) = first else {
         return Err(SyntaxFault::Shape(at));
     };
-    atom_in(alloc, symbols, signatures, scope, word, args, at)
+    atom_in(alloc, scope, kind, word, args, at)
 }
 
 #[tactic(auto, unfolding(tp_ast::specs::Effects::deleted))]
 fn deleted(
     alloc: Global,
-    symbols: &Symbols,
     scope: &Scope,
     args: &[Tree],
     at: u32,
 ) -> Result<SimpleEffect, SyntaxFault>
     ensures { Gives simple_effect_view result
-        (deleted (symbols_view symbols.now) (scope_view scope.now) (shapes args.now)) }
+        (deleted (symbols_of scope.now) (scope_view scope.now) (shapes args.now)) }
 {
     let Some(tree) = only(args) else {
         return Err(SyntaxFault::Shape(at));
     };
-    let atom = atom_at(alloc, symbols, &symbols.predicates, scope, tree, at)?;
+    let atom = atom_at(alloc, scope, Kind::Predicate, tree, at)?;
     Ok(SimpleEffect::Delete(atom))
 }
 
 #[tactic(auto, unfolding(tp_ast::specs::Effects::written))]
 fn written(
     alloc: Global,
-    symbols: &Symbols,
     duration: bool,
     scope: &Scope,
     writing: Writing,
     args: &[Tree],
     at: u32,
 ) -> Result<SimpleEffect, SyntaxFault>
-    ensures { Gives simple_effect_view result (written (symbols_view symbols.now)
+    ensures { Gives simple_effect_view result (written (symbols_of scope.now)
         (terms_for (scope_view scope.now) duration) writing (shapes args.now)) }
 {
     let Some((fluent, value)) = both(args) else {
         return Err(SyntaxFault::Shape(at));
     };
-    let atom = atom_at(alloc, symbols, &symbols.functions, scope, fluent, at)?;
-    let value = read_value(alloc, value, symbols, scope, duration, at)?;
+    let atom = atom_at(alloc, scope, Kind::Function, fluent, at)?;
+    let value = read_value(alloc, value, scope, duration, at)?;
     Ok(SimpleEffect::Write(writing, atom, value))
 }
 
@@ -93,22 +89,21 @@ fn written(
 fn changed(
     alloc: Global,
     change: EffectWord,
-    symbols: &Symbols,
     duration: bool,
     scope: &Scope,
     word: &Token,
     args: &[Tree],
     at: u32,
 ) -> Result<SimpleEffect, SyntaxFault>
-    ensures { Gives simple_effect_view result (changed change (symbols_view symbols.now) duration
+    ensures { Gives simple_effect_view result (changed change (symbols_of scope.now) duration
         (scope_view scope.now) word.now.text.now (shapes args.now)) }
 {
     let writing = match change {
         EffectWord::Other => {
-            let atom = atom_in(alloc, symbols, &symbols.predicates, scope, word, args, at)?;
+            let atom = atom_in(alloc, scope, Kind::Predicate, word, args, at)?;
             return Ok(SimpleEffect::Add(atom));
         }
-        EffectWord::Not => return deleted(alloc, symbols, scope, args, at),
+        EffectWord::Not => return deleted(alloc, scope, args, at),
         EffectWord::When => return Err(SyntaxFault::LeftOut(at, LeftOutPart::When)),
         EffectWord::ScaleDown => return Err(SyntaxFault::LeftOut(at, LeftOutPart::ScaleDown)),
         EffectWord::Assign => Writing::Assign,
@@ -116,7 +111,7 @@ fn changed(
         EffectWord::Decrease => Writing::Decrease,
         EffectWord::ScaleUp => Writing::ScaleUp,
     };
-    written(alloc, symbols, duration, scope, writing, args, at)
+    written(alloc, duration, scope, writing, args, at)
 }
 
 impl Inner for SimpleEffect {
@@ -129,7 +124,6 @@ impl Inner for SimpleEffect {
     #[tactic(auto, unfolding(tp_ast::specs::Effects::simple_effect_of))]
     fn read(
         alloc: Global,
-        symbols: &Symbols,
         duration: bool,
         scope: &Scope,
         word: &Token,
@@ -139,7 +133,6 @@ impl Inner for SimpleEffect {
         changed(
             alloc,
             effect_word_of(word.text),
-            symbols,
             duration,
             scope,
             word,
@@ -153,12 +146,11 @@ impl Inner for SimpleEffect {
 pub fn read_effect(
     alloc: Global,
     tree: &Tree,
-    symbols: &Symbols,
     scope: &Scope,
     at: u32,
 ) -> Result<Effect, SyntaxFault>
     ensures { Gives effect_view result
-        (effect_of (symbols_view symbols.now) false (scope_view scope.now) (shape_of tree.now)) }
+        (effect_of (symbols_of scope.now) false (scope_view scope.now) (shape_of tree.now)) }
 {
-    read_joined(alloc, tree, symbols, false, scope, at)
+    read_joined(alloc, tree, false, scope, at)
 }

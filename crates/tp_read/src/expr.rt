@@ -3,7 +3,7 @@
 ghost use Rattle.std.specs.Prelude.{◌≡◌, map};
 ghost use Rattle.tp_text.specs.Trees.{shape_of};
 ghost use Rattle.tp_ast.specs.Terms.{shapes};
-ghost use Rattle.tp_names.specs.SymbolViews.{scope_view, symbols_view};
+ghost use Rattle.tp_names.specs.ScopeViews.{scope_view, symbols_of};
 ghost use Rattle.tp_ast.specs.Symbols.{signature_view};
 ghost use Rattle.tp_ast.specs.Gives.{Gives, IsKept};
 ghost use Rattle.tp_ast.specs.Words.{operator_of};
@@ -15,7 +15,8 @@ use tp_ast::expr::Expr;
 use tp_ast::fault::{LeftOutPart, SyntaxFault};
 use tp_ast::term::Atom;
 use tp_ast::words::{Operator, is_word, operator_of};
-use tp_names::symbols::{Scope, Symbols, atom_in};
+use tp_names::scope::{Scope, atom_in};
+use tp_names::symbols::Kind;
 use tp_text::{Token, Tree, read_whole};
 
 /// Whether a word begins as a number does.
@@ -125,17 +126,16 @@ fn computed(
 pub fn read_exprs(
     alloc: Global,
     trees: &[Tree],
-    symbols: &Symbols,
     scope: &Scope,
     duration: bool,
     at: u32,
 ) -> Result<Vec<Expr>, SyntaxFault>
     ensures { Gives (λ v. map expr_view v.items) result (expressions_of
-        (symbols_view symbols.now) (terms_for (scope_view scope.now) duration) (shapes trees.now)) }
+        (symbols_of scope.now) (terms_for (scope_view scope.now) duration) (shapes trees.now)) }
 {
     let mut exprs = Vec::new(alloc);
     for tree in trees {
-        exprs.push(read_expr(alloc, tree, symbols, scope, duration, at)?)?;
+        exprs.push(read_expr(alloc, tree, scope, duration, at)?)?;
     }
     Ok(exprs)
 }
@@ -145,12 +145,11 @@ pub fn read_exprs(
 pub fn read_expr(
     alloc: Global,
     tree: &Tree,
-    symbols: &Symbols,
     scope: &Scope,
     duration: bool,
     at: u32,
 ) -> Result<Expr, SyntaxFault>
-    ensures { Gives expr_view result (expression_of (symbols_view symbols.now)
+    ensures { Gives expr_view result (expression_of (symbols_of scope.now)
         (terms_for (scope_view scope.now) duration) (shape_of tree.now)) }
 {
     let (items, at) = match tree {
@@ -165,10 +164,10 @@ pub fn read_expr(
     };
     let operator = operator_of(word.text);
     if is_operator(operator) {
-        let exprs = read_exprs(alloc, args, symbols, scope, duration, at)?;
+        let exprs = read_exprs(alloc, args, scope, duration, at)?;
         computed(alloc, operator, exprs, at)
     } else {
-        let atom = atom_in(alloc, symbols, &symbols.functions, scope, word, args, at)?;
+        let atom = atom_in(alloc, scope, Kind::Function, word, args, at)?;
         Ok(Expr::Fluent(atom))
     }
 }
@@ -187,15 +186,14 @@ pub fn outside_conditions(fault: SyntaxFault) -> SyntaxFault
 pub fn read_value(
     alloc: Global,
     tree: &Tree,
-    symbols: &Symbols,
     scope: &Scope,
     duration: bool,
     at: u32,
 ) -> Result<Expr, SyntaxFault>
-    ensures { Gives expr_view result (expression_of (symbols_view symbols.now)
+    ensures { Gives expr_view result (expression_of (symbols_of scope.now)
         (terms_for (scope_view scope.now) duration) (shape_of tree.now)) }
 {
-    match read_expr(alloc, tree, symbols, scope, duration, at) {
+    match read_expr(alloc, tree, scope, duration, at) {
         Ok(value) => Ok(value),
         Err(fault) => Err(outside_conditions(fault)),
     }

@@ -5,7 +5,7 @@ ghost use Rattle.tp_text.specs.Shapes.{Shapes};
 ghost use Rattle.tp_text.specs.Trees.{shape_of};
 ghost use Rattle.tp_ast.specs.Terms.{shapes};
 ghost use Rattle.tp_ast.specs.Symbols.{Declared, Symbols};
-ghost use Rattle.tp_names.specs.SymbolViews.{scope_view, symbols_view};
+ghost use Rattle.tp_names.specs.ScopeViews.{scope_view, symbols_of};
 ghost use Rattle.tp_ast.specs.Parts.{joined_of, parts_of, bound_parts};
 ghost use Rattle.tp_ast.specs.PartViews.{joined_view};
 ghost use Rattle.tp_ast.specs.Gives.{Gives};
@@ -15,7 +15,7 @@ use tp_ast::fault::SyntaxFault;
 use tp_ast::joined::Joined;
 use tp_ast::symbols::Typed;
 use tp_ast::words::{Joint, joint_of};
-use tp_names::symbols::{Scope, Symbols};
+use tp_names::scope::Scope;
 use tp_names::typed::parameters_at;
 use tp_names::variables::Variables;
 use tp_text::{Token, Tree};
@@ -33,14 +33,13 @@ pub trait Inner: Drop {
     /// Reads the list at `at` that begins with the word. An effect may name `?duration` or not.
     fn read(
         alloc: Global,
-        symbols: &Symbols,
         duration: bool,
         scope: &Scope,
         word: &Token,
         args: &[Tree],
         at: u32,
     ) -> Result<Self, SyntaxFault>
-        ensures { Gives seen result (spelled (symbols_view symbols.now) duration
+        ensures { Gives seen result (spelled (symbols_of scope.now) duration
             (scope_view scope.now) word.now.text.now (shapes args.now)) };
 }
 
@@ -48,18 +47,17 @@ pub trait Inner: Drop {
 fn read_parts<P: Inner>(
     alloc: Global,
     trees: &[Tree],
-    symbols: &Symbols,
     duration: bool,
     scope: &Scope,
     at: u32,
 ) -> Result<Vec<Joined<P>>, SyntaxFault>
     ensures { Gives
-        (λ v. map (joined_view P.seen) v.items) result (parts_of (symbols_view symbols.now).types
-        (P.spelled (symbols_view symbols.now) duration) (scope_view scope.now) (shapes trees.now)) }
+        (λ v. map (joined_view P.seen) v.items) result (parts_of (symbols_of scope.now).types
+        (P.spelled (symbols_of scope.now) duration) (scope_view scope.now) (shapes trees.now)) }
 {
     let mut parts = Vec::new(alloc);
     for tree in trees {
-        parts.push(read_joined(alloc, tree, symbols, duration, scope, at)?)?;
+        parts.push(read_joined(alloc, tree, duration, scope, at)?)?;
     }
     Ok(parts)
 }
@@ -69,27 +67,26 @@ fn read_parts<P: Inner>(
 fn read_bound<P: Inner>(
     alloc: Global,
     args: &[Tree],
-    symbols: &Symbols,
     duration: bool,
     scope: &Scope,
     at: u32,
 ) -> Result<Joined<P>, SyntaxFault>
-    ensures { Gives (joined_view P.seen) result (bound_parts (symbols_view symbols.now).types
-        (P.spelled (symbols_view symbols.now) duration) (scope_view scope.now) (shapes args.now)) }
+    ensures { Gives (joined_view P.seen) result (bound_parts (symbols_of scope.now).types
+        (P.spelled (symbols_of scope.now) duration) (scope_view scope.now) (shapes args.now)) }
 {
     let [list, body @ ..] = args else {
         return Err(SyntaxFault::Shape(at));
     };
-    let vars = parameters_at(alloc, &symbols.types, list, at)?;
+    let vars = parameters_at(alloc, &scope.symbols.types, list, at)?;
     let [tree, more @ ..] = body else {
         return Err(SyntaxFault::Shape(at));
     };
     if !more.is_empty() {
         return Err(SyntaxFault::Shape(at));
     }
-    let known = Variables::new(alloc, vars)?;
-    let wider = Scope::Inner(&known, &*scope);
-    let inner = read_joined(alloc, tree, symbols, duration, &wider, at)?;
+    let known = Variables::new(alloc, scope.symbols, vars, body)?;
+    let wider = Scope::inside(&*scope, &known);
+    let inner = read_joined(alloc, tree, duration, &wider, at)?;
     Ok(Joined::Forall(known.into_items(), Box::new(alloc, inner)?))
 }
 
@@ -98,13 +95,12 @@ fn read_bound<P: Inner>(
 pub fn read_joined<P: Inner>(
     alloc: Global,
     tree: &Tree,
-    symbols: &Symbols,
     duration: bool,
     scope: &Scope,
     at: u32,
 ) -> Result<Joined<P>, SyntaxFault>
     ensures { Gives (joined_view P.seen) result
-        (joined_of (symbols_view symbols.now).types (P.spelled (symbols_view symbols.now) duration)
+        (joined_of (symbols_of scope.now).types (P.spelled (symbols_of scope.now) duration)
         (scope_view scope.now) (shape_of tree.now)) }
 {
     let (items, at) = match tree {
@@ -119,10 +115,10 @@ pub fn read_joined<P: Inner>(
     };
     match joint_of(word.text) {
         Joint::And => {
-            let parts = read_parts(alloc, args, symbols, duration, scope, at)?;
+            let parts = read_parts(alloc, args, duration, scope, at)?;
             Ok(Joined::And(parts))
         }
-        Joint::Forall => read_bound(alloc, args, symbols, duration, scope, at),
-        Joint::One => Ok(Joined::One(P::read(alloc, symbols, duration, scope, word, args, at)?)),
+        Joint::Forall => read_bound(alloc, args, duration, scope, at),
+        Joint::One => Ok(Joined::One(P::read(alloc, duration, scope, word, args, at)?)),
     }
 }

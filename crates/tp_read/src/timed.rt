@@ -3,7 +3,7 @@
 ghost use Rattle.std.specs.Prelude.{◌≡◌, map, option_map};
 ghost use Rattle.tp_text.specs.Trees.{shape_of};
 ghost use Rattle.tp_ast.specs.Terms.{shapes};
-ghost use Rattle.tp_names.specs.SymbolViews.{scope_view, symbols_view};
+ghost use Rattle.tp_names.specs.ScopeViews.{scope_view, symbols_of};
 ghost use Rattle.tp_ast.specs.Conditions.{Condition, condition_of};
 ghost use Rattle.tp_ast.specs.CondViews.{cond_view};
 ghost use Rattle.tp_ast.specs.Effects.{specifier_at, specified_tree, specified, effect_at, timed_condition_of, timed_effect_of};
@@ -20,7 +20,7 @@ use tp_ast::joined::Joined;
 use tp_ast::timed::{Timed, TimedCond, TimedEffect};
 use tp_ast::words::{TimeSpecifier, is_word, specifier_of};
 use tp_names::lists::both;
-use tp_names::symbols::{Scope, Symbols};
+use tp_names::scope::Scope;
 use tp_text::{Token, Tree};
 
 #[tactic(auto, unfolding(tp_ast::specs::Effects::specifier_at))]
@@ -106,7 +106,6 @@ impl Inner for Timed<Cond> {
     #[tactic(auto, unfolding(tp_ast::specs::Effects::specified))]
     fn read(
         alloc: Global,
-        symbols: &Symbols,
         _duration: bool,
         scope: &Scope,
         word: &Token,
@@ -116,7 +115,7 @@ impl Inner for Timed<Cond> {
         let Some((specifier, tree)) = specified_tree(word, args) else {
             return Err(unspecified_fault(word, args, at));
         };
-        let what = read_cond(alloc, tree, symbols, scope, at)?;
+        let what = read_cond(alloc, tree, scope, at)?;
         Ok(Timed { specifier, what })
     }
 }
@@ -124,21 +123,18 @@ impl Inner for Timed<Cond> {
 // An effect has a start and an end alone.
 fn effect_at(
     alloc: Global,
-    symbols: &Symbols,
     scope: &Scope,
     specifier: TimeSpecifier,
     tree: &Tree,
     at: u32,
 ) -> Result<Effect, SyntaxFault>
     ensures { Gives effect_view result
-        (effect_at (symbols_view symbols.now) (scope_view scope.now) specifier
+        (effect_at (symbols_of scope.now) (scope_view scope.now) specifier
         (shape_of tree.now)) }
 {
     match specifier {
         TimeSpecifier::OverAll => Err(SyntaxFault::Shape(at)),
-        TimeSpecifier::AtStart | TimeSpecifier::AtEnd => read_joined(
-            alloc, tree, symbols, true, scope, at,
-        ),
+        TimeSpecifier::AtStart | TimeSpecifier::AtEnd => read_joined(alloc, tree, true, scope, at),
     }
 }
 
@@ -152,7 +148,6 @@ impl Inner for Timed<Effect> {
     #[tactic(auto, unfolding(tp_ast::specs::Effects::specified))]
     fn read(
         alloc: Global,
-        symbols: &Symbols,
         _duration: bool,
         scope: &Scope,
         word: &Token,
@@ -162,7 +157,7 @@ impl Inner for Timed<Effect> {
         let Some((specifier, tree)) = specified_tree(word, args) else {
             return Err(unspecified_fault(word, args, at));
         };
-        let what = effect_at(alloc, symbols, scope, specifier, tree, at)?;
+        let what = effect_at(alloc, scope, specifier, tree, at)?;
         Ok(Timed { specifier, what })
     }
 }
@@ -171,26 +166,24 @@ impl Inner for Timed<Effect> {
 pub fn read_timed_cond(
     alloc: Global,
     tree: &Tree,
-    symbols: &Symbols,
     scope: &Scope,
     at: u32,
 ) -> Result<TimedCond, SyntaxFault>
     ensures { Gives timed_condition_view result
-        (timed_condition_of (symbols_view symbols.now) (scope_view scope.now) (shape_of tree.now)) }
+        (timed_condition_of (symbols_of scope.now) (scope_view scope.now) (shape_of tree.now)) }
 {
-    read_joined(alloc, tree, symbols, false, scope, at)
+    read_joined(alloc, tree, false, scope, at)
 }
 
 /// The effect of a durative action that a member of the list at `at` spells.
 pub fn read_timed_effect(
     alloc: Global,
     tree: &Tree,
-    symbols: &Symbols,
     scope: &Scope,
     at: u32,
 ) -> Result<TimedEffect, SyntaxFault>
     ensures { Gives timed_effect_view result
-        (timed_effect_of (symbols_view symbols.now) (scope_view scope.now) (shape_of tree.now)) }
+        (timed_effect_of (symbols_of scope.now) (scope_view scope.now) (shape_of tree.now)) }
 {
-    read_joined(alloc, tree, symbols, true, scope, at)
+    read_joined(alloc, tree, true, scope, at)
 }

@@ -1,7 +1,6 @@
 -- What the refusal of a text's tree says of the text.
 use Rattle.std.proofs.Common.{◌≡◌, ℕ, ◌≤◌, List, Option, Some, None, sym, ap, ◌∙◌, subst}
 use Rattle.tp_text.specs.Shapes.{Shape, Spells, nesting}
-use Rattle.tp_text.specs.declared.fault.TextFault.TheVariants as text_faults
 use Rattle.tp_text.proofs.OnTrees.{spells_one_tree}
 use Rattle.tp_ast.specs.Gives.{Fails}
 use Rattle.tp_syntax.specs.Limits.{NestsUpTo}

@@ -14,7 +14,8 @@ ghost use Rattle.tp_parts.specs.Fields.{field_view, duration_field};
 ghost use Rattle.tp_ast.specs.Terms.{shapes};
 ghost use Rattle.tp_ast.specs.Symbols.{typed_view};
 ghost use Rattle.tp_types.specs.TypeViews.{types_view};
-ghost use Rattle.tp_names.specs.SymbolViews.{scope_view, symbols_view};
+ghost use Rattle.tp_names.specs.SymbolViews.{symbols_view};
+ghost use Rattle.tp_names.specs.ScopeViews.{scope_view, symbols_of};
 ghost use Rattle.tp_ast.specs.Gives.{Gives};
 ghost use Rattle.tp_ast.specs.declared.words.Key.TheVariants as keys;
 
@@ -28,7 +29,8 @@ use tp_ast::joined::Joined;
 use tp_ast::timed::{TimedCond, TimedEffect};
 use tp_ast::typed_list::TypedList;
 use tp_ast::words::Key;
-use tp_names::symbols::{Scope, Symbols};
+use tp_names::scope::Scope;
+use tp_names::symbols::Symbols;
 use tp_names::term::name_of;
 use tp_names::typed::parameters_at;
 use tp_names::variables::Variables;
@@ -57,34 +59,27 @@ fn parameters(
 
 fn precondition(
     alloc: Global,
-    symbols: &Symbols,
     scope: &Scope,
     fields: &[Field],
     at: u32,
 ) -> Result<Cond, SyntaxFault>
     ensures { Gives cond_view result
-        (or_missing (all_of no_conditions) (condition_of (symbols_view symbols.now)
+        (or_missing (all_of no_conditions) (condition_of (symbols_of scope.now)
         (scope_view scope.now)) (field keys.Precondition (map field_view fields.now))) }
 {
     match find_field(Key::Precondition, fields) {
-        Some(cond) => read_cond(alloc, cond.body, symbols, scope, at),
+        Some(cond) => read_cond(alloc, cond.body, scope, at),
         None => Ok(Cond::And(Vec::new(alloc))),
     }
 }
 
-fn effect(
-    alloc: Global,
-    symbols: &Symbols,
-    scope: &Scope,
-    fields: &[Field],
-    at: u32,
-) -> Result<Effect, SyntaxFault>
+fn effect(alloc: Global, scope: &Scope, fields: &[Field], at: u32) -> Result<Effect, SyntaxFault>
     ensures { Gives effect_view result
-        (or_missing (all_parts no_parts) (effect_of (symbols_view symbols.now) false
+        (or_missing (all_parts no_parts) (effect_of (symbols_of scope.now) false
         (scope_view scope.now)) (field keys.Effect (map field_view fields.now))) }
 {
     match find_field(Key::Effect, fields) {
-        Some(effect) => read_effect(alloc, effect.body, symbols, scope, at),
+        Some(effect) => read_effect(alloc, effect.body, scope, at),
         None => Ok(Joined::And(Vec::new(alloc))),
     }
 }
@@ -92,85 +87,70 @@ fn effect(
 // The fault of a missing duration constraint is at the action.
 fn duration(
     alloc: Global,
-    symbols: &Symbols,
     scope: &Scope,
     fields: &[Field],
     at: u32,
 ) -> Result<DurationRule, SyntaxFault>
     ensures { Gives constraint_view result (duration_field
-        (symbols_view symbols.now) (scope_view scope.now) (map field_view fields.now)) }
+        (symbols_of scope.now) (scope_view scope.now) (map field_view fields.now)) }
 {
     match find_field(Key::Duration, fields) {
-        Some(constraint) => read_constraint(alloc, constraint.body, symbols, scope, at),
+        Some(constraint) => read_constraint(alloc, constraint.body, scope, at),
         None => Err(SyntaxFault::Shape(at)),
     }
 }
 
 fn timed_condition(
     alloc: Global,
-    symbols: &Symbols,
     scope: &Scope,
     fields: &[Field],
     at: u32,
 ) -> Result<TimedCond, SyntaxFault>
     ensures { Gives timed_condition_view result
-        (or_missing (all_parts no_parts) (timed_condition_of (symbols_view symbols.now)
+        (or_missing (all_parts no_parts) (timed_condition_of (symbols_of scope.now)
         (scope_view scope.now)) (field keys.Condition (map field_view fields.now))) }
 {
     match find_field(Key::Condition, fields) {
-        Some(cond) => read_timed_cond(alloc, cond.body, symbols, scope, at),
+        Some(cond) => read_timed_cond(alloc, cond.body, scope, at),
         None => Ok(Joined::And(Vec::new(alloc))),
     }
 }
 
 fn timed_effect(
     alloc: Global,
-    symbols: &Symbols,
     scope: &Scope,
     fields: &[Field],
     at: u32,
 ) -> Result<TimedEffect, SyntaxFault>
     ensures { Gives timed_effect_view result
-        (or_missing (all_parts no_parts) (timed_effect_of (symbols_view symbols.now)
+        (or_missing (all_parts no_parts) (timed_effect_of (symbols_of scope.now)
         (scope_view scope.now)) (field keys.Effect (map field_view fields.now))) }
 {
     match find_field(Key::Effect, fields) {
-        Some(effect) => read_timed_effect(alloc, effect.body, symbols, scope, at),
+        Some(effect) => read_timed_effect(alloc, effect.body, scope, at),
         None => Ok(Joined::And(Vec::new(alloc))),
     }
 }
 
-fn instant(
-    alloc: Global,
-    symbols: &Symbols,
-    scope: &Scope,
-    fields: &[Field],
-    at: u32,
-) -> Result<Body, SyntaxFault>
+fn instant(alloc: Global, scope: &Scope, fields: &[Field], at: u32) -> Result<Body, SyntaxFault>
     ensures { Gives body_view result (body_of
-        (symbols_view symbols.now) false (scope_view scope.now) (map field_view fields.now)) }
+        (symbols_of scope.now) false (scope_view scope.now) (map field_view fields.now)) }
 {
-    let precondition = precondition(alloc, symbols, scope, fields, at)?;
-    let effect = effect(alloc, symbols, scope, fields, at)?;
+    let precondition = precondition(alloc, scope, fields, at)?;
+    let effect = effect(alloc, scope, fields, at)?;
     Ok(Body::Instant {
         precondition,
         effect,
     })
 }
 
-fn durative(
-    alloc: Global,
-    symbols: &Symbols,
-    scope: &Scope,
-    fields: &[Field],
-    at: u32,
-) -> Result<Body, SyntaxFault>
+fn durative(alloc: Global, scope: &Scope, fields: &[Field], at: u32) -> Result<Body, SyntaxFault>
     ensures { Gives body_view result (body_of
-        (symbols_view symbols.now) true (scope_view scope.now) (map field_view fields.now)) }
+        (symbols_of scope.now) true (scope_view scope.now) (map field_view fields.now)) }
 {
-    let duration = duration(alloc, symbols, scope, fields, at)?;
-    let condition = timed_condition(alloc, symbols, scope, fields, at)?;
-    let effect = timed_effect(alloc, symbols, scope, fields, at)?;
+    let duration = duration(alloc, scope, fields, at)?;
+    let condition = timed_condition(alloc, scope, fields, at)?;
+    let effect = timed_effect(alloc, scope, fields, at)?;
     Ok(Body::Durative {
         duration,
         condition,
@@ -181,20 +161,19 @@ fn durative(
 fn body(
     alloc: Global,
     lasts: bool,
-    symbols: &Symbols,
     parameters: &Variables,
     fields: &[Field],
     at: u32,
 ) -> Result<Body, SyntaxFault>
-    ensures { Gives body_view result (body_of (symbols_view symbols.now) lasts
-        (map typed_view parameters.now) (map field_view fields.now)) }
+    ensures { Gives body_view result (body_of parameters.now.symbols lasts
+        (map typed_view parameters.now.items) (map field_view fields.now)) }
 {
-    let none = Scope::Empty;
-    let scope = Scope::Inner(parameters, &none);
+    let none = Scope::of(parameters.symbols());
+    let scope = none.inside(parameters);
     if lasts {
-        durative(alloc, symbols, &scope, fields, at)
+        durative(alloc, &scope, fields, at)
     } else {
-        instant(alloc, symbols, &scope, fields, at)
+        instant(alloc, &scope, fields, at)
     }
 }
 
@@ -218,8 +197,8 @@ pub fn read_action(
     let name = name_of(alloc, word.text, at)?;
     let fields = read_fields(alloc, lasts, rest, at)?;
     let parameters = parameters(alloc, &symbols.types, &fields, at)?;
-    let known = Variables::new(alloc, parameters)?;
-    let body = body(alloc, lasts, symbols, &known, &fields, at)?;
+    let known = Variables::new(alloc, symbols, parameters, rest)?;
+    let body = body(alloc, lasts, &known, &fields, at)?;
     Ok(Action {
         name,
         parameters: known.into_items(),

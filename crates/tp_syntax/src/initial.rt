@@ -16,7 +16,8 @@ use tp_ast::problem::Initial;
 use tp_ast::term::Atom;
 use tp_ast::words::is_word;
 use tp_names::lists::{both, only};
-use tp_names::symbols::{Scope, Symbols, atom_in};
+use tp_names::scope::{Scope, atom_in};
+use tp_names::symbols::{Kind, Symbols};
 use tp_read::effect::atom_at;
 use tp_read::expr::{begins_number, number_fault, outside_conditions};
 use tp_text::{Token, Tree, read_whole};
@@ -41,8 +42,8 @@ fn denied(alloc: Global, symbols: &Symbols, args: &[Tree], at: u32) -> Result<In
     let Some(tree) = only(args) else {
         return Err(SyntaxFault::Shape(at));
     };
-    let none = Scope::Empty;
-    let atom = atom_at(alloc, symbols, &symbols.predicates, &none, tree, at)?;
+    let none = Scope::of(symbols);
+    let atom = atom_at(alloc, &none, Kind::Predicate, tree, at)?;
     Ok(Initial::Fails(atom))
 }
 
@@ -54,8 +55,8 @@ fn valued(alloc: Global, symbols: &Symbols, args: &[Tree], at: u32) -> Result<In
     let Some((fluent, number)) = both(args) else {
         return Err(SyntaxFault::Shape(at));
     };
-    let none = Scope::Empty;
-    let fact = atom_at(alloc, symbols, &symbols.functions, &none, fluent, at)?;
+    let none = Scope::of(symbols);
+    let fact = atom_at(alloc, &none, Kind::Function, fluent, at)?;
     initial_number(fact, number, at)
 }
 
@@ -97,8 +98,8 @@ fn held(
     ensures { Gives initial_view result (option_map holds (atom_in (symbols_view symbols.now)
         (symbols_view symbols.now).predicates [] word.now.text.now (shapes args.now))) }
 {
-    let none = Scope::Empty;
-    match atom_in(alloc, symbols, &symbols.predicates, &none, word, args, at) {
+    let none = Scope::of(symbols);
+    match atom_in(alloc, &none, Kind::Predicate, word, args, at) {
         Ok(atom) => Ok(Initial::Holds(atom)),
         Err(fault) => Err(atom_fault(fault, word, args, at)),
     }

@@ -29,7 +29,8 @@ use tp_ast::term::Atom;
 use tp_ast::words::ProblemSection;
 use tp_names::head::{defined, name_place, named, requirements_in};
 use tp_names::lists::{first_of, only};
-use tp_names::symbols::{Scope, Symbols};
+use tp_names::scope::Scope;
+use tp_names::symbols::Symbols;
 use tp_names::typed::{item_place, objects_in, place};
 use tp_parts::clash::first_clash;
 use tp_parts::keyed::SectionItem;
@@ -47,8 +48,8 @@ fn goal_in(alloc: Global, symbols: &Symbols, trees: &[Tree], at: u32) -> Result<
     let Some(tree) = only(trees) else {
         return Err(SyntaxFault::Shape(at));
     };
-    let none = Scope::Empty;
-    read_cond(alloc, tree, symbols, &none, at)
+    let none = Scope::of(symbols);
+    read_cond(alloc, tree, &none, at)
 }
 
 // The number of the first name among these, the constants first, that stands before, too.

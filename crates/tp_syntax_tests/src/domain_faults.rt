@@ -131,6 +131,45 @@ fn long_lists_of_types_fit(rt: HostRuntime) -> Result<(), Fail> {
     Ok(())
 }
 
+// What an action of two variables of a long list of types makes of atoms whose parameters have such lists.
+fn asked_fault(alloc: Global, action: &str) -> Result<(Option<SyntaxFault>, u32), Fail> {
+    let mut text = String::from_str(
+        alloc,
+        "(define (domain d) (:types a b c d e - g f - h)
+      (:predicates (p ?x - (either a b c d e a b c d e a b c d e a b c d e))
+        (q ?u ?v - (either a b c d e a b c d e a b c d e a b c d e) ?w))
+      (:functions (p ?x - (either f h f h f h f h f h f h f h f h f h f h)))
+      (:action n :parameters (?y ?z - (either a b c d e a b c d e a b c d e a b c d e)) ",
+    )?;
+    text.push_str(action)?;
+    text.push_str("))")?;
+    fault_of(alloc, text.as_str())
+}
+
+#[test]
+fn variables_of_many_types_fit(rt: HostRuntime) -> Result<(), Fail> {
+    for action in [
+        ":precondition (and (p ?y) (P ?Z) (q ?y ?z ?z) (q ?z ?z ?y))",
+        ":precondition (forall (?w - f) (and (p ?y) (exists (?z - g) (p ?y))))",
+        ":precondition (forall (?y - (either f h f h f h f h f h f h f h f h f h f h)) (and (= (p ?y) 0) (p ?z))) :effect (p ?y)",
+        ":effect (forall (?y - (either f h f h f h f h f h f h f h f h f h f h)) (increase (p ?y) 1))",
+    ] {
+        let (fault, _) = asked_fault(rt.alloc(), action)?;
+        assert!(rt; fault.is_none(), "in {action}");
+    }
+    for action in [
+        ":precondition (= ^(p ?y) 0)",
+        ":precondition (and (p ?y) (forall (?y - (either f h f h f h f h f h f h f h f h f h f h)) ^(p ?y)))",
+        ":precondition (forall (?y - (either f h f h f h f h f h f h f h f h f h f h)) (and (= (p ?y) 0) (= ^(p ?z) 0)))",
+        ":precondition (and (p ?y) (q ?y ?z ?y) ^(q ?y ?z))",
+        ":precondition (and (p ?y) ^(p ?y ?y))",
+    ] {
+        let (fault, place) = asked_fault(rt.alloc(), action)?;
+        assert!(rt; fault == Some(SyntaxFault::Types(place)), "in {action}");
+    }
+    Ok(())
+}
+
 #[test]
 fn many_variables_keep_their_types(rt: HostRuntime) -> Result<(), Fail> {
     for marked in ["^(p ?a)", "^(p ?i)", "(forall (?j - u) ^(p ?j))"] {

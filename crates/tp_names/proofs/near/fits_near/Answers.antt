@@ -1,17 +1,23 @@
-use Rattle.std.proofs.Common.{length, string_bytes, refl, sym, ap, ◌∙◌}
-use Rattle.std.proofs.lemmas.List.{length-map}
-use Rattle.std.proofs.lemmas.Option.{slice_get_read}
-use Rattle.tp_ast.specs.Symbols.{parent_view, at_or_below}
+use Rattle.std.proofs.Common.{ℕ, Bool, length, map, drop, string_bytes, sym, ap, ◌∙◌, add-one}
+use Rattle.std.specs.List.{list_any}
+use Rattle.tp_ast.specs.Symbols.{Name, at_or_below, types_fit}
 use Rattle.tp_types.specs.TypeViews.{types_view}
-use Rattle.tp_names.proofs.OnNear.{alone_fits}
+use Rattle.tp_names.proofs.OnNear.{next, ended}
 use Rattle.tp_names.proofs.near.fits_near.Goals as goal
+
+pub loop-below-preserved : goal.loop-below-preserved
+loop-below-preserved c =
+    let ds = types_view c.args.types.now in
+    let ps = map string_bytes c.args.parameter.now in
+    let f : Name → Bool = λ t. list_any (λ p. at_or_below ds (length ds) t p) ps in
+    let k = c.loop-below.below-index in
+    ap (λ (i : ℕ). types_fit ds (map string_bytes (drop i c.args.argument.now)) ps) (add-one k)
+    ∙ next f c.args.argument.now k c.below-item.result c.loop-below-test.true c.below-item.is (ap f (sym c.as_str.ensures.value) ∙ c.is_near.ensures c.if-not-is_near.false)
+    ∙ c.loop-below.invariant
 
 pub returns : goal.returns
 returns c = λ h.
-    alone_fits (types_view c.args.types.now) c.args.argument.now c.args.parameter.now c.below-item.result _ c.in-Some-get.above.now c.in-Some.place c.in-len1.len_at_least c.in-len1.len_below c.below-item.is
-    (slice_get_read c.args.parameter.now (length c.args.parameter.now) _ c.in-Some-get.above.now refl c.in-Some-get.ensures.lookup.3.0 c.in-Some-get.ensures.lookup.1)
-    (ap (λ n. at_or_below (types_view c.args.types.now) n (string_bytes c.below-item.result) (string_bytes c.in-Some-get.above.now)) (length-map c.args.types.now parent_view)
-    ∙ ap (λ b. at_or_below (types_view c.args.types.now) (length c.args.types.now) b (string_bytes c.in-Some-get.above.now)) (sym c.as_str-2.ensures.value)
-    ∙ ap (λ a. at_or_below (types_view c.args.types.now) (length c.args.types.now) c.as_str-2.result.now a) (sym c.as_str-3.ensures.value)
-    ∙ sym c.is_below.ensures
-    ∙ h)
+    let ds = types_view c.args.types.now in
+    let ps = map string_bytes c.args.parameter.now in
+    let f : Name → Bool = λ t. list_any (λ p. at_or_below ds (length ds) t p) ps in
+    sym c.loop-below.invariant ∙ ended f c.args.argument.now c.loop-below.below-index c.loop-below-test.false

@@ -5,7 +5,7 @@ use Rattle.tp_ast.specs.Gives.{◌>>=◌}
 use Rattle.tp_ast.specs.Terms.{shapes}
 use Rattle.tp_ast.specs.Actions.{Field, action_of, body_of}
 use Rattle.tp_parts.specs.Fields.{field_view, checked_fields}
-use Rattle.tp_ast.specs.Symbols.{Name, Declared, typed_view}
+use Rattle.tp_ast.specs.Symbols.{Name, Declared, typed_view, Symbols}
 use Rattle.tp_names.specs.SymbolViews.{symbols_view}
 use Rattle.tp_ast.specs.DomainViews.{body_view}
 use Rattle.tp_ast.specs.declared.symbols.Typed.{Typed}
@@ -63,12 +63,13 @@ returns-in_err-body c =
     let rest = shapes (take (length c.args.trees.now - 1) (drop 1 c.args.trees.now)) in
     let n : Name = string_bytes c.in_ok-name.name in
     let vs : List Declared = map typed_view c.in_ok-parameters.parameters.items in
-    let ds : List Declared = map typed_view c.in_ok-known.known in
+    let ds : List Declared = map typed_view c.in_ok-known.known.items in
     let is = a_first_word f c.args.trees.now c.first-item.result _ c.in-len1-up.len_at_least c.first-item.is c.in-Word.is ∙ by_name σ lasts _ rest ∙ ap (λ (o : Option Name). o >>= after_name σ lasts rest) c.in_ok-name.ensures
     ∙ ap (λ (o : Option (List Field)). o >>= after_fields σ lasts n) c.in_ok-fields.ensures ∙ ap (after_fields σ lasts n) (sym (ap (map field_view) c.deref.ensures.value))
     ∙ ap (λ (o : Option (List Declared)). o >>= after_parameters σ lasts n (map field_view c.deref.result.now)) c.in_ok-parameters.ensures
-    ∙ ap (λ (ws : List Declared). option_map (with_body n vs) (body_of σ lasts ws (map field_view c.deref.result.now))) (sym (ap (map typed_view) c.in_ok-known.ensures))
-    ∙ ap (λ (gs : List Field). option_map (with_body n vs) (body_of σ lasts ds gs)) (ap (map field_view) c.deref.ensures.value ∙ sym (ap (map field_view) c.deref-2.ensures.value)) in
+    ∙ ap (λ (ws : List Declared). option_map (with_body n vs) (body_of σ lasts ws (map field_view c.deref.result.now))) (sym (ap (map typed_view) c.in_ok-known.ensures.items))
+    ∙ ap (λ (gs : List Field). option_map (with_body n vs) (body_of σ lasts ds gs)) (ap (map field_view) c.deref.ensures.value ∙ sym (ap (map field_view) c.deref-2.ensures.value))
+    ∙ ap (λ (τ : Symbols). option_map (with_body n vs) (body_of τ lasts ds (map field_view c.deref-2.result.now))) (sym c.in_ok-known.ensures.symbols) in
     let p = err_from_is_err_and c.from_residual-in_err-body.result c.from_residual-in_err-body.ensures.1 in
     rw (p.1, p.2) (fails_same c.in_err-body.field-0.0 _ _ is (fails_map (with_body n vs) c.in_err-body.field-0.0 _ c.in_err-body.ensures))
 
@@ -80,11 +81,12 @@ returns c =
     let rest = shapes (take (length c.args.trees.now - 1) (drop 1 c.args.trees.now)) in
     let n : Name = string_bytes c.in_ok-name.name in
     let vs : List Declared = map typed_view c.in_ok-parameters.parameters.items in
-    let ds : List Declared = map typed_view c.in_ok-known.known in
+    let ds : List Declared = map typed_view c.in_ok-known.known.items in
     a_first_word f c.args.trees.now c.first-item.result _ c.in-len1-up.len_at_least c.first-item.is c.in-Word.is ∙ by_name σ lasts _ rest ∙ ap (λ (o : Option Name). o >>= after_name σ lasts rest) c.in_ok-name.ensures
     ∙ ap (λ (o : Option (List Field)). o >>= after_fields σ lasts n) c.in_ok-fields.ensures ∙ ap (after_fields σ lasts n) (sym (ap (map field_view) c.deref.ensures.value))
     ∙ ap (λ (o : Option (List Declared)). o >>= after_parameters σ lasts n (map field_view c.deref.result.now)) c.in_ok-parameters.ensures
-    ∙ ap (λ (ws : List Declared). option_map (with_body n vs) (body_of σ lasts ws (map field_view c.deref.result.now))) (sym (ap (map typed_view) c.in_ok-known.ensures))
+    ∙ ap (λ (ws : List Declared). option_map (with_body n vs) (body_of σ lasts ws (map field_view c.deref.result.now))) (sym (ap (map typed_view) c.in_ok-known.ensures.items))
     ∙ ap (λ (gs : List Field). option_map (with_body n vs) (body_of σ lasts ds gs)) (ap (map field_view) c.deref.ensures.value ∙ sym (ap (map field_view) c.deref-2.ensures.value))
+    ∙ ap (λ (τ : Symbols). option_map (with_body n vs) (body_of τ lasts ds (map field_view c.deref-2.result.now))) (sym c.in_ok-known.ensures.symbols)
     ∙ ap (option_map (with_body n vs)) c.in_ok-body.ensures
-    ∙ ap (λ (ts : List Typed). Some (with_body n (map typed_view ts) (body_view c.in_ok-body.body))) (sym (c.into_items.ensures ∙ c.in_ok-known.ensures))
+    ∙ ap (λ (ts : List Typed). Some (with_body n (map typed_view ts) (body_view c.in_ok-body.body))) (sym (c.into_items.ensures ∙ c.in_ok-known.ensures.items))
