@@ -286,6 +286,21 @@ def watch(count):
     return domain, f"(define (problem q) (:domain watch) (:objects {each('o#', count)}) (:init {each('(a o#)', count)}) (:goal ()))"
 
 
+def renewed(count):
+    """A step over all of so many atoms, which its end adds again."""
+    domain = """(define (domain renewed) (:predicates (a ?x)) (:durative-action renew :parameters () :duration (>= ?duration 1)
+ :condition (over all (forall (?x) (a ?x))) :effect (at end (forall (?x) (a ?x)))))"""
+    return domain, f"(define (problem q) (:domain renewed) (:objects {each('o#', count)}) (:init {each('(a o#)', count)}) (:goal ()))"
+
+
+def mentioned(asked, count):
+    """A step whose invariant asks for the same so many times, and actions that add and delete one of its atoms."""
+    domain = f"""(define (domain mentioned) (:predicates (p) (q))
+ (:durative-action watch :parameters () :duration (>= ?duration 1) :condition (over all (and {asked * count})) :effect ())
+ (:action give :effect (p)) (:action drop :effect (not (p))))"""
+    return domain, "(define (problem q) (:domain mentioned) (:init (p) (q)) (:goal ()))"
+
+
 def checks(program):
     """Verdicts on large plans, tasks and texts."""
     domain, problem = wide(1000)
@@ -298,6 +313,15 @@ def checks(program):
     judged(program, "the network of 512 steps side by side, on the same task", PLACES, problem, visits(), "net")
     domain, problem = watch(10_000)
     judged(program, "512 steps side by side whose invariants ask for 20,000 atoms", domain, problem, "".join(f"{k}: (watch) [600]\n" for k in range(512)))
+    domain, problem = renewed(32_000)
+    plan = "".join(f"{k}: (renew) [600]\n" for k in range(512))
+    judged(program, "512 invariants of 32,000 atoms that the ends of all add again", domain, problem, plan)
+    watching = "".join(f"{k}: (watch) [1000]\n" for k in range(256))
+    domain, problem = mentioned("(p)", 30_000)
+    judged(program, "256 invariants of 30,000 mentions of an atom that is added again", domain, problem, watching + "".join(f"{300 + k}: (give)\n" for k in range(256)))
+    domain, problem = mentioned("(or (q) (p))", 20_000)
+    changing = "".join(f"{300 + k}: ({'give' if k % 2 else 'drop'})\n" for k in range(256))
+    judged(program, "256 invariants of 20,000 mentions of one that comes and goes", domain, problem, watching + changing)
     orders(program)
     at_once(program)
     judged(program, "59,319 ground actions of three objects, one step", TRIPLES, triples_problem(39), "0: (a o0 o1 o2)\n")
@@ -366,6 +390,32 @@ def colliding(count):
         yield f"nxacfbaaaaaaaaaa1i42hk5t{free}{'a' * 16}"
 
 
+def variables_of_many_types(program, problem):
+    """Atoms over variables of long lists of types."""
+    kinds = short_names(10_000)
+    listed = f"(either {' '.join(kinds)})"
+    declared = f"(:types {' '.join(kinds)}) (:predicates (p ?x - {listed}))"
+    action = f"(:action a :parameters ({each('?y#', 30_000)} - {listed}) :precondition (and {each('(p ?y#)', 30_000)}) :effect ())"
+    judged(program, "30,000 variables of 10,000 types, each in an atom", f"(define (domain d) {declared} {action})", problem, "")
+    declared = f"(:types {' '.join(kinds)}) (:predicates (p {each('?x#', 60_000)} - {listed}))"
+    action = f"(:action a :parameters (?y - {listed}) :precondition (p {'?y ' * 60_000}) :effect ())"
+    judged(program, "an atom of 60,000 arguments, a variable of 10,000 types", f"(define (domain d) {declared} {action})", problem, "")
+    kinds = short_names(44_000)
+    declared = f"(:types {' '.join(kinds)}) (:predicates (p ?x - (either {' '.join(kinds)})))"
+    action = f"(:action a :parameters (?y - (either {kinds[3]} {kinds[-1]})) :precondition (and {'(p ?y) ' * 60_000}) :effect ())"
+    judged(program, "60,000 atoms of a variable of two types over a list of 44,000", f"(define (domain d) {declared} {action})", problem, "")
+    kinds = short_names(20_000)
+    declared = f"(:types {' '.join(kinds)}) (:predicates (p ?x - (either {' '.join(kinds)})))"
+    some = f"(exists (?z - (either {kinds[7]} {kinds[9]})) (p ?z)) "
+    action = f"(:action a :parameters () :precondition (and {some * 20_000}) :effect ())"
+    judged(program, "20,000 quantifiers of a variable of two types over a list of 20,000", f"(define (domain d) {declared} {action})", problem, "")
+    above = " ".join(f"c_{k} - c_{k + 1}" for k in range(10_000))
+    below = short_names(10_000)
+    declared = f"(:types {' '.join(below)} - c_0 {above}) (:predicates {' '.join(f'(p{k} ?a - c_{k})' for k in range(10_000))})"
+    action = f"(:action a :parameters (?y - (either {' '.join(below)})) :precondition (and {each('(p# ?y)', 10_000)}) :effect ())"
+    judged(program, "a variable of 10,000 types, 10,000 predicates of types above them", f"(define (domain d) {declared} {action})", problem, "")
+
+
 def worst_reads(program):
     """Texts that were chosen to be slow, each of a megabyte at most."""
     problem = "(define (problem q) (:domain d) (:goal ()))"
@@ -380,9 +430,8 @@ def worst_reads(program):
     judged(program, "50,000 types below one of 300,000 letters", f"(define (domain d) (:types {each('t#', 50_000)} - {name}))", problem, "")
     below = " ".join(short_names(115_000))
     judged(program, "115,000 types below one of 500,000 letters", f"(define (domain d) (:types {below} - {'t' * 500_000}))", problem, "")
-    kinds = short_names(14_000)
-    judged(program, "100 atoms over two lists of 14,000 types, in two orders", two_orders(kinds, 100), problem, "")
-    judged(program, "1,000 atoms over two lists of 14,000 types, in two orders", two_orders(kinds, 1_000), problem, "")
+    judged(program, "90,000 atoms over two lists of 20,000 types, in two orders", two_orders(short_names(20_000), 90_000), problem, "")
+    variables_of_many_types(program, problem)
     kinds = short_names(50_000)
     judged(program, "80,000 atoms of a constant over a list of 50,000 types", of_any(kinds, "?v", "(p c) " * 80_000), problem, "")
     judged(program, "the same, of one below the last of them", of_any(kinds, "?v", "(p d) " * 80_000), problem, "")
@@ -580,10 +629,11 @@ def roads(count):
     return ROADS, f"(define (problem p) (:domain roads) (:objects {places} - place) (:init (at o0) {chain}) (:goal (at o9)))\n"
 
 
-def comparisons(places, count):
-    """Actions that all raise one number, one for each pair of so many objects, and a goal of so many comparisons of it."""
+def comparisons(places, count, numbers=3):
+    """Actions that all raise one number, one for each pair of so many objects, and a goal of so many comparisons of it, with so
+    many numbers."""
     domain = "(define (domain sums) (:functions (sum)) (:action raise :parameters (?x ?y) :precondition () :effect (increase (sum) 1)))"
-    goal = " ".join(f"(>= (sum) {k % 3})" for k in range(count))
+    goal = " ".join(f"(>= (sum) {k % numbers})" for k in range(count))
     return domain, f"(define (problem q) (:domain sums) (:objects {each('o#', places)}) (:init (= (sum) 0)) (:goal (and {goal})))"
 
 
@@ -633,10 +683,12 @@ def searches(program):
     judged(program, "a goal of 5,001 conjuncts, a budget of 300", *many_goals(5000), None, "plan", ("--budget", "300"))
     judged(program, "a goal of 5,001 conjuncts, the default budget", *many_goals(5000), None, "plan")
     judged(program, "20,000 comparisons of a number that 62,500 actions raise", *comparisons(250, 20_000), None, "plan", ("--budget", "0"))
+    judged(program, "20,000 comparisons of a number that as many actions raise, one node", *comparisons(142, 20_000, 20_000), None, "plan", ("--budget", "1"))
     judged(program, "20 lamps behind 43 atoms that stay, a budget of 1,000,000", *moving_lamps(20, 43), None, "plan", ("--budget", "1000000"))
     judged(program, "10 actions of 600 atoms each, until no node is left", *painters(10, 600), None, "plan", ("--budget", "1000000"))
     judged(program, "100 actions of 10,000 atoms each that all interfere, until no node is left", *rivals(100, 5000), None, "plan", ("--horizon", "0"))
     judged(program, "the same with time to go on, a budget of 10,000", *rivals(100, 5000), None, "plan", ("--budget", "10000"))
+    judged(program, "the same, the default budget", *rivals(100, 5000), None, "plan")
     judged(program, "400 things to be made beside 57,600 actions that can always start", *makers(400, 240), None, "plan")
     judged(program, "65,025 actions that share a condition of 8,000 atoms", *sharers(255, 8000), None, "plan")
     judged(program, "65,025 actions that share one of 8,000 atoms, out of reach", *sharers(255, 8000, 1), None, "plan")
