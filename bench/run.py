@@ -390,30 +390,39 @@ def colliding(count):
         yield f"nxacfbaaaaaaaaaa1i42hk5t{free}{'a' * 16}"
 
 
+def of_list(kinds, variables="?x"):
+    """Types, and a predicate whose parameters may be of any of them."""
+    listed = " ".join(kinds)
+    return f"(:types {listed}) (:predicates (p {variables} - (either {listed})))"
+
+
 def variables_of_many_types(program, problem):
     """Atoms over variables of long lists of types."""
+
+    def asks(name, declared, parameters, condition):
+        action = f"(:action a :parameters ({parameters}) :precondition {condition} :effect ())"
+        judged(program, name, f"(define (domain d) {declared} {action})", problem, "")
+
     kinds = short_names(10_000)
     listed = f"(either {' '.join(kinds)})"
-    declared = f"(:types {' '.join(kinds)}) (:predicates (p ?x - {listed}))"
-    action = f"(:action a :parameters ({each('?y#', 30_000)} - {listed}) :precondition (and {each('(p ?y#)', 30_000)}) :effect ())"
-    judged(program, "30,000 variables of 10,000 types, each in an atom", f"(define (domain d) {declared} {action})", problem, "")
-    declared = f"(:types {' '.join(kinds)}) (:predicates (p {each('?x#', 60_000)} - {listed}))"
-    action = f"(:action a :parameters (?y - {listed}) :precondition (p {'?y ' * 60_000}) :effect ())"
-    judged(program, "an atom of 60,000 arguments, a variable of 10,000 types", f"(define (domain d) {declared} {action})", problem, "")
+    asks("30,000 variables of 10,000 types, each in an atom", of_list(kinds), f"{each('?y#', 30_000)} - {listed}", f"(and {each('(p ?y#)', 30_000)})")
+    asks("an atom of 60,000 arguments, a variable of 10,000 types", of_list(kinds, each("?x#", 60_000)), f"?y - {listed}", f"(p {'?y ' * 60_000})")
     kinds = short_names(44_000)
-    declared = f"(:types {' '.join(kinds)}) (:predicates (p ?x - (either {' '.join(kinds)})))"
-    action = f"(:action a :parameters (?y - (either {kinds[3]} {kinds[-1]})) :precondition (and {'(p ?y) ' * 60_000}) :effect ())"
-    judged(program, "60,000 atoms of a variable of two types over a list of 44,000", f"(define (domain d) {declared} {action})", problem, "")
+    asks("60,000 atoms of a variable of two types over a list of 44,000", of_list(kinds), f"?y - (either {kinds[3]} {kinds[-1]})", f"(and {'(p ?y) ' * 60_000})")
     kinds = short_names(20_000)
-    declared = f"(:types {' '.join(kinds)}) (:predicates (p ?x - (either {' '.join(kinds)})))"
     some = f"(exists (?z - (either {kinds[7]} {kinds[9]})) (p ?z)) "
-    action = f"(:action a :parameters () :precondition (and {some * 20_000}) :effect ())"
-    judged(program, "20,000 quantifiers of a variable of two types over a list of 20,000", f"(define (domain d) {declared} {action})", problem, "")
+    asks("20,000 quantifiers of a variable of two types over a list of 20,000", of_list(kinds), "", f"(and {some * 20_000})")
     above = " ".join(f"c_{k} - c_{k + 1}" for k in range(10_000))
-    below = short_names(10_000)
-    declared = f"(:types {' '.join(below)} - c_0 {above}) (:predicates {' '.join(f'(p{k} ?a - c_{k})' for k in range(10_000))})"
-    action = f"(:action a :parameters (?y - (either {' '.join(below)})) :precondition (and {each('(p# ?y)', 10_000)}) :effect ())"
-    judged(program, "a variable of 10,000 types, 10,000 predicates of types above them", f"(define (domain d) {declared} {action})", problem, "")
+    below = " ".join(short_names(10_000))
+    declared = f"(:types {below} - c_0 {above}) (:predicates {' '.join(f'(p{k} ?a - c_{k})' for k in range(10_000))})"
+    asks("a variable of 10,000 types, 10,000 predicates of types above them", declared, f"?y - (either {below})", f"(and {each('(p# ?y)', 10_000)})")
+    kinds = short_names(20)
+    condition = f"(and {('(p ' + '?y ' * 1_000 + ')') * 320})"
+    for _ in range(58):
+        condition = f"(forall (?y - (either {' '.join(kinds)})) {condition})"
+    parameters = each("?a#", 1_000)
+    declared = f"{of_list(kinds, parameters)} (:functions (p {parameters} - (either {' '.join(kinds)})))"
+    asks("320,000 arguments below 58 quantifiers of lists of types", declared, "", condition)
 
 
 def worst_reads(program):
