@@ -1,4 +1,8 @@
-//! Terms and atoms.
+//! Terms and atoms, and what words are names.
+
+ghost use Rattle.std.specs.Prelude.{◌≡◌};
+ghost use Rattle.std.specs.List.{list_all};
+ghost use Rattle.tp_ast.specs.Terms.{is_inner, is_name};
 
 /// An object by its name, or a variable.
 #[derive(Debug, PartialEq, Eq, Hash, Drop)]
@@ -12,4 +16,20 @@ pub enum Term {
 pub struct Atom {
     pub name: String,
     pub terms: Vec<Term>,
+}
+
+fn all_inner(bytes: &[u8]) -> bool
+    ensures { result ≡ list_all is_inner bytes.now }
+{
+    bytes.iter().all(|b| b.is_ascii_alphanumeric() || (*b == b'-' || *b == b'_'))
+}
+
+/// Whether a word is a name: a letter, and then letters, digits, '-' and '_'.
+pub fn is_name(word: &[u8]) -> bool
+    ensures { result ≡ is_name word.now }
+{
+    match word {
+        [] => false,
+        [first, rest @ ..] => first.is_ascii_alphabetic() && all_inner(rest),
+    }
 }

@@ -9,7 +9,7 @@ ghost use Rattle.tp_happen.specs.PlanForms.{form_view, head_of, words_of, bracke
 
 use crate::tokens::{Token, is_bare, next_token, take_sign, take_word};
 use std::alloc::{AllocError, Global};
-use tp_names::term::is_name;
+use tp_ast::term::is_name;
 use tp_text::has_time_form;
 
 /// What stands on a line: `TIME: (WORD ..)`, and `[DURATION]` or not.

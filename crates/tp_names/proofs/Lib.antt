@@ -1,12 +1,5 @@
-pub mod OnTerms
-pub mod OnNames
 pub mod OnSymbols
 pub mod OnFits
 pub mod OnScope
 pub mod OnArguments
-pub mod OnTypedLists
-pub mod OnSignatures
-pub mod OnTypes
-pub mod OnDeclared
-pub mod OnRowViews
 pub mod OnNear

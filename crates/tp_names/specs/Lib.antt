@@ -1,5 +1,3 @@
-pub mod RowViews
-pub mod SignatureViews
 pub mod SymbolViews
 pub mod Bound
 pub mod Fits

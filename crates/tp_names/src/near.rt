@@ -21,6 +21,9 @@ const FEW: usize = 16;
 // So far up from a type it is looked for.
 const STEPS: usize = 64;
 
+// So many steps at most are gone up from the types of objects before anything is asked.
+const MOST_STEPS: usize = 4_000_000;
+
 /// For each parameter of a signature, guesses where types stand among its own, if these are many.
 pub type Near = Vec<Option<Rc<Guesses>>>;
 
@@ -44,12 +47,81 @@ fn last_near(near: &[Option<Rc<Guesses>>]) -> Option<&Rc<Guesses>> {
     }
 }
 
+/// The types, and those of them of which objects are.
+#[derive(Drop)]
+struct Kinds<'t, 'a> {
+    types: &'t Types<'a>,
+    names: Vec<&'a str>,
+}
+
+fn push_kinds<'a>(names: &mut Vec<&'a str>, objects: &'a [Typed]) -> Result<(), AllocError> {
+    let mut last = "";
+    for object in objects {
+        for name in object.type_names() {
+            if name.len() > STEPS || name.as_str() != last {
+                names.push(name.as_str())?;
+                last = name.as_str();
+            }
+        }
+    }
+    Ok(())
+}
+
+// Where in a list of types the first one stands that is above a type, if it is found in so many steps, and how many it took.
+fn place_above(
+    types: &Types,
+    below: &str,
+    parameter: &[String],
+    guesses: &Guesses,
+    steps: usize,
+) -> (Option<usize>, usize) {
+    let mut current = below;
+    let mut taken = 0usize;
+    for _ in 0..steps {
+        // A long name takes as long as some steps.
+        taken = taken.saturating_add((current.len() / STEPS).saturating_add(1));
+        let place = guesses.guess(current);
+        if stands_at(parameter, place, current) {
+            return (place, taken);
+        }
+        if taken >= steps {
+            return (None, taken);
+        }
+        let Some(parent) = parent_of(current, types) else {
+            return (None, taken);
+        };
+        current = parent.as_str();
+    }
+    (None, taken)
+}
+
+// Notes for the types of objects where in a list one above them stands, in so many steps. What is left of these.
+fn note_kinds(guesses: &mut Guesses, kinds: &Kinds, parameter: &[String], steps: usize) -> usize {
+    let mut left = steps;
+    for name in kinds.names.as_slice() {
+        if left == 0 {
+            return 0;
+        }
+        left -= 1;
+        if guesses.guess(*name).is_none() {
+            let (found, taken) = place_above(kinds.types, *name, parameter, &*guesses, left);
+            left = left.saturating_sub(taken);
+            if let Some(place) = found {
+                guesses.note(*name, place);
+            }
+        }
+    }
+    left
+}
+
 // Guesses for a parameter: those of the one before, if it was given its types together with that one.
 fn guesses_for(
     alloc: Global,
+    kinds: &Kinds,
     near: &[Option<Rc<Guesses>>],
     mark: bool,
     parameter: &Typed,
+    left: &mut usize,
 ) -> Result<Option<Rc<Guesses>>, AllocError> {
     if !is_long(parameter) {
         return Ok(None);
@@ -59,15 +131,23 @@ fn guesses_for(
             return Ok(Some(last.clone()?));
         }
     }
-    let guesses = Guesses::new(alloc, parameter.type_names())?;
+    let names = parameter.type_names();
+    let mut guesses = Guesses::with_room(alloc, names, kinds.names.len().min(names.len()))?;
+    *left = note_kinds(&mut guesses, kinds, names, *left);
     Ok(Some(Rc::new(alloc, guesses)?))
 }
 
-fn near_of(alloc: Global, parameters: &TypedList) -> Result<Near, AllocError> {
+fn near_of(
+    alloc: Global,
+    kinds: &Kinds,
+    parameters: &TypedList,
+    left: &mut usize,
+) -> Result<Near, AllocError> {
     let marks = parameters.marks();
     let mut near = Vec::new(alloc);
     for (place, parameter) in parameters.as_slice().iter().enumerate() {
-        let guesses = guesses_for(alloc, &near, is_marked(marks, place), parameter)?;
+        let mark = is_marked(marks, place);
+        let guesses = guesses_for(alloc, kinds, &near, mark, parameter, left)?;
         near.push(guesses)?;
     }
     Ok(near)
@@ -84,14 +164,16 @@ fn has_long_list(signature: &Signature) -> bool {
 
 fn by_names<'a>(
     alloc: Global,
+    kinds: &Kinds,
     signatures: &'a [Signature],
+    left: &mut usize,
 ) -> Result<BTreeMap<&'a str, Near>, AllocError> {
     let mut by_name = BTreeMap::new(alloc);
     for signature in signatures {
         if has_long_list(signature) {
             by_name.insert(
                 signature.name.as_str(),
-                near_of(alloc, &signature.parameters)?,
+                near_of(alloc, kinds, &signature.parameters, left)?,
             )?;
         }
     }
@@ -115,15 +197,36 @@ fn most_of_any(signatures: &[Signature]) -> usize {
     most
 }
 
+// The types of objects, if a list of so many types is long.
+fn kinds_of<'t, 'a>(
+    alloc: Global,
+    types: &'t Types<'a>,
+    objects: [&'a [Typed]; 2],
+    most: usize,
+) -> Result<Kinds<'t, 'a>, AllocError> {
+    let mut names = Vec::new(alloc);
+    if most > FEW {
+        let [constants, own] = objects;
+        push_kinds(&mut names, constants)?;
+        push_kinds(&mut names, own)?;
+    }
+    Ok(Kinds { types, names })
+}
+
 impl<'a> Hints<'a> {
+    /// For these predicates and functions, beside these types and objects of them.
     pub fn new(
         alloc: Global,
+        types: &Types<'a>,
+        objects: [&'a [Typed]; 2],
         predicates: &'a [Signature],
         functions: &'a [Signature],
     ) -> Result<Self, AllocError> {
         let most = most_of_any(predicates).max(most_of_any(functions));
-        let predicates = by_names(alloc, predicates)?;
-        let functions = by_names(alloc, functions)?;
+        let kinds = kinds_of(alloc, types, objects, most)?;
+        let mut left = MOST_STEPS;
+        let predicates = by_names(alloc, &kinds, predicates, &mut left)?;
+        let functions = by_names(alloc, &kinds, functions, &mut left)?;
         Ok(Hints {
             predicates,
             functions,
@@ -187,19 +290,36 @@ fn guessed_place(
     None
 }
 
-// Whether a type is seen by a guess to be or be below one of a list.
-fn is_near(types: &Types, below: &str, parameter: &[String], guesses: &Guesses) -> bool
+// Whether a type is or is below the one at a place of a list.
+fn is_below_at(types: &Types, below: &str, parameter: &[String], place: Option<usize>) -> bool
     ensures { result ≡ true → list_any
         (λ p. at_or_below (types_view types.now) (length (types_view types.now)) below.now p)
         (map string_bytes parameter.now) ≡ true }
 {
-    let Some(place) = guessed_place(types, below, parameter, guesses) else {
+    let Some(place) = place else {
         return false;
     };
     let Some(above) = parameter.get(place) else {
         return false;
     };
     is_below(types, below, above.as_str())
+}
+
+// Whether a type is seen by a guess to be or be below one of a list.
+fn is_near(types: &Types, below: &str, parameter: &[String], guesses: &Guesses) -> bool
+    ensures { result ≡ true → list_any
+        (λ p. at_or_below (types_view types.now) (length (types_view types.now)) below.now p)
+        (map string_bytes parameter.now) ≡ true }
+{
+    if is_below_at(types, below, parameter, guesses.guess(below)) {
+        return true;
+    }
+    is_below_at(
+        types,
+        below,
+        parameter,
+        guessed_place(types, below, parameter, guesses),
+    )
 }
 
 // Whether each of some types is seen to fit by a guess.

@@ -18,13 +18,13 @@ use crate::levels::Levels;
 pub use crate::levels::Scope;
 use crate::near::{lists_fit, near_at};
 use crate::symbols::{Kind, Symbols, object_types, signature_in};
-use crate::term::{name_of, terms_of};
-use crate::typed::place;
 use crate::variables::Variables;
 use std::alloc::{AllocError, Global};
 use tp_ast::fault::SyntaxFault;
 use tp_ast::symbols::Signature;
 use tp_ast::term::{Atom, Term};
+use tp_declarations::term::{name_of, terms_of};
+use tp_declarations::typed::place;
 use tp_text::{Token, Tree};
 use tp_types::guesses::Guesses;
 

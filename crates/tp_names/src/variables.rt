@@ -5,10 +5,12 @@ ghost use Rattle.tp_ast.specs.Symbols.{typed_view, types_of};
 ghost use Rattle.tp_types.specs.Tables.{item_of};
 ghost use Rattle.tp_types.specs.OwnTables.{variable_name, IsTextTable, IsTextTableIfAny};
 ghost use Rattle.tp_names.specs.SymbolViews.{symbols_view};
+ghost use Rattle.tp_names.specs.ScopeViews.{symbols_of};
 ghost use Rattle.tp_names.specs.Fits.{parameter_types, fit_if_any, AllFit, AreStarts};
 
-use crate::asked::{Asked, takes_long};
+use crate::asked::{Ask, asked_from, asks_of, body_of, takes_long};
 use crate::fits::{Fit, is_kept, kept_of, starts_of};
+use crate::levels::{Levels, Scope};
 use crate::near::most_types;
 use crate::symbols::{Kind, Symbols};
 use std::alloc::{AllocError, Global};
@@ -32,6 +34,8 @@ pub struct Variables<'s, 'd> {
     most: usize,
     places: Option<BTreeMap<String, usize>>,
     starts: Vec<usize>,
+    /// What the text asks in which they may be named, if it was not looked through for outer ones.
+    asks: Option<Vec<Ask<'d>>>,
     fits: Vec<Fit<'d>>,
 }
 
@@ -93,48 +97,112 @@ fn starts_if(alloc: Global, items: &TypedList, is_asked: bool) -> Result<Vec<usi
     }
 }
 
-// Which of the variables fit parameters that a text asks them for.
-fn fits_of<'a, 'b>(
+// What was found that a text asks, for the innermost variables for which one was looked through.
+fn asks_in<'x, 'd>(levels: &'x Levels<'_, '_, 'd>) -> Option<&'x [Ask<'d>]> {
+    match levels {
+        Levels::Empty => None,
+        Levels::Inner(variables, outer) => match &variables.asks {
+            Some(asks) => Some(asks.as_slice()),
+            None => asks_in(outer),
+        },
+    }
+}
+
+// What a text asks, if that is of use and is not found yet.
+fn asks_if<'d>(
     alloc: Global,
-    symbols: &'b Symbols<'a>,
-    items: &'b TypedList,
-    places: Option<&'b BTreeMap<String, usize>>,
-    starts: &'b [usize],
+    scope: &Scope<'_, '_, 'd>,
+    items: &TypedList,
     text: &[Tree],
-) -> Result<Vec<Fit<'a>>, AllocError>
+    is_asked: bool,
+) -> Result<Option<Vec<Ask<'d>>>, AllocError> {
+    if !is_asked || asks_in(&scope.levels).is_some() {
+        return Ok(None);
+    }
+    let asks = asks_of(alloc, scope.symbols, items.as_slice(), text)?;
+    Ok(Some(asks))
+}
+
+// The variables and the parameters of which one is asked for the other, by the first that were given their types together.
+fn fits_asked<'d>(
+    alloc: Global,
+    asks: &[Ask<'d>],
+    starts: &[usize],
+) -> Result<Vec<Fit<'d>>, AllocError> {
+    let mut asked = Vec::new(alloc);
+    for ask in asks {
+        if let Some(start) = starts.get(ask.variable) {
+            asked.push(Fit {
+                kind: ask.kind,
+                name: ask.name,
+                variable: *start,
+                parameter: ask.parameter,
+            })?;
+        }
+    }
+    Ok(asked)
+}
+
+// Which of the variables fit parameters that a text asks them for.
+fn fits_of<'d>(
+    alloc: Global,
+    symbols: &Symbols<'d>,
+    items: &TypedList,
+    starts: &[usize],
+    asks: &[Ask<'d>],
+    text: &[Tree],
+) -> Result<Vec<Fit<'d>>, AllocError>
     ensures { IfOk result (λ v. AllFit (symbols_view symbols.now) items.now.items v.items) }
 {
-    let mut asked = Vec::new(alloc);
-    if let Some(places) = places {
-        let mut asking = Asked::new(alloc, symbols, items, places, starts);
-        asking.add_trees(alloc, text)?;
-        asked = asking.into_found();
-    }
+    let asked = fits_asked(alloc, asked_from(asks, body_of(text)), starts)?;
     kept_of(alloc, symbols, items.as_slice(), asked)
 }
 
+// The same, by what is found for these variables or for outer ones.
+fn fits_known<'d>(
+    alloc: Global,
+    scope: &Scope<'_, '_, 'd>,
+    items: &TypedList,
+    starts: &[usize],
+    asks: Option<&Vec<Ask<'d>>>,
+    text: &[Tree],
+) -> Result<Vec<Fit<'d>>, AllocError>
+    ensures { IfOk result (λ v. AllFit (symbols_of scope.now) items.now.items v.items) }
+{
+    if let Some(own) = asks {
+        return fits_of(alloc, scope.symbols, items, starts, own.as_slice(), text);
+    }
+    match asks_in(&scope.levels) {
+        Some(outer) => fits_of(alloc, scope.symbols, items, starts, outer, text),
+        None => Ok(Vec::new(alloc)),
+    }
+}
+
 impl<'s, 'd> Variables<'s, 'd> {
-    /// Variables over these symbols, that are named in these trees.
+    /// Variables inside a scope, over the same symbols, that are named in these trees.
     pub fn new(
         alloc: Global,
-        symbols: &'s Symbols<'d>,
+        scope: &Scope<'_, 's, 'd>,
         items: TypedList,
         text: &[Tree],
     ) -> Result<Variables<'s, 'd>, AllocError>
-        ensures symbols { IfOk result (λ v. v.symbols ≡ symbols_view symbols.now) }
+        ensures symbols { IfOk result (λ v. v.symbols ≡ symbols_of scope.now) }
         ensures items { IfOk result (λ v. v.items ≡ items.items) }
     {
+        let symbols = scope.symbols;
         let most = most_types(items.as_slice());
         let is_asked = takes_long(most, symbols.hints.most_types());
         let places = places_of(alloc, items.as_slice(), is_asked)?;
         let starts = starts_if(alloc, &items, is_asked)?;
-        let fits = fits_of(alloc, &*symbols, &items, places.as_ref(), &starts, text)?;
+        let asks = asks_if(alloc, scope, &items, text, is_asked)?;
+        let fits = fits_known(alloc, scope, &items, &starts, asks.as_ref(), text)?;
         Ok(Variables {
             symbols,
             items,
             most,
             places,
             starts,
+            asks,
             fits,
         })
     }

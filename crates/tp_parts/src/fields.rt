@@ -11,7 +11,7 @@ use crate::keyed::{ItemKind, Keyed, find, repeated};
 use std::alloc::Global;
 use tp_ast::fault::SyntaxFault;
 use tp_ast::words::{Key, key_of};
-use tp_names::typed::place;
+use tp_declarations::typed::place;
 use tp_text::Tree;
 
 /// A field: a word and its value, in the list of an action.

@@ -17,13 +17,13 @@ use std::alloc::Global;
 use tp_ast::cond::Cond;
 use tp_ast::expr::Expr;
 use tp_ast::fault::{LeftOutPart, SyntaxFault};
-use tp_ast::term::{Atom, Term};
+use tp_ast::term::{Atom, Term, is_name};
 use tp_ast::typed_list::TypedList;
 use tp_ast::words::{Comparison, CondKind, CondWord, cond_word_of};
+use tp_declarations::term::{is_variable, terms_of};
+use tp_declarations::typed::{parameters_at, place};
 use tp_names::scope::{Scope, argument_known, atom_in};
 use tp_names::symbols::Kind;
-use tp_names::term::{is_name, is_variable, terms_of};
-use tp_names::typed::{parameters_at, place};
 use tp_names::variables::Variables;
 use tp_text::{Token, Tree};
 
@@ -301,7 +301,7 @@ fn read_bound(
     if !more.is_empty() {
         return Err(SyntaxFault::Shape(at));
     }
-    let known = Variables::new(alloc, scope.symbols, vars, body)?;
+    let known = Variables::new(alloc, scope, vars, body)?;
     let wider = Scope::inside(&*scope, &known);
     let inner = read_cond(alloc, tree, &wider, at)?;
     bound(alloc, head, known.into_items(), inner)

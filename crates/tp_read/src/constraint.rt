@@ -17,7 +17,7 @@ use tp_ast::fault::{LeftOutPart, SyntaxFault};
 use tp_ast::words::{
     Comparison, CondWord, ConstraintForm, cond_word_of, constraint_form_of, is_word,
 };
-use tp_names::lists::both;
+use tp_declarations::lists::both;
 use tp_names::scope::Scope;
 use tp_text::{Token, Tree};
 

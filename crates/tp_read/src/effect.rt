@@ -19,7 +19,7 @@ use tp_ast::fault::{LeftOutPart, SyntaxFault};
 use tp_ast::joined::Joined;
 use tp_ast::term::Atom;
 use tp_ast::words::{EffectWord, Writing, effect_word_of};
-use tp_names::lists::{both, only};
+use tp_declarations::lists::{both, only};
 use tp_names::scope::{Scope, atom_in};
 use tp_names::symbols::Kind;
 use tp_text::{Token, Tree};

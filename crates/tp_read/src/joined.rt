@@ -15,8 +15,8 @@ use tp_ast::fault::SyntaxFault;
 use tp_ast::joined::Joined;
 use tp_ast::symbols::Typed;
 use tp_ast::words::{Joint, joint_of};
+use tp_declarations::typed::parameters_at;
 use tp_names::scope::Scope;
-use tp_names::typed::parameters_at;
 use tp_names::variables::Variables;
 use tp_text::{Token, Tree};
 
@@ -84,7 +84,7 @@ fn read_bound<P: Inner>(
     if !more.is_empty() {
         return Err(SyntaxFault::Shape(at));
     }
-    let known = Variables::new(alloc, scope.symbols, vars, body)?;
+    let known = Variables::new(alloc, scope, vars, body)?;
     let wider = Scope::inside(&*scope, &known);
     let inner = read_joined(alloc, tree, duration, &wider, at)?;
     Ok(Joined::Forall(known.into_items(), Box::new(alloc, inner)?))

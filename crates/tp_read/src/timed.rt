@@ -19,7 +19,7 @@ use tp_ast::fault::{LeftOutPart, SyntaxFault};
 use tp_ast::joined::Joined;
 use tp_ast::timed::{Timed, TimedCond, TimedEffect};
 use tp_ast::words::{TimeSpecifier, is_word, specifier_of};
-use tp_names::lists::both;
+use tp_declarations::lists::both;
 use tp_names::scope::Scope;
 use tp_text::{Token, Tree};
 

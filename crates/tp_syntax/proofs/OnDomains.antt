@@ -16,7 +16,7 @@ use Rattle.tp_ast.specs.Symbols.{Name, Parent, Declared, SignatureView, Symbols}
 use Rattle.tp_ast.specs.TypedLists.{has_twice}
 use Rattle.tp_ast.specs.Actions.{Action}
 use Rattle.tp_ast.specs.Domains.{Domain, SectionBody, requirements_in, types_in, objects_in, section, action_at, actions_in, sections_of, each_once, named, defined, domain_with, domain_of}
-use Rattle.tp_names.specs.SignatureViews.{predicates_in, functions_in}
+use Rattle.tp_declarations.specs.SignatureViews.{predicates_in, functions_in}
 use Rattle.tp_parts.specs.SectionViews.{section_body_view, action_kind, actions_once, checked_sections, domain_symbols}
 use Rattle.tp_ast.specs.declared.words.Section.{Section}
 use Rattle.tp_ast.specs.declared.words.Section.TheVariants as sections

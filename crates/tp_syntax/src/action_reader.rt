@@ -29,10 +29,10 @@ use tp_ast::joined::Joined;
 use tp_ast::timed::{TimedCond, TimedEffect};
 use tp_ast::typed_list::TypedList;
 use tp_ast::words::Key;
+use tp_declarations::term::name_of;
+use tp_declarations::typed::parameters_at;
 use tp_names::scope::Scope;
 use tp_names::symbols::Symbols;
-use tp_names::term::name_of;
-use tp_names::typed::parameters_at;
 use tp_names::variables::Variables;
 use tp_parts::fields::{Field, find_field, read_fields};
 use tp_read::cond::read_cond;
@@ -197,7 +197,8 @@ pub fn read_action(
     let name = name_of(alloc, word.text, at)?;
     let fields = read_fields(alloc, lasts, rest, at)?;
     let parameters = parameters(alloc, &symbols.types, &fields, at)?;
-    let known = Variables::new(alloc, symbols, parameters, rest)?;
+    let none = Scope::of(symbols);
+    let known = Variables::new(alloc, &none, parameters, rest)?;
     let body = body(alloc, lasts, &known, &fields, at)?;
     Ok(Action {
         name,

@@ -15,7 +15,7 @@ use tp_ast::fault::{LeftOutPart, SyntaxFault};
 use tp_ast::problem::Initial;
 use tp_ast::term::Atom;
 use tp_ast::words::is_word;
-use tp_names::lists::{both, only};
+use tp_declarations::lists::{both, only};
 use tp_names::scope::{Scope, atom_in};
 use tp_names::symbols::{Kind, Symbols};
 use tp_read::effect::atom_at;

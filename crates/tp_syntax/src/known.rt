@@ -26,7 +26,8 @@ pub fn with_signatures<'d>(
         (types_view types.entry) (map typed_view constants.entry ++ map typed_view objects.entry)
         (map signature_view predicates.now) (map signature_view functions.now)) }
 {
-    let hints = Hints::new(alloc, predicates, functions)?;
+    let declared = [constants.items(), objects.items()];
+    let hints = Hints::new(alloc, &types, declared, predicates, functions)?;
     let predicates = Lookup::new(alloc, predicates)?;
     let functions = Lookup::new(alloc, functions)?;
     Ok(Symbols {

@@ -61,17 +61,34 @@ fn keep(slots: &mut [Slot], name: &str, place: u32) {
 impl Guesses {
     /// Where these names stand.
     pub fn new<T: Named>(alloc: Global, items: &[T]) -> Result<Self, AllocError> {
+        Guesses::with_room(alloc, items, 0)
+    }
+
+    /// The same, with room for so many others that are noted later.
+    pub fn with_room<T: Named>(
+        alloc: Global,
+        items: &[T],
+        more: usize,
+    ) -> Result<Self, AllocError> {
         let open = Slot {
             mix: OPEN,
             place: 0,
         };
-        let mut slots = vec![in alloc; open; items.len().saturating_mul(SLOTS_EACH)]?;
+        let names = items.len().saturating_add(more);
+        let mut slots = vec![in alloc; open; names.saturating_mul(SLOTS_EACH)]?;
         for (place, item) in items.iter().enumerate() {
             if let Ok(place) = u32::try_from(place) {
                 keep(&mut slots, item.name(), place);
             }
         }
         Ok(Guesses { slots })
+    }
+
+    /// Notes where to look for a name, if there is room.
+    pub fn note(&mut self, name: &str, place: usize) {
+        if let Ok(place) = u32::try_from(place) {
+            keep(self.slots.as_mut_slice(), name, place);
+        }
     }
 
     /// Where the name may stand.

@@ -111,6 +111,13 @@ impl<'a, T: Named> Lookup<'a, T> {
         })
     }
 
+    /// The items, as they are declared.
+    pub fn items(&self) -> &'a [T]
+        ensures { result.now ≡ self.now }
+    {
+        self.items
+    }
+
     /// The first item of a name.
     pub fn find(&self, name: &str) -> Option<&'a T>
         ensures { option_map (λ t. t.now) result ≡ item_of T.named name.now self.now }

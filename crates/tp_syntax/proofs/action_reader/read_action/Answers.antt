@@ -69,7 +69,7 @@ returns-in_err-body c =
     ∙ ap (λ (o : Option (List Declared)). o >>= after_parameters σ lasts n (map field_view c.deref.result.now)) c.in_ok-parameters.ensures
     ∙ ap (λ (ws : List Declared). option_map (with_body n vs) (body_of σ lasts ws (map field_view c.deref.result.now))) (sym (ap (map typed_view) c.in_ok-known.ensures.items))
     ∙ ap (λ (gs : List Field). option_map (with_body n vs) (body_of σ lasts ds gs)) (ap (map field_view) c.deref.ensures.value ∙ sym (ap (map field_view) c.deref-2.ensures.value))
-    ∙ ap (λ (τ : Symbols). option_map (with_body n vs) (body_of τ lasts ds (map field_view c.deref-2.result.now))) (sym c.in_ok-known.ensures.symbols) in
+    ∙ ap (λ (τ : Symbols). option_map (with_body n vs) (body_of τ lasts ds (map field_view c.deref-2.result.now))) (sym (c.in_ok-known.ensures.symbols ∙ c.of-none.ensures.symbols)) in
     let p = err_from_is_err_and c.from_residual-in_err-body.result c.from_residual-in_err-body.ensures.1 in
     rw (p.1, p.2) (fails_same c.in_err-body.field-0.0 _ _ is (fails_map (with_body n vs) c.in_err-body.field-0.0 _ c.in_err-body.ensures))
 
@@ -87,6 +87,6 @@ returns c =
     ∙ ap (λ (o : Option (List Declared)). o >>= after_parameters σ lasts n (map field_view c.deref.result.now)) c.in_ok-parameters.ensures
     ∙ ap (λ (ws : List Declared). option_map (with_body n vs) (body_of σ lasts ws (map field_view c.deref.result.now))) (sym (ap (map typed_view) c.in_ok-known.ensures.items))
     ∙ ap (λ (gs : List Field). option_map (with_body n vs) (body_of σ lasts ds gs)) (ap (map field_view) c.deref.ensures.value ∙ sym (ap (map field_view) c.deref-2.ensures.value))
-    ∙ ap (λ (τ : Symbols). option_map (with_body n vs) (body_of τ lasts ds (map field_view c.deref-2.result.now))) (sym c.in_ok-known.ensures.symbols)
+    ∙ ap (λ (τ : Symbols). option_map (with_body n vs) (body_of τ lasts ds (map field_view c.deref-2.result.now))) (sym (c.in_ok-known.ensures.symbols ∙ c.of-none.ensures.symbols))
     ∙ ap (option_map (with_body n vs)) c.in_ok-body.ensures
     ∙ ap (λ (ts : List Typed). Some (with_body n (map typed_view ts) (body_view c.in_ok-body.body))) (sym (c.into_items.ensures ∙ c.in_ok-known.ensures.items))
