@@ -1,4 +1,5 @@
 mod OnFitting
+mod OnKinds
 mod OnIndex
 mod OnPlaces
 mod OnNaming

@@ -6,6 +6,7 @@ ghost use Rattle.tp_types.specs.Tables.{IsTable};
 ghost use Rattle.tp_types.specs.TypeViews.{types_view};
 ghost use Rattle.tp_objects.specs.Declarations.{fitting_among};
 ghost use Rattle.tp_objects.specs.Index.{slots_of, IsIndex};
+ghost use Rattle.tp_objects.specs.Kinds.{AreAlike};
 ghost use Rattle.tp_objects.specs.Listed.{listed_view};
 ghost use Rattle.tp_objects.specs.Places.{has, place_fits, is_within, is_wanted, is_covered};
 
@@ -65,6 +66,7 @@ fn gather(
     wanted: &[String],
     entries: &[(usize, usize, usize)],
 ) -> Result<Vec<usize>, AllocError>
+    requires { AreAlike (listed_view listed) index.now.kinds.items }
     ensures fit { IfOk result (λ v. (k : ℕ) → has v.items k ≡ true
         → place_fits (types_view types.now) (listed_view listed.entry)
         (map string_bytes wanted.now) k ≡ true) }
@@ -80,7 +82,15 @@ fn gather(
         let seen = seen_up_to(start, reached, *first);
         let slots = part(&index.slots, seen.max(*first), *end);
         let likely = one_of(wanted, *which);
-        push_places(&mut places, types, listed, likely, wanted, slots)?;
+        push_places(
+            &mut places,
+            types,
+            listed,
+            &index.kinds,
+            likely,
+            wanted,
+            slots,
+        )?;
         start = *first;
         reached = seen.max(*end);
     }

@@ -1,47 +1,43 @@
 //! Where the objects of each type stand.
 
-ghost use Rattle.std.specs.Prelude.{◌≡◌, map, true, IfOk};
-ghost use Rattle.tp_ast.specs.Symbols.{parent_view, typed_view};
+ghost use Rattle.std.specs.Prelude.{◌≡◌, List, map, slice_get, true, IfOk};
+ghost use Rattle.tp_ast.specs.Symbols.{Declared, parent_view};
 ghost use Rattle.tp_types.specs.Cycles.{type_name};
 ghost use Rattle.tp_types.specs.Parents.{ArePlaced};
 ghost use Rattle.tp_types.specs.Tables.{IsTable};
 ghost use Rattle.tp_types.specs.TypeViews.{types_view};
+ghost use Rattle.tp_objects.specs.Kinds.{IsNumbered, AreNumbered};
 ghost use Rattle.tp_objects.specs.Listed.{listed_view};
 ghost use Rattle.tp_objects.specs.Index.{IsShelved, AreShelved, IsIndexIfAny};
 
-use crate::listed::{Listed, object_at};
-use crate::shelving::{Shelving, shelve};
-use crate::spans::{Spans, are_nested, span_of};
+use crate::kinds::numbers;
+use crate::listed::Listed;
+use crate::shelving::shelve;
+use crate::spans::{Spans, are_nested, span_at};
 use std::alloc::{AllocError, Global};
-use tp_ast::symbols::Typed;
+use std::collections::BTreeMap;
 use tp_ast::types::TypeName;
 use tp_types::table::places;
 use tp_types::types::Types;
 
-/// The slots of each type, and the place of the object in each slot.
+/// The slots of each type, the place of the object in each slot, and the number of each object's type.
 #[derive(Drop)]
 pub struct Index<'a> {
     pub spans: Spans<'a>,
     pub slots: Vec<usize>,
+    pub kinds: Vec<usize>,
 }
 
-// Whether an object has one type, and stands in one of the slots of that type.
-fn is_shelved(
-    types: &[TypeName],
-    index: &Index,
-    object: &Typed,
-    place: usize,
-    position: usize,
-) -> bool
-    requires { IsTable index.now.spans.places (map type_name types.now) }
-    ensures { result ≡ true
-        → IsShelved (map type_name types.now) index.now (typed_view object.now) place }
+// Whether an object stands in one of the slots of its type.
+fn is_shelved(types: &[TypeName], index: &Index, place: usize, position: usize) -> bool
+    ensures { result ≡ true → (o : Declared)
+        → IsNumbered types.now o (slice_get index.now.kinds.items place)
+        → IsShelved (map type_name types.now) index.now o place }
 {
-    let _ = types;
-    let [name] = object.type_names() else {
+    let Some(kind) = index.kinds.get(place) else {
         return false;
     };
-    let Some(span) = span_of(&index.spans, name.as_str()) else {
+    let Some(span) = span_at(types, &index.spans, *kind) else {
         return false;
     };
     let Some(there) = index.slots.get(position) else {
@@ -53,47 +49,73 @@ fn is_shelved(
     *there == place
 }
 
-// Whether each object has one type, and stands in one of the slots of that type.
-fn are_shelved(types: &[TypeName], index: &Index, listed: Listed, positions: &[usize]) -> bool
-    requires { IsTable index.now.spans.places (map type_name types.now) }
-    ensures { result ≡ true → AreShelved (map type_name types.now)
-        (listed_view listed.entry) index.now }
+// Whether each object stands in one of the slots of its type.
+fn are_shelved(types: &[TypeName], index: &Index, positions: &[usize]) -> bool
+    ensures { result ≡ true → (objects : List Declared)
+        → AreNumbered types.now objects index.now.kinds.items
+        → AreShelved (map type_name types.now) objects index.now }
 {
-    if positions.len() != listed.constants.len() + listed.objects.len() {
+    if positions.len() != index.kinds.len() {
         return false;
     }
     for (place, position) in positions.iter().enumerate() {
-        let Some(object) = object_at(listed, place) else {
-            return false;
-        };
-        if !is_shelved(types, index, object, place, *position) {
+        if !is_shelved(types, index, place, *position) {
             return false;
         }
     }
     true
 }
 
-// The index that slots for objects make, if they are what they are taken for.
+// An index, if its slots are what they are taken for.
 fn checked<'a>(
     types: &'a [TypeName],
     parents: &[Option<usize>],
-    spans: Spans<'a>,
     listed: Listed,
-    slots: Vec<usize>,
+    index: Index<'a>,
     positions: &[usize],
 ) -> Option<Index<'a>>
-    requires table { IsTable spans.places (map type_name types.now) }
+    requires table { IsTable index.spans.places (map type_name types.now) }
     requires parents { ArePlaced types.now parents.now }
+    requires kinds { AreNumbered types.now (listed_view listed) index.kinds.items }
     ensures { IsIndexIfAny (map parent_view types.now) (listed_view listed.entry) result }
 {
-    let index = Index { spans, slots };
+    let _ = listed;
     if !are_nested(types, parents, &index.spans) {
         return None;
     }
-    if !are_shelved(types, &index, listed, positions) {
+    if !are_shelved(types, &index, positions) {
         return None;
     }
     Some(index)
+}
+
+// The index of objects, where the numbers of their types are known.
+fn index_by<'a>(
+    alloc: Global,
+    types: &'a [TypeName],
+    parents: &[Option<usize>],
+    listed: Listed,
+    places: BTreeMap<&'a str, usize>,
+    kinds: Vec<usize>,
+) -> Result<Option<Index<'a>>, AllocError>
+    requires table { IsTable places (map type_name types.now) }
+    requires parents { ArePlaced types.now parents.now }
+    requires kinds { AreNumbered types.now (listed_view listed) kinds.items }
+    ensures { IfOk result (λ x. IsIndexIfAny
+        (map parent_view types.now) (listed_view listed.entry) x) }
+{
+    let shelving = shelve(alloc, types, &places, parents, &kinds)?;
+    let spans = Spans {
+        places,
+        of_types: shelving.of_types,
+        slots: shelving.slots.len(),
+    };
+    let index = Index {
+        spans,
+        slots: shelving.slots,
+        kinds,
+    };
+    Ok(checked(types, parents, listed, index, &shelving.positions))
 }
 
 // The index of objects, where it is known where the parents of types stand.
@@ -108,22 +130,10 @@ fn index_above<'a>(
         (map parent_view types.now) (listed_view listed.entry) x) }
 {
     let places = places(alloc, types)?;
-    let Some(shelving) = shelve(alloc, types, &places, parents, listed)? else {
-        return Ok(None);
-    };
-    let spans = Spans {
-        places,
-        of_types: shelving.of_types,
-        slots: shelving.slots.len(),
-    };
-    Ok(checked(
-        types,
-        parents,
-        spans,
-        listed,
-        shelving.slots,
-        &shelving.positions,
-    ))
+    match numbers(alloc, types, &places, listed)? {
+        Some(kinds) => index_by(alloc, types, parents, listed, places, kinds),
+        None => Ok(None),
+    }
 }
 
 /// Where the objects of each type stand, if each object has one type that leads up to `object`.

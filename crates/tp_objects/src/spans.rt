@@ -1,11 +1,12 @@
 //! Slots for the objects of each type: those of the types below it lie within its own.
 
-ghost use Rattle.std.specs.Prelude.{◌≡◌, List, map};
+ghost use Rattle.std.specs.Prelude.{◌≡◌, List, Some, map};
 ghost use Rattle.std.specs.List.{list_all};
 ghost use Rattle.tp_ast.specs.Symbols.{Name, parent_view};
 ghost use Rattle.tp_types.specs.Cycles.{type_name};
 ghost use Rattle.tp_types.specs.Parents.{ArePlaced};
 ghost use Rattle.tp_types.specs.Tables.{IsTable};
+ghost use Rattle.tp_objects.specs.Kinds.{number_of};
 ghost use Rattle.tp_objects.specs.Spans.{span_of, span_above, is_nested};
 
 use std::collections::BTreeMap;
@@ -43,6 +44,20 @@ pub fn span_of(spans: &Spans, name: &str) -> Option<Span>
         return None;
     };
     spans.of_types.get(*place).copied()
+}
+
+/// The same, by the number of the type.
+pub fn span_at(types: &[TypeName], spans: &Spans, number: usize) -> Option<Span>
+    ensures { (t : Name) → number_of types.now t ≡ Some number → result
+        ≡ span_of (map type_name types.now) spans.now.of_types.items spans.now.slots t }
+{
+    if number == types.len() {
+        return Some(Span {
+            first: 0,
+            end: spans.slots,
+        });
+    }
+    spans.of_types.get(number).copied()
 }
 
 // The slots of the type above one, which is found by its place: its name may be long.

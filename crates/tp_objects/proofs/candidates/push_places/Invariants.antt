@@ -1,5 +1,4 @@
-use Rattle.std.proofs.Common.{◌≡◌, ℕ, ◌&&◌, ◌||◌, true, map, take, string_bytes}
-use Rattle.tp_ast.specs.Symbols.{types_fit}
+use Rattle.std.proofs.Common.{◌≡◌, ℕ, ◌&&◌, ◌||◌, IfSome, true, map, take, string_bytes}
 use Rattle.tp_types.specs.TypeViews.{types_view}
 use Rattle.tp_objects.specs.Listed.{listed_view}
 use Rattle.tp_objects.specs.Places.{has, place_fits}
@@ -8,5 +7,5 @@ use Rattle.tp_objects.proofs.candidates.push_places.Given as goal
 abbrev pub invariant-loop-place : goal.invariant-loop-place
 invariant-loop-place l = record {
   so_far : (k : ℕ) → has l.places.items k ≡ (has l.initial.places.items k || (has (take l.place-index l.slots) k && place_fits (types_view l.types) (listed_view l.listed) (map string_bytes l.wanted) k));
-  known : types_fit (types_view l.types) (map string_bytes l.known) (map string_bytes l.wanted) ≡ true;
+  known : IfSome l.known (λ k. place_fits (types_view l.types) (listed_view l.listed) (map string_bytes l.wanted) k ≡ true);
 }
