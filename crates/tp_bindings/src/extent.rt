@@ -13,12 +13,26 @@ const ROOM: usize = 1_024;
 // For each binding behind these in all of the task, so many.
 const LEAST_ROOM: usize = 8;
 
-/// How many bindings of quantifiers were gone through.
+// So many bindings of one quantifier are counted one by one: so many that too many atoms were named by then, if each names its own.
+const ONE_BY_ONE: usize = 131_072;
+
+// Of so many bytes no room is asked for before they are written.
+const FEW_BYTES: usize = 64_000_000;
+
+/// How many bindings of quantifiers were gone through, and how many bytes all bodies take at least.
 #[derive(Drop)]
 pub struct Extent {
     within: Cell<usize>,
     all: Cell<usize>,
     granted: Cell<usize>,
+    bodies: Cell<usize>,
+}
+
+// Asks for room, and for half as much again, and gives it back.
+fn ask(alloc: Global, bytes: usize) -> Result<(), AllocError> {
+    let most = bytes.saturating_add(bytes / 2);
+    let _room: Vec<u8> = Vec::with_capacity(alloc, most)?;
+    Ok(())
 }
 
 impl Extent {
@@ -28,6 +42,7 @@ impl Extent {
             within: Cell::new(0),
             all: Cell::new(0),
             granted: Cell::new(0),
+            bodies: Cell::new(0),
         }
     }
 
@@ -52,6 +67,23 @@ impl Extent {
         within.max(all)
     }
 
+    /// Counts the binding of a quantifier at a place, of so many. Where they are very many, those that are left are counted with
+    /// one of them, so that they are refused before they are gone through.
+    pub fn count_one(
+        &self,
+        alloc: Global,
+        place: usize,
+        bindings: usize,
+    ) -> Result<(), AllocError> {
+        if place < ONE_BY_ONE {
+            return self.count(alloc, 1);
+        }
+        if place == ONE_BY_ONE {
+            return self.count(alloc, bindings.saturating_sub(place));
+        }
+        Ok(())
+    }
+
     /// Counts some more. Where there are many, their room is asked for and given back, so that many more than memory holds are
     /// refused before they are gone through.
     pub fn count(&self, alloc: Global, more: usize) -> Result<(), AllocError> {
@@ -61,9 +93,36 @@ impl Extent {
         if room <= self.granted.get() {
             return Ok(());
         }
-        let most = room.saturating_add(room / 2);
-        let _room: Vec<u8> = Vec::with_capacity(alloc, most)?;
-        self.granted.set(most);
+        ask(alloc, room)?;
+        self.granted.set(room.saturating_add(room / 2));
         Ok(())
+    }
+
+    /// Asks for the room of something that takes so many bytes at least under each of so many bindings, if it is much, and
+    /// gives it back, so that what memory can't hold is refused before it is written out.
+    pub fn ask(&self, alloc: Global, bindings: usize, bytes: usize) -> Result<(), AllocError> {
+        let room = bindings.saturating_mul(bytes);
+        if room <= FEW_BYTES {
+            return Ok(());
+        }
+        ask(alloc, room)
+    }
+
+    /// The same of an action's body, beside those of the actions before it.
+    pub fn ask_beside(
+        &self,
+        alloc: Global,
+        bindings: usize,
+        bytes: usize,
+    ) -> Result<(), AllocError> {
+        let bodies = self
+            .bodies
+            .get()
+            .saturating_add(bindings.saturating_mul(bytes));
+        self.bodies.set(bodies);
+        if bodies <= FEW_BYTES {
+            return Ok(());
+        }
+        ask(alloc, bodies)
     }
 }

@@ -23,6 +23,7 @@ use tp_bindings::universe::{Universe, count_and_note, refill};
 use tp_bindings::variables::Variables;
 use tp_lower::bodies::body;
 use tp_lower::hinting::body_hint;
+use tp_lower::rooms::of_body;
 use tp_lower::writer::Writer;
 use tp_task::{Body, GroundFault};
 
@@ -112,6 +113,8 @@ fn push_bodies<'a>(
         (bindings (universe_view universe.now) (map typed_view parameters.now))) }
 {
     let mut rows = rows_of(alloc, universe, parameters.items())?;
+    let room = of_body(written);
+    writer.extent().ask_beside(alloc, rows.count, room)?;
     into.reserve(rows.count)?;
     let outside = Env::Empty;
     for place in 0..rows.count {

@@ -126,6 +126,15 @@ fn lower_one<'a>(
     )
 }
 
+// How many bytes the bodies of some instances take at least.
+fn room_of(some: &[Instance]) -> usize {
+    let mut room = 0usize;
+    for instance in some {
+        room = room.saturating_add(instance.schema.room);
+    }
+    room
+}
+
 /// The bodies of some instances, in order.
 pub fn lower_instances<'a>(
     alloc: Global,
@@ -139,6 +148,7 @@ pub fn lower_instances<'a>(
         (map (λ i. (action_of (universe_view universe.now) i).body) (map instance_view some.now))
         (of_each (of_instance (universe_view universe.now)) (map instance_view some.now)) }
 {
+    writer.extent().ask(alloc, 1, room_of(some))?;
     let mut lowered = Vec::with_capacity(alloc, some.len())?;
     for instance in some {
         lowered.push(lower_one(alloc, universe, writer, instance)?)?;

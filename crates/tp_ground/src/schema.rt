@@ -6,11 +6,13 @@ use tp_ast::action::Action;
 use tp_bindings::hints::BodyHint;
 use tp_bindings::variables::Variables;
 
-/// An action with a table of its parameters and what is known of its quantifiers, which are made once for all its bindings.
+/// An action with a table of its parameters, what is known of its quantifiers, and the bytes that its body takes at least, which are
+/// found once for all its bindings.
 #[derive(Drop)]
 pub struct Schema<'a> {
     pub action: &'a Action,
     pub parameters: Variables<'a>,
     pub hints: BodyHint,
+    pub room: usize,
     ghost own: { parameters ≡ action.now.parameters.items },
 }

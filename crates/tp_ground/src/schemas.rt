@@ -10,6 +10,7 @@ use tp_ast::action::Action;
 use tp_bindings::universe::Universe;
 use tp_bindings::variables::Variables;
 use tp_lower::hinting::body_hint;
+use tp_lower::rooms::of_body;
 
 fn schema_of<'a>(
     alloc: Global,
@@ -25,6 +26,7 @@ fn schema_of<'a>(
         action,
         parameters,
         hints,
+        room: of_body(&action.body),
     })
 }
 

@@ -20,6 +20,8 @@ ghost use Rattle.tp_ast.specs.Conditions.{conditions as syntax_conditions};
 
 use crate::expressions::{comparison_of, operand};
 use crate::hinting::hint_of;
+use crate::parts::FEW_BINDINGS;
+use crate::rooms::of_condition;
 use crate::shortness::{is_brief, is_short_quantifier};
 use crate::writer::Writer;
 use std::alloc::{AllocError, Global};
@@ -161,10 +163,13 @@ fn under_each<'a>(
         (inner (universe_view universe.now) (env_view env.now) (map typed_view variables.now)))) }
 {
     let mut rows = rows_with(alloc, universe, variables.items(), places_in(inside))?;
+    if rows.count > FEW_BINDINGS {
+        writer.extent().ask(alloc, rows.count, of_condition(cond))?;
+    }
     let mut lowered = Vec::with_capacity(alloc, rows.count)?;
     let hint = hint_in(inside);
     for place in 0..rows.count {
-        writer.extent().count(alloc, 1)?;
+        writer.extent().count_one(alloc, place, rows.count)?;
         rows.turn_to(place);
         let inner = Env::Inner(&*variables, &rows.row, &*env);
         lowered.push(condition(alloc, universe, &inner, writer, cond, hint)?)?;

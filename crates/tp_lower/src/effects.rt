@@ -20,6 +20,7 @@ use crate::conditions::{atom, condition};
 use crate::expressions::{expression, fluent};
 use crate::hinting::{hint_of, joined_hint};
 use crate::parts::{Lowerable, push_part};
+use crate::rooms::{of_condition, of_part, of_simple_effect};
 use crate::shortness::{after_condition, after_part, after_simple_effect};
 use crate::writer::Writer;
 use std::alloc::{AllocError, Global};
@@ -132,6 +133,10 @@ impl Lowerable for SimpleEffect {
         after_simple_effect(self, steps)
     }
 
+    fn room(&self) -> usize {
+        of_simple_effect(self)
+    }
+
     fn hint(&self, _alloc: Global, _universe: &Universe) -> Result<Hint, AllocError> {
         Ok(Hint::Nothing)
     }
@@ -174,6 +179,10 @@ impl Lowerable for Timed<tp_ast::cond::Cond> {
 
     fn after(&self, steps: usize) -> Option<usize> {
         after_condition(&self.what, steps)
+    }
+
+    fn room(&self) -> usize {
+        of_condition(&self.what)
     }
 
     fn hint(&self, alloc: Global, universe: &Universe) -> Result<Hint, AllocError> {
@@ -221,6 +230,10 @@ impl Lowerable for Timed<Effect> {
 
     fn after(&self, steps: usize) -> Option<usize> {
         after_part(&self.what, steps)
+    }
+
+    fn room(&self) -> usize {
+        of_part(&self.what)
     }
 
     fn hint(&self, alloc: Global, universe: &Universe) -> Result<Hint, AllocError> {

@@ -3,6 +3,7 @@
 //!
 //! - `writer`: the numbers of atoms, fluents and actions, and what was written out before
 //! - `hinting`, `shortness`: what is known of quantifiers before they are written out, and how long conditions are
+//! - `rooms`: how much room is taken at least by what is written out
 //! - `expressions`, `constraints`, `conditions`, `parts`, `effects`, `bodies`: what is written out under a binding
 #![tactic(auto)]
 
@@ -13,5 +14,6 @@ pub mod effects;
 pub mod expressions;
 pub mod hinting;
 pub mod parts;
+pub mod rooms;
 pub mod shortness;
 pub mod writer;

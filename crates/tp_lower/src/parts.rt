@@ -17,6 +17,7 @@ ghost use Rattle.tp_bindings.specs.declared.objects.Universe as objects;
 ghost use Rattle.tp_bindings.specs.declared.hints.Hint as hints;
 ghost use Rattle.tp_ast.specs.Parts.{parts as syntax_parts};
 
+use crate::rooms::of_part;
 use crate::shortness::is_brief_part;
 use crate::writer::Writer;
 use std::alloc::{AllocError, Global};
@@ -28,6 +29,9 @@ use tp_bindings::rows::rows_with;
 use tp_bindings::universe::Universe;
 use tp_bindings::variables::Variables;
 use tp_task::GroundFault;
+
+/// For so few bindings of a quantifier no room is asked for before they are written out.
+pub const FEW_BINDINGS: usize = 16;
 
 /// What may stand inside.
 pub trait Lowerable: Drop {
@@ -58,6 +62,9 @@ pub trait Lowerable: Drop {
 
     /// What is left of so many steps of a walk after it.
     fn after(&self, steps: usize) -> Option<usize>;
+
+    /// The bytes that are taken at least by what it is written out to.
+    fn room(&self) -> usize;
 
     /// What can be known of the quantifiers in it.
     fn hint(&self, alloc: Global, universe: &Universe) -> Result<Hint, AllocError>
@@ -160,10 +167,13 @@ fn push_under_each<'a, P: Lowerable>(
         (inner (universe_view universe.now) (env_view env.now) (map typed_view variables.now)))) }
 {
     let mut rows = rows_with(alloc, universe, variables.items(), places_in(inside))?;
+    if rows.count > FEW_BINDINGS {
+        writer.extent().ask(alloc, rows.count, of_part(part))?;
+    }
     into.reserve(rows.count)?;
     let hint = hint_in(inside);
     for place in 0..rows.count {
-        writer.extent().count(alloc, 1)?;
+        writer.extent().count_one(alloc, place, rows.count)?;
         rows.turn_to(place);
         let inner = Env::Inner(&*variables, &rows.row, &*env);
         push_part(alloc, universe, &inner, specifier, writer, part, hint, into)?;
