@@ -437,6 +437,9 @@ def worst_reads(program):
     name = "t" * 300_000
     judged(program, "60,000 constants of a type of 300,000 letters", f"(define (domain d) (:types {name}) (:constants {each('c#', 60_000)} - {name}))", problem, "")
     judged(program, "50,000 types below one of 300,000 letters", f"(define (domain d) (:types {each('t#', 50_000)} - {name}))", problem, "")
+    declared = f"(:types {name} - t0 {' '.join(f't{k} - t{k + 1}' for k in range(1_000))}) (:constants {each('c#', 1_000)} - {name}) (:predicates (p))"
+    some = asking(declared, each("(exists (?x - t#) (p))", 1_000))
+    judged(program, "1,000 'exists' beside 1,000 constants of a type of 300,000 letters", some, problem, "")
     below = " ".join(short_names(115_000))
     judged(program, "115,000 types below one of 500,000 letters", f"(define (domain d) (:types {below} - {'t' * 500_000}))", problem, "")
     judged(program, "90,000 atoms over two lists of 20,000 types, in two orders", two_orders(short_names(20_000), 90_000), problem, "")
@@ -446,6 +449,10 @@ def worst_reads(program):
     judged(program, "the same, of one below the last of them", of_any(kinds, "?v", "(p d) " * 80_000), problem, "")
     arguments = f"(p {'c ' * 50_000})"
     judged(program, "an atom of 50,000 arguments over that list", of_any(kinds, each("?v#", 50_000), arguments), problem, "")
+    above = " ".join(f"above{k} - above{k + 1}" for k in range(70))
+    declared = f"(:types {' '.join(kinds)} - object {above} above70 - {kinds[-1]}) (:constants c - above0)"
+    atoms = asking(f"{declared} (:predicates (p ?v - (either {' '.join(kinds)})))", "(p c) " * 80_000)
+    judged(program, "80,000 atoms of one 71 types below the last of them", atoms, problem, "")
     kinds = short_names(36_000)
     variables = " ".join(f"?{name}" for name in short_names(60_000))
     listed = f"{variables} - (either {' '.join(kinds)})"

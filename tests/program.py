@@ -192,6 +192,20 @@ def call(words, files={}, given=whole(""), room=None, log_room=None):
     return outcome
 
 
+def held(words, files, most):
+    """What comes of a call that may take so many bytes of memory, and how many it held at most, or this process where it began."""
+    with tempfile.TemporaryDirectory() as top:
+        folder = pathlib.Path(top)
+        lay_out(folder, files)
+        how = {"cwd": folder, "stdin": subprocess.DEVNULL, "stdout": subprocess.PIPE, "stderr": subprocess.PIPE}
+        how["preexec_fn"] = lambda: resource.setrlimit(resource.RLIMIT_AS, (most, most))
+        with subprocess.Popen([str(built), *words.split()], **how) as ran:
+            answers, faults = ran.stdout.read(), ran.stderr.read()
+            _, ended, used = os.wait4(ran.pid, 0)
+            ran.returncode = os.waitstatus_to_exitcode(ended)
+    return Outcome(answers, faults, ran.returncode, None), used.ru_maxrss * 1024
+
+
 def next_line(stream, latest):
     """The next line of what a program writes to a pipe; None if it is not whole when the time is over or the pipe is closed."""
     line = b""

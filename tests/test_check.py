@@ -1,5 +1,5 @@
 """Verdicts on plans in files, worked by hand."""
-from program import NEVER, Case, Once, told, world
+from program import NEVER, Case, Once, held, told, world
 
 SUPPLY_DOMAIN = """(define (domain supply)
  (:functions (stock))
@@ -180,6 +180,23 @@ class Check(Case):
         for condition, effect, goal in ((shared, "(p)", "(p)"), ("(p)", above_nothing, "(p)"), ("(p)", "(p)", shared)):
             files = {"domain": domain.format(condition, effect), "problem": problem.format(goal), "plan": "0: (act)\n"}
             self.comes_to(told("", "fault ground 1 memory\n", 3), "check domain problem plan", files)
+
+    def test_what_memory_cannot_hold_is_refused_before_it_is_written_out(self):
+        """Hundreds of millions of conditions or effects, of 4 GB at least, where 2 GB may be taken."""
+        domain = "(define (domain d) (:predicates (p ?x)) (:action act :parameters ({}) :precondition {} :effect {}))"
+        few, many = "(p ?a)" * 10_000, "(p ?a)" * 100_000
+        for name, objects, action in (
+            ("bodies", 250, ("?a ?b", f"(and {few})", "(p ?a)")),
+            ("a condition", 40_000, ("", f"(forall (?a) (and {many}))", "()")),
+            ("effects", 40_000, ("", "()", f"(forall (?a) (and {many}))")),
+        ):
+            objects = " ".join(f"o{number}" for number in range(objects))
+            problem = f"(define (problem q) (:domain d) (:objects {objects}) (:init) (:goal ()))"
+            for words in ("check domain problem plan", "plan domain problem"):
+                with self.subTest(f"{name} {words}"):
+                    outcome, most = held(words, {"domain": domain.format(*action), "problem": problem, "plan": ""}, 2 << 30)
+                    self.assertEqual(outcome, told("", "fault ground 1 memory\n", 3))
+                    self.assertLess(most, 512 << 20)
 
     def test_plans_that_cannot_be_read(self):
         self.each_writes(CHARGE, PLANS)
