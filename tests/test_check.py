@@ -198,6 +198,15 @@ class Check(Case):
                     self.assertEqual(outcome, told("", "fault ground 1 memory\n", 3))
                     self.assertLess(most, 512 << 20)
 
+    def test_a_quantifier_of_very_many_bindings_is_refused_before_it_is_gone_through(self):
+        """64,000,000 bindings that name 400 atoms, where 16 GB may be taken."""
+        objects = " ".join(f"o{number}" for number in range(400))
+        domain = "(define (domain d) (:predicates (p ?x ?y ?z)))"
+        problem = f"(define (problem q) (:domain d) (:objects {objects}) (:init) (:goal (forall (?a ?b ?c) (p ?a o0 o0))))"
+        outcome, most = held("check domain problem plan", {"domain": domain, "problem": problem, "plan": ""}, 16 << 30)
+        self.assertEqual(outcome, told("", "fault ground 1 memory\n", 3))
+        self.assertLess(most, 128 << 20)
+
     def test_plans_that_cannot_be_read(self):
         self.each_writes(CHARGE, PLANS)
         with self.subTest("too many steps"):
