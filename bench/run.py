@@ -453,6 +453,16 @@ def worst_reads(program):
     declared = f"(:types {' '.join(kinds)} - object {above} above70 - {kinds[-1]}) (:constants c - above0)"
     atoms = asking(f"{declared} (:predicates (p ?v - (either {' '.join(kinds)})))", "(p c) " * 80_000)
     judged(program, "80,000 atoms of one 71 types below the last of them", atoms, problem, "")
+    kinds = short_names(9_000)
+    lists = " ".join(f"(p{k} ?v - (either {' '.join(kinds[(17 * k + j) % 9_000] for j in range(17))}))" for k in range(5_000))
+    own = " ".join(f"c_{k} - {'below' if k % 2 else kinds[k]}" for k in range(9_000))
+    beside = f"(define (domain d) (:types {' '.join(kinds)} below - object) (:constants {own}) (:predicates {lists}))"
+    judged(program, "5,000 lists of 17 types beside 9,000 constants, none of which is asked", beside, problem, "")
+    lists = " ".join(f"(p{k} ?v - (either {' '.join(kinds[(17 * k + j) % 9_000] for j in range(17))}))" for k in range(4_000))
+    far = " ".join(f"far_{k} - far_{k + 1}" for k in range(20_000))
+    own = each("c_# - far_#", 1_000)
+    beside = f"(define (domain d) (:types {' '.join(kinds)} - object {far}) (:constants {own}) (:predicates {lists}))"
+    judged(program, "4,000 such lists beside 1,000 constants of a chain of 20,000 types", beside, problem, "")
     kinds = short_names(36_000)
     variables = " ".join(f"?{name}" for name in short_names(60_000))
     listed = f"{variables} - (either {' '.join(kinds)})"
