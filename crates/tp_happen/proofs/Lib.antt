@@ -6,13 +6,6 @@ pub mod Times
 pub mod Limits
 pub mod Answered
 pub mod Lent
-pub mod OnLexemes
-pub mod OnForms
-pub mod OnPlans
-pub mod OnPrints
-pub mod OnPrinted
-pub mod OnWritten
-pub mod OnTaskWords
 pub mod OnClashes
 pub mod Compared
 pub mod Positions
@@ -20,4 +13,3 @@ pub mod Mentioned
 pub mod Walked
 pub mod FirstPairs
 pub mod Within
-pub mod OnTaskPlans

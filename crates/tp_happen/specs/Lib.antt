@@ -6,11 +6,4 @@ pub mod Bounded
 pub mod Terms
 pub mod Fault
 pub mod Parts
-pub mod Steps
-pub mod PlanLexemes
-pub mod PlanForms
-pub mod PlanTexts
-pub mod PlanPrints
-pub mod TaskWords
 pub mod Meetings
-pub mod TaskPlans

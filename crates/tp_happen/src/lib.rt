@@ -9,41 +9,34 @@
 //! - `mentions`, `meetings`: what events mention, and the first two that interfere, by tables
 //! - `writes`: the effects of events, written one after another
 //! - `happening`: all of it together, `apply`
-//! - `plans`: plans and their steps
-//! - `tokens`, `forms`, `task_words`, `reading`, `printing`: plans as texts
+//!
+//! Offers plans and their texts (`tp_plan_texts`) again.
 #![tactic(auto)]
 
 mod clashes;
 mod conditions;
 mod events;
 mod faults;
-mod forms;
 mod happening;
 mod interfere;
 mod lending;
 mod meetings;
 mod mentions;
-mod plans;
-mod printing;
-mod reading;
 mod states;
-mod task_words;
-mod tokens;
 mod values;
 mod writes;
 
 pub use conditions::holds;
 pub use events::{Event, EventRef, Part};
 pub use faults::{Outcome, Why, constraint_defined};
-pub use forms::forms_are_written;
 pub use happening::{ApplyFault, apply};
 pub use interfere::{interferes, uses_duration};
 pub use lending::event;
 pub use meetings::Meeting;
 pub use mentions::{atoms_of, fluents_of};
-pub use plans::{Plan, Step};
-pub use printing::{plans_are_read, print_plan};
-pub use reading::{PlanFault, read_plan};
 pub use states::State;
+pub use tp_plan_texts::{
+    Plan, PlanFault, Step, forms_are_written, plans_are_read, print_plan, read_plan,
+};
 pub use tp_task::truth::compares;
 pub use values::{Range, value};

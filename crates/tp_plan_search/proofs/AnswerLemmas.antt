@@ -8,10 +8,10 @@ use Rattle.tp_ground.specs.Grounding.{IsTask}
 use Rattle.tp_ground.specs.Reached.{IsReachedTask}
 use Rattle.tp_task.specs.Readable.{AreReadable}
 use Rattle.tp_task.specs.declared.task.Task.{Task}
-use Rattle.tp_happen.specs.PlanPrints.{PlansAreRead, plan_text}
-use Rattle.tp_happen.specs.PlanTexts.{SpellsPlan}
-use Rattle.tp_happen.specs.TaskWords.{readable}
-use Rattle.tp_happen.specs.declared.plans.Step.{Step}
+use Rattle.tp_plan_texts.specs.PlanPrints.{PlansAreRead, plan_text}
+use Rattle.tp_plan_texts.specs.PlanTexts.{SpellsPlan}
+use Rattle.tp_plan_texts.specs.TaskWords.{readable}
+use Rattle.tp_plan_texts.specs.declared.plans.Step.{Step}
 use Rattle.tp_validate.specs.OfTask.{IsOfTask}
 use Rattle.tp_reach.specs.TaskReach.{GoalIs}
 use Rattle.tp_search.specs.Answers.{IsAnswer}

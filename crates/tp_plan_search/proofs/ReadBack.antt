@@ -17,12 +17,12 @@ use Rattle.tp_task.specs.Readable.{AreReadable, are_names}
 use Rattle.tp_task.specs.Tables.{words_at}
 use Rattle.tp_task.specs.Words.{Words, same_words}
 use Rattle.tp_task.specs.declared.task.Task.{Task}
-use Rattle.tp_happen.specs.PlanPrints.{IsReadable, PlansAreRead, plan_text}
-use Rattle.tp_happen.specs.PlanLexemes.{is_bare, lexemes}
-use Rattle.tp_happen.specs.PlanTexts.{IsAccepted, ReadableTask, LinesSpell, SpellsPlan, fault_or, full_lines, lines_in, refusal_from, step_of}
-use Rattle.tp_happen.specs.declared.reading.PlanFault.TheVariants.{TooMany}
-use Rattle.tp_happen.specs.TaskWords.{action_of, readable}
-use Rattle.tp_happen.specs.declared.plans.Step.{Step}
+use Rattle.tp_plan_texts.specs.PlanPrints.{IsReadable, PlansAreRead, plan_text}
+use Rattle.tp_plan_texts.specs.PlanLexemes.{is_bare, lexemes}
+use Rattle.tp_plan_texts.specs.PlanTexts.{IsAccepted, ReadableTask, LinesSpell, SpellsPlan, fault_or, full_lines, lines_in, refusal_from, step_of}
+use Rattle.tp_plan_texts.specs.declared.reading.PlanFault.TheVariants.{TooMany}
+use Rattle.tp_plan_texts.specs.TaskWords.{action_of, readable}
+use Rattle.tp_plan_texts.specs.declared.plans.Step.{Step}
 use Rattle.tp_validate.specs.OfTask.{IsOfTask, is_step_of}
 use Rattle.tp_search.specs.Plans.{EndsBy, ends_by}
 

@@ -1,11 +1,11 @@
 -- The text of what a search came to: the plan, a line for each step, or a line that says why there is none.
 use Rattle.std.specs.Prelude.{◌≡◌, ◌⊎◌, ℕ, List, ◌++◌, Bool, true, false, codes, decimal}
 use Rattle.tp_task.specs.declared.task.Task.{Task}
-use Rattle.tp_happen.specs.PlanPrints.{plan_text}
-use Rattle.tp_happen.specs.PlanTexts.{IsAccepted, SpellsPlan}
-use Rattle.tp_happen.specs.Steps.{IsPlan}
-use Rattle.tp_happen.specs.TaskWords.{readable}
-use Rattle.tp_happen.specs.declared.plans.Step.{Step}
+use Rattle.tp_plan_texts.specs.PlanPrints.{plan_text}
+use Rattle.tp_plan_texts.specs.PlanTexts.{IsAccepted, SpellsPlan}
+use Rattle.tp_plan_texts.specs.Steps.{IsPlan}
+use Rattle.tp_plan_texts.specs.TaskWords.{readable}
+use Rattle.tp_plan_texts.specs.declared.plans.Step.{Step}
 use Rattle.tp_validate.specs.OfTask.{IsOfTask, IsValidPlan}
 use Rattle.tp_search.specs.Plans.{EndsBy}
 use Rattle.tp_search.specs.Promised.{IsExhausted, IsSpent, IsUnreachable}

@@ -6,14 +6,14 @@ use Rattle.std.specs.Option.{option_map, option_and_then}
 use Rattle.std.proofs.lemmas.Bool.{not_from_false}
 use Rattle.tp_happen.specs.Parts.{part_of}
 use Rattle.tp_happen.specs.declared.events.Part.TheVariants.{Only}
-use Rattle.tp_happen.specs.TaskWords.{is_durative}
+use Rattle.tp_plan_texts.specs.TaskWords.{is_durative}
 use Rattle.tp_task.specs.Bounds.{In}
 use Rattle.tp_task.specs.declared.events.Body.{Body}
 use Rattle.tp_task.specs.declared.events.Body.TheVariants.{Instant, Durative}
 use Rattle.tp_task.specs.declared.events.GroundEvent.{GroundEvent}
 use Rattle.tp_task.specs.declared.task.Task.{Task}
 use Rattle.tp_task.proofs.Lists.{all_at}
-use Rattle.tp_happen.specs.Steps.{IsPlan, ends_in_time}
+use Rattle.tp_plan_texts.specs.Steps.{IsPlan, ends_in_time}
 use Rattle.tp_validate.specs.OfTask.{IsValidPlan, IsOfTask, is_step_of, scale_of, begin}
 use Rattle.tp_validate.specs.Validated.{Validated}
 use Rattle.tp_reach.specs.TaskReach.{GoalIs}

@@ -4,8 +4,8 @@ use Rattle.std.specs.Prelude.{Result, Ok, Err, Option, Some, None, IfOk, IfSome}
 use Rattle.std.specs.List.{list_all}
 use Rattle.std.proofs.lemmas.Bool.{and_parts, and_from, leb-true}
 use Rattle.tp_task.specs.declared.task.Task.{Task}
-use Rattle.tp_happen.specs.declared.plans.Step.{Step}
-use Rattle.tp_happen.specs.Steps.{IsPlan, ends_in_time}
+use Rattle.tp_plan_texts.specs.declared.plans.Step.{Step}
+use Rattle.tp_plan_texts.specs.Steps.{IsPlan, ends_in_time}
 use Rattle.tp_validate.specs.OfTask.{IsOfTask, IsValidPlan, is_step_of}
 use Rattle.tp_validate.specs.Validated.{Validated}
 use Rattle.tp_search.specs.Plans.{EndsBy, ends_by, is_step_within, is_plan_within}

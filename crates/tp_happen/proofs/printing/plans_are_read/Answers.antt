@@ -1,5 +1,0 @@
-use Rattle.tp_happen.proofs.OnPrinted.{plans_read}
-use Rattle.tp_happen.proofs.printing.plans_are_read.Goals as goal
-
-pub returns : goal.returns
-returns c = plans_read
