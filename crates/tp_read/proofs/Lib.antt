@@ -1,2 +1,1 @@
-pub mod OnEffects
 pub mod OnConstraints

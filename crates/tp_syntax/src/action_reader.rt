@@ -37,8 +37,8 @@ use tp_names::variables::Variables;
 use tp_parts::fields::{Field, find_field, read_fields};
 use tp_read::cond::read_cond;
 use tp_read::constraint::read_constraint;
-use tp_read::effect::read_effect;
-use tp_read::timed::{read_timed_cond, read_timed_effect};
+use tp_read_effects::effect::read_effect;
+use tp_read_effects::timed::{read_timed_cond, read_timed_effect};
 use tp_text::Tree;
 use tp_types::types::Types;
 

@@ -10,7 +10,7 @@ ghost use Rattle.tp_ast.specs.Effects.{specifier_at, specified_tree, specified, 
 ghost use Rattle.tp_ast.specs.EffectViews.{effect_view, timed_view, timed_condition_view, timed_effect_view};
 ghost use Rattle.tp_ast.specs.Gives.{Gives};
 
-use crate::cond::read_cond;
+use tp_read::cond::read_cond;
 use crate::joined::{Inner, read_joined};
 use std::alloc::Global;
 use tp_ast::cond::Cond;

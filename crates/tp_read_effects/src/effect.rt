@@ -10,7 +10,7 @@ ghost use Rattle.tp_ast.specs.Effects.{SimpleEffect, atom_at, deleted, written, 
 ghost use Rattle.tp_ast.specs.EffectViews.{simple_effect_view, effect_view};
 ghost use Rattle.tp_ast.specs.Gives.{Gives};
 
-use crate::expr::read_value;
+use tp_read::expr::read_value;
 use crate::joined::{Inner, read_joined};
 use std::alloc::Global;
 use tp_ast::effect::{Effect, SimpleEffect};

@@ -6,8 +6,8 @@ use Rattle.tp_ast.specs.Terms.{atom_view}
 use Rattle.tp_ast.specs.Effects.{atom_at}
 use Rattle.tp_ast.proofs.OnGives.{gives_same}
 use Rattle.tp_ast.proofs.OnLists.{a_word, empty_list, list_first, word_first}
-use Rattle.tp_read.proofs.OnEffects.{at_word, at_nothing, at_list, at_name}
-use Rattle.tp_read.proofs.effect.atom_at.Goals as goal
+use Rattle.tp_read_effects.proofs.OnEffects.{at_word, at_nothing, at_list, at_name}
+use Rattle.tp_read_effects.proofs.effect.atom_at.Goals as goal
 
 pub returns-in-Word : goal.returns-in-Word
 returns-in-Word c =

@@ -15,7 +15,7 @@ use Rattle.tp_ast.proofs.Loops.{goes_on, fails, ends}
 use Rattle.tp_ast.proofs.OnGives.{fails_bind, fails_map, fails_same, gives_same}
 use Rattle.tp_ast.proofs.OnLists.{a_word, empty_list, list_first, word_first}
 use Rattle.tp_ast.proofs.OnParts.{and_view, and_none, forall_view, one_view, each_part, at_word, at_nothing, at_list, by_joint, bound_none, bound_first, only_none, only_one, only_many}
-use Rattle.tp_read.proofs.joined.+joined.Goals as goal
+use Rattle.tp_read_effects.proofs.joined.+joined.Goals as goal
 
 pub read_joined-returns-in-Word : goal.read_joined-returns-in-Word
 read_joined-returns-in-Word g t c =
