@@ -14,9 +14,9 @@ use Rattle.tp_task.specs.declared.events.Body.TheVariants.{Instant, Durative}
 use Rattle.tp_reach.specs.Rounds.{adds_in, adds_fit}
 use Rattle.tp_bindings.specs.Bindings.{Universe, bound, universe_of}
 use Rattle.tp_lower.specs.ReadBack.{named_body}
-use Rattle.tp_ground.specs.Initially.{GroundInitial, initial_in, named_initial}
+use Rattle.tp_ground_parts.specs.Initially.{GroundInitial, initial_in, named_initial}
 use Rattle.tp_bounds.specs.RunLimits.{RunLimits}
-use Rattle.tp_ground.specs.Grounding.{HasNoTask, ground_actions, mentioned}
+use Rattle.tp_ground_parts.specs.Grounding.{HasNoTask, ground_actions, mentioned}
 use Rattle.tp_task.specs.declared.fault.GroundFault.{GroundFault}
 use Rattle.tp_task.specs.declared.fault.GroundFault.TheVariants as faults
 use Rattle.tp_task.specs.declared.fault.TooManyKind.TheVariants as kinds

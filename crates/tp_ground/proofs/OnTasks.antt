@@ -20,20 +20,20 @@ use Rattle.tp_task.specs.Tables.{Tables}
 use Rattle.tp_lower.specs.Written.{GroundCondition, GroundBody, GroundAction, condition_in, body_in}
 use Rattle.tp_lower.specs.Mentions.{Mentions, ◌then◌, of_condition, of_each}
 use Rattle.tp_lower.specs.ReadBack.{named_condition, named_body}
-use Rattle.tp_ground.specs.Initially.{GroundInitial, initial_in, of_initial, named_initial, is_initially_true, initial_value}
+use Rattle.tp_ground_parts.specs.Initially.{GroundInitial, initial_in, of_initial, named_initial, is_initially_true, initial_value}
 use Rattle.tp_lower.specs.Lowered.{Notes, Extends, IsLowered, Overflows}
 use Rattle.tp_ground.specs.Reached.{Instance, IsTaskOf, action_of, mentioned_of}
 use Rattle.tp_ground.specs.Instances.{written_with}
-use Rattle.tp_ground.specs.Grounding.{ground_action, ground_actions, mentioned, IsTask}
+use Rattle.tp_ground_parts.specs.Grounding.{ground_action, ground_actions, mentioned, IsTask}
 use Rattle.tp_ground.specs.WrittenTasks.{WrittenTask, written_task, named_task, IsMade}
-use Rattle.tp_ground.specs.declared.beginning.NumberedInitial.{NumberedInitial}
+use Rattle.tp_ground_parts.specs.declared.beginning.NumberedInitial.{NumberedInitial}
 use Rattle.tp_ground.specs.declared.grounder.LoweredTask.{LoweredTask}
 use Rattle.tp_task.specs.declared.task.Task.{Task}
 use Rattle.tp_task.specs.declared.fault.GroundFault.{GroundFault}
 use Rattle.tp_task.specs.declared.events.Cond.{Cond}
 use Rattle.tp_task.specs.declared.events.Body.{Body}
 use Rattle.tp_lower.proofs.OnBodies.{at_first, at_second, at_third}
-use Rattle.tp_ground.proofs.OnFits.{body_fits_of}
+use Rattle.tp_ground_parts.proofs.OnFits.{body_fits_of}
 use Rattle.tp_ground.proofs.OnInitially.{with_all_distinct, true_there, value_there, same_reads}
 use Rattle.tp_lower.proofs.OnLowered.{lowered_both, lowered_same}
 

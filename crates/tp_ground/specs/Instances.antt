@@ -13,7 +13,7 @@ use Rattle.tp_bindings.specs.Bindings.{Universe}
 use Rattle.tp_lower.specs.Written.{condition_in}
 use Rattle.tp_ground.specs.Schemas.{schema_view, is_hinted}
 use Rattle.tp_lower.specs.Mentions.{Mentions, ◌then◌, of_condition, of_each}
-use Rattle.tp_ground.specs.Initially.{GroundInitial, initial_in, of_initial, true_at}
+use Rattle.tp_ground_parts.specs.Initially.{GroundInitial, initial_in, of_initial, true_at}
 use Rattle.tp_ground.specs.WrittenTasks.{WrittenTask}
 use Rattle.tp_ground.specs.Reached.{Instance, instances, action_of, of_instance, happenings_of, is_kept, IsReach}
 use Rattle.tp_ground.specs.declared.instances.Instance as code

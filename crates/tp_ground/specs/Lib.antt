@@ -1,6 +1,3 @@
-pub mod Great
-pub mod Initially
-pub mod Grounding
 pub mod Reached
 pub mod Schemas
 pub mod Instances
@@ -13,3 +10,6 @@ pub use Rattle.tp_lower.specs.ReadBack
 pub use Rattle.tp_ast.specs.Terms
 pub use Rattle.tp_ast.specs.Domains
 pub use Rattle.tp_ast.specs.Problems
+pub use Rattle.tp_ground_parts.specs.Great
+pub use Rattle.tp_ground_parts.specs.Initially
+pub use Rattle.tp_ground_parts.specs.Grounding

@@ -10,8 +10,8 @@ use Rattle.tp_task.specs.Tables.{Tables}
 use Rattle.tp_lower.specs.Written.{GroundCondition, GroundBody, condition_in}
 use Rattle.tp_lower.specs.Mentions.{Mentions, ◌then◌, of_condition, of_each}
 use Rattle.tp_lower.specs.ReadBack.{named_condition, named_body}
-use Rattle.tp_ground.specs.Initially.{GroundInitial, initial_in, of_initial, named_initial, true_at, value_at}
-use Rattle.tp_ground.specs.Grounding.{ground_actions, of_action}
+use Rattle.tp_ground_parts.specs.Initially.{GroundInitial, initial_in, of_initial, named_initial, true_at, value_at}
+use Rattle.tp_ground_parts.specs.Grounding.{ground_actions, of_action}
 use Rattle.tp_ground.specs.declared.grounder.LoweredTask.{LoweredTask}
 use Rattle.tp_task.specs.declared.task.Task.{Task}
 

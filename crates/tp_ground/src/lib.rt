@@ -1,22 +1,19 @@
 //! How ground tasks are made of domains and problems.
 //!
-//! - `numbers`, `beginning`, `grounding`, `grounder`: numbers past the limit, the initial state, all ground actions, the task
+//! - `grounder`: the task, of what `tp_ground_parts` makes
 //! - `schema`, `schemas`, `instances`, `reached`: all bindings, and the task of those that the relaxed reach keeps
 //! - `laws`: what holds of the tasks that are made
 #![tactic(auto)]
 
-mod beginning;
 mod grounder;
-mod grounding;
 mod instances;
 mod laws;
-mod numbers;
 mod reached;
 mod schema;
 mod schemas;
 
 pub use grounder::ground;
 pub use laws::{actions_are_readable, reached_actions_are_readable};
-pub use numbers::has_great_number;
 pub use reached::ground_reached;
+pub use tp_ground_parts::numbers::has_great_number;
 pub use tp_task::{GroundFault, Task, TooManyKind};

@@ -8,8 +8,8 @@ ghost use Rattle.tp_task.specs.Words.{firsts};
 ghost use Rattle.tp_task.specs.Tables.{CannotNumber};
 ghost use Rattle.tp_reach.specs.Rounds.{set_of, adds_fit};
 ghost use Rattle.tp_bindings.specs.Views.{universe_view};
-ghost use Rattle.tp_ground.specs.Great.{has_great_number};
-ghost use Rattle.tp_ground.specs.Initially.{initial_in};
+ghost use Rattle.tp_ground_parts.specs.Great.{has_great_number};
+ghost use Rattle.tp_ground_parts.specs.Initially.{initial_in};
 ghost use Rattle.tp_lower.specs.Lowered.{IsLowered, Lowers};
 ghost use Rattle.tp_bindings.specs.Bindings.{universe_of};
 ghost use Rattle.tp_lower.specs.WriterViews.{with_tables};
@@ -18,7 +18,7 @@ ghost use Rattle.tp_ground.specs.Reached.{AreKept, IsTaskOf, IsReachedTask, HasN
 ghost use Rattle.tp_ground.specs.Schemas.{schema_view, is_hinted};
 ghost use Rattle.tp_ground.specs.Instances.{instance_view, has_hints, written_with, of_task_with, has_met, AreMet, AreReached, AreFlags, AreKeptOf};
 
-use crate::beginning::{entries, truths};
+use tp_ground_parts::beginning::{entries, truths};
 use crate::grounder::{LoweredTask, check, note_quantifiers, task_of};
 use crate::instances::{Instance, all_instances, flagged, lower_instances, name_instances};
 use crate::schema::Schema;

@@ -2,7 +2,7 @@ use Rattle.std.proofs.Common.{map, refl}
 use Rattle.tp_ast.specs.CondViews.{cond_view}
 use Rattle.tp_ast.specs.DomainViews.{action_view}
 use Rattle.tp_lower.specs.Mentions.{of_each}
-use Rattle.tp_ground.specs.Grounding.{ground_actions, of_action}
+use Rattle.tp_ground_parts.specs.Grounding.{ground_actions, of_action}
 use Rattle.tp_bindings.specs.Views.{universe_view}
 use Rattle.tp_ground.specs.WrittenTasks.{named_task}
 use Rattle.tp_lower.proofs.OnLowered.{failed}

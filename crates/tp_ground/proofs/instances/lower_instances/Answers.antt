@@ -11,7 +11,7 @@ use Rattle.tp_ground.specs.Instances.{instance_view}
 use Rattle.tp_ground.specs.declared.instances.Instance.{Instance}
 use Rattle.tp_bindings.proofs.Along.{map_next}
 use Rattle.tp_lower.proofs.OnLowered.{lowered_none, lowered_both, lowered_same, failed}
-use Rattle.tp_ground.proofs.OnActions.{every, each_next, each_stopped}
+use Rattle.tp_ground_parts.proofs.OnActions.{every, each_next, each_stopped}
 use Rattle.tp_ground.proofs.OnInstances.{each_view}
 use Rattle.tp_ground.proofs.instances.lower_instances.Goals as goal
 

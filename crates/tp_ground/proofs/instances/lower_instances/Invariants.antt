@@ -5,7 +5,7 @@ use Rattle.tp_ground.specs.Reached.{action_of, of_instance}
 use Rattle.tp_ground.specs.Instances.{instance_view}
 use Rattle.tp_lower.specs.ReadBack.{named_body}
 use Rattle.tp_lower.specs.Lowered.{IsLowered}
-use Rattle.tp_ground.proofs.OnActions.{every}
+use Rattle.tp_ground_parts.proofs.OnActions.{every}
 use Rattle.tp_ground.proofs.instances.lower_instances.Given as goal
 
 abbrev pub invariant-loop-instance : goal.invariant-loop-instance

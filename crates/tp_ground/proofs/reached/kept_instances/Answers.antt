@@ -3,7 +3,7 @@ use Rattle.std.specs.List.{list_all}
 use Rattle.std.proofs.lemmas.Result.{IfOk-weaker}
 use Rattle.tp_ast.specs.DomainViews.{problem_view}
 use Rattle.tp_bindings.specs.Views.{universe_view}
-use Rattle.tp_ground.specs.Initially.{initial_in}
+use Rattle.tp_ground_parts.specs.Initially.{initial_in}
 use Rattle.tp_ground.specs.Reached.{Instance}
 use Rattle.tp_ground.specs.Schemas.{schema_view}
 use Rattle.tp_ground.specs.Instances.{instance_view, has_hints, AreFlags}

@@ -1,0 +1,5 @@
+pub mod OnGreat
+pub mod OnFits
+pub mod OnGrounding
+pub mod OnEntries
+pub mod OnActions

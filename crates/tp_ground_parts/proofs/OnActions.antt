@@ -1,0 +1,99 @@
+-- Bodies of ground actions, numbered one after another.
+use Rattle.std.proofs.Common.{◌≡◌, ℕ, ◌+◌, ◌<◌, List, [], ◌∷◌, ◌++◌, length, take, drop, get_or, map, Bor, Vec, Global, refl, sym, ap, subst, ◌∙◌, append-nil}
+use Rattle.std.specs.List.{flat_map}
+use Rattle.std.proofs.lemmas.List.{map-append, take_more, take-append-drop}
+use Rattle.tp_ast.specs.Symbols.{Name, Declared, typed_view}
+use Rattle.tp_ast.specs.Actions as actions
+use Rattle.tp_ast.specs.DomainViews.{action_view}
+use Rattle.tp_ast.specs.declared.symbols.Typed.{Typed}
+use Rattle.tp_ast.specs.declared.action.Action.{Action}
+use Rattle.tp_lower.specs.WriterViews.{WriterView}
+use Rattle.tp_bindings.specs.Views.{env_view}
+use Rattle.tp_bindings.specs.Bindings.{Universe, Env, bindings, bound}
+use Rattle.tp_lower.specs.Written.{GroundBody, body_in}
+use Rattle.tp_task.specs.Tables.{Tables}
+use Rattle.tp_lower.specs.Mentions.{Mentions, ◌then◌, of_body, of_each}
+use Rattle.tp_lower.specs.Lowered.{Notes, IsLowered, Overflows}
+use Rattle.tp_lower.specs.Appended.{IsAppended}
+use Rattle.tp_ground_parts.specs.Grounding.{ground_action, ground_actions, of_action}
+use Rattle.tp_bindings.specs.declared.environment.Env as code
+use Rattle.tp_bindings.specs.declared.environment.Env.{Inner, Empty}
+use Rattle.tp_task.specs.declared.fault.GroundFault.{GroundFault}
+use Rattle.tp_bindings.proofs.Along.{next, map_next}
+use Rattle.tp_bindings.proofs.OnEnvironments.{empty_env}
+use Rattle.tp_lower.proofs.OnInner.{inner_env}
+use Rattle.tp_lower.proofs.OnLowered.{then_assoc, of_each-append, of_each_one, lowered_same, lowered_both, overflows_first, overflows_then}
+use Rattle.tp_lower.proofs.OnAppended.{appended_one, appended_then, appended_same}
+
+module _ {X : Type 0} (of : X → Mentions) (xs : List X) (i : ℕ) (x : X) (lt : i < length xs) (item : x ≡ get_or xs i x) where
+  pub each_next : of_each of (take (i + 1) xs) ≡ (of_each of (take i xs) then of x)
+  each_next =
+      ap (of_each of) (take_more xs i x lt) ∙ of_each-append of (take i xs) (get_or xs i x ∷ [])
+      ∙ ap (λ n. of_each of (take i xs) then n) (of_each_one of (get_or xs i x) ∙ ap of (sym item))
+
+  pub each_whole : of_each of xs ≡ (of_each of (take i xs) then (of x then of_each of (drop (i + 1) xs)))
+  each_whole =
+      ap (of_each of) (sym (take-append-drop (i + 1) xs)) ∙ of_each-append of (take (i + 1) xs) (drop (i + 1) xs)
+      ∙ ap (λ m. m then of_each of (drop (i + 1) xs)) each_next
+      ∙ sym (then_assoc (of_each of (take i xs)) (of x) (of_each of (drop (i + 1) xs)))
+
+-- a fault at one that comes after others, in all
+pub each_stopped : {X : Type 0} (of : X → Mentions) (xs : List X) (i : ℕ) (x : X) → i < length xs → x ≡ get_or xs i x → (a b : WriterView) (e : GroundFault) (all m : Mentions) → all ≡ of_each of xs → m ≡ of x → Notes a b (of_each of (take i xs)) → Overflows b m e → Overflows a all e
+each_stopped of xs i x lt item a b e all m is p notes h =
+    subst (λ n. Overflows a n e) (sym (is ∙ each_whole of xs i x lt item))
+    (overflows_then a b (of_each of (take i xs)) (of x then of_each of (drop (i + 1) xs)) e notes
+    (overflows_first b (of x) (of_each of (drop (i + 1) xs)) e (subst (λ n. Overflows b n e) p h)))
+
+module _ {C Y : Type 0} (named : Tables → C → Y) where
+  abbrev pub every : Tables → Vec C Global → List Y
+  every t v = map (named t) v.items
+
+  module _ {X : Type 0} (of : X → Mentions) (xs : List X) (i : ℕ) (x : X) (lt : i < length xs) (item : x ≡ get_or xs i x) (a b c : WriterView) where
+    pub each_push : (u v w : List C) (g : X → Y) (o : C) (y : Y) (m : Mentions) → w ≡ v ++ o ∷ [] → y ≡ g x → m ≡ of x → IsAppended named a b u v (map g (take i xs)) (of_each of (take i xs)) → IsLowered named b c o y m → IsAppended named a c u w (map g (take (i + 1) xs)) (of_each of (take (i + 1) xs))
+    each_push u v w g o y m items p q l k =
+        appended_same named (map g (take (i + 1) xs)) (of_each of (take (i + 1) xs))
+        (ap (λ z. map g (take i xs) ++ z ∷ []) p ∙ sym (map_next g xs i x lt item))
+        (ap (λ n. of_each of (take i xs) then n) q ∙ sym (each_next of xs i x lt item))
+        (appended_then named a b c u v w (map g (take i xs)) (y ∷ []) (of_each of (take i xs)) m l (appended_one named b c v w o y m items k))
+
+    pub each_append : (v u : Vec C Global) (g : X → List Y) (ys : List Y) (m : Mentions) → ys ≡ g x → m ≡ of x → IsLowered every a b v (flat_map g (take i xs)) (of_each of (take i xs)) → IsAppended named b c v.items u.items ys m → IsLowered every a c u (flat_map g (take (i + 1) xs)) (of_each of (take (i + 1) xs))
+    each_append v u g ys m p q l k =
+        lowered_same (flat_map g (take (i + 1) xs)) (of_each of (take (i + 1) xs))
+        (ap (λ zs. flat_map g (take i xs) ++ zs) p ∙ sym (next g xs i x lt item))
+        (ap (λ n. of_each of (take i xs) then n) q ∙ sym (each_next of xs i x lt item))
+        (lowered_both (λ (zs ws : List Y). zs ++ ws) u (λ t. ap (map (named t)) k.items ∙ map-append (named t) v.items k.more) l k.lowered)
+
+-- what parameters stand for, and nothing else
+pub plain_env : (vars : Bor (List Typed)) (names : Bor (List (Bor (List ℕ)))) (outer : Bor code.Env) (b : List Name) → outer.now ≡ Empty → map (λ n. n.now) names.now ≡ b → env_view (Inner vars names outer) ≡ bound (map typed_view vars.now) b
+plain_env vars names outer b none is =
+    inner_env vars names outer b is
+    ∙ ap (λ (o : code.Env). bound (map typed_view vars.now) b ++ env_view o) none
+    ∙ ap (λ (e : Env). bound (map typed_view vars.now) b ++ e) empty_env
+    ∙ append-nil (bound (map typed_view vars.now) b)
+
+module _ (u : Universe) (vs : List Declared) (x : actions.Body) where
+  abbrev pub body_under : List Name → GroundBody
+  body_under b = body_in u (bound vs b) x
+
+  abbrev pub mentions_under : List Name → Mentions
+  mentions_under b = of_body u (bound vs b) x
+
+-- the bodies of an action
+abbrev pub bodies_of : Universe → Action → List GroundBody
+bodies_of u a = map (λ objects. body_in u (bound (action_view a).parameters objects) (action_view a).body) (bindings u (action_view a).parameters)
+
+module _ (u : Universe) where
+  bodies_one : (a : actions.Action) (bs : List (List Name)) → map (λ objects. body_in u (bound a.parameters objects) a.body) bs ≡ map (λ g. g.body) (map (ground_action u a) bs)
+  bodies_one a [] = refl
+  bodies_one a (b ∷ bs) = ap (λ ys. body_in u (bound a.parameters b) a.body ∷ ys) (bodies_one a bs)
+
+  pub bodies_all : (xs : List Action) → flat_map (bodies_of u) xs ≡ map (λ g. g.body) (ground_actions u (map action_view xs))
+  bodies_all [] = refl
+  bodies_all (x ∷ xs) =
+      ap (λ ys. ys ++ flat_map (bodies_of u) xs) (bodies_one (action_view x) (bindings u (action_view x).parameters))
+      ∙ ap (λ ys. map (λ g. g.body) (map (ground_action u (action_view x)) (bindings u (action_view x).parameters)) ++ ys) (bodies_all xs)
+      ∙ sym (map-append (λ g. g.body) (map (ground_action u (action_view x)) (bindings u (action_view x).parameters)) (ground_actions u (map action_view xs)))
+
+  pub mentions_all : (xs : List Action) → of_each (λ x. of_action u (action_view x)) xs ≡ of_each (of_action u) (map action_view xs)
+  mentions_all [] = refl
+  mentions_all (x ∷ xs) = ap (λ m. of_action u (action_view x) then m) (mentions_all xs)

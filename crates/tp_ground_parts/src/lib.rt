@@ -1,0 +1,10 @@
+//! The parts of ground tasks.
+//!
+//! - `numbers`: whether a number of a domain or a problem passes the limit
+//! - `beginning`: the initial state
+//! - `grounding`: all ground actions
+#![tactic(auto)]
+
+pub mod beginning;
+pub mod grounding;
+pub mod numbers;
