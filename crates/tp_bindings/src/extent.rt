@@ -28,11 +28,15 @@ pub struct Extent {
     bodies: Cell<usize>,
 }
 
-// Asks for room, and for half as much again, and gives it back.
-fn ask(alloc: Global, bytes: usize) -> Result<(), AllocError> {
-    let most = bytes.saturating_add(bytes / 2);
-    let _room: Vec<u8> = Vec::with_capacity(alloc, most)?;
+/// Asks for room, and gives it back.
+pub fn ask_for(alloc: Global, bytes: usize) -> Result<(), AllocError> {
+    let _room: Vec<u8> = Vec::with_capacity(alloc, bytes)?;
     Ok(())
+}
+
+// The same, and half as much again.
+fn ask(alloc: Global, bytes: usize) -> Result<(), AllocError> {
+    ask_for(alloc, bytes.saturating_add(bytes / 2))
 }
 
 impl Extent {

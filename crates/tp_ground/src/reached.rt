@@ -18,7 +18,6 @@ ghost use Rattle.tp_ground.specs.Reached.{AreKept, IsTaskOf, IsReachedTask, HasN
 ghost use Rattle.tp_ground.specs.Schemas.{schema_view, is_hinted};
 ghost use Rattle.tp_ground.specs.Instances.{instance_view, has_hints, written_with, of_task_with, has_met, AreMet, AreReached, AreFlags, AreKeptOf};
 
-use tp_ground_parts::beginning::{entries, truths};
 use crate::grounder::{LoweredTask, check, note_quantifiers, task_of};
 use crate::instances::{Instance, all_instances, flagged, lower_instances, name_instances};
 use crate::schema::Schema;
@@ -28,8 +27,10 @@ use tp_ast::action::Action;
 use tp_ast::domain::Domain;
 use tp_ast::problem::{Initial, Problem};
 use tp_ast::typed_list::TypedList;
+use tp_bindings::extent::ask_for;
 use tp_bindings::universe::{Universe, count_and_note, plain_universe};
 use tp_bounds::Limits;
+use tp_ground_parts::beginning::{entries, truths};
 use tp_lower::conditions::closed_condition;
 use tp_lower::writer::Writer;
 use tp_reach::{met, saturate};
@@ -59,15 +60,8 @@ fn count_more<'a>(
     }
 }
 
-// Asks for the room of what so many bindings are written out to, but for a few, and gives it back.
-fn ask_for(alloc: Global, count: usize) -> Result<(), AllocError> {
-    let many = count.saturating_sub(FEW);
-    let _room: Vec<u8> = Vec::with_capacity(alloc, many.saturating_mul(ROOM))?;
-    Ok(())
-}
-
-// Asks for the room of what all bindings of all actions are written out to: action after action, so that what is known of
-// objects by then takes little beside it.
+// Asks for the room of what all bindings of all actions are written out to, but for a few: action after action, so that what is
+// known of objects by then takes little beside it.
 fn ask_for_room<'a>(
     alloc: Global,
     universe: &mut Universe<'a>,
@@ -78,7 +72,7 @@ fn ask_for_room<'a>(
     let mut count = 0usize;
     for action in actions {
         count = count_more(alloc, universe, &action.parameters, count)?;
-        ask_for(alloc, count)?;
+        ask_for(alloc, count.saturating_sub(FEW).saturating_mul(ROOM))?;
     }
     Ok(())
 }

@@ -20,8 +20,7 @@ ghost use Rattle.tp_ast.specs.Conditions.{conditions as syntax_conditions};
 
 use crate::expressions::{comparison_of, operand};
 use crate::hinting::hint_of;
-use crate::parts::FEW_BINDINGS;
-use crate::rooms::of_condition;
+use crate::rooms::{FEW_BINDINGS, of_condition};
 use crate::shortness::{is_brief, is_short_quantifier};
 use crate::writer::Writer;
 use std::alloc::{AllocError, Global};

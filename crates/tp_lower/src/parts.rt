@@ -17,7 +17,7 @@ ghost use Rattle.tp_bindings.specs.declared.objects.Universe as objects;
 ghost use Rattle.tp_bindings.specs.declared.hints.Hint as hints;
 ghost use Rattle.tp_ast.specs.Parts.{parts as syntax_parts};
 
-use crate::rooms::of_part;
+use crate::rooms::{FEW_BINDINGS, of_part};
 use crate::shortness::is_brief_part;
 use crate::writer::Writer;
 use std::alloc::{AllocError, Global};
@@ -29,9 +29,6 @@ use tp_bindings::rows::rows_with;
 use tp_bindings::universe::Universe;
 use tp_bindings::variables::Variables;
 use tp_task::GroundFault;
-
-/// For so few bindings of a quantifier no room is asked for before they are written out.
-pub const FEW_BINDINGS: usize = 16;
 
 /// What may stand inside.
 pub trait Lowerable: Drop {

@@ -8,6 +8,9 @@ use tp_ast::effect::SimpleEffect;
 use tp_ast::expr::Expr;
 use tp_ast::joined::Joined;
 
+/// For so few bindings of a quantifier no room is asked for before they are written out.
+pub const FEW_BINDINGS: usize = 16;
+
 // The bytes of a condition that is written out, of an expression, and of an effect on its list.
 const OF_CONDITION: usize = 32;
 

@@ -6,6 +6,7 @@ ghost use Rattle.std.specs.List.{list_any};
 ghost use Rattle.tp_ast.specs.Symbols.{at_or_below, types_fit};
 ghost use Rattle.tp_types.specs.TypeViews.{types_view};
 
+use crate::kinds::Kinds;
 use std::alloc::{AllocError, Global};
 use std::collections::BTreeMap;
 use std::rc::Rc;
@@ -20,9 +21,6 @@ const FEW: usize = 16;
 
 // So far up from a type it is looked for.
 const STEPS: usize = 64;
-
-// So many steps at most are gone up from the types of objects before anything is asked.
-const MOST_STEPS: usize = 4_000_000;
 
 /// For each parameter of a signature, guesses where types stand among its own, if these are many.
 pub type Near = Vec<Option<Rc<Guesses>>>;
@@ -47,81 +45,13 @@ fn last_near(near: &[Option<Rc<Guesses>>]) -> Option<&Rc<Guesses>> {
     }
 }
 
-/// The types, and those of them of which objects are.
-#[derive(Drop)]
-struct Kinds<'t, 'a> {
-    types: &'t Types<'a>,
-    names: Vec<&'a str>,
-}
-
-fn push_kinds<'a>(names: &mut Vec<&'a str>, objects: &'a [Typed]) -> Result<(), AllocError> {
-    let mut last = "";
-    for object in objects {
-        for name in object.type_names() {
-            if name.len() > STEPS || name.as_str() != last {
-                names.push(name.as_str())?;
-                last = name.as_str();
-            }
-        }
-    }
-    Ok(())
-}
-
-// Where in a list of types the first one stands that is above a type, if it is found in so many steps, and how many it took.
-fn place_above(
-    types: &Types,
-    below: &str,
-    parameter: &[String],
-    guesses: &Guesses,
-    steps: usize,
-) -> (Option<usize>, usize) {
-    let mut current = below;
-    let mut taken = 0usize;
-    for _ in 0..steps {
-        // A long name takes as long as some steps.
-        taken = taken.saturating_add((current.len() / STEPS).saturating_add(1));
-        let place = guesses.guess(current);
-        if stands_at(parameter, place, current) {
-            return (place, taken);
-        }
-        if taken >= steps {
-            return (None, taken);
-        }
-        let Some(parent) = parent_of(current, types) else {
-            return (None, taken);
-        };
-        current = parent.as_str();
-    }
-    (None, taken)
-}
-
-// Notes for the types of objects where in a list one above them stands, in so many steps. What is left of these.
-fn note_kinds(guesses: &mut Guesses, kinds: &Kinds, parameter: &[String], steps: usize) -> usize {
-    let mut left = steps;
-    for name in kinds.names.as_slice() {
-        if left == 0 {
-            return 0;
-        }
-        left -= 1;
-        if guesses.guess(*name).is_none() {
-            let (found, taken) = place_above(kinds.types, *name, parameter, &*guesses, left);
-            left = left.saturating_sub(taken);
-            if let Some(place) = found {
-                guesses.note(*name, place);
-            }
-        }
-    }
-    left
-}
-
 // Guesses for a parameter: those of the one before, if it was given its types together with that one.
 fn guesses_for(
     alloc: Global,
-    kinds: &Kinds,
+    kinds: &mut Kinds,
     near: &[Option<Rc<Guesses>>],
     mark: bool,
     parameter: &Typed,
-    left: &mut usize,
 ) -> Result<Option<Rc<Guesses>>, AllocError> {
     if !is_long(parameter) {
         return Ok(None);
@@ -132,22 +62,17 @@ fn guesses_for(
         }
     }
     let names = parameter.type_names();
-    let mut guesses = Guesses::with_room(alloc, names, kinds.names.len().min(names.len()))?;
-    *left = note_kinds(&mut guesses, kinds, names, *left);
+    let mut guesses = Guesses::with_room(alloc, names, kinds.len().min(names.len()))?;
+    kinds.note(&mut guesses, names);
     Ok(Some(Rc::new(alloc, guesses)?))
 }
 
-fn near_of(
-    alloc: Global,
-    kinds: &Kinds,
-    parameters: &TypedList,
-    left: &mut usize,
-) -> Result<Near, AllocError> {
+fn near_of(alloc: Global, kinds: &mut Kinds, parameters: &TypedList) -> Result<Near, AllocError> {
     let marks = parameters.marks();
     let mut near = Vec::new(alloc);
     for (place, parameter) in parameters.as_slice().iter().enumerate() {
         let mark = is_marked(marks, place);
-        let guesses = guesses_for(alloc, kinds, &near, mark, parameter, left)?;
+        let guesses = guesses_for(alloc, kinds, &near, mark, parameter)?;
         near.push(guesses)?;
     }
     Ok(near)
@@ -164,16 +89,15 @@ fn has_long_list(signature: &Signature) -> bool {
 
 fn by_names<'a>(
     alloc: Global,
-    kinds: &Kinds,
+    kinds: &mut Kinds,
     signatures: &'a [Signature],
-    left: &mut usize,
 ) -> Result<BTreeMap<&'a str, Near>, AllocError> {
     let mut by_name = BTreeMap::new(alloc);
     for signature in signatures {
         if has_long_list(signature) {
             by_name.insert(
                 signature.name.as_str(),
-                near_of(alloc, kinds, &signature.parameters, left)?,
+                near_of(alloc, kinds, &signature.parameters)?,
             )?;
         }
     }
@@ -197,20 +121,18 @@ fn most_of_any(signatures: &[Signature]) -> usize {
     most
 }
 
-// The types of objects, if a list of so many types is long.
+// The types that objects have, if a list of so many types is long.
 fn kinds_of<'t, 'a>(
     alloc: Global,
     types: &'t Types<'a>,
-    objects: [&'a [Typed]; 2],
+    objects: [&[Typed]; 2],
     most: usize,
 ) -> Result<Kinds<'t, 'a>, AllocError> {
-    let mut names = Vec::new(alloc);
     if most > FEW {
-        let [constants, own] = objects;
-        push_kinds(&mut names, constants)?;
-        push_kinds(&mut names, own)?;
+        Kinds::new(alloc, types, objects)
+    } else {
+        Kinds::none(alloc)
     }
-    Ok(Kinds { types, names })
 }
 
 impl<'a> Hints<'a> {
@@ -223,10 +145,9 @@ impl<'a> Hints<'a> {
         functions: &'a [Signature],
     ) -> Result<Self, AllocError> {
         let most = most_of_any(predicates).max(most_of_any(functions));
-        let kinds = kinds_of(alloc, types, objects, most)?;
-        let mut left = MOST_STEPS;
-        let predicates = by_names(alloc, &kinds, predicates, &mut left)?;
-        let functions = by_names(alloc, &kinds, functions, &mut left)?;
+        let mut kinds = kinds_of(alloc, types, objects, most)?;
+        let predicates = by_names(alloc, &mut kinds, predicates)?;
+        let functions = by_names(alloc, &mut kinds, functions)?;
         Ok(Hints {
             predicates,
             functions,

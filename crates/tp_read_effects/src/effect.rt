@@ -10,7 +10,6 @@ ghost use Rattle.tp_ast.specs.Effects.{SimpleEffect, atom_at, deleted, written, 
 ghost use Rattle.tp_ast.specs.EffectViews.{simple_effect_view, effect_view};
 ghost use Rattle.tp_ast.specs.Gives.{Gives};
 
-use tp_read::expr::read_value;
 use crate::joined::{Inner, read_joined};
 use std::alloc::Global;
 use tp_ast::effect::{Effect, SimpleEffect};
@@ -22,6 +21,7 @@ use tp_ast::words::{EffectWord, Writing, effect_word_of};
 use tp_declarations::lists::{both, only};
 use tp_names::scope::{Scope, atom_in};
 use tp_names::symbols::Kind;
+use tp_read::expr::read_value;
 use tp_text::{Token, Tree};
 
 /// The atom that a member of the list at `at` spells, its name one of these.

@@ -10,7 +10,6 @@ ghost use Rattle.tp_ast.specs.Effects.{specifier_at, specified_tree, specified, 
 ghost use Rattle.tp_ast.specs.EffectViews.{effect_view, timed_view, timed_condition_view, timed_effect_view};
 ghost use Rattle.tp_ast.specs.Gives.{Gives};
 
-use tp_read::cond::read_cond;
 use crate::joined::{Inner, read_joined};
 use std::alloc::Global;
 use tp_ast::cond::Cond;
@@ -21,6 +20,7 @@ use tp_ast::timed::{Timed, TimedCond, TimedEffect};
 use tp_ast::words::{TimeSpecifier, is_word, specifier_of};
 use tp_declarations::lists::both;
 use tp_names::scope::Scope;
+use tp_read::cond::read_cond;
 use tp_text::{Token, Tree};
 
 #[tactic(auto, unfolding(tp_ast::specs::Effects::specifier_at))]

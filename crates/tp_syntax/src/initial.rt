@@ -18,8 +18,8 @@ use tp_ast::words::is_word;
 use tp_declarations::lists::{both, only};
 use tp_names::scope::{Scope, atom_in};
 use tp_names::symbols::{Kind, Symbols};
-use tp_read_effects::effect::atom_at;
 use tp_read::expr::{begins_number, number_fault, outside_conditions};
+use tp_read_effects::effect::atom_at;
 use tp_text::{Token, Tree, read_whole};
 
 fn initial_number(fact: Atom, tree: &Tree, at: u32) -> Result<Initial, SyntaxFault>
