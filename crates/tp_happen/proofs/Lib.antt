@@ -13,3 +13,4 @@ pub mod Mentioned
 pub mod Walked
 pub mod FirstPairs
 pub mod Within
+pub use Rattle.tp_plan_texts.proofs.OnTaskPlans

@@ -7,3 +7,4 @@ pub mod Terms
 pub mod Fault
 pub mod Parts
 pub mod Meetings
+pub use Rattle.tp_plan_texts.specs as tp_plan_texts

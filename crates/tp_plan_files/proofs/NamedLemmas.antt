@@ -5,9 +5,9 @@ use Rattle.tp_syntax.specs.Problems.{SpellsProblem}
 use Rattle.tp_syntax.specs.Refusals.{IsRefusedDomain}
 use Rattle.tp_ast.specs.Problems.{IsRefusedProblem}
 use Rattle.tp_task.specs.declared.task.Task.{Task}
-use Rattle.tp_plan_texts.specs.PlanTexts.{IsRefused, SpellsPlan}
-use Rattle.tp_plan_texts.specs.TaskWords.{readable}
-use Rattle.tp_plan_texts.specs.declared.plans.Step.{Step}
+use Rattle.tp_happen.specs.tp_plan_texts.PlanTexts.{IsRefused, SpellsPlan}
+use Rattle.tp_happen.specs.tp_plan_texts.TaskWords.{readable}
+use Rattle.tp_happen.specs.tp_plan_texts.declared.plans.Step.{Step}
 use Rattle.tp_files.specs.Texts.{HasFault}
 use Rattle.tp_plan_files.specs.Causes.{Explains}
 use Rattle.tp_plan_files.specs.Named.{IsIn, IsNamedPlan, IsNamedTask, IsTaskWith}

@@ -7,9 +7,9 @@ use Rattle.tp_syntax.specs.Problems.{Problem, SpellsProblem}
 use Rattle.tp_syntax.specs.Refusals.{IsRefusedDomain}
 use Rattle.tp_ground.specs.Grounding.{HasNoTask}
 use Rattle.tp_task.specs.declared.task.Task as task
-use Rattle.tp_plan_texts.specs.PlanTexts.{IsRefused}
-use Rattle.tp_plan_texts.specs.TaskWords.{readable}
-use Rattle.tp_plan_texts.specs.declared.plans.Step.{Step}
+use Rattle.tp_happen.specs.tp_plan_texts.PlanTexts.{IsRefused}
+use Rattle.tp_happen.specs.tp_plan_texts.TaskWords.{readable}
+use Rattle.tp_happen.specs.tp_plan_texts.declared.plans.Step.{Step}
 use Rattle.tp_validate.specs.Verdict.{PassesIn}
 use Rattle.tp_files.specs.Texts.{HasFault}
 use Rattle.tp_plan_files.specs.Named.{IsIn, IsNamedPlan, IsNamedTask}

@@ -11,8 +11,8 @@ use Rattle.tp_task.specs.declared.fault.TooManyKind.{TooManyKind}
 use Rattle.tp_task.specs.declared.fault.TooManyKind.TheVariants as kinds
 use Rattle.tp_task.specs.declared.fault.GroundFault.{GroundFault}
 use Rattle.tp_task.specs.declared.fault.GroundFault.TheVariants as ground_fault
-use Rattle.tp_plan_texts.specs.declared.reading.PlanFault.{PlanFault}
-use Rattle.tp_plan_texts.specs.declared.reading.PlanFault.TheVariants as plan_fault
+use Rattle.tp_happen.specs.tp_plan_texts.declared.reading.PlanFault.{PlanFault}
+use Rattle.tp_happen.specs.tp_plan_texts.declared.reading.PlanFault.TheVariants as plan_fault
 use Rattle.tp_files.specs.FaultLines.{construct_line, fault_line, named_line, placed_line}
 use Rattle.tp_files.specs.FileFaults.{file_status, file_text}
 use Rattle.tp_files.specs.declared.files.FileFault.{FileFault}

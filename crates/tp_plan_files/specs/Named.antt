@@ -5,9 +5,9 @@ use Rattle.tp_syntax.specs.Domains.{Domain, SpellsDomain}
 use Rattle.tp_syntax.specs.Problems.{Problem, SpellsProblem}
 use Rattle.tp_ground.specs.Grounding.{IsTask}
 use Rattle.tp_task.specs.declared.task.Task.{Task}
-use Rattle.tp_plan_texts.specs.PlanTexts.{SpellsPlan}
-use Rattle.tp_plan_texts.specs.TaskWords.{readable}
-use Rattle.tp_plan_texts.specs.declared.plans.Step.{Step}
+use Rattle.tp_happen.specs.tp_plan_texts.PlanTexts.{SpellsPlan}
+use Rattle.tp_happen.specs.tp_plan_texts.TaskWords.{readable}
+use Rattle.tp_happen.specs.tp_plan_texts.declared.plans.Step.{Step}
 use Rattle.tp_files.specs.Texts.{HoldsText}
 use Rattle.tp_plan_files.specs.declared.plan_words.PlanWords.{PlanWords}
 

@@ -6,11 +6,11 @@ use Rattle.tp_ast.specs.Problems.{Problem, SpellsProblem}
 use Rattle.tp_bounds.specs.RunLimits.{RunLimits}
 use Rattle.tp_ground.specs.Grounding.{IsTask}
 use Rattle.tp_task.specs.declared.task.Task.{Task}
-use Rattle.tp_plan_texts.specs.declared.plans.Step.{Step}
-use Rattle.tp_plan_texts.specs.PlanTexts.{SpellsPlan, AreKnown}
-use Rattle.tp_plan_texts.specs.PlanPrints.{plan_text}
-use Rattle.tp_plan_texts.specs.TaskPlans.{EndInTime}
-use Rattle.tp_plan_texts.specs.TaskWords.{readable}
+use Rattle.tp_happen.specs.tp_plan_texts.declared.plans.Step.{Step}
+use Rattle.tp_happen.specs.tp_plan_texts.PlanTexts.{SpellsPlan, AreKnown}
+use Rattle.tp_happen.specs.tp_plan_texts.PlanPrints.{plan_text}
+use Rattle.tp_happen.specs.tp_plan_texts.TaskPlans.{EndInTime}
+use Rattle.tp_happen.specs.tp_plan_texts.TaskWords.{readable}
 
 -- The task of a problem that is spelled by texts: what is written for steps of it that end by its horizon spells them.
 abbrev pub TaskPlansAreRead : Type 0

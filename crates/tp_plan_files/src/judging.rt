@@ -4,9 +4,9 @@ ghost use Rattle.std.specs.Prelude.{◌≡◌, ◌≤◌, ℕ, List, IfOk, IfErr
 ghost use Rattle.tp_syntax.specs.DomainViews.{domain_view, problem_view};
 ghost use Rattle.tp_syntax.specs.Domains.{SpellsDomain};
 ghost use Rattle.tp_syntax.specs.Problems.{SpellsProblem};
-ghost use Rattle.tp_plan_texts.specs.PlanTexts.{SpellsPlan};
-ghost use Rattle.tp_plan_texts.specs.TaskWords.{readable};
-ghost use Rattle.tp_plan_texts.specs.declared.plans.Step.{Step};
+ghost use Rattle.tp_happen.specs.tp_plan_texts.PlanTexts.{SpellsPlan};
+ghost use Rattle.tp_happen.specs.tp_plan_texts.TaskWords.{readable};
+ghost use Rattle.tp_happen.specs.tp_plan_texts.declared.plans.Step.{Step};
 ghost use Rattle.tp_validate.specs.Answers.{IsVerdict};
 ghost use Rattle.tp_validate.specs.OfTask.{IsOfTask};
 ghost use Rattle.tp_plan_files.specs.Causes.{Explains, IsTextFault};

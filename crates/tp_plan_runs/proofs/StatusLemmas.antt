@@ -6,8 +6,8 @@ use Rattle.tp_ast.specs.declared.fault.SyntaxFault.{SyntaxFault}
 use Rattle.tp_ast.specs.declared.fault.SyntaxFault.TheVariants as syntax_fault
 use Rattle.tp_task.specs.declared.fault.GroundFault.{GroundFault}
 use Rattle.tp_task.specs.declared.fault.GroundFault.TheVariants as ground_fault
-use Rattle.tp_plan_texts.specs.declared.reading.PlanFault.{PlanFault}
-use Rattle.tp_plan_texts.specs.declared.reading.PlanFault.TheVariants as plan_fault
+use Rattle.tp_happen.specs.tp_plan_texts.declared.reading.PlanFault.{PlanFault}
+use Rattle.tp_happen.specs.tp_plan_texts.declared.reading.PlanFault.TheVariants as plan_fault
 use Rattle.tp_deorder.specs.declared.DeorderFault.{DeorderFault}
 use Rattle.tp_deorder.specs.declared.DeorderFault.TheVariants as deorder_fault
 use Rattle.tp_script.specs.declared.serving.ServeFault.TheVariants as serving

@@ -3,7 +3,7 @@
 ghost use Rattle.std.specs.Prelude.{◌≡◌, ℕ, ◌≤◌, List, length, IfOk, IfErr};
 ghost use Rattle.tp_bounds.specs.RunLimits.{greatest_limits};
 ghost use Rattle.tp_task.specs.declared.task.Task.{Task};
-ghost use Rattle.tp_plan_texts.specs.declared.plans.Step.{Step};
+ghost use Rattle.tp_happen.specs.tp_plan_texts.declared.plans.Step.{Step};
 ghost use Rattle.tp_deorder.specs.Answers.{IsPlanNetOf};
 ghost use Rattle.tp_exec.specs.FromPlan.{CameFrom};
 ghost use Rattle.tp_bare.specs.Bare.{bare_failures};

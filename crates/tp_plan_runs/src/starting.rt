@@ -4,7 +4,7 @@ ghost use Rattle.std.specs.Prelude.{◌≡◌, ℕ, ◌≤◌, List, length, IfO
 ghost use Rattle.tp_bounds.specs.RunLimits.{greatest_limits};
 ghost use Rattle.tp_bounds.specs.Setting.{event_count};
 ghost use Rattle.tp_task.specs.declared.task.Task.{Task};
-ghost use Rattle.tp_plan_texts.specs.declared.plans.Step.{Step};
+ghost use Rattle.tp_happen.specs.tp_plan_texts.declared.plans.Step.{Step};
 ghost use Rattle.tp_deorder.specs.Answers.{IsPlanNetOf};
 ghost use Rattle.tp_exec.specs.FromPlan.{CameFrom};
 ghost use Rattle.tp_machine.specs.Machine.{IsFresh, plan_machine};

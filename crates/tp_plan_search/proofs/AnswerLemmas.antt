@@ -8,15 +8,15 @@ use Rattle.tp_ground.specs.Grounding.{IsTask}
 use Rattle.tp_ground.specs.Reached.{IsReachedTask}
 use Rattle.tp_task.specs.Readable.{AreReadable}
 use Rattle.tp_task.specs.declared.task.Task.{Task}
-use Rattle.tp_plan_texts.specs.PlanPrints.{PlansAreRead, plan_text}
-use Rattle.tp_plan_texts.specs.PlanTexts.{SpellsPlan}
-use Rattle.tp_plan_texts.specs.TaskWords.{readable}
-use Rattle.tp_plan_texts.specs.declared.plans.Step.{Step}
+use Rattle.tp_happen.specs.tp_plan_texts.PlanPrints.{PlansAreRead, plan_text}
+use Rattle.tp_happen.specs.tp_plan_texts.PlanTexts.{SpellsPlan}
+use Rattle.tp_happen.specs.tp_plan_texts.TaskWords.{readable}
+use Rattle.tp_happen.specs.tp_plan_texts.declared.plans.Step.{Step}
 use Rattle.tp_validate.specs.OfTask.{IsOfTask}
 use Rattle.tp_reach.specs.TaskReach.{GoalIs}
-use Rattle.tp_search.specs.Answers.{IsAnswer}
-use Rattle.tp_search.specs.declared.found.Found.{Found}
-use Rattle.tp_search.specs.declared.found.Found.TheVariants.{Plan, Unreachable, Exhausted, Spent}
+use Rattle.tp_search.specs.tp_at_once.Answers.{IsAnswer}
+use Rattle.tp_search.specs.tp_at_once.declared.found.Found.{Found}
+use Rattle.tp_search.specs.tp_at_once.declared.found.Found.TheVariants.{Plan, Unreachable, Exhausted, Spent}
 use Rattle.tp_same_plans.specs.SamePlans.{HaveSamePlans}
 use Rattle.tp_plan_search.specs.SearchTasks.{IsSearchTask}
 use Rattle.tp_plan_search.specs.FoundText.{IsFoundOfTask, IsNoPlanLine, IsPlanText, found_text, is_plan, spent_line}

@@ -11,13 +11,13 @@ use Rattle.tp_task.specs.declared.events.GroundEvent.{GroundEvent}
 use Rattle.tp_task.specs.Readable.{AreReadable}
 use Rattle.tp_task.specs.Tables.{words_at}
 use Rattle.tp_task.specs.Words.{same_words}
-use Rattle.tp_plan_texts.specs.Steps.{IsPlan, ends_in_time}
-use Rattle.tp_plan_texts.specs.TaskWords.{is_durative}
-use Rattle.tp_plan_texts.specs.declared.plans.Step.{Step}
+use Rattle.tp_happen.specs.tp_plan_texts.Steps.{IsPlan, ends_in_time}
+use Rattle.tp_happen.specs.tp_plan_texts.TaskWords.{is_durative}
+use Rattle.tp_happen.specs.tp_plan_texts.declared.plans.Step.{Step}
 use Rattle.tp_validate.specs.OfTask.{IsOfTask, IsValidPlan, is_step_of}
 use Rattle.tp_reach.specs.TaskReach.{GoalIs}
-use Rattle.tp_search.specs.Plans.{EndsBy, HasNoPlan, IsInstantStep, IsPlanAtOnce, DifferFrom, OfDistinctActions, ends_by}
-use Rattle.tp_search.specs.Promised.{IsExhausted, IsSpent, IsUnreachable}
+use Rattle.tp_search.specs.tp_at_once.Plans.{EndsBy, HasNoPlan, IsInstantStep, IsPlanAtOnce, DifferFrom, OfDistinctActions, ends_by}
+use Rattle.tp_search.specs.tp_at_once.Promised.{IsExhausted, IsSpent, IsUnreachable}
 use Rattle.tp_same_plans.specs.SamePlans.{IsSameStep, AreSameSteps, HaveSamePlans}
 
 module _ (t u : Task) where

@@ -17,14 +17,14 @@ use Rattle.tp_task.specs.Readable.{AreReadable, are_names}
 use Rattle.tp_task.specs.Tables.{words_at}
 use Rattle.tp_task.specs.Words.{Words, same_words}
 use Rattle.tp_task.specs.declared.task.Task.{Task}
-use Rattle.tp_plan_texts.specs.PlanPrints.{IsReadable, PlansAreRead, plan_text}
-use Rattle.tp_plan_texts.specs.PlanLexemes.{is_bare, lexemes}
-use Rattle.tp_plan_texts.specs.PlanTexts.{IsAccepted, ReadableTask, LinesSpell, SpellsPlan, fault_or, full_lines, lines_in, refusal_from, step_of}
-use Rattle.tp_plan_texts.specs.declared.reading.PlanFault.TheVariants.{TooMany}
-use Rattle.tp_plan_texts.specs.TaskWords.{action_of, readable}
-use Rattle.tp_plan_texts.specs.declared.plans.Step.{Step}
+use Rattle.tp_happen.specs.tp_plan_texts.PlanPrints.{IsReadable, PlansAreRead, plan_text}
+use Rattle.tp_happen.specs.tp_plan_texts.PlanLexemes.{is_bare, lexemes}
+use Rattle.tp_happen.specs.tp_plan_texts.PlanTexts.{IsAccepted, ReadableTask, LinesSpell, SpellsPlan, fault_or, full_lines, lines_in, refusal_from, step_of}
+use Rattle.tp_happen.specs.tp_plan_texts.declared.reading.PlanFault.TheVariants.{TooMany}
+use Rattle.tp_happen.specs.tp_plan_texts.TaskWords.{action_of, readable}
+use Rattle.tp_happen.specs.tp_plan_texts.declared.plans.Step.{Step}
 use Rattle.tp_validate.specs.OfTask.{IsOfTask, is_step_of}
-use Rattle.tp_search.specs.Plans.{EndsBy, ends_by}
+use Rattle.tp_search.specs.tp_at_once.Plans.{EndsBy, ends_by}
 
 -- the words of each action of a task that texts spell are names, by which it is found again: of the actions in reach, and of all
 abbrev pub ActionsAreReadable : Type 0

@@ -1,16 +1,16 @@
 -- The text of what a search came to: the plan, a line for each step, or a line that says why there is none.
 use Rattle.std.specs.Prelude.{◌≡◌, ◌⊎◌, ℕ, List, ◌++◌, Bool, true, false, codes, decimal}
 use Rattle.tp_task.specs.declared.task.Task.{Task}
-use Rattle.tp_plan_texts.specs.PlanPrints.{plan_text}
-use Rattle.tp_plan_texts.specs.PlanTexts.{IsAccepted, SpellsPlan}
-use Rattle.tp_plan_texts.specs.Steps.{IsPlan}
-use Rattle.tp_plan_texts.specs.TaskWords.{readable}
-use Rattle.tp_plan_texts.specs.declared.plans.Step.{Step}
+use Rattle.tp_happen.specs.tp_plan_texts.PlanPrints.{plan_text}
+use Rattle.tp_happen.specs.tp_plan_texts.PlanTexts.{IsAccepted, SpellsPlan}
+use Rattle.tp_happen.specs.tp_plan_texts.Steps.{IsPlan}
+use Rattle.tp_happen.specs.tp_plan_texts.TaskWords.{readable}
+use Rattle.tp_happen.specs.tp_plan_texts.declared.plans.Step.{Step}
 use Rattle.tp_validate.specs.OfTask.{IsOfTask, IsValidPlan}
-use Rattle.tp_search.specs.Plans.{EndsBy}
-use Rattle.tp_search.specs.Promised.{IsExhausted, IsSpent, IsUnreachable}
-use Rattle.tp_search.specs.declared.found.Found.{Found}
-use Rattle.tp_search.specs.declared.found.Found.TheVariants.{Plan, Unreachable, Exhausted, Spent}
+use Rattle.tp_search.specs.tp_at_once.Plans.{EndsBy}
+use Rattle.tp_search.specs.tp_at_once.Promised.{IsExhausted, IsSpent, IsUnreachable}
+use Rattle.tp_search.specs.tp_at_once.declared.found.Found.{Found}
+use Rattle.tp_search.specs.tp_at_once.declared.found.Found.TheVariants.{Plan, Unreachable, Exhausted, Spent}
 
 -- so many expansions were made, and no plan was found
 abbrev pub spent_line : ℕ → List ℕ

@@ -2,9 +2,9 @@
 
 ghost use Rattle.std.specs.Prelude.{◌≡◌, ◌++◌, codes, decimal};
 ghost use Rattle.tp_device.specs.Bytes.{Writes, failures_after};
-ghost use Rattle.tp_plan_texts.specs.PlanPrints.{plan_text};
-ghost use Rattle.tp_plan_texts.specs.Steps.{IsPlan};
-ghost use Rattle.tp_plan_texts.specs.TaskWords.{readable};
+ghost use Rattle.tp_happen.specs.tp_plan_texts.PlanPrints.{plan_text};
+ghost use Rattle.tp_happen.specs.tp_plan_texts.Steps.{IsPlan};
+ghost use Rattle.tp_happen.specs.tp_plan_texts.TaskWords.{readable};
 ghost use Rattle.tp_validate.specs.OfTask.{IsOfTask};
 ghost use Rattle.tp_plan_search.specs.FoundText.{IsFoundOfTask, found_text, spent_line};
 

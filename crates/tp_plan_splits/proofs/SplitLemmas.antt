@@ -12,7 +12,7 @@ use Rattle.tp_bounds.specs.Schedule.{HasSchedule}
 use Rattle.tp_bounds.specs.declared.Bound.{Bound}
 use Rattle.tp_bounds.specs.declared.plan_nets.PlanNet.{PlanNet}
 use Rattle.tp_task.specs.declared.task.Task.{Task}
-use Rattle.tp_plan_texts.specs.declared.plans.Step.{Step}
+use Rattle.tp_happen.specs.tp_plan_texts.declared.plans.Step.{Step}
 use Rattle.tp_validate.specs.OfTask.{IsValidPlan, plan_of}
 use Rattle.tp_validate.specs.declared.verdicts.Verdict.{Verdict}
 use Rattle.tp_validate.specs.declared.verdicts.Verdict.TheVariants.{Valid, Invalid}

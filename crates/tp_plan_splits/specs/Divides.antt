@@ -6,7 +6,7 @@ use Rattle.tp_bounds.specs.Setting.{Setting, event_count}
 use Rattle.tp_bounds.specs.Schedule.{HasSchedule}
 use Rattle.tp_bounds.specs.declared.plan_nets.PlanNet.{PlanNet}
 use Rattle.tp_task.specs.declared.task.Task.{Task}
-use Rattle.tp_plan_texts.specs.declared.plans.Step.{Step}
+use Rattle.tp_happen.specs.tp_plan_texts.declared.plans.Step.{Step}
 use Rattle.tp_validate.specs.OfTask.{plan_of}
 use Rattle.tp_deorder.specs.Answers.{IsPlanNetOf, OnTooMany, PassesLimits}
 use Rattle.tp_agents.specs.Owners.{IsFirstMisowned}

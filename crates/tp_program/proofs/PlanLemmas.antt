@@ -6,7 +6,7 @@ use Rattle.tp_device.specs.Bytes.{AppendsPart}
 use Rattle.std.proofs.KnownBytes.{Appends-nil}
 use Rattle.tp_bounds.specs.RunLimits.{RunLimits}
 use Rattle.tp_task.specs.declared.task.Task.{Task}
-use Rattle.tp_plan_texts.specs.declared.plans.Step.{Step}
+use Rattle.tp_happen.specs.tp_plan_texts.declared.plans.Step.{Step}
 use Rattle.tp_validate.specs.Answers.{IsVerdict}
 use Rattle.tp_validate.specs.OfTask.{plan_of}
 use Rattle.tp_validate.specs.declared.verdicts.Verdict.{Verdict}

@@ -14,7 +14,7 @@ use Rattle.tp_journal.specs.declared.faults.JournalFault.{JournalFault}
 use Rattle.tp_journal.specs.declared.faults.JournalFault.TheVariants.{Read, Write, Log, TooLong}
 use Rattle.tp_bare_journals.specs.Logged.{LogsAll, LogsLines, LogsPart}
 use Rattle.tp_task.specs.declared.task.Task.{Task}
-use Rattle.tp_plan_texts.specs.declared.plans.Step.{Step}
+use Rattle.tp_happen.specs.tp_plan_texts.declared.plans.Step.{Step}
 use Rattle.tp_log_audits.specs.Bare.{SaysAuditPart, SaysJournal, SaysWrong}
 use Rattle.tp_plan_runs.specs.Invalid.{SaysInvalid, SaysInvalidPart}
 use Rattle.tp_plan_runs.specs.Runs.{EndsInNone, EndsInPart, EndsInPlan, RunsNamed, RunsPart, RunsToNone, RunsToPlan, WritesPart}

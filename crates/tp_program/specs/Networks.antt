@@ -5,7 +5,7 @@ use Rattle.tp_device.specs.Bytes.{AppendsPart}
 use Rattle.tp_bounds.specs.RunLimits.{RunLimits, greatest_limits}
 use Rattle.tp_bounds.specs.declared.plan_nets.PlanNet.{PlanNet}
 use Rattle.tp_task.specs.declared.task.Task.{Task}
-use Rattle.tp_plan_texts.specs.declared.plans.Step.{Step}
+use Rattle.tp_happen.specs.tp_plan_texts.declared.plans.Step.{Step}
 use Rattle.tp_validate.specs.Answers.{IsFirst}
 use Rattle.tp_validate.specs.OfTask.{IsValidPlan}
 use Rattle.tp_validate.specs.declared.ticks.Fault.{Fault}

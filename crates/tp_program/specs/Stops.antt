@@ -2,7 +2,7 @@
 use Rattle.std.specs.Prelude.{◌≡◌, ℕ, ◌+◌, List, Option, Result, Ok, Err, codes}
 use Rattle.tp_device.specs.Bytes.{AppendsPart}
 use Rattle.tp_task.specs.declared.task.Task.{Task}
-use Rattle.tp_plan_texts.specs.declared.plans.Step.{Step}
+use Rattle.tp_happen.specs.tp_plan_texts.declared.plans.Step.{Step}
 use Rattle.tp_deorder.specs.declared.DeorderFault.{DeorderFault}
 use Rattle.tp_files.specs.FaultLines.{Tells, fault_line}
 use Rattle.tp_plan_files.specs.Causes.{Explains}

@@ -15,9 +15,9 @@ use Rattle.tp_task.proofs.Lists.{all_from}
 use Rattle.tp_task.specs.Tables.{words_at}
 use Rattle.tp_task.specs.Bounds.{In}
 use Rattle.tp_task.specs.Readable.{AreReadable}
-use Rattle.tp_plan_texts.specs.declared.plans.Step.{Step}
-use Rattle.tp_plan_texts.specs.PlanPrints.{plan_text, step_text, time_text, words_text, end_text}
-use Rattle.tp_plan_texts.specs.TaskWords.{is_durative, readable as told_as}
+use Rattle.tp_happen.specs.tp_plan_texts.declared.plans.Step.{Step}
+use Rattle.tp_happen.specs.tp_plan_texts.PlanPrints.{plan_text, step_text, time_text, words_text, end_text}
+use Rattle.tp_happen.specs.tp_plan_texts.TaskWords.{is_durative, readable as told_as}
 use Rattle.tp_validate.specs.OfTask.{is_step_of, IsOfTask}
 use Rattle.tp_ground.specs.Bindings.{Universe, universe_of}
 use Rattle.tp_ground.specs.Written.{GroundBody, condition_in}

@@ -22,8 +22,8 @@ use Rattle.tp_task.specs.Tables.{Tables, words_at}
 use Rattle.tp_task.specs.Bounds.{In}
 use Rattle.tp_task.specs.State.{State}
 use Rattle.tp_task.specs.Valid.{IsValid}
-use Rattle.tp_plan_texts.specs.declared.plans.Step.{Step}
-use Rattle.tp_plan_texts.specs.TaskWords.{is_durative}
+use Rattle.tp_happen.specs.tp_plan_texts.declared.plans.Step.{Step}
+use Rattle.tp_happen.specs.tp_plan_texts.TaskWords.{is_durative}
 use Rattle.tp_validate.specs.OfTask.{is_step_of, step_of, planned, plan_of, scale_of, begin, IsValidPlan}
 use Rattle.tp_ground.specs.Bindings.{Universe, Env, bound, bindings, universe_of}
 use Rattle.tp_ground.specs.Written.{GroundCondition, GroundEffect, GroundLimit, GroundHappening, GroundBody, GroundAction, instant, durative, happening, simple_effects_in, simple_effects_at, condition_in, body_in}

@@ -2,9 +2,9 @@
 use Rattle.std.specs.Prelude.{◌≡◌, true, List, [], ◌∷◌, ◌↔◌, slice_get}
 use Rattle.tp_task.specs.declared.task.Task.{Task}
 use Rattle.tp_task.specs.Tables.{words_at}
-use Rattle.tp_plan_texts.specs.declared.plans.Step.{Step}
-use Rattle.tp_plan_texts.specs.PlanPrints.{plan_text}
-use Rattle.tp_plan_texts.specs.TaskWords.{is_durative, readable}
+use Rattle.tp_happen.specs.tp_plan_texts.declared.plans.Step.{Step}
+use Rattle.tp_happen.specs.tp_plan_texts.PlanPrints.{plan_text}
+use Rattle.tp_happen.specs.tp_plan_texts.TaskWords.{is_durative, readable}
 use Rattle.tp_validate.specs.OfTask.{IsOfTask, IsValidPlan, is_step_of}
 
 -- Steps at the same tick, as long, and of actions of the same words.

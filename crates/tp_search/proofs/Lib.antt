@@ -1,13 +1,2 @@
-pub mod Lists
-pub mod Parts
-pub mod Whole
-pub mod Shuffled
-pub mod Wanted
 pub mod Unreachable
-pub mod Chains
-pub mod Loop
-pub mod Expanding
-mod Begins
 mod Within
-pub mod Listed
-pub mod OnSides

@@ -2,10 +2,10 @@
 
 ghost use Rattle.std.specs.Prelude.{◌≡◌, ◌≤◌, ◌&&◌, true, nat_le, length, IfOk, IfSome};
 ghost use Rattle.std.specs.List.{list_all};
-ghost use Rattle.tp_plan_texts.specs.Steps.{IsPlan, ends_in_time};
-ghost use Rattle.tp_plan_texts.specs.TaskWords.{is_durative};
+ghost use Rattle.tp_happen.specs.tp_plan_texts.Steps.{IsPlan, ends_in_time};
+ghost use Rattle.tp_happen.specs.tp_plan_texts.TaskWords.{is_durative};
 ghost use Rattle.tp_validate.specs.OfTask.{IsOfTask, IsValidPlan, is_step_of};
-ghost use Rattle.tp_search.specs.Plans.{ends_by, is_step_within, EndsBy, is_plan_within};
+ghost use Rattle.tp_at_once.specs.Plans.{ends_by, is_step_within, EndsBy, is_plan_within};
 
 use std::alloc::Global;
 use tp_forms::SearchFault;

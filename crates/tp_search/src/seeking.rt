@@ -4,13 +4,13 @@ ghost use Rattle.std.specs.Prelude.{◌≡◌, ◌≤◌, [], true, IfOk, IfSome
 ghost use Rattle.tp_task.specs.Reach as spec;
 ghost use Rattle.tp_validate.specs.OfTask.{IsValidPlan};
 ghost use Rattle.tp_reach.specs.TaskReach.{GoalIs};
-ghost use Rattle.tp_search.specs.Plans.{EndsBy};
-ghost use Rattle.tp_search.specs.Answers.{IsAnswer};
+ghost use Rattle.tp_at_once.specs.Plans.{EndsBy};
+ghost use Rattle.tp_at_once.specs.Answers.{IsAnswer};
 
-use crate::at_once::{judge, plan_at_once};
 use crate::certify::certified;
-use crate::found::Found;
 use std::alloc::{AllocError, Global};
+use tp_at_once::at_once::{judge, plan_at_once};
+use tp_at_once::found::Found;
 use tp_forms::SearchFault;
 use tp_frontier::{Chosen, Frontier};
 use tp_happen::Step;

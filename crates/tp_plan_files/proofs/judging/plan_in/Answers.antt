@@ -1,6 +1,6 @@
 use Rattle.std.proofs.Common.{ℕ, List, subst, string_bytes}
-use Rattle.tp_plan_texts.specs.PlanTexts.{IsRefused}
-use Rattle.tp_plan_texts.specs.TaskWords.{readable}
+use Rattle.tp_happen.specs.tp_plan_texts.PlanTexts.{IsRefused}
+use Rattle.tp_happen.specs.tp_plan_texts.TaskWords.{readable}
 use Rattle.tp_plan_files.proofs.judging.plan_in.Goals as goal
 
 pub returns-in-Ok-clause-cause : goal.returns-in-Ok-clause-cause

@@ -3,7 +3,7 @@ use Rattle.std.proofs.lemmas.List.{length-map}
 use Rattle.tp_ground.specs.ReadBack.{named_body}
 use Rattle.tp_ground.specs.Bindings.{universe_of}
 use Rattle.tp_ground.specs.Grounding.{ground_actions}
-use Rattle.tp_plan_texts.proofs.OnTaskPlans.{task_plans_read}
+use Rattle.tp_happen.proofs.OnTaskPlans.{task_plans_read}
 use Rattle.tp_plan_files.proofs.laws.task_plans_are_read.Goals as goal
 
 pub returns : goal.returns

@@ -1,7 +1,7 @@
 use Rattle.std.proofs.Common.{codes, refl}
 use Rattle.tp_device.proofs.Parts.{writes_after}
-use Rattle.tp_plan_texts.specs.PlanPrints.{plan_text}
-use Rattle.tp_plan_texts.specs.TaskWords.{readable}
+use Rattle.tp_happen.specs.tp_plan_texts.PlanPrints.{plan_text}
+use Rattle.tp_happen.specs.tp_plan_texts.TaskWords.{readable}
 use Rattle.tp_files.proofs.FaultLemmas.{stops_first}
 use Rattle.tp_plan_runs.proofs.plan_of_run.write_lines.Goals as goal
 

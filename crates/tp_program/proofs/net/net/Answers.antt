@@ -4,7 +4,7 @@ use Rattle.tp_plan_files.proofs.NamedLemmas.{back, task_over}
 use Rattle.std.proofs.Common.{ℕ, List}
 use Rattle.tp_bounds.specs.RunLimits.{greatest_limits}
 use Rattle.tp_task.specs.declared.task.Task.{Task}
-use Rattle.tp_plan_texts.specs.declared.plans.Step.{Step}
+use Rattle.tp_happen.specs.tp_plan_texts.declared.plans.Step.{Step}
 use Rattle.tp_program.specs.Networks.{IsShownText, PassesNet}
 use Rattle.tp_program.proofs.PlanLemmas.{shows_over, stops_over}
 use Rattle.tp_program.proofs.net.net.Goals as goal

@@ -1,7 +1,7 @@
 use Rattle.std.proofs.Common.{◌∙◌, ℕ, List}
 use Rattle.tp_bounds.specs.RunLimits.{greatest_limits}
 use Rattle.tp_task.specs.declared.task.Task.{Task}
-use Rattle.tp_plan_texts.specs.declared.plans.Step.{Step}
+use Rattle.tp_happen.specs.tp_plan_texts.declared.plans.Step.{Step}
 use Rattle.tp_program.specs.Networks.{IsShownText, PassesNet}
 use Rattle.tp_program.proofs.PlanLemmas.{ends, ends_kept, ends_told, ends_within, part_then}
 use Rattle.tp_program.proofs.net.run_net.Goals as goal
