@@ -9,8 +9,8 @@ use std::alloc::{AllocError, Global};
 use tp_ast::action::Action;
 use tp_bindings::universe::Universe;
 use tp_bindings::variables::Variables;
-use tp_lower::hinting::body_hint;
-use tp_lower::rooms::of_body;
+use tp_lower::part_hints::body_hint;
+use tp_lower::part_rooms::of_body;
 
 fn schema_of<'a>(
     alloc: Global,

@@ -22,8 +22,8 @@ use tp_bindings::rows::{Rows, rows_of};
 use tp_bindings::universe::{Universe, count_and_note, refill};
 use tp_bindings::variables::Variables;
 use tp_lower::bodies::body;
-use tp_lower::hinting::body_hint;
-use tp_lower::rooms::of_body;
+use tp_lower::part_hints::body_hint;
+use tp_lower::part_rooms::of_body;
 use tp_lower::writer::Writer;
 use tp_task::{Body, GroundFault};
 

@@ -18,10 +18,13 @@ ghost use Rattle.tp_bindings.specs.Hints.{nothing_fits, timed_condition_fits, ti
 
 use crate::conditions::{atom, condition};
 use crate::expressions::{expression, fluent};
-use crate::hinting::{hint_of, joined_hint};
+use crate::hinting::hint_of;
+use crate::part_hints::joined_hint;
 use crate::parts::{Lowerable, push_part};
-use crate::rooms::{of_condition, of_part, of_simple_effect};
-use crate::shortness::{after_condition, after_part, after_simple_effect};
+use crate::part_rooms::{of_part, of_simple_effect};
+use crate::rooms::of_condition;
+use crate::part_lengths::{after_part, after_simple_effect};
+use crate::shortness::after_condition;
 use crate::writer::Writer;
 use std::alloc::{AllocError, Global};
 use tp_ast::effect::{Effect, SimpleEffect};

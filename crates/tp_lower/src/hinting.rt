@@ -3,25 +3,18 @@
 ghost use Rattle.std.specs.Prelude.{◌≡◌, ◌∷◌, [], map, true, IfOk, IfSome};
 ghost use Rattle.tp_ast.specs.Symbols.{typed_view};
 ghost use Rattle.tp_ast.specs.CondViews.{cond_view};
-ghost use Rattle.tp_ast.specs.DomainViews.{body_view};
 ghost use Rattle.tp_ast.specs.Conditions.{conditions, for_all, for_some};
 ghost use Rattle.tp_bindings.specs.Bindings.{choices, bindings};
-ghost use Rattle.tp_ast.specs.PartViews.{joined_view};
-ghost use Rattle.tp_ast.specs.Parts.{for_each};
-ghost use Rattle.tp_ast.specs.Parts.{parts as syntax_parts};
-ghost use Rattle.tp_bindings.specs.Hints.{fits, each_fits, body_fits, joined_fits, parts_fits, listed};
+ghost use Rattle.tp_bindings.specs.Hints.{fits, each_fits, listed};
 ghost use Rattle.tp_bindings.specs.Rows.{product, EndsWith};
 ghost use Rattle.tp_bindings.specs.Views.{universe_view};
 
-use crate::parts::Lowerable;
 use std::alloc::{AllocError, Global};
-use tp_ast::action::Body;
 use tp_ast::cond::Cond;
-use tp_ast::joined::Joined;
 use tp_ast::marks::is_marked;
 use tp_ast::symbols::Typed;
 use tp_ast::typed_list::TypedList;
-use tp_bindings::hints::{BodyHint, Hint};
+use tp_bindings::hints::Hint;
 use tp_bindings::universe::{Universe, have_choices, place_for};
 
 // Where the objects for a variable stand: at the last of these places, if it is marked.
@@ -71,9 +64,9 @@ fn places_for(
     Ok(Some(places))
 }
 
-// Places of lists whose rows are the bindings of some variables, if they are known: where the objects for each stand, or where there
-// are no bindings one place without an object.
-fn places_with(
+/// Places of lists whose rows are the bindings of some variables, if they are known: where the objects for each stand, or where there
+/// are no bindings one place without an object.
+pub fn places_with(
     alloc: Global,
     universe: &Universe,
     variables: &TypedList,
@@ -174,82 +167,5 @@ pub fn hint_of(alloc: Global, universe: &Universe, cond: &Cond) -> Result<Hint, 
             bound_hint(alloc, universe, variables, inner)
         }
         Cond::Atom(_) | Cond::Same(_, _) | Cond::Compare(_, _, _) => Ok(Hint::Nothing),
-    }
-}
-
-// What can be known of the quantifiers in some parts.
-#[cycle(joined_hint)]
-fn part_hints<P: Lowerable>(
-    alloc: Global,
-    universe: &Universe,
-    parts: &[Joined<P>],
-) -> Result<Vec<Hint>, AllocError>
-    ensures { IfOk result (λ v. parts_fits universe.now (P.fits universe.now) v.items
-        (syntax_parts (map (joined_view P.seen) parts.now)) ≡ true) }
-{
-    let mut hints = Vec::with_capacity(alloc, parts.len())?;
-    for part in parts {
-        hints.push(joined_hint(alloc, universe, part)?)?;
-    }
-    Ok(hints)
-}
-
-// What can be known of a part for each binding of variables.
-#[cycle(joined_hint)]
-fn under_hint<P: Lowerable>(
-    alloc: Global,
-    universe: &Universe,
-    variables: &TypedList,
-    part: &Joined<P>,
-) -> Result<Hint, AllocError>
-    ensures { IfOk result (λ h. joined_fits universe.now (P.fits universe.now) h
-        (for_each (map typed_view variables.now.items) (joined_view P.seen part.now)) ≡ true) }
-{
-    let Some(places) = places_with(alloc, universe, variables)? else {
-        return Ok(Hint::Nothing);
-    };
-    let hint = joined_hint(alloc, universe, part)?;
-    Ok(Hint::Bound(places, Box::new(alloc, hint)?))
-}
-
-/// What can be known of the quantifiers in what is joined by `and` and `forall`.
-#[cycle(joined_hint)]
-pub fn joined_hint<P: Lowerable>(
-    alloc: Global,
-    universe: &Universe,
-    part: &Joined<P>,
-) -> Result<Hint, AllocError>
-    ensures { IfOk result (λ h. joined_fits universe.now (P.fits universe.now) h
-        (joined_view P.seen part.now) ≡ true) }
-{
-    match part {
-        Joined::And(parts) => Ok(Hint::Parts(part_hints(alloc, universe, parts)?)),
-        Joined::Forall(variables, inner) => under_hint(alloc, universe, variables, inner),
-        Joined::One(one) => one.hint(alloc, universe),
-    }
-}
-
-/// What can be known of the quantifiers in the body of an action.
-pub fn body_hint(alloc: Global, universe: &Universe, body: &Body) -> Result<BodyHint, AllocError>
-    ensures { IfOk result (λ h. body_fits universe.now h (body_view body.now) ≡ true) }
-{
-    match body {
-        Body::Instant {
-            precondition,
-            effect,
-        } => {
-            let condition = hint_of(alloc, universe, precondition)?;
-            let effect = joined_hint(alloc, universe, effect)?;
-            Ok(BodyHint { condition, effect })
-        }
-        Body::Durative {
-            duration: _,
-            condition,
-            effect,
-        } => {
-            let condition = joined_hint(alloc, universe, condition)?;
-            let effect = joined_hint(alloc, universe, effect)?;
-            Ok(BodyHint { condition, effect })
-        }
     }
 }

@@ -17,8 +17,9 @@ ghost use Rattle.tp_bindings.specs.declared.objects.Universe as objects;
 ghost use Rattle.tp_bindings.specs.declared.hints.Hint as hints;
 ghost use Rattle.tp_ast.specs.Parts.{parts as syntax_parts};
 
-use crate::rooms::{FEW_BINDINGS, of_part};
-use crate::shortness::is_brief_part;
+use crate::part_rooms::of_part;
+use crate::rooms::FEW_BINDINGS;
+use crate::part_lengths::is_brief_part;
 use crate::writer::Writer;
 use std::alloc::{AllocError, Global};
 use tp_ast::joined::Joined;

@@ -3,7 +3,7 @@ use Rattle.tp_ast.specs.PartViews.{joined_view}
 use Rattle.tp_ast.specs.Symbols.{typed_view}
 use Rattle.tp_bindings.specs.declared.hints.Hint.{Hint}
 use Rattle.tp_bindings.proofs.OnHints.{parts_more, under_known}
-use Rattle.tp_lower.proofs.hinting.+joined_hint.Goals as goal
+use Rattle.tp_lower.proofs.part_hints.+joined_hint.Goals as goal
 
 pub part_hints-loop-part-preserved : goal.part_hints-loop-part-preserved
 part_hints-loop-part-preserved g t c = record {

@@ -2,7 +2,7 @@ use Rattle.std.proofs.Common.{◌≡◌, true, length, map, take}
 use Rattle.tp_ast.specs.PartViews.{joined_view}
 use Rattle.tp_ast.specs.Parts.{parts}
 use Rattle.tp_bindings.specs.Hints.{parts_fits}
-use Rattle.tp_lower.proofs.hinting.+joined_hint.Given as goal
+use Rattle.tp_lower.proofs.part_hints.+joined_hint.Given as goal
 
 abbrev pub invariant-part_hints-loop-part : goal.invariant-part_hints-loop-part
 invariant-part_hints-loop-part g l = record {
