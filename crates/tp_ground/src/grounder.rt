@@ -28,8 +28,7 @@ use tp_bounds::Limits;
 use tp_ground_parts::beginning::{NumberedInitial, entries, numbers, truths};
 use tp_ground_parts::grounding::{actions_fit, lower_actions, name_actions};
 use tp_ground_parts::numbers::has_great_number;
-use tp_lower::conditions::closed_condition;
-use tp_lower::writer::Writer;
+use tp_lower::{Writer, closed_condition};
 use tp_task::{Body, Cond, GroundFault, Numbering, Task, TooManyKind};
 use tp_text::Scale;
 

@@ -26,8 +26,8 @@ use tp_bindings::hints::BodyHint;
 use tp_bindings::rows::{Rows, rows_of};
 use tp_bindings::universe::{Universe, copied, refill};
 use tp_bindings::variables::Variables;
+use tp_lower::Writer;
 use tp_lower::bodies::body;
-use tp_lower::writer::Writer;
 use tp_task::{Body, GroundFault};
 
 /// An action, and the objects that its parameters stand for.

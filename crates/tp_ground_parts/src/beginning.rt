@@ -9,9 +9,7 @@ ghost use Rattle.tp_lower.specs.Lowered.{Lowers};
 use std::alloc::{AllocError, Global};
 use tp_ast::problem::Initial;
 use tp_bindings::environment::Env;
-use tp_lower::conditions::atom;
-use tp_lower::expressions::fluent;
-use tp_lower::writer::Writer;
+use tp_lower::{Writer, atom, fluent};
 use tp_task::GroundFault;
 
 /// What one entry of `:init` says, by number.

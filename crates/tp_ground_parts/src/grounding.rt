@@ -21,10 +21,10 @@ use tp_bindings::hints::BodyHint;
 use tp_bindings::rows::{Rows, rows_of};
 use tp_bindings::universe::{Universe, count_and_note, refill};
 use tp_bindings::variables::Variables;
+use tp_lower::Writer;
 use tp_lower::bodies::body;
 use tp_lower::part_hints::body_hint;
 use tp_lower::part_rooms::of_body;
-use tp_lower::writer::Writer;
 use tp_task::{Body, GroundFault};
 
 /// Whether all actions together have no more bindings than so many. Where they do, the objects that their parameters may

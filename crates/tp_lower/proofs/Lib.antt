@@ -1,11 +1,10 @@
-pub mod OnLowered
 pub mod OnAppended
-pub mod OnTerms
-pub mod OnKept
-pub mod OnExpressions
 pub mod OnEvents
-pub mod OnConditions
-pub mod OnInner
 pub mod OnPartLists
 pub mod OnBodies
-pub mod Stopped
+pub use Rattle.tp_lower_conditions.proofs.OnLowered
+pub use Rattle.tp_lower_conditions.proofs.OnExpressions
+pub use Rattle.tp_lower_conditions.proofs.OnConditions
+pub use Rattle.tp_lower_conditions.proofs.OnInner
+pub use Rattle.tp_lower_conditions.proofs.OnKept
+pub use Rattle.tp_lower_conditions.proofs.Stopped

@@ -3,13 +3,13 @@ use Rattle.std.proofs.Common.{◌≡◌, ℕ, ◌+◌, ◌<◌, List, [], ◌∷
 use Rattle.std.specs.List.{flat_map}
 use Rattle.std.proofs.lemmas.List.{map-append}
 use Rattle.tp_task.specs.Tables.{Tables}
-use Rattle.tp_lower.specs.WriterViews.{WriterView}
-use Rattle.tp_lower.specs.Mentions.{Mentions, nothing, ◌then◌, of_each}
-use Rattle.tp_lower.specs.Lowered.{IsLowered, Overflows}
+use Rattle.tp_lower_conditions.specs.WriterViews.{WriterView}
+use Rattle.tp_lower_conditions.specs.Mentions.{Mentions, nothing, ◌then◌, of_each}
+use Rattle.tp_lower_conditions.specs.Lowered.{IsLowered, Overflows}
 use Rattle.tp_lower.specs.Appended.{IsAppended, Appends}
 use Rattle.tp_task.specs.declared.fault.GroundFault.{GroundFault}
 use Rattle.tp_bindings.proofs.Along.{whole}
-use Rattle.tp_lower.proofs.OnLowered.{of_each-append, of_each_one, overflows_first, overflows_then, lowered_none, lowered_same, lowered_as, lowered_both}
+use Rattle.tp_lower_conditions.proofs.OnLowered.{of_each-append, of_each_one, overflows_first, overflows_then, lowered_none, lowered_same, lowered_as, lowered_both}
 
 module _ {C Y : Type 0} (named : Tables → C → Y) where
   pub appended_none : (a : WriterView) (before after : List C) → after ≡ before → IsAppended named a a before after [] nothing

@@ -11,16 +11,16 @@ use Rattle.tp_ast.specs.declared.cond.Cond as syntax_conds
 use Rattle.tp_ast.specs.declared.action.Body as syntax
 use Rattle.tp_ast.specs.declared.action.Body.TheVariants as bodies
 use Rattle.tp_ast.specs.declared.words.TimeSpecifier.TheVariants.{OverAll}
-use Rattle.tp_lower.specs.WriterViews.{WriterView}
+use Rattle.tp_lower_conditions.specs.WriterViews.{WriterView}
 use Rattle.tp_bindings.specs.Bindings.{Universe, Env}
 use Rattle.tp_task.specs.Tables.{Tables}
-use Rattle.tp_lower.specs.Written.{GroundCondition, GroundEffect, GroundLimit, GroundHappening, durative, happening, condition_at, start_in, end_in, body_in}
-use Rattle.tp_lower.specs.Mentions.{Mentions, ◌then◌, of_condition, of_simple_effect, of_limit, of_each, of_start, of_end, of_body}
-use Rattle.tp_lower.specs.ReadBack.{named_condition, named_limit, named_event, named_body}
+use Rattle.tp_lower_conditions.specs.Written.{GroundCondition, GroundEffect, GroundLimit, GroundHappening, durative, happening, condition_at, start_in, end_in, body_in}
+use Rattle.tp_lower_conditions.specs.Mentions.{Mentions, ◌then◌, of_condition, of_simple_effect, of_limit, of_each, of_start, of_end, of_body}
+use Rattle.tp_lower_conditions.specs.ReadBack.{named_condition, named_limit, named_event, named_body}
 use Rattle.tp_lower.specs.NumberedEffects.{named_simple_effect}
 use Rattle.tp_lower.specs.NumberedEnds.{named_ends}
 use Rattle.tp_lower.specs.declared.bodies.Ends.{Ends}
-use Rattle.tp_lower.specs.Lowered.{Notes, IsLowered, Overflows, Lowers}
+use Rattle.tp_lower_conditions.specs.Lowered.{Notes, IsLowered, Overflows, Lowers}
 use Rattle.tp_task.specs.declared.fault.GroundFault.{GroundFault}
 use Rattle.tp_task.specs.declared.events.Cond.{Cond}
 use Rattle.tp_task.specs.declared.events.Limit.{Limit}
@@ -28,7 +28,7 @@ use Rattle.tp_task.specs.declared.events.GroundEvent.{GroundEvent}
 use Rattle.tp_task.specs.declared.events.Body.{Body}
 use Rattle.tp_task.specs.declared.events.Body.TheVariants.{Durative}
 use Rattle.tp_lower.specs.declared.effects.NumberedEffect.{NumberedEffect}
-use Rattle.tp_lower.proofs.OnLowered.{AllLowered, failed, notes_then, overflows_first, overflows_then, lowered_as, lowered_both}
+use Rattle.tp_lower_conditions.proofs.OnLowered.{AllLowered, failed, notes_then, overflows_first, overflows_then, lowered_as, lowered_both}
 
 -- a fault at the first, the second or the third of three
 module _ (a : WriterView) (m n k : Mentions) (f : GroundFault) where

@@ -2,8 +2,8 @@
 use Rattle.std.proofs.Common.{◌≡◌, ℕ, List, [], ◌∷◌, ◌++◌, map, refl, sym, ap, subst, ◌∙◌, append-nil}
 use Rattle.std.proofs.lemmas.List.{map-append}
 use Rattle.tp_task.specs.Tables.{Tables, words_at}
-use Rattle.tp_lower.specs.Written.{GroundEffect, adds, deletes, writes, added, deleted, written}
-use Rattle.tp_lower.specs.ReadBack.{named_write}
+use Rattle.tp_lower_conditions.specs.Written.{GroundEffect, adds, deletes, writes, added, deleted, written}
+use Rattle.tp_lower_conditions.specs.ReadBack.{named_write}
 use Rattle.tp_lower.specs.NumberedEffects.{named_simple_effect, AreSplit}
 use Rattle.tp_task.specs.declared.events.NumericEffect.{NumericEffect}
 use Rattle.tp_lower.specs.declared.effects.NumberedEffect.{NumberedEffect}

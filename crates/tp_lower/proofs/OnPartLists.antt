@@ -17,7 +17,7 @@ use Rattle.tp_ast.specs.declared.joined.Joined.{Joined}
 use Rattle.tp_ast.specs.declared.constraint.DurationRule as the_constraints
 use Rattle.tp_ast.specs.declared.constraint.DurationRule.{DurationRule}
 use Rattle.tp_bindings.specs.Bindings.{Universe, Env, bound}
-use Rattle.tp_lower.specs.Written.{parts_in, all_parts_in, inner, limits_in, all_limits_in, comparison_of, expression_in}
+use Rattle.tp_lower_conditions.specs.Written.{parts_in, all_parts_in, inner, limits_in, all_limits_in, comparison_of, expression_in}
 
 module _ {A B C : Type 0} (u : Universe) (read : Env → B → List C) (seen : A → B) where
   part_And : (v : Vec (Joined A) Global) → joined_view seen (joins.And v) ≡ all_parts (parts (map (joined_view seen) v.items))

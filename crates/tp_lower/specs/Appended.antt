@@ -1,9 +1,9 @@
 -- What numbering puts at the end of a list: items that say what is written out, in every table that comes after.
 use Rattle.std.specs.Prelude.{◌≡◌, ◌++◌, List, map, Result, Ok, Err}
 use Rattle.tp_task.specs.Tables.{Tables}
-use Rattle.tp_lower.specs.WriterViews.{WriterView}
-use Rattle.tp_lower.specs.Mentions.{Mentions}
-use Rattle.tp_lower.specs.Lowered.{IsLowered, Overflows}
+use Rattle.tp_lower_conditions.specs.WriterViews.{WriterView}
+use Rattle.tp_lower_conditions.specs.Mentions.{Mentions}
+use Rattle.tp_lower_conditions.specs.Lowered.{IsLowered, Overflows}
 use Rattle.tp_task.specs.declared.fault.GroundFault.{GroundFault}
 
 -- The list has the items that it had, and behind them those that ys is lowered to, one for each.

@@ -1,9 +1,8 @@
-pub mod Written
-pub mod Mentions
-pub mod ReadBack
-pub mod WriterViews
-pub mod Lowered
 pub mod Appended
-pub mod Kept
 pub mod NumberedEffects
 pub mod NumberedEnds
+pub use Rattle.tp_lower_conditions.specs.Written
+pub use Rattle.tp_lower_conditions.specs.Mentions
+pub use Rattle.tp_lower_conditions.specs.ReadBack
+pub use Rattle.tp_lower_conditions.specs.WriterViews
+pub use Rattle.tp_lower_conditions.specs.Lowered

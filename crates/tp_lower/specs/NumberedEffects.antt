@@ -1,8 +1,8 @@
 -- What one numbered change says.
 use Rattle.std.specs.Prelude.{◌≡◌, ℕ, List, map}
 use Rattle.tp_task.specs.Tables.{Tables, words_at}
-use Rattle.tp_lower.specs.Written.{GroundEffect, adds, deletes, writes, added, deleted, written}
-use Rattle.tp_lower.specs.ReadBack.{named_write}
+use Rattle.tp_lower_conditions.specs.Written.{GroundEffect, adds, deletes, writes, added, deleted, written}
+use Rattle.tp_lower_conditions.specs.ReadBack.{named_write}
 use Rattle.tp_task.specs.declared.events.NumericEffect.{NumericEffect}
 use Rattle.tp_lower.specs.declared.effects.NumberedEffect.{NumberedEffect}
 use Rattle.tp_lower.specs.declared.effects.NumberedEffect.TheVariants.{Add, Delete, Write}

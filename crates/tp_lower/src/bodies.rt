@@ -8,19 +8,17 @@ ghost use Rattle.tp_ast.specs.DomainViews.{body_view};
 ghost use Rattle.tp_ast.specs.Actions.{durative};
 ghost use Rattle.tp_bindings.specs.Views.{env_view, universe_view};
 ghost use Rattle.tp_task.specs.Tables.{Tables};
-ghost use Rattle.tp_lower.specs.Written.{happening, condition_at, start_in, end_in, instant_in, body_in};
-ghost use Rattle.tp_lower.specs.Mentions.{◌then◌, of_condition, of_start, of_end, of_instant, of_body};
-ghost use Rattle.tp_lower.specs.ReadBack.{named_condition, named_limit, named_event, named_body};
+ghost use Rattle.tp_lower_conditions.specs.Written.{happening, condition_at, start_in, end_in, instant_in, body_in};
+ghost use Rattle.tp_lower_conditions.specs.Mentions.{◌then◌, of_condition, of_start, of_end, of_instant, of_body};
+ghost use Rattle.tp_lower_conditions.specs.ReadBack.{named_condition, named_limit, named_event, named_body};
 ghost use Rattle.tp_lower.specs.NumberedEnds.{named_ends};
 ghost use Rattle.tp_lower.specs.NumberedEffects.{named_simple_effect, AreSplit};
-ghost use Rattle.tp_lower.specs.Lowered.{Lowers};
+ghost use Rattle.tp_lower_conditions.specs.Lowered.{Lowers};
 ghost use Rattle.tp_bindings.specs.Hints.{fits, if_known, joined_fits, nothing_fits, timed_condition_fits, timed_effect_fits, body_fits};
 
-use crate::conditions::condition;
 use crate::constraints::limits;
 use crate::effects::NumberedEffect;
 use crate::parts::joined;
-use crate::writer::Writer;
 use std::alloc::{AllocError, Global};
 use tp_ast::constraint::DurationRule;
 use tp_ast::effect::Effect;
@@ -30,6 +28,8 @@ use tp_ast::words::TimeSpecifier::{AtEnd, AtStart, OverAll};
 use tp_bindings::environment::Env;
 use tp_bindings::hints::{BodyHint, Hint};
 use tp_bindings::universe::Universe;
+use tp_lower_conditions::conditions::condition;
+use tp_lower_conditions::writer::Writer;
 use tp_task::{Body, Cond, GroundEvent, GroundFault, Limit, NumericEffect};
 
 // The adds, the deletes and the writes among simple effects.

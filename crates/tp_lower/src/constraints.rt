@@ -4,16 +4,16 @@ ghost use Rattle.std.specs.Prelude.{◌≡◌, map};
 ghost use Rattle.std.specs.List.{flat_map};
 ghost use Rattle.tp_ast.specs.ConstraintViews.{constraint_view};
 ghost use Rattle.tp_bindings.specs.Views.{env_view};
-ghost use Rattle.tp_lower.specs.Written.{limits_in};
-ghost use Rattle.tp_lower.specs.Mentions.{of_limit, of_each};
-ghost use Rattle.tp_lower.specs.ReadBack.{named_limit};
-ghost use Rattle.tp_lower.specs.Lowered.{Lowers};
+ghost use Rattle.tp_lower_conditions.specs.Written.{limits_in};
+ghost use Rattle.tp_lower_conditions.specs.Mentions.{of_limit, of_each};
+ghost use Rattle.tp_lower_conditions.specs.ReadBack.{named_limit};
+ghost use Rattle.tp_lower_conditions.specs.Lowered.{Lowers};
 
-use crate::expressions::{comparison_of, expression};
-use crate::writer::Writer;
 use std::alloc::Global;
 use tp_ast::constraint::DurationRule;
 use tp_bindings::environment::Env;
+use tp_lower_conditions::expressions::{comparison_of, expression};
+use tp_lower_conditions::writer::Writer;
 use tp_task::{GroundFault, Limit};
 
 #[cycle(limits)]

@@ -1,22 +1,19 @@
-//! The grounding of conditions, expressions, effects and bodies: quantifiers expanded over the objects, atoms and
-//! fluents by number.
+//! The grounding of effects and bodies: what is joined by `and` and `forall` written out over the objects. Offers conditions,
+//! expressions and the writer of `tp_lower_conditions` again.
 //!
-//! - `writer`: the numbers of atoms, fluents and actions, and what was written out before
-//! - `hinting`, `shortness`: what is known of quantifiers before they are written out, and how long conditions are
-//! - `rooms`: how much room is taken at least by what is written out
-//! - `expressions`, `constraints`, `conditions`, `parts`, `effects`, `bodies`: what is written out under a binding
+//! - `part_hints`, `part_lengths`, `part_rooms`: what is known of the quantifiers in what is joined before it is written out, how long
+//!   it is, and how much room it takes at least
+//! - `parts`, `effects`, `constraints`, `bodies`: what is written out under a binding
 #![tactic(auto)]
 
 pub mod bodies;
-pub mod conditions;
 pub mod constraints;
 pub mod effects;
-pub mod expressions;
-pub mod hinting;
 pub mod part_hints;
 pub mod part_lengths;
 pub mod part_rooms;
 pub mod parts;
-pub mod rooms;
-pub mod shortness;
-pub mod writer;
+
+pub use tp_lower_conditions::conditions::{atom, closed_condition};
+pub use tp_lower_conditions::expressions::fluent;
+pub use tp_lower_conditions::writer::Writer;

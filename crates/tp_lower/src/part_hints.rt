@@ -8,7 +8,6 @@ ghost use Rattle.tp_ast.specs.Parts.{for_each};
 ghost use Rattle.tp_ast.specs.Parts.{parts as syntax_parts};
 ghost use Rattle.tp_bindings.specs.Hints.{body_fits, joined_fits, parts_fits};
 
-use crate::hinting::{hint_of, places_with};
 use crate::parts::Lowerable;
 use std::alloc::{AllocError, Global};
 use tp_ast::action::Body;
@@ -16,6 +15,7 @@ use tp_ast::joined::Joined;
 use tp_ast::typed_list::TypedList;
 use tp_bindings::hints::{BodyHint, Hint};
 use tp_bindings::universe::Universe;
+use tp_lower_conditions::hinting::{hint_of, places_with};
 
 // What can be known of the quantifiers in some parts.
 #[cycle(joined_hint)]

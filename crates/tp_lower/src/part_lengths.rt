@@ -1,9 +1,9 @@
 //! How long effects, and what is joined, are.
 
 use crate::parts::Lowerable;
-use crate::shortness::{FEW_STEPS, after_expression, after_variables};
 use tp_ast::effect::SimpleEffect;
 use tp_ast::joined::Joined;
+use tp_lower_conditions::shortness::{FEW_STEPS, after_expression, after_variables};
 
 /// What is left of so many steps after a simple effect.
 pub fn after_simple_effect(effect: &SimpleEffect, steps: usize) -> Option<usize> {

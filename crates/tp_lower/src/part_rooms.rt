@@ -1,10 +1,10 @@
 //! How much room effects, what is joined, and bodies take at least, where they are written out.
 
 use crate::parts::Lowerable;
-use crate::rooms::{of_condition, of_expression};
 use tp_ast::action::Body;
 use tp_ast::effect::SimpleEffect;
 use tp_ast::joined::Joined;
+use tp_lower_conditions::rooms::{of_condition, of_expression};
 
 // The bytes of an effect on its list.
 const OF_EFFECT: usize = 32;

@@ -8,19 +8,17 @@ ghost use Rattle.tp_ast.specs.declared.words.TimeSpecifier as specifiers;
 ghost use Rattle.tp_bindings.specs.Bindings as bindings;
 ghost use Rattle.tp_bindings.specs.Views.{env_view, universe_view};
 ghost use Rattle.tp_task.specs.Tables.{Tables};
-ghost use Rattle.tp_lower.specs.Written.{parts_in, inner};
-ghost use Rattle.tp_lower.specs.Mentions.{Mentions, of_each};
-ghost use Rattle.tp_lower.specs.Lowered.{Lowers};
+ghost use Rattle.tp_lower_conditions.specs.Written.{parts_in, inner};
+ghost use Rattle.tp_lower_conditions.specs.Mentions.{Mentions, of_each};
+ghost use Rattle.tp_lower_conditions.specs.Lowered.{Lowers};
 ghost use Rattle.tp_lower.specs.Appended.{Appends};
 ghost use Rattle.tp_bindings.specs.Hints.{if_known, joined_fits, parts_fits, under_fits};
 ghost use Rattle.tp_bindings.specs.declared.objects.Universe as objects;
 ghost use Rattle.tp_bindings.specs.declared.hints.Hint as hints;
 ghost use Rattle.tp_ast.specs.Parts.{parts as syntax_parts};
 
-use crate::part_rooms::of_part;
-use crate::rooms::FEW_BINDINGS;
 use crate::part_lengths::is_brief_part;
-use crate::writer::Writer;
+use crate::part_rooms::of_part;
 use std::alloc::{AllocError, Global};
 use tp_ast::joined::Joined;
 use tp_ast::words::TimeSpecifier;
@@ -29,6 +27,8 @@ use tp_bindings::hints::{Hint, Inside, hint_in, inside_of, parts_of, places_in};
 use tp_bindings::rows::rows_with;
 use tp_bindings::universe::Universe;
 use tp_bindings::variables::Variables;
+use tp_lower_conditions::rooms::FEW_BINDINGS;
+use tp_lower_conditions::writer::Writer;
 use tp_task::GroundFault;
 
 /// What may stand inside.

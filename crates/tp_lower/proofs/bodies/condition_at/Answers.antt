@@ -1,5 +1,5 @@
 use Rattle.std.proofs.Common.{refl}
-use Rattle.tp_lower.proofs.OnConditions.{all_lowered, all_failed}
+use Rattle.tp_lower_conditions.proofs.OnConditions.{all_lowered, all_failed}
 use Rattle.tp_lower.proofs.bodies.condition_at.Goals as goal
 
 pub returns-in_err-joined : goal.returns-in_err-joined

@@ -1,10 +1,10 @@
 use Rattle.tp_ast.specs.EffectViews.{timed_condition_view, timed_effect_view}
 use Rattle.tp_ast.specs.declared.words.TimeSpecifier.TheVariants.{AtEnd}
 use Rattle.tp_bindings.specs.Views.{env_view, universe_view}
-use Rattle.tp_lower.specs.Written.{condition_at, simple_effects_at}
-use Rattle.tp_lower.specs.Mentions.{of_condition, of_simple_effect, of_each}
-use Rattle.tp_lower.specs.ReadBack.{named_event}
-use Rattle.tp_lower.proofs.OnLowered.{failed, overflows_first, overflows_then}
+use Rattle.tp_lower_conditions.specs.Written.{condition_at, simple_effects_at}
+use Rattle.tp_lower_conditions.specs.Mentions.{of_condition, of_simple_effect, of_each}
+use Rattle.tp_lower_conditions.specs.ReadBack.{named_event}
+use Rattle.tp_lower_conditions.proofs.OnLowered.{failed, overflows_first, overflows_then}
 use Rattle.tp_lower.proofs.OnBodies.{plain_lowered}
 use Rattle.tp_lower.proofs.bodies.end.Goals as goal
 

@@ -2,7 +2,7 @@ use Rattle.std.proofs.Common.{refl}
 use Rattle.tp_ast.specs.ConstraintViews.{constraint_view}
 use Rattle.tp_ast.specs.EffectViews.{timed_condition_view, timed_effect_view}
 use Rattle.tp_bindings.specs.Views.{env_view, universe_view}
-use Rattle.tp_lower.specs.Mentions.{of_start, of_end}
+use Rattle.tp_lower_conditions.specs.Mentions.{of_start, of_end}
 use Rattle.tp_lower.proofs.OnBodies.{start_stopped, end_stopped, ends_lowered}
 use Rattle.tp_lower.proofs.bodies.ends_of.Goals as goal
 

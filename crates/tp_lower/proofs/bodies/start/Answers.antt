@@ -2,10 +2,10 @@ use Rattle.tp_ast.specs.ConstraintViews.{constraint_view}
 use Rattle.tp_ast.specs.EffectViews.{timed_condition_view, timed_effect_view}
 use Rattle.tp_ast.specs.declared.words.TimeSpecifier.TheVariants.{AtStart}
 use Rattle.tp_bindings.specs.Views.{env_view, universe_view}
-use Rattle.tp_lower.specs.Written.{condition_at, simple_effects_at, limits_in}
-use Rattle.tp_lower.specs.Mentions.{of_condition, of_simple_effect, of_limit, of_each}
-use Rattle.tp_lower.specs.ReadBack.{named_event}
-use Rattle.tp_lower.proofs.OnLowered.{failed}
+use Rattle.tp_lower_conditions.specs.Written.{condition_at, simple_effects_at, limits_in}
+use Rattle.tp_lower_conditions.specs.Mentions.{of_condition, of_simple_effect, of_limit, of_each}
+use Rattle.tp_lower_conditions.specs.ReadBack.{named_event}
+use Rattle.tp_lower_conditions.proofs.OnLowered.{failed}
 use Rattle.tp_lower.proofs.OnBodies.{at_first, at_second, at_third, start_lowered}
 use Rattle.tp_lower.proofs.bodies.start.Goals as goal
 

@@ -2,13 +2,13 @@ use Rattle.std.proofs.Common.{[], refl, ap}
 use Rattle.tp_ast.specs.ConstraintViews.{constraint_view}
 use Rattle.tp_ast.specs.declared.constraint.DurationRule.{DurationRule}
 use Rattle.tp_bindings.specs.Views.{env_view}
-use Rattle.tp_lower.specs.Written.{GroundExpression, comparison_of, limits_in}
-use Rattle.tp_lower.specs.Mentions.{of_limit, of_each}
-use Rattle.tp_lower.specs.ReadBack.{named_limit, named_expression}
+use Rattle.tp_lower_conditions.specs.Written.{GroundExpression, comparison_of, limits_in}
+use Rattle.tp_lower_conditions.specs.Mentions.{of_limit, of_each}
+use Rattle.tp_lower_conditions.specs.ReadBack.{named_limit, named_expression}
 use Rattle.tp_bindings.proofs.Along.{next}
-use Rattle.tp_lower.proofs.Stopped.{flat_stopped}
+use Rattle.tp_lower_conditions.proofs.Stopped.{flat_stopped}
 use Rattle.tp_lower.proofs.OnPartLists.{limits_of, limit_of}
-use Rattle.tp_lower.proofs.OnLowered.{all_named, lowered_as, as_written, written_as, all_none, all_append, all_push}
+use Rattle.tp_lower_conditions.proofs.OnLowered.{all_named, lowered_as, as_written, written_as, all_none, all_append, all_push}
 use Rattle.tp_lower.proofs.constraints.+limits.Goals as goal
 
 pub all_limits-returns-in_err-more : goal.all_limits-returns-in_err-more

@@ -2,10 +2,10 @@ use Rattle.std.proofs.Common.{take}
 use Rattle.std.specs.List.{flat_map}
 use Rattle.tp_ast.specs.ConstraintViews.{constraint_view}
 use Rattle.tp_bindings.specs.Views.{env_view}
-use Rattle.tp_lower.specs.Written.{limits_in}
-use Rattle.tp_lower.specs.Mentions.{of_limit}
-use Rattle.tp_lower.specs.ReadBack.{named_limit}
-use Rattle.tp_lower.proofs.OnLowered.{AllLowered}
+use Rattle.tp_lower_conditions.specs.Written.{limits_in}
+use Rattle.tp_lower_conditions.specs.Mentions.{of_limit}
+use Rattle.tp_lower_conditions.specs.ReadBack.{named_limit}
+use Rattle.tp_lower_conditions.proofs.OnLowered.{AllLowered}
 use Rattle.tp_lower.proofs.constraints.+limits.Given as goal
 
 abbrev pub invariant-all_limits-loop-constraint : goal.invariant-all_limits-loop-constraint

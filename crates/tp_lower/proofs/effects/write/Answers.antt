@@ -1,10 +1,10 @@
 use Rattle.std.proofs.Common.{refl, ap}
 use Rattle.tp_task.specs.Words.{Words}
-use Rattle.tp_lower.specs.Written.{GroundExpression, writes, change_of}
-use Rattle.tp_lower.specs.Mentions.{of_simple_effect, of_expression, a_fluent}
-use Rattle.tp_lower.specs.ReadBack.{named_expression}
+use Rattle.tp_lower_conditions.specs.Written.{GroundExpression, writes, change_of}
+use Rattle.tp_lower_conditions.specs.Mentions.{of_simple_effect, of_expression, a_fluent}
+use Rattle.tp_lower_conditions.specs.ReadBack.{named_expression}
 use Rattle.tp_lower.specs.NumberedEffects.{named_simple_effect}
-use Rattle.tp_lower.proofs.OnLowered.{fluent_named, first_failed, both_lowered}
+use Rattle.tp_lower_conditions.proofs.OnLowered.{fluent_named, first_failed, both_lowered}
 use Rattle.tp_lower.proofs.effects.write.Goals as goal
 
 pub returns-in_err-fluent : goal.returns-in_err-fluent

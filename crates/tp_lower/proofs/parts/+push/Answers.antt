@@ -7,9 +7,9 @@ use Rattle.tp_bindings.specs.Bindings.{Env, bindings}
 use Rattle.tp_bindings.specs.Rows.{product, Names, lists_of}
 use Rattle.tp_bindings.proofs.OnRows.{row_there, within, behind_all}
 use Rattle.tp_bindings.specs.Views.{env_view, universe_view}
-use Rattle.tp_lower.specs.Written.{parts_in, inner}
+use Rattle.tp_lower_conditions.specs.Written.{parts_in, inner}
 use Rattle.tp_bindings.proofs.Along.{next, ended}
-use Rattle.tp_lower.proofs.OnInner.{flat_under, inner_env}
+use Rattle.tp_lower_conditions.proofs.OnInner.{flat_under, inner_env}
 use Rattle.tp_bindings.proofs.OnHints.{listed_under}
 use Rattle.tp_lower.proofs.OnPartLists.{part_of, part_under, part_in, parts_of, bound_of}
 use Rattle.tp_lower.proofs.OnAppended.{all_appended, none_appended, appended_as, appends_as, loop_stopped}

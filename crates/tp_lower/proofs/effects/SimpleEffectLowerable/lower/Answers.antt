@@ -1,5 +1,5 @@
 use Rattle.std.proofs.Common.{refl}
-use Rattle.tp_lower.specs.Mentions.{of_simple_effect}
+use Rattle.tp_lower_conditions.specs.Mentions.{of_simple_effect}
 use Rattle.tp_lower.specs.NumberedEffects.{named_simple_effect}
 use Rattle.tp_lower.proofs.OnAppended.{one_appended}
 use Rattle.tp_lower.proofs.effects.SimpleEffectLowerable.lower.Goals as goal

@@ -1,6 +1,6 @@
 use Rattle.std.proofs.Common.{refl, sym, ◌∙◌}
-use Rattle.tp_lower.specs.Mentions.{of_condition}
-use Rattle.tp_lower.specs.ReadBack.{named_condition}
+use Rattle.tp_lower_conditions.specs.Mentions.{of_condition}
+use Rattle.tp_lower_conditions.specs.ReadBack.{named_condition}
 use Rattle.tp_lower.proofs.OnPartLists.{specified}
 use Rattle.tp_lower.proofs.OnAppended.{one_appended, none_appended, unspecified}
 use Rattle.tp_lower.proofs.effects.TimedCondCondLowerable.lower.Goals as goal

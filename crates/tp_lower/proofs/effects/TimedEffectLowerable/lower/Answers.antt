@@ -1,5 +1,5 @@
 use Rattle.std.proofs.Common.{refl, sym, ◌∙◌}
-use Rattle.tp_lower.specs.Mentions.{of_simple_effect}
+use Rattle.tp_lower_conditions.specs.Mentions.{of_simple_effect}
 use Rattle.tp_lower.specs.NumberedEffects.{named_simple_effect}
 use Rattle.tp_lower.proofs.OnPartLists.{specified}
 use Rattle.tp_lower.proofs.OnAppended.{none_appended, appends_as, unspecified}
