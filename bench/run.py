@@ -396,6 +396,21 @@ def of_list(kinds, variables="?x"):
     return f"(:types {listed}) (:predicates (p {variables} - (either {listed})))"
 
 
+def far_below(lists, size, depth, count):
+    """Atoms of constants whose types are far below the last type of one of so many lists."""
+    names = short_names(lists * size)
+    parts = [names[size * k : size * (k + 1)] for k in range(lists)]
+    chains = " ".join(
+        " ".join(f"x{k}_{step} - x{k}_{step + 1}" for step in range(depth)) + f" x{k}_{depth} - {part[-1]}"
+        for k, part in enumerate(parts)
+    )
+    below = " ".join(f"k_{place} - x{place % lists}_0" for place in range(count))
+    own = " ".join(f"c{place} - k_{place}" for place in range(count))
+    asks = " ".join(f"(p{k} ?v - (either {' '.join(part)}))" for k, part in enumerate(parts))
+    declared = f"(:types {' '.join(names)} - object {chains} {below}) (:constants {own}) (:predicates {asks})"
+    return asking(declared, " ".join(f"(p{place % lists} c{place % count})" for place in range(2 * count)))
+
+
 def variables_of_many_types(program, problem):
     """Atoms over variables of long lists of types."""
 
@@ -463,6 +478,7 @@ def worst_reads(program):
     own = each("c_# - far_#", 1_000)
     beside = f"(define (domain d) (:types {' '.join(kinds)} - object {far}) (:constants {own}) (:predicates {lists}))"
     judged(program, "4,000 such lists beside 1,000 constants of a chain of 20,000 types", beside, problem, "")
+    judged(program, "16,000 atoms of constants of 8,000 types 80 below 20 lists", far_below(20, 1_500, 80, 8_000), problem, "")
     kinds = short_names(36_000)
     variables = " ".join(f"?{name}" for name in short_names(60_000))
     listed = f"{variables} - (either {' '.join(kinds)})"

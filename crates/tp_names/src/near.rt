@@ -128,11 +128,10 @@ fn kinds_of<'t, 'a>(
     objects: [&[Typed]; 2],
     most: usize,
 ) -> Result<Kinds<'t, 'a>, AllocError> {
-    if most > FEW {
-        Kinds::new(alloc, types, objects)
-    } else {
-        Kinds::none(alloc)
+    if most <= FEW {
+        return Kinds::none(alloc);
     }
+    Kinds::new(alloc, types, objects)
 }
 
 impl<'a> Hints<'a> {
