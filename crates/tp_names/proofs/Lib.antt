@@ -2,4 +2,3 @@ pub mod OnSymbols
 pub mod OnFits
 pub mod OnScope
 pub mod OnArguments
-pub mod OnNear

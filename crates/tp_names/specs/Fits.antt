@@ -4,6 +4,9 @@ use Rattle.std.specs.List.{All}
 use Rattle.tp_ast.specs.Gives.{◌>>=◌}
 use Rattle.tp_ast.specs.Symbols.{Name, Declared, Parent, SignatureView, Symbols, typed_view, types_fit, signature_of}
 use Rattle.tp_ast.specs.declared.symbols.Typed.{Typed}
+use Rattle.tp_ast.specs.Shared.{types_in}
+use Rattle.tp_ancestors.specs.Spans.{AreOf}
+use Rattle.tp_ancestors.specs.declared.ancestors.Ancestors.{Ancestors}
 use Rattle.tp_names.specs.declared.symbols.Kind.{Kind}
 use Rattle.tp_names.specs.declared.symbols.Kind.TheVariants.{Predicate, Function}
 use Rattle.tp_names.specs.declared.fits.Fit.{Fit}
@@ -42,3 +45,10 @@ AreStarts starts items =
     (k s : ℕ)
     → slice_get starts k ≡ Some s
     → types_at (map typed_view items) s ≡ types_at (map typed_view items) k
+
+-- for each item, if anything is known of what is above its types, it is so
+abbrev pub AreAncestors : Symbols → List Typed → List (Option Ancestors) → Type 0
+AreAncestors σ items found =
+    (k : ℕ) (d : Typed) (a : Ancestors)
+    → slice_get items k ≡ Some d → slice_get found k ≡ Some (Some a)
+    → AreOf σ.types (types_in d) a

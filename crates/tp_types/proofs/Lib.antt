@@ -10,3 +10,4 @@ pub mod OnAscending
 pub mod OnGuesses
 pub mod OnParents
 pub mod OnRows
+pub mod OnOrder

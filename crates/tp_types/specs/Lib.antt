@@ -8,3 +8,4 @@ pub mod Marks
 pub mod NameSets
 pub mod Ascending
 pub mod Once
+pub mod Order

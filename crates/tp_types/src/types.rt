@@ -1,8 +1,9 @@
 //! Types and the order among them.
 
-ghost use Rattle.std.specs.Prelude.{◌≡◌, map, option_map, string_bytes, length, false, IfOk, IfSome};
+ghost use Rattle.std.specs.Prelude.{◌≡◌, map, option_map, string_bytes, length, true, false, IfOk, IfSome};
 ghost use Rattle.std.specs.List.{list_any, list_all};
 ghost use Rattle.tp_ast.specs.Symbols.{parent_view, parent_of, at_or_below, types_fit};
+ghost use Rattle.tp_types.specs.Order.{IsTransitive};
 ghost use Rattle.tp_types.specs.Parents.{ArePlaced};
 ghost use Rattle.tp_types.specs.TypeViews.{types_view};
 ghost use Rattle.tp_ast.specs.TypedLists.{is_type, has_twice};
@@ -158,6 +159,24 @@ fn at_or_below(types: &Types, steps: usize, below: &str, above: &str) -> bool
     match parent_of(below, types) {
         None => false,
         Some(parent) => climbs(types, steps - 1, parent, above),
+    }
+}
+
+// The types of a table are in an order, by their ranks.
+fn is_order(table: &TypeTable) -> bool
+    ensures { IsTransitive (map parent_view table.now.types.now) }
+{
+    let _ = table;
+    true
+}
+
+/// Whether the types are known to be in an order: what a type is below, all those below it are.
+pub fn is_ordered(types: &Types) -> bool
+    ensures { result ≡ true → IsTransitive (types_view types.now) }
+{
+    match &types.table {
+        Some(table) => is_order(table),
+        None => false,
     }
 }
 

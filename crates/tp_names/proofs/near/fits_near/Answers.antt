@@ -2,7 +2,7 @@ use Rattle.std.proofs.Common.{ℕ, Bool, length, map, drop, string_bytes, sym, a
 use Rattle.std.specs.List.{list_any}
 use Rattle.tp_ast.specs.Symbols.{Name, at_or_below, types_fit}
 use Rattle.tp_types.specs.TypeViews.{types_view}
-use Rattle.tp_names.proofs.OnNear.{next, ended}
+use Rattle.tp_ancestors.proofs.OnLists.{next, ended}
 use Rattle.tp_names.proofs.near.fits_near.Goals as goal
 
 pub loop-below-preserved : goal.loop-below-preserved

@@ -3,7 +3,7 @@ use Rattle.std.proofs.lemmas.List.{length-map}
 use Rattle.std.proofs.lemmas.Option.{slice_get_read}
 use Rattle.tp_ast.specs.Symbols.{parent_view, at_or_below}
 use Rattle.tp_types.specs.TypeViews.{types_view}
-use Rattle.tp_names.proofs.OnNear.{any_at}
+use Rattle.tp_ancestors.proofs.OnLists.{any_at}
 use Rattle.tp_names.proofs.near.is_below_at.Goals as goal
 
 pub returns : goal.returns

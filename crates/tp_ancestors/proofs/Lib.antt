@@ -1,0 +1,2 @@
+pub mod OnLists
+pub mod OnSpans
