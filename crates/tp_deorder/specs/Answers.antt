@@ -12,7 +12,7 @@ use Rattle.tp_bounds.specs.declared.plan_nets.PlanNet.{PlanNet}
 use Rattle.tp_bounds.specs.Nets.{SuitsNet}
 use Rattle.tp_bounds.specs.OwnBounds.{setting_of, IsWithin}
 use Rattle.tp_bounds.specs.RunLimits.{RunLimits}
-use Rattle.tp_task.specs.Valid.{Planned, events}
+use Rattle.tp_task.specs.Valid.{events}
 use Rattle.tp_task.specs.Verdict.{last_moment}
 use Rattle.tp_deorder.specs.declared.DeorderFault.{DeorderFault}
 use Rattle.tp_deorder.specs.declared.DeorderFault.TheVariants.{Memory, TooMany}
@@ -24,12 +24,6 @@ use Rattle.tp_deorder.specs.Kept.{net_bounds}
 abbrev pub OnTooMany : DeorderFault → Type 0 → Type 0
 OnTooMany Memory P = Unit {0}
 OnTooMany TooMany P = P
-
--- The plan has more events than the limits allow, ends past their horizon, or has more bounds than they allow.
-abbrev pub PassesLimits : RunLimits → List Planned → Type 0
-PassesLimits l plan =
-    (l.events < length (events plan))
-    ⊎ ((l.horizon < last_moment (events plan)) ⊎ (l.bounds < bound_count plan))
 
 -- the plan's own ticks: the moment of each event, by its number
 abbrev pub own_ticks : List Planned → ℕ → ℕ
@@ -55,6 +49,15 @@ pub record IsNetOf (t : Task) (steps : List Step) (horizon : ℕ) (bounds : List
 abbrev pub bounds_in : Task → List Step → ℕ → List Bound
 bounds_in t steps horizon =
     net_bounds horizon (scale_of t) (state_at t steps) (plan_of t steps)
+
+-- The plan has more events than the limits allow, ends past their horizon, or its network has more bounds than they allow, and so the
+-- plan has.
+abbrev pub PassesLimits : RunLimits → Task → List Step → Type 0
+PassesLimits l t steps =
+    (l.events < length (events (plan_of t steps)))
+    ⊎ ((l.horizon < last_moment (events (plan_of t steps)))
+    ⊎ ((l.bounds < length (bounds_in t steps l.horizon))
+    × (l.bounds < bound_count (plan_of t steps))))
 
 -- The network of a plan within limits: its horizon is theirs, its events are the plan's, told as text, its bounds are the plan's,
 -- one after another, and there are no more of either than the limits allow.

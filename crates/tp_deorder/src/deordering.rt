@@ -96,7 +96,10 @@ fn bounds_of(
     ensures ok { IfOk result (λ v. v.items ≡ net_bounds horizon (scale_of task.now)
         (states (scale_of task.now) (begin task.now) (events steps.now)) steps.now) }
     ensures few { IfOk result (λ v. length v.items ≤ most) }
-    ensures err { IfErr result (λ e. OnTooMany e (most < bound_count steps.now)) }
+    ensures err { IfErr result
+        (λ e. OnTooMany e ((most < length (net_bounds horizon (scale_of task.now) (states
+        (scale_of task.now) (begin task.now) (events steps.now)) steps.now))
+        × (most < bound_count steps.now))) }
 {
     let kept = ticks_of(alloc, task, horizon, steps)?;
     let events = placed_events(alloc, steps)?;
@@ -142,7 +145,7 @@ fn bounds_within(
         (λ _. event_count_of (plan_of task.now steps.now) ≤ limits.now.events) }
     ensures few { IfOk result (λ v. length v.items ≤ limits.now.bounds) }
     ensures err { IfErr result
-        (λ e. OnTooMany e (PassesLimits limits.now (plan_of task.now steps.now))) }
+        (λ e. OnTooMany e (PassesLimits limits.now task.now steps.now)) }
 {
     let planned = planned_steps(alloc, task, steps)?;
     if passes(alloc, &planned, limits)? {
@@ -162,7 +165,7 @@ fn net_within(
     requires sound { IsSound task.now steps.now }
     ensures net { IfOk result (IsPlanNetOf task.now steps.now limits.now) }
     ensures err { IfErr result
-        (λ e. OnTooMany e (PassesLimits limits.now (plan_of task.now steps.now))) }
+        (λ e. OnTooMany e (PassesLimits limits.now task.now steps.now)) }
 {
     let bounds = bounds_within(alloc, task, steps, limits)?;
     let events = event_texts(alloc, task, steps)?;
@@ -174,8 +177,8 @@ fn net_within(
 }
 
 /// The network of a validated plan: its schedules are exactly the assignments that meet the bounds of the plan, and the plan
-/// of a run at each of them is valid. TooMany where the plan has more events or bounds than the limits allow, or ends past
-/// their horizon.
+/// of a run at each of them is valid. TooMany exactly where the plan has more events than the limits allow, ends past
+/// their horizon, or its network has more bounds than they allow.
 ///
 /// It finds which events interfere, and which write into an invariant, by indexes from atoms and fluents to events: it goes over
 /// each mention of an event once for each way in which two interfere, and over each of an invariant once, and takes a step for
@@ -191,7 +194,7 @@ pub fn deorder(
 ) -> Result<PlanNet, DeorderFault>
     ensures net { IfOk result (IsPlanNetOf plan.now.task plan.now.steps limits.now) }
     ensures err { IfErr result
-        (λ e. OnTooMany e (PassesLimits limits.now (plan_of plan.now.task plan.now.steps))) }
+        (λ e. OnTooMany e (PassesLimits limits.now plan.now.task plan.now.steps)) }
 {
     net_within(alloc, plan.task(), plan.plan().steps(), limits)
 }

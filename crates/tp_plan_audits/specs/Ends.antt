@@ -6,7 +6,6 @@ use Rattle.tp_bounds.specs.RunLimits.{greatest_limits}
 use Rattle.tp_bounds.specs.declared.plan_nets.PlanNet.{PlanNet}
 use Rattle.tp_task.specs.declared.task.Task.{Task}
 use Rattle.tp_happen.specs.tp_plan_texts.declared.plans.Step.{Step}
-use Rattle.tp_validate.specs.OfTask.{plan_of}
 use Rattle.tp_validate.specs.declared.verdicts.Verdict.{Verdict}
 use Rattle.tp_validate.specs.declared.verdicts.Verdict.TheVariants.{Valid, Invalid}
 use Rattle.tp_deorder.specs.Answers.{OnTooMany, PassesLimits}
@@ -92,7 +91,7 @@ StopsSteps task steps horizon head input before now (Auditing stop) =
     StopsStepsBy task steps horizon head input before now stop
 StopsSteps task steps horizon head input before now (Judging fault) = ⊥
 StopsSteps task steps horizon head input before now (Deordering fault) =
-    OnTooMany fault (PassesLimits (greatest_limits horizon) (plan_of task steps)) × (now ≡ before)
+    OnTooMany fault (PassesLimits (greatest_limits horizon) task steps) × (now ≡ before)
 
 -- ---- of a verdict
 
@@ -144,4 +143,4 @@ StopsHeaded held w head input before now (Auditing stop) =
 StopsHeaded held w head input before now (Judging fault) = Explains held w fault × (now ≡ before)
 StopsHeaded held w head input before now (Deordering fault) =
     RunsNamed held w (λ task steps. OnTooMany fault
-    (PassesLimits (greatest_limits w.horizon) (plan_of task steps))) × (now ≡ before)
+    (PassesLimits (greatest_limits w.horizon) task steps)) × (now ≡ before)

@@ -7,7 +7,6 @@ use Rattle.tp_bounds.specs.RunLimits.{greatest_limits}
 use Rattle.tp_bounds.specs.declared.plan_nets.PlanNet.{PlanNet}
 use Rattle.tp_task.specs.declared.task.Task.{Task}
 use Rattle.tp_happen.specs.tp_plan_texts.declared.plans.Step.{Step}
-use Rattle.tp_validate.specs.OfTask.{plan_of}
 use Rattle.tp_deorder.specs.Answers.{IsPlanNetOf, OnTooMany, PassesLimits}
 use Rattle.tp_machine.specs.Machine.{Machine}
 use Rattle.tp_files.specs.FaultLines.{Tells}
@@ -126,7 +125,7 @@ StopsPlanAudit held w input before now (Judging fault) =
     WithHead input (λ head. Explains held w fault) × (now ≡ before)
 StopsPlanAudit held w input before now (Deordering fault) =
     WithHead input (λ head. RunsNamed held w (λ task steps. OnTooMany fault
-    (PassesLimits (greatest_limits w.horizon) (plan_of task steps)))) × (now ≡ before)
+    (PassesLimits (greatest_limits w.horizon) task steps))) × (now ≡ before)
 
 -- What hindered it with that status was told, and it is as it tells. A failed write is one that the count of failures tells of.
 pub record EndsPlanAudit (held : List ℕ → Option (List ℕ)) (w : PlanWords) (log : List ℕ)

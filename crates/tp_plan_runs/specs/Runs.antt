@@ -7,7 +7,7 @@ use Rattle.tp_task.specs.declared.task.Task.{Task}
 use Rattle.tp_happen.specs.tp_plan_texts.PlanPrints.{plan_text}
 use Rattle.tp_happen.specs.tp_plan_texts.TaskWords.{readable}
 use Rattle.tp_happen.specs.tp_plan_texts.declared.plans.Step.{Step}
-use Rattle.tp_validate.specs.OfTask.{IsValidPlan, plan_of}
+use Rattle.tp_validate.specs.OfTask.{IsValidPlan}
 use Rattle.tp_deorder.specs.Answers.{IsPlanNetOf, OnTooMany, PassesLimits}
 use Rattle.tp_exec.specs.FromPlan.{IsPlanOfRun, TellsPlan}
 use Rattle.tp_machine.specs.Machine.{Machine}
@@ -102,7 +102,7 @@ abbrev pub StopsRun : (List ℕ → Option (List ℕ)) → PlanWords → Option 
 StopsRun held w input before now (Judging fault) = Explains held w fault × (now ≡ before)
 StopsRun held w input before now (Network fault) =
     RunsNamed held w (λ task steps. OnTooMany fault
-    (PassesLimits (greatest_limits w.horizon) (plan_of task steps))) × (now ≡ before)
+    (PassesLimits (greatest_limits w.horizon) task steps)) × (now ≡ before)
 StopsRun held w input before now (Answering fault) =
     RunsNamed held w (λ task steps. EndsEarly task steps w.horizon input before now fault)
 StopsRun held w input before now Write =

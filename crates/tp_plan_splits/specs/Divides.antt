@@ -7,7 +7,6 @@ use Rattle.tp_bounds.specs.Schedule.{HasSchedule}
 use Rattle.tp_bounds.specs.declared.plan_nets.PlanNet.{PlanNet}
 use Rattle.tp_task.specs.declared.task.Task.{Task}
 use Rattle.tp_happen.specs.tp_plan_texts.declared.plans.Step.{Step}
-use Rattle.tp_validate.specs.OfTask.{plan_of}
 use Rattle.tp_deorder.specs.Answers.{IsPlanNetOf, OnTooMany, PassesLimits}
 use Rattle.tp_agents.specs.Owners.{IsFirstMisowned}
 use Rattle.tp_agents.specs.Splits.{IsSplit}
@@ -95,7 +94,7 @@ pub record DividesPlan (task : Task) (steps : List Step) (horizon : ℕ)
 abbrev pub StopsPlan : Task → List Step → ℕ → Option (List ℕ) → SplitStop → Type 0
 StopsPlan task steps horizon owners_held (Judging fault) = ⊥
 StopsPlan task steps horizon owners_held (Network fault) =
-    OnTooMany fault (PassesLimits (greatest_limits horizon) (plan_of task steps))
+    OnTooMany fault (PassesLimits (greatest_limits horizon) task steps)
 StopsPlan task steps horizon owners_held NoSetting = Unit {0}
 StopsPlan task steps horizon owners_held (OwnersFile fault) = HasFault owners_held fault
 StopsPlan task steps horizon owners_held (Owner e) =

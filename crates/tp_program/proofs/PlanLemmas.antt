@@ -8,7 +8,6 @@ use Rattle.tp_bounds.specs.RunLimits.{RunLimits}
 use Rattle.tp_task.specs.declared.task.Task.{Task}
 use Rattle.tp_happen.specs.tp_plan_texts.declared.plans.Step.{Step}
 use Rattle.tp_validate.specs.Answers.{IsVerdict}
-use Rattle.tp_validate.specs.OfTask.{plan_of}
 use Rattle.tp_validate.specs.declared.verdicts.Verdict.{Verdict}
 use Rattle.tp_validate.specs.declared.verdicts.Verdict.TheVariants.{Valid, Invalid}
 use Rattle.tp_deorder.specs.Answers.{IsPlanNetOf, OnTooMany, PassesLimits}
@@ -69,9 +68,9 @@ stops_shown held w task (Valid plan) before now (Network fault) judged told = (
   judged.1,
   (
     judged.2.2,
-    subst (λ (l : RunLimits). OnTooMany fault (PassesLimits l (plan_of task judged.0))) judged.1.of_task.task_of.same_limits
-        (subst (λ (s : List Step). OnTooMany fault (PassesLimits task.limits (plan_of task s))) judged.2.1
-        (subst (λ (t : Task). OnTooMany fault (PassesLimits task.limits (plan_of t plan.steps))) judged.2.0 told.0)),
+    subst (λ (l : RunLimits). OnTooMany fault (PassesLimits l task judged.0)) judged.1.of_task.task_of.same_limits
+        (subst (λ (s : List Step). OnTooMany fault (PassesLimits task.limits task s)) judged.2.1
+        (subst (λ (t : Task). OnTooMany fault (PassesLimits task.limits t plan.steps)) judged.2.0 told.0)),
   ),
   told.1,
 )

@@ -9,7 +9,6 @@ use Rattle.tp_happen.specs.tp_plan_texts.declared.plans.Step.{Step}
 use Rattle.tp_validate.specs.Answers.{IsFirst}
 use Rattle.tp_validate.specs.OfTask.{IsValidPlan}
 use Rattle.tp_validate.specs.declared.ticks.Fault.{Fault}
-use Rattle.tp_validate.specs.OfTask.{plan_of}
 use Rattle.tp_validate.specs.declared.verdicts.Verdict.{Verdict}
 use Rattle.tp_validate.specs.declared.verdicts.Verdict.TheVariants.{Valid, Invalid}
 use Rattle.tp_deorder.specs.Answers.{IsPlanNetOf, OnTooMany, PassesLimits}
@@ -67,7 +66,7 @@ abbrev pub StopsNetwork : Task → List Step → RunLimits → Option (List ℕ)
     → PlanStop → Type 0
 StopsNetwork task steps limits before now (Judging fault) = ⊥
 StopsNetwork task steps limits before now (Network fault) =
-    OnTooMany fault (PassesLimits limits (plan_of task steps)) × (now ≡ before)
+    OnTooMany fault (PassesLimits limits task steps) × (now ≡ before)
 StopsNetwork task steps limits before now Write =
     (text : List ℕ) × TellsNetwork task steps limits text × AppendsPart before now text
 
@@ -87,7 +86,7 @@ StopsShown (Invalid plan tick why) limits before now stop =
 -- the plan is valid, and passes the limits
 abbrev pub PassesNet : RunLimits → Task → List Step → DeorderFault → Type 0
 PassesNet limits task steps fault =
-    IsValidPlan task steps × OnTooMany fault (PassesLimits limits (plan_of task steps))
+    IsValidPlan task steps × OnTooMany fault (PassesLimits limits task steps)
 
 -- why no network was written
 abbrev pub StopsNet : (List ℕ → Option (List ℕ)) → PlanWords → Option (List ℕ) → Option (List ℕ)

@@ -2,7 +2,6 @@
 
 ghost use Rattle.std.specs.Prelude.{◌≡◌, ◌≢◌, ◌≤◌, [], IfOk, IfErr, OnOk};
 ghost use Rattle.std.specs.String.{string_bytes};
-ghost use Rattle.tp_validate.specs.OfTask.{plan_of};
 ghost use Rattle.tp_deorder.specs.Answers.{OnTooMany, PassesLimits};
 ghost use Rattle.tp_files.specs.FaultLines.{TellsFault};
 ghost use Rattle.tp_plan_files.specs.Named.{IsNamedTask};
@@ -26,7 +25,7 @@ fn lines_of(alloc: Global, plan: &ValidPlan<'_>, limits: &Limits) -> Result<Stri
     ensures lines { IfOk result (λ text.
         TellsNetwork plan.now.task plan.now.steps limits.now (string_bytes text)) }
     ensures cause { IfErr result (λ e.
-        OnTooMany e (PassesLimits limits.now (plan_of plan.now.task plan.now.steps))) }
+        OnTooMany e (PassesLimits limits.now plan.now.task plan.now.steps)) }
 {
     match deorder(alloc, plan, limits) {
         Ok(net) => match network_text(alloc, &net) {

@@ -5,7 +5,6 @@ use Rattle.tp_device.specs.Bytes.{AppendsPart}
 use Rattle.tp_bounds.specs.RunLimits.{greatest_limits}
 use Rattle.tp_task.specs.declared.task.Task.{Task}
 use Rattle.tp_happen.specs.tp_plan_texts.declared.plans.Step.{Step}
-use Rattle.tp_validate.specs.OfTask.{plan_of}
 use Rattle.tp_validate.specs.declared.verdicts.Verdict.{Verdict}
 use Rattle.tp_validate.specs.declared.verdicts.Verdict.TheVariants.{Valid, Invalid}
 use Rattle.tp_deorder.specs.Answers.{OnTooMany, PassesLimits}
@@ -41,7 +40,7 @@ abbrev pub StopsSteps : Task → List Step → ℕ → Option (List ℕ) → Opt
     → LogFile → RunJournalStop → Type 0
 StopsSteps task steps horizon input before now file (Judging fault) = ⊥
 StopsSteps task steps horizon input before now file (Network fault) =
-    OnTooMany fault (PassesLimits (greatest_limits horizon) (plan_of task steps)) × (now ≡ before)
+    OnTooMany fault (PassesLimits (greatest_limits horizon) task steps) × (now ≡ before)
     × MadeNone file
 StopsSteps task steps horizon input before now file (Journal stop) =
     LogsEarly task steps horizon input before now file stop

@@ -4,7 +4,6 @@ use Rattle.tp_bounds.specs.RunLimits.{greatest_limits}
 use Rattle.tp_bounds.specs.declared.plan_nets.PlanNet.{PlanNet}
 use Rattle.tp_task.specs.declared.task.Task.{Task}
 use Rattle.tp_happen.specs.tp_plan_texts.declared.plans.Step.{Step}
-use Rattle.tp_validate.specs.OfTask.{plan_of}
 use Rattle.tp_deorder.specs.Answers.{IsPlanNetOf, OnTooMany, PassesLimits}
 use Rattle.tp_machine.specs.Machine.{Machine}
 use Rattle.tp_files.specs.FaultLines.{Tells}
@@ -99,7 +98,7 @@ StopsRunLog held w input before now file (Judging fault) =
     Explains held w fault × (now ≡ before) × MadeNone file
 StopsRunLog held w input before now file (Network fault) =
     RunsNamed held w (λ task steps. OnTooMany fault
-    (PassesLimits (greatest_limits w.horizon) (plan_of task steps))) × (now ≡ before)
+    (PassesLimits (greatest_limits w.horizon) task steps)) × (now ≡ before)
     × MadeNone file
 StopsRunLog held w input before now file (Journal stop) =
     RunsNamed held w (λ task steps. LogsEarly task steps w.horizon input before now file stop)
