@@ -4,6 +4,7 @@
 use std::alloc::{AllocError, Global};
 use tp_ast::types::TypeName;
 use tp_types::guesses::Guesses;
+use tp_types::table::places;
 use tp_types::types::Types;
 
 // In place of a place: none.
@@ -74,8 +75,8 @@ fn number_of(declared: &[TypeName], guesses: &Guesses, name: &str) -> Option<usi
     }
 }
 
-// The numbers of types, if all are guessed.
-fn numbers_of(
+// The numbers of types, if all are guessed: a long table of guesses leaves some names out.
+fn numbers_guessed(
     alloc: Global,
     declared: &[TypeName],
     list: &[String],
@@ -89,6 +90,35 @@ fn numbers_of(
         numbers.push(number)?;
     }
     Ok(Some(numbers))
+}
+
+// The numbers of types, that of `object` for those that are not declared.
+fn numbers_found(
+    alloc: Global,
+    declared: &[TypeName],
+    list: &[String],
+) -> Result<Vec<usize>, AllocError> {
+    let places = places(alloc, declared)?;
+    let mut numbers = Vec::with_capacity(alloc, list.len())?;
+    for name in list {
+        let number = match places.get(name.as_str()) {
+            Some(place) => *place,
+            None => declared.len(),
+        };
+        numbers.push(number)?;
+    }
+    Ok(numbers)
+}
+
+fn numbers_of(
+    alloc: Global,
+    declared: &[TypeName],
+    list: &[String],
+) -> Result<Vec<usize>, AllocError> {
+    match numbers_guessed(alloc, declared, list)? {
+        Some(numbers) => Ok(numbers),
+        None => numbers_found(alloc, declared, list),
+    }
 }
 
 impl<'a> Walk<'a> {
@@ -227,7 +257,7 @@ impl<'a> Walk<'a> {
     }
 }
 
-/// The shape of a list. None where one of its types is not found.
+/// The shape of a list. None where the types are not in an order.
 pub fn shape_of<'a>(
     alloc: Global,
     types: &Types<'a>,
@@ -237,9 +267,7 @@ pub fn shape_of<'a>(
         return Ok(None);
     };
     let declared = types.declared();
-    let Some(numbers) = numbers_of(alloc, declared, list)? else {
-        return Ok(None);
-    };
+    let numbers = numbers_of(alloc, declared, list)?;
     let mut walk = Walk::new(alloc, declared)?;
     for number in &numbers {
         walk.add(parents, *number);

@@ -25,7 +25,7 @@ pub record IsExhausted (t : Task) : Type 0 where
   pub not_empty : ¬ IsValidPlan t []
   pub not_at_once : (steps : List Step) → ¬ IsPlanAtOnce t steps
 
--- The goal is in reach, the empty plan is not valid, and as many nodes were expanded as the budget allows.
+-- The goal is in reach, the empty plan is not valid, and the number told is the budget.
 pub record IsSpent (t : Task) (budget expanded : ℕ) : Type 0 where
   pub in_reach : GoalIs t true
   pub not_empty : ¬ IsValidPlan t []

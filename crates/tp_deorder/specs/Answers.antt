@@ -12,7 +12,7 @@ use Rattle.tp_bounds.specs.declared.plan_nets.PlanNet.{PlanNet}
 use Rattle.tp_bounds.specs.Nets.{SuitsNet}
 use Rattle.tp_bounds.specs.OwnBounds.{setting_of, IsWithin}
 use Rattle.tp_bounds.specs.RunLimits.{RunLimits}
-use Rattle.tp_task.specs.Valid.{events}
+use Rattle.tp_task.specs.Valid.{Planned, events}
 use Rattle.tp_task.specs.Verdict.{last_moment}
 use Rattle.tp_deorder.specs.declared.DeorderFault.{DeorderFault}
 use Rattle.tp_deorder.specs.declared.DeorderFault.TheVariants.{Memory, TooMany}

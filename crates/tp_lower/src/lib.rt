@@ -1,5 +1,5 @@
-//! The grounding of effects and bodies: what is joined by `and` and `forall` written out over the objects. Offers conditions,
-//! expressions and the writer of `tp_lower_conditions` again.
+//! The grounding of effects and bodies: what is joined by `and` and `forall` written out over the objects. Offers again what is
+//! called of `tp_lower_conditions` from above: atoms and fluents by number, closed conditions, and the writer.
 //!
 //! - `part_hints`, `part_lengths`, `part_rooms`: what is known of the quantifiers in what is joined before it is written out, how long
 //!   it is, and how much room it takes at least

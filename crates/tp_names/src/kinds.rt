@@ -13,7 +13,7 @@ const LETTERS: usize = 64;
 // A note takes as long as so many steps.
 const NOTE: usize = 16;
 
-// So many steps at most are gone for all lists.
+// So many steps up at most are gone for all lists; each that is gone anew is gone once more, to keep what was found.
 const MOST_STEPS: usize = 4_000_000;
 
 // In place of a list: that the type is one that objects have.
@@ -116,7 +116,7 @@ impl<'t, 'a> Kinds<'t, 'a> {
         }
     }
 
-    // Of types that follow one another and are the same only the first is looked for.
+    // Of short names of types that follow one another and are the same only the first is looked for.
     fn push_kinds(&mut self, objects: &[Typed]) -> Result<(), AllocError> {
         let mut last = "";
         for object in objects {
@@ -158,7 +158,7 @@ impl<'t, 'a> Kinds<'t, 'a> {
         (NOWHERE, self.left)
     }
 
-    // The same, which is known from then on of all types on the way up.
+    // The same, which is known from then on of all types on the way up to there.
     fn place_above(&mut self, number: usize) -> u32 {
         let (place, steps) = self.look_up(number);
         self.count(steps.saturating_add(1));

@@ -12,7 +12,7 @@ use Rattle.tp_search.specs.tp_at_once.Promised.{IsExhausted, IsSpent, IsUnreacha
 use Rattle.tp_search.specs.tp_at_once.declared.found.Found.{Found}
 use Rattle.tp_search.specs.tp_at_once.declared.found.Found.TheVariants.{Plan, Unreachable, Exhausted, Spent}
 
--- so many expansions were made, and no plan was found
+-- the budget is told as spent, and no plan was found
 abbrev pub spent_line : ℕ → List ℕ
 spent_line n = codes "spent " ++ (decimal n ++ codes "\n")
 

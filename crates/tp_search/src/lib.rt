@@ -13,6 +13,5 @@ mod seeking;
 
 pub use laws::{plans_at_once_are_met, unreachable_has_no_plan};
 pub use seeking::search;
-pub use tp_at_once::arena::{Arena, Node};
 pub use tp_at_once::found::Found;
 pub use tp_forms::SearchFault;
