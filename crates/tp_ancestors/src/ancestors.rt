@@ -8,11 +8,9 @@ ghost use Rattle.tp_ancestors.specs.Spans.{AllHold, FitFrom, IsAmong, AreOf};
 
 use crate::shape::{Shape, shape_of};
 use crate::spans::{Span, spans_of};
+use crate::ways::Ways;
 use std::alloc::{AllocError, Global};
 use tp_types::types::{Types, is_below, is_ordered};
-
-/// Lists of so many types at most are compared by what is above another one.
-pub const MOST: usize = 64;
 
 /// The types of a list in rows, and which of them are below one type.
 #[derive(Drop)]
@@ -44,19 +42,17 @@ fn are_among(list: &[String], rows: &[&str], places: &[usize]) -> bool
 pub fn ancestors_of<'a>(
     alloc: Global,
     types: &Types<'a>,
+    ways: &Ways<'_, 'a>,
     list: &[String],
 ) -> Result<Option<Ancestors<'a>>, AllocError>
     ensures { IfOk result (λ o. IfSome o
         (λ a. AreOf (types_view types.now) (map string_bytes list.now) a)) }
 {
-    let Some(shape) = shape_of(alloc, types, list)? else {
-        return Ok(None);
-    };
     let Shape {
         rows,
         places,
         nodes,
-    } = shape;
+    } = shape_of(alloc, ways, list)?;
     if !are_among(list, &rows, &places) {
         return Ok(None);
     }
@@ -64,22 +60,39 @@ pub fn ancestors_of<'a>(
     Ok(Some(Ancestors { rows, spans }))
 }
 
-// Whether a type is or is below one of these.
-fn is_below_some(types: &Types, below: &str, others: &[String]) -> bool
+// Whether a type is or is below the one at a place.
+fn is_below_at(types: &Types, below: &str, others: &[String], place: Option<usize>) -> bool
     ensures { result ≡ true → list_any
         (λ p. at_or_below (types_view types.now) (length (types_view types.now)) below.now p)
         (map string_bytes others.now) ≡ true }
 {
-    for above in others {
-        if is_below(types, below, above.as_str()) {
-            return true;
-        }
-    }
-    false
+    let Some(place) = place else {
+        return false;
+    };
+    let Some(above) = others.get(place) else {
+        return false;
+    };
+    is_below(types, below, above.as_str())
+}
+
+// Whether the type of a span is seen to be or be below one of the list at hand.
+fn is_under(types: &Types, ways: &mut Ways, span: &Span<'_>, others: &[String]) -> bool
+    ensures { result ≡ true → list_any
+        (λ p. at_or_below (types_view types.now) (length (types_view types.now)) span.now.name.now p)
+        (map string_bytes others.now) ≡ true }
+{
+    let (place, _) = ways.place_above(span.number, usize::MAX);
+    is_below_at(types, span.name, others, place)
 }
 
 // Whether all rows are seen to fit some types: from the last one on, by spans that are below one of them.
-fn rows_fit(types: &Types, rows: &[&str], spans: &[Span<'_>], others: &[String]) -> bool
+fn rows_fit(
+    types: &Types,
+    ways: &mut Ways,
+    rows: &[&str],
+    spans: &[Span<'_>],
+    others: &[String],
+) -> bool
     ensures { AllHold (types_view types.now) (map (λ r. r.now) rows.now) spans.now
         → result ≡ true → FitFrom (types_view types.now) (map (λ r. r.now) rows.now)
         (map string_bytes others.now) 0 }
@@ -89,14 +102,14 @@ fn rows_fit(types: &Types, rows: &[&str], spans: &[Span<'_>], others: &[String])
     }
     let mut left = rows.len();
     let mut place = spans.len();
-    // Where each type of the others is above some, so many spans at most are not below one.
+    // Where the others are above all rows, so many spans at most are not below one of them.
     let mut more = others.len().saturating_mul(2);
     'down: while place > 0 {
         place -= 1;
         let Some(span) = spans.get(place) else {
             return false;
         };
-        if span.end >= left && is_below_some(types, span.name, others) {
+        if span.end >= left && is_under(types, ways, span, others) {
             left = span.start;
             place = span.first.min(place);
         } else {
@@ -110,9 +123,10 @@ fn rows_fit(types: &Types, rows: &[&str], spans: &[Span<'_>], others: &[String])
 }
 
 /// Whether the types of a list are seen to fit others by what is above them.
-pub fn fit(types: &Types, ancestors: &Ancestors, others: &[String]) -> bool
+pub fn fit(types: &Types, ways: &mut Ways, ancestors: &Ancestors, others: &[String]) -> bool
     ensures { (list : List Name) → AreOf (types_view types.now) list ancestors.now → result ≡ true
         → types_fit (types_view types.now) list (map string_bytes others.now) ≡ true }
 {
-    rows_fit(types, &ancestors.rows, &ancestors.spans, others)
+    ways.begin_with(others);
+    rows_fit(types, ways, &ancestors.rows, &ancestors.spans, others)
 }

@@ -1,11 +1,9 @@
 //! How the types of a list stand in the order of types. All of it is a guess: what it says is looked at before it is believed, so
 //! nothing is promised of it.
 
+use crate::ways::Ways;
 use std::alloc::{AllocError, Global};
 use tp_ast::types::TypeName;
-use tp_types::guesses::Guesses;
-use tp_types::table::places;
-use tp_types::types::Types;
 
 // In place of a place: none.
 const NONE: usize = usize::MAX;
@@ -15,6 +13,7 @@ const NONE: usize = usize::MAX;
 #[derive(Clone, Copy)]
 pub struct Node<'a> {
     pub name: &'a str,
+    pub number: usize,
     pub start: usize,
     pub end: usize,
     pub first: usize,
@@ -63,62 +62,14 @@ struct Walk<'a> {
     nodes: Vec<Node<'a>>,
 }
 
-// The number of a type, if it is guessed.
-fn number_of(declared: &[TypeName], guesses: &Guesses, name: &str) -> Option<usize> {
-    if name == "object" {
-        return Some(declared.len());
-    }
-    let number = guesses.guess(name)?;
-    match declared.get(number) {
-        Some(known) if known.name.as_str() == name => Some(number),
-        _ => None,
-    }
-}
-
-// The numbers of types, if all are guessed: a long table of guesses leaves some names out.
-fn numbers_guessed(
-    alloc: Global,
-    declared: &[TypeName],
-    list: &[String],
-) -> Result<Option<Vec<usize>>, AllocError> {
-    let guesses = Guesses::new(alloc, declared)?;
-    let mut numbers = Vec::with_capacity(alloc, list.len())?;
-    for name in list {
-        let Some(number) = number_of(declared, &guesses, name.as_str()) else {
-            return Ok(None);
-        };
-        numbers.push(number)?;
-    }
-    Ok(Some(numbers))
-}
-
 // The numbers of types, that of `object` for those that are not declared.
-fn numbers_found(
-    alloc: Global,
-    declared: &[TypeName],
-    list: &[String],
-) -> Result<Vec<usize>, AllocError> {
-    let places = places(alloc, declared)?;
+fn numbers_of(alloc: Global, ways: &Ways, list: &[String]) -> Result<Vec<usize>, AllocError> {
     let mut numbers = Vec::with_capacity(alloc, list.len())?;
     for name in list {
-        let number = match places.get(name.as_str()) {
-            Some(place) => *place,
-            None => declared.len(),
-        };
-        numbers.push(number)?;
+        let number = ways.number(name.as_str());
+        numbers.push(number.unwrap_or(ways.declared().len()))?;
     }
     Ok(numbers)
-}
-
-fn numbers_of(
-    alloc: Global,
-    declared: &[TypeName],
-    list: &[String],
-) -> Result<Vec<usize>, AllocError> {
-    match numbers_guessed(alloc, declared, list)? {
-        Some(numbers) => Ok(numbers),
-        None => numbers_found(alloc, declared, list),
-    }
 }
 
 impl<'a> Walk<'a> {
@@ -209,6 +160,7 @@ impl<'a> Walk<'a> {
         if step.is_own || step.parts > 1 {
             let node = Node {
                 name: self.name(number),
+                number,
                 start: step.start,
                 end: self.rows.len(),
                 first: step.first,
@@ -257,20 +209,16 @@ impl<'a> Walk<'a> {
     }
 }
 
-/// The shape of a list. None where the types are not in an order.
+/// The shape of a list.
 pub fn shape_of<'a>(
     alloc: Global,
-    types: &Types<'a>,
+    ways: &Ways<'_, 'a>,
     list: &[String],
-) -> Result<Option<Shape<'a>>, AllocError> {
-    let Some(parents) = types.parents() else {
-        return Ok(None);
-    };
-    let declared = types.declared();
-    let numbers = numbers_of(alloc, declared, list)?;
-    let mut walk = Walk::new(alloc, declared)?;
+) -> Result<Shape<'a>, AllocError> {
+    let numbers = numbers_of(alloc, ways, list)?;
+    let mut walk = Walk::new(alloc, ways.declared())?;
     for number in &numbers {
-        walk.add(parents, *number);
+        walk.add(ways.parents(), *number);
     }
     walk.go()?;
     let mut places = Vec::with_capacity(alloc, numbers.len())?;
@@ -278,9 +226,9 @@ pub fn shape_of<'a>(
         places.push(walk.row(*number))?;
     }
     let Walk { rows, nodes, .. } = walk;
-    Ok(Some(Shape {
+    Ok(Shape {
         rows,
         places,
         nodes,
-    }))
+    })
 }

@@ -10,11 +10,12 @@ use crate::shape::Node;
 use std::alloc::{AllocError, Global};
 use tp_types::types::{Types, is_below, is_ordered};
 
-/// Of rows of types those from a place up to another, each of which is or is below a type, and where the first of the spans
-/// stands that lie within it.
+/// Of rows of types those from a place up to another, each of which is or is below a type; the number by which that is found
+/// on the ways; and where the first of the spans stands that lie within it.
 #[derive(Clone, Copy)]
 pub struct Span<'a> {
     pub name: &'a str,
+    pub number: usize,
     pub start: usize,
     pub end: usize,
     pub first: usize,
@@ -28,12 +29,14 @@ fn at_row<'a>(types: &Types, rows: &[&'a str], place: usize) -> Span<'a>
     match rows.get(place) {
         Some(name) => Span {
             name: *name,
+            number: 0,
             start: place,
             end: place + 1,
             first: 0,
         },
         None => Span {
             name: "",
+            number: 0,
             start: 0,
             end: 0,
             first: 0,
@@ -65,6 +68,7 @@ fn span_of<'a>(types: &Types, rows: &[&'a str], node: &Node<'a>, known: &[Span<'
 {
     let mut span = Span {
         name: node.name,
+        number: node.number,
         start: node.end,
         end: node.end,
         first: node.first,
