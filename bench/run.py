@@ -351,6 +351,13 @@ def short_names(count):
     return list(itertools.islice(names, count))
 
 
+def plain_names(first, count):
+    """So many names with that first letter, none of which is a word of the grammar."""
+    letters = "abcdefghijklmnopqrstuvwxyz0123456789"
+    names = (first + "".join(name) for size in itertools.count(1) for name in itertools.product(letters, repeat=size))
+    return list(itertools.islice(names, count))
+
+
 def asking(declared, atoms):
     """A domain that declares something, with one action that asks for atoms."""
     return f"(define (domain d) {declared} (:action a :precondition (and {atoms}) :effect ()))"
@@ -431,6 +438,21 @@ def variables_of_many_types(program, problem):
     below = " ".join(short_names(10_000))
     declared = f"(:types {below} - c_0 {above}) (:predicates {' '.join(f'(p{k} ?a - c_{k})' for k in range(10_000))})"
     asks("a variable of 10,000 types, 10,000 predicates of types above them", declared, f"?y - (either {below})", f"(and {each('(p# ?y)', 10_000)})")
+    kinds, names = plain_names("t", 38_000), plain_names("z", 20_000)
+    declared = f"(:types {' '.join(kinds)} - above) (:predicates {' '.join(f'({name} ?a - above)' for name in names)})"
+    condition = f"(and {' '.join(f'({name} ?y)' for name in names)})"
+    asks("a variable of 38,000 types, 20,000 predicates of the type above them", declared, f"?y - (either {' '.join(kinds)})", condition)
+    kinds, names, groups = plain_names("t", 20_000), plain_names("z", 1_900), plain_names("g", 90)
+    declared = " ".join(f"{' '.join(kinds[k::90])} - {group}" for k, group in enumerate(groups))
+    some = f"?a - (either {' '.join(groups)})"
+    declared = f"(:types {declared} {' '.join(groups)} - object) (:predicates {' '.join(f'({name} {some})' for name in names)})"
+    condition = f"(and {' '.join(f'({name} ?y)' for name in names)})"
+    asks("a variable of 20,000 types, 1,900 predicates of 90 types above them", declared, f"?y - (either {' '.join(kinds)})", condition)
+    kinds, names = plain_names("t", 30_000), plain_names("z", 14_000)
+    declared = f"(:types {' '.join(kinds)} - above above other - object) (:predicates {' '.join(f'({name} ?a - above)' for name in names)})"
+    declared += f" (:functions {' '.join(f'({name} ?a - other)' for name in names)})"
+    condition = f"(and {' '.join(f'({name} ?y)' for name in names)})"
+    asks("a variable of 30,000 types, 14,000 predicates and functions of one name", declared, f"?y - (either {' '.join(kinds)})", condition)
     kinds = short_names(20)
     condition = f"(and {('(p ' + '?y ' * 1_000 + ')') * 320})"
     for _ in range(58):

@@ -12,6 +12,9 @@ use crate::ways::Ways;
 use std::alloc::{AllocError, Global};
 use tp_types::types::{Types, is_below, is_ordered};
 
+// Two types are compared as fast as so many steps are gone up.
+const STEPS: usize = 8;
+
 /// The types of a list in rows, and which of them are below one type.
 #[derive(Drop)]
 pub struct Ancestors<'a> {
@@ -75,12 +78,35 @@ fn is_below_at(types: &Types, below: &str, others: &[String], place: Option<usiz
     is_below(types, below, above.as_str())
 }
 
-// Whether the type of a span is seen to be or be below one of the list at hand.
-fn is_under(types: &Types, ways: &mut Ways, span: &Span<'_>, others: &[String]) -> bool
+// Whether a type is or is below one of these.
+fn is_below_some(types: &Types, below: &str, others: &[String]) -> bool
+    ensures { result ≡ true → list_any
+        (λ p. at_or_below (types_view types.now) (length (types_view types.now)) below.now p)
+        (map string_bytes others.now) ≡ true }
+{
+    for above in others {
+        if is_below(types, below, above.as_str()) {
+            return true;
+        }
+    }
+    false
+}
+
+// Whether types are so few that each is compared with each span as fast as a way is gone up.
+fn are_few(ways: &Ways, others: &[String]) -> bool {
+    let pairs = others.len().saturating_mul(others.len());
+    pairs.saturating_mul(STEPS) <= ways.declared().len()
+}
+
+// Whether the type of a span is seen to be or be below one of these, which are few or the list at hand.
+fn is_under(types: &Types, ways: &mut Ways, few: bool, span: &Span<'_>, others: &[String]) -> bool
     ensures { result ≡ true → list_any
         (λ p. at_or_below (types_view types.now) (length (types_view types.now)) span.now.name.now p)
         (map string_bytes others.now) ≡ true }
 {
+    if few {
+        return is_below_some(types, span.name, others);
+    }
     let (place, _) = ways.place_above(span.number, usize::MAX);
     is_below_at(types, span.name, others, place)
 }
@@ -89,6 +115,7 @@ fn is_under(types: &Types, ways: &mut Ways, span: &Span<'_>, others: &[String]) 
 fn rows_fit(
     types: &Types,
     ways: &mut Ways,
+    few: bool,
     rows: &[&str],
     spans: &[Span<'_>],
     others: &[String],
@@ -109,7 +136,7 @@ fn rows_fit(
         let Some(span) = spans.get(place) else {
             return false;
         };
-        if span.end >= left && is_under(types, ways, span, others) {
+        if span.end >= left && is_under(types, ways, few, span, others) {
             left = span.start;
             place = span.first.min(place);
         } else {
@@ -127,6 +154,9 @@ pub fn fit(types: &Types, ways: &mut Ways, ancestors: &Ancestors, others: &[Stri
     ensures { (list : List Name) → AreOf (types_view types.now) list ancestors.now → result ≡ true
         → types_fit (types_view types.now) list (map string_bytes others.now) ≡ true }
 {
-    ways.begin_with(others);
-    rows_fit(types, ways, &ancestors.rows, &ancestors.spans, others)
+    let few = are_few(&*ways, others);
+    if !few {
+        ways.begin_with(others);
+    }
+    rows_fit(types, ways, few, &ancestors.rows, &ancestors.spans, others)
 }
