@@ -1,4 +1,4 @@
-use Rattle.std.proofs.Common.{◌≡◌, ℕ, ◌≤◌, true, nat_lt, List, length, sym, ap₂, ◌∙◌, subst, arith}
+use Rattle.std.proofs.Common.{◌≡◌, ℕ, ◌≤◌, true, nat_lt, List, length, inr, sym, ap, ap₂, ◌∙◌, subst, arith}
 use Rattle.std.specs.List.{list_all}
 use Rattle.tp_bounds.specs.declared.Bound.{Bound}
 use Rattle.tp_task.specs.Valid.{Planned, events}
@@ -6,9 +6,10 @@ use Rattle.tp_task.specs.Verdict.{states, last_moment}
 use Rattle.tp_validate.specs.OfTask.{scale_of, begin, plan_of}
 use Rattle.tp_validate.proofs.Planning.{planned_few, ends, planned_ends, fits, planned_fits}
 use Rattle.tp_deorder.specs.Answers.{IsNetOf}
-use Rattle.tp_deorder.specs.Inequalities.{event_count_of}
+use Rattle.tp_deorder.specs.Inequalities.{event_count_of, bound_count}
 use Rattle.tp_deorder.specs.Kept.{net_bounds}
 use Rattle.tp_deorder.proofs.OnNets.{net_of, ok_weaker, always_ok, not_past, not_more, counted}
+use Rattle.tp_deorder.proofs.OnSteps.{weaker_err}
 use Rattle.tp_deorder.proofs.deordering.bounds_within.Goals as goal
 
 pub passes-requires-clause-few : goal.passes-requires-clause-few
@@ -58,3 +59,11 @@ returns-clause-events c =
     (subst (λ (n : ℕ). n ≤ c.args.limits.now.events) (counted 0 c.deref.result.now)
     (not_more (nat_lt c.args.limits.now.horizon (last_moment (events c.deref.result.now))) c.args.limits.now.events (length (events c.deref.result.now)) (sym c.in_ok-passes.ensures.ok ∙ c.if-branch.false))) in
     always_ok c.bounds_of.result _ few
+
+pub returns-clause-err : goal.returns-clause-err
+returns-clause-err c =
+    let t = c.args.task.now in
+    let plan = c.deref-2.ensures.value ∙ c.in_ok-planned.ensures in
+    let same = ap₂ (λ (k : ℕ) (ps : List Planned). net_bounds k (scale_of t) (states (scale_of t) (begin t) (events ps)) ps) c.horizon.ensures.horizon plan in
+    weaker_err c.bounds_of.result _ _
+    (λ h. inr (inr (let q = ap (λ (bs : List Bound). length bs) same in omega (arith, h.0, q, c.bounds.ensures), let n = ap bound_count plan in omega (arith, h.1, n, c.bounds.ensures)))) c.bounds_of.ensures.err
