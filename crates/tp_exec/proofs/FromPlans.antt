@@ -16,9 +16,9 @@ use Rattle.tp_deorder.specs.tp_task.Valid.{Planned, IsValid, IsValidRun}
 use Rattle.tp_deorder.specs.tp_task.Bounds.{MeetsBounds}
 use Rattle.tp_deorder.proofs.Sound.{without_fault}
 use Rattle.tp_deorder.proofs.Retimed.{retimed_run}
-use Rattle.tp_deorder.specs.tp_happen.declared.plans.Step.{Step}
-use Rattle.tp_deorder.specs.tp_happen.Steps.{IsPlan, ends_in_time}
-use Rattle.tp_deorder.specs.tp_happen.TaskWords.{is_durative}
+use Rattle.tp_deorder.specs.tp_happen.tp_plan_texts.declared.plans.Step.{Step}
+use Rattle.tp_deorder.specs.tp_happen.tp_plan_texts.Steps.{IsPlan, ends_in_time}
+use Rattle.tp_deorder.specs.tp_happen.tp_plan_texts.TaskWords.{is_durative}
 use Rattle.tp_deorder.specs.tp_validate.OfTask.{IsOfTask, is_step_of, step_of, planned, scale_of, begin, plan_of, state_at, IsValidPlan}
 use Rattle.tp_deorder.specs.tp_validate.Verdict.{IsSound}
 use Rattle.tp_deorder.specs.Answers.{IsPlanNetOf, own_ticks}

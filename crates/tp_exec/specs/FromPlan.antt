@@ -3,7 +3,7 @@ use Rattle.std.specs.Prelude.{◌≡◌, List, Option, Some, None}
 use Rattle.tp_bounds.specs.Setting.{Setting}
 use Rattle.tp_deorder.specs.tp_task.declared.task.Task.{Task}
 use Rattle.tp_deorder.specs.tp_task.Bounds.{MeetsBounds}
-use Rattle.tp_deorder.specs.tp_happen.declared.plans.Step.{Step}
+use Rattle.tp_deorder.specs.tp_happen.tp_plan_texts.declared.plans.Step.{Step}
 use Rattle.tp_deorder.specs.tp_validate.OfTask.{IsOfTask, IsValidPlan, scale_of, plan_of, state_at}
 use Rattle.tp_deorder.specs.Inequalities.{event_count_of}
 use Rattle.tp_deorder.specs.RunPlans.{run_steps}

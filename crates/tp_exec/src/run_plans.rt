@@ -8,7 +8,7 @@ ghost use Rattle.tp_bounds.specs.Schedule.{HasSchedule};
 ghost use Rattle.tp_bounds.specs.Lawful.{IsLawful};
 ghost use Rattle.tp_bounds.specs.declared.plan_nets.PlanNet.{PlanNet};
 ghost use Rattle.tp_deorder.specs.tp_task.declared.task.Task.{Task};
-ghost use Rattle.tp_deorder.specs.tp_happen.declared.plans.Step.{Step};
+ghost use Rattle.tp_deorder.specs.tp_happen.tp_plan_texts.declared.plans.Step.{Step};
 ghost use Rattle.tp_deorder.specs.tp_validate.OfTask.{IsValidPlan};
 ghost use Rattle.tp_deorder.specs.tp_validate.Verdict.{IsSound};
 ghost use Rattle.tp_deorder.specs.Answers.{IsPlanNetOf};

@@ -15,7 +15,7 @@ use Rattle.tp_bounds.proofs.Numbering.{others_stay}
 use Rattle.tp_net.proofs.Laws.{get_inserted}
 use Rattle.tp_machine.proofs.OwnBounds.{stays_before, same_events, nothing}
 use Rattle.tp_deorder.specs.tp_task.declared.task.Task.{Task}
-use Rattle.tp_deorder.specs.tp_happen.declared.plans.Step.{Step}
+use Rattle.tp_deorder.specs.tp_happen.tp_plan_texts.declared.plans.Step.{Step}
 use Rattle.tp_deorder.specs.tp_validate.OfTask.{plan_of}
 use Rattle.tp_deorder.specs.Answers.{IsPlanNetOf}
 use Rattle.tp_deorder.specs.Inequalities.{event_count_of}

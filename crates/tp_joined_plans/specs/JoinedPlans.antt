@@ -6,7 +6,7 @@ use Rattle.tp_bounds.specs.Setting.{Setting}
 use Rattle.tp_bounds.specs.Certificates.{moments_of, IsListedSchedule}
 use Rattle.tp_machine.specs.declared.command.Report.{Report}
 use Rattle.tp_deorder.specs.tp_task.declared.task.Task.{Task}
-use Rattle.tp_deorder.specs.tp_happen.declared.plans.Step.{Step}
+use Rattle.tp_deorder.specs.tp_happen.tp_plan_texts.declared.plans.Step.{Step}
 use Rattle.tp_deorder.specs.Answers.{IsPlanNetOf}
 use Rattle.tp_agents.specs.Joined.{Joins}
 use Rattle.tp_joined_plans.specs.PartRuns.{ArePartReports}

@@ -8,7 +8,7 @@ use Rattle.tp_bounds.specs.declared.plan_nets.PlanNet.{PlanNet}
 use Rattle.tp_bounds.specs.Setting.{Setting, event_count}
 use Rattle.tp_bounds.specs.Schedule.{IsSchedule}
 use Rattle.tp_deorder.specs.tp_task.declared.task.Task.{Task}
-use Rattle.tp_deorder.specs.tp_happen.declared.plans.Step.{Step}
+use Rattle.tp_deorder.specs.tp_happen.tp_plan_texts.declared.plans.Step.{Step}
 use Rattle.tp_deorder.specs.tp_validate.OfTask.{IsOfTask, IsValidPlan}
 use Rattle.tp_deorder.specs.Answers.{IsPlanNetOf}
 use Rattle.tp_deorder.specs.RunPlans.{run_steps}

@@ -8,7 +8,7 @@ ghost use Rattle.tp_machine.specs.declared.command.Answer.{Answer};
 ghost use Rattle.tp_machine.specs.Step.{IsReport};
 ghost use Rattle.tp_machine.specs.Run.{Run};
 ghost use Rattle.tp_deorder.specs.tp_task.declared.task.Task.{Task};
-ghost use Rattle.tp_deorder.specs.tp_happen.declared.plans.Step.{Step};
+ghost use Rattle.tp_deorder.specs.tp_happen.tp_plan_texts.declared.plans.Step.{Step};
 ghost use Rattle.tp_deorder.specs.Answers.{IsPlanNetOf};
 ghost use Rattle.tp_agents.specs.Parts.{IsPart};
 ghost use Rattle.tp_joined_plans.specs.PartRuns.{BeginsPart, IsPartReport, ArePartReports};
