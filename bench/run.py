@@ -453,6 +453,15 @@ def variables_of_many_types(program, problem):
     declared += f" (:functions {' '.join(f'({name} ?a - other)' for name in names)})"
     condition = f"(and {' '.join(f'({name} ?y)' for name in names)})"
     asks("a variable of 30,000 types, 14,000 predicates and functions of one name", declared, f"?y - (either {' '.join(kinds)})", condition)
+    kinds, steps, names = plain_names("t", 20_000), plain_names("c", 20_000), plain_names("z", 14_000)
+    chain = " ".join(f"{kind} - {step}" for kind, step in zip(kinds, steps)) + " " + " ".join(f"{a} - {b}" for a, b in zip(steps, steps[1:]))
+    declared = f"(:types {chain} {steps[-1]} - object) (:predicates {' '.join(f'({name} ?a - {steps[-1]})' for name in names)})"
+    asks("a variable of 20,000 types below a chain of as many, 14,000 predicates", declared, f"?y - (either {' '.join(kinds)})", f"(and {' '.join(f'({name} ?y)' for name in names)})")
+    kinds, names = plain_names("t", 40_000), plain_names("z", 450)
+    declared = f"(:types {' '.join(kinds)} - above) (:predicates {' '.join(f'({name} ?a - above)' for name in names)})"
+    condition = f"(and {' '.join(f'({name} ?y)' for name in names)})"
+    some = " ".join(f"(exists (?y - (either {' '.join(kinds[300 * k : 300 * k + 450])})) {condition})" for k in range(100))
+    asks("100 quantifiers of a variable of 450 types, 450 predicates, 40,000 types", declared, "", f"(and {some})")
     kinds = short_names(20)
     condition = f"(and {('(p ' + '?y ' * 1_000 + ')') * 320})"
     for _ in range(58):
