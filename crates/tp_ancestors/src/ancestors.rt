@@ -63,8 +63,8 @@ pub fn ancestors_of<'a>(
     Ok(Some(Ancestors { rows, spans }))
 }
 
-// Whether a type is or is below the one at a place.
-fn is_below_at(types: &Types, below: &str, others: &[String], place: Option<usize>) -> bool
+/// Whether there is a place in a list of types at which one stands that a type is or is below.
+pub fn is_below_at(types: &Types, below: &str, others: &[String], place: Option<usize>) -> bool
     ensures { result ≡ true → list_any
         (λ p. at_or_below (types_view types.now) (length (types_view types.now)) below.now p)
         (map string_bytes others.now) ≡ true }
@@ -156,7 +156,7 @@ pub fn fit(types: &Types, ways: &mut Ways, ancestors: &Ancestors, others: &[Stri
 {
     let few = are_few(&*ways, others);
     if !few {
-        ways.begin_with(others);
+        ways.begin_with(others, usize::MAX);
     }
     rows_fit(types, ways, few, &ancestors.rows, &ancestors.spans, others)
 }

@@ -10,6 +10,9 @@ use tp_types::types::Types;
 // In place of a place: that no type of the list stands above.
 const NOWHERE: u32 = u32::MAX;
 
+/// So many letters are compared as fast as a step up is gone.
+pub const LETTERS: usize = 64;
+
 // For one list, told by its number, where in it the first type stands that a type is or is below.
 #[derive(Clone, Copy)]
 struct Above {
@@ -28,6 +31,11 @@ pub struct Ways<'t, 'a> {
     above: Vec<Above>,
     /// The number of the list at hand.
     list: u32,
+}
+
+/// How many steps up are gone as fast as the number of a type is found.
+pub fn steps_to_find(name: &str) -> usize {
+    (name.len() / LETTERS).saturating_add(1)
 }
 
 // Where the names stand that a table of guesses leaves out.
@@ -132,14 +140,20 @@ impl<'t, 'a> Ways<'t, 'a> {
         true
     }
 
-    /// Begins a list of types.
-    pub fn begin_with(&mut self, list: &[String]) {
+    /// Begins a list of types: with all of them that are found in so many steps at most. Tells how many steps are left.
+    pub fn begin_with(&mut self, list: &[String], most: usize) -> usize {
         self.begin();
+        let mut left = most;
         for (place, name) in list.iter().enumerate() {
+            if left == 0 {
+                return 0;
+            }
+            left = left.saturating_sub(steps_to_find(name.as_str()));
             if let Some(number) = self.number(name.as_str()) {
                 self.put(number, place);
             }
         }
+        left
     }
 
     fn parent(&self, number: usize) -> Option<usize> {

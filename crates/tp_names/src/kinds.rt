@@ -2,13 +2,10 @@
 //! stands there is looked at before it is believed, so nothing is promised of it.
 
 use std::alloc::{AllocError, Global};
-use tp_ancestors::ways::Ways;
+use tp_ancestors::ways::{LETTERS, Ways, steps_to_find};
 use tp_ast::symbols::Typed;
 use tp_types::guesses::Guesses;
 use tp_types::types::Types;
-
-// So many letters are compared as fast as a step is gone.
-const LETTERS: usize = 64;
 
 // A note takes as long as so many steps.
 const NOTE: usize = 16;
@@ -58,7 +55,7 @@ impl<'t, 'a> Kinds<'t, 'a> {
     }
 
     fn number(&mut self, name: &str) -> Option<usize> {
-        self.count((name.len() / LETTERS).saturating_add(1));
+        self.count(steps_to_find(name));
         self.ways.number(name)
     }
 
@@ -87,19 +84,6 @@ impl<'t, 'a> Kinds<'t, 'a> {
         Ok(())
     }
 
-    // Begins a list: where its own types stand.
-    fn begin(&mut self, list: &[String]) {
-        self.ways.begin();
-        for (place, name) in list.iter().enumerate() {
-            if self.left == 0 {
-                return;
-            }
-            if let Some(number) = self.number(name.as_str()) {
-                self.ways.put(number, place);
-            }
-        }
-    }
-
     // Notes for a type where in the list at hand the first one stands that it is below.
     fn note_one(&mut self, guesses: &mut Guesses, number: usize) {
         let (place, steps) = self.ways.place_above(number, self.left);
@@ -126,7 +110,7 @@ impl<'t, 'a> Kinds<'t, 'a> {
         if self.numbers.is_empty() {
             return;
         }
-        self.begin(list);
+        self.left = self.ways.begin_with(list, self.left);
         for at in 0..self.numbers.len() {
             if self.left == 0 {
                 return;

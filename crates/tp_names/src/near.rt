@@ -10,11 +10,12 @@ use crate::kinds::Kinds;
 use std::alloc::{AllocError, Global};
 use std::collections::BTreeMap;
 use std::rc::Rc;
+use tp_ancestors::ancestors::is_below_at;
 use tp_ast::marks::is_marked;
 use tp_ast::symbols::{Signature, Typed};
 use tp_ast::typed_list::TypedList;
 use tp_types::guesses::Guesses;
-use tp_types::types::{Types, is_below, long_lists_fit, parent_of};
+use tp_types::types::{Types, long_lists_fit, parent_of};
 
 // Lists of so few types are gone through as fast as a guess is made.
 const FEW: usize = 16;
@@ -208,21 +209,6 @@ fn guessed_place(
         current = parent_of(current, types)?.as_str();
     }
     None
-}
-
-// Whether a type is or is below the one at a place of a list.
-fn is_below_at(types: &Types, below: &str, parameter: &[String], place: Option<usize>) -> bool
-    ensures { result ≡ true → list_any
-        (λ p. at_or_below (types_view types.now) (length (types_view types.now)) below.now p)
-        (map string_bytes parameter.now) ≡ true }
-{
-    let Some(place) = place else {
-        return false;
-    };
-    let Some(above) = parameter.get(place) else {
-        return false;
-    };
-    is_below(types, below, above.as_str())
 }
 
 // Whether a type is seen by a guess to be or be below one of a list.
