@@ -60,10 +60,10 @@ module _ (u : Universe) where
 
   -- ---- what is found out
 
-  fits_Bound : (v : Vec ℕ Global) (b : Box Hint Global) (c : Condition) → fits u (hints.Bound v b) c ≡ quantifier_fits u v.items (fits u b.value) c
-  fits_Bound v b c = search (rules, hints.the_lemmas)
+  fits_Bound : (v : Vec ℕ Global) (b : Box Hint Global) (m : Option ℕ) (c : Condition) → fits u (hints.Bound v b m) c ≡ quantifier_fits u v.items (fits u b.value) c
+  fits_Bound v b m c = search (rules, hints.the_lemmas)
 
-  module _ (v : Vec ℕ Global) (b : Box Hint Global) (h : Hint) (vs : List Declared) (c : Condition) (o : Option (Vec ℕ Global)) (some : o ≡ Some v) (there : IfSome o (λ w. product (map (listed u) w.items) ≡ bindings (universe_view u) vs)) (boxed : b.value ≡ h) (inside : fits u h c ≡ true) where
+  module _ (v : Vec ℕ Global) (b : Box Hint Global) (m : Option ℕ) (h : Hint) (vs : List Declared) (c : Condition) (o : Option (Vec ℕ Global)) (some : o ≡ Some v) (there : IfSome o (λ w. product (map (listed u) w.items) ≡ bindings (universe_view u) vs)) (boxed : b.value ≡ h) (inside : fits u h c ≡ true) where
     both_fit : bound_fits u v.items (fits u b.value) vs c ≡ true
     both_fit =
         let lists = subst (λ (p : Option (Vec ℕ Global)). IfSome p (λ w. product (map (listed u) w.items) ≡ bindings (universe_view u) vs)) some there in
@@ -71,11 +71,11 @@ module _ (u : Universe) where
         (ap (λ rows. same_lists rows (bindings (universe_view u) vs)) lists ∙ same_lists_self (bindings (universe_view u) vs))
         (ap (λ (x : Hint). fits u x c) boxed ∙ inside)
 
-    pub every_fits : fits u (hints.Bound v b) (for_all vs c) ≡ true
-    every_fits = fits_Bound v b (for_all vs c) ∙ both_fit
+    pub every_fits : fits u (hints.Bound v b m) (for_all vs c) ≡ true
+    every_fits = fits_Bound v b m (for_all vs c) ∙ both_fit
 
-    pub some_fits : fits u (hints.Bound v b) (for_some vs c) ≡ true
-    some_fits = fits_Bound v b (for_some vs c) ∙ both_fit
+    pub some_fits : fits u (hints.Bound v b m) (for_some vs c) ≡ true
+    some_fits = fits_Bound v b m (for_some vs c) ∙ both_fit
 
   each_append : (hs : List Hint) (cs : List Condition) (h : Hint) (c : Condition) → length hs ≡ length cs → each_fits (map (fits u) hs) (conditions cs) ≡ true → fits u h c ≡ true → each_fits (map (fits u) (hs ++ h ∷ [])) (conditions (cs ++ c ∷ [])) ≡ true
   each_append [] [] h c long so_far here = and_from (fits u h c) true here refl
@@ -103,14 +103,14 @@ module _ {A : Type 0} (u : Universe) (leaf : Hint → A → Bool) where
       (same_lists_are (product (map (listed u) i.places.now)) (bindings (universe_view u) vs) (both (rows_fit u i.places.now vs) (joined_fits u leaf i.hint.now p) fit).0
       ∙ ap (bindings (universe_view u)) (sym same))
 
-  bound_out : (v : Vec ℕ Global) (b : Box Hint Global) → bound_step (out-Hint (hints.Bound v b)) ≡ Some (v.items, b.value)
-  bound_out v b = search (rules, hints.the_lemmas)
+  bound_out : (v : Vec ℕ Global) (b : Box Hint Global) (m : Option ℕ) → bound_step (out-Hint (hints.Bound v b m)) ≡ Some (v.items, b.value)
+  bound_out v b m = search (rules, hints.the_lemmas)
 
   -- what is known of a 'forall'
-  pub under_known : (v : Vec ℕ Global) (b : Box Hint Global) (h : Hint) (vs : List Declared) (p : specs.Joined A) (o : Option (Vec ℕ Global)) → o ≡ Some v → IfSome o (λ w. product (map (listed u) w.items) ≡ bindings (universe_view u) vs) → b.value ≡ h → joined_fits u leaf h p ≡ true → joined_fits u leaf (hints.Bound v b) (specs.for_each vs p) ≡ true
-  under_known v b h vs p o some there boxed inside =
+  pub under_known : (v : Vec ℕ Global) (b : Box Hint Global) (m : Option ℕ) (h : Hint) (vs : List Declared) (p : specs.Joined A) (o : Option (Vec ℕ Global)) → o ≡ Some v → IfSome o (λ w. product (map (listed u) w.items) ≡ bindings (universe_view u) vs) → b.value ≡ h → joined_fits u leaf h p ≡ true → joined_fits u leaf (hints.Bound v b m) (specs.for_each vs p) ≡ true
+  under_known v b m h vs p o some there boxed inside =
       let lists = subst (λ (q : Option (Vec ℕ Global)). IfSome q (λ w. product (map (listed u) w.items) ≡ bindings (universe_view u) vs)) some there in
-      ap (λ (q : Option (List ℕ × Hint)). if_bound q (λ ps g. under_fits u leaf ps g vs p)) (bound_out v b)
+      ap (λ (q : Option (List ℕ × Hint)). if_bound q (λ ps g. under_fits u leaf ps g vs p)) (bound_out v b m)
       ∙ and_from (rows_fit u v.items vs) (joined_fits u leaf b.value p)
       (ap (λ rows. same_lists rows (bindings (universe_view u) vs)) lists ∙ same_lists_self (bindings (universe_view u) vs))
       (ap (λ (x : Hint). joined_fits u leaf x p) boxed ∙ inside)

@@ -66,7 +66,7 @@ quantifier_fits u ps inside (compared how x y) = true
 abbrev pub fits_step : Universe → Hint-F (Condition → Bool) → Condition → Bool
 fits_step u Hint-F.Nothing c = true
 fits_step u (Hint-F.Parts v) c = parts_fit v.items c
-fits_step u (Hint-F.Bound ps b) c = quantifier_fits u ps.items b.value c
+fits_step u (Hint-F.Bound ps b m) c = quantifier_fits u ps.items b.value c
 
 -- whether what is known of a condition fits it
 abbrev pub fits : Universe → Hint → Condition → Bool
@@ -87,12 +87,12 @@ AreListed u places vs =
 abbrev pub parts_step : Hint-F Hint → List Hint
 parts_step Hint-F.Nothing = []
 parts_step (Hint-F.Parts v) = v.items
-parts_step (Hint-F.Bound ps b) = []
+parts_step (Hint-F.Bound ps b m) = []
 
 abbrev pub bound_step : Hint-F Hint → Option (List ℕ × Hint)
 bound_step Hint-F.Nothing = None
 bound_step (Hint-F.Parts v) = None
-bound_step (Hint-F.Bound ps b) = Some (ps.items, b.value)
+bound_step (Hint-F.Bound ps b m) = Some (ps.items, b.value)
 
 abbrev pub known_parts : Option (Bor Hint) → List Hint
 known_parts None = []

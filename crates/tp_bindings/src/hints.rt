@@ -16,15 +16,26 @@ pub enum Hint {
     Nothing,
     /// Of the parts of a condition, one after another; of those behind the last, nothing.
     Parts(Vec<Hint>),
-    /// Places of lists whose rows are the bindings of a quantifier's variables, and what is known of what stands inside.
-    Bound(Vec<usize>, Box<Hint>),
+    /// Places of lists whose rows are the bindings of a quantifier's variables, what is known of what stands inside, and the mark
+    /// by which what it was written out to is looked for, if it is.
+    Bound(Vec<usize>, Box<Hint>, Option<u32>),
 }
 
-/// What is known of the quantifiers in the condition and in the effect of an action.
+/// For how many parts of something there is to be room at each time specifier: a guess.
+#[derive(Clone, Copy)]
+pub struct Rooms {
+    pub at_start: usize,
+    pub over_all: usize,
+    pub at_end: usize,
+}
+
+/// What is known of the quantifiers in the condition and in the effect of an action, and how many parts they have.
 #[derive(Drop)]
 pub struct BodyHint {
     pub condition: Hint,
+    pub conditions: Rooms,
     pub effect: Hint,
+    pub effects: Rooms,
 }
 
 /// Places of lists whose rows are the bindings of a quantifier's variables, and what is known of what stands inside.
@@ -76,7 +87,7 @@ pub fn inside_of<'h>(hint: Option<&'h Hint>) -> Option<Inside<'h>>
         → IfSome result (λ i. quantifier_fits u i.places.now (fits u i.hint.now) c ≡ true) }
 {
     match hint {
-        Some(Hint::Bound(places, inner)) => Some(Inside {
+        Some(Hint::Bound(places, inner, _)) => Some(Inside {
             places: places.as_slice(),
             hint: inner,
         }),

@@ -16,10 +16,11 @@ use tp_task::Cond;
 // The most conditions that are kept, and how many places there are to look at: one for each number of 12 bits.
 const MOST: usize = 4_096;
 
-/// A condition, what its terms stood for, what it was written out to, and how many bindings of quantifiers that took.
+/// A condition and its mark, what its terms stood for, what it was written out to, and how many bindings of quantifiers that took.
 #[derive(Drop)]
 pub struct Kept<'a> {
     pub cond: &'a tp_ast::cond::Cond,
+    pub mark: u32,
     pub objects: Objects<'a>,
     pub written: Rc<Cond>,
     pub bindings: usize,
@@ -56,24 +57,24 @@ fn mark_types(variables: &TypedList, mark: u32) -> u32 {
 fn mark_all(conds: &[tp_ast::cond::Cond], mark: u32) -> u32 {
     let mut marked = mark;
     for cond in conds {
-        marked = mark_of(cond, marked);
+        marked = marked_by(cond, marked);
     }
     marked
 }
 
 // A mix of the words that stand for the form of a condition, its predicates and its types.
 #[cycle(mark)]
-fn mark_of(cond: &tp_ast::cond::Cond, mark: u32) -> u32 {
+fn marked_by(cond: &tp_ast::cond::Cond, mark: u32) -> u32 {
     match cond {
         tp_ast::cond::Cond::And(conds) => mark_all(conds, mixed(mark, "and")),
         tp_ast::cond::Cond::Or(conds) => mark_all(conds, mixed(mark, "or")),
-        tp_ast::cond::Cond::Not(inner) => mark_of(inner, mixed(mark, "not")),
-        tp_ast::cond::Cond::Imply(a, b) => mark_of(b, mark_of(a, mixed(mark, "imply"))),
+        tp_ast::cond::Cond::Not(inner) => marked_by(inner, mixed(mark, "not")),
+        tp_ast::cond::Cond::Imply(a, b) => marked_by(b, marked_by(a, mixed(mark, "imply"))),
         tp_ast::cond::Cond::Forall(variables, inner) => {
-            mark_of(inner, mark_types(variables, mixed(mark, "forall")))
+            marked_by(inner, mark_types(variables, mixed(mark, "forall")))
         }
         tp_ast::cond::Cond::Exists(variables, inner) => {
-            mark_of(inner, mark_types(variables, mixed(mark, "exists")))
+            marked_by(inner, mark_types(variables, mixed(mark, "exists")))
         }
         tp_ast::cond::Cond::Atom(atom) => mixed(mark, atom.name.as_str()),
         tp_ast::cond::Cond::Same(_, _) => mixed(mark, "="),
@@ -81,9 +82,14 @@ fn mark_of(cond: &tp_ast::cond::Cond, mark: u32) -> u32 {
     }
 }
 
-// Where a condition whose terms stand for these objects may stand.
-fn slot_of(cond: &tp_ast::cond::Cond, objects: &[&str]) -> usize {
-    let mut marked = mark_of(cond, 0);
+/// The mark of a condition: those that are written alike have the same.
+pub fn mark_of(cond: &tp_ast::cond::Cond) -> u32 {
+    marked_by(cond, 0)
+}
+
+// Where a condition of this mark may stand whose terms stand for these objects.
+fn slot_of(mark: u32, objects: &[&str]) -> usize {
+    let mut marked = mark;
     for object in objects {
         marked = mixed(marked, *object);
     }
@@ -135,13 +141,13 @@ impl<'a> Memory<'a> {
         }
     }
 
-    /// What such a condition was written out to, if that is found.
-    pub fn find(&self, cond: &tp_ast::cond::Cond, objects: &[&str]) -> Option<&Kept<'a>>
+    /// What such a condition of this mark was written out to, if that is found.
+    pub fn find(&self, cond: &tp_ast::cond::Cond, mark: u32, objects: &[&str]) -> Option<&Kept<'a>>
         ensures there { IfSome result (λ k. Contains self.now.entries.items k.now) }
         ensures fits { IfSome result
             (λ k. IsOf k.now (cond_view cond.now) (map (λ o. o.now) objects.now)) }
     {
-        let place = *self.places.get(slot_of(cond, objects))?;
+        let place = *self.places.get(slot_of(mark, objects))?;
         let kept = self.entries.get(place as usize)?;
         if !kept.is_of(cond, objects) {
             return None;
@@ -189,7 +195,7 @@ impl<'a> Memory<'a> {
     {
         self.make_places(alloc)?;
         self.forget();
-        self.note_place(slot_of(kept.cond, &kept.objects));
+        self.note_place(slot_of(kept.mark, &kept.objects));
         self.entries.push(kept)?;
         Ok(())
     }

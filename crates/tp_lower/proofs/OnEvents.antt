@@ -1,6 +1,6 @@
 -- Simple effects as adds, deletes and writes.
-use Rattle.std.proofs.Common.{◌≡◌, ℕ, List, [], ◌∷◌, ◌++◌, map, refl, sym, ap, subst, ◌∙◌, append-nil}
-use Rattle.std.proofs.lemmas.List.{map-append}
+use Rattle.std.proofs.Common.{◌≡◌, ℕ, ◌+◌, ◌<◌, List, [], ◌∷◌, ◌++◌, length, take, get_or, map, refl, sym, ap, subst, ◌∙◌, append-nil}
+use Rattle.std.proofs.lemmas.List.{map-append, take_more}
 use Rattle.tp_task.specs.Tables.{Tables, words_at}
 use Rattle.tp_lower_conditions.specs.Written.{GroundEffect, adds, deletes, writes, added, deleted, written}
 use Rattle.tp_lower_conditions.specs.ReadBack.{named_write}
@@ -74,6 +74,17 @@ module _ (os : List NumberedEffect) (o : NumberedEffect) (ks ds : List ℕ) (ws 
 
   pub one_write : (w : NumericEffect) (more : List NumericEffect) → o ≡ Write w → more ≡ ws ++ w ∷ [] → AreSplit (os ++ o ∷ []) ks ds more
   one_write w more is items = subst (λ p. AreSplit (os ++ p ∷ []) ks ds more) (sym is) (subst (λ ls. AreSplit (os ++ Write w ∷ []) ks ds ls) (sym items) (split_write os ks ds ws w s))
+
+-- with the next one of a list
+module _ (xs : List NumberedEffect) (i : ℕ) (x : NumberedEffect) (within : i < length xs) (there : x ≡ get_or xs i x) (ks ds : List ℕ) (ws : List NumericEffect) (s : AreSplit (take i xs) ks ds ws) (a : ℕ) (more same : List ℕ) where
+  with_next : take (i + 1) xs ≡ take i xs ++ x ∷ []
+  with_next = take_more xs i x within ∙ ap (λ y. take i xs ++ y ∷ []) (sym there)
+
+  pub next_add : x ≡ Add a → more ≡ ks ++ a ∷ [] → same ≡ ds → AreSplit (take (i + 1) xs) more same ws
+  next_add is items kept = subst (λ os. AreSplit os more same ws) (sym with_next) (subst (λ ls. AreSplit (take i xs ++ x ∷ []) more ls ws) (sym kept) (one_add (take i xs) x ks ds ws s a more is items))
+
+  pub next_delete : x ≡ Delete a → more ≡ ds ++ a ∷ [] → same ≡ ks → AreSplit (take (i + 1) xs) same more ws
+  next_delete is items kept = subst (λ os. AreSplit os same more ws) (sym with_next) (subst (λ ls. AreSplit (take i xs ++ x ∷ []) ls more ws) (sym kept) (one_delete (take i xs) x ks ds ws s a more is items))
 
 same_map : {A : Type 0} (xs : List A) → map (λ (x : A). x) xs ≡ xs
 same_map [] = refl

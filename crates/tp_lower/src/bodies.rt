@@ -1,6 +1,6 @@
 //! The bodies of actions.
 
-ghost use Rattle.std.specs.Prelude.{◌≡◌, [], map, true, IfOk};
+ghost use Rattle.std.specs.Prelude.{◌≡◌, [], map, true, IfOk, IfSome};
 ghost use Rattle.tp_ast.specs.CondViews.{cond_view};
 ghost use Rattle.tp_ast.specs.ConstraintViews.{constraint_view};
 ghost use Rattle.tp_ast.specs.EffectViews.{effect_view, timed_condition_view, timed_effect_view};
@@ -50,6 +50,31 @@ fn count_writes(simple_effects: &[NumberedEffect]) -> usize {
     count
 }
 
+// The changes of simple effects of which none is a write, else None.
+fn without_writes(
+    alloc: Global,
+    simple_effects: &[NumberedEffect],
+) -> Result<Option<Changes>, AllocError>
+    ensures { IfOk result (λ o. IfSome o
+        (λ s. AreSplit simple_effects.now s.adds.items s.deletes.items s.writes.items)) }
+{
+    let mut adds = Vec::new(alloc);
+    let mut deletes = Vec::new(alloc);
+    for simple_effect in simple_effects {
+        match simple_effect {
+            NumberedEffect::Add(atom) => adds.push(*atom)?,
+            NumberedEffect::Delete(atom) => deletes.push(*atom)?,
+            NumberedEffect::Write(_) => return Ok(None),
+        }
+    }
+    Ok(Some(Changes {
+        adds,
+        deletes,
+        writes: Vec::new(alloc),
+    }))
+}
+
+// The changes of simple effects.
 fn split(alloc: Global, simple_effects: Vec<NumberedEffect>) -> Result<Changes, AllocError>
     ensures { IfOk result
         (λ s. AreSplit simple_effects.items s.adds.items s.deletes.items s.writes.items) }
@@ -71,6 +96,17 @@ fn split(alloc: Global, simple_effects: Vec<NumberedEffect>) -> Result<Changes, 
     })
 }
 
+// The same. Those without a write are only looked at, which costs less than to take them apart.
+fn changes_of(alloc: Global, simple_effects: Vec<NumberedEffect>) -> Result<Changes, AllocError>
+    ensures { IfOk result
+        (λ s. AreSplit simple_effects.items s.adds.items s.deletes.items s.writes.items) }
+{
+    if let Some(changes) = without_writes(alloc, &simple_effects)? {
+        return Ok(changes);
+    }
+    split(alloc, simple_effects)
+}
+
 // The event of these simple effects.
 fn event(
     alloc: Global,
@@ -86,7 +122,7 @@ fn event(
         adds,
         deletes,
         writes,
-    } = split(alloc, simple_effects)?;
+    } = changes_of(alloc, simple_effects)?;
     Ok(GroundEvent {
         condition,
         adds,
@@ -105,6 +141,7 @@ fn condition_at<'a>(
     writer: &mut Writer<'a>,
     condition: &'a TimedCond,
     hint: Option<&Hint>,
+    room: usize,
 ) -> Result<Cond, GroundFault>
     requires of_universe { universe_view universe.now ≡ writer.old.universe }
     requires fit { if_known (joined_fits universe.now (timed_condition_fits universe.now)) hint
@@ -115,7 +152,9 @@ fn condition_at<'a>(
         (of_condition (condition_at (universe_view universe.now) specifier
         (env_view env.now) (timed_condition_view condition.now))) }
 {
-    Ok(Cond::And(joined(alloc, universe, env, specifier, writer, condition, hint)?))
+    Ok(Cond::And(joined(
+        alloc, universe, env, specifier, writer, condition, hint, room,
+    )?))
 }
 
 fn start<'a>(
@@ -140,9 +179,13 @@ fn start<'a>(
         (timed_condition_view condition.now) (timed_effect_view effect.now)) }
 {
     let known = Some(&hints.condition);
-    let condition = condition_at(alloc, universe, env, AtStart, writer, condition, known)?;
+    let room = hints.conditions.at_start;
+    let condition = condition_at(
+        alloc, universe, env, AtStart, writer, condition, known, room,
+    )?;
     let known = Some(&hints.effect);
-    let simple_effects = joined(alloc, universe, env, AtStart, writer, effect, known)?;
+    let room = hints.effects.at_start;
+    let simple_effects = joined(alloc, universe, env, AtStart, writer, effect, known, room)?;
     let constraint = limits(alloc, env, writer, duration)?;
     Ok(event(alloc, condition, simple_effects, constraint)?)
 }
@@ -167,9 +210,11 @@ fn end<'a>(
         (env_view env.now) (timed_condition_view condition.now) (timed_effect_view effect.now)) }
 {
     let known = Some(&hints.condition);
-    let condition = condition_at(alloc, universe, env, AtEnd, writer, condition, known)?;
+    let room = hints.conditions.at_end;
+    let condition = condition_at(alloc, universe, env, AtEnd, writer, condition, known, room)?;
     let known = Some(&hints.effect);
-    let simple_effects = joined(alloc, universe, env, AtEnd, writer, effect, known)?;
+    let room = hints.effects.at_end;
+    let simple_effects = joined(alloc, universe, env, AtEnd, writer, effect, known, room)?;
     Ok(event(alloc, condition, simple_effects, Vec::new(alloc))?)
 }
 
@@ -195,7 +240,8 @@ fn instant<'a>(
     let known = Some(&hints.condition);
     let condition = condition(alloc, universe, env, writer, precondition, known)?;
     let known = Some(&hints.effect);
-    let simple_effects = joined(alloc, universe, env, AtStart, writer, effect, known)?;
+    let room = hints.effects.at_start;
+    let simple_effects = joined(alloc, universe, env, AtStart, writer, effect, known, room)?;
     Ok(event(alloc, condition, simple_effects, Vec::new(alloc))?)
 }
 
@@ -267,7 +313,10 @@ fn durative<'a>(
         alloc, universe, env, writer, duration, condition, effect, hints,
     )?;
     let known = Some(&hints.condition);
-    let between = condition_at(alloc, universe, env, OverAll, writer, condition, known)?;
+    let room = hints.conditions.over_all;
+    let between = condition_at(
+        alloc, universe, env, OverAll, writer, condition, known, room,
+    )?;
     Ok(Body::Durative(ends.first, ends.last, between))
 }
 

@@ -8,6 +8,7 @@ ghost use Rattle.tp_ast.specs.Parts.{for_each};
 ghost use Rattle.tp_ast.specs.Parts.{parts as syntax_parts};
 ghost use Rattle.tp_bindings.specs.Hints.{body_fits, joined_fits, parts_fits};
 
+use crate::part_rooms::{NOWHERE, rooms_for};
 use crate::parts::Lowerable;
 use std::alloc::{AllocError, Global};
 use tp_ast::action::Body;
@@ -49,7 +50,7 @@ fn under_hint<P: Lowerable>(
         return Ok(Hint::Nothing);
     };
     let hint = joined_hint(alloc, universe, part)?;
-    Ok(Hint::Bound(places, Box::new(alloc, hint)?))
+    Ok(Hint::Bound(places, Box::new(alloc, hint)?, None))
 }
 
 /// What can be known of the quantifiers in what is joined by `and` and `forall`.
@@ -78,18 +79,26 @@ pub fn body_hint(alloc: Global, universe: &Universe, body: &Body) -> Result<Body
             precondition,
             effect,
         } => {
-            let condition = hint_of(alloc, universe, precondition)?;
-            let effect = joined_hint(alloc, universe, effect)?;
-            Ok(BodyHint { condition, effect })
+            let known = hint_of(alloc, universe, precondition)?;
+            Ok(BodyHint {
+                condition: known,
+                conditions: NOWHERE,
+                effect: joined_hint(alloc, universe, effect)?,
+                effects: rooms_for(effect),
+            })
         }
         Body::Durative {
             duration: _,
             condition,
             effect,
         } => {
-            let condition = joined_hint(alloc, universe, condition)?;
-            let effect = joined_hint(alloc, universe, effect)?;
-            Ok(BodyHint { condition, effect })
+            let known = joined_hint(alloc, universe, condition)?;
+            Ok(BodyHint {
+                condition: known,
+                conditions: rooms_for(condition),
+                effect: joined_hint(alloc, universe, effect)?,
+                effects: rooms_for(effect),
+            })
         }
     }
 }

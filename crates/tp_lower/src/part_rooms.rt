@@ -1,9 +1,12 @@
-//! How much room effects, what is joined, and bodies take at least, where they are written out.
+//! How much room effects, what is joined, and bodies take at least, where they are written out, and for how many parts there is to
+//! be room.
 
 use crate::parts::Lowerable;
 use tp_ast::action::Body;
 use tp_ast::effect::SimpleEffect;
 use tp_ast::joined::Joined;
+use tp_ast::words::TimeSpecifier;
+use tp_bindings::hints::Rooms;
 use tp_lower_conditions::rooms::{of_condition, of_expression};
 
 // The bytes of an effect on its list.
@@ -11,6 +14,40 @@ const OF_EFFECT: usize = 32;
 
 // Of the room of a list of effects an event keeps so large a part.
 const KEPT: usize = 8;
+
+/// Room for no parts.
+pub const NOWHERE: Rooms = Rooms {
+    at_start: 0,
+    over_all: 0,
+    at_end: 0,
+};
+
+#[cycle(room_at)]
+fn room_of_each<P: Lowerable>(parts: &[Joined<P>], specifier: TimeSpecifier) -> usize {
+    let mut room = 0usize;
+    for part in parts {
+        room = room.saturating_add(room_at(part, specifier));
+    }
+    room
+}
+
+#[cycle(room_at)]
+fn room_at<P: Lowerable>(part: &Joined<P>, specifier: TimeSpecifier) -> usize {
+    match part {
+        Joined::And(parts) => room_of_each(parts, specifier),
+        Joined::Forall(_, _) => 0,
+        Joined::One(one) => usize::from(one.is_at(specifier)),
+    }
+}
+
+/// For how many parts there is to be room at each time specifier: those outside of quantifiers.
+pub fn rooms_for<P: Lowerable>(part: &Joined<P>) -> Rooms {
+    Rooms {
+        at_start: room_at(part, TimeSpecifier::AtStart),
+        over_all: room_at(part, TimeSpecifier::OverAll),
+        at_end: room_at(part, TimeSpecifier::AtEnd),
+    }
+}
 
 /// The least room of a simple effect, in bytes.
 pub fn of_simple_effect(effect: &SimpleEffect) -> usize {

@@ -216,22 +216,7 @@ pub fn push_part<'a, P: Lowerable>(
     }
 }
 
-// For how many parts there is to be room: those at the specifier outside of quantifiers.
-fn room_for<P: Lowerable>(part: &Joined<P>, specifier: TimeSpecifier) -> usize {
-    match part {
-        Joined::And(parts) => {
-            let mut room = 0usize;
-            for part in parts {
-                room = room.saturating_add(room_for(part, specifier));
-            }
-            room
-        }
-        Joined::Forall(_, _) => 0,
-        Joined::One(one) => usize::from(one.is_at(specifier)),
-    }
-}
-
-/// The parts at a specifier, each after the one before.
+/// The parts at a specifier, each after the one before. Room for so many is asked for at first.
 pub fn joined<'a, P: Lowerable>(
     alloc: Global,
     universe: &Universe<'a>,
@@ -240,6 +225,7 @@ pub fn joined<'a, P: Lowerable>(
     writer: &mut Writer<'a>,
     part: &'a Joined<P>,
     hint: Option<&Hint>,
+    room: usize,
 ) -> Result<Vec<P::Lowered>, GroundFault>
     requires of_universe { universe_view universe.now ≡ writer.old.universe }
     requires fit { if_known (joined_fits universe.now (P.fits universe.now)) hint
@@ -250,7 +236,7 @@ pub fn joined<'a, P: Lowerable>(
         (of_each P.mentions (parts_in (universe_view universe.now) (P.written
         (universe_view universe.now) specifier) (env_view env.now) (joined_view P.seen part.now))) }
 {
-    let mut lowered = Vec::with_capacity(alloc, room_for(part, specifier))?;
+    let mut lowered = Vec::with_capacity(alloc, room)?;
     push_part(
         alloc,
         universe,

@@ -21,7 +21,7 @@ ghost use Rattle.tp_ast.specs.Conditions.{conditions as syntax_conditions};
 use crate::expressions::{comparison_of, operand};
 use crate::hinting::hint_of;
 use crate::rooms::{FEW_BINDINGS, of_condition};
-use crate::shortness::{is_brief, is_short_quantifier};
+use crate::shortness::{is_brief, mark_of_short};
 use crate::writer::Writer;
 use std::alloc::{AllocError, Global};
 use std::rc::Rc;
@@ -359,6 +359,7 @@ fn recalled(
     env: &Env,
     writer: &Writer,
     cond: &tp_ast::cond::Cond,
+    mark: u32,
     objects: &[&str],
 ) -> Result<Option<Cond>, AllocError>
     requires { map (object_for (env_view env.now)) (terms_in (cond_view cond.now))
@@ -367,7 +368,7 @@ fn recalled(
         (condition_in writer.now.universe (env_view env.now) (cond_view cond.now)) (of_condition
         (condition_in writer.now.universe (env_view env.now) (cond_view cond.now))))) }
 {
-    let Some(kept) = writer.recall(cond, objects) else {
+    let Some(kept) = writer.recall(cond, mark, objects) else {
         return Ok(None);
     };
     writer.extent().count(alloc, kept.bindings)?;
@@ -379,6 +380,7 @@ fn kept<'a>(
     alloc: Global,
     writer: &mut Writer<'a>,
     cond: &'a tp_ast::cond::Cond,
+    mark: u32,
     objects: Objects<'a>,
     written: Cond,
     bindings: usize,
@@ -394,6 +396,7 @@ fn kept<'a>(
         alloc,
         Kept {
             cond,
+            mark,
             objects,
             written: again,
             bindings,
@@ -411,6 +414,7 @@ fn written_once<'a>(
     writer: &mut Writer<'a>,
     cond: &'a tp_ast::cond::Cond,
     hint: Option<&Hint>,
+    mark: u32,
     objects: Objects<'a>,
 ) -> Result<Cond, GroundFault>
     requires of_universe { universe_view universe.now ≡ writer.old.universe }
@@ -424,7 +428,7 @@ fn written_once<'a>(
     let before = writer.extent().so_far();
     let written = written_out(alloc, universe, env, writer, cond, hint)?;
     let bindings = writer.extent().so_far().saturating_sub(before);
-    Ok(kept(alloc, writer, cond, objects, written, bindings)?)
+    Ok(kept(alloc, writer, cond, mark, objects, written, bindings)?)
 }
 
 // A condition that is written out once for all places where its terms stand for the same objects.
@@ -436,6 +440,7 @@ fn shared<'a>(
     writer: &mut Writer<'a>,
     cond: &'a tp_ast::cond::Cond,
     hint: Option<&Hint>,
+    mark: u32,
 ) -> Result<Cond, GroundFault>
     requires of_universe { universe_view universe.now ≡ writer.old.universe }
     requires fit { if_known (fits universe.now) hint (cond_view cond.now) ≡ true }
@@ -444,9 +449,17 @@ fn shared<'a>(
         (condition_in (universe_view universe.now) (env_view env.now) (cond_view cond.now))) }
 {
     let objects = objects_in(alloc, env, cond)?;
-    match recalled(alloc, env, &*writer, cond, &objects)? {
+    match recalled(alloc, env, &*writer, cond, mark, &objects)? {
         Some(known) => Ok(known),
-        None => written_once(alloc, universe, env, writer, cond, hint, objects),
+        None => written_once(alloc, universe, env, writer, cond, hint, mark, objects),
+    }
+}
+
+// The mark by which what a condition was written out to is looked for, if it is.
+fn mark_to_find(cond: &tp_ast::cond::Cond, hint: Option<&Hint>) -> Option<u32> {
+    match hint {
+        Some(Hint::Bound(_, _, mark)) => *mark,
+        _ => mark_of_short(cond),
     }
 }
 
@@ -466,10 +479,9 @@ pub fn condition<'a>(
         (universe_view universe.now) (env_view env.now) (cond_view cond.now)) (of_condition
         (condition_in (universe_view universe.now) (env_view env.now) (cond_view cond.now))) }
 {
-    if is_short_quantifier(cond) {
-        shared(alloc, universe, env, writer, cond, hint)
-    } else {
-        written_out(alloc, universe, env, writer, cond, hint)
+    match mark_to_find(cond, hint) {
+        Some(mark) => shared(alloc, universe, env, writer, cond, hint, mark),
+        None => written_out(alloc, universe, env, writer, cond, hint),
     }
 }
 

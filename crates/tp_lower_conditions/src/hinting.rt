@@ -9,6 +9,7 @@ ghost use Rattle.tp_bindings.specs.Hints.{fits, each_fits, listed};
 ghost use Rattle.tp_bindings.specs.Rows.{product, EndsWith};
 ghost use Rattle.tp_bindings.specs.Views.{universe_view};
 
+use crate::shortness::mark_of_short;
 use std::alloc::{AllocError, Global};
 use tp_ast::cond::Cond;
 use tp_ast::marks::is_marked;
@@ -116,6 +117,7 @@ fn bound_hint(
     universe: &Universe,
     variables: &TypedList,
     inner: &Cond,
+    mark: Option<u32>,
 ) -> Result<Hint, AllocError>
     ensures every { IfOk result (λ h. fits universe.now h
         (for_all (map typed_view variables.now.items) (cond_view inner.now)) ≡ true) }
@@ -126,7 +128,7 @@ fn bound_hint(
         return Ok(Hint::Nothing);
     };
     let hint = hint_of(alloc, universe, inner)?;
-    Ok(Hint::Bound(places, Box::new(alloc, hint)?))
+    Ok(Hint::Bound(places, Box::new(alloc, hint)?, mark))
 }
 
 // Two in a list.
@@ -164,7 +166,7 @@ pub fn hint_of(alloc: Global, universe: &Universe, cond: &Cond) -> Result<Hint, 
             Ok(Hint::Parts(two(alloc, first, second)?))
         }
         Cond::Forall(variables, inner) | Cond::Exists(variables, inner) => {
-            bound_hint(alloc, universe, variables, inner)
+            bound_hint(alloc, universe, variables, inner, mark_of_short(cond))
         }
         Cond::Atom(_) | Cond::Same(_, _) | Cond::Compare(_, _, _) => Ok(Hint::Nothing),
     }

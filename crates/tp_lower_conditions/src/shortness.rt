@@ -4,6 +4,7 @@
 use tp_ast::cond::Cond;
 use tp_ast::expr::Expr;
 use tp_ast::typed_list::TypedList;
+use tp_bindings::memory::mark_of;
 
 // The most steps of a walk through a condition that is looked for.
 const MOST_STEPS: usize = 256;
@@ -60,10 +61,13 @@ pub fn after_condition(cond: &Cond, steps: usize) -> Option<usize> {
     }
 }
 
-/// Whether a condition is a quantifier's, and short.
-pub fn is_short_quantifier(cond: &Cond) -> bool {
-    matches!(cond, Cond::Forall(_, _) | Cond::Exists(_, _))
-        && after_condition(cond, MOST_STEPS).is_some()
+/// The mark of a condition that is a quantifier's, and short.
+pub fn mark_of_short(cond: &Cond) -> Option<u32> {
+    if !matches!(cond, Cond::Forall(_, _) | Cond::Exists(_, _)) {
+        return None;
+    }
+    after_condition(cond, MOST_STEPS)?;
+    Some(mark_of(cond))
 }
 
 /// Whether so little stands in a condition that its variables are walked over as fast as a binding of them is made.

@@ -92,12 +92,17 @@ impl<'a> Writer<'a> {
         self.numbering.push_action(words)
     }
 
-    /// What a condition was written out to where its terms stood for these objects, if that is found.
-    pub fn recall(&self, cond: &tp_ast::cond::Cond, objects: &[&str]) -> Option<&Kept<'a>>
+    /// What a condition of this mark was written out to where its terms stood for these objects, if that is found.
+    pub fn recall(
+        &self,
+        cond: &tp_ast::cond::Cond,
+        mark: u32,
+        objects: &[&str],
+    ) -> Option<&Kept<'a>>
         ensures { IfSome result (λ k. Stands self.now
             (cond_view cond.now) (map (λ o. o.now) objects.now) k.now.written.value) }
     {
-        self.memory.find(cond, objects)
+        self.memory.find(cond, mark, objects)
     }
 
     /// How many bindings of quantifiers are written out.

@@ -12,4 +12,4 @@ part_hints-loop-part-preserved g t c = record {
 }
 
 pub under_hint-returns : goal.under_hint-returns
-under_hint-returns g t c = under_known c.args.universe.now (g.P.Lowerable.fits c.args.universe.now) c.in-Some.places c.in_ok-new.field-0 c.in_ok-hint.hint (map typed_view c.args.variables.now.items) (joined_view g.P.Lowerable.seen c.args.part.now) c.in_ok-places.field-0 c.in-Some.is c.in_ok-places.ensures c.in_ok-new.ensures.ok c.in_ok-hint.ensures
+under_hint-returns g t c = under_known c.args.universe.now (g.P.Lowerable.fits c.args.universe.now) c.in-Some.places c.in_ok-new.field-0 _ c.in_ok-hint.hint (map typed_view c.args.variables.now.items) (joined_view g.P.Lowerable.seen c.args.part.now) c.in_ok-places.field-0 c.in-Some.is c.in_ok-places.ensures c.in_ok-new.ensures.ok c.in_ok-hint.ensures

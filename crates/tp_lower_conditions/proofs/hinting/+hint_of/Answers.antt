@@ -6,10 +6,10 @@ use Rattle.tp_bindings.proofs.OnHints.{every_fits, some_fits, each_more}
 use Rattle.tp_lower_conditions.proofs.hinting.+hint_of.Goals as goal
 
 pub bound_hint-returns-clause-every : goal.bound_hint-returns-clause-every
-bound_hint-returns-clause-every t c = every_fits c.args.universe.now c.in-Some.places c.in_ok-new.field-0 c.in_ok-hint.hint (map typed_view c.args.variables.now.items) (cond_view c.args.inner.now) c.in_ok-places.field-0 c.in-Some.is c.in_ok-places.ensures c.in_ok-new.ensures.ok c.in_ok-hint.ensures
+bound_hint-returns-clause-every t c = every_fits c.args.universe.now c.in-Some.places c.in_ok-new.field-0 c.args.mark c.in_ok-hint.hint (map typed_view c.args.variables.now.items) (cond_view c.args.inner.now) c.in_ok-places.field-0 c.in-Some.is c.in_ok-places.ensures c.in_ok-new.ensures.ok c.in_ok-hint.ensures
 
 pub bound_hint-returns-clause-some : goal.bound_hint-returns-clause-some
-bound_hint-returns-clause-some t c = some_fits c.args.universe.now c.in-Some.places c.in_ok-new.field-0 c.in_ok-hint.hint (map typed_view c.args.variables.now.items) (cond_view c.args.inner.now) c.in_ok-places.field-0 c.in-Some.is c.in_ok-places.ensures c.in_ok-new.ensures.ok c.in_ok-hint.ensures
+bound_hint-returns-clause-some t c = some_fits c.args.universe.now c.in-Some.places c.in_ok-new.field-0 c.args.mark c.in_ok-hint.hint (map typed_view c.args.variables.now.items) (cond_view c.args.inner.now) c.in_ok-places.field-0 c.in-Some.is c.in_ok-places.ensures c.in_ok-new.ensures.ok c.in_ok-hint.ensures
 
 pub hints_of-loop-cond-preserved : goal.hints_of-loop-cond-preserved
 hints_of-loop-cond-preserved t c = record {
