@@ -326,6 +326,10 @@ fn count_parts(events: &[EventRef<'_>], most: usize) -> usize {
 /// Whether it is cheaper to compare the events in pairs than to make tables of so many atoms and fluents: each effect meets each effect
 /// and each part of what is asked and worked out, and each event each other one.
 fn do_little(events: &[EventRef<'_>], room: usize) -> bool {
+    // One alone interferes with none.
+    if events.len() < 2 {
+        return true;
+    }
     let most = FEW.max(room.saturating_mul(FEW_EACH));
     let pairs = events.len().saturating_mul(events.len());
     if pairs > most {
