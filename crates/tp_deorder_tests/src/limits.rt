@@ -1,6 +1,6 @@
 //! Where a plan has too many events, bounds or ticks for the limits.
 
-use crate::worlds::{FUSES, LINES, SWITCHES, World, network, task_of, task_until};
+use crate::worlds::{network, task_of, task_until};
 use std::alloc::{AllocError, Global};
 use std::fmt::Write;
 use std::process::Abort;
@@ -8,6 +8,7 @@ use std::test::Fail;
 use tp_bounds::Limits;
 use tp_deorder::{DeorderFault, deorder};
 use tp_happen::read_plan;
+use tp_small_tasks::{FUSES, LINES, SWITCHES, World};
 use tp_task::Task;
 use tp_validate::{Verdict, validate};
 

@@ -1,11 +1,12 @@
 //! Which bounds the plans of the small worlds have.
 
-use crate::worlds::{CHARGES, FUSES, LINES, SWITCHES, TANKS, World, network, task_of};
+use crate::worlds::{network, task_of};
 use std::alloc::{AllocError, Global};
 use std::process::Abort;
 use std::test::Fail;
 use tp_bounds::PlanNet;
 use tp_net_lines::network_text;
+use tp_small_tasks::{CHARGES, FUSES, LINES, SWITCHES, TANKS, World};
 use tp_task::Task;
 
 /// A plan of a world, and the lines of its network.

@@ -1,12 +1,13 @@
 //! Each schedule of a network in a box of moments, made a plan and judged.
 
-use crate::worlds::{CHARGES, FUSES, LINES, SWITCHES, TANKS, World, network, task_of};
+use crate::worlds::{network, task_of};
 use std::alloc::{AllocError, Global};
 use std::fmt::Write;
 use std::process::Abort;
 use std::test::Fail;
 use tp_bounds::{Bound, PlanNet, Point};
 use tp_happen::read_plan;
+use tp_small_tasks::{CHARGES, FUSES, LINES, SWITCHES, TANKS, World};
 use tp_task::Task;
 use tp_validate::{Verdict, validate};
 

@@ -2,9 +2,9 @@
 
 use crate::rows::Named::Only;
 use crate::rows::{Named, Row, Then, are_rows, copies_are_the_same};
-use crate::worlds::{TANKS, World};
 use std::test::Fail;
 use tp_happen::Why;
+use tp_small_tasks::{TANKS, World};
 use tp_text::Scale;
 
 const COUNTER: &str = "(define (domain counter)

@@ -4,11 +4,11 @@ ghost use Rattle.std.specs.Prelude.{◌≤◌};
 
 use crate::rows::Named::{End, Only, Start};
 use crate::rows::{Named, Row, Then, are_rows, are_true, event_of};
-use crate::worlds::{CHARGES, FUSES, SWITCHES, TANKS, World, task_of};
 use std::alloc::Global;
 use std::process::Abort;
 use std::test::Fail;
 use tp_happen::{Part, State, Why, event, interferes, uses_duration};
+use tp_small_tasks::{CHARGES, FUSES, SWITCHES, TANKS, World, task_of};
 use tp_task::{ActionId, AtomId, FluentId, Task};
 use tp_text::Scale;
 

@@ -1,6 +1,5 @@
 //! Worked examples of happenings, and plans as texts: what happens to states of small tasks, and what is read and written.
 //!
-//! - `worlds`: a task of texts
 //! - `rows`: happenings written as rows of a table, and whether a task carries them out so
 //! - `happenings`, `counters`: rows of the small domains, and of one that counts
 //! - `values`: what expressions, conditions and comparisons are worth
@@ -22,5 +21,3 @@ mod rows;
 mod texts;
 #[cfg(test)]
 mod values;
-#[cfg(test)]
-mod worlds;

@@ -2,11 +2,11 @@
 
 ghost use Rattle.std.specs.Prelude.{◌≤◌};
 
-use crate::worlds::{CHARGES, FUSES, SWITCHES, World, task_of};
 use std::alloc::{AllocError, Global};
 use std::process::Abort;
 use std::test::Fail;
 use tp_happen::{PlanFault, Step, read_plan};
+use tp_small_tasks::{CHARGES, FUSES, SWITCHES, World, task_of};
 use tp_task::{ActionId, Task};
 use tp_text::Scale;
 

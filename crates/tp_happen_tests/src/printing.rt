@@ -2,7 +2,6 @@
 
 ghost use Rattle.std.specs.Prelude.{◌≡◌, ◌≤◌, ◌<◌};
 
-use crate::worlds::{CHARGES, FUSES, SWITCHES, World, task_of};
 use std::alloc::Global;
 use std::io::Write;
 use std::marker::Brand;
@@ -11,6 +10,7 @@ use std::sync::ledger::{Blank, Ledger};
 use std::test::Fail;
 use tp_device::{Failed, ToWrite};
 use tp_happen::{Plan, Step, print_plan, read_plan};
+use tp_small_tasks::{CHARGES, FUSES, SWITCHES, World, task_of};
 use tp_task::Task;
 use tp_text::Scale;
 

@@ -5,11 +5,11 @@ ghost use Rattle.std.specs.List.{list_all};
 ghost use Rattle.tp_happen.specs.Fault.{OnNext};
 ghost use Rattle.tp_happen_tests.specs.OfTask.{IsStateOf, has_event};
 
-use crate::worlds::{World, task_of};
 use std::alloc::Global;
 use std::process::Abort;
 use std::test::Fail;
 use tp_happen::{ApplyFault, Event, EventRef, Outcome, Part, State, Why, apply, event};
+use tp_small_tasks::{World, task_of};
 use tp_task::{AtomId, FluentId, Task};
 
 /// An event of an action by its name: its only one, or its start or end with these objects in a step of so many ticks.

@@ -2,7 +2,6 @@
 
 ghost use Rattle.std.specs.Prelude.{◌≡◌, ◌<◌};
 
-use crate::worlds::{CHARGES, FUSES, SWITCHES, TANKS, World};
 use std::alloc::Global;
 use std::io::Write;
 use std::marker::Brand;
@@ -10,6 +9,7 @@ use std::str::from_utf8;
 use std::sync::ledger::{Blank, Ledger};
 use std::test::Fail;
 use tp_device::{Failed, ToWrite};
+use tp_small_tasks::{CHARGES, FUSES, SWITCHES, TANKS, World};
 use tp_syntax::{Domain, SyntaxFault, print_domain, read_domain, read_problem};
 use tp_text::TextFault;
 

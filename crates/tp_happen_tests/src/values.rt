@@ -1,11 +1,11 @@
 //! What expressions, conditions, comparisons and duration constraints are worth.
 
 use crate::counters::COUNTERS;
-use crate::worlds::{TANKS, task_of};
 use std::alloc::{AllocError, Global};
 use std::process::Abort;
 use std::test::Fail;
 use tp_happen::{Range, State, compares, constraint_defined, holds, value};
+use tp_small_tasks::{TANKS, task_of};
 use tp_task::{Body, Comparison, Cond, Expr, Limit, Task};
 
 /// A condition on the fluent without a value.

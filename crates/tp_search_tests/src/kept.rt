@@ -2,10 +2,11 @@
 
 ghost use Rattle.std.specs.Prelude.{◌≤◌};
 
-use crate::seeking::{World, answer, kept_of, task_of};
+use crate::seeking::answer;
 use std::alloc::Global;
 use std::process::Abort;
 use std::test::Fail;
+use tp_small_tasks::{World, kept_of, task_of};
 use tp_small_worlds::{MATCH, MATCHES, TOGGLE, TOGGLED};
 use tp_task::Task;
 use tp_text::Scale;

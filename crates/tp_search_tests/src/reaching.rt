@@ -2,11 +2,11 @@
 
 ghost use Rattle.std.specs.Prelude.{◌≤◌};
 
-use crate::seeking::{World, task_of};
 use std::alloc::{AllocError, Global};
 use std::process::Abort;
 use std::test::Fail;
 use tp_reach::{goal_in_reach, met, reach};
+use tp_small_tasks::{World, task_of};
 use tp_small_worlds::{EMPTY_TANK, MATCH, MATCHES, TANK, TOGGLE};
 use tp_task::Task;
 use tp_text::Scale;

@@ -5,80 +5,14 @@ ghost use Rattle.std.specs.Prelude.{◌≤◌};
 use std::alloc::{AllocError, Global};
 use std::process::Abort;
 use std::test::Fail;
-use tp_bounds::Limits;
-use tp_ground::{ground, ground_reached};
 use tp_happen::{Step, read_plan};
 use tp_search::{Found, search};
-use tp_syntax::{Domain, Problem, read_domain, read_problem};
-use tp_task::{GroundFault, Task};
-use tp_text::Scale;
+use tp_small_tasks::{World, task_of};
+use tp_task::Task;
 use tp_validate::{ValidPlan, Verdict, validate};
-
-/// A domain and a problem, the scale of their time, and a horizon in ticks.
-#[derive(Clone, Copy)]
-pub(crate) struct World<'a> {
-    pub(crate) domain: &'a str,
-    pub(crate) problem: &'a str,
-    pub(crate) scale: Scale,
-    pub(crate) horizon: u32,
-}
 
 /// A budget, and the answer wanted with it: the text of a plan, or a word and a number.
 pub(crate) type Row<'a> = (u32, &'a str);
-
-fn grounded(
-    alloc: Global,
-    domain: &Domain,
-    problem: &Problem,
-    world: World<'_>,
-) -> Result<Task, GroundFault>
-    requires { world.horizon ≤ 1000000000 }
-{
-    let limits = Limits::greatest(world.horizon);
-    ground(alloc, domain, problem, &limits, world.scale)
-}
-
-fn task_in(alloc: Global, domain: &Domain, world: World<'_>) -> Result<Task, Fail>
-    requires { world.horizon ≤ 1000000000 }
-{
-    let problem = read_problem(alloc, world.problem, domain)?;
-    Ok(grounded(alloc, domain, &problem, world)?)
-}
-
-/// The task of a world, under the greatest limits.
-pub(crate) fn task_of(alloc: Global, world: World<'_>) -> Result<Task, Fail>
-    requires { world.horizon ≤ 1000000000 }
-{
-    let domain = read_domain(alloc, world.domain)?;
-    task_in(alloc, &domain, world)
-}
-
-fn kept(
-    alloc: Global,
-    domain: &Domain,
-    problem: &Problem,
-    world: World<'_>,
-) -> Result<Task, GroundFault>
-    requires { world.horizon ≤ 1000000000 }
-{
-    let limits = Limits::greatest(world.horizon);
-    ground_reached(alloc, domain, problem, &limits, world.scale)
-}
-
-fn kept_in(alloc: Global, domain: &Domain, world: World<'_>) -> Result<Task, Fail>
-    requires { world.horizon ≤ 1000000000 }
-{
-    let problem = read_problem(alloc, world.problem, domain)?;
-    Ok(kept(alloc, domain, &problem, world)?)
-}
-
-/// The task of a world with the actions alone that the relaxed reach keeps, under the greatest limits.
-pub(crate) fn kept_of(alloc: Global, world: World<'_>) -> Result<Task, Fail>
-    requires { world.horizon ≤ 1000000000 }
-{
-    let domain = read_domain(alloc, world.domain)?;
-    kept_in(alloc, &domain, world)
-}
 
 fn push_step(text: &mut String, task: &Task, step: &Step) -> Result<(), Fail> {
     let action = task.action_text(step.action)?;

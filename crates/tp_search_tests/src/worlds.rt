@@ -1,7 +1,8 @@
 //! Matches, switches, tanks, charges and a lamp.
 
-use crate::seeking::{Row, World, are_answered};
+use crate::seeking::{Row, are_answered};
 use std::test::Fail;
+use tp_small_tasks::World;
 use tp_small_worlds::{CHARGE, EMPTY_TANK, MATCH, MATCHES, TANK, TOGGLE, TOGGLED, UNCHARGED};
 use tp_text::Scale;
 

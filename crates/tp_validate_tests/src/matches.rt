@@ -1,7 +1,8 @@
 //! Verdicts on matches and switches: conditions, invariants, interference, durations and goals.
 
-use crate::judging::{Row, World, are_judged};
+use crate::judging::{Row, are_judged};
 use std::test::Fail;
+use tp_small_tasks::World;
 use tp_small_worlds::{MATCH, MATCHES, TOGGLE, TOGGLED};
 use tp_text::Scale;
 use tp_validate::Fault;

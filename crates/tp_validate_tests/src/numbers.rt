@@ -2,12 +2,13 @@
 
 ghost use Rattle.tp_validate.specs.OfTask.{IsOfTask};
 
-use crate::judging::{Row, World, are_judged, is_judged, task_of};
+use crate::judging::{Row, are_judged, is_judged};
 use std::alloc::{AllocError, Global};
 use std::process::Abort;
 use std::test::Fail;
 use tp_happen::{Plan, read_plan};
-use tp_small_worlds::{CHARGE, EMPTY_TANK, TANK, UNCHARGED};
+use tp_small_tasks::{TANKS, World, task_of};
+use tp_small_worlds::{CHARGE, TANK, UNCHARGED};
 use tp_task::Task;
 use tp_text::Scale;
 use tp_validate::{Fault, ValidateFault, validate};
@@ -24,13 +25,6 @@ const FINE_CHARGES: World<'static> = World {
     problem: UNCHARGED,
     scale: Scale::Thousand,
     horizon: 1_000_000,
-};
-
-const TANKS: World<'static> = World {
-    domain: TANK,
-    problem: EMPTY_TANK,
-    scale: Scale::One,
-    horizon: 100,
 };
 
 const CHARGED: [Row<'static>; 11] = [
