@@ -23,6 +23,7 @@ For 2 and 3 a line `fault PART NUMBER WORD ..` goes to standard error.
 Examples:
   printf 'network 1 5\\nwindow 0\\n' | tempo bare
   printf 'network 1 5\\nwindow 0\\n' | tempo bare --journal night.log
+  tempo plan domain.pddl problem.pddl > plan.txt
   tempo check domain.pddl problem.pddl plan.txt
   tempo net domain.pddl problem.pddl plan.txt
   printf 'dispatch 0\\nadvance 3\\ndispatch 1\\n' | tempo run domain.pddl problem.pddl plan.txt
