@@ -587,6 +587,11 @@ def quantified(program):
     nothing = nested.replace("(p o0 o0 o0)", "()")
     empty = f"(define (domain d) (:predicates (p ?x ?y ?z)) (:action a :parameters () :effect {nothing}))"
     judged(program, "the same in an effect, above nothing", empty, two.replace("#", "()"), "")
+    deep = functools.reduce(lambda inner, k: f"(forall (?v{k}) (and (q ?v{k}) {inner}))", range(16), "(r)")
+    asked = f"(define (domain d) (:predicates (q ?x) (r)) (:action a :parameters () :precondition {deep} :effect (r)))"
+    met = "(define (problem q) (:domain d) (:objects o0 o1) (:init (r) (q o0) (q o1)) (:goal (r)))"
+    steps = "".join(f"{tick}: (a)\n" for tick in range(512))
+    judged(program, "16 foralls in one another, asked by 512 steps a tick apart", asked, met, steps)
     judged(program, "a forall over 400^10 bindings", domain, problem.replace("#", "o0 o0 o0").replace("?c)", "?c ?d ?e ?f ?g ?h ?i ?j)"), "")
 
 
