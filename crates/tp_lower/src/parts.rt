@@ -1,6 +1,6 @@
 //! What is joined by `and` and `forall`, written out one after another.
 
-ghost use Rattle.std.specs.Prelude.{◌≡◌, ◌<◌, List, Bool, map, length, slice_index_or, true, IfOk, IfSome};
+ghost use Rattle.std.specs.Prelude.{◌≡◌, ◌<◌, List, [], Bool, map, length, slice_index_or, true, false, IfOk, IfSome};
 ghost use Rattle.std.specs.List.{flat_map};
 ghost use Rattle.tp_ast.specs.Symbols.{typed_view};
 ghost use Rattle.tp_ast.specs.PartViews.{joined_view};
@@ -55,8 +55,10 @@ pub trait Lowerable: Drop {
     /// Whether what is known of the quantifiers in it fits.
     ghost fits: { objects.Universe → hints.Hint → Seen → Bool };
 
-    /// Whether it is something at a specifier.
-    fn is_at(&self, specifier: TimeSpecifier) -> bool;
+    /// Whether it may be something at a specifier.
+    fn is_at(&self, specifier: TimeSpecifier) -> bool
+        ensures { result ≡ false → (u : bindings.Universe) (e : bindings.Env)
+            → written u specifier e (seen self.now) ≡ [] };
 
     /// What is left of so many steps of a walk after it.
     fn after(&self, steps: usize) -> Option<usize>;
@@ -135,9 +137,47 @@ fn push_parts<'a, P: Lowerable>(
 {
     for (place, part) in parts.iter().enumerate() {
         let hint = part_hint(universe, hints, parts, place, part);
-        push_part(alloc, universe, env, specifier, writer, part, hint, into)?;
+        push_there(alloc, universe, env, specifier, writer, part, hint, into)?;
     }
     Ok(())
+}
+
+// Whether a part may be something at a specifier.
+fn may_be_at<P: Lowerable>(part: &Joined<P>, specifier: TimeSpecifier) -> bool
+    ensures { result ≡ false → (u : bindings.Universe) (e : bindings.Env)
+        → parts_in u (P.written u specifier) e (joined_view P.seen part.now) ≡ [] }
+{
+    match part {
+        Joined::One(one) => one.is_at(specifier),
+        _ => true,
+    }
+}
+
+// The same as `push_part`, but a part that is nothing at the specifier is only looked at, which costs less.
+#[cycle(push)]
+fn push_there<'a, P: Lowerable>(
+    alloc: Global,
+    universe: &Universe<'a>,
+    env: &Env<'_, 'a>,
+    specifier: TimeSpecifier,
+    writer: &mut Writer<'a>,
+    part: &'a Joined<P>,
+    hint: Option<&Hint>,
+    into: &mut Vec<P::Lowered>,
+) -> Result<(), GroundFault>
+    requires of_universe { universe_view universe.now ≡ writer.old.universe }
+    requires fit { if_known (joined_fits universe.now (P.fits universe.now)) hint
+        (joined_view P.seen part.now) ≡ true }
+    ensures { Appends P.named writer.old result writer.new into.old.items into.new.items
+        (parts_in (universe_view universe.now) (P.written (universe_view universe.now) specifier)
+        (env_view env.now) (joined_view P.seen part.now))
+        (of_each P.mentions (parts_in (universe_view universe.now) (P.written
+        (universe_view universe.now) specifier) (env_view env.now) (joined_view P.seen part.now))) }
+{
+    if !may_be_at(part, specifier) {
+        return Ok(());
+    }
+    push_part(alloc, universe, env, specifier, writer, part, hint, into)
 }
 
 // Parts under each binding of variables. Room for all bindings is asked for before the first.

@@ -14,7 +14,7 @@ ghost use Rattle.tp_lower_conditions.specs.Lowered.{Lowers};
 use crate::writer::Writer;
 use std::alloc::Global;
 use tp_ast::term::Atom;
-use tp_bindings::environment::{Env, words_in};
+use tp_bindings::environment::{Env, object_for, words_in};
 use tp_task::{Comparison, Expr, GroundFault};
 
 /// How numbers are compared.
@@ -41,8 +41,16 @@ pub fn fluent<'a>(
         (words_in (env_view env.now) (atom_view atom.now))
         (a_fluent (words_in (env_view env.now) (atom_view atom.now))) }
 {
-    let words = words_in(alloc, env, atom)?;
-    writer.fluent(&words)
+    let name = atom.name.as_str();
+    match atom.terms.as_slice() {
+        [] => writer.fluent(&[name]),
+        [first] => writer.fluent(&[name, object_for(env, first)]),
+        [first, second] => writer.fluent(&[name, object_for(env, first), object_for(env, second)]),
+        _ => {
+            let words = words_in(alloc, env, atom)?;
+            writer.fluent(&words)
+        }
+    }
 }
 
 /// The same, in a box of its own.

@@ -22,19 +22,22 @@ pub push_parts-loop-place-preserved : goal.push_parts-loop-place-preserved
 push_parts-loop-place-preserved g t c =
     let u = universe_view c.args.universe.now in
     let f = part_of u (g.P.Lowerable.written u c.args.specifier) g.P.Lowerable.seen (env_view c.args.env.now) in
-    all_appended g.P.Lowerable.named g.P.Lowerable.mentions _ _ _ _ _ _ (flat_map f (take c.loop-place.place c.args.parts.now)) (f c.index-parts-place.result) _ (next f c.args.parts.now c.loop-place.place c.index-parts-place.result c.loop-place-test.true c.index-parts-place.is) c.loop-place.invariant c.in_ok-push_part.ensures
+    all_appended g.P.Lowerable.named g.P.Lowerable.mentions _ _ _ _ _ _ (flat_map f (take c.loop-place.place c.args.parts.now)) (f c.index-parts-place.result) _ (next f c.args.parts.now c.loop-place.place c.index-parts-place.result c.loop-place-test.true c.index-parts-place.is) c.loop-place.invariant c.in_ok-push_there.ensures
 
-pub push_parts-returns-in_err-push_part : goal.push_parts-returns-in_err-push_part
-push_parts-returns-in_err-push_part g t c =
+pub push_parts-returns-in_err-push_there : goal.push_parts-returns-in_err-push_there
+push_parts-returns-in_err-push_there g t c =
     let u = universe_view c.args.universe.now in
     let f = part_of u (g.P.Lowerable.written u c.args.specifier) g.P.Lowerable.seen (env_view c.args.env.now) in
-    loop_stopped g.P.Lowerable.named g.P.Lowerable.mentions c.args.parts.now c.loop-place.place c.index-parts-place.result c.loop-place-test.true c.index-parts-place.is _ _ _ _ _ _ _ _ _ c.from_residual.ensures.1 f _ refl refl c.loop-place.invariant c.in_err-push_part.ensures
+    loop_stopped g.P.Lowerable.named g.P.Lowerable.mentions c.args.parts.now c.loop-place.place c.index-parts-place.result c.loop-place-test.true c.index-parts-place.is _ _ _ _ _ _ _ _ _ c.from_residual.ensures.1 f _ refl refl c.loop-place.invariant c.in_err-push_there.ensures
 
 pub push_parts-returns : goal.push_parts-returns
 push_parts-returns g t c =
     let u = universe_view c.args.universe.now in
     let f = part_of u (g.P.Lowerable.written u c.args.specifier) g.P.Lowerable.seen (env_view c.args.env.now) in
     appended_as g.P.Lowerable.named g.P.Lowerable.mentions _ _ _ _ _ _ (sym (ended f c.args.parts.now c.loop-place.place c.loop-place-test.false)) c.loop-place.invariant
+
+pub push_there-returns-then-not-may_be_at : goal.push_there-returns-then-not-may_be_at
+push_there-returns-then-not-may_be_at g t c = none_appended g.P.Lowerable.named g.P.Lowerable.mentions _ _ _ _ (c.may_be_at.ensures c.if-not-may_be_at.true _ _) refl
 
 pub push_under_each-loop-place-init : goal.push_under_each-loop-place-init
 push_under_each-loop-place-init g t c = record {
