@@ -100,9 +100,8 @@ fn are_few(ways: &Ways, others: &[String]) -> bool {
 
 // Whether the type of a span is seen to be or be below one of these, which are few or the list at hand.
 fn is_under(types: &Types, ways: &mut Ways, few: bool, span: &Span<'_>, others: &[String]) -> bool
-    ensures { result ≡ true → list_any
-        (λ p. at_or_below (types_view types.now) (length (types_view types.now)) span.now.name.now p)
-        (map string_bytes others.now) ≡ true }
+    ensures { result ≡ true → list_any (λ p. at_or_below (types_view types.now)
+        (length (types_view types.now)) span.now.name.now p) (map string_bytes others.now) ≡ true }
 {
     if few {
         return is_below_some(types, span.name, others);

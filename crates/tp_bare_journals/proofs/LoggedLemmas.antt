@@ -1,9 +1,8 @@
 -- A head, lines of lags, and then commands with their journal.
-use Rattle.std.proofs.Common.{◌≡◌, ◌+◌, ◌-◌, ◌≤◌, ◌<◌, ℕ, List, [], ◌∷◌, ◌++◌, ◌⊎◌, append-nil, length, Option, Some, None, refl, subst, sym, ap, ◌∙◌, inl, inr, arith}
+use Rattle.std.proofs.Common.{◌≡◌, ◌+◌, ◌-◌, ◌≤◌, ℕ, List, [], ◌∷◌, ◌++◌, append-nil, length, Option, Some, None, refl, subst, sym, ap, ◌∙◌, inl, inr, arith}
 use Rattle.std.specs.Prelude.{Result, Ok, Err, IfErr, IfSome, IsErrAnd, OnOk}
 use Rattle.std.specs.Io.KnownBytes.{Appends, Consumes, IsAtEnd}
 use Rattle.tp_bounds.specs.Setting.{Setting}
-use Rattle.tp_bounds.specs.RunLimits.{RunLimits}
 use Rattle.tp_machine.specs.Machine.{Machine, IsFresh, new_machine}
 use Rattle.tp_script.specs.Pending.{Reading}
 use Rattle.tp_script.specs.Reading.{Free, EndsLine, TakesWhole}
@@ -19,8 +18,7 @@ use Rattle.tp_journal.specs.Writing.{EntersAll, IsNewExecutive, Journals, journa
 use Rattle.tp_journal.specs.declared.faults.JournalFault.{JournalFault}
 use Rattle.tp_journal.specs.declared.faults.JournalFault.TheVariants.{Read, Write, Log, TooLong}
 use Rattle.tp_bare.specs.Bare.{BareStops, BeginsLines, EndLags, IsRefused, first_machine, first_setting}
-use Rattle.tp_bare.specs.declared.bare.BareFault.{BareFault}
-use Rattle.tp_bare.specs.declared.bare.BareFault.TheVariants.{Network, Serving}
+use Rattle.tp_bare.specs.declared.bare.BareFault.TheVariants.{Serving}
 use Rattle.tp_bare.proofs.BareLemmas.{answers_none, end_lags, lines_stop, refused_then}
 use Rattle.tp_bare_journals.specs.JournalLines.{stop_status}
 use Rattle.tp_bare_journals.specs.Logged.{LogsAll, LogsFrom, LogsLines, LogsPart, StopsLogged, logged_result}

@@ -12,7 +12,8 @@ use tp_bounds::{
 
 /// Two events under a horizon of 10, the second at least 2 ticks after the first.
 fn two_apart(alloc: Global) -> Result<Setting, AllocError>
-    ensures { IfOk result (λ s. s ≡ with_bound (fresh 2 10) 0 (record { from = Point.Event 1; to = Point.Event 0; w = negsuc 1 })) }
+    ensures { IfOk result (λ s. s ≡ with_bound (fresh 2 10) 0
+        (record { from = Point.Event 1; to = Point.Event 0; w = negsuc 1 })) }
 {
     let mut setting = Setting::new(alloc, 2, 10)?;
     let bound = Bound {

@@ -17,7 +17,7 @@ use Rattle.tp_ast.specs.Actions.{Action, Body, field, fields_of, each_once, is_f
 use Rattle.tp_ast.specs.Domains as domains
 use Rattle.tp_ast.specs.Domains.{Domain, requirements_in, types_in, objects_in, signatures_of, named_once, numeric_signatures, action_at, actions_in, section, domain_with, domain_of, named, sections_of, defined}
 use Rattle.tp_ast.specs.Problems as problems
-use Rattle.tp_ast.specs.Problems.{Problem, Initial, problem_from, new_objects, stated, symbols_with, problem_with, problem_of, own_name, once_each}
+use Rattle.tp_ast.specs.Problems.{Problem, problem_from, new_objects, stated, symbols_with, problem_with, problem_of, own_name, once_each}
 use Rattle.tp_ast.specs.declared.words.Key.TheVariants.{Parameters}
 use Rattle.tp_ast.specs.declared.words.Items.TheVariants.{Names}
 use Rattle.tp_ast.specs.declared.words.Section.{Section}

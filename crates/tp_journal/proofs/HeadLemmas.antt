@@ -1,5 +1,5 @@
 -- The head of a new executive is one of the format.
-use Rattle.std.proofs.Common.{◌≡◌, ◌≢◌, ◌⊎◌, inl, inr, ℕ, zero, suc, ◌+◌, ◌≤◌, ◌<◌, List, [], ◌∷◌, length, get_or, Option, Some, None, Bool, true, false, cond, refl, ap, sym, subst, ◌∙◌, arith}
+use Rattle.std.proofs.Common.{◌≡◌, ◌⊎◌, inl, inr, ℕ, zero, suc, ◌+◌, ◌≤◌, ◌<◌, List, [], ◌∷◌, length, get_or, Option, Some, None, Bool, true, false, cond, refl, ap, arith}
 use Rattle.std.specs.Prelude.{ℤ, pos, negsuc, nat_eq, MatchOption}
 use Rattle.std.specs.List.{All}
 use Rattle.std.specs.Ordering.{nat_cmp}
@@ -10,13 +10,13 @@ use Rattle.std.proofs.lemmas.Int.{ints}
 use Rattle.tp_bounds.specs.declared.Bound.{Bound}
 use Rattle.tp_bounds.specs.declared.Point.{Point}
 use Rattle.tp_bounds.specs.declared.Point.TheVariants.{Origin, Event}
-use Rattle.tp_bounds.specs.Setting.{Setting, event_count, lag_of, HasPoint, IsInRange}
+use Rattle.tp_bounds.specs.Setting.{Setting, event_count, HasPoint, IsInRange}
 use Rattle.tp_bounds.specs.Lawful.{IsLawful, Suits}
 use Rattle.tp_machine.specs.declared.command.Kind.{Kind}
 use Rattle.tp_machine.specs.declared.command.Kind.TheVariants.{Bare, Kept, Altered}
 use Rattle.tp_machine.specs.Machine.{Machine}
-use Rattle.tp_journal.specs.Journal.{IsHead, IsVersion, IsWritable, IsWritablePoint, IsWritableWeight, AreLags, head_of, lags_of, lags_from, own_of, own_by, bounds_from, before_bounds}
-use Rattle.tp_journal.specs.Writing.{IsNewExecutive, AllAreInForce}
+use Rattle.tp_journal.specs.Journal.{IsHead, IsVersion, IsWritable, IsWritablePoint, IsWritableWeight, AreLags, head_of, lags_of, lags_from, own_by, bounds_from, before_bounds}
+use Rattle.tp_journal.specs.Writing.{IsNewExecutive}
 use Rattle.tp_journal.proofs.WriteLemmas.{own_count, new_in_force}
 
 lag_put : (b : Bool) (least e n l : ℕ) (rest : List (ℕ × ℕ)) → nat_eq l 0 ≡ b → least ≤ e → e < n → l ≤ 1_000_000_000 → AreLags least n rest → AreLags (e + 1) n rest → AreLags least n (cond b rest ((e, l) ∷ rest))

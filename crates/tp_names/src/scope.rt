@@ -191,7 +191,8 @@ fn argument_fits(
     requires { IsParameter (symbols_of scope.now) parameter.now }
     ensures { IfOk result (λ b. b
         ≡ argument_fits (symbols_of scope.now).types (symbols_of scope.now).objects
-        (scope_view scope.now) (term_view argument.now) (map string_bytes parameter.now.types.now)) }
+        (scope_view scope.now) (term_view argument.now)
+        (map string_bytes parameter.now.types.now)) }
 {
     let Some(types) = argument_types(scope, argument) else {
         return Ok(false);
@@ -237,9 +238,10 @@ fn arguments_fit(
 ) -> Result<bool, AllocError>
     requires { signature_of name.now (signatures_of kind (symbols_of scope.now))
         ≡ Some (signature_view signature.now) }
-    ensures { IfOk result
-        (λ b. b ≡ arguments_fit (symbols_of scope.now).types (symbols_of scope.now).objects (scope_view scope.now)
-        (map term_view arguments.now) (signature_view signature.now).parameters) }
+    ensures { IfOk result (λ b. b
+        ≡ arguments_fit (symbols_of scope.now).types (symbols_of scope.now).objects
+        (scope_view scope.now) (map term_view arguments.now)
+        (signature_view signature.now).parameters) }
 {
     let starts = starts_if_asked(alloc, scope, signature)?;
     let near = scope.symbols.hints.near(signature);

@@ -11,7 +11,6 @@ use Rattle.tp_task.specs.declared.task.Task.{Task}
 use Rattle.tp_happen.specs.tp_plan_texts.PlanPrints.{PlansAreRead, plan_text}
 use Rattle.tp_happen.specs.tp_plan_texts.PlanTexts.{SpellsPlan}
 use Rattle.tp_happen.specs.tp_plan_texts.TaskWords.{readable}
-use Rattle.tp_happen.specs.tp_plan_texts.declared.plans.Step.{Step}
 use Rattle.tp_validate.specs.OfTask.{IsOfTask}
 use Rattle.tp_reach.specs.TaskReach.{GoalIs}
 use Rattle.tp_search.specs.tp_at_once.Answers.{IsAnswer}

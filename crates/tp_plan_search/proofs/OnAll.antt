@@ -3,7 +3,6 @@ use Rattle.std.proofs.Common.{◌≡◌, ℕ, zero, suc, ◌+◌, ◌≤◌, ◌
 use Rattle.std.specs.Prelude.{nat_lt, nat_le}
 use Rattle.std.specs.List.{AllByRecursion, list_all, position_from}
 use Rattle.std.proofs.lemmas.Bool.{and_from, and_parts, ltb-true, lt-ltb}
-use Rattle.std.proofs.lemmas.Bool.Decides.{nat_tests}
 use Rattle.tp_task.specs.declared.task.Task.{Task}
 use Rattle.tp_task.specs.declared.events.Body.{Body}
 use Rattle.tp_task.specs.declared.events.Body.TheVariants.{Instant, Durative}
@@ -16,7 +15,7 @@ use Rattle.tp_happen.specs.tp_plan_texts.TaskWords.{is_durative}
 use Rattle.tp_happen.specs.tp_plan_texts.declared.plans.Step.{Step}
 use Rattle.tp_validate.specs.OfTask.{IsOfTask, IsValidPlan, is_step_of}
 use Rattle.tp_reach.specs.TaskReach.{GoalIs}
-use Rattle.tp_search.specs.tp_at_once.Plans.{EndsBy, HasNoPlan, IsInstantStep, IsPlanAtOnce, DifferFrom, OfDistinctActions, ends_by}
+use Rattle.tp_search.specs.tp_at_once.Plans.{HasNoPlan, IsInstantStep, IsPlanAtOnce, DifferFrom, OfDistinctActions, ends_by}
 use Rattle.tp_search.specs.tp_at_once.Promised.{IsExhausted, IsSpent, IsUnreachable}
 use Rattle.tp_same_plans.specs.SamePlans.{IsSameStep, AreSameSteps, HaveSamePlans}
 

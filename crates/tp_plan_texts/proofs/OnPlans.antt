@@ -5,7 +5,6 @@ use Rattle.std.proofs.lemmas.Bool.{ne_eqb}
 use Rattle.std.proofs.lemmas.List.{drop_more, take_all}
 use Rattle.std.proofs.lemmas.List.Elements.{recursion_from_All}
 use Rattle.tp_plan_texts.specs.declared.plans.Step.{Step}
-use Rattle.tp_plan_texts.specs.declared.reading.Wrong.TheVariants as wrong
 use Rattle.tp_plan_texts.specs.PlanTexts.{ReadableTask, before_lines, lines_of, full_lines, step_of, refusal, refusal_from}
 
 -- a line that ends at an LF

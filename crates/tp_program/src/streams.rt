@@ -130,7 +130,8 @@ fn run_counted<
     requires f_parts { faults.blank.parts ≡ F.parts }
     requires f_some { 0 < faults.blank.parts }
     ensures { Ends (map string_bytes words.now) (call_files (N.held files.old.shelf)
-        (L.asked files.old.logs) (L.asked files.new.logs) L.blank (L.named files.new.logs) (L.kept files.new.logs))
+        (L.asked files.old.logs) (L.asked files.new.logs) L.blank
+        (L.named files.new.logs) (L.kept files.new.logs))
         (R.remaining input.stream)
         (line_writer_contents W.contents output.stream) (V.contents faults.stream) W.contents
         result.status result.output (V.contents result.faults) }
@@ -187,7 +188,8 @@ pub fn run_streams<N: Files, L: Logs, R: Read + Drop, W: Write + Drop, V: Write 
     faults: V,
 ) -> Ended<W, V>
     ensures { Ends (map string_bytes words.now) (call_files (N.held files.old.shelf)
-        (L.asked files.old.logs) (L.asked files.new.logs) L.blank (L.named files.new.logs) (L.kept files.new.logs))
+        (L.asked files.old.logs) (L.asked files.new.logs) L.blank
+        (L.named files.new.logs) (L.kept files.new.logs))
         (R.remaining input) (W.contents output) (V.contents faults) W.contents result.status
         result.output (V.contents result.faults) }
 {

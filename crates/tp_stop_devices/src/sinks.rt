@@ -41,7 +41,8 @@ impl<L: Ledger> StopSink<L> {
         requires name { blank.name ≡ L.name }
         requires parts { blank.parts ≡ L.parts }
         requires some { 0 < blank.parts }
-        ensures { result ≡ record { held = text.items; most = max most 1; stop = stop; failures = 0 } }
+        ensures { result
+            ≡ record { held = text.items; most = max most 1; stop = stop; failures = 0 } }
     {
         StopSink {
             text,

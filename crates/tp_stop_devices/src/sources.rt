@@ -41,7 +41,8 @@ impl<'a, L: Ledger> StopSource<'a, L> {
         requires name { blank.name ≡ L.name }
         requires parts { blank.parts ≡ L.parts }
         requires some { 0 < blank.parts }
-        ensures { result ≡ record { left = bytes.now; most = max most 1; stop = stop; failures = 0 } }
+        ensures { result
+            ≡ record { left = bytes.now; most = max most 1; stop = stop; failures = 0 } }
     {
         StopSource {
             bytes,

@@ -12,7 +12,7 @@ use Rattle.tp_task.specs.Happens.{EventOfStep, is_defined, apart, atom_after, nu
 use Rattle.tp_task.specs.Valid.{Planned, Placed, events, at, BodyHolds, IsRun, IsValidRun}
 use Rattle.tp_task.specs.Bounds.{In}
 use Rattle.tp_task.specs.Verdict as fault
-use Rattle.tp_task.specs.Verdict.{Fault, states, is_unlawful, is_broken, pair_or, first_pair, fault_or, fault_at, last_moment}
+use Rattle.tp_task.specs.Verdict.{states, is_unlawful, is_broken, pair_or, first_pair, fault_or, fault_at, last_moment}
 use Rattle.tp_task.proofs.Lists.{all_at, all_from}
 use Rattle.tp_task.proofs.Picked.{picked_yes, picked_no, all_picked_at, each_apart}
 use Rattle.tp_task.proofs.Sound.{at_most_last}

@@ -2,8 +2,6 @@
 use Rattle.std.proofs.Common.{◌≡◌, ℕ, ◌≤◌, Bool, true, false, List, [], ◌∷◌, ◌++◌, length, if◌then◌else◌, refl, sym, ap, ◌∙◌, arith, append_assoc, append-nil, length-append}
 use Rattle.tp_task.specs.Words.{Words, has_words, with_words, with_all}
 use Rattle.tp_task.specs.Labels.{Grows}
-use Rattle.tp_task.specs.declared.fault.GroundFault.TheVariants as faults
-use Rattle.tp_task.specs.declared.fault.TooManyKind.TheVariants as kinds
 
 pub grows_by_none : (known : List Words) → Grows known known
 grows_by_none known = ([], sym (append-nil known))

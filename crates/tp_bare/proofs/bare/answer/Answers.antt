@@ -1,6 +1,5 @@
-use Rattle.std.proofs.Common.{◌∙◌, sym, ap, subst}
+use Rattle.std.proofs.Common.{◌∙◌, sym}
 use Rattle.std.specs.Prelude.{Ok, Err}
-use Rattle.tp_bare.specs.Bare.{BeginsLines}
 use Rattle.tp_bare.proofs.BareLemmas.{answers_lines, answers_none, no_write, same_failures}
 use Rattle.tp_bare.proofs.bare.answer.Goals as goal
 

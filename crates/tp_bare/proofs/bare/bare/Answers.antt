@@ -1,6 +1,6 @@
 use Rattle.std.proofs.Common.{ap}
 use Rattle.tp_script.specs.Pending.{Reading}
-use Rattle.tp_bare.proofs.BareLemmas.{head_stops, lines_all, lines_part, lines_stop, memory_stops, stops_by}
+use Rattle.tp_bare.proofs.BareLemmas.{head_stops, lines_all, lines_part, lines_stop, stops_by}
 use Rattle.tp_bare.proofs.bare.bare.Goals as goal
 
 pub returns-clause-all : goal.returns-clause-all

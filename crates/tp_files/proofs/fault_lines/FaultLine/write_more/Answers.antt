@@ -1,6 +1,6 @@
-use Rattle.std.proofs.Common.{◌++◌, codes, decimal, refl}
+use Rattle.std.proofs.Common.{refl}
 use Rattle.tp_device.proofs.Parts.{writes_after}
-use Rattle.tp_files.specs.FaultLines.{detail_text, fault_text, head_text}
+use Rattle.tp_files.specs.FaultLines.{fault_text}
 use Rattle.tp_files.proofs.FaultLemmas.{stops_first}
 use Rattle.tp_files.proofs.fault_lines.FaultLine.write_more.Goals as goal
 
