@@ -2,7 +2,7 @@
 use Rattle.std.proofs.Common.{◌≡◌, ℕ, ◌+◌, ◌≤◌, Bool, true, false, eqb, List, [], ◌∷◌, ◌++◌, refl, sym, ap, ◌∙◌, subst, arith, Ok, Err}
 use Rattle.std.specs.List.{AllByRecursion}
 use Rattle.std.proofs.lemmas.Bool.Decides.{nat_tests}
-use Rattle.tp_text.specs.Lexemes.{Lexeme, left, right, word, class, begins_word, Placed, Lexemes, placed, after_comment, before, with_front, extend, extended, longer, letter}
+use Rattle.tp_text.specs.Lexemes.{Lexeme, left, right, word, class, begins_word, Placed, Lexemes, placed, after_comment, before, extend, longer, letter}
 use Rattle.tp_text.specs.Shapes.{Shape, leaf, node, Shapes, no_shapes, shape, written, all_written, lexemes_only, Spells}
 use Rattle.tp_text.specs.Texts.{IsWord, HasWords, AllHaveWords}
 use Rattle.tp_text.specs.declared.lexing.Class.{Class}

@@ -1,5 +1,4 @@
 use Rattle.std.proofs.Common.{sym, subst, ap, ◌∙◌}
-use Rattle.tp_bounds.specs.Setting.{Setting}
 use Rattle.tp_bounds.specs.Changes.{with_lag}
 use Rattle.tp_machine.specs.Machine.{IsFresh}
 use Rattle.tp_machine.proofs.Ready.{fresh_new, fresh_lagged}
