@@ -143,8 +143,8 @@ fn too_many<'u, 'a>(alloc: Global) -> Result<Rows<'u, 'a>, AllocError>
     Err(AllocError)
 }
 
-// How many rows the lists at some places have. None where they are 2^64 or more.
-fn count_rows(universe: &Universe, places: &[usize]) -> Option<usize>
+/// How many rows the lists at some places have. None where they are 2^64 or more.
+pub fn count_rows(universe: &Universe, places: &[usize]) -> Option<usize>
     ensures { IsCount 18_446_744_073_709_551_615
         (length (product (map (listed universe.now) places.now))) result }
 {

@@ -70,12 +70,17 @@ fn object_among<'a>(variables: &[Typed], objects: &[&'a str], name: &str) -> Opt
     None
 }
 
+/// Whether variables are so few that they are walked over as fast as a table would be asked.
+pub fn are_few(items: &TypedList) -> bool {
+    items.as_slice().len() <= FEW
+}
+
 impl<'v> Variables<'v> {
     /// Variables in their order. No table of them is made if they stand over something brief, in which few are looked for.
     pub fn over(alloc: Global, items: &'v TypedList, brief: bool) -> Result<Self, AllocError>
         ensures { IfOk result (λ v. v ≡ items.now.items) }
     {
-        if brief || items.as_slice().len() <= FEW {
+        if brief || are_few(items) {
             return Ok(Variables {
                 items,
                 places: None,

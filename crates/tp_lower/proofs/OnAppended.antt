@@ -58,6 +58,10 @@ module _ {C Y : Type 0} (named : Tables → C → Y) (of : Y → Mentions) where
   pub appended_as : (a b : WriterView) (u v : List C) (ys zs : List Y) → ys ≡ zs → AllAppended a b u v zs → AllAppended a b u v ys
   appended_as a b u v ys zs is l = subst (λ ws. AllAppended a b u v ws) (sym is) l
 
+  -- the same, where the writer and the list at the end have other names
+  pub appended_at : (a b c : WriterView) (u v w : List C) (ys : List Y) → c ≡ b → w ≡ v → AllAppended a b u v ys → AllAppended a c u w ys
+  appended_at a b c u v w ys p q l = subst (λ d. AllAppended a d u w ys) (sym p) (subst (λ x. AllAppended a b u x ys) (sym q) l)
+
   pub appends_as : (a b : WriterView) (r : Result (Unit {0}) GroundFault) (u v : List C) (ys zs : List Y) → ys ≡ zs → Appends named a r b u v zs (of_each of zs) → Appends named a r b u v ys (of_each of ys)
   appends_as a b r u v ys zs is l = subst (λ ws. Appends named a r b u v ws (of_each of ws)) (sym is) l
 

@@ -3,6 +3,8 @@
 use crate::parts::Lowerable;
 use tp_ast::effect::SimpleEffect;
 use tp_ast::joined::Joined;
+use tp_ast::typed_list::TypedList;
+use tp_bindings::variables::are_few;
 use tp_lower_conditions::shortness::{FEW_STEPS, after_expression, after_variables};
 
 /// What is left of so many steps after a simple effect.
@@ -36,7 +38,8 @@ pub fn after_part<P: Lowerable>(part: &Joined<P>, steps: usize) -> Option<usize>
     }
 }
 
-/// Whether so little stands in what is joined that its variables are walked over as fast as a binding of them is made.
-pub fn is_brief_part<P: Lowerable>(part: &Joined<P>) -> bool {
-    after_part(part, FEW_STEPS).is_some()
+/// Whether variables over what is joined need no table: they are few, or so little stands in it that they are walked over as fast
+/// as a binding of them is made.
+pub fn need_no_table<P: Lowerable>(variables: &TypedList, part: &Joined<P>) -> bool {
+    are_few(variables) || after_part(part, FEW_STEPS).is_some()
 }

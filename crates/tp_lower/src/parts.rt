@@ -17,7 +17,7 @@ ghost use Rattle.tp_bindings.specs.declared.objects.Universe as objects;
 ghost use Rattle.tp_bindings.specs.declared.hints.Hint as hints;
 ghost use Rattle.tp_ast.specs.Parts.{parts as syntax_parts};
 
-use crate::part_lengths::is_brief_part;
+use crate::part_lengths::need_no_table;
 use crate::part_rooms::of_part;
 use std::alloc::{AllocError, Global};
 use tp_ast::joined::Joined;
@@ -136,8 +136,11 @@ fn push_parts<'a, P: Lowerable>(
         (joined_view P.seen p)) parts.now)) }
 {
     for (place, part) in parts.iter().enumerate() {
-        let hint = part_hint(universe, hints, parts, place, part);
-        push_there(alloc, universe, env, specifier, writer, part, hint, into)?;
+        // A part that is nothing at the specifier is only looked at, which costs less.
+        if may_be_at(part, specifier) {
+            let hint = part_hint(universe, hints, parts, place, part);
+            push_part(alloc, universe, env, specifier, writer, part, hint, into)?;
+        }
     }
     Ok(())
 }
@@ -151,33 +154,6 @@ fn may_be_at<P: Lowerable>(part: &Joined<P>, specifier: TimeSpecifier) -> bool
         Joined::One(one) => one.is_at(specifier),
         _ => true,
     }
-}
-
-// The same as `push_part`, but a part that is nothing at the specifier is only looked at, which costs less.
-#[cycle(push)]
-fn push_there<'a, P: Lowerable>(
-    alloc: Global,
-    universe: &Universe<'a>,
-    env: &Env<'_, 'a>,
-    specifier: TimeSpecifier,
-    writer: &mut Writer<'a>,
-    part: &'a Joined<P>,
-    hint: Option<&Hint>,
-    into: &mut Vec<P::Lowered>,
-) -> Result<(), GroundFault>
-    requires of_universe { universe_view universe.now ≡ writer.old.universe }
-    requires fit { if_known (joined_fits universe.now (P.fits universe.now)) hint
-        (joined_view P.seen part.now) ≡ true }
-    ensures { Appends P.named writer.old result writer.new into.old.items into.new.items
-        (parts_in (universe_view universe.now) (P.written (universe_view universe.now) specifier)
-        (env_view env.now) (joined_view P.seen part.now))
-        (of_each P.mentions (parts_in (universe_view universe.now) (P.written
-        (universe_view universe.now) specifier) (env_view env.now) (joined_view P.seen part.now))) }
-{
-    if !may_be_at(part, specifier) {
-        return Ok(());
-    }
-    push_part(alloc, universe, env, specifier, writer, part, hint, into)
 }
 
 // Parts under each binding of variables. Room for all bindings is asked for before the first.
@@ -246,7 +222,7 @@ pub fn push_part<'a, P: Lowerable>(
             push_parts(alloc, universe, env, specifier, writer, parts, hints, into)
         }
         Joined::Forall(variables, inner) => {
-            let named = Variables::over(alloc, variables, is_brief_part(inner))?;
+            let named = Variables::over(alloc, variables, need_no_table(variables, inner))?;
             let inside = inside_of(hint);
             push_under_each(
                 alloc, universe, env, specifier, writer, &named, inner, inside, into,

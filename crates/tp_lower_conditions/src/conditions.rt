@@ -21,7 +21,7 @@ ghost use Rattle.tp_ast.specs.Conditions.{conditions as syntax_conditions};
 use crate::expressions::{comparison_of, operand};
 use crate::hinting::hint_of;
 use crate::rooms::{FEW_BINDINGS, of_condition};
-use crate::shortness::{is_brief, mark_of_short};
+use crate::shortness::{mark_of_short, need_no_table};
 use crate::writer::Writer;
 use std::alloc::{AllocError, Global};
 use std::rc::Rc;
@@ -260,7 +260,7 @@ fn for_all<'a>(
         (inner (universe_view universe.now) (env_view env.now)
         (map typed_view variables.now.items)))))) }
 {
-    let named = Variables::over(alloc, variables, is_brief(cond))?;
+    let named = Variables::over(alloc, variables, need_no_table(variables, cond))?;
     Ok(Cond::And(under_each(alloc, universe, env, writer, &named, cond, inside)?))
 }
 
@@ -287,7 +287,7 @@ fn for_some<'a>(
         (inner (universe_view universe.now) (env_view env.now)
         (map typed_view variables.now.items)))))) }
 {
-    let named = Variables::over(alloc, variables, is_brief(cond))?;
+    let named = Variables::over(alloc, variables, need_no_table(variables, cond))?;
     Ok(Cond::Or(under_each(alloc, universe, env, writer, &named, cond, inside)?))
 }
 

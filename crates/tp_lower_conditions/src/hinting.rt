@@ -16,6 +16,7 @@ use tp_ast::marks::is_marked;
 use tp_ast::symbols::Typed;
 use tp_ast::typed_list::TypedList;
 use tp_bindings::hints::Hint;
+use tp_bindings::rows::count_rows;
 use tp_bindings::universe::{Universe, have_choices, place_for};
 
 // Where the objects for a variable stand: at the last of these places, if it is marked.
@@ -110,7 +111,31 @@ fn hints_of(alloc: Global, universe: &Universe, conds: &[Cond]) -> Result<Vec<Hi
     Ok(hints)
 }
 
-// What can be known of a quantifier.
+// Whether some lists have one row at most.
+fn have_one_row(universe: &Universe, places: &[usize]) -> bool {
+    matches!(count_rows(universe, places), Some(0 | 1))
+}
+
+// What can be known of what stands inside of a quantifier. A quantifier that alone stands there under one binding is found again
+// with what it stands in, if that is looked for, and so it is not looked for itself.
+#[cycle(hint_of)]
+fn hint_inside(
+    alloc: Global,
+    universe: &Universe,
+    inner: &Cond,
+    is_found: bool,
+) -> Result<Hint, AllocError>
+    ensures { IfOk result (λ h. fits universe.now h (cond_view inner.now) ≡ true) }
+{
+    match inner {
+        Cond::Forall(variables, within) | Cond::Exists(variables, within) if is_found => {
+            bound_hint(alloc, universe, variables, within, None, true)
+        }
+        _ => hint_of(alloc, universe, inner),
+    }
+}
+
+// What can be known of a quantifier with this mark, and whether it is found again without one.
 #[cycle(hint_of)]
 fn bound_hint(
     alloc: Global,
@@ -118,6 +143,7 @@ fn bound_hint(
     variables: &TypedList,
     inner: &Cond,
     mark: Option<u32>,
+    is_found: bool,
 ) -> Result<Hint, AllocError>
     ensures every { IfOk result (λ h. fits universe.now h
         (for_all (map typed_view variables.now.items) (cond_view inner.now)) ≡ true) }
@@ -127,7 +153,8 @@ fn bound_hint(
     let Some(places) = places_with(alloc, universe, variables)? else {
         return Ok(Hint::Nothing);
     };
-    let hint = hint_of(alloc, universe, inner)?;
+    let is_inner_found = (is_found || mark.is_some()) && have_one_row(universe, &places);
+    let hint = hint_inside(alloc, universe, inner, is_inner_found)?;
     Ok(Hint::Bound(places, Box::new(alloc, hint)?, mark))
 }
 
@@ -166,7 +193,14 @@ pub fn hint_of(alloc: Global, universe: &Universe, cond: &Cond) -> Result<Hint, 
             Ok(Hint::Parts(two(alloc, first, second)?))
         }
         Cond::Forall(variables, inner) | Cond::Exists(variables, inner) => {
-            bound_hint(alloc, universe, variables, inner, mark_of_short(cond))
+            bound_hint(
+                alloc,
+                universe,
+                variables,
+                inner,
+                mark_of_short(cond),
+                false,
+            )
         }
         Cond::Atom(_) | Cond::Same(_, _) | Cond::Compare(_, _, _) => Ok(Hint::Nothing),
     }

@@ -5,6 +5,7 @@ use tp_ast::cond::Cond;
 use tp_ast::expr::Expr;
 use tp_ast::typed_list::TypedList;
 use tp_bindings::memory::mark_of;
+use tp_bindings::variables::are_few;
 
 // The most steps of a walk through a condition that is looked for.
 const MOST_STEPS: usize = 256;
@@ -70,7 +71,8 @@ pub fn mark_of_short(cond: &Cond) -> Option<u32> {
     Some(mark_of(cond))
 }
 
-/// Whether so little stands in a condition that its variables are walked over as fast as a binding of them is made.
-pub fn is_brief(cond: &Cond) -> bool {
-    after_condition(cond, FEW_STEPS).is_some()
+/// Whether variables over a condition need no table: they are few, or so little stands in it that they are walked over as fast
+/// as a binding of them is made.
+pub fn need_no_table(variables: &TypedList, cond: &Cond) -> bool {
+    are_few(variables) || after_condition(cond, FEW_STEPS).is_some()
 }

@@ -12,7 +12,8 @@ use Rattle.tp_bindings.proofs.Along.{next, ended}
 use Rattle.tp_lower_conditions.proofs.OnInner.{flat_under, inner_env}
 use Rattle.tp_bindings.proofs.OnHints.{listed_under}
 use Rattle.tp_lower.proofs.OnPartLists.{part_of, part_under, part_in, parts_of, bound_of}
-use Rattle.tp_lower.proofs.OnAppended.{all_appended, none_appended, appended_as, appends_as, loop_stopped}
+use Rattle.tp_lower.proofs.OnAppended.{all_appended, appended_at, none_appended, appended_as, appends_as, loop_stopped}
+use Rattle.tp_lower.proofs.parts.+push.Goals.{push_parts-then-may_be_at+in_ok-push_part, push_parts-else-may_be_at}
 use Rattle.tp_lower.proofs.parts.+push.Goals as goal
 
 pub push_parts-loop-place-init : goal.push_parts-loop-place-init
@@ -22,22 +23,29 @@ pub push_parts-loop-place-preserved : goal.push_parts-loop-place-preserved
 push_parts-loop-place-preserved g t c =
     let u = universe_view c.args.universe.now in
     let f = part_of u (g.P.Lowerable.written u c.args.specifier) g.P.Lowerable.seen (env_view c.args.env.now) in
-    all_appended g.P.Lowerable.named g.P.Lowerable.mentions _ _ _ _ _ _ (flat_map f (take c.loop-place.place c.args.parts.now)) (f c.index-parts-place.result) _ (next f c.args.parts.now c.loop-place.place c.index-parts-place.result c.loop-place-test.true c.index-parts-place.is) c.loop-place.invariant c.in_ok-push_there.ensures
+    let before = flat_map f (take c.loop-place.place c.args.parts.now) in
+    let here = f c.index-parts-place.result in
+    let more = next f c.args.parts.now c.loop-place.place c.index-parts-place.result c.loop-place-test.true c.index-parts-place.is in
+    elim c.if-may_be_at.branch [
+      | push_parts-then-may_be_at+in_ok-push_part w ↦
+          appended_at g.P.Lowerable.named g.P.Lowerable.mentions _ _ _ _ _ _ _ w.writer-is (ap (λ (v : Vec g.row.P-Lowered.Denot Global). v.items) w.into-is)
+          (all_appended g.P.Lowerable.named g.P.Lowerable.mentions _ _ _ _ _ _ before here _ more c.loop-place.invariant w.in_ok-push_part.ensures)
+      | push_parts-else-may_be_at w ↦
+          appended_at g.P.Lowerable.named g.P.Lowerable.mentions _ _ _ _ _ _ _ w.writer-is (ap (λ (v : Vec g.row.P-Lowered.Denot Global). v.items) w.into-is)
+          (all_appended g.P.Lowerable.named g.P.Lowerable.mentions _ _ _ _ _ _ before here _ more c.loop-place.invariant (none_appended g.P.Lowerable.named g.P.Lowerable.mentions _ _ _ here (c.may_be_at.ensures w.if-may_be_at.false u (env_view c.args.env.now)) refl))
+    ]
 
-pub push_parts-returns-in_err-push_there : goal.push_parts-returns-in_err-push_there
-push_parts-returns-in_err-push_there g t c =
+pub push_parts-returns-in_err-push_part : goal.push_parts-returns-in_err-push_part
+push_parts-returns-in_err-push_part g t c =
     let u = universe_view c.args.universe.now in
     let f = part_of u (g.P.Lowerable.written u c.args.specifier) g.P.Lowerable.seen (env_view c.args.env.now) in
-    loop_stopped g.P.Lowerable.named g.P.Lowerable.mentions c.args.parts.now c.loop-place.place c.index-parts-place.result c.loop-place-test.true c.index-parts-place.is _ _ _ _ _ _ _ _ _ c.from_residual.ensures.1 f _ refl refl c.loop-place.invariant c.in_err-push_there.ensures
+    loop_stopped g.P.Lowerable.named g.P.Lowerable.mentions c.args.parts.now c.loop-place.place c.index-parts-place.result c.loop-place-test.true c.index-parts-place.is _ _ _ _ _ _ _ _ _ c.from_residual.ensures.1 f _ refl refl c.loop-place.invariant c.in_err-push_part.ensures
 
 pub push_parts-returns : goal.push_parts-returns
 push_parts-returns g t c =
     let u = universe_view c.args.universe.now in
     let f = part_of u (g.P.Lowerable.written u c.args.specifier) g.P.Lowerable.seen (env_view c.args.env.now) in
     appended_as g.P.Lowerable.named g.P.Lowerable.mentions _ _ _ _ _ _ (sym (ended f c.args.parts.now c.loop-place.place c.loop-place-test.false)) c.loop-place.invariant
-
-pub push_there-returns-then-not-may_be_at : goal.push_there-returns-then-not-may_be_at
-push_there-returns-then-not-may_be_at g t c = none_appended g.P.Lowerable.named g.P.Lowerable.mentions _ _ _ _ (c.may_be_at.ensures c.if-not-may_be_at.true _ _) refl
 
 pub push_under_each-loop-place-init : goal.push_under_each-loop-place-init
 push_under_each-loop-place-init g t c = record {
