@@ -1,11 +1,13 @@
 -- Conditions of a `Vec`: what their row says, by the list of its items.
-use Rattle.std.proofs.Common.{◌≡◌, Bool, true, false, cond, ◌&&◌, ◌||◌, ℕ, ◌<◌, ◌≤◌, length, drop, get_or, drop-cons, drop_of_length-le, List, Option, Some, None, suc, Vec, Global, refl, sym, ap, ◌∙◌}
+use Rattle.std.proofs.Common.{◌≡◌, Bool, true, false, cond, ◌&&◌, ◌||◌, ℕ, ◌≤◌, length, drop, drop_of_length-le, List, Some, None, Vec, Global, refl, sym, ap, ◌∙◌}
 use mathlib.Core.Former.{Count}
 use Rattle.tp_task.specs.declared.events.Cond.{Cond, And, And', Or, Row_of-Cond, end_of-Cond, more_of-Cond, items-the_row-Cond, items_hidden-the_row-Cond-0}
 use Rattle.tp_task.specs.State.{State, truth, all_true, some_true, has_values, have_values}
 use Rattle.tp_happen.specs.Small.{all_small, rows_small}
 use Rattle.tp_task.specs.Truth.{and_both, or_both}
-use Rattle.tp_happen.specs.Judged.{judgement, judged_all, judged_any, each_small}
+use Rattle.tp_happen.specs.Judged.{judgement, judged_all, judged_any, each_small, finding, of_condition, of_all, of_any, of_both, of_either}
+use Rattle.tp_happen.specs.declared.conditions.Finding.{Finding}
+use Rattle.tp_happen.specs.declared.conditions.Finding.TheVariants.{Holds, Fails, Undefined, Range}
 
 abbrev pub row_of : Cond → (n : Count) × Row_of-Cond n
 row_of (And' _ row) = (_, row)
@@ -21,15 +23,17 @@ join_or true true x y = refl
 join_or true false x y = refl
 join_or false b x y = refl
 
-pub and_true : (a : Option Bool) → and_both a (Some true) ≡ a
-and_true (Some true) = refl
-and_true (Some false) = refl
-and_true None = refl
+both_holds : (x : Finding) → of_both x Holds ≡ x
+both_holds Range = refl
+both_holds Undefined = refl
+both_holds Holds = refl
+both_holds Fails = refl
 
-pub or_false : (a : Option Bool) → or_both a (Some false) ≡ a
-or_false (Some true) = refl
-or_false (Some false) = refl
-or_false None = refl
+either_fails : (x : Finding) → of_either x Fails ≡ x
+either_fails Range = refl
+either_fails Undefined = refl
+either_fails Holds = refl
+either_fails Fails = refl
 
 module _ (s : State) where
   and_row : (n : _) (row : Row_of-Cond n) → cond (have_values s row) (Some (all_true s row)) None ≡ judged_all s (items-the_row-Cond n row)
@@ -44,34 +48,24 @@ module _ (s : State) where
   small_row n end_of-Cond = refl
   small_row n (more_of-Cond c cs) = ap (λ b. all_small s c && b) (small_row _ cs)
 
-  pub judgement-And : (cs : Vec Cond Global) → judgement s (And cs) ≡ judged_all s cs.items
+  judgement-And : (cs : Vec Cond Global) → judgement s (And cs) ≡ judged_all s cs.items
   judgement-And cs = let row = row_of (And cs) in and_row row.0 row.1 ∙ ap (judged_all s) (items_hidden-the_row-Cond-0 cs)
 
-  pub judgement-Or : (cs : Vec Cond Global) → judgement s (Or cs) ≡ judged_any s cs.items
+  judgement-Or : (cs : Vec Cond Global) → judgement s (Or cs) ≡ judged_any s cs.items
   judgement-Or cs = let row = row_of (And cs) in or_row row.0 row.1 ∙ ap (judged_any s) (items_hidden-the_row-Cond-0 cs)
 
-  pub all_small-And : (cs : Vec Cond Global) → all_small s (And cs) ≡ each_small s cs.items
+  all_small-And : (cs : Vec Cond Global) → all_small s (And cs) ≡ each_small s cs.items
   all_small-And cs = let row = row_of (And cs) in small_row row.0 row.1 ∙ ap (each_small s) (items_hidden-the_row-Cond-0 cs)
 
-  pub all_small-Or : (cs : Vec Cond Global) → all_small s (Or cs) ≡ each_small s cs.items
-  all_small-Or cs = all_small-And cs
+  finding-And : (cs : Vec Cond Global) → of_condition s (And cs) ≡ of_all s cs.items
+  finding-And cs = ap (λ b. finding b (judgement s (And cs))) (all_small-And cs) ∙ ap (finding (each_small s cs.items)) (judgement-And cs)
+
+  finding-Or : (cs : Vec Cond Global) → of_condition s (Or cs) ≡ of_any s cs.items
+  finding-Or cs = ap (λ b. finding b (judgement s (Or cs))) (all_small-And cs) ∙ ap (finding (each_small s cs.items)) (judgement-Or cs)
 
   -- the exits of a loop over the items
-  pub all_ended : (c : Cond) (v : Vec Cond Global) (cs : List Cond) (i : ℕ) (all : Option Bool) → c ≡ And v → cs ≡ v.items → length cs ≤ i → and_both all (judged_all s (drop i cs)) ≡ judged_all s cs → all ≡ judgement s c
-  all_ended c v cs i all e f l h = sym (and_true all) ∙ (ap (λ ds. and_both all (judged_all s ds)) (sym (drop_of_length-le cs l)) ∙ (h ∙ (ap (judged_all s) f ∙ (sym (judgement-And v) ∙ ap (judgement s) (sym e)))))
+  pub all_ended : (c : Cond) (v : Vec Cond Global) (cs : List Cond) (i : ℕ) (all : Finding) → c ≡ And v → cs ≡ v.items → length cs ≤ i → of_both all (of_all s (drop i cs)) ≡ of_all s cs → all ≡ of_condition s c
+  all_ended c v cs i all e f l h = sym (both_holds all) ∙ (ap (λ ds. of_both all (of_all s ds)) (sym (drop_of_length-le cs l)) ∙ (h ∙ (ap (of_all s) f ∙ (sym (finding-And v) ∙ ap (of_condition s) (sym e)))))
 
-  pub any_ended : (c : Cond) (v : Vec Cond Global) (cs : List Cond) (i : ℕ) (any : Option Bool) → c ≡ Or v → cs ≡ v.items → length cs ≤ i → or_both any (judged_any s (drop i cs)) ≡ judged_any s cs → any ≡ judgement s c
-  any_ended c v cs i any e f l h = sym (or_false any) ∙ (ap (λ ds. or_both any (judged_any s ds)) (sym (drop_of_length-le cs l)) ∙ (h ∙ (ap (judged_any s) f ∙ (sym (judgement-Or v) ∙ ap (judgement s) (sym e)))))
-
-  module _ (c : Cond) (v : Vec Cond Global) (cs : List Cond) (i : ℕ) (is : all_small s c ≡ each_small s v.items) (f : cs ≡ v.items) (h : each_small s (drop i cs) ≡ each_small s cs) where
-    pub small_ended : length cs ≤ i → all_small s c ≡ true
-    small_ended l = is ∙ (ap (each_small s) (sym f) ∙ (sym h ∙ ap (each_small s) (drop_of_length-le cs l)))
-
-    pub small_failed : (x : Cond) → i < length cs → x ≡ get_or cs i x → all_small s x ≡ false → all_small s c ≡ false
-    small_failed x l e n = is ∙ (ap (each_small s) (sym f) ∙ (sym h ∙ (ap (each_small s) (drop-cons cs i x l) ∙ ap (λ b. b && each_small s (drop (suc i) cs)) (sym (ap (all_small s) e) ∙ n))))
-
-  pub small_of_And : (c : Cond) (v : Vec Cond Global) → c ≡ And v → all_small s c ≡ each_small s v.items
-  small_of_And c v e = ap (all_small s) e ∙ all_small-And v
-
-  pub small_of_Or : (c : Cond) (v : Vec Cond Global) → c ≡ Or v → all_small s c ≡ each_small s v.items
-  small_of_Or c v e = ap (all_small s) e ∙ all_small-Or v
+  pub any_ended : (c : Cond) (v : Vec Cond Global) (cs : List Cond) (i : ℕ) (any : Finding) → c ≡ Or v → cs ≡ v.items → length cs ≤ i → of_either any (of_any s (drop i cs)) ≡ of_any s cs → any ≡ of_condition s c
+  any_ended c v cs i any e f l h = sym (either_fails any) ∙ (ap (λ ds. of_either any (of_any s ds)) (sym (drop_of_length-le cs l)) ∙ (h ∙ (ap (of_any s) f ∙ (sym (finding-Or v) ∙ ap (of_condition s) (sym e)))))

@@ -29,12 +29,16 @@ pub(crate) fn push_atoms(cond: &Cond, into: &mut Vec<u32>) -> Result<(), AllocEr
     }
 }
 
+// Most parts are atoms, which cost no call.
 #[cycle(push_atoms)]
 fn push_atoms_of_each(conds: &[Cond], into: &mut Vec<u32>) -> Result<(), AllocError>
     ensures { OnOk result (into.new.items ≡ into.old.items ++ flat_map atoms_in conds.now) }
 {
     for c in conds {
-        push_atoms(c, into)?;
+        match c {
+            Cond::Atom(a) => into.push(*a)?,
+            _ => push_atoms(c, into)?,
+        }
     }
     Ok(())
 }
@@ -76,12 +80,15 @@ fn push_fluents_in(cond: &Cond, into: &mut Vec<u32>) -> Result<(), AllocError>
     }
 }
 
+// Most parts are atoms, in which nothing is looked for.
 #[cycle(push_fluents_in)]
 fn push_fluents_in_each(conds: &[Cond], into: &mut Vec<u32>) -> Result<(), AllocError>
     ensures { OnOk result (into.new.items ≡ into.old.items ++ flat_map fluents_in conds.now) }
 {
     for c in conds {
-        push_fluents_in(c, into)?;
+        if !matches!(c, Cond::Atom(_)) {
+            push_fluents_in(c, into)?;
+        }
     }
     Ok(())
 }
