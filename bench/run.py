@@ -595,6 +595,21 @@ def quantified(program):
     judged(program, "a forall over 400^10 bindings", domain, problem.replace("#", "o0 o0 o0").replace("?c)", "?c ?d ?e ?f ?g ?h ?i ?j)"), "")
 
 
+def under_each_action(program):
+    """Actions of two parameters each, above something that is written out anew for each of them."""
+    head = "(define (domain d) (:types s t) (:predicates (p ?x - s) (q ?x ?y ?z) (r)) (:action a :parameters (?x ?y - s) :precondition # :effect (r)))"
+
+    def problem(objects, last):
+        return f"(define (problem q) (:domain d) (:objects {each('o#', objects)} - s {last} - t) (:init (p o0) (q o0 o1 {last})) (:goal (r)))"
+
+    nested = functools.reduce(lambda inner, k: f"(forall (?v{k} - t) {inner})", range(50), "(q ?x ?y ?v0)")
+    judged(program, "65,025 actions above 50 foralls of their parameters", head.replace("#", nested), problem(255, "z"), "0: (a o0 o1)\n")
+    named = f"(forall (?z - t) (and {'(q ?x ?y ?z) ' * 20}))"
+    judged(program, "65,025 actions, 20 atoms each of a name of 20,000 letters", head.replace("#", named), problem(255, "z" * 20_000), "0: (a o0 o1)\n")
+    parts = f"(and {'(p ?x) ' * 1_000})"
+    judged(program, "10,000 actions of 1,000 atoms each", head.replace("#", parts), problem(100, "z"), "0: (a o0 o1)\n")
+
+
 def typed_objects(program):
     """Parameters of many types beside many objects."""
     action = f"(:action a :parameters ({each('?v# - t#', 20_000)}) :precondition () :effect ())"
@@ -897,6 +912,7 @@ def main():
         reads(program)
         worst_reads(program)
         quantified(program)
+        under_each_action(program)
         typed_objects(program)
     if "--network" in groups:
         network(program)
