@@ -604,6 +604,9 @@ def under_each_action(program):
 
     nested = functools.reduce(lambda inner, k: f"(forall (?v{k} - t) {inner})", range(50), "(q ?x ?y ?v0)")
     judged(program, "65,025 actions above 50 foralls of their parameters", head.replace("#", nested), problem(255, "z"), "0: (a o0 o1)\n")
+    kinds = " ".join(f"t{k}" for k in range(300))
+    under_long = f"(forall (?z - (either {kinds})) (exists (?w - s) (p ?w)))"
+    judged(program, "65,025 actions above an exists below a forall of 300 types", head.replace(":types s t", f":types s {kinds} - object t - t0").replace("#", under_long), problem(255, "z"), "0: (a o0 o1)\n")
     named = f"(forall (?z - t) (and {'(q ?x ?y ?z) ' * 20}))"
     judged(program, "65,025 actions, 20 atoms each of a name of 20,000 letters", head.replace("#", named), problem(255, "z" * 20_000), "0: (a o0 o1)\n")
     parts = f"(and {'(p ?x) ' * 1_000})"
