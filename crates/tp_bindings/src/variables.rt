@@ -15,7 +15,7 @@ use tp_types::own_places::own_places;
 // Up to so many variables are walked over as fast as a table would be asked.
 const FEW: usize = 16;
 
-/// Variables with a table of their names, unless they are few.
+/// Variables, with a table of their names unless they are few or stand over something brief.
 #[derive(Drop)]
 pub struct Variables<'v> {
     items: &'v TypedList,
@@ -76,7 +76,8 @@ pub fn are_few(items: &TypedList) -> bool {
 }
 
 impl<'v> Variables<'v> {
-    /// Variables in their order. No table of them is made if they stand over something brief, in which few are looked for.
+    /// Variables in their order. No table of them is made if they are few, or if they stand over something brief, in which few are
+    /// looked for.
     pub fn over(alloc: Global, items: &'v TypedList, brief: bool) -> Result<Self, AllocError>
         ensures { IfOk result (λ v. v ≡ items.now.items) }
     {

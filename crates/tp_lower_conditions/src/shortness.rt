@@ -1,5 +1,6 @@
 //! How long conditions are. Looked for among those that were written out before are quantifiers' that are short, so that a
-//! long one which is written out to little costs no walk through it.
+//! long one which is written out to little costs no walk through it; but not one that alone stands under another of at most one
+//! binding, where that one is found again and the inner one with it.
 
 use tp_ast::cond::Cond;
 use tp_ast::expr::Expr;
