@@ -592,6 +592,12 @@ def quantified(program):
     met = "(define (problem q) (:domain d) (:objects o0 o1) (:init (r) (q o0) (q o1)) (:goal (r)))"
     steps = "".join(f"{tick}: (a)\n" for tick in range(512))
     judged(program, "16 foralls in one another, asked by 512 steps a tick apart", asked, met, steps)
+    plain = functools.reduce(lambda inner, k: f"(forall (?v{k}) {inner})", range(22), "(r)")
+    judged(program, "22 above one atom, asked by 512 steps a tick apart", asked.replace(deep, plain), met, steps)
+    pairs = "(forall (?x ?y ?z) (or (q ?x ?y) (q ?y ?z)))"
+    many = f"(define (domain d) (:predicates (q ?x ?y) (r)) (:action a :parameters () :precondition {pairs} :effect (r)))"
+    all_pairs = " ".join(f"(q o{i} o{j})" for i in range(40) for j in range(40))
+    judged(program, "64,000 disjunctions that differ, asked by 512 steps", many, f"(define (problem q) (:domain d) (:objects {each('o#', 40)}) (:init {all_pairs}) (:goal ()))", steps)
     judged(program, "a forall over 400^10 bindings", domain, problem.replace("#", "o0 o0 o0").replace("?c)", "?c ?d ?e ?f ?g ?h ?i ?j)"), "")
 
 

@@ -1,4 +1,6 @@
 pub mod Rows
+pub mod OnJoined
+pub mod OnBriefs
 pub mod Meets
 pub mod Pairs
 pub mod NoFault

@@ -2,6 +2,7 @@ pub mod Small
 pub mod Clashes
 pub mod Stored
 pub mod Judged
+pub mod Briefs
 pub mod Bounded
 pub mod Terms
 pub mod Fault

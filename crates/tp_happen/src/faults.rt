@@ -9,6 +9,7 @@ ghost use Rattle.tp_happen.specs.Stored.{state_of};
 ghost use Rattle.tp_happen.specs.Small.{values_small};
 ghost use Rattle.tp_happen.specs.Terms.{terms_small, condition_small};
 ghost use Rattle.tp_happen.specs.Fault.{first_pair};
+ghost use Rattle.tp_happen.specs.Briefs.{AreMet};
 
 use crate::interfere::interfere;
 use crate::{EventRef, Range, State, holds, value};
@@ -127,8 +128,13 @@ pub(crate) fn first_undefined(
     Ok(None)
 }
 
-/// The first event whose condition does not hold.
-pub(crate) fn first_unmet(state: &State, events: &[EventRef<'_>]) -> Result<Option<usize>, Range>
+/// The first event whose condition does not hold, where it may have been seen before that there is none.
+pub(crate) fn first_unmet(
+    state: &State,
+    events: &[EventRef<'_>],
+    are_met: bool,
+) -> Result<Option<usize>, Range>
+    requires { are_met ≡ true → AreMet (state_of state.now) events.now }
     ensures ok { IfOk result (λ r. r ≡ position_from
         (λ t. not (spec.holds (state_of state.now) t.event.condition)) 0 events.now) }
     ensures small { IfOk result
@@ -136,6 +142,9 @@ pub(crate) fn first_unmet(state: &State, events: &[EventRef<'_>]) -> Result<Opti
     ensures err { OnErr result
         (list_all (condition_small (state_of state.now)) events.now ≡ false) }
 {
+    if are_met {
+        return Ok(None);
+    }
     for (i, event) in events.iter().enumerate() {
         if !holds(state, &event.body().condition)? {
             return Ok(Some(i));

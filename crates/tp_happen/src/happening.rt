@@ -8,6 +8,7 @@ ghost use Rattle.tp_task.specs.Event.{mixes};
 ghost use Rattle.tp_happen.specs.Stored.{state_of, fits_in, OfOneTask};
 ghost use Rattle.tp_happen.specs.Bounded.{effects_small, all_sums_small, StaysSmall, Passes};
 ghost use Rattle.tp_happen.specs.Fault.{Applies, OnNext, OnRange};
+ghost use Rattle.tp_happen.specs.Briefs.{AreMet};
 
 use crate::clashes::first_clash;
 use crate::faults::{Outcome, Why, first_undefined, first_unmet};
@@ -133,10 +134,30 @@ pub fn apply(alloc: Global, state: &State, events: &[EventRef<'_>]) -> Result<Ou
     ensures range { IfErr result
         (λ e. OnRange e (Passes state.now.scale (state_of state.now) events.now)) }
 {
+    apply_seen(alloc, state, events, false)
+}
+
+/// The same, where it may have been seen before that the conditions of all these events hold: their conditions are not gone
+/// through then, but for whether two events interfere.
+pub fn apply_seen(
+    alloc: Global,
+    state: &State,
+    events: &[EventRef<'_>],
+    are_met: bool,
+) -> Result<Outcome, ApplyFault>
+    requires fits { list_all (fits_in state.now) events.now ≡ true }
+    requires met { are_met ≡ true → AreMet (state_of state.now) events.now }
+    ensures ok { IfOk result (Applies state.now events.now) }
+    ensures task { IfOk result (λ o. OnNext o (OfOneTask state.now)) }
+    ensures small { IfOk result
+        (λ o. OnNext o (λ _. StaysSmall state.now.scale (state_of state.now) events.now)) }
+    ensures range { IfErr result
+        (λ e. OnRange e (Passes state.now.scale (state_of state.now) events.now)) }
+{
     if let Some(i) = first_undefined(state, events)? {
         return Ok(Outcome::Fails(i, Why::Undefined));
     }
-    if let Some(i) = first_unmet(state, events)? {
+    if let Some(i) = first_unmet(state, events, are_met)? {
         return Ok(Outcome::Fails(i, Why::Condition));
     }
     if let Some(i) = first_clash(alloc, events, state.numbers.len())? {

@@ -3,6 +3,7 @@
 //! - `states`: a state, as the truth of atoms and the numbers of fluents
 //! - `values`: what an expression is worth in a state
 //! - `conditions`: whether a condition holds
+//! - `briefs`: the same of a condition in which each part stands once
 //! - `events`, `lending`: events, and how a task lends them
 //! - `interfere`: when two events interfere
 //! - `faults`, `clashes`: the first fault of a happening
@@ -13,6 +14,7 @@
 //! Offers plans and their texts (`tp_plan_texts`) again.
 #![tactic(auto)]
 
+mod briefs;
 mod clashes;
 mod conditions;
 mod events;
@@ -26,10 +28,11 @@ mod states;
 mod values;
 mod writes;
 
+pub use briefs::{Brief, is_long};
 pub use conditions::holds;
 pub use events::{Event, EventRef, Part};
 pub use faults::{Outcome, Why, constraint_defined};
-pub use happening::{ApplyFault, apply};
+pub use happening::{ApplyFault, apply, apply_seen};
 pub use interfere::{interferes, uses_duration};
 pub use lending::event;
 pub use meetings::Meeting;

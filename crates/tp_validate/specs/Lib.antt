@@ -1,4 +1,6 @@
 pub mod OfTask
+pub mod InBrief
+pub mod Prepared
 pub mod Places
 pub mod Agenda
 pub mod Tick

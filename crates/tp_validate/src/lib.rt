@@ -1,6 +1,7 @@
 //! The validator: whether a plan is valid for a task, and its first fault where it is not.
 //!
 //! - `placing`: the steps of a plan with what their actions do, and their events
+//! - `briefs`, `prepared`: the actions whose long conditions are kept in brief
 //! - `agenda`: the events in the order of their moments, tick after tick
 //! - `durations`: whether a step's duration is lawful
 //! - `rosters`: the steps in the order of their starts
@@ -11,10 +12,12 @@
 #![tactic(auto)]
 
 mod agenda;
+mod briefs;
 mod changes;
 mod durations;
 mod mentions;
 mod placing;
+mod prepared;
 mod rosters;
 mod ticks;
 mod verdicts;

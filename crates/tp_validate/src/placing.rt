@@ -1,14 +1,20 @@
 //! The steps of a plan with what their actions do, and their events in order.
 
-ghost use Rattle.std.specs.Prelude.{◌≡◌, ℕ, ◌+◌, ◌*◌, ◌<◌, ◌≤◌, ◌++◌, true, nat_le, length, map, option_map, slice_get, slice_index_or, IfOk, OnOk};
+ghost use Rattle.std.specs.Prelude.{◌≡◌, ℕ, ◌+◌, ◌*◌, ◌<◌, ◌≤◌, ◌++◌, true, nat_le, length, map, option_map, slice_get, slice_index_or, IfOk, OnOk, IfSome};
 ghost use Rattle.std.specs.List.{list_all};
 ghost use Rattle.tp_task.specs.Valid.{events, events_of, count_of};
+ghost use Rattle.tp_happen.specs.Briefs.{IsMet, AreMet};
+ghost use Rattle.tp_happen.specs.Stored.{state_of};
 ghost use Rattle.tp_validate.specs.OfTask.{plan_of, step_of};
 ghost use Rattle.tp_validate.specs.Places.{numbers};
+ghost use Rattle.tp_validate.specs.InBrief.{first_condition, last_condition, OfInvariant};
+ghost use Rattle.tp_validate.specs.Prepared.{ArePrepared};
 
+use crate::briefs::Briefs;
+use crate::prepared::{Prepared, briefs_among};
 use std::alloc::{AllocError, Global};
 use std::marker::Model;
-use tp_happen::{Event, EventRef, Step};
+use tp_happen::{Brief, Event, EventRef, State, Step, holds};
 use tp_task::{Body, GroundEvent, Task};
 
 /// A step of a plan with what its action does.
@@ -17,6 +23,8 @@ pub struct PlannedStep<'t> {
     pub tick: u32,
     pub duration: u32,
     pub body: &'t Body,
+    /// Its conditions in brief, if they are prepared.
+    briefs: Option<&'t Briefs<'t>>,
 }
 
 impl<'t> Model for PlannedStep<'t> {
@@ -29,6 +37,10 @@ impl<'t> Model for PlannedStep<'t> {
     ghost coded = { Prim.hlevel (codes, ground_body.the_row.coded) };
 
     ghost view = { λ s. record { moment = s.tick; duration = s.duration; body = s.body.now } };
+
+    ghost use Rattle.std.specs.Prelude.{◌≡◌, IfSome};
+
+    ghost invariant = { λ s. IfSome s.briefs (λ b. b.now ≡ s.body.now) };
 }
 
 impl<'t> PlannedStep<'t> {
@@ -37,6 +49,36 @@ impl<'t> PlannedStep<'t> {
         ensures { result ≡ self.now.moment }
     {
         self.tick
+    }
+
+    /// Whether it is seen in brief that its invariant holds.
+    pub fn is_kept(&self, state: &State) -> bool
+        ensures { result ≡ true → OfInvariant self.now.body (IsMet (state_of state.now)) }
+    {
+        match self.briefs {
+            Some(briefs) => briefs.is_kept(state),
+            None => false,
+        }
+    }
+
+    // The condition of its first event, or of its only one, in brief.
+    fn first_brief(&self) -> Option<&'t Brief<'t>>
+        ensures { IfSome result (λ b. b.now ≡ first_condition self.now.body) }
+    {
+        match self.briefs {
+            Some(briefs) => briefs.first(),
+            None => None,
+        }
+    }
+
+    // The condition of its end in brief.
+    fn last_brief(&self) -> Option<&'t Brief<'t>>
+        ensures { IfSome result (λ b. b.now ≡ last_condition self.now.body) }
+    {
+        match self.briefs {
+            Some(briefs) => briefs.last(),
+            None => None,
+        }
     }
 }
 
@@ -49,6 +91,8 @@ pub struct PlacedEvent<'t> {
     moment: u32,
     event: &'t GroundEvent,
     ticks: u32,
+    // Its condition in brief, if that is kept so.
+    brief: Option<&'t Brief<'t>>,
 }
 
 impl<'t> Model for PlacedEvent<'t> {
@@ -67,6 +111,10 @@ impl<'t> Model for PlacedEvent<'t> {
       moment = e.moment;
       timed = record { event = e.event.now; ticks = e.ticks };
     } };
+
+    ghost use Rattle.std.specs.Prelude.{◌≡◌, IfSome};
+
+    ghost invariant = { λ e. IfSome e.brief (λ b. b.now ≡ e.event.now.condition) };
 }
 
 impl<'t> PlacedEvent<'t> {
@@ -102,20 +150,82 @@ impl<'t> PlacedEvent<'t> {
             moment: self.moment,
             event: self.event,
             ticks: self.ticks,
+            brief: self.brief,
+        }
+    }
+
+    // Whether it is seen that its condition holds.
+    fn is_met(&self, state: &State) -> bool
+        ensures { result ≡ true → IsMet (state_of state.now) self.now.timed.event.condition }
+    {
+        match self.brief {
+            Some(brief) => brief.is_met(state),
+            None => matches!(holds(state, &self.event.condition), Ok(true)),
         }
     }
 }
 
+// Whether the condition of one of these events is kept in brief.
+fn is_one_in_brief(events: &[PlacedEvent<'_>]) -> bool {
+    for event in events {
+        if event.brief.is_some() {
+            return true;
+        }
+    }
+    false
+}
+
+/// Whether it is seen that the conditions of all these events hold, which is looked for if one of them is kept in brief.
+pub fn are_met(state: &State, events: &[PlacedEvent<'_>]) -> bool
+    ensures { result ≡ true → AreMet (state_of state.now) (map (λ e. e.timed) events.now) }
+{
+    if !is_one_in_brief(events) {
+        return false;
+    }
+    for event in events {
+        if !event.is_met(state) {
+            return false;
+        }
+    }
+    true
+}
+
 // A step with what its action does.
-fn planned_step<'t>(task: &'t Task, step: Step) -> Option<PlannedStep<'t>>
+fn planned_step<'t>(
+    task: &'t Task,
+    step: Step,
+    prepared: &'t [Prepared<'t>],
+) -> Option<PlannedStep<'t>>
+    requires { ArePrepared task.now.actions.items prepared.now }
     ensures { result ≡ option_map (step_of step) (slice_get task.now.actions.items step.action.0) }
 {
     let body = task.actions.get(step.action.0 as usize)?;
+    let briefs = briefs_among(prepared, step.action);
     Some(PlannedStep {
         tick: step.tick,
         duration: step.duration,
         body,
+        briefs,
     })
+}
+
+/// The steps of a plan with what their actions do, and with the conditions of these in brief, where they are prepared.
+pub fn steps_in_brief<'t>(
+    alloc: Global,
+    task: &'t Task,
+    steps: &[Step],
+    prepared: &'t [Prepared<'t>],
+) -> Result<Vec<PlannedStep<'t>>, AllocError>
+    requires { ArePrepared task.now.actions.items prepared.now }
+    ensures { IfOk result (λ v. v.items ≡ plan_of task.now steps.now) }
+{
+    let mut planned = Vec::new(alloc);
+    for step in steps {
+        if let Some(with_body) = planned_step(task, *step, prepared) {
+            planned.push(with_body)?;
+        }
+    }
+    Ok(planned)
 }
 
 /// The steps of a plan with what their actions do.
@@ -126,13 +236,7 @@ pub fn planned_steps<'t>(
 ) -> Result<Vec<PlannedStep<'t>>, AllocError>
     ensures { IfOk result (λ v. v.items ≡ plan_of task.now steps.now) }
 {
-    let mut planned = Vec::new(alloc);
-    for step in steps {
-        if let Some(with_body) = planned_step(task, *step) {
-            planned.push(with_body)?;
-        }
-    }
-    Ok(planned)
+    steps_in_brief(alloc, task, steps, &[])
 }
 
 // The events of a step, numbered from `next`, and the number after them.
@@ -159,6 +263,7 @@ fn place<'t>(
                 moment: tick,
                 event: only,
                 ticks: 0,
+                brief: step.first_brief(),
             })?;
             Ok(next + 1)
         }
@@ -171,6 +276,7 @@ fn place<'t>(
                 moment: tick,
                 event: start,
                 ticks,
+                brief: step.first_brief(),
             })?;
             events.push(PlacedEvent {
                 number: last,
@@ -179,6 +285,7 @@ fn place<'t>(
                 moment: tick + ticks,
                 event: end,
                 ticks,
+                brief: step.last_brief(),
             })?;
             Ok(next + 2)
         }

@@ -16,9 +16,9 @@ ghost use Rattle.tp_validate.specs.Found.{told, IsFound};
 
 use crate::durations::first_unlawful;
 use crate::mentions::{Mentions, touched_by};
-use crate::placing::{PlacedEvent, PlannedStep, event_refs, number_at};
+use crate::placing::{PlacedEvent, PlannedStep, are_met, event_refs, number_at};
 use std::alloc::Global;
-use tp_happen::{ApplyFault, Outcome, Range, State, Why, apply, holds};
+use tp_happen::{ApplyFault, Outcome, Range, State, Why, apply_seen, holds};
 use tp_number_sets::NumberSet;
 use tp_task::Body;
 
@@ -67,6 +67,9 @@ fn is_broken(after: &State, step: &PlannedStep<'_>, moment: u32) -> Result<bool,
         Body::Instant(_) => Ok(false),
         Body::Durative(_, _, invariant) => {
             if moment < tick || duration <= moment - tick {
+                return Ok(false);
+            }
+            if step.is_kept(after) {
                 return Ok(false);
             }
             Ok(!holds(after, invariant)?)
@@ -177,7 +180,8 @@ pub fn judge_tick(
         return Ok(Judged::Faulty(Fault::Duration(step as u16)));
     }
     let happening = event_refs(alloc, there)?;
-    match apply(alloc, state, &happening)? {
+    let are_met = are_met(state, there);
+    match apply_seen(alloc, state, &happening, are_met)? {
         Outcome::Fails(place, why) => Ok(Judged::Faulty(named(there, place, why))),
         Outcome::Next(next) => match broken_after(
             alloc, state, &next, steps, mentions, there, moment,

@@ -11,12 +11,14 @@ ghost use Rattle.tp_validate.specs.OfTask.{IsOfTask, plan_of, IsValidPlan};
 ghost use Rattle.tp_validate.specs.Verdict.{IsSound, PassesIn};
 ghost use Rattle.tp_validate.specs.Agenda.{IsAgenda, IsRoster};
 ghost use Rattle.tp_validate.specs.Touched.{HasMentions};
+ghost use Rattle.tp_validate.specs.Prepared.{ArePrepared};
 ghost use Rattle.tp_validate.specs.Reached.{IsRan, PassesBy};
 ghost use Rattle.tp_validate.specs.Answers.{IsFirst, IsVerdict, IsFault};
 
 use crate::agenda::{agenda_of, next_tick};
 use crate::mentions::{Mentions, mentions_of};
-use crate::placing::{PlacedEvent, PlannedStep, placed_events, planned_steps};
+use crate::placing::{PlacedEvent, PlannedStep, placed_events, planned_steps, steps_in_brief};
+use crate::prepared::{Prepared, prepared_for};
 use crate::rosters::{count_started, roster_of};
 use crate::ticks::{Fault, Judged, judge_tick};
 use std::alloc::{AllocError, Global};
@@ -176,15 +178,31 @@ fn carry_out_steps(
     run(alloc, task, planned, &roster, &agenda, mentions)
 }
 
+// Carries out a plan, some of whose actions are prepared.
+fn carry_out_prepared(
+    alloc: Global,
+    task: &Task,
+    steps: &[Step],
+    prepared: &[Prepared<'_>],
+) -> Result<Ran, ApplyFault>
+    requires plan { IsPlan steps.now }
+    requires prepared { ArePrepared task.now.actions.items prepared.now }
+    ensures ran { IfOk result (IsRan task.now (plan_of task.now steps.now)) }
+    ensures range { IfErr result (λ e. OnRange e (PassesBy task.now (plan_of task.now steps.now))) }
+{
+    let planned = steps_in_brief(alloc, task, steps, prepared)?;
+    let mentions = mentions_of(alloc, &planned)?;
+    carry_out_steps(alloc, task, steps, &planned, &mentions)
+}
+
 // Carries out a plan, up to its first fault or to its last event.
 fn carry_out(alloc: Global, task: &Task, steps: &[Step]) -> Result<Ran, ApplyFault>
     requires { IsPlan steps.now }
     ensures ran { IfOk result (IsRan task.now (plan_of task.now steps.now)) }
     ensures range { IfErr result (λ e. OnRange e (PassesBy task.now (plan_of task.now steps.now))) }
 {
-    let planned = planned_steps(alloc, task, steps)?;
-    let mentions = mentions_of(alloc, &planned)?;
-    carry_out_steps(alloc, task, steps, &planned, &mentions)
+    let prepared = prepared_for(alloc, task, steps)?;
+    carry_out_prepared(alloc, task, steps, &prepared)
 }
 
 // The tick of the first fault and why, None for a plan that has none.

@@ -9,7 +9,7 @@ use Rattle.tp_happen.specs.Fault.{OnRange}
 use Rattle.tp_happen.proofs.Limits.{terms_pass, conditions_pass, passes_from_writes, all_expressions}
 use Rattle.tp_happen.proofs.Answered.{on_range, on_range_weaker, if_none}
 use Rattle.tp_happen.proofs.NoFault.{none_passes, each_passes, no_pair}
-use Rattle.tp_happen.proofs.happening.apply.Goals as goal
+use Rattle.tp_happen.proofs.happening.apply_seen.Goals as goal
 
 pub next-requires-clause-apart : goal.next-requires-clause-apart
 next-requires-clause-apart c = no_pair 0 c.args.events.now (sym c.in_default-4.is ∙ c.in_ok-i-4.ensures)

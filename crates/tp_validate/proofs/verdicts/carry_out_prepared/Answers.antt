@@ -1,7 +1,7 @@
 use Rattle.std.proofs.Common.{List, length, sym, ◌∙◌, subst}
 use Rattle.tp_task.specs.Valid.{Planned}
 use Rattle.tp_validate.specs.Touched.{HasMentions}
-use Rattle.tp_validate.proofs.verdicts.carry_out.Goals as goal
+use Rattle.tp_validate.proofs.verdicts.carry_out_prepared.Goals as goal
 
 pub carry_out_steps-requires-clause-planned : goal.carry_out_steps-requires-clause-planned
 carry_out_steps-requires-clause-planned c = c.deref-2.ensures.value ∙ c.in_ok-planned.ensures

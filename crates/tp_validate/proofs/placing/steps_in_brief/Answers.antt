@@ -2,8 +2,8 @@ use Rattle.std.proofs.Common.{◌+◌, ◌++◌, drop, Vec, Global, sym, ap, ◌
 use Rattle.tp_task.specs.Valid.{Planned}
 use Rattle.tp_validate.specs.OfTask.{planned}
 use Rattle.tp_validate.proofs.AtPlace.{with_one, with_none}
-use Rattle.tp_validate.proofs.placing.planned_steps.Goals as goal
-use Rattle.tp_validate.proofs.placing.planned_steps.Goals.{in-Some+in_ok-push, in_default}
+use Rattle.tp_validate.proofs.placing.steps_in_brief.Goals as goal
+use Rattle.tp_validate.proofs.placing.steps_in_brief.Goals.{in-Some+in_ok-push, in_default}
 
 pub loop-step-preserved : goal.loop-step-preserved
 loop-step-preserved c =
