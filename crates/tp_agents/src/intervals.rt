@@ -97,8 +97,8 @@ fn interval(
     Some((low as u32, high as u32))
 }
 
-/// The intervals of events, of which the least schedule that remains has these moments. It goes over the cross bounds three
-/// times for each event.
+/// The intervals of events, of which the least schedule that remains has these moments. It goes over the cross bounds at
+/// most three times for each event.
 pub(crate) fn intervals(
     alloc: Global,
     horizon: u32,

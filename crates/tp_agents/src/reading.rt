@@ -55,7 +55,7 @@ fn other_word(before: usize) -> SplitFault
 }
 
 /// The agents of events, by event: whole numbers of one to four digits between blanks, which are those of planning texts. It
-/// reads each byte once.
+/// goes over the text once.
 ///
 /// # Errors
 /// `Owner` of the first word that is no such number, counted from 0; `Memory`.

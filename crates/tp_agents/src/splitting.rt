@@ -42,7 +42,8 @@ fn split_by(
 /// without a word to the others: each event that has a bound with an event of another agent gets an interval, which its
 /// agent keeps.
 ///
-/// It costs one `add` of a network for each bound in force, and three passes over the bounds between agents for each event.
+/// It costs one `add` of a network for each bound in force, and at most three passes over the bounds between agents for each
+/// event.
 ///
 /// # Errors
 /// `Owner` of the first event that has no agent, or one whose number is over 1,023, or that there is not; then `Conflict`

@@ -45,14 +45,14 @@ pub enum SyntaxFault {
     /// The text is no tree.
     #[error("the text is not one list")]
     Text(TextFault),
-    /// The list there has the wrong signature.
-    #[error("the list at {0} has the wrong signature")]
+    /// The list there has the wrong form.
+    #[error("the list at {0} has the wrong form")]
     Shape(u32),
     /// The name there is not declared.
     #[error("the name at {0} is not declared")]
     Unknown(u32),
-    /// The name there was declared before.
-    #[error("the name at {0} is declared twice")]
+    /// What stands there may stand once, and stands a second time.
+    #[error("what stands at {0} may stand only once")]
     Twice(u32),
     /// What stands there is of the wrong types, or the types lead round in a cycle.
     #[error("the types at {0} do not fit")]

@@ -1,6 +1,6 @@
 //! The syntax tree of domains and problems; specs/ has the grammar of the texts that spell them.
 //!
-//! - `words`: the words that signatures begin with
+//! - `words`: the words that forms begin with
 //! - `marks`: items that are as the ones before them
 //! - `term`, `types`, `symbols`: terms and atoms; types; what a domain declares
 //! - `typed_list`, `type_list`: items with their types, and types, with what those share that were given together

@@ -43,7 +43,9 @@ fn journaled<N: Logs, I: Source + Drop, O: Sink>(
 
 /// Answers the commands of the input, and writes their journal to the file of a name: the head, and then for each line that has an
 /// answer its pair, which is in the file before the answer goes out. Answers the exit status, and for another than 0 writes one fault
-/// line. It costs what the commands cost, and writes each answer twice; a pair is some ten writes of the file.
+/// line. It costs what the commands cost, and writes each answer twice. A pair is four writes of the file; a report and a
+/// conflict take one more for each moment or edge and one for the line's end, and the pair of a line that is no command is one
+/// write.
 pub fn run_bare_journal<N: Logs, I: Source + Drop, O: Sink, F: Sink>(
     alloc: Global,
     files: &mut N,

@@ -7,10 +7,10 @@ use std::cell::Cell;
 // For so many bindings no room is asked for.
 const FEW: usize = 65_535;
 
-// For each binding behind these in one goal or body, so many bytes are asked for, and given back.
+// For each binding behind these in one goal or body, so many bytes to half as many again are asked for, and given back.
 const ROOM: usize = 1_024;
 
-// For each binding behind these in all of the task, so many.
+// The same for each binding behind these in all of the task, if that is more.
 const LEAST_ROOM: usize = 8;
 
 // So many bindings of one quantifier are counted one by one: so many that too many atoms were named by then, if each names its own.
@@ -60,7 +60,7 @@ impl Extent {
         self.within.get()
     }
 
-    // How many bytes are to be asked for.
+    // How many bytes are to be asked for at least.
     fn room(&self) -> usize {
         let within = self.within.get().saturating_sub(FEW).saturating_mul(ROOM);
         let all = self
@@ -88,8 +88,8 @@ impl Extent {
         Ok(())
     }
 
-    /// Counts some more. Where there are many, their room is asked for and given back, so that many more than memory holds are
-    /// refused before they are gone through.
+    /// Counts some more. Where there are many, their room and half as much again is asked for and given back, unless that much
+    /// was before, so that many more than memory holds are refused before they are gone through.
     pub fn count(&self, alloc: Global, more: usize) -> Result<(), AllocError> {
         self.within.set(self.within.get().saturating_add(more));
         self.all.set(self.all.get().saturating_add(more));
@@ -102,8 +102,8 @@ impl Extent {
         Ok(())
     }
 
-    /// Asks for the room of something that takes so many bytes at least under each of so many bindings, if it is much, and
-    /// gives it back, so that what memory can't hold is refused before it is written out.
+    /// Asks for the room, and half as much again, of something that takes so many bytes at least under each of so many
+    /// bindings, if it is much, and gives it back, so that what memory can't hold is refused before it is written out.
     pub fn ask(&self, alloc: Global, bindings: usize, bytes: usize) -> Result<(), AllocError> {
         let room = bindings.saturating_mul(bytes);
         if room <= FEW_BYTES {

@@ -78,7 +78,7 @@ fn ends_run(may_end: bool, tree: &Tree) -> bool
     may_end && is_dash(tree)
 }
 
-// Forms, of which runs may end in `- number`.
+// Signatures, of which runs may end in `- number`.
 fn numeric_signatures(
     alloc: Global,
     types: &Types,
@@ -110,7 +110,7 @@ fn numeric_signatures(
     Ok(signatures)
 }
 
-// Where the signature of a number has its name.
+// Where the name of a signature stands, by its number.
 fn name_place(trees: &[Tree], number: usize, at: u32) -> u32 {
     let mut left = number;
     for tree in trees {
@@ -124,7 +124,7 @@ fn name_place(trees: &[Tree], number: usize, at: u32) -> u32 {
     at
 }
 
-// Forms that were read from these trees, each named once.
+// Signatures that were read from these trees, each named once.
 fn named_once(
     alloc: Global,
     signatures: Vec<Signature>,

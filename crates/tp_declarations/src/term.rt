@@ -1,4 +1,4 @@
-//! Names, terms and atoms.
+//! Names, variables and terms.
 
 ghost use Rattle.std.specs.Prelude.{◌≡◌, string_bytes, map, IfOk};
 ghost use Rattle.std.specs.List.{list_all};

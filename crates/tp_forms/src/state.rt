@@ -220,7 +220,7 @@ impl SearchState {
         }
     }
 
-    /// The words of the first atoms.
+    /// So many words, those of the first atoms.
     pub fn words(&self, count: u32) -> &[u64] {
         part(&self.words, Span { at: 0, count })
     }

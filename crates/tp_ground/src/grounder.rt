@@ -337,11 +337,11 @@ fn within<'a>(
 /// which `:init`, the goal and the ground actions mention them. Takes time and memory in what is written out: a step for each
 /// variable of each binding and for each part of what stands under it; a quantifier asks for the room of all its bindings
 /// before the first is written out, and is mostly written out once for all places where its terms stand for the same objects.
-/// The room that bodies take at least, by their parts outside of quantifiers, is asked for before they are written out, and
-/// given back, so that more than memory holds is refused at once. Behind the 65,535th binding of quantifiers in the goal or in
-/// a ground action's body, those of what is shared counted as often as it stands there, it asks for 1,024 bytes for each and
-/// gives them back, and for 8 behind the 65,535th of all: so quantifiers in one another that would be gone through for days are
-/// refused for want of memory.
+/// Where bodies take much, half as much again as they take at least, by their parts outside of quantifiers, is asked for before
+/// they are written out, and given back, so that more than memory holds is refused at once. Behind the 65,535th binding of
+/// quantifiers in the goal or in a ground action's body, those of what is shared counted as often as it stands there, it asks
+/// for 1,024 to 1,536 bytes for each and gives them back, or for 8 to 12 behind the 65,535th of all, if that is more: so
+/// quantifiers in one another that would be gone through for days are refused for want of memory.
 pub fn ground(
     alloc: Global,
     domain: &Domain,

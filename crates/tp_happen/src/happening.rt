@@ -124,7 +124,8 @@ fn next(alloc: Global, state: &State, events: &[EventRef<'_>]) -> Result<State, 
 
 /// What happens to a state when events happen at once, or the first fault: something undefined, then a condition
 /// that does not hold, then an event that mixes writes, then two events that interfere, each by the lowest number.
-/// Takes the time and memory of the state, and the time of the conditions and effects of the events.
+/// Takes the time and memory of the state, the time of its fluents once more for each event with two or more writes, and the
+/// time of the conditions and effects of the events.
 pub fn apply(alloc: Global, state: &State, events: &[EventRef<'_>]) -> Result<Outcome, ApplyFault>
     requires fits { list_all (fits_in state.now) events.now ≡ true }
     ensures ok { IfOk result (Applies state.now events.now) }

@@ -144,8 +144,8 @@ fn judge_telling<N: Net>(
 /// Judges the text of a command's answer, without its line end. Any reason that qualifies is right, and so is that memory ran
 /// out where it may. Where the text is right the executive has gone on as it says.
 ///
-/// It costs what the command costs, or for a refusal about four look-ups for each of its words; and it takes memory for a copy
-/// of the text.
+/// It costs what the command costs, or for a refusal 3 k + 1 look-ups, where its reason has k edges; and it takes memory for a
+/// copy of the text, and for the edges of a reason.
 pub fn judge<N: Net>(
     alloc: Global,
     executive: &mut Executive<N>,

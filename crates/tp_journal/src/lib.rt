@@ -4,7 +4,7 @@
 //! - `faults`: what ends that early.
 //! - `refusals`: the first refusal that applies to a command, without the command.
 //! - `edges`: the edges of a reason, read from its words.
-//! - `reasons`: whether edges are a reason against a command, at one walk.
+//! - `reasons`: whether edges are a reason against a command, in three walks.
 //! - `page`: bytes that are written to be compared.
 //! - `judging`: whether an answer is one that the machine allows.
 #![tactic(auto)]

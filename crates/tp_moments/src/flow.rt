@@ -92,7 +92,8 @@ fn relax(
 }
 
 /// What each point gains or loses, in which order they were settled (0: not), by which edge each got it, and the points
-/// that may be settled next. It is kept from command to command, so that a command takes no memory anew.
+/// that may be settled next. It is kept from command to command, so that a command takes memory only where the order or the
+/// queue outgrows its room.
 #[derive(Drop)]
 pub struct Work {
     pub amounts: Vec<u64>,

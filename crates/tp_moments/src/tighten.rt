@@ -27,7 +27,7 @@ fn set_out(work: &mut Work, points: usize, seed: usize, amount: u64) -> Result<(
     Ok(())
 }
 
-/// Takes back what was worked out: only the points that were settled, and those that wait, have something.
+/// Takes back what was worked out: only the points that were settled have something.
 pub fn clear(work: &mut Work, points: usize)
     requires places { HasPlaces points work.old }
     requires order { IsOrder work.old.ranks.items work.old.order.items }
@@ -56,7 +56,8 @@ pub fn wipe(work: &mut Work, points: usize)
     }
 }
 
-/// The same from where nothing is worked out; where a growth is refused, work is left over.
+/// How far each point has to move where one has to by an amount, from where nothing is worked out; and how many edges were
+/// looked at. Where a growth is refused, work is left over.
 fn try_spread(
     store: &Store,
     moments: &[u64],

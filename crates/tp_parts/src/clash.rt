@@ -1,4 +1,4 @@
-//! Whether what a problem says of its initial state agrees with itself.
+//! Whether `:init` says that one atom holds and that it does not, or gives one fluent a value twice.
 
 ghost use Rattle.std.specs.Prelude.{◌≡◌, ◌||◌, map, IfOk, OnOk, not};
 ghost use Rattle.std.specs.Option.{is_some};
@@ -20,7 +20,7 @@ struct Said<'a> {
 }
 
 impl<'a> Said<'a> {
-    // Whether an entry disagrees with one before it. It joins them.
+    // Whether an entry clashes with one before it. It joins them.
     fn add(&mut self, entry: &'a Initial) -> Result<bool, AllocError>
         ensures clashes { IfOk result (λ b. b ≡ clashes self.old (initial_view entry.now)) }
         ensures noted { OnOk result ((i : InitialEntry)
@@ -43,7 +43,8 @@ impl<'a> Said<'a> {
     }
 }
 
-/// The number of the first entry that disagrees with one before it.
+/// The number of the first entry that clashes with one before it: that of an atom that was said to fail if it says that it holds,
+/// or the other way round, or that of a fluent that was given a value, be it the same one.
 pub fn first_clash(alloc: Global, entries: &[Initial]) -> Result<Option<usize>, AllocError>
     ensures { IfOk result (λ o. is_some o ≡ not (no_clash (map initial_view entries.now))) }
 {

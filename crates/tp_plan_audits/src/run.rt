@@ -18,7 +18,7 @@ use tp_plan_files::{PlanWords, task_in, verdict_in};
 use tp_task::Task;
 
 /// Audits what a source has left, a journal with that head, against the plan that the words name, of their task, and writes what was
-/// found. Answers whether it is a journal.
+/// found. Answers whether the plan is valid and it is a journal.
 fn audit_task<N: Files, S: Source + Drop, O: Sink>(
     alloc: Global,
     files: &mut N,
@@ -112,8 +112,8 @@ fn audit_log<N: Files, O: Sink>(
 /// that plan's network, with the lags that the journal's head tells. Answers the exit status: 0 where it is such a journal, and the line
 /// `audit ok N` with the number of its pairs was written; 1 where an answer is not allowed, and the line `wrong N` with the number of
 /// its line was, or where the plan is not valid, and its first fault was; and for another writes one fault line. The head of the journal
-/// is looked for first, then the plan; the file is read twice, the second time behind its head. The cost is that of `check` and of
-/// the network, and then little more than that of the run.
+/// is read first, then the plan, and then all of the journal; its file is opened twice. The cost is that of `check` and of the
+/// network, and then little more than that of the run.
 pub fn run_plan_audit<N: Files, O: Sink, F: Sink>(
     alloc: Global,
     files: &mut N,

@@ -128,8 +128,8 @@ fn task_with<N: Files>(
 }
 
 /// The task of the domain and the problem that the words name. A file is opened only when what stands before it is done. The cost
-/// is that of reading both texts and of grounding. What both texts spell is never freed: a call is made once in a run of the
-/// program, whose end frees all at once.
+/// is that of reading both texts and of grounding. What both texts spell is not freed once there is a task: a call is made once
+/// in a run of the program, whose end frees all at once.
 ///
 /// # Errors
 /// The first fault of the two files, their texts and the task.

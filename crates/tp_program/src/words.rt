@@ -53,7 +53,7 @@ pub fn run_words<N: Files, L: Logs, I: Source + Drop, O: Sink, F: Sink>(
     ensures part { AsksFor (map string_bytes words.now) Request.Bare → result ≢ 0
         → AnswersPart (I.left input) (O.held output.old) (O.held output.new) }
 
-    // Such a network is refused only where it has no head, or too many bytes come in.
+    // Such a network is refused only where it has no head, or a lag that does not fit, or too many bytes come in.
     ensures refused { AsksFor (map string_bytes words.now) Request.Bare → result ≡ REFUSED
         → IsRefused (I.left input) }
     ensures bare { AsksFor (map string_bytes words.now) Request.Bare → result ≢ 0
@@ -135,7 +135,7 @@ fn show<O: Sink, F: Sink>(text: &str, output: &mut O, faults: &mut F) -> u8
     }
 }
 
-/// Writes that the words are refused, and what `clap` says of them. Answers the exit status.
+/// Writes that the words are refused, and what `clap` says of them, if it says something. Answers the exit status.
 fn refuse_words<F: Sink>(text: Option<String>, faults: &mut F) -> u8
     ensures status { result ≡ REFUSED }
     ensures refused { (held : Option (List ℕ)) → (n : ℕ) → RefusesWords result held held n n

@@ -36,8 +36,8 @@ pub struct TypeTable<'a> {
     ghost leading: { list_all (is_jump types.now jumps.items) (map type_name types.now) ≡ true },
 }
 
-// The table of types whose parents stand at these places. None where a name stands twice, or for types that lead round in a cycle,
-// which have no ranks: such types are walked over.
+// The table of types whose parents stand at these places. None unless each name stands once, none is `object`, and each type is
+// below `object`: other types have no table, and are walked over.
 fn table_above<'a>(
     alloc: Global,
     types: &'a [TypeName],
@@ -70,7 +70,7 @@ fn table_above<'a>(
     }))
 }
 
-/// The table of types. None where a name stands twice, or for types that lead round in a cycle.
+/// The table of types. None unless each name stands once, none is `object`, and each type is below `object`.
 pub fn type_table<'a>(
     alloc: Global,
     list: &'a TypeList,
