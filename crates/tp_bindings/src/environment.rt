@@ -1,8 +1,8 @@
 //! What variables stand for.
 
-ghost use Rattle.std.specs.Prelude.{◌≡◌, option_map, map, IfOk};
-ghost use Rattle.tp_ast.specs.Terms.{term_view, atom_view};
-ghost use Rattle.tp_bindings.specs.Bindings.{object_among, object_for, words_in};
+ghost use Rattle.std.specs.Prelude.{◌≡◌, map, IfOk};
+ghost use Rattle.tp_ast.specs.Terms.{variable, term_view, atom_view};
+ghost use Rattle.tp_bindings.specs.Bindings.{object_for, words_in};
 ghost use Rattle.tp_bindings.specs.Views.{env_view};
 
 use crate::variables::Variables;
@@ -18,14 +18,14 @@ pub enum Env<'e, 'a> {
     Inner(&'e Variables<'a>, &'e [&'a str], &'e Env<'e, 'a>),
 }
 
-/// The object that a variable stands for.
-fn object_under<'a>(env: &Env<'_, 'a>, name: &str) -> Option<&'a str>
-    ensures { option_map (λ o. o.now) result ≡ object_among (env_view env.now) name.now }
+// The object that a variable stands for. One that stands for none is left as it is.
+fn object_under<'a>(env: &Env<'_, 'a>, name: &'a str) -> &'a str
+    ensures { result.now ≡ object_for (env_view env.now) (variable name.now) }
 {
     match env {
-        Env::Empty => None,
+        Env::Empty => name,
         Env::Inner(variables, objects, outer) => match variables.object(objects, name) {
-            Some(object) => Some(object),
+            Some(object) => object,
             None => object_under(outer, name),
         },
     }
@@ -37,10 +37,7 @@ pub fn object_for<'a>(env: &Env<'_, 'a>, argument: &'a Term) -> &'a str
 {
     match argument {
         Term::Object(name) => name.as_str(),
-        Term::Variable(name) => match object_under(env, name.as_str()) {
-            Some(object) => object,
-            None => name.as_str(),
-        },
+        Term::Variable(name) => object_under(env, name.as_str()),
     }
 }
 

@@ -52,16 +52,21 @@ module _ (ms new : List Bool) (ds es : List Declared) (m : Bool) (ts : List Name
   pub last_given : last_of [] (map types_of es) ≡ ts
   last_given = last_is ms new [] (map types_of ds) (map types_of es) m ts marked types_grown
 
-pub given_more : (ts : List Name) (old done new : List Declared) (ns : List (String Global)) (k : ℕ) (n : String Global) → k < length ns → n ≡ get_or ns k n → done ≡ old ++ map (given ts) (map string_bytes (take k ns)) → new ≡ done ++ given ts (string_bytes n) ∷ [] → new ≡ old ++ map (given ts) (map string_bytes (take (k + 1) ns))
-given_more ts old done new ns k n lt at made grown =
+pub given_next : (ts : List Name) (old done new : List Declared) (ns : List (String Global)) (n : String Global) → done ≡ old ++ map (given ts) (map string_bytes ns) → new ≡ done ++ given ts (string_bytes n) ∷ [] → new ≡ old ++ map (given ts) (map string_bytes (ns ++ n ∷ []))
+given_next ts old done new ns n made grown =
     grown
     ∙ ap (λ (ds : List Declared). ds ++ given ts (string_bytes n) ∷ []) made
-    ∙ append_assoc old (map (given ts) (map string_bytes (take k ns))) (given ts (string_bytes n) ∷ [])
-    ∙ ap (λ (u : String Global). old ++ (map (given ts) (map string_bytes (take k ns)) ++ given ts (string_bytes u) ∷ [])) at
+    ∙ append_assoc old (map (given ts) (map string_bytes ns)) (given ts (string_bytes n) ∷ [])
     ∙ ap (λ (ds : List Declared). old ++ ds) (sym (
-    ap (λ (us : List (String Global)). map (given ts) (map string_bytes us)) (take_more ns k n lt)
-    ∙ ap (map (given ts)) (map-append string_bytes (take k ns) (get_or ns k n ∷ []))
-    ∙ map-append (given ts) (map string_bytes (take k ns)) (string_bytes (get_or ns k n) ∷ [])))
+    ap (map (given ts)) (map-append string_bytes ns (n ∷ []))
+    ∙ map-append (given ts) (map string_bytes ns) (string_bytes n ∷ [])))
+
+same_map : {A : Type 0} (xs : List A) → map (λ (x : A). x) xs ≡ xs
+same_map [] = refl
+same_map (x ∷ xs) = ap (λ ys. x ∷ ys) (same_map xs)
+
+pub given_all : (ts : List Name) (old new : List Declared) (ns all : List (String Global)) → map (λ (n : String Global). n) ns ≡ all → new ≡ old ++ map (given ts) (map string_bytes ns) → new ≡ old ++ map (given ts) (map string_bytes all)
+given_all ts old new ns all is made = made ∙ ap (λ (ms : List (String Global)). old ++ map (given ts) (map string_bytes ms)) (sym (same_map ns) ∙ is)
 
 pub share_types : (ms : List Bool) (items : List Typed) → HaveRows ms (map typed_view items) → ShareTypes ms items
 share_types ms items rows = subst (AreRows ms []) (map_twice types_of typed_view items) rows.1

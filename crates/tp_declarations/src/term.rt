@@ -77,7 +77,7 @@ fn term_at(alloc: Global, tree: &Tree, at: u32) -> Result<Term, SyntaxFault>
 pub fn terms_of(alloc: Global, trees: &[Tree], at: u32) -> Result<Vec<Term>, SyntaxFault>
     ensures { Gives (λ v. map term_view v.items) result (terms_of (shapes trees.now)) }
 {
-    let mut terms = Vec::new(alloc);
+    let mut terms = Vec::with_capacity(alloc, trees.len())?;
     for tree in trees {
         terms.push(term_at(alloc, tree, at)?)?;
     }

@@ -117,7 +117,7 @@ fn type_at(alloc: Global, items: Items, tree: &Tree, at: u32) -> Result<Vec<Stri
     match tree {
         Tree::Word(token) => {
             let name = name_of(alloc, token.text, at)?;
-            let mut types = Vec::new(alloc);
+            let mut types = Vec::with_capacity(alloc, 1)?;
             types.push(name)?;
             Ok(types)
         }
@@ -135,7 +135,7 @@ fn object_type(alloc: Global) -> Result<Vec<String>, AllocError>
     ensures { IfOk result (λ v. map string_bytes v.items ≡ codes "object" ∷ []) }
 {
     let name = String::from_str(alloc, "object")?;
-    let mut types = Vec::new(alloc);
+    let mut types = Vec::with_capacity(alloc, 1)?;
     types.push(name)?;
     Ok(types)
 }
@@ -144,15 +144,14 @@ fn object_type(alloc: Global) -> Result<Vec<String>, AllocError>
 fn push_typed(
     done: &mut Vec<Typed>,
     rows: &mut Vec<bool>,
-    name: &String,
+    name: String,
     types: &Rc<Vec<String>>,
     mark: bool,
 ) -> Result<(), AllocError>
     ensures items { OnOk result (map typed_view done.new.items ≡ map typed_view done.old.items
-        ++ given (map string_bytes types.now.value.items) (string_bytes name.now) ∷ []) }
+        ++ given (map string_bytes types.now.value.items) (string_bytes name) ∷ []) }
     ensures rows { OnOk result (rows.new.items ≡ rows.old.items ++ mark ∷ []) }
 {
-    let name = name.clone()?;
     let types = types.clone()?;
     done.push(Typed { name, types })?;
     rows.push(mark)?;
@@ -164,11 +163,11 @@ fn give(
     alloc: Global,
     done: &mut Vec<Typed>,
     rows: &mut Vec<bool>,
-    names: &[String],
+    names: Vec<String>,
     types: Vec<String>,
 ) -> Result<(), AllocError>
     ensures items { OnOk result (map typed_view done.new.items ≡ map typed_view done.old.items
-        ++ map (given (map string_bytes types.items)) (map string_bytes names.now)) }
+        ++ map (given (map string_bytes types.items)) (map string_bytes names.items)) }
     ensures rows { OnOk result (HaveRows rows.old.items (map typed_view done.old.items)
         → HaveRows rows.new.items (map typed_view done.new.items)) }
 {
@@ -186,10 +185,10 @@ fn give_object(
     alloc: Global,
     done: &mut Vec<Typed>,
     rows: &mut Vec<bool>,
-    names: &[String],
+    names: Vec<String>,
 ) -> Result<(), AllocError>
     ensures items { OnOk result (map typed_view done.new.items ≡ map typed_view done.old.items
-        ++ map (given (codes "object" ∷ [])) (map string_bytes names.now)) }
+        ++ map (given (codes "object" ∷ [])) (map string_bytes names.items)) }
     ensures rows { OnOk result (HaveRows rows.old.items (map typed_view done.old.items)
         → HaveRows rows.new.items (map typed_view done.new.items)) }
 {
@@ -244,7 +243,7 @@ pub fn typed_items(
             };
             let kinds = type_at(alloc, items, kind, at)?;
             are_declared = declared_too(are_declared, types, kinds.as_slice());
-            give(alloc, &mut done, &mut rows, &waiting, kinds)?;
+            give(alloc, &mut done, &mut rows, waiting, kinds)?;
             waiting = Vec::new(alloc);
             rest = more;
         } else {
@@ -252,7 +251,7 @@ pub fn typed_items(
             rest = others;
         }
     }
-    give_object(alloc, &mut done, &mut rows, &waiting)?;
+    give_object(alloc, &mut done, &mut rows, waiting)?;
     let items = TypedList {
         items: done,
         marks: rows,
@@ -268,6 +267,10 @@ fn named_again(alloc: Global, items: &[Typed]) -> Result<Option<usize>, AllocErr
     ensures { IfOk result
         (λ o. is_some o ≡ has_twice (map (λ d. d.name) (map typed_view items.now))) }
 {
+    // One item, as most lists have, takes no memory.
+    if let [] | [_] = items {
+        return Ok(None);
+    }
     let mut names = Vec::new(alloc);
     for item in items {
         names.push(item.name.as_str())?;

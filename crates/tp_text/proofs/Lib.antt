@@ -3,6 +3,7 @@ pub mod Pieces
 pub mod OnTrees
 pub mod OnTexts
 pub mod OnNumbers
+pub mod OnReading
 pub mod OnCovers
 pub mod NumberRows
 pub mod OnTimes

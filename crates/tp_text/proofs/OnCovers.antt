@@ -13,7 +13,7 @@ pub still : (text rest : List ℕ) (at n : ℕ) (more : List Token) → rest ≡
 still text rest at n [] here h covers = skipped text rest at n here h ∙ covers
 still text rest at n (t ∷ ts) here h covers = (omega (arith, covers.0), skipped text rest at n here h ∙ covers.1, covers.2, covers.3, covers.4)
 
-none_behind : (rest : List ℕ) (at : ℕ) → length rest < 1 → placed at rest ≡ Ok []
+pub none_behind : (rest : List ℕ) (at : ℕ) → length rest < 1 → placed at rest ≡ Ok []
 unfolding placed
 none_behind [] at lt = refl
 none_behind (b ∷ bs) at lt = absurd (omega arith)

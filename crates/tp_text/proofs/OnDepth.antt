@@ -50,6 +50,9 @@ nothing_there : (front rest : List Lexeme) → [] ≡ front ++ left ∷ rest →
 nothing_there [] rest e = cc
 nothing_there (x ∷ front) rest e = cc
 
+pub not_deep : ¬ (IsDeep [])
+not_deep deep = nothing_there deep.0 deep.1 deep.2
+
 -- ---- a tree that is nested so deep has lexemes that are
 
 -- a list begins where so many are open

@@ -1,12 +1,8 @@
 -- A tree level by level, and that no tree writes the front of what another writes.
-use Rattle.std.proofs.Common.{◌≡◌, ℕ, zero, suc, ◌+◌, ◌<◌, ◌≤◌, List, [], ◌∷◌, ◌++◌, length, drop, get_or, map, Vec, Global, Result, Ok, Err, refl, sym, ap, ◌∙◌, subst, arith, rules, append_assoc, append-nil}
-use Rattle.std.proofs.lemmas.List.{drop_all, length-map}
-use Rattle.std.specs.Prelude.{IfErr}
-use Rattle.tp_text.specs.Lexemes.{Lexeme, left, right, word, placed}
-use Rattle.tp_text.specs.Shapes.{Shape, leaf, node, Shapes, no_shapes, shape, written, all_written, lexemes_only, Spells, SpellsOneTree}
-use Rattle.tp_text.specs.Trees.{shapes_of, shape_of, tree_written, trees_written, frames_written, lefts, rights, IsNoTree, IsOneTree, IsOpen, built, CannotGoOn, HasNoTree, IsDeep, IsRefused, lexemes_of}
-use Rattle.tp_text.specs.Tokens.{lexeme_of, placed_of}
-use Rattle.tp_text.specs.declared.token.Token.{Token}
+use Rattle.std.proofs.Common.{◌≡◌, ◌+◌, ◌<◌, List, [], ◌∷◌, ◌++◌, length, map, Vec, Global, refl, sym, ap, ◌∙◌, arith, rules, append_assoc, append-nil}
+use Rattle.tp_text.specs.Lexemes.{Lexeme, left, right, word}
+use Rattle.tp_text.specs.Shapes.{Shape, leaf, node, Shapes, no_shapes, shape, written, all_written, lexemes_only, SpellsOneTree}
+use Rattle.tp_text.specs.Trees.{shapes_of, shape_of, tree_written, trees_written, frames_written, lefts, rights, IsNoTree, IsOneTree, IsOpen, built, CannotGoOn, HasNoTree}
 use Rattle.tp_text.specs.declared.fault.TextFault.{TextFault}
 use Rattle.tp_text.specs.declared.fault.TextFault.TheVariants as faults
 use Rattle.tp_text.specs.declared.token.Span.{Span}
@@ -181,52 +177,3 @@ refused_for_all ms more m all (faults.Unclosed at) is h = absurd h
 refused_for_all ms more m all (faults.Extra at) is h = λ s e. h more s (e ∙ sym is)
 refused_for_all ms more m all (faults.Depth at) is h = (ms, more, sym is ∙ ap (λ (n : Lexeme). ms ++ n ∷ more) h.0, h.1)
 refused_for_all ms more m all faults.Empty is h = absurd h
-
-drop_lexemes : (ts : List Token) (i : ℕ) (d : Token) → i < length ts → drop i (lexemes_of ts) ≡ lexeme_of (get_or ts i d).text.now ∷ drop (suc i) (lexemes_of ts)
-drop_lexemes [] i d lt = absurd (omega arith)
-drop_lexemes (t ∷ ts) zero d lt = refl
-drop_lexemes (t ∷ ts) (suc i) d lt = drop_lexemes ts i d (omega arith)
-
--- the lexemes before an index, the one there, and the rest
-pub at_token : (ms : List Lexeme) (ts : List Token) (i : ℕ) (d : Token) → i < length ts → ms ++ drop i (lexemes_of ts) ≡ lexemes_of ts → ms ++ lexeme_of (get_or ts i d).text.now ∷ drop (i + 1) (lexemes_of ts) ≡ lexemes_of ts
-at_token ms ts i d lt so_far =
-    let k : i + 1 ≡ suc i = omega arith in
-    rw k (ap (λ (more : List Lexeme). ms ++ more) (sym (drop_lexemes ts i d lt)) ∙ so_far)
-
--- a step reads one lexeme more
-pub one_more : (old new more all : List Lexeme) (m : Lexeme) → new ≡ old ++ m ∷ [] → old ++ m ∷ more ≡ all → new ++ more ≡ all
-one_more old new more all m is so_far = ap (λ (ms : List Lexeme). ms ++ more) is ∙ append_assoc old (m ∷ []) more ∙ so_far
-
--- no lexeme is left
-pub all_read : (ms : List Lexeme) (ts : List Token) (i : ℕ) → length ts ≤ i → ms ++ drop i (lexemes_of ts) ≡ lexemes_of ts → ms ≡ lexemes_of ts
-all_read ms ts i le so_far =
-    let none : drop i (lexemes_of ts) ≡ [] = drop_all i (lexemes_of ts) (omega (arith, length-map ts (λ (t : Token). lexeme_of t.text.now))) in
-    sym (append-nil ms) ∙ ap (λ (more : List Lexeme). ms ++ more) (sym none) ∙ so_far
-
--- tokens are the lexemes of their text
-pub lexemes_are : (ts : List Token) → lexemes_only (map placed_of ts) ≡ lexemes_of ts
-lexemes_are [] = refl
-lexemes_are (t ∷ ts) = ap (λ (ms : List Lexeme). lexeme_of t.text.now ∷ ms) (lexemes_are ts)
-
-pub spelled : (text : List ℕ) (ts : List Token) (s : Shape) → placed 0 text ≡ Ok (map placed_of ts) → written s ≡ lexemes_of ts → Spells text s
-spelled text ts s is w = (map placed_of ts, is, lexemes_are ts ∙ sym w)
-
--- a text has one list of lexemes
-spells_lexemes : (text : List ℕ) (ts : List Token) (s : Shape) → placed 0 text ≡ Ok (map placed_of ts) → Spells text s → written s ≡ lexemes_of ts
-spells_lexemes text ts s is spells =
-    let same = sym is ∙ spells.1 in
-    let ps : map placed_of ts ≡ spells.0 = cc in
-    sym spells.2 ∙ sym (ap lexemes_only ps) ∙ lexemes_are ts
-
-pub refused_tree : (text : List ℕ) (ts : List Token) (e : TextFault) → placed 0 text ≡ Ok (map placed_of ts) → HasNoTree (lexemes_of ts) e → IsRefused text e
-refused_tree text ts faults.Memory is h = tt
-refused_tree text ts faults.TooLong is h = absurd h
-refused_tree text ts (faults.BadByte at) is h = absurd h
-refused_tree text ts (faults.Unclosed at) is h = λ s spells. h s (spells_lexemes text ts s is spells)
-refused_tree text ts (faults.Extra at) is h = λ s spells. h s (spells_lexemes text ts s is spells)
-refused_tree text ts (faults.Depth at) is h = (map placed_of ts, is, subst IsDeep (sym (lexemes_are ts)) h)
-refused_tree text ts faults.Empty is h = λ s spells. h s (spells_lexemes text ts s is spells)
-
-pub if_err : {X Y : Type 0} (r : Result X Y) (P Q : Y → Type 0) → ((y : Y) → P y → Q y) → IfErr r P → IfErr r Q
-if_err (Ok x) P Q f h = tt
-if_err (Err y) P Q f h = f y h

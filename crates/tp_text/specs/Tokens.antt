@@ -1,10 +1,11 @@
 -- What tokens show of a text.
-use Rattle.std.specs.Prelude.{◌≡◌, ℕ, ◌+◌, ◌-◌, ◌≤◌, ◌<◌, Bool, false, take, drop, List, [], ◌∷◌, length, ◌==◌, if◌then◌else◌, Ok, Err}
+use Rattle.std.specs.Prelude.{◌≡◌, ℕ, ◌+◌, ◌-◌, ◌≤◌, ◌<◌, Bool, false, take, drop, List, [], ◌∷◌, length, ◌==◌, if◌then◌else◌, Option, Some, None, Ok, Err}
 use Rattle.tp_text.specs.Lexemes as lexemes
 use Rattle.tp_text.specs.Lexemes.{left, right, word, Placed, Lexemes, before, placed}
 use Rattle.tp_text.specs.declared.fault.TextFault.{TextFault}
 use Rattle.tp_text.specs.declared.fault.TextFault.TheVariants as faults
 use Rattle.tp_text.specs.declared.token.Token.{Token}
+use Rattle.tp_text.specs.declared.lexing.Next.{Next}
 use Rattle.tp_text.specs.declared.lexing.Piece.{Piece}
 use Rattle.tp_text.specs.declared.lexing.Piece.TheVariants.{Blank, Lexeme, Bad}
 use Rattle.std.specs.Str.{IsAscii}
@@ -34,6 +35,21 @@ HasNoLexemes text (faults.Unclosed at) = ⊥
 HasNoLexemes text (faults.Extra at) = ⊥
 HasNoLexemes text (faults.Depth at) = ⊥
 HasNoLexemes text faults.Empty = ⊥
+
+-- the first token among bytes from a place on, if there is one, and what stands behind it
+abbrev pub ComesFirst : ℕ → List ℕ → Option Next → Type 0
+ComesFirst at bytes None = placed at bytes ≡ Ok []
+ComesFirst at bytes (Some n) = placed at bytes ≡ before (placed_of n.token) (placed n.at n.rest.now)
+
+-- a byte among these may not stand where it does
+abbrev pub IsBad : ℕ → List ℕ → TextFault → Type 0
+IsBad at bytes faults.Memory = ⊥
+IsBad at bytes faults.TooLong = ⊥
+IsBad at bytes (faults.BadByte k) = placed at bytes ≡ Err k
+IsBad at bytes (faults.Unclosed k) = ⊥
+IsBad at bytes (faults.Extra k) = ⊥
+IsBad at bytes (faults.Depth k) = ⊥
+IsBad at bytes faults.Empty = ⊥
 
 -- what stands at the front of bytes, and how long it is
 abbrev pub Begins : Piece → List ℕ → Type 0

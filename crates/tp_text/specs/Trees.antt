@@ -1,12 +1,12 @@
 -- What a `Tree` shows: its words and lists.
-use Rattle.std.specs.Prelude.{◌≡◌, ℕ, ◌+◌, ◌<◌, ◌≤◌, List, [], ◌∷◌, ◌++◌, map, length, Ok}
+use Rattle.std.specs.Prelude.{◌≡◌, ℕ, ◌+◌, ◌<◌, ◌≤◌, List, [], ◌∷◌, ◌++◌, length, Ok, ◌⊎◌}
 use Rattle.std.specs.List.{flat_map}
-use Rattle.tp_text.specs.Lexemes.{Lexeme, left, right, word, Placed, placed}
-use Rattle.tp_text.specs.Tokens.{lexeme_of, max_text}
+use Rattle.tp_text.specs.Lexemes.{Lexeme, left, right, word, Placed, placed, with_front}
+use Rattle.tp_text.specs.Tokens.{lexeme_of, max_text, IsBad}
 use Rattle.tp_text.specs.Shapes.{Shape, leaf, node, Shapes, no_shapes, shape, written, lexemes_only, Spells, nesting}
 use Rattle.tp_text.specs.declared.fault.TextFault.{TextFault}
 use Rattle.tp_text.specs.declared.fault.TextFault.TheVariants as faults
-use Rattle.tp_text.specs.declared.token.Token.{Token}
+use Rattle.tp_text.specs.declared.lexing.Next.{Next}
 use Rattle.tp_text.specs.declared.tree.Frame.{Frame}
 use Rattle.tp_text.specs.declared.tree.Builder.{Builder}
 use Rattle.tp_text.specs.declared.tree.TokenKind.{TokenKind}
@@ -36,10 +36,6 @@ trees_written ts = flat_map tree_written ts
 abbrev pub frames_written : List Frame → List Lexeme
 frames_written [] = []
 frames_written (f ∷ fs) = trees_written f.items.items ++ left ∷ frames_written fs
-
--- tokens as lexemes
-abbrev pub lexemes_of : List Token → List Lexeme
-lexemes_of ts = map (λ t. lexeme_of t.text.now) ts
 
 -- how often a parenthesis stands among lexemes
 abbrev pub lefts : List Lexeme → ℕ
@@ -104,6 +100,18 @@ CannotGoOn ms m (faults.Unclosed at) = ⊥
 CannotGoOn ms m faults.Empty = ⊥
 CannotGoOn ms m faults.TooLong = ⊥
 CannotGoOn ms m (faults.BadByte at) = ⊥
+
+-- Behind the lexemes so far the next one can't be read on; or a byte behind it may not stand there.
+abbrev pub IsStuck : List Lexeme → Next → TextFault → Type 0
+IsStuck ms n e =
+    IsBad n.at n.rest.now e
+    ⊎ (CannotGoOn ms (lexeme_of n.token.text.now) e
+    × ((ps : List Placed) × (placed n.at n.rest.now ≡ Ok ps)))
+
+-- The lexemes so far and those of the bytes that are left are those of the text.
+abbrev pub IsReadTo : List ℕ → List Lexeme → ℕ → List ℕ → Type 0
+IsReadTo text ms at rest =
+    (ps : List Placed) × (lexemes_only ps ≡ ms) × (with_front ps (placed at rest) ≡ placed 0 text)
 
 -- a list may begin only where fewer than 64 are open
 abbrev pub HasRoom : List Lexeme → Lexeme → Type 0

@@ -1,16 +1,16 @@
 //! From bytes to tokens.
 
-ghost use Rattle.std.specs.Prelude.{◌≡◌, ◌∷◌, ◌+◌, ◌<◌, ◌≤◌, length, take, drop, map, All, IsTrue, false, IfOk, IfErr, OnOk, Ok, slice_index, ℕ};
+ghost use Rattle.std.specs.Prelude.{◌≡◌, ◌∷◌, ◌+◌, ◌<◌, ◌≤◌, length, take, drop, map, All, IsTrue, false, IfOk, IfErr, IfSome, OnOk, Ok, slice_index, ℕ};
 ghost use Rattle.std.specs.Str.{IsAscii};
 ghost use Rattle.tp_text.specs.Lexemes.{class, begins_word, placed, after_comment};
-ghost use Rattle.tp_text.specs.Tokens.{placed_of, max_text, HasNoLexemes, Begins, Covers};
+ghost use Rattle.tp_text.specs.Tokens.{placed_of, max_text, HasNoLexemes, Begins, Covers, ComesFirst, IsBad};
 
 use crate::fault::TextFault;
 use crate::token::{Span, Token};
 use std::alloc::Global;
 use std::str::from_utf8;
 
-const MAX_TEXT: usize = 1_048_576;
+pub const MAX_TEXT: usize = 1_048_576;
 
 #[derive(Clone, Copy, Debug, PartialEq, Eq)]
 enum Class {
@@ -93,6 +93,52 @@ fn first_piece(first: u8, rest: &[u8]) -> Piece
         Class::Letter => Piece::Lexeme(1 + word_len(rest)),
         Class::Other => Piece::Bad,
     }
+}
+
+/// A token, and the bytes behind it with the place where they begin.
+#[derive(Clone, Copy)]
+pub struct Next<'a> {
+    pub token: Token<'a>,
+    pub rest: &'a [u8],
+    pub at: usize,
+}
+
+/// The first token among bytes that begin at a place, if blanks and comments are not all.
+pub fn next_token<'a>(bytes: &'a [u8], start: usize) -> Result<Option<Next<'a>>, TextFault>
+    requires { start + length bytes.now ≤ max_text }
+    ensures first { IfOk result (ComesFirst start bytes.now) }
+    ensures place { IfOk result
+        (λ o. IfSome o (λ n. n.at + length n.rest.now ≡ start + length bytes.now)) }
+    ensures shorter { IfOk result (λ o. IfSome o (λ n. length n.rest.now < length bytes.now)) }
+    ensures refused { IfErr result (IsBad start bytes.now) }
+{
+    let mut rest = bytes;
+    let mut at = start;
+    'blanks: while let [first, others @ ..] = rest {
+        match first_piece(*first, others) {
+            Piece::Blank(len) => {
+                rest = &rest[len..];
+                at += len;
+            }
+            Piece::Lexeme(len) => {
+                let (front, after) = rest.split_at(len);
+                let span = Span {
+                    start: at as u32,
+                    stop: (at + len) as u32,
+                };
+                return Ok(Some(Next {
+                    token: Token {
+                        text: ascii_text(front),
+                        span,
+                    },
+                    rest: after,
+                    at: at + len,
+                }));
+            }
+            Piece::Bad => return Err(TextFault::BadByte(at as u32)),
+        }
+    }
+    Ok(None)
 }
 
 /// The parentheses and words of a text, in order.

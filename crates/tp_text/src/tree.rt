@@ -1,13 +1,13 @@
 //! From tokens to a tree.
 
-ghost use Rattle.std.specs.Prelude.{◌≡◌, ◌+◌, ◌<◌, ◌≤◌, [], ◌∷◌, ◌++◌, length, map, IfOk, IfErr, OnOk};
-ghost use Rattle.tp_text.specs.Lexemes.{left, right, word};
-ghost use Rattle.tp_text.specs.Trees.{tree_written, trees_written, lexemes_of, HasNoTree, IsOneTree, IsOpen, built, CannotGoOn, kind_lexeme, shape_of, lefts, rights, HasRoom, IsDeep, IsRefused};
+ghost use Rattle.std.specs.Prelude.{◌≡◌, ◌+◌, ◌<◌, ◌≤◌, List, [], ◌∷◌, ◌++◌, length, IfOk, IfErr, OnOk, Ok};
+ghost use Rattle.tp_text.specs.Lexemes.{left, right, word, Placed, placed};
+ghost use Rattle.tp_text.specs.Trees.{tree_written, trees_written, HasNoTree, IsOneTree, IsOpen, built, CannotGoOn, IsStuck, kind_lexeme, shape_of, lefts, rights, HasRoom, IsRefused};
 ghost use Rattle.tp_text.specs.Shapes.{Spells, nesting};
-ghost use Rattle.tp_text.specs.Tokens.{lexeme_of, max_text};
+ghost use Rattle.tp_text.specs.Tokens.{lexeme_of, max_text, IsBad};
 
 use crate::fault::TextFault;
-use crate::lexing::tokens;
+use crate::lexing::{MAX_TEXT, Next, next_token};
 use crate::token::{Span, Token};
 use std::alloc::Global;
 use std::mem;
@@ -130,24 +130,77 @@ impl<'a> Builder<'a> {
     }
 }
 
-fn tree_of<'a>(alloc: Global, tokens: &[Token<'a>]) -> Result<Tree<'a>, TextFault>
-    ensures found { IfOk result (λ t. tree_written t ≡ lexemes_of tokens.now) }
-    ensures shallow { OnOk result (¬ (IsDeep (lexemes_of tokens.now))) }
-    ensures refused { IfErr result (λ e. HasNoTree (lexemes_of tokens.now) e) }
+// Whether each of the bytes behind a place may stand where it does.
+fn read_over(bytes: &[u8], start: usize) -> Result<(), TextFault>
+    requires { start + length bytes.now ≤ max_text }
+    ensures ok { OnOk result ((ps : List Placed) × (placed start bytes.now ≡ Ok ps)) }
+    ensures refused { IfErr result (IsBad start bytes.now) }
+{
+    let mut rest = bytes;
+    let mut at = start;
+    'lexemes: while let Some(next) = next_token(rest, at)? {
+        rest = next.rest;
+        at = next.at;
+    }
+    Ok(())
+}
+
+impl<'a> Builder<'a> {
+    // A step by the token that comes next. Where it can't go on, a byte behind it that may not stand there is at fault.
+    fn go_on(&mut self, alloc: Global, next: &Next<'a>) -> Result<(), TextFault>
+        requires one { IsOneTree self.old.outer.items self.old.items.items }
+        requires place { next.now.at + length next.now.rest.now ≤ max_text }
+        ensures ok { OnOk result
+            (built self.new ≡ built self.old ++ lexeme_of next.now.token.text.now ∷ []) }
+        ensures one { OnOk result (IsOneTree self.new.outer.items self.new.items.items) }
+        ensures room { OnOk result
+            (HasRoom (built self.old) (lexeme_of next.now.token.text.now)) }
+        ensures refused { IfErr result (IsStuck (built self.old) next.now) }
+    {
+        match self.step(alloc, &next.token) {
+            Ok(()) => Ok(()),
+            Err(fault) => {
+                read_over(next.rest, next.at)?;
+                Err(fault)
+            }
+        }
+    }
+
+    // The tree that was read.
+    fn finish(self) -> Result<Tree<'a>, TextFault>
+        requires { IsOneTree self.outer.items self.items.items }
+        ensures found { IfOk result (λ t. tree_written t ≡ built self.entry) }
+        ensures refused { IfErr result (λ e. HasNoTree (built self.entry) e) }
+    {
+        let Builder { outer, mut items } = self;
+        if let [frame, ..] = outer.as_slice() {
+            return Err(TextFault::Unclosed(frame.start));
+        }
+        match items.pop() {
+            Some(tree) => Ok(tree),
+            None => Err(TextFault::Empty),
+        }
+    }
+}
+
+// The tree that bytes spell, token by token: no list of tokens is made.
+fn tree_in<'a>(alloc: Global, bytes: &'a [u8]) -> Result<Tree<'a>, TextFault>
+    requires { length bytes.now ≤ max_text }
+    ensures found { IfOk result (λ t. Spells bytes.now (shape_of t)) }
+    ensures nested { IfOk result (λ t. nesting (shape_of t) ≤ 64) }
+    ensures refused { IfErr result (λ e. IsRefused bytes.now e) }
 {
     let outer = Vec::new(alloc);
     let items = Vec::new(alloc);
     let mut builder = Builder { outer, items };
-    for token in tokens {
-        builder.step(alloc, token)?;
+    let mut rest = bytes;
+    let mut at = 0;
+    'lexemes: while let Some(next) = next_token(rest, at)? {
+        builder.go_on(alloc, &next)?;
+        rest = next.rest;
+        at = next.at;
     }
-    if let [frame, ..] = builder.outer.as_slice() {
-        return Err(TextFault::Unclosed(frame.start));
-    }
-    match builder.items.pop() {
-        Some(tree) => Ok(tree),
-        None => Err(TextFault::Empty),
-    }
+    builder.finish()
 }
 
 /// The tree that the text spells.
@@ -157,6 +210,9 @@ pub fn read_tree<'a>(alloc: Global, text: &'a str) -> Result<Tree<'a>, TextFault
     ensures limited { OnOk result (length text.now ≤ max_text) }
     ensures refused { IfErr result (λ e. IsRefused text.now e) }
 {
-    let lexemes = tokens(alloc, text)?;
-    tree_of(alloc, &lexemes)
+    let bytes = text.as_bytes();
+    if bytes.len() > MAX_TEXT {
+        return Err(TextFault::TooLong);
+    }
+    tree_in(alloc, bytes)
 }

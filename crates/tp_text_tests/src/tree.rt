@@ -77,6 +77,10 @@ fn texts_without_a_tree(rt: HostRuntime) {
         ("\u{e9}", TextFault::BadByte(0)),
         ("(a \u{1})", TextFault::BadByte(3)),
         ("a\u{7f}", TextFault::BadByte(1)),
+        // A byte that may not stand in a text is its first fault, wherever it is.
+        ("(a)) (b \u{1})", TextFault::BadByte(8)),
+        (") ; \u{e9}\n\u{e9}", TextFault::BadByte(7)),
+        ("a b ; \u{e9}", TextFault::Extra(2)),
     ];
     for (text, fault) in texts {
         assert!(rt; is_refused(rt.alloc(), text, fault), "in {text}");

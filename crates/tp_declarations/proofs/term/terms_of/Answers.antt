@@ -8,7 +8,7 @@ use Rattle.tp_declarations.proofs.term.terms_of.Goals as goal
 
 pub returns-in_err-term_at : goal.returns-in_err-term_at
 returns-in_err-term_at c =
-    let p = err_from_is_err_and c.from_residual.result c.from_residual.ensures.1 in
+    let p = err_from_is_err_and c.from_residual-in_err-term_at.result c.from_residual-in_err-term_at.ensures.1 in
     rw (p.1, p.2) (fails each_term c.in_err-term_at.field-0.0 _ c.args.trees.now c.loop-tree.tree-index c.tree-item.result _ c.loop-tree-test.true c.tree-item.is c.in_err-term_at.ensures c.loop-tree.invariant)
 
 pub loop-tree-preserved : goal.loop-tree-preserved

@@ -1,4 +1,4 @@
-use Rattle.std.proofs.Common.{◌≡◌, ◌++◌, [], map, take, true, string_bytes}
+use Rattle.std.proofs.Common.{◌≡◌, ◌++◌, [], map, true, string_bytes}
 use Rattle.tp_ast.specs.Symbols.{typed_view}
 use Rattle.tp_ast.specs.TypedLists.{given}
 use Rattle.tp_declarations.specs.RowViews.{HaveRows}
@@ -7,7 +7,7 @@ use Rattle.tp_declarations.proofs.typed.give.Given as goal
 
 abbrev pub invariant-loop-name : goal.invariant-loop-name
 invariant-loop-name l = record {
-  items : map typed_view l.done.items ≡ map typed_view l.fn.done.items ++ map (given (map string_bytes l.shared.value.items)) (map string_bytes (take l.name-index l.names));
+  items : map typed_view l.done.items ≡ map typed_view l.fn.done.items ++ map (given (map string_bytes l.shared.value.items)) (map string_bytes l.yielded);
   rows : HaveRows l.fn.rows.items (map typed_view l.fn.done.items) → HaveRows l.rows.items (map typed_view l.done.items);
   last : l.mark ≡ true → last_of [] (map (λ d. d.types) (map typed_view l.done.items)) ≡ map string_bytes l.shared.value.items;
 }

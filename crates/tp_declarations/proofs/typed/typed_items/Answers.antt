@@ -1,9 +1,7 @@
-use Rattle.std.proofs.Common.{[], ◌∷◌, ◌++◌, List, String, Global, map, string_bytes, refl, ap, sym, ◌∙◌}
-use Rattle.std.specs.Prelude.{codes}
+use Rattle.std.proofs.Common.{List, String, Global, map, string_bytes, refl, ap, sym, ◌∙◌}
 use Rattle.std.proofs.lemmas.List.{map-append}
 use Rattle.std.proofs.lemmas.Result.{err_from_is_err_and}
 use Rattle.tp_ast.specs.Symbols.{typed_view}
-use Rattle.tp_ast.specs.TypedLists.{given}
 use Rattle.tp_declarations.proofs.OnTypedLists.{begins, item_fails, item_goes_on, dash_last, dash_fails, dash_goes_on, over, some_names}
 use Rattle.std.proofs.Common.{◌&&◌}
 use Rattle.std.specs.List.{list_all}
@@ -35,7 +33,7 @@ pub runs-preserved-then-is_dash : goal.runs-preserved-then-is_dash
 runs-preserved-then-is_dash c =
     let kinds = map string_bytes c.in_ok-kinds.kinds.items in
     let some = some_names c.args.items c.runs.waiting c.if-is_empty.ensures in
-    let grown = c.in_ok-give.ensures.items ∙ ap (λ (ss : List (String Global)). map typed_view c.runs.done.items ++ map (given kinds) (map string_bytes ss)) c.deref.ensures.value in
+    let grown = c.in_ok-give.ensures.items in
     record {
       items =
           dash_goes_on c.args.items _ _ c.runs.rest.now c.first-item.result _ c.in-len1-up.len_at_least c.first-item.is c.runs.invariant.items _ c.kind-item.result kinds _ _ refl
@@ -62,15 +60,11 @@ runs-preserved c = record {
 }
 
 pub returns-clause-items : goal.returns-clause-items
-returns-clause-items c = over c.args.items _ _ _ c.runs.rest.now _ c.in_default.len_below c.runs.invariant.items (
-    c.in_ok-give_object.ensures.items
-    ∙ ap (λ (ss : List (String Global)). map typed_view c.runs.done.items ++ map (given (codes "object" ∷ [])) (map string_bytes ss)) c.deref-2.ensures.value)
+returns-clause-items c = over c.args.items _ _ _ c.runs.rest.now _ c.in_default.len_below c.runs.invariant.items c.in_ok-give_object.ensures.items
 
 pub returns-clause-declared : goal.returns-clause-declared
 returns-clause-declared c =
-    last_declared (types_view c.args.types.now) (map typed_view c.runs.done.items) _ (map string_bytes c.runs.waiting.items) c.runs.are_declared c.runs.invariant.declared (
-    c.in_ok-give_object.ensures.items
-    ∙ ap (λ (ss : List (String Global)). map typed_view c.runs.done.items ++ map (given (codes "object" ∷ [])) (map string_bytes ss)) c.deref-2.ensures.value)
+    last_declared (types_view c.args.types.now) (map typed_view c.runs.done.items) _ (map string_bytes c.runs.waiting.items) c.runs.are_declared c.runs.invariant.declared c.in_ok-give_object.ensures.items
 
 pub invariant_of-items : goal.invariant_of-items
 invariant_of-items c = share_types _ _ (c.in_ok-give_object.ensures.rows c.runs.invariant.rows)

@@ -1,0 +1,13 @@
+use Rattle.std.proofs.Common.{◌≡◌, ◌+◌, ◌≤◌, length}
+use Rattle.tp_text.specs.Lexemes.{placed}
+use Rattle.tp_text.proofs.lexing.next_token.Given as goal
+
+abbrev pub invariant-blanks : goal.invariant-blanks
+invariant-blanks l = record {
+  place : l.at + length l.rest ≡ l.fn.start + length l.fn.bytes;
+  within : length l.rest ≤ length l.fn.bytes;
+  here : placed l.at l.rest ≡ placed l.fn.start l.fn.bytes;
+}
+
+abbrev pub decreases-blanks : goal.decreases-blanks
+decreases-blanks l = length l.rest
