@@ -594,6 +594,9 @@ def quantified(program):
     judged(program, "16 foralls in one another, asked by 512 steps a tick apart", asked, met, steps)
     plain = functools.reduce(lambda inner, k: f"(forall (?v{k}) {inner})", range(22), "(r)")
     judged(program, "22 above one atom, asked by 512 steps a tick apart", asked.replace(deep, plain), met, steps)
+    kept = f"(define (domain d) (:predicates (q ?x) (r)) (:durative-action a :parameters () :duration (= ?duration 1) :condition (over all {deep}) :effect (at end (r))))"
+    spans = "".join(f"{2 * k}: (a) [1]\n" for k in range(512))
+    judged(program, "16 foralls in one another, an invariant of 512 steps", kept, met, spans)
     pairs = "(forall (?x ?y ?z) (or (q ?x ?y) (q ?y ?z)))"
     many = f"(define (domain d) (:predicates (q ?x ?y) (r)) (:action a :parameters () :precondition {pairs} :effect (r)))"
     all_pairs = " ".join(f"(q o{i} o{j})" for i in range(40) for j in range(40))

@@ -1,8 +1,8 @@
 -- Sets by number that grow, are read and are written.
-use Rattle.std.specs.Prelude.{ℕ, zero, suc, ◌≡◌, ◌+◌, ◌<◌, ◌≤◌, ◌==◌, ◌&&◌, ◌||◌, Bool, false, List, [], ◌∷◌, ◌++◌, length, set, take}
+use Rattle.std.specs.Prelude.{ℕ, zero, suc, ◌≡◌, ◌+◌, ◌<◌, ◌≤◌, ◌==◌, ◌&&◌, ◌||◌, Bool, true, false, List, [], ◌∷◌, ◌++◌, length, set, take}
 use Rattle.std.specs.List.{slice_get, list_any}
-use Rattle.std.proofs.Common.{refl, sym, ap, ◌∙◌, arith, get_or}
-use Rattle.std.proofs.lemmas.Bool.{ne_eqb}
+use Rattle.std.proofs.Common.{refl, sym, ap, subst, ◌∙◌, arith, get_or, inl, inr}
+use Rattle.std.proofs.lemmas.Bool.{cases_eq, ne_eqb, and_left, and_right}
 use Rattle.std.proofs.lemmas.Bool.Decides.{nat_tests}
 use Rattle.std.proofs.lemmas.List.Folds.{list_any_more}
 use Rattle.std.proofs.lemmas.Option.{slice_get_read, slice_get_past}
@@ -42,6 +42,23 @@ met_put (first ∷ sets) (suc place) new other who within put zero n =
 met_put (first ∷ sets) (suc place) new other who within put (suc x) n =
     met_put sets place new other who (omega arith) put x n
     ∙ sym (ap (λ t. has_in (slice_get sets x) n || (t && n == who)) (same_test place x))
+
+-- a number that the set at a place has is put in
+pub met_known : (sets : List NumberSet) (place who : ℕ) → is_met_in sets place who ≡ true
+    → (x n : ℕ) → is_met_in sets x n ≡ (is_met_in sets x n || (place == x && n == who))
+met_known sets place who known x n = elim (cases_eq place x) [
+  | inl here ↦ elim (cases_eq n who) [
+    | inl same ↦
+        let met : is_met_in sets x n ≡ true = subst (λ k. is_met_in sets k n ≡ true) here (subst (λ m. is_met_in sets place m ≡ true) (sym same) known) in
+        met ∙ sym (ap (λ t. t || (place == x && n == who)) met)
+    | inr other ↦
+        sym (ap (λ t. is_met_in sets x n || t) (and_right (place == x) (n == who) (ne_eqb n who other))
+        ∙ or_false (is_met_in sets x n))
+  ]
+  | inr apart ↦
+      sym (ap (λ t. is_met_in sets x n || t) (and_left (place == x) (n == who) (ne_eqb place x apart))
+      ∙ or_false (is_met_in sets x n))
+]
 
 -- the set at a place, read
 pub met_read : (sets : List NumberSet) (place : ℕ) (found : NumberSet) → place < length sets → found ≡ get_or sets place found

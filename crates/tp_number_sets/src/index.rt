@@ -35,6 +35,16 @@ fn put_at(sets: &mut [NumberSet], place: usize, who: usize) -> Result<(), AllocE
     sets[place].insert(who)
 }
 
+// Whether the set at this place has a number; past the sets there is none.
+fn is_there(sets: &[NumberSet], place: usize, number: usize) -> bool
+    ensures { result ≡ is_met_in sets.now place number }
+{
+    match sets.get(place) {
+        Some(set) => set.contains(number),
+        None => false,
+    }
+}
+
 // Puts in the numbers of the set at this place; past the sets there is none.
 fn extend_from(sets: &[NumberSet], place: usize, into: &mut NumberSet) -> Result<(), AllocError>
     ensures { OnOk result
@@ -63,6 +73,10 @@ impl Index {
             ≡ (is_met self.old x n || (number == x && n == who))) }
     {
         let place = number as usize;
+        // What is mentioned a second time, as most of a long list is, costs a look alone.
+        if is_there(&self.sets, place, who) {
+            return Ok(());
+        }
         make_sets(self.alloc, &mut self.sets, place + 1)?;
         put_at(&mut self.sets, place, who)
     }

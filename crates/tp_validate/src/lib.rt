@@ -1,6 +1,7 @@
 //! The validator: whether a plan is valid for a task, and its first fault where it is not.
 //!
 //! - `placing`: the steps of a plan with what their actions do, and their events
+//! - `mentioned`: what a condition mentions, each once
 //! - `briefs`, `prepared`: the actions whose long conditions are kept in brief
 //! - `agenda`: the events in the order of their moments, tick after tick
 //! - `durations`: whether a step's duration is lawful
@@ -15,6 +16,7 @@ mod agenda;
 mod briefs;
 mod changes;
 mod durations;
+mod mentioned;
 mod mentions;
 mod placing;
 mod prepared;

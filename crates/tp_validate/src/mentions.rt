@@ -10,6 +10,7 @@ ghost use Rattle.tp_validate.specs.Changed.{changed_atoms, changed_fluents};
 ghost use Rattle.tp_validate.specs.Touched.{invariant_atoms, invariant_fluents, HasMentions, reaches};
 
 use crate::changes::{changed_atoms, changed_fluents};
+use crate::mentioned::Mentioned;
 use crate::placing::{PlacedEvent, PlannedStep};
 use std::alloc::{AllocError, Global};
 use tp_happen::{Event, State, atoms_of, fluents_of};
@@ -49,6 +50,37 @@ fn enter_fluents(
     index.enter(&fluents, place)
 }
 
+// Enters a step at what its invariant mentions, which is gone through.
+fn enter_all(
+    alloc: Global,
+    mentions: &mut Mentions,
+    invariant: &Cond,
+    place: usize,
+) -> Result<(), AllocError>
+    ensures atoms { OnOk result ((x k : ℕ) → is_met mentions.new.atoms x k
+        ≡ (is_met mentions.old.atoms x k || (has (atoms_in invariant.now) x && k == place))) }
+    ensures fluents { OnOk result ((x k : ℕ) → is_met mentions.new.fluents x k
+        ≡ (is_met mentions.old.fluents x k || (has (fluents_in invariant.now) x && k == place))) }
+{
+    enter_atoms(alloc, &mut mentions.atoms, invariant, place)?;
+    enter_fluents(alloc, &mut mentions.fluents, invariant, place)
+}
+
+// The same where it is known what the invariant mentions.
+fn enter_each(
+    mentions: &mut Mentions,
+    mentioned: &Mentioned,
+    place: usize,
+) -> Result<(), AllocError>
+    ensures atoms { OnOk result ((x k : ℕ) → is_met mentions.new.atoms x k
+        ≡ (is_met mentions.old.atoms x k || (has mentioned.now.atoms.items x && k == place))) }
+    ensures fluents { OnOk result ((x k : ℕ) → is_met mentions.new.fluents x k
+        ≡ (is_met mentions.old.fluents x k || (has mentioned.now.fluents.items x && k == place))) }
+{
+    mentions.atoms.enter(&mentioned.atoms, place)?;
+    mentions.fluents.enter(&mentioned.fluents, place)
+}
+
 // Enters a step at what its invariant mentions.
 fn enter(
     alloc: Global,
@@ -65,14 +97,15 @@ fn enter(
 {
     match step.body {
         Body::Instant(_) => Ok(()),
-        Body::Durative(_, _, invariant) => {
-            enter_atoms(alloc, &mut mentions.atoms, invariant, place)?;
-            enter_fluents(alloc, &mut mentions.fluents, invariant, place)
-        }
+        Body::Durative(_, _, invariant) => match step.mentioned() {
+            Some(mentioned) => enter_each(mentions, mentioned, place),
+            None => enter_all(alloc, mentions, invariant, place),
+        },
     }
 }
 
-/// What the invariants of steps mention. Takes the time of all their mentions.
+/// What the invariants of steps mention. Takes the time of all their mentions, those of a long invariant that many steps share each
+/// once.
 pub fn mentions_of(alloc: Global, steps: &[PlannedStep<'_>]) -> Result<Mentions, AllocError>
     ensures { IfOk result (HasMentions steps.now (length steps.now)) }
 {

@@ -7,10 +7,11 @@ ghost use Rattle.tp_happen.specs.Briefs.{IsMet, AreMet};
 ghost use Rattle.tp_happen.specs.Stored.{state_of};
 ghost use Rattle.tp_validate.specs.OfTask.{plan_of, step_of};
 ghost use Rattle.tp_validate.specs.Places.{numbers};
-ghost use Rattle.tp_validate.specs.InBrief.{first_condition, last_condition, OfInvariant};
+ghost use Rattle.tp_validate.specs.InBrief.{first_condition, last_condition, OfInvariant, MentionsFit};
 ghost use Rattle.tp_validate.specs.Prepared.{ArePrepared};
 
 use crate::briefs::Briefs;
+use crate::mentioned::Mentioned;
 use crate::prepared::{Prepared, briefs_among};
 use std::alloc::{AllocError, Global};
 use std::marker::Model;
@@ -58,6 +59,16 @@ impl<'t> PlannedStep<'t> {
         match self.briefs {
             Some(briefs) => briefs.is_kept(state),
             None => false,
+        }
+    }
+
+    /// What its invariant mentions, if that is prepared.
+    pub fn mentioned(&self) -> Option<&Mentioned>
+        ensures { OfInvariant self.now.body (λ v. IfSome result (λ m. MentionsFit v m.now)) }
+    {
+        match self.briefs {
+            Some(briefs) => briefs.mentioned(),
+            None => None,
         }
     }
 
