@@ -597,6 +597,10 @@ def quantified(program):
     kept = f"(define (domain d) (:predicates (q ?x) (r)) (:durative-action a :parameters () :duration (= ?duration 1) :condition (over all {deep}) :effect (at end (r))))"
     spans = "".join(f"{2 * k}: (a) [1]\n" for k in range(512))
     judged(program, "16 foralls in one another, an invariant of 512 steps", kept, met, spans)
+    typed = functools.reduce(lambda inner, k: f"(forall (?v{k} - t) (and (q ?v{k}) {inner}))", range(14), "(r)")
+    others = f"(define (domain d) (:types s t) (:predicates (q ?x) (r)) (:durative-action a :parameters (?x - s) :duration (= ?duration 1) :condition (over all {typed}) :effect (at end (r))))"
+    places = f"(define (problem q) (:domain d) (:objects {each('x#', 512)} - s o0 o1 - t) (:init (r) (q o0) (q o1)) (:goal (r)))"
+    judged(program, "14 foralls, an invariant of 512 steps of as many actions", others, places, "".join(f"{2 * k}: (a x{k}) [1]\n" for k in range(512)))
     pairs = "(forall (?x ?y ?z) (or (q ?x ?y) (q ?y ?z)))"
     many = f"(define (domain d) (:predicates (q ?x ?y) (r)) (:action a :parameters () :precondition {pairs} :effect (r)))"
     all_pairs = " ".join(f"(q o{i} o{j})" for i in range(40) for j in range(40))
