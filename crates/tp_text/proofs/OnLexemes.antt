@@ -6,8 +6,8 @@ use Rattle.std.specs.Str.{IsAscii, IsUtf8}
 use Rattle.std.specs.List.{AllByRecursion}
 use Rattle.std.proofs.lemmas.Bool.{ne_eqb, eq-eqb}
 use Rattle.std.proofs.lemmas.Str.{IsUtf8-from_ascii}
-use Rattle.std.proofs.lemmas.List.{append-nil, at_drop_more, at_drop_all}
-use Rattle.tp_text.specs.Lexemes.{left, right, word, class, is_letter, begins_word, Placed, Lexemes, placed, after_comment, before, with_front, extend, letter}
+use Rattle.std.proofs.lemmas.List.{at_drop_more, at_drop_all}
+use Rattle.tp_text.specs.Lexemes.{left, right, word, class, is_letter, begins_word, Lexemes, placed, after_comment, before, extend, letter}
 use Rattle.tp_text.specs.declared.lexing.Class.{Class}
 use Rattle.tp_text.specs.declared.lexing.Class.TheVariants.{Blank, Semicolon, Opening, Closing, Letter, Other}
 
@@ -70,9 +70,3 @@ run_is_word at b (c ∷ w) rest letters ends =
     ∙ ap (extend at b) (run_is_word (at + 1) c w rest letters.1 ends)
     ∙ extend_before at b c w (placed (at + 1 + suc (length w)) rest)
     ∙ ap (λ (n : ℕ). before (record { lexeme = word (b ∷ c ∷ w); start = at; stop = n }) (placed n rest)) k
-
--- nothing is left
-pub all_placed : (front : List Placed) (at : ℕ) (rest : List ℕ) (total : Lexemes) → length rest < 1 → with_front front (placed at rest) ≡ total → total ≡ Ok front
-unfolding placed
-all_placed front at [] total none so_far = sym so_far ∙ ap (λ (ps : List Placed). Ok ps) (append-nil front)
-all_placed front at (b ∷ bs) total none so_far = absurd (omega arith)

@@ -41,6 +41,18 @@ abbrev pub ComesFirst : ℕ → List ℕ → Option Next → Type 0
 ComesFirst at bytes None = placed at bytes ≡ Ok []
 ComesFirst at bytes (Some n) = placed at bytes ≡ before (placed_of n.token) (placed n.at n.rest.now)
 
+-- it is the slice at its place, behind blanks and comments, and the rest begins where it ends
+pub record StandsFirst (at : ℕ) (bytes : List ℕ) (n : Next) : Type 0 where
+  pub behind : at ≤ n.token.span.start
+  pub blanks :
+      placed at bytes ≡ placed n.token.span.start (drop (n.token.span.start - at) bytes)
+  pub some : n.token.span.start < n.token.span.stop
+  pub slice :
+      n.token.text.now
+      ≡ take (n.token.span.stop - n.token.span.start) (drop (n.token.span.start - at) bytes)
+  pub rest : n.rest.now ≡ drop (n.token.span.stop - at) bytes
+  pub next : n.at ≡ n.token.span.stop
+
 -- a byte among these may not stand where it does
 abbrev pub IsBad : ℕ → List ℕ → TextFault → Type 0
 IsBad at bytes faults.Memory = ⊥

@@ -3,7 +3,7 @@
 ghost use Rattle.std.specs.Prelude.{◌≡◌, ◌∷◌, ◌+◌, ◌<◌, ◌≤◌, length, take, drop, map, All, IsTrue, false, IfOk, IfErr, IfSome, OnOk, Ok, slice_index, ℕ};
 ghost use Rattle.std.specs.Str.{IsAscii};
 ghost use Rattle.tp_text.specs.Lexemes.{class, begins_word, placed, after_comment};
-ghost use Rattle.tp_text.specs.Tokens.{placed_of, max_text, HasNoLexemes, Begins, Covers, ComesFirst, IsBad};
+ghost use Rattle.tp_text.specs.Tokens.{placed_of, max_text, HasNoLexemes, Begins, Covers, ComesFirst, StandsFirst, IsBad};
 
 use crate::fault::TextFault;
 use crate::token::{Span, Token};
@@ -95,6 +95,19 @@ fn first_piece(first: u8, rest: &[u8]) -> Piece
     }
 }
 
+// The text of a token at a place: the slice there, so that its bytes are not looked at a second time.
+fn slice_at<'a>(text: &'a str, at: usize, front: &'a [u8]) -> &'a str
+    requires ascii { IsAscii front.now }
+    requires there { front.now ≡ take (length front.now) (drop at text.now) }
+    requires within { at + length front.now ≤ max_text }
+    ensures { result.now ≡ front.now }
+{
+    match text.get(at..at + front.len()) {
+        Some(slice) => slice,
+        None => ascii_text(front),
+    }
+}
+
 /// A token, and the bytes behind it with the place where they begin.
 #[derive(Clone, Copy)]
 pub struct Next<'a> {
@@ -103,13 +116,20 @@ pub struct Next<'a> {
     pub at: usize,
 }
 
-/// The first token among bytes that begin at a place, if blanks and comments are not all.
-pub fn next_token<'a>(bytes: &'a [u8], start: usize) -> Result<Option<Next<'a>>, TextFault>
-    requires { start + length bytes.now ≤ max_text }
+/// The first token among the bytes of a text from a place on, if blanks and comments are not all.
+pub fn next_token<'a>(
+    text: &'a str,
+    bytes: &'a [u8],
+    start: usize,
+) -> Result<Option<Next<'a>>, TextFault>
+    requires place { start + length bytes.now ≤ max_text }
+    requires there { bytes.now ≡ drop start text.now }
     ensures first { IfOk result (ComesFirst start bytes.now) }
     ensures place { IfOk result
         (λ o. IfSome o (λ n. n.at + length n.rest.now ≡ start + length bytes.now)) }
     ensures shorter { IfOk result (λ o. IfSome o (λ n. length n.rest.now < length bytes.now)) }
+    ensures slice { IfOk result (λ o. IfSome o (StandsFirst start bytes.now)) }
+    ensures there { IfOk result (λ o. IfSome o (λ n. n.rest.now ≡ drop n.at text.now)) }
     ensures refused { IfErr result (IsBad start bytes.now) }
 {
     let mut rest = bytes;
@@ -128,7 +148,7 @@ pub fn next_token<'a>(bytes: &'a [u8], start: usize) -> Result<Option<Next<'a>>,
                 };
                 return Ok(Some(Next {
                     token: Token {
-                        text: ascii_text(front),
+                        text: slice_at(text, at, front),
                         span,
                     },
                     rest: after,
@@ -155,27 +175,10 @@ pub fn tokens<'a>(alloc: Global, text: &'a str) -> Result<Vec<Token<'a>>, TextFa
     let mut tokens = Vec::new(alloc);
     let mut rest = bytes;
     let mut at = 0;
-    'tokens: while let [first, others @ ..] = rest {
-        match first_piece(*first, others) {
-            Piece::Blank(len) => {
-                rest = &rest[len..];
-                at += len;
-            }
-            Piece::Lexeme(len) => {
-                let (front, after) = rest.split_at(len);
-                let span = Span {
-                    start: at as u32,
-                    stop: (at + len) as u32,
-                };
-                tokens.push(Token {
-                    text: ascii_text(front),
-                    span,
-                })?;
-                rest = after;
-                at += len;
-            }
-            Piece::Bad => return Err(TextFault::BadByte(at as u32)),
-        }
+    'tokens: while let Some(next) = next_token(text, rest, at)? {
+        tokens.push(next.token)?;
+        rest = next.rest;
+        at = next.at;
     }
     Ok(tokens)
 }

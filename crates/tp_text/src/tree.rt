@@ -1,6 +1,6 @@
 //! From tokens to a tree.
 
-ghost use Rattle.std.specs.Prelude.{◌≡◌, ◌+◌, ◌<◌, ◌≤◌, List, [], ◌∷◌, ◌++◌, length, IfOk, IfErr, OnOk, Ok};
+ghost use Rattle.std.specs.Prelude.{◌≡◌, ◌+◌, ◌<◌, ◌≤◌, drop, List, [], ◌∷◌, ◌++◌, length, IfOk, IfErr, OnOk, Ok};
 ghost use Rattle.tp_text.specs.Lexemes.{left, right, word, Placed, placed};
 ghost use Rattle.tp_text.specs.Trees.{tree_written, trees_written, HasNoTree, IsOneTree, IsOpen, built, CannotGoOn, IsStuck, kind_lexeme, shape_of, lefts, rights, HasRoom, IsRefused};
 ghost use Rattle.tp_text.specs.Shapes.{Spells, nesting};
@@ -130,15 +130,16 @@ impl<'a> Builder<'a> {
     }
 }
 
-// Whether each of the bytes behind a place may stand where it does.
-fn read_over(bytes: &[u8], start: usize) -> Result<(), TextFault>
-    requires { start + length bytes.now ≤ max_text }
+// Whether each of the bytes of a text from a place on may stand where it does.
+fn read_over(text: &str, bytes: &[u8], start: usize) -> Result<(), TextFault>
+    requires place { start + length bytes.now ≤ max_text }
+    requires there { bytes.now ≡ drop start text.now }
     ensures ok { OnOk result ((ps : List Placed) × (placed start bytes.now ≡ Ok ps)) }
     ensures refused { IfErr result (IsBad start bytes.now) }
 {
     let mut rest = bytes;
     let mut at = start;
-    'lexemes: while let Some(next) = next_token(rest, at)? {
+    'lexemes: while let Some(next) = next_token(text, rest, at)? {
         rest = next.rest;
         at = next.at;
     }
@@ -147,9 +148,10 @@ fn read_over(bytes: &[u8], start: usize) -> Result<(), TextFault>
 
 impl<'a> Builder<'a> {
     // A step by the token that comes next. Where it can't go on, a byte behind it that may not stand there is at fault.
-    fn go_on(&mut self, alloc: Global, next: &Next<'a>) -> Result<(), TextFault>
+    fn go_on(&mut self, alloc: Global, text: &str, next: &Next<'a>) -> Result<(), TextFault>
         requires one { IsOneTree self.old.outer.items self.old.items.items }
         requires place { next.now.at + length next.now.rest.now ≤ max_text }
+        requires there { next.now.rest.now ≡ drop next.now.at text.now }
         ensures ok { OnOk result
             (built self.new ≡ built self.old ++ lexeme_of next.now.token.text.now ∷ []) }
         ensures one { OnOk result (IsOneTree self.new.outer.items self.new.items.items) }
@@ -160,7 +162,7 @@ impl<'a> Builder<'a> {
         match self.step(alloc, &next.token) {
             Ok(()) => Ok(()),
             Err(fault) => {
-                read_over(next.rest, next.at)?;
+                read_over(text, next.rest, next.at)?;
                 Err(fault)
             }
         }
@@ -183,20 +185,20 @@ impl<'a> Builder<'a> {
     }
 }
 
-// The tree that bytes spell, token by token: no list of tokens is made.
-fn tree_in<'a>(alloc: Global, bytes: &'a [u8]) -> Result<Tree<'a>, TextFault>
-    requires { length bytes.now ≤ max_text }
-    ensures found { IfOk result (λ t. Spells bytes.now (shape_of t)) }
+// The tree that a text spells, token by token: no list of tokens is made.
+fn tree_in<'a>(alloc: Global, text: &'a str) -> Result<Tree<'a>, TextFault>
+    requires { length text.now ≤ max_text }
+    ensures found { IfOk result (λ t. Spells text.now (shape_of t)) }
     ensures nested { IfOk result (λ t. nesting (shape_of t) ≤ 64) }
-    ensures refused { IfErr result (λ e. IsRefused bytes.now e) }
+    ensures refused { IfErr result (λ e. IsRefused text.now e) }
 {
     let outer = Vec::new(alloc);
     let items = Vec::new(alloc);
     let mut builder = Builder { outer, items };
-    let mut rest = bytes;
+    let mut rest = text.as_bytes();
     let mut at = 0;
-    'lexemes: while let Some(next) = next_token(rest, at)? {
-        builder.go_on(alloc, &next)?;
+    'lexemes: while let Some(next) = next_token(text, rest, at)? {
+        builder.go_on(alloc, text, &next)?;
         rest = next.rest;
         at = next.at;
     }
@@ -210,9 +212,8 @@ pub fn read_tree<'a>(alloc: Global, text: &'a str) -> Result<Tree<'a>, TextFault
     ensures limited { OnOk result (length text.now ≤ max_text) }
     ensures refused { IfErr result (λ e. IsRefused text.now e) }
 {
-    let bytes = text.as_bytes();
-    if bytes.len() > MAX_TEXT {
+    if text.len() > MAX_TEXT {
         return Err(TextFault::TooLong);
     }
-    tree_in(alloc, bytes)
+    tree_in(alloc, text)
 }

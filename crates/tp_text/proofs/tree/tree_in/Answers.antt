@@ -1,9 +1,9 @@
-use Rattle.std.proofs.Common.{◌≡◌, ◌+◌, length, List, Option, subst, sym, arith, rules, ◌∙◌}
+use Rattle.std.proofs.Common.{◌≡◌, ℕ, ◌+◌, length, drop, List, Option, subst, sym, arith, rules, ◌∙◌}
 use Rattle.std.proofs.lemmas.Result.{err_from_is_err_and}
 use Rattle.std.specs.Prelude.{IfSome}
 use Rattle.tp_text.specs.Lexemes.{Lexeme}
 use Rattle.tp_text.specs.Tokens.{ComesFirst}
-use Rattle.tp_text.specs.Trees.{built, IsDeep}
+use Rattle.tp_text.specs.Trees.{built, IsDeep, IsReadTo}
 use Rattle.tp_text.specs.declared.lexing.Next.{Next}
 use Rattle.tp_text.proofs.OnDepth.{deep_more, nested, not_deep}
 use Rattle.tp_text.proofs.OnReading.{read_none, read_more, stuck_refused, ok_from, built_none}
@@ -14,7 +14,8 @@ lexemes-init c =
     let none = built_none (record { outer = c.new-outer.result; items = c.new-items.result }) c.new-outer.ensures.items c.new-items.ensures.items in
     record {
       place = omega arith;
-      so_far = read_none c.args.bytes.now _ none;
+      there = c.as_bytes-rest.ensures.value;
+      so_far = subst (λ (bs : List ℕ). IsReadTo c.args.text.now (built (record { outer = c.new-outer.result; items = c.new-items.result })) 0 bs) (sym c.as_bytes-rest.ensures.value) (read_none c.args.text.now _ none);
       shallow = subst (λ (ms : List Lexeme). ¬ (IsDeep ms)) (sym none) not_deep;
       one = search rules;
     }
@@ -22,7 +23,7 @@ lexemes-init c =
 pub returns-in_err-go_on-clause-refused : goal.returns-in_err-go_on-clause-refused
 returns-in_err-go_on-clause-refused c =
     let p = err_from_is_err_and c.from_residual-in_err-go_on.result c.from_residual-in_err-go_on.ensures.1 in
-    rw (p.1, p.2) (stuck_refused c.args.bytes.now (built c.lexemes.builder) c.lexemes.at c.lexemes.rest.now c.in-Some.next c.in_err-go_on.field-0.0 c.lexemes.invariant.so_far
+    rw (p.1, p.2) (stuck_refused c.args.text.now (built c.lexemes.builder) c.lexemes.at c.lexemes.rest.now c.in-Some.next c.in_err-go_on.field-0.0 c.lexemes.invariant.so_far
     (subst (ComesFirst c.lexemes.at c.lexemes.rest.now) c.in-Some.is c.in_ok-next.ensures.first) c.in_err-go_on.ensures.refused)
 
 pub lexemes-preserved : goal.lexemes-preserved
@@ -31,7 +32,8 @@ lexemes-preserved c =
     let rest = c.lexemes.rest.now in
     record {
       place = subst (λ (o : Option Next). IfSome o (λ n. n.at + length n.rest.now ≡ at + length rest)) c.in-Some.is c.in_ok-next.ensures.place ∙ c.lexemes.invariant.place;
-      so_far = read_more c.args.bytes.now (built c.lexemes.builder) _ at rest c.in-Some.next c.lexemes.invariant.so_far (subst (ComesFirst at rest) c.in-Some.is c.in_ok-next.ensures.first) c.in_ok-go_on.ensures.ok;
+      there = subst (λ (o : Option Next). IfSome o (λ n. n.rest.now ≡ drop n.at c.args.text.now)) c.in-Some.is c.in_ok-next.ensures.there;
+      so_far = read_more c.args.text.now (built c.lexemes.builder) _ at rest c.in-Some.next c.lexemes.invariant.so_far (subst (ComesFirst at rest) c.in-Some.is c.in_ok-next.ensures.first) c.in_ok-go_on.ensures.ok;
       shallow = subst (λ (ms : List Lexeme). ¬ (IsDeep ms)) (sym c.in_ok-go_on.ensures.ok) (deep_more (built c.lexemes.builder) _ c.in_ok-go_on.ensures.room c.lexemes.invariant.shallow);
       one = c.in_ok-go_on.ensures.one;
     }
