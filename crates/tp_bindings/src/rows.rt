@@ -1,6 +1,6 @@
 //! The bindings of variables, one at a time.
 
-ghost use Rattle.std.specs.Prelude.{◌≡◌, ◌<◌, [], map, length, slice_index_or, true, IfOk};
+ghost use Rattle.std.specs.Prelude.{◌≡◌, ◌<◌, [], map, length, slice_index_or, true, IfOk, IfSome};
 ghost use Rattle.tp_ast.specs.Symbols.{typed_view};
 ghost use Rattle.tp_bindings.specs.Bindings.{choices, bindings};
 ghost use Rattle.tp_bindings.specs.Counts.{IsCount};
@@ -8,7 +8,7 @@ ghost use Rattle.tp_bindings.specs.Hints.{listed, AreListed};
 ghost use Rattle.tp_bindings.specs.Views.{universe_view};
 ghost use Rattle.tp_bindings.specs.Rows.{product, names_in, lists_of, EndsWith};
 
-use crate::universe::{Universe, choices, copied, count_bindings, listed, times};
+use crate::universe::{Universe, choices, copied, count_bindings, listed, place_for, times};
 use std::alloc::{AllocError, Global};
 use std::borrow::CowSlice;
 use tp_ast::marks::is_marked;
@@ -190,6 +190,44 @@ fn rows_at<'u, 'a>(
     }
 }
 
+// Where the objects for a variable stand: at the last of these places, if it is marked.
+fn place_in_row(
+    universe: &Universe,
+    mark: bool,
+    places: &[usize],
+    variable: &Typed,
+) -> Option<usize>
+    ensures { let ns = choices (universe_view universe.now) (typed_view variable.now) in
+        (mark ≡ true → EndsWith (map (listed universe.now) places.now) ns)
+        → IfSome result (λ p. listed universe.now p ≡ ns) }
+{
+    match places {
+        [.., last] if mark => Some(*last),
+        _ => place_for(universe, variable),
+    }
+}
+
+/// Where the objects for each variable stand, if they were all looked for.
+pub fn places_for(
+    alloc: Global,
+    universe: &Universe,
+    variables: &TypedList,
+) -> Result<Option<Vec<usize>>, AllocError>
+    ensures { IfOk result (λ o. IfSome o (λ v. map (listed universe.now) v.items
+        ≡ map (choices (universe_view universe.now)) (map typed_view variables.now.items))) }
+{
+    let marks = variables.marks();
+    let items = variables.as_slice();
+    let mut places = Vec::with_capacity(alloc, items.len())?;
+    for (place, variable) in items.iter().enumerate() {
+        let Some(found) = place_in_row(universe, is_marked(marks, place), &places, variable) else {
+            return Ok(None);
+        };
+        places.push(found)?;
+    }
+    Ok(Some(places))
+}
+
 /// As `rows_of`, where it may be known where the objects for the variables stand.
 pub fn rows_with<'u, 'a>(
     alloc: Global,
@@ -216,6 +254,9 @@ pub fn rows_of<'u, 'a>(
     ensures { IfOk result (λ r. product (lists_of r.lists.items)
         ≡ bindings (universe_view universe.now) (map typed_view variables.now.items)) }
 {
+    if let Some(places) = places_for(alloc, universe, variables)? {
+        return rows_at(alloc, universe, &places);
+    }
     match count_bindings(universe, variables, usize::MAX) {
         None => too_many(alloc),
         // No list is made: many variables may have many objects each.

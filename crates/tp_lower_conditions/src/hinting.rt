@@ -4,37 +4,18 @@ ghost use Rattle.std.specs.Prelude.{◌≡◌, ◌∷◌, [], map, true, IfOk, I
 ghost use Rattle.tp_ast.specs.Symbols.{typed_view};
 ghost use Rattle.tp_ast.specs.CondViews.{cond_view};
 ghost use Rattle.tp_ast.specs.Conditions.{conditions, for_all, for_some};
-ghost use Rattle.tp_bindings.specs.Bindings.{choices, bindings};
+ghost use Rattle.tp_bindings.specs.Bindings.{bindings};
 ghost use Rattle.tp_bindings.specs.Hints.{fits, each_fits, listed};
-ghost use Rattle.tp_bindings.specs.Rows.{product, EndsWith};
+ghost use Rattle.tp_bindings.specs.Rows.{product};
 ghost use Rattle.tp_bindings.specs.Views.{universe_view};
 
 use crate::shortness::mark_of_short;
 use std::alloc::{AllocError, Global};
 use tp_ast::cond::Cond;
-use tp_ast::marks::is_marked;
-use tp_ast::symbols::Typed;
 use tp_ast::typed_list::TypedList;
 use tp_bindings::hints::Hint;
-use tp_bindings::rows::count_rows;
-use tp_bindings::universe::{Universe, have_choices, place_for};
-
-// Where the objects for a variable stand: at the last of these places, if it is marked.
-fn place_in_row(
-    universe: &Universe,
-    mark: bool,
-    places: &[usize],
-    variable: &Typed,
-) -> Option<usize>
-    ensures { let ns = choices (universe_view universe.now) (typed_view variable.now) in
-        (mark ≡ true → EndsWith (map (listed universe.now) places.now) ns)
-        → IfSome result (λ p. listed universe.now p ≡ ns) }
-{
-    match places {
-        [.., last] if mark => Some(*last),
-        _ => place_for(universe, variable),
-    }
-}
+use tp_bindings::rows::{count_rows, places_for};
+use tp_bindings::universe::{Universe, have_choices};
 
 // A place where no object stands.
 fn empty_place(alloc: Global, universe: &Universe) -> Result<Vec<usize>, AllocError>
@@ -43,27 +24,6 @@ fn empty_place(alloc: Global, universe: &Universe) -> Result<Vec<usize>, AllocEr
     let mut places = Vec::with_capacity(alloc, 1)?;
     places.push(universe.known.len())?;
     Ok(places)
-}
-
-// Where the objects for each variable stand, if they were all looked for.
-fn places_for(
-    alloc: Global,
-    universe: &Universe,
-    variables: &TypedList,
-) -> Result<Option<Vec<usize>>, AllocError>
-    ensures { IfOk result (λ o. IfSome o (λ v. map (listed universe.now) v.items
-        ≡ map (choices (universe_view universe.now)) (map typed_view variables.now.items))) }
-{
-    let marks = variables.marks();
-    let items = variables.as_slice();
-    let mut places = Vec::with_capacity(alloc, items.len())?;
-    for (place, variable) in items.iter().enumerate() {
-        let Some(found) = place_in_row(universe, is_marked(marks, place), &places, variable) else {
-            return Ok(None);
-        };
-        places.push(found)?;
-    }
-    Ok(Some(places))
 }
 
 /// Places of lists whose rows are the bindings of some variables, if they are known: where the objects for each stand, or where there

@@ -8,7 +8,7 @@ use Rattle.tp_bindings.specs.Views.{universe_view}
 use Rattle.tp_types.proofs.OnRows.{as_before}
 use Rattle.tp_bindings.proofs.OnRows.{ends_with}
 use Rattle.tp_bindings.proofs.OnListed.{place_more}
-use Rattle.tp_lower_conditions.proofs.hinting.places_for.Goals as goal
+use Rattle.tp_bindings.proofs.rows.places_for.Goals as goal
 
 pub loop-place-preserved : goal.loop-place-preserved
 loop-place-preserved c =
