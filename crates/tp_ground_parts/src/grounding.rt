@@ -9,7 +9,7 @@ ghost use Rattle.tp_lower.specs.Written.{body_in};
 ghost use Rattle.tp_lower.specs.Mentions.{of_body, of_each};
 ghost use Rattle.tp_lower.specs.ReadBack.{named_body};
 ghost use Rattle.tp_lower.specs.Lowered.{Lowers};
-ghost use Rattle.tp_lower.specs.Appended.{Appends};
+ghost use Rattle.tp_lower.specs.Gathered.{list_shows, Gathers};
 ghost use Rattle.tp_ground_parts.specs.Grounding.{ground_actions, of_action};
 ghost use Rattle.tp_bindings.specs.Rows.{product, lists_of};
 ghost use Rattle.tp_bindings.specs.Hints.{body_fits};
@@ -104,7 +104,7 @@ fn push_bodies<'a>(
 ) -> Result<(), GroundFault>
     requires of_universe { universe_view universe.now ≡ writer.old.universe }
     requires fit { body_fits universe.now hints.now (body_view written.now) ≡ true }
-    ensures { Appends named_body writer.old result writer.new into.old.items into.new.items
+    ensures { Gathers (list_shows named_body) writer.old result writer.new into.old into.new
         (map (λ objects. body_in (universe_view universe.now)
         (bound (map typed_view parameters.now) objects) (body_view written.now))
         (bindings (universe_view universe.now) (map typed_view parameters.now)))
@@ -134,7 +134,7 @@ fn push_action<'a>(
     into: &mut Vec<Body>,
 ) -> Result<(), GroundFault>
     requires { universe_view universe.now ≡ writer.old.universe }
-    ensures { Appends named_body writer.old result writer.new into.old.items into.new.items
+    ensures { Gathers (list_shows named_body) writer.old result writer.new into.old into.new
         (map (λ objects. body_in (universe_view universe.now)
         (bound (action_view action.now).parameters objects) (action_view action.now).body)
         (bindings (universe_view universe.now) (action_view action.now).parameters))

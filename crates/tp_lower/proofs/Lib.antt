@@ -1,4 +1,4 @@
-pub mod OnAppended
+pub mod OnGathered
 pub mod OnEvents
 pub mod OnPartLists
 pub mod OnBodies

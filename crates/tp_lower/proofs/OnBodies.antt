@@ -17,18 +17,19 @@ use Rattle.tp_task.specs.Tables.{Tables}
 use Rattle.tp_lower_conditions.specs.Written.{GroundCondition, GroundEffect, GroundLimit, GroundHappening, durative, happening, condition_at, start_in, end_in, body_in}
 use Rattle.tp_lower_conditions.specs.Mentions.{Mentions, ◌then◌, of_condition, of_simple_effect, of_limit, of_each, of_start, of_end, of_body}
 use Rattle.tp_lower_conditions.specs.ReadBack.{named_condition, named_limit, named_event, named_body}
-use Rattle.tp_lower.specs.NumberedEffects.{named_simple_effect}
+use Rattle.tp_lower.specs.Changes.{shows_changes}
+use Rattle.tp_lower.specs.Gathered.{list_shows, IsMade}
 use Rattle.tp_lower.specs.NumberedEnds.{named_ends}
 use Rattle.tp_lower.specs.declared.bodies.Ends.{Ends}
-use Rattle.tp_lower_conditions.specs.Lowered.{Notes, IsLowered, Overflows, Lowers}
+use Rattle.tp_lower_conditions.specs.Lowered.{Notes, Extends, IsLowered, Overflows, Lowers}
 use Rattle.tp_task.specs.declared.fault.GroundFault.{GroundFault}
 use Rattle.tp_task.specs.declared.events.Cond.{Cond}
 use Rattle.tp_task.specs.declared.events.Limit.{Limit}
 use Rattle.tp_task.specs.declared.events.GroundEvent.{GroundEvent}
 use Rattle.tp_task.specs.declared.events.Body.{Body}
 use Rattle.tp_task.specs.declared.events.Body.TheVariants.{Durative}
-use Rattle.tp_lower.specs.declared.effects.NumberedEffect.{NumberedEffect}
-use Rattle.tp_lower_conditions.proofs.OnLowered.{AllLowered, failed, notes_then, overflows_first, overflows_then, lowered_as, lowered_both}
+use Rattle.tp_lower.specs.declared.changes.Changes.{Changes}
+use Rattle.tp_lower_conditions.proofs.OnLowered.{AllLowered, failed, notes_then, notes_extend, extends_then, overflows_first, overflows_then, lowered_both}
 
 -- a fault at the first, the second or the third of three
 module _ (a : WriterView) (m n k : Mentions) (f : GroundFault) where
@@ -41,25 +42,37 @@ module _ (a : WriterView) (m n k : Mentions) (f : GroundFault) where
   pub at_third : (b d : WriterView) → Notes a b m → Notes b d n → Overflows d k f → Overflows a (m then n then k) f
   at_third b d l g h = overflows_then a d (m then n) k f (notes_then a b d m n l g) h
 
--- a condition and simple effects
-abbrev named_pair : Tables → Cond × Vec NumberedEffect Global → GroundCondition × List GroundEffect
-named_pair t p = (named_condition t p.0, map (named_simple_effect t) p.1.items)
+-- what an event says of its parts
+abbrev pub Assembled : GroundEvent → Cond → Changes → List Limit → Type 0
+Assembled e c g ls = (t : Tables) (os : List GroundEffect) → shows_changes t g os → named_event t e ≡ happening (named_condition t c) os (map (named_limit t) ls)
 
-abbrev with_constraint : GroundCondition × List GroundEffect → List GroundLimit → GroundHappening
-with_constraint p ls = happening p.0 p.1 ls
+module _ (a b d : WriterView) (c : Cond) (g : Changes) (e : GroundEvent) (cond : GroundCondition) (outs : List GroundEffect) (l : IsLowered named_condition a b c cond (of_condition cond)) (k : IsMade shows_changes b d g outs (of_each of_simple_effect outs)) where
+  -- a condition and simple effects, in every table that comes after
+  condition_said : (later : Tables) → Extends d.tables later → named_condition later c ≡ cond
+  condition_said later ext = l.says later (extends_then b.tables d.tables later (notes_extend b d (of_each of_simple_effect outs) k.notes) ext)
 
-abbrev pub Assembled : GroundEvent → Cond → List NumberedEffect → List Limit → Type 0
-Assembled e c os ls = (t : Tables) → named_event t e ≡ happening (named_condition t c) (map (named_simple_effect t) os) (map (named_limit t) ls)
+  pub start_lowered : (w : WriterView) (ls : Vec Limit Global) (limits : List GroundLimit) → AllLowered named_limit of_limit d w ls limits → Assembled e c g ls.items → IsLowered named_event a w e (happening cond outs limits) (of_condition cond then of_each of_simple_effect outs then of_each of_limit limits)
+  start_lowered w ls limits h are = record {
+    notes = notes_then a d w (of_condition cond then of_each of_simple_effect outs) (of_each of_limit limits) (notes_then a b d (of_condition cond) (of_each of_simple_effect outs) l.notes k.notes) h.notes;
+    says = λ later ext.
+        let before = extends_then d.tables w.tables later (notes_extend d w (of_each of_limit limits) h.notes) ext in
+        are later outs (k.shown later before)
+        ∙ ap (λ (x : GroundCondition). happening x outs (map (named_limit later) ls.items)) (condition_said later before)
+        ∙ ap (λ (xs : List GroundLimit). happening cond outs xs) (h.says later ext);
+  }
 
-module _ (a b d : WriterView) (c : Cond) (os : Vec NumberedEffect Global) (e : GroundEvent) (cond : GroundCondition) (outs : List GroundEffect) (l : IsLowered named_condition a b c cond (of_condition cond)) (k : AllLowered named_simple_effect of_simple_effect b d os outs) where
-  pair_lowered : IsLowered named_pair a d (c, os) (cond, outs) (of_condition cond then of_each of_simple_effect outs)
-  pair_lowered = lowered_both (λ (p : GroundCondition) (q : List GroundEffect). (p, q)) (c, os) (λ t. refl) l k
+  pub plain_lowered : (ls : List Limit) → ls ≡ [] → Assembled e c g ls → IsLowered named_event a d e (happening cond outs []) (of_condition cond then of_each of_simple_effect outs)
+  plain_lowered ls none are = record {
+    notes = notes_then a b d (of_condition cond) (of_each of_simple_effect outs) l.notes k.notes;
+    says = λ later ext.
+        are later outs (k.shown later ext)
+        ∙ ap (λ (x : GroundCondition). happening x outs (map (named_limit later) ls)) (condition_said later ext)
+        ∙ ap (λ (zs : List Limit). happening cond outs (map (named_limit later) zs)) none;
+  }
 
-  pub start_lowered : (w : WriterView) (ls : Vec Limit Global) (limits : List GroundLimit) → AllLowered named_limit of_limit d w ls limits → Assembled e c os.items ls.items → IsLowered named_event a w e (happening cond outs limits) (of_condition cond then of_each of_simple_effect outs then of_each of_limit limits)
-  start_lowered w ls limits g h = lowered_both with_constraint e (λ t. h t) pair_lowered g
-
-  pub plain_lowered : (ls : List Limit) → ls ≡ [] → Assembled e c os.items ls → IsLowered named_event a d e (happening cond outs []) (of_condition cond then of_each of_simple_effect outs)
-  plain_lowered ls none h = lowered_as (λ (p : GroundCondition × List GroundEffect). with_constraint p []) e (λ t. h t ∙ ap (λ (zs : List Limit). happening (named_condition t c) (map (named_simple_effect t) os.items) (map (named_limit t) zs)) none) pair_lowered
+-- a list of conditions
+pub list_lowered : (a b : WriterView) (v : Vec Cond Global) (ys : List GroundCondition) → IsMade (list_shows named_condition) a b v ys (of_each of_condition ys) → AllLowered named_condition of_condition a b v ys
+list_lowered a b v ys l = record { notes = l.notes; says = l.shown }
 
 -- a start and an end, one after the other
 module _ (a b c : WriterView) (start end : GroundHappening) (m n : Mentions) where

@@ -1,94 +1,76 @@
--- Simple effects as adds, deletes and writes.
-use Rattle.std.proofs.Common.{◌≡◌, ℕ, ◌+◌, ◌<◌, List, [], ◌∷◌, ◌++◌, length, take, get_or, map, refl, sym, ap, subst, ◌∙◌, append-nil}
-use Rattle.std.proofs.lemmas.List.{map-append, take_more}
-use Rattle.tp_task.specs.Tables.{Tables, words_at}
-use Rattle.tp_lower_conditions.specs.Written.{GroundEffect, adds, deletes, writes, added, deleted, written}
-use Rattle.tp_lower_conditions.specs.ReadBack.{named_write}
-use Rattle.tp_lower.specs.NumberedEffects.{named_simple_effect, AreSplit}
+-- Adds, deletes and writes among changes.
+use Rattle.std.proofs.Common.{◌≡◌, ℕ, List, [], ◌∷◌, ◌++◌, Result, Ok, Err, Vec, Global, refl, sym, ap, subst, ◌∙◌, append-nil}
+use Rattle.tp_task.specs.Words.{Words}
+use Rattle.tp_task.specs.Tables.{Tables}
+use Rattle.tp_lower_conditions.specs.Written.{GroundEffect, GroundWrite, adds, deletes, writes, added, deleted, written}
+use Rattle.tp_lower_conditions.specs.WriterViews.{WriterView}
+use Rattle.tp_lower_conditions.specs.Mentions.{Mentions, of_simple_effect, of_each}
+use Rattle.tp_lower.specs.Changes.{shows_atoms, shows_writes, shows_changes}
+use Rattle.tp_lower.specs.Gathered.{IsGathered, Gathers}
 use Rattle.tp_task.specs.declared.events.NumericEffect.{NumericEffect}
-use Rattle.tp_lower.specs.declared.effects.NumberedEffect.{NumberedEffect}
-use Rattle.tp_lower.specs.declared.effects.NumberedEffect.TheVariants.{Add, Delete, Write}
+use Rattle.tp_task.specs.declared.fault.GroundFault.{GroundFault}
+use Rattle.tp_lower.specs.declared.changes.Changes.{Changes}
+use Rattle.tp_lower_conditions.proofs.OnLowered.{of_each_one}
 
-pub added-append : (xs ys : List GroundEffect) → added (xs ++ ys) ≡ added xs ++ added ys
+added-append : (xs ys : List GroundEffect) → added (xs ++ ys) ≡ added xs ++ added ys
 added-append [] ys = refl
 added-append (adds w ∷ xs) ys = ap (λ zs. w ∷ zs) (added-append xs ys)
 added-append (deletes w ∷ xs) ys = added-append xs ys
 added-append (writes w ∷ xs) ys = added-append xs ys
 
-pub deleted-append : (xs ys : List GroundEffect) → deleted (xs ++ ys) ≡ deleted xs ++ deleted ys
+deleted-append : (xs ys : List GroundEffect) → deleted (xs ++ ys) ≡ deleted xs ++ deleted ys
 deleted-append [] ys = refl
 deleted-append (adds w ∷ xs) ys = deleted-append xs ys
 deleted-append (deletes w ∷ xs) ys = ap (λ zs. w ∷ zs) (deleted-append xs ys)
 deleted-append (writes w ∷ xs) ys = deleted-append xs ys
 
-pub written-append : (xs ys : List GroundEffect) → written (xs ++ ys) ≡ written xs ++ written ys
+written-append : (xs ys : List GroundEffect) → written (xs ++ ys) ≡ written xs ++ written ys
 written-append [] ys = refl
 written-append (adds w ∷ xs) ys = written-append xs ys
 written-append (deletes w ∷ xs) ys = written-append xs ys
 written-append (writes w ∷ xs) ys = ap (λ zs. w ∷ zs) (written-append xs ys)
 
-module _ (os : List NumberedEffect) (o : NumberedEffect) (t : Tables) where
-  more_added : added (map (named_simple_effect t) (os ++ o ∷ [])) ≡ added (map (named_simple_effect t) os) ++ added (named_simple_effect t o ∷ [])
-  more_added = ap added (map-append (named_simple_effect t) os (o ∷ [])) ∙ added-append (map (named_simple_effect t) os) (named_simple_effect t o ∷ [])
+-- what is shown of a list that stays as it is, where none of its kind comes behind
+same_atoms : (t : Tables) (v : Vec ℕ Global) (ws all : List Words) → all ≡ ws ++ [] → shows_atoms t v ws → shows_atoms t v all
+same_atoms t v ws all is h = h ∙ sym (is ∙ append-nil ws)
 
-  more_deleted : deleted (map (named_simple_effect t) (os ++ o ∷ [])) ≡ deleted (map (named_simple_effect t) os) ++ deleted (named_simple_effect t o ∷ [])
-  more_deleted = ap deleted (map-append (named_simple_effect t) os (o ∷ [])) ∙ deleted-append (map (named_simple_effect t) os) (named_simple_effect t o ∷ [])
+same_writes : (t : Tables) (v : Vec NumericEffect Global) (ws all : List GroundWrite) → all ≡ ws ++ [] → shows_writes t v ws → shows_writes t v all
+same_writes t v ws all is h = h ∙ sym (is ∙ append-nil ws)
 
-  more_written : written (map (named_simple_effect t) (os ++ o ∷ [])) ≡ written (map (named_simple_effect t) os) ++ written (named_simple_effect t o ∷ [])
-  more_written = ap written (map-append (named_simple_effect t) os (o ∷ [])) ∙ written-append (map (named_simple_effect t) os) (named_simple_effect t o ∷ [])
+-- the mentions of one simple effect
+as_each : (o : GroundEffect) (m : Mentions) → m ≡ of_simple_effect o → m ≡ of_each of_simple_effect (o ∷ [])
+as_each o m is = is ∙ sym (of_each_one of_simple_effect o)
 
--- one list with one more, another as it was
-longer : {A B : Type 0} (f : A → B) (xs : List A) (x : A) (ys whole : List B) → map f xs ≡ ys → whole ≡ ys ++ f x ∷ [] → map f (xs ++ x ∷ []) ≡ whole
-longer f xs x ys whole is e = map-append f xs (x ∷ []) ∙ ap (λ zs. zs ++ f x ∷ []) is ∙ sym e
+module _ (a b : WriterView) (u v : Changes) where
+  pub one_add : (w : Words) → v.deletes ≡ u.deletes → v.writes ≡ u.writes → (r : Result (Unit {0}) GroundFault) → Gathers shows_atoms a r b u.adds v.adds (w ∷ []) (of_simple_effect (adds w)) → Gathers shows_changes a r b u v (adds w ∷ []) (of_each of_simple_effect (adds w ∷ []))
+  one_add w ds ws (Ok x) l = subst (λ m. IsGathered shows_changes a b u v (adds w ∷ []) m) (as_each (adds w) (of_simple_effect (adds w)) refl) (record {
+    notes = l.notes;
+    shown = λ later xs e h. record {
+      adds = l.shown later (added xs) e h.adds ∙ sym (added-append xs (adds w ∷ []));
+      deletes = subst (λ c. shows_atoms later c (deleted (xs ++ adds w ∷ []))) (sym ds) (same_atoms later u.deletes _ _ (deleted-append xs (adds w ∷ [])) h.deletes);
+      writes = subst (λ c. shows_writes later c (written (xs ++ adds w ∷ []))) (sym ws) (same_writes later u.writes _ _ (written-append xs (adds w ∷ [])) h.writes);
+    };
+  })
+  one_add w ds ws (Err e) l = subst (λ m. Gathers shows_changes a (Err e) b u v (adds w ∷ []) m) (as_each (adds w) (of_simple_effect (adds w)) refl) l
 
-unchanged : {B : Type 0} (xs ys whole : List B) → xs ≡ ys → whole ≡ ys ++ [] → xs ≡ whole
-unchanged xs ys whole is e = is ∙ sym (e ∙ append-nil ys)
+  pub one_delete : (w : Words) → v.adds ≡ u.adds → v.writes ≡ u.writes → (r : Result (Unit {0}) GroundFault) → Gathers shows_atoms a r b u.deletes v.deletes (w ∷ []) (of_simple_effect (deletes w)) → Gathers shows_changes a r b u v (deletes w ∷ []) (of_each of_simple_effect (deletes w ∷ []))
+  one_delete w ks ws (Ok x) l = subst (λ m. IsGathered shows_changes a b u v (deletes w ∷ []) m) (as_each (deletes w) (of_simple_effect (deletes w)) refl) (record {
+    notes = l.notes;
+    shown = λ later xs e h. record {
+      adds = subst (λ c. shows_atoms later c (added (xs ++ deletes w ∷ []))) (sym ks) (same_atoms later u.adds _ _ (added-append xs (deletes w ∷ [])) h.adds);
+      deletes = l.shown later (deleted xs) e h.deletes ∙ sym (deleted-append xs (deletes w ∷ []));
+      writes = subst (λ c. shows_writes later c (written (xs ++ deletes w ∷ []))) (sym ws) (same_writes later u.writes _ _ (written-append xs (deletes w ∷ [])) h.writes);
+    };
+  })
+  one_delete w ks ws (Err e) l = subst (λ m. Gathers shows_changes a (Err e) b u v (deletes w ∷ []) m) (as_each (deletes w) (of_simple_effect (deletes w)) refl) l
 
-pub split_add : (os : List NumberedEffect) (ks ds : List ℕ) (ws : List NumericEffect) (a : ℕ) → AreSplit os ks ds ws → AreSplit (os ++ Add a ∷ []) (ks ++ a ∷ []) ds ws
-split_add os ks ds ws a s = record {
-  adds = λ t. longer (words_at t.atoms) ks a _ _ (s.adds t) (more_added os (Add a) t);
-  deletes = λ t. unchanged _ _ _ (s.deletes t) (more_deleted os (Add a) t);
-  writes = λ t. unchanged _ _ _ (s.writes t) (more_written os (Add a) t);
-}
-
-pub split_delete : (os : List NumberedEffect) (ks ds : List ℕ) (ws : List NumericEffect) (a : ℕ) → AreSplit os ks ds ws → AreSplit (os ++ Delete a ∷ []) ks (ds ++ a ∷ []) ws
-split_delete os ks ds ws a s = record {
-  adds = λ t. unchanged _ _ _ (s.adds t) (more_added os (Delete a) t);
-  deletes = λ t. longer (words_at t.atoms) ds a _ _ (s.deletes t) (more_deleted os (Delete a) t);
-  writes = λ t. unchanged _ _ _ (s.writes t) (more_written os (Delete a) t);
-}
-
-pub split_write : (os : List NumberedEffect) (ks ds : List ℕ) (ws : List NumericEffect) (w : NumericEffect) → AreSplit os ks ds ws → AreSplit (os ++ Write w ∷ []) ks ds (ws ++ w ∷ [])
-split_write os ks ds ws w s = record {
-  adds = λ t. unchanged _ _ _ (s.adds t) (more_added os (Write w) t);
-  deletes = λ t. unchanged _ _ _ (s.deletes t) (more_deleted os (Write w) t);
-  writes = λ t. longer (named_write t) ws w _ _ (s.writes t) (more_written os (Write w) t);
-}
-
-module _ (os : List NumberedEffect) (o : NumberedEffect) (ks ds : List ℕ) (ws : List NumericEffect) (s : AreSplit os ks ds ws) where
-  pub one_add : (a : ℕ) (more : List ℕ) → o ≡ Add a → more ≡ ks ++ a ∷ [] → AreSplit (os ++ o ∷ []) more ds ws
-  one_add a more is items = subst (λ p. AreSplit (os ++ p ∷ []) more ds ws) (sym is) (subst (λ ls. AreSplit (os ++ Add a ∷ []) ls ds ws) (sym items) (split_add os ks ds ws a s))
-
-  pub one_delete : (a : ℕ) (more : List ℕ) → o ≡ Delete a → more ≡ ds ++ a ∷ [] → AreSplit (os ++ o ∷ []) ks more ws
-  one_delete a more is items = subst (λ p. AreSplit (os ++ p ∷ []) ks more ws) (sym is) (subst (λ ls. AreSplit (os ++ Delete a ∷ []) ks ls ws) (sym items) (split_delete os ks ds ws a s))
-
-  pub one_write : (w : NumericEffect) (more : List NumericEffect) → o ≡ Write w → more ≡ ws ++ w ∷ [] → AreSplit (os ++ o ∷ []) ks ds more
-  one_write w more is items = subst (λ p. AreSplit (os ++ p ∷ []) ks ds more) (sym is) (subst (λ ls. AreSplit (os ++ Write w ∷ []) ks ds ls) (sym items) (split_write os ks ds ws w s))
-
--- with the next one of a list
-module _ (xs : List NumberedEffect) (i : ℕ) (x : NumberedEffect) (within : i < length xs) (there : x ≡ get_or xs i x) (ks ds : List ℕ) (ws : List NumericEffect) (s : AreSplit (take i xs) ks ds ws) (a : ℕ) (more same : List ℕ) where
-  with_next : take (i + 1) xs ≡ take i xs ++ x ∷ []
-  with_next = take_more xs i x within ∙ ap (λ y. take i xs ++ y ∷ []) (sym there)
-
-  pub next_add : x ≡ Add a → more ≡ ks ++ a ∷ [] → same ≡ ds → AreSplit (take (i + 1) xs) more same ws
-  next_add is items kept = subst (λ os. AreSplit os more same ws) (sym with_next) (subst (λ ls. AreSplit (take i xs ++ x ∷ []) more ls ws) (sym kept) (one_add (take i xs) x ks ds ws s a more is items))
-
-  pub next_delete : x ≡ Delete a → more ≡ ds ++ a ∷ [] → same ≡ ks → AreSplit (take (i + 1) xs) same more ws
-  next_delete is items kept = subst (λ os. AreSplit os same more ws) (sym with_next) (subst (λ ls. AreSplit (take i xs ++ x ∷ []) ls more ws) (sym kept) (one_delete (take i xs) x ks ds ws s a more is items))
-
-same_map : {A : Type 0} (xs : List A) → map (λ (x : A). x) xs ≡ xs
-same_map [] = refl
-same_map (x ∷ xs) = ap (λ ys. x ∷ ys) (same_map xs)
-
-pub split_all : (os all : List NumberedEffect) (ks ds : List ℕ) (ws : List NumericEffect) → map (λ (x : NumberedEffect). x) os ≡ all → AreSplit os ks ds ws → AreSplit all ks ds ws
-split_all os all ks ds ws is s = subst (λ ps. AreSplit ps ks ds ws) (sym (same_map os) ∙ is) s
+  pub one_write : (w : GroundWrite) → v.adds ≡ u.adds → v.deletes ≡ u.deletes → (r : Result (Unit {0}) GroundFault) → Gathers shows_writes a r b u.writes v.writes (w ∷ []) (of_simple_effect (writes w)) → Gathers shows_changes a r b u v (writes w ∷ []) (of_each of_simple_effect (writes w ∷ []))
+  one_write w ks ds (Ok x) l = subst (λ m. IsGathered shows_changes a b u v (writes w ∷ []) m) (as_each (writes w) (of_simple_effect (writes w)) refl) (record {
+    notes = l.notes;
+    shown = λ later xs e h. record {
+      adds = subst (λ c. shows_atoms later c (added (xs ++ writes w ∷ []))) (sym ks) (same_atoms later u.adds _ _ (added-append xs (writes w ∷ [])) h.adds);
+      deletes = subst (λ c. shows_atoms later c (deleted (xs ++ writes w ∷ []))) (sym ds) (same_atoms later u.deletes _ _ (deleted-append xs (writes w ∷ [])) h.deletes);
+      writes = l.shown later (written xs) e h.writes ∙ sym (written-append xs (writes w ∷ []));
+    };
+  })
+  one_write w ks ds (Err e) l = subst (λ m. Gathers shows_changes a (Err e) b u v (writes w ∷ []) m) (as_each (writes w) (of_simple_effect (writes w)) refl) l

@@ -1,5 +1,5 @@
-pub mod Appended
-pub mod NumberedEffects
+pub mod Changes
+pub mod Gathered
 pub mod NumberedEnds
 pub use Rattle.tp_lower_conditions.specs.Written
 pub use Rattle.tp_lower_conditions.specs.Mentions

@@ -1,6 +1,6 @@
 //! The bodies of actions.
 
-ghost use Rattle.std.specs.Prelude.{◌≡◌, [], map, true, IfOk, IfSome};
+ghost use Rattle.std.specs.Prelude.{◌≡◌, List, map, true};
 ghost use Rattle.tp_ast.specs.CondViews.{cond_view};
 ghost use Rattle.tp_ast.specs.ConstraintViews.{constraint_view};
 ghost use Rattle.tp_ast.specs.EffectViews.{effect_view, timed_condition_view, timed_effect_view};
@@ -8,18 +8,18 @@ ghost use Rattle.tp_ast.specs.DomainViews.{body_view};
 ghost use Rattle.tp_ast.specs.Actions.{durative};
 ghost use Rattle.tp_bindings.specs.Views.{env_view, universe_view};
 ghost use Rattle.tp_task.specs.Tables.{Tables};
-ghost use Rattle.tp_lower_conditions.specs.Written.{happening, condition_at, start_in, end_in, instant_in, body_in};
+ghost use Rattle.tp_lower_conditions.specs.Written.{GroundEffect, happening, condition_at, start_in, end_in, instant_in, body_in};
 ghost use Rattle.tp_lower_conditions.specs.Mentions.{◌then◌, of_condition, of_start, of_end, of_instant, of_body};
 ghost use Rattle.tp_lower_conditions.specs.ReadBack.{named_condition, named_limit, named_event, named_body};
 ghost use Rattle.tp_lower.specs.NumberedEnds.{named_ends};
-ghost use Rattle.tp_lower.specs.NumberedEffects.{named_simple_effect, AreSplit};
+ghost use Rattle.tp_lower.specs.Changes.{shows_changes};
 ghost use Rattle.tp_lower_conditions.specs.Lowered.{Lowers};
 ghost use Rattle.tp_bindings.specs.Hints.{fits, if_known, joined_fits, nothing_fits, timed_condition_fits, timed_effect_fits, body_fits};
 
+use crate::changes::Changes;
 use crate::constraints::limits;
-use crate::effects::NumberedEffect;
 use crate::parts::joined;
-use std::alloc::{AllocError, Global};
+use std::alloc::Global;
 use tp_ast::constraint::DurationRule;
 use tp_ast::effect::Effect;
 use tp_ast::timed::{TimedCond, TimedEffect};
@@ -30,106 +30,26 @@ use tp_bindings::hints::{BodyHint, Hint};
 use tp_bindings::universe::Universe;
 use tp_lower_conditions::conditions::condition;
 use tp_lower_conditions::writer::Writer;
-use tp_task::{Body, Cond, GroundEvent, GroundFault, Limit, NumericEffect};
+use tp_task::{Body, Cond, GroundEvent, GroundFault, Limit};
 
-// The adds, the deletes and the writes among simple effects.
-struct Changes {
-    adds: Vec<u32>,
-    deletes: Vec<u32>,
-    writes: Vec<NumericEffect>,
-}
-
-// For how many writes there is to be room.
-fn count_writes(simple_effects: &[NumberedEffect]) -> usize {
-    let mut count = 0usize;
-    for simple_effect in simple_effects {
-        if let NumberedEffect::Write(_) = simple_effect {
-            count = count.saturating_add(1);
-        }
-    }
-    count
-}
-
-// The changes of simple effects of which none is a write, else None.
-fn without_writes(
-    alloc: Global,
-    simple_effects: &[NumberedEffect],
-) -> Result<Option<Changes>, AllocError>
-    ensures { IfOk result (λ o. IfSome o
-        (λ s. AreSplit simple_effects.now s.adds.items s.deletes.items s.writes.items)) }
-{
-    let mut adds = Vec::new(alloc);
-    let mut deletes = Vec::new(alloc);
-    for simple_effect in simple_effects {
-        match simple_effect {
-            NumberedEffect::Add(atom) => adds.push(*atom)?,
-            NumberedEffect::Delete(atom) => deletes.push(*atom)?,
-            NumberedEffect::Write(_) => return Ok(None),
-        }
-    }
-    Ok(Some(Changes {
-        adds,
-        deletes,
-        writes: Vec::new(alloc),
-    }))
-}
-
-// The changes of simple effects.
-fn split(alloc: Global, simple_effects: Vec<NumberedEffect>) -> Result<Changes, AllocError>
-    ensures { IfOk result
-        (λ s. AreSplit simple_effects.items s.adds.items s.deletes.items s.writes.items) }
-{
-    let mut adds = Vec::new(alloc);
-    let mut deletes = Vec::new(alloc);
-    let mut writes = Vec::with_capacity(alloc, count_writes(&simple_effects))?;
-    for simple_effect in simple_effects {
-        match simple_effect {
-            NumberedEffect::Add(atom) => adds.push(atom)?,
-            NumberedEffect::Delete(atom) => deletes.push(atom)?,
-            NumberedEffect::Write(write) => writes.push(write)?,
-        }
-    }
-    Ok(Changes {
-        adds,
-        deletes,
-        writes,
-    })
-}
-
-// The same. Those without a write are only looked at, which costs less than to take them apart.
-fn changes_of(alloc: Global, simple_effects: Vec<NumberedEffect>) -> Result<Changes, AllocError>
-    ensures { IfOk result
-        (λ s. AreSplit simple_effects.items s.adds.items s.deletes.items s.writes.items) }
-{
-    if let Some(changes) = without_writes(alloc, &simple_effects)? {
-        return Ok(changes);
-    }
-    split(alloc, simple_effects)
-}
-
-// The event of these simple effects.
-fn event(
-    alloc: Global,
-    condition: Cond,
-    simple_effects: Vec<NumberedEffect>,
-    constraint: Vec<Limit>,
-) -> Result<GroundEvent, AllocError>
-    ensures { IfOk result
-        (λ e. (t : Tables) → named_event t e ≡ happening (named_condition t condition)
-        (map (named_simple_effect t) simple_effects.items) (map (named_limit t) constraint.items)) }
+// The event of these changes.
+fn event(condition: Cond, changes: Changes, constraint: Vec<Limit>) -> GroundEvent
+    ensures { (t : Tables) (os : List GroundEffect) → shows_changes t changes os
+        → named_event t result ≡ happening (named_condition t condition) os
+        (map (named_limit t) constraint.items) }
 {
     let Changes {
         adds,
         deletes,
         writes,
-    } = changes_of(alloc, simple_effects)?;
-    Ok(GroundEvent {
+    } = changes;
+    GroundEvent {
         condition,
         adds,
         deletes,
         writes,
         constraint,
-    })
+    }
 }
 
 // The conjuncts of a durative action's condition at a specifier.
@@ -185,9 +105,9 @@ fn start<'a>(
     )?;
     let known = Some(&hints.effect);
     let room = hints.effects.at_start;
-    let simple_effects = joined(alloc, universe, env, AtStart, writer, effect, known, room)?;
+    let changes = joined(alloc, universe, env, AtStart, writer, effect, known, room)?;
     let constraint = limits(alloc, env, writer, duration)?;
-    Ok(event(alloc, condition, simple_effects, constraint)?)
+    Ok(event(condition, changes, constraint))
 }
 
 fn end<'a>(
@@ -214,8 +134,8 @@ fn end<'a>(
     let condition = condition_at(alloc, universe, env, AtEnd, writer, condition, known, room)?;
     let known = Some(&hints.effect);
     let room = hints.effects.at_end;
-    let simple_effects = joined(alloc, universe, env, AtEnd, writer, effect, known, room)?;
-    Ok(event(alloc, condition, simple_effects, Vec::new(alloc))?)
+    let changes = joined(alloc, universe, env, AtEnd, writer, effect, known, room)?;
+    Ok(event(condition, changes, Vec::new(alloc)))
 }
 
 fn instant<'a>(
@@ -241,8 +161,8 @@ fn instant<'a>(
     let condition = condition(alloc, universe, env, writer, precondition, known)?;
     let known = Some(&hints.effect);
     let room = hints.effects.at_start;
-    let simple_effects = joined(alloc, universe, env, AtStart, writer, effect, known, room)?;
-    Ok(event(alloc, condition, simple_effects, Vec::new(alloc))?)
+    let changes = joined(alloc, universe, env, AtStart, writer, effect, known, room)?;
+    Ok(event(condition, changes, Vec::new(alloc)))
 }
 
 // A start and an end.

@@ -3,10 +3,11 @@
 //!
 //! - `part_hints`, `part_lengths`, `part_rooms`: what is known of the quantifiers in what is joined before it is written out, how long
 //!   it is, and how much room it takes at least
-//! - `parts`, `effects`, `constraints`, `bodies`: what is written out under a binding
+//! - `changes`, `parts`, `effects`, `constraints`, `bodies`: what is written out under a binding
 #![tactic(auto)]
 
 pub mod bodies;
+pub mod changes;
 pub mod constraints;
 pub mod effects;
 pub mod part_hints;

@@ -31,16 +31,17 @@ fn room_of_each<P: Lowerable>(parts: &[Joined<P>], specifier: TimeSpecifier) -> 
     room
 }
 
+/// For how much there is to be room at a time specifier, outside of quantifiers.
 #[cycle(room_at)]
-fn room_at<P: Lowerable>(part: &Joined<P>, specifier: TimeSpecifier) -> usize {
+pub fn room_at<P: Lowerable>(part: &Joined<P>, specifier: TimeSpecifier) -> usize {
     match part {
         Joined::And(parts) => room_of_each(parts, specifier),
         Joined::Forall(_, _) => 0,
-        Joined::One(one) => usize::from(one.is_at(specifier)),
+        Joined::One(one) => one.count_at(specifier),
     }
 }
 
-/// For how many parts there is to be room at each time specifier: those outside of quantifiers.
+/// The same at each time specifier.
 pub fn rooms_for<P: Lowerable>(part: &Joined<P>) -> Rooms {
     Rooms {
         at_start: room_at(part, TimeSpecifier::AtStart),

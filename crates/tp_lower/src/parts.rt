@@ -10,8 +10,7 @@ ghost use Rattle.tp_bindings.specs.Views.{env_view, universe_view};
 ghost use Rattle.tp_task.specs.Tables.{Tables};
 ghost use Rattle.tp_lower_conditions.specs.Written.{parts_in, inner};
 ghost use Rattle.tp_lower_conditions.specs.Mentions.{Mentions, of_each};
-ghost use Rattle.tp_lower_conditions.specs.Lowered.{Lowers};
-ghost use Rattle.tp_lower.specs.Appended.{Appends};
+ghost use Rattle.tp_lower.specs.Gathered.{Gathers, Makes};
 ghost use Rattle.tp_bindings.specs.Hints.{if_known, joined_fits, parts_fits, under_fits};
 ghost use Rattle.tp_bindings.specs.declared.objects.Universe as objects;
 ghost use Rattle.tp_bindings.specs.declared.hints.Hint as hints;
@@ -33,8 +32,8 @@ use tp_task::GroundFault;
 
 /// What may stand inside.
 pub trait Lowerable: Drop {
-    /// What it is made into.
-    type Lowered: Drop;
+    /// What it is put into.
+    type Gathered: Drop;
 
     /// What it shows, and what is written out for it.
     ghost Seen: { Type 0 };
@@ -43,8 +42,8 @@ pub trait Lowerable: Drop {
 
     ghost seen: { Self → Seen };
 
-    /// What is made says, in tables.
-    ghost named: { Tables → Self.Lowered → Written };
+    /// What a collection shows, in tables.
+    ghost shows: { Tables → Self.Gathered → List Written → Type 0 };
 
     ghost mentions: { Written → Mentions };
 
@@ -60,6 +59,17 @@ pub trait Lowerable: Drop {
         ensures { result ≡ false → (u : bindings.Universe) (e : bindings.Env)
             → written u specifier e (seen self.now) ≡ [] };
 
+    /// For how much there is to be room where it is something at a specifier.
+    fn count_at(&self, specifier: TimeSpecifier) -> usize;
+
+    /// A collection of nothing, with room for so much.
+    fn begun(alloc: Global, room: usize) -> Result<Self::Gathered, AllocError>
+        ensures { IfOk result (λ g. (t : Tables) → shows t g []) };
+
+    /// Makes room for what stands under so many bindings.
+    fn make_room(into: &mut Self::Gathered, bindings: usize) -> Result<(), AllocError>
+        ensures { (t : Tables) (ws : List Written) → shows t into.old ws → shows t into.new ws };
+
     /// What is left of so many steps of a walk after it.
     fn after(&self, steps: usize) -> Option<usize>;
 
@@ -70,7 +80,7 @@ pub trait Lowerable: Drop {
     fn hint(&self, alloc: Global, universe: &Universe) -> Result<Hint, AllocError>
         ensures { IfOk result (λ h. fits universe.now h (seen self.now) ≡ true) };
 
-    /// Puts what it is at a specifier at the end of a list.
+    /// Puts what it is at a specifier into a collection, behind what is there.
     fn lower<'a>(
         &'a self,
         alloc: Global,
@@ -79,11 +89,11 @@ pub trait Lowerable: Drop {
         specifier: TimeSpecifier,
         writer: &mut Writer<'a>,
         hint: Option<&Hint>,
-        into: &mut Vec<Self::Lowered>,
+        into: &mut Self::Gathered,
     ) -> Result<(), GroundFault>
         requires of_universe { universe_view universe.now ≡ writer.old.universe }
         requires fit { if_known (fits universe.now) hint (seen self.now) ≡ true }
-        ensures { Appends named writer.old result writer.new into.old.items into.new.items (written
+        ensures { Gathers shows writer.old result writer.new into.old into.new (written
             (universe_view universe.now) specifier (env_view env.now) (seen self.now))
             (of_each mentions (written
             (universe_view universe.now) specifier (env_view env.now) (seen self.now))) };
@@ -122,12 +132,12 @@ fn push_parts<'a, P: Lowerable>(
     writer: &mut Writer<'a>,
     parts: &'a [Joined<P>],
     hints: &[Hint],
-    into: &mut Vec<P::Lowered>,
+    into: &mut P::Gathered,
 ) -> Result<(), GroundFault>
     requires of_universe { universe_view universe.now ≡ writer.old.universe }
     requires fit { parts_fits universe.now (P.fits universe.now) hints.now
         (syntax_parts (map (joined_view P.seen) parts.now)) ≡ true }
-    ensures { Appends P.named writer.old result writer.new into.old.items into.new.items
+    ensures { Gathers P.shows writer.old result writer.new into.old into.new
         (flat_map (λ p. parts_in (universe_view universe.now) (P.written
         (universe_view universe.now) specifier) (env_view env.now)
         (joined_view P.seen p)) parts.now)
@@ -139,7 +149,7 @@ fn push_parts<'a, P: Lowerable>(
         // A part that is nothing at the specifier is only looked at, which costs less.
         if may_be_at(part, specifier) {
             let hint = part_hint(universe, hints, parts, place, part);
-            push_part(alloc, universe, env, specifier, writer, part, hint, into)?;
+            push_next(alloc, universe, env, specifier, writer, part, hint, into)?;
         }
     }
     Ok(())
@@ -167,12 +177,12 @@ fn push_under_each<'a, P: Lowerable>(
     variables: &Variables<'a>,
     part: &'a Joined<P>,
     inside: Option<Inside>,
-    into: &mut Vec<P::Lowered>,
+    into: &mut P::Gathered,
 ) -> Result<(), GroundFault>
     requires of_universe { universe_view universe.now ≡ writer.old.universe }
     requires fit { IfSome inside (λ i. under_fits universe.now (P.fits universe.now) i.places.now
         i.hint.now (map typed_view variables.now) (joined_view P.seen part.now) ≡ true) }
-    ensures { Appends P.named writer.old result writer.new into.old.items into.new.items
+    ensures { Gathers P.shows writer.old result writer.new into.old into.new
         (flat_map (λ e. parts_in (universe_view universe.now)
         (P.written (universe_view universe.now) specifier) e (joined_view P.seen part.now))
         (inner (universe_view universe.now) (env_view env.now) (map typed_view variables.now)))
@@ -184,7 +194,7 @@ fn push_under_each<'a, P: Lowerable>(
     if rows.count > FEW_BINDINGS {
         writer.extent().ask(alloc, rows.count, of_part(part))?;
     }
-    into.reserve(rows.count)?;
+    P::make_room(into, rows.count)?;
     let hint = hint_in(inside);
     for place in 0..rows.count {
         writer.extent().count_one(alloc, place, rows.count)?;
@@ -195,7 +205,34 @@ fn push_under_each<'a, P: Lowerable>(
     Ok(())
 }
 
-/// Puts the parts at a specifier at the end of a list, each after the one before.
+/// The same as `push_part`, but what stands alone is taken at once.
+#[cycle(push)]
+pub fn push_next<'a, P: Lowerable>(
+    alloc: Global,
+    universe: &Universe<'a>,
+    env: &Env<'_, 'a>,
+    specifier: TimeSpecifier,
+    writer: &mut Writer<'a>,
+    part: &'a Joined<P>,
+    hint: Option<&Hint>,
+    into: &mut P::Gathered,
+) -> Result<(), GroundFault>
+    requires of_universe { universe_view universe.now ≡ writer.old.universe }
+    requires fit { if_known (joined_fits universe.now (P.fits universe.now)) hint
+        (joined_view P.seen part.now) ≡ true }
+    ensures { Gathers P.shows writer.old result writer.new into.old into.new
+        (parts_in (universe_view universe.now) (P.written (universe_view universe.now) specifier)
+        (env_view env.now) (joined_view P.seen part.now))
+        (of_each P.mentions (parts_in (universe_view universe.now) (P.written
+        (universe_view universe.now) specifier) (env_view env.now) (joined_view P.seen part.now))) }
+{
+    match part {
+        Joined::One(one) => one.lower(alloc, universe, env, specifier, writer, hint, into),
+        _ => push_part(alloc, universe, env, specifier, writer, part, hint, into),
+    }
+}
+
+/// Puts the parts at a specifier into a collection, each after the one before.
 #[cycle(push)]
 pub fn push_part<'a, P: Lowerable>(
     alloc: Global,
@@ -205,12 +242,12 @@ pub fn push_part<'a, P: Lowerable>(
     writer: &mut Writer<'a>,
     part: &'a Joined<P>,
     hint: Option<&Hint>,
-    into: &mut Vec<P::Lowered>,
+    into: &mut P::Gathered,
 ) -> Result<(), GroundFault>
     requires of_universe { universe_view universe.now ≡ writer.old.universe }
     requires fit { if_known (joined_fits universe.now (P.fits universe.now)) hint
         (joined_view P.seen part.now) ≡ true }
-    ensures { Appends P.named writer.old result writer.new into.old.items into.new.items
+    ensures { Gathers P.shows writer.old result writer.new into.old into.new
         (parts_in (universe_view universe.now) (P.written (universe_view universe.now) specifier)
         (env_view env.now) (joined_view P.seen part.now))
         (of_each P.mentions (parts_in (universe_view universe.now) (P.written
@@ -242,17 +279,17 @@ pub fn joined<'a, P: Lowerable>(
     part: &'a Joined<P>,
     hint: Option<&Hint>,
     room: usize,
-) -> Result<Vec<P::Lowered>, GroundFault>
+) -> Result<P::Gathered, GroundFault>
     requires of_universe { universe_view universe.now ≡ writer.old.universe }
     requires fit { if_known (joined_fits universe.now (P.fits universe.now)) hint
         (joined_view P.seen part.now) ≡ true }
-    ensures { Lowers (λ t v. map (P.named t) v.items) writer.old result writer.new
+    ensures { Makes P.shows writer.old result writer.new
         (parts_in (universe_view universe.now) (P.written (universe_view universe.now) specifier)
         (env_view env.now) (joined_view P.seen part.now))
         (of_each P.mentions (parts_in (universe_view universe.now) (P.written
         (universe_view universe.now) specifier) (env_view env.now) (joined_view P.seen part.now))) }
 {
-    let mut lowered = Vec::with_capacity(alloc, room)?;
+    let mut gathered = P::begun(alloc, room)?;
     push_part(
         alloc,
         universe,
@@ -261,7 +298,7 @@ pub fn joined<'a, P: Lowerable>(
         writer,
         part,
         hint,
-        &mut lowered,
+        &mut gathered,
     )?;
-    Ok(lowered)
+    Ok(gathered)
 }

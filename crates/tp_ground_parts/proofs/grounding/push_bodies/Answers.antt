@@ -10,13 +10,14 @@ use Rattle.tp_bindings.specs.Views.{universe_view}
 use Rattle.tp_lower.specs.Written.{body_in}
 use Rattle.tp_lower.specs.Mentions.{of_body, of_each}
 use Rattle.tp_lower.specs.ReadBack.{named_body}
-use Rattle.tp_lower.proofs.OnAppended.{appended_none, appended_same, appends_failed}
+use Rattle.tp_lower.specs.Gathered.{list_shows}
+use Rattle.tp_lower.proofs.OnGathered.{list_kept, gathered_same, gathers_failed}
 use Rattle.tp_ground_parts.proofs.OnActions.{each_push, each_stopped, plain_env, body_under, mentions_under}
 use Rattle.tp_ground_parts.proofs.grounding.push_bodies.Goals as goal
 
 pub loop-place-init : goal.loop-place-init
 loop-place-init c = record {
-  appended = appended_none named_body _ _ _ c.in_ok-reserve.ensures.items;
+  gathered = list_kept named_body _ _ _ c.in_ok-reserve.ensures.items;
   lists = c.in_ok-rows.ensures ∙ ap (λ (vs : List Typed). bindings (universe_view c.args.universe.now) (map typed_view vs)) c.items.ensures;
   count = refl;
 }
@@ -34,7 +35,7 @@ loop-place-preserved c =
     let names = ap (map (λ (o : Bor Name). o.now)) c.deref.ensures.value in
     let env = plain_env _ _ _ row refl names in
     record {
-      appended = each_push named_body (mentions_under u vs x) xs place row lt.1 item _ _ _ _ _ _ (body_under u vs x) _ _ _ c.in_ok-push.ensures.items (ap (λ (e : Env). body_in u e x) env) (ap (λ (e : Env). of_body u e x) env) c.loop-place.invariant.appended c.in_ok-body.ensures;
+      gathered = each_push named_body (mentions_under u vs x) xs place row lt.1 item _ _ _ _ _ _ (body_under u vs x) _ _ _ c.in_ok-push.ensures.items (ap (λ (e : Env). body_in u e x) env) (ap (λ (e : Env). of_body u e x) env) c.loop-place.invariant.gathered c.in_ok-body.ensures;
       lists = ap (λ (v : Vec Names Global). product (lists_of v.items)) c.turn_to.ensures.lists ∙ c.loop-place.invariant.lists;
       count = c.turn_to.ensures.count ∙ c.loop-place.invariant.count;
     }
@@ -50,8 +51,8 @@ returns-in_err-body c =
     let lt = within (product (lists_of c.loop-place.rows.lists.items)) xs place _ _ c.loop-place.invariant.lists c.loop-place-test.true c.loop-place.invariant.count c.loop-place.rows.counted in
     let item = row_there (product (lists_of c.loop-place.rows.lists.items)) xs place row c.loop-place.invariant.lists lt.0 c.turn_to.ensures.row in
     let names = ap (map (λ (o : Bor Name). o.now)) c.deref.ensures.value in
-    appends_failed named_body _ _ _ _ _ _ _ _ c.from_residual-in_err-body.ensures.1
-    (each_stopped (mentions_under u vs x) xs place row lt.1 item _ _ _ _ _ refl (ap (λ (e : Env). of_body u e x) (plain_env _ _ _ row refl names)) c.loop-place.invariant.appended.lowered.notes c.in_err-body.ensures)
+    gathers_failed (list_shows named_body) _ _ _ _ _ _ _ _ c.from_residual-in_err-body.ensures.1
+    (each_stopped (mentions_under u vs x) xs place row lt.1 item _ _ _ _ _ refl (ap (λ (e : Env). of_body u e x) (plain_env _ _ _ row refl names)) c.loop-place.invariant.gathered.notes c.in_err-body.ensures)
 
 pub returns : goal.returns
 returns c =
@@ -60,4 +61,4 @@ returns c =
     let vs = map typed_view c.args.parameters.now in
     let xs = bindings u vs in
     let ended = behind_all (product (lists_of c.loop-place.rows.lists.items)) xs c.loop-place.place _ _ c.loop-place.invariant.lists c.loop-place-test.false c.loop-place.invariant.count c.loop-place.rows.counted in
-    appended_same named_body _ _ (ap (map (body_under u vs x)) (take_all c.loop-place.place xs ended)) (ap (of_each (mentions_under u vs x)) (take_all c.loop-place.place xs ended)) c.loop-place.invariant.appended
+    gathered_same (list_shows named_body) _ _ (ap (map (body_under u vs x)) (take_all c.loop-place.place xs ended)) (ap (of_each (mentions_under u vs x)) (take_all c.loop-place.place xs ended)) c.loop-place.invariant.gathered

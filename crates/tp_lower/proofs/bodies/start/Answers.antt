@@ -15,17 +15,17 @@ returns-in_err-condition c =
     let env = env_view c.args.env.now in
     failed named_event _ _ _ _ _ _ c.from_residual.ensures.1 (at_first c.args.writer.now (of_condition (condition_at u AtStart env (timed_condition_view c.args.condition.now))) (of_each of_simple_effect (simple_effects_at u AtStart env (timed_effect_view c.args.effect.now))) (of_each of_limit (limits_in env (constraint_view c.args.duration.now))) _ c.in_err-condition.ensures)
 
-pub returns-in_err-simple_effects : goal.returns-in_err-simple_effects
-returns-in_err-simple_effects c =
+pub returns-in_err-changes : goal.returns-in_err-changes
+returns-in_err-changes c =
     let u = universe_view c.args.universe.now in
     let env = env_view c.args.env.now in
-    failed named_event _ _ _ _ _ _ c.from_residual-in_err-simple_effects.ensures.1 (at_second _ (of_condition (condition_at u AtStart env (timed_condition_view c.args.condition.now))) (of_each of_simple_effect (simple_effects_at u AtStart env (timed_effect_view c.args.effect.now))) (of_each of_limit (limits_in env (constraint_view c.args.duration.now))) _ _ c.in_ok-condition.ensures.notes c.in_err-simple_effects.ensures)
+    failed named_event _ _ _ _ _ _ c.from_residual-in_err-changes.ensures.1 (at_second _ (of_condition (condition_at u AtStart env (timed_condition_view c.args.condition.now))) (of_each of_simple_effect (simple_effects_at u AtStart env (timed_effect_view c.args.effect.now))) (of_each of_limit (limits_in env (constraint_view c.args.duration.now))) _ _ c.in_ok-condition.ensures.notes c.in_err-changes.ensures)
 
 pub returns-in_err-constraint : goal.returns-in_err-constraint
 returns-in_err-constraint c =
     let u = universe_view c.args.universe.now in
     let env = env_view c.args.env.now in
-    failed named_event _ _ _ _ _ _ c.from_residual-in_err-constraint.ensures.1 (at_third _ (of_condition (condition_at u AtStart env (timed_condition_view c.args.condition.now))) (of_each of_simple_effect (simple_effects_at u AtStart env (timed_effect_view c.args.effect.now))) (of_each of_limit (limits_in env (constraint_view c.args.duration.now))) _ _ _ c.in_ok-condition.ensures.notes c.in_ok-simple_effects.ensures.notes c.in_err-constraint.ensures)
+    failed named_event _ _ _ _ _ _ c.from_residual-in_err-constraint.ensures.1 (at_third _ (of_condition (condition_at u AtStart env (timed_condition_view c.args.condition.now))) (of_each of_simple_effect (simple_effects_at u AtStart env (timed_effect_view c.args.effect.now))) (of_each of_limit (limits_in env (constraint_view c.args.duration.now))) _ _ _ c.in_ok-condition.ensures.notes c.in_ok-changes.ensures.notes c.in_err-constraint.ensures)
 
 pub returns : goal.returns
-returns c = start_lowered _ _ _ _ _ _ _ _ c.in_ok-condition.ensures c.in_ok-simple_effects.ensures _ _ _ c.in_ok-constraint.ensures c.in_ok-event.ensures
+returns c = start_lowered _ _ _ _ _ _ _ _ c.in_ok-condition.ensures c.in_ok-changes.ensures _ _ _ c.in_ok-constraint.ensures c.event.ensures

@@ -12,12 +12,12 @@ use Rattle.tp_bindings.proofs.Along.{next, ended}
 use Rattle.tp_lower_conditions.proofs.OnInner.{flat_under, inner_env}
 use Rattle.tp_bindings.proofs.OnHints.{listed_under}
 use Rattle.tp_lower.proofs.OnPartLists.{part_of, part_under, part_in, parts_of, bound_of}
-use Rattle.tp_lower.proofs.OnAppended.{all_appended, appended_at, none_appended, appended_as, appends_as, loop_stopped}
-use Rattle.tp_lower.proofs.parts.+push.Goals.{push_parts-then-may_be_at+in_ok-push_part, push_parts-else-may_be_at}
+use Rattle.tp_lower.proofs.OnGathered.{all_gathered, gathered_at, none_gathered, kept_gathered, gathered_as, gathers_as, loop_stopped}
+use Rattle.tp_lower.proofs.parts.+push.Goals.{push_parts-then-may_be_at+in_ok-push_next, push_parts-else-may_be_at}
 use Rattle.tp_lower.proofs.parts.+push.Goals as goal
 
 pub push_parts-loop-place-init : goal.push_parts-loop-place-init
-push_parts-loop-place-init g t c = none_appended g.P.Lowerable.named g.P.Lowerable.mentions _ _ _ _ refl refl
+push_parts-loop-place-init g t c = none_gathered g.P.Lowerable.shows g.P.Lowerable.mentions _ _ _ _ refl refl
 
 pub push_parts-loop-place-preserved : goal.push_parts-loop-place-preserved
 push_parts-loop-place-preserved g t c =
@@ -27,29 +27,29 @@ push_parts-loop-place-preserved g t c =
     let here = f c.index-parts-place.result in
     let more = next f c.args.parts.now c.loop-place.place c.index-parts-place.result c.loop-place-test.true c.index-parts-place.is in
     elim c.if-may_be_at.branch [
-      | push_parts-then-may_be_at+in_ok-push_part w ↦
-          appended_at g.P.Lowerable.named g.P.Lowerable.mentions _ _ _ _ _ _ _ w.writer-is (ap (λ (v : Vec g.row.P-Lowered.Denot Global). v.items) w.into-is)
-          (all_appended g.P.Lowerable.named g.P.Lowerable.mentions _ _ _ _ _ _ before here _ more c.loop-place.invariant w.in_ok-push_part.ensures)
+      | push_parts-then-may_be_at+in_ok-push_next w ↦
+          gathered_at g.P.Lowerable.shows g.P.Lowerable.mentions _ _ _ _ _ _ _ w.writer-is w.into-is
+          (all_gathered g.P.Lowerable.shows g.P.Lowerable.mentions _ _ _ _ _ _ before here _ more c.loop-place.invariant w.in_ok-push_next.ensures)
       | push_parts-else-may_be_at w ↦
-          appended_at g.P.Lowerable.named g.P.Lowerable.mentions _ _ _ _ _ _ _ w.writer-is (ap (λ (v : Vec g.row.P-Lowered.Denot Global). v.items) w.into-is)
-          (all_appended g.P.Lowerable.named g.P.Lowerable.mentions _ _ _ _ _ _ before here _ more c.loop-place.invariant (none_appended g.P.Lowerable.named g.P.Lowerable.mentions _ _ _ here (c.may_be_at.ensures w.if-may_be_at.false u (env_view c.args.env.now)) refl))
+          gathered_at g.P.Lowerable.shows g.P.Lowerable.mentions _ _ _ _ _ _ _ w.writer-is w.into-is
+          (all_gathered g.P.Lowerable.shows g.P.Lowerable.mentions _ _ _ _ _ _ before here _ more c.loop-place.invariant (none_gathered g.P.Lowerable.shows g.P.Lowerable.mentions _ _ _ here (c.may_be_at.ensures w.if-may_be_at.false u (env_view c.args.env.now)) refl))
     ]
 
-pub push_parts-returns-in_err-push_part : goal.push_parts-returns-in_err-push_part
-push_parts-returns-in_err-push_part g t c =
+pub push_parts-returns-in_err-push_next : goal.push_parts-returns-in_err-push_next
+push_parts-returns-in_err-push_next g t c =
     let u = universe_view c.args.universe.now in
     let f = part_of u (g.P.Lowerable.written u c.args.specifier) g.P.Lowerable.seen (env_view c.args.env.now) in
-    loop_stopped g.P.Lowerable.named g.P.Lowerable.mentions c.args.parts.now c.loop-place.place c.index-parts-place.result c.loop-place-test.true c.index-parts-place.is _ _ _ _ _ _ _ _ _ c.from_residual.ensures.1 f _ refl refl c.loop-place.invariant c.in_err-push_part.ensures
+    loop_stopped g.P.Lowerable.shows g.P.Lowerable.mentions c.args.parts.now c.loop-place.place c.index-parts-place.result c.loop-place-test.true c.index-parts-place.is _ _ _ _ _ _ _ _ _ c.from_residual.ensures.1 f _ refl refl c.loop-place.invariant c.in_err-push_next.ensures
 
 pub push_parts-returns : goal.push_parts-returns
 push_parts-returns g t c =
     let u = universe_view c.args.universe.now in
     let f = part_of u (g.P.Lowerable.written u c.args.specifier) g.P.Lowerable.seen (env_view c.args.env.now) in
-    appended_as g.P.Lowerable.named g.P.Lowerable.mentions _ _ _ _ _ _ (sym (ended f c.args.parts.now c.loop-place.place c.loop-place-test.false)) c.loop-place.invariant
+    gathered_as g.P.Lowerable.shows g.P.Lowerable.mentions _ _ _ _ _ _ (sym (ended f c.args.parts.now c.loop-place.place c.loop-place-test.false)) c.loop-place.invariant
 
 pub push_under_each-loop-place-init : goal.push_under_each-loop-place-init
 push_under_each-loop-place-init g t c = record {
-  appended = none_appended g.P.Lowerable.named g.P.Lowerable.mentions _ _ _ _ refl c.in_ok-reserve.ensures.items;
+  appended = kept_gathered g.P.Lowerable.shows g.P.Lowerable.mentions _ _ _ _ refl c.in_ok-make_room.ensures;
   lists = c.in_ok-rows.ensures ∙ ap (λ (vs : List Typed). bindings (universe_view c.args.universe.now) (map typed_view vs)) c.items.ensures;
   count = refl;
 }
@@ -73,8 +73,8 @@ push_under_each-loop-place-preserved g t c =
     let f = part_under u read g.P.Lowerable.seen vs env c.args.part.now in
     record {
       appended =
-          all_appended g.P.Lowerable.named g.P.Lowerable.mentions _ _ _ _ _ _ (flat_map f (take place xs)) (f row) _ (next f xs place row lt.1 item) c.loop-place.invariant.appended
-          (appended_as g.P.Lowerable.named g.P.Lowerable.mentions _ _ _ _ _ _ (ap (λ (e : Env). parts_in u read e x) (sym (inner_env _ _ _ row names))) c.in_ok-push_part.ensures);
+          all_gathered g.P.Lowerable.shows g.P.Lowerable.mentions _ _ _ _ _ _ (flat_map f (take place xs)) (f row) _ (next f xs place row lt.1 item) c.loop-place.invariant.appended
+          (gathered_as g.P.Lowerable.shows g.P.Lowerable.mentions _ _ _ _ _ _ (ap (λ (e : Env). parts_in u read e x) (sym (inner_env _ _ _ row names))) c.in_ok-push_part.ensures);
       lists = ap (λ (v : Vec Names Global). product (lists_of v.items)) c.turn_to.ensures.lists ∙ c.loop-place.invariant.lists;
       count = c.turn_to.ensures.count ∙ c.loop-place.invariant.count;
     }
@@ -92,7 +92,7 @@ push_under_each-returns-in_err-push_part g t c =
     let lt = within (product (lists_of c.loop-place.rows.lists.items)) xs place _ _ c.loop-place.invariant.lists c.loop-place-test.true c.loop-place.invariant.count c.loop-place.rows.counted in
     let item = row_there (product (lists_of c.loop-place.rows.lists.items)) xs place row c.loop-place.invariant.lists lt.0 c.turn_to.ensures.row in
     let names = ap (map (λ (o : Bor Name). o.now)) c.deref.ensures.value in
-    loop_stopped g.P.Lowerable.named g.P.Lowerable.mentions xs place row lt.1 item _ _ _ _ _ _ _ _ _ c.from_residual-in_err-push_part.ensures.1 (part_under u read g.P.Lowerable.seen vs env c.args.part.now) _ (ap (λ (e : Env). parts_in u read e x) (inner_env _ _ _ row names))
+    loop_stopped g.P.Lowerable.shows g.P.Lowerable.mentions xs place row lt.1 item _ _ _ _ _ _ _ _ _ c.from_residual-in_err-push_part.ensures.1 (part_under u read g.P.Lowerable.seen vs env c.args.part.now) _ (ap (λ (e : Env). parts_in u read e x) (inner_env _ _ _ row names))
     (sym (flat_under env vs u (part_in u read g.P.Lowerable.seen c.args.part.now))) c.loop-place.invariant.appended c.in_err-push_part.ensures
 
 pub push_under_each-returns : goal.push_under_each-returns
@@ -103,12 +103,12 @@ push_under_each-returns g t c =
     let vs = map typed_view c.args.variables.now in
     let xs = bindings u vs in
     let all_of = behind_all (product (lists_of c.loop-place.rows.lists.items)) xs c.loop-place.place _ _ c.loop-place.invariant.lists c.loop-place-test.false c.loop-place.invariant.count c.loop-place.rows.counted in
-    appended_as g.P.Lowerable.named g.P.Lowerable.mentions _ _ _ _ _ _ (sym (ended (part_under u read g.P.Lowerable.seen vs env c.args.part.now) xs c.loop-place.place all_of ∙ flat_under env vs u (part_in u read g.P.Lowerable.seen c.args.part.now))) c.loop-place.invariant.appended
+    gathered_as g.P.Lowerable.shows g.P.Lowerable.mentions _ _ _ _ _ _ (sym (ended (part_under u read g.P.Lowerable.seen vs env c.args.part.now) xs c.loop-place.place all_of ∙ flat_under env vs u (part_in u read g.P.Lowerable.seen c.args.part.now))) c.loop-place.invariant.appended
 
 pub push_part-returns-in-And : goal.push_part-returns-in-And
 push_part-returns-in-And g t c =
     let u = universe_view c.args.universe.now in
-    appends_as g.P.Lowerable.named g.P.Lowerable.mentions _ _ _ _ _ _ _ (parts_of u (g.P.Lowerable.written u c.args.specifier) g.P.Lowerable.seen (env_view c.args.env.now) c.args.part.now c.in-And.parts c.deref.result.now c.in-And.is c.deref.ensures.value) c.push_parts.ensures
+    gathers_as g.P.Lowerable.shows g.P.Lowerable.mentions _ _ _ _ _ _ _ (parts_of u (g.P.Lowerable.written u c.args.specifier) g.P.Lowerable.seen (env_view c.args.env.now) c.args.part.now c.in-And.parts c.deref.result.now c.in-And.is c.deref.ensures.value) c.push_parts.ensures
 
 pub push_part-returns-in_ok-named-in-Forall : goal.push_part-returns-in_ok-named-in-Forall
 push_part-returns-in_ok-named-in-Forall g t c =
@@ -116,6 +116,6 @@ push_part-returns-in_ok-named-in-Forall g t c =
     let read = g.P.Lowerable.written u c.args.specifier in
     let env = env_view c.args.env.now in
     let f = part_in u read g.P.Lowerable.seen c.deref-in-Forall-2.result.now in
-    appends_as g.P.Lowerable.named g.P.Lowerable.mentions _ _ _ _ _ _ _
+    gathers_as g.P.Lowerable.shows g.P.Lowerable.mentions _ _ _ _ _ _ _
     (bound_of u read g.P.Lowerable.seen env c.args.part.now c.in-Forall.variables c.in-Forall.inner c.in-Forall.variables.items c.deref-in-Forall-2.result.now c.in-Forall.is refl c.deref-in-Forall-2.ensures
     ∙ ap (λ (vs : List Typed). flat_map f (inner u env (map typed_view vs))) (sym c.in_ok-named-in-Forall.ensures)) c.push_under_each.ensures

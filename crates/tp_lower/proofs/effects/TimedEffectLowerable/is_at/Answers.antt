@@ -1,5 +1,5 @@
 use Rattle.std.proofs.Common.{sym, ◌∙◌}
-use Rattle.tp_lower.proofs.OnAppended.{unspecified}
+use Rattle.tp_lower.proofs.OnGathered.{unspecified}
 use Rattle.tp_lower.proofs.effects.TimedEffectLowerable.is_at.Goals as goal
 
 pub returns : goal.returns
