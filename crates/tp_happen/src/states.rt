@@ -107,7 +107,9 @@ impl State {
 pub(crate) fn copied<T: Copy>(alloc: Global, xs: &[T]) -> Result<Vec<T>, AllocError>
     ensures { IfOk result (λ v. v.items ≡ xs.now) }
 {
-    xs.iter().copied().collect(alloc)
+    let mut copy = Vec::with_capacity(alloc, xs.len())?;
+    copy.extend_from_slice(xs)?;
+    Ok(copy)
 }
 
 fn same_truths(a: &[bool], b: &[bool]) -> bool

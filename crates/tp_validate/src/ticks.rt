@@ -1,6 +1,6 @@
 //! What happens at one tick of a plan, or the first fault there.
 
-ghost use Rattle.std.specs.Prelude.{◌≡◌, ◌<◌, ◌≤◌, ◌==◌, ◌||◌, true, false, length, map, IfOk, IfErr, IfSome, OnErr};
+ghost use Rattle.std.specs.Prelude.{◌≡◌, ◌<◌, ◌≤◌, ◌+◌, ◌==◌, ◌||◌, ◌&&◌, nat_le, nat_lt, true, false, length, map, IfOk, IfErr, IfSome, OnErr};
 ghost use Rattle.std.specs.List.{list_all, position_from};
 ghost use Rattle.tp_task.specs.Happens.{Happens};
 ghost use Rattle.tp_task.specs.Valid.{events, at};
@@ -77,6 +77,14 @@ fn is_broken(after: &State, step: &PlannedStep<'_>, moment: u32) -> Result<bool,
     }
 }
 
+// Whether a step runs at a moment, and not only up to it: only then its invariant is asked for there.
+fn is_running(step: &PlannedStep<'_>, moment: u32) -> bool
+    ensures { result ≡ nat_le step.now.moment moment
+        && nat_lt moment (step.now.moment + step.now.duration) }
+{
+    step.tick <= moment && moment - step.tick < step.duration
+}
+
 // Whether a step's invariant may have changed at a moment: it starts there, or its place is in the set.
 fn is_in_question(touched: &NumberSet, step: &PlannedStep<'_>, place: usize, moment: u32) -> bool
     ensures { result ≡ (step.now.moment == moment || has_number touched.now place) }
@@ -121,9 +129,12 @@ fn first_broken(
         (list_all (λ p. invariant_small (state_of after.now) moment p p.body) steps.now ≡ false) }
 {
     for (i, step) in steps.iter().enumerate() {
-        let in_question = is_in_question(touched, step, i, moment);
-        if is_now_broken(after, step, in_question, moment)? {
-            return Ok(Some(i));
+        // Most steps do not run there: they are only looked at.
+        if is_running(step, moment) {
+            let in_question = is_in_question(touched, step, i, moment);
+            if is_now_broken(after, step, in_question, moment)? {
+                return Ok(Some(i));
+            }
         }
     }
     Ok(None)
