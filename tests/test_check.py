@@ -53,6 +53,19 @@ LARGE = (
     "(define (problem p) (:domain d) (:objects x y) (:goal (and)))",
 )
 
+# 2,210 ground actions: so many are gone through, and those alone are kept that a plan names
+MANY = (
+    """(define (domain many)
+ (:predicates (at ?x) (seen ?x) (done)) (:functions (moves))
+ (:action go :parameters (?a ?b ?c) :precondition (and (at ?a) (exists (?x) (at ?x)))
+  :effect (and (not (at ?a)) (at ?b) (seen ?c) (increase (moves) 1)))
+ (:durative-action stay :parameters (?a) :duration (>= ?duration 2)
+  :condition (over all (at ?a)) :effect (at end (done))))""",
+    """(define (problem p) (:domain many)
+ (:objects o0 o1 o2 o3 o4 o5 o6 o7 o8 o9 o10 o11 o12) (:init (at o0) (= (moves) 0))
+ (:goal (and (at o2) (seen o12) (done) (= (moves) 2))))""",
+)
+
 CALL = "check domain problem plan"
 
 TENTHS = "check domain problem plan --scale 10 --horizon 35"
@@ -101,6 +114,22 @@ PLANS = (
     ("x: (rest) [2]\n", CALL, "fault plan 2 line 1\n"),
     ("\n0: (dash) [1]\n", CALL, "fault plan 3 no-action 2\n"),
     ("4: (rest) [2]\n", "check domain problem plan --horizon 5", "fault plan 7 horizon 1\n"),
+)
+
+NAMED = (
+    ("0: (go o0 o1 o12)\n1: (GO O1 o2 o3) ; (go o1 o2 o4)\n2: (stay o2) [3]\n", CALL, "valid\n"),
+    ("0: (stay o0) [3]\n4: (stay o0) [3]\n8: (go o0 o1 o12)\n9: (go o1 o2 o2)\n", CALL, "valid\n"),
+    ("; (go o0 o1 o12)\n\n1: (go o0 o2 o12)\n3: (go o0 o2 o3)\n", CALL, "invalid 3 condition 1\n"),
+    ("".join(f"{tick}: (go o{tick} o{tick + 1} o12)\n" for tick in range(10)), CALL, "invalid 9 goal\n"),
+    ("0: (stay o0) [3]\n1: (go o0 o1 o12)\n", CALL, "invalid 1 over-all 0\n"),
+    ("0: (stay o0) [1]\n", CALL, "invalid 0 duration 0\n"),
+    ("", CALL, "invalid 0 goal\n"),
+    ("0: (stay o0)\n", CALL, "fault plan 6 no-duration 1\n"),
+    ("0: (go o0 o1 o12)\n1: (go o0 o1 o13)\n", CALL, "fault plan 3 no-action 2\n"),
+    ("0: (go o0 o1)\n", CALL, "fault plan 3 no-action 1\n"),
+    ("0: (go o0 o1 o12)\n1: (wait)\n", CALL, "fault plan 3 no-action 2\n"),
+    ("0: go o0 o1 o12\n", CALL, "fault plan 2 line 1\n"),
+    ("0: (stay o0) [3]\n" * 513, CALL, "fault plan 5 too-many\n"),
 )
 
 
@@ -172,6 +201,9 @@ class Check(Case):
     def test_tasks_that_are_too_large(self):
         self.writes(LARGE, "", CALL, "fault ground 2 too-many actions\n")
 
+    def test_of_many_ground_actions_those_are_kept_that_a_plan_names(self):
+        self.each_writes(MANY, NAMED)
+
     def test_quantifiers_in_one_another_that_would_be_gone_through_for_ever(self):
         """2^55 bindings: small where what they are written out to is shared, nothing where they stand above nothing."""
         problem = "(define (problem q) (:domain d) (:objects a b) (:init (p)) (:goal {}))"
@@ -228,7 +260,11 @@ class Check(Case):
         self.asks_for({"problem": NEVER, "plan": NEVER}, "fault file 1 read domain\n", 3)
         self.asks_for({"domain": Once("("), "problem": NEVER, "plan": NEVER}, "fault domain 2 text 4 unclosed 0\n", 2)
         self.asks_for({"domain": domain, "plan": NEVER}, "fault file 1 read problem\n", 3)
+        self.asks_for({"domain": LARGE[0], "problem": LARGE[1], "plan": NEVER}, "fault ground 2 too-many actions\n", 2)
         self.asks_for({"domain": domain, "problem": problem}, "fault file 1 read plan\n", 3)
+        self.asks_for({"domain": Once(MANY[0]), "problem": Once(MANY[1])}, "fault file 1 read plan\n", 3)
+        plan = Once("0: (go o0 o1 o13)\n")
+        self.asks_for({"domain": Once(MANY[0]), "problem": Once(MANY[1]), "plan": plan}, "fault plan 3 no-action 1\n", 2)
 
     def test_a_verdict_that_cannot_be_written(self):
         files = {"domain": CHARGE[0], "problem": CHARGE[1], "plan": "0: (rest) [4]\n"}

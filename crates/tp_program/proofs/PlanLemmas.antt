@@ -13,35 +13,39 @@ use Rattle.tp_validate.specs.declared.verdicts.Verdict.TheVariants.{Valid, Inval
 use Rattle.tp_deorder.specs.Answers.{IsPlanNetOf, OnTooMany, PassesLimits}
 use Rattle.tp_deorder.specs.declared.DeorderFault.{DeorderFault}
 use Rattle.tp_files.specs.FaultLines.{Tells}
+use Rattle.tp_plan_checks.specs.Files.{IsJudged}
+use Rattle.tp_plan_checks.specs.Judgements.{IsJudgement, judgement_line}
+use Rattle.tp_plan_checks.specs.declared.judgements.Judgement.{Judgement}
+use Rattle.tp_plan_checks.specs.declared.judgements.Judgement.TheVariants as judgements
 use Rattle.tp_plan_files.specs.Named.{IsNamedPlan}
-use Rattle.tp_plan_files.specs.VerdictLines.{invalid_line, verdict_line}
+use Rattle.tp_plan_files.specs.VerdictLines.{invalid_line}
 use Rattle.tp_plan_files.specs.declared.plan_words.PlanWords.{PlanWords}
 use Rattle.tp_plan_files.proofs.NamedLemmas.{Same, explains_over, plan_over}
 use Rattle.tp_plan_runs.proofs.StatusLemmas.{IsStatus, judge_is, network_is, three}
-use Rattle.tp_program.specs.Checks.{IsVerdictLine, Says, StopsCheck, StopsLine, TellsVerdict}
+use Rattle.tp_program.specs.Checks.{IsVerdictLine, Says, StopsCheck, StopsLine, TellsJudgement}
 use Rattle.tp_program.specs.Networks.{Shows, ShowsVerdict, StopsNet, StopsShown, TellsNetwork}
 use Rattle.tp_program.specs.Stops.{EndsPlan, StopsOn, stop_failures, stop_status, stop_text}
 use Rattle.tp_program.specs.declared.stops.PlanStop.{PlanStop}
 use Rattle.tp_program.specs.declared.stops.PlanStop.TheVariants.{Judging, Network, Write}
 
+pub says : (held : List ℕ → Option (List ℕ)) (w : PlanWords) (judgement : Judgement) (before now : Option (List ℕ)) (valid : Bool) → IsJudged held w judgement → TellsJudgement judgement before now valid → Says held w before now valid
+says held w judgements.Valid before now valid h told =
+    subst (Says held w before now) (sym told.0) (record { task = h.task; steps = h.steps; named = h.named; valid = h.judged; written = told.1 })
+says held w (judgements.Invalid tick why) before now valid h told =
+    subst (Says held w before now) (sym told.0)
+    (record { task = h.task; steps = h.steps; tick = tick; why = why; named = h.named; first = h.judged.0; invalid = h.judged.1; written = told.1 })
+
+line_is : (task : Task) (steps : List Step) (judgement : Judgement) → IsJudgement task steps judgement → IsVerdictLine task steps (judgement_line judgement)
+line_is task steps judgements.Valid is = inl (is, refl)
+line_is task steps (judgements.Invalid tick why) is = inr (tick, why, is.0, is.1, refl)
+
+pub stops_line : (held : List ℕ → Option (List ℕ)) (w : PlanWords) (judgement : Judgement) (before now : Option (List ℕ)) (stop : PlanStop) → IsJudged held w judgement → StopsLine judgement before now stop → StopsCheck held w before now stop
+stops_line held w judgement before now stop h told =
+    subst (StopsCheck held w before now) (sym told.0) (h.task, h.steps, judgement_line judgement, h.named, line_is h.task h.steps judgement h.judged, told.1)
+
 -- the steps of the plan that the words name, and their verdict
 abbrev pub Judged : (List ℕ → Option (List ℕ)) → PlanWords → Task → Verdict → Type 0
 Judged held w task verdict = (steps : List Step) × IsNamedPlan held w task steps × IsVerdict task steps verdict
-
-pub says : (held : List ℕ → Option (List ℕ)) (w : PlanWords) (task : Task) (verdict : Verdict) (before now : Option (List ℕ)) (valid : Bool) → Judged held w task verdict → TellsVerdict verdict before now valid → Says held w before now valid
-says held w task (Valid plan) before now valid judged told =
-    subst (Says held w before now) (sym told.0) (record { task = task; steps = judged.0; named = judged.1; valid = judged.2.2; written = told.1 })
-says held w task (Invalid plan tick why) before now valid judged told =
-    subst (Says held w before now) (sym told.0)
-    (record { task = task; steps = judged.0; tick = tick; why = why; named = judged.1; first = judged.2.1; invalid = judged.2.2; written = told.1 })
-
-line_is : (task : Task) (steps : List Step) (verdict : Verdict) → IsVerdict task steps verdict → IsVerdictLine task steps (verdict_line verdict)
-line_is task steps (Valid plan) is = inl (is.2, refl)
-line_is task steps (Invalid plan tick why) is = inr (tick, why, is.1, is.2, refl)
-
-pub stops_line : (held : List ℕ → Option (List ℕ)) (w : PlanWords) (task : Task) (verdict : Verdict) (before now : Option (List ℕ)) (stop : PlanStop) → Judged held w task verdict → StopsLine verdict before now stop → StopsCheck held w before now stop
-stops_line held w task verdict before now stop judged told =
-    subst (StopsCheck held w before now) (sym told.0) (task, judged.0, verdict_line verdict, judged.1, line_is task judged.0 verdict judged.2, told.1)
 
 pub shows : (held : List ℕ → Option (List ℕ)) (w : PlanWords) (task : Task) (verdict : Verdict) (before now : Option (List ℕ)) (valid : Bool) → Judged held w task verdict → ShowsVerdict verdict task.limits before now valid → Shows held w before now valid
 shows held w task (Valid plan) before now valid judged told =

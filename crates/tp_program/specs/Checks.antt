@@ -7,28 +7,30 @@ use Rattle.tp_happen.specs.tp_plan_texts.declared.plans.Step.{Step}
 use Rattle.tp_validate.specs.Answers.{IsFirst}
 use Rattle.tp_validate.specs.OfTask.{IsValidPlan}
 use Rattle.tp_validate.specs.declared.ticks.Fault.{Fault}
-use Rattle.tp_validate.specs.declared.verdicts.Verdict.{Verdict}
-use Rattle.tp_validate.specs.declared.verdicts.Verdict.TheVariants.{Valid, Invalid}
+use Rattle.tp_plan_checks.specs.Judgements.{judgement_line}
+use Rattle.tp_plan_checks.specs.declared.judgements.Judgement.{Judgement}
+use Rattle.tp_plan_checks.specs.declared.judgements.Judgement.TheVariants.{Valid, Invalid}
 use Rattle.tp_plan_files.specs.Named.{IsNamedPlan}
-use Rattle.tp_plan_files.specs.VerdictLines.{invalid_line, verdict_line}
+use Rattle.tp_plan_files.specs.VerdictLines.{invalid_line}
 use Rattle.tp_plan_files.specs.declared.plan_words.PlanWords.{PlanWords}
 use Rattle.tp_plan_runs.specs.Invalid.{SaysInvalid}
 use Rattle.tp_program.specs.Stops.{EndsPlan, StopsOn}
 use Rattle.tp_program.specs.declared.stops.PlanStop.{PlanStop}
 use Rattle.tp_program.specs.declared.stops.PlanStop.TheVariants.{Write}
 
-abbrev pub is_valid : Verdict → Bool
-is_valid (Valid plan) = true
-is_valid (Invalid plan tick why) = false
+abbrev pub is_valid : Judgement → Bool
+is_valid Valid = true
+is_valid (Invalid tick why) = false
 
--- the line of a verdict was written, and the answer is whether the plan is valid
-abbrev pub TellsVerdict : Verdict → Option (List ℕ) → Option (List ℕ) → Bool → Type 0
-TellsVerdict verdict before now valid =
-    (valid ≡ is_valid verdict) × Appends before now (verdict_line verdict)
+-- the line of a judgement was written, and the answer is whether the plan is valid
+abbrev pub TellsJudgement : Judgement → Option (List ℕ) → Option (List ℕ) → Bool → Type 0
+TellsJudgement judgement before now valid =
+    (valid ≡ is_valid judgement) × Appends before now (judgement_line judgement)
 
--- the line of a verdict was not written whole
-abbrev pub StopsLine : Verdict → Option (List ℕ) → Option (List ℕ) → PlanStop → Type 0
-StopsLine verdict before now stop = (stop ≡ Write) × AppendsPart before now (verdict_line verdict)
+-- the line of a judgement was not written whole
+abbrev pub StopsLine : Judgement → Option (List ℕ) → Option (List ℕ) → PlanStop → Type 0
+StopsLine judgement before now stop =
+    (stop ≡ Write) × AppendsPart before now (judgement_line judgement)
 
 -- the line of the verdict on the steps of a plan: that it is valid, or its first fault
 abbrev pub IsVerdictLine : Task → List Step → List ℕ → Type 0

@@ -2,49 +2,26 @@
 
 ghost use Rattle.std.specs.Prelude.{◌≡◌, ◌≢◌, ◌≤◌, [], IfOk, IfErr};
 ghost use Rattle.tp_files.specs.FaultLines.{TellsFault};
-ghost use Rattle.tp_plan_files.specs.Named.{IsNamedTask};
 ghost use Rattle.tp_plan_runs.specs.Invalid.{SaysInvalid};
-ghost use Rattle.tp_program.specs.Checks.{EndsCheck, Says, SaysPart, SaysValid, StopsCheck, StopsLine, TellsVerdict};
+ghost use Rattle.tp_program.specs.Checks.{EndsCheck, Says, SaysPart, SaysValid, StopsCheck, StopsLine, TellsJudgement};
 ghost use Rattle.tp_program.specs.Stops.{stop_failures};
 
 use crate::stops::{PlanStop, stop_line};
 use std::alloc::Global;
-use std::mem::forget;
 use tp_device::Sink;
 use tp_files::{Files, OUT_OF_ORDER, REFUSED, complain};
-use tp_plan_files::{PlanWords, task_in, verdict_in, write_verdict};
-use tp_task::Task;
-use tp_validate::Verdict;
+use tp_plan_checks::{Judgement, judge_in, write_judgement};
+use tp_plan_files::PlanWords;
 
-/// Writes a verdict. Answers whether the plan is valid.
-fn tell<O: Sink>(verdict: &Verdict<'_>, output: &mut O) -> Result<bool, PlanStop>
-    ensures said { IfOk result (TellsVerdict verdict.now (O.held output.old) (O.held output.new)) }
-    ensures cause { IfErr result (StopsLine verdict.now (O.held output.old) (O.held output.new)) }
+/// Writes the line of a judgement. Answers whether the plan is valid.
+fn tell<O: Sink>(judgement: Judgement, output: &mut O) -> Result<bool, PlanStop>
+    ensures said { IfOk result (TellsJudgement judgement (O.held output.old) (O.held output.new)) }
+    ensures cause { IfErr result (StopsLine judgement (O.held output.old) (O.held output.new)) }
     ensures failures { O.failures output.new ≡ stop_failures (O.failures output.old) result }
 {
-    match write_verdict(output, verdict) {
-        Ok(()) => Ok(matches!(verdict, Verdict::Valid(_))),
+    match write_judgement(output, judgement) {
+        Ok(()) => Ok(matches!(judgement, Judgement::Valid)),
         Err(_) => Err(PlanStop::Write),
-    }
-}
-
-/// Judges the plan that the words name, of their task, and writes the verdict. Answers whether the plan is valid.
-fn tell_of<N: Files, O: Sink>(
-    alloc: Global,
-    files: &mut N,
-    words: PlanWords<'_>,
-    task: &Task,
-    output: &mut O,
-) -> Result<bool, PlanStop>
-    ensures said { IsNamedTask (N.held files.old) words.entry task.now →
-        IfOk result (Says (N.held files.old) words.entry (O.held output.old) (O.held output.new)) }
-    ensures cause { IsNamedTask (N.held files.old) words.entry task.now → IfErr result
-        (StopsCheck (N.held files.old) words.entry (O.held output.old) (O.held output.new)) }
-    ensures failures { O.failures output.new ≡ stop_failures (O.failures output.old) result }
-{
-    match verdict_in(alloc, files, words, task) {
-        Ok(verdict) => tell(&verdict, output),
-        Err(fault) => Err(PlanStop::Judging(fault)),
     }
 }
 
@@ -63,13 +40,8 @@ fn check<N: Files, O: Sink>(
         (StopsCheck (N.held files.old) words.entry (O.held output.old) (O.held output.new)) }
     ensures failures { O.failures output.new ≡ stop_failures (O.failures output.old) result }
 {
-    match task_in(alloc, files, words) {
-        Ok(task) => {
-            let told = tell_of(alloc, files, words, &task, output);
-            // To free it piece by piece takes long, and the program ends here: the host frees all at once.
-            forget(task);
-            told
-        }
+    match judge_in(alloc, files, words) {
+        Ok(judgement) => tell(judgement, output),
         Err(fault) => Err(PlanStop::Judging(fault)),
     }
 }

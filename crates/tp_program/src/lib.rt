@@ -11,9 +11,9 @@
 //! - `streams`: a run over readers and writers of std
 //!
 //! The words of a call are read by `tp_arguments`. Commands on a network of bounds alone are those of `tp_bare`, those with a journal
-//! of `tp_bare_journals`, files and fault lines those of `tp_files`, tasks and verdicts of files those of `tp_plan_files`, runs of
-//! plans those of `tp_plan_runs`, those with a journal of `tp_run_journals`, searches those of `tp_plan_search`, audits those of
-//! `tp_log_audits` and `tp_plan_audits`, splits those of `tp_plan_splits`.
+//! of `tp_bare_journals`, files and fault lines those of `tp_files`, the judging of a plan that of `tp_plan_checks`, tasks and verdicts
+//! of files beside that those of `tp_plan_files`, runs of plans those of `tp_plan_runs`, those with a journal of `tp_run_journals`,
+//! searches those of `tp_plan_search`, audits those of `tp_log_audits` and `tp_plan_audits`, splits those of `tp_plan_splits`.
 #![tactic(auto)]
 
 mod check;

@@ -1,23 +1,15 @@
 use Rattle.std.proofs.Common.{refl}
 use Rattle.std.proofs.lemmas.Result.{IfErr-weaker, IfOk-weaker}
-use Rattle.tp_plan_files.proofs.NamedLemmas.{back, task_over}
-use Rattle.tp_program.specs.Checks.{IsVerdictLine}
-use Rattle.tp_program.proofs.PlanLemmas.{says_over, stops_over}
+use Rattle.tp_program.proofs.PlanLemmas.{says, stops_line}
 use Rattle.tp_program.proofs.check.check.Goals as goal
 
 pub returns-in-Ok-clause-said : goal.returns-in-Ok-clause-said
 returns-in-Ok-clause-said g c =
-    let held = g.N.Files.held c.args.files.now in
-    let later = g.N.Files.held c.task_in.new.files in
-    IfOk-weaker c.tell_of-told.result _ _ (λ valid h. says_over later held c.args.words _ _ valid c.task_in.ensures.same h)
-    (c.tell_of-told.ensures.said (task_over held later c.args.words c.in-Ok.task (back later held c.task_in.ensures.same) c.in-Ok.ensures.named))
+    IfOk-weaker c.tell.result _ _ (λ valid told. says (g.N.Files.held c.args.files.now) c.args.words c.in-Ok.judgement _ _ valid c.in-Ok.ensures.judged told) c.tell.ensures.said
 
 pub returns-in-Ok-clause-cause : goal.returns-in-Ok-clause-cause
 returns-in-Ok-clause-cause g c =
-    let held = g.N.Files.held c.args.files.now in
-    let later = g.N.Files.held c.task_in.new.files in
-    IfErr-weaker c.tell_of-told.result _ _ (λ stop h. stops_over IsVerdictLine (λ _ _ _. ⊥) later held c.args.words _ _ stop c.task_in.ensures.same h)
-    (c.tell_of-told.ensures.cause (task_over held later c.args.words c.in-Ok.task (back later held c.task_in.ensures.same) c.in-Ok.ensures.named))
+    IfErr-weaker c.tell.result _ _ (λ stop told. stops_line (g.N.Files.held c.args.files.now) c.args.words c.in-Ok.judgement _ _ stop c.in-Ok.ensures.judged told) c.tell.ensures.cause
 
 pub returns-in-Err-clause-cause : goal.returns-in-Err-clause-cause
 returns-in-Err-clause-cause g c = (c.in-Err.ensures.cause, refl)

@@ -1,0 +1,3 @@
+pub mod Judgements
+pub mod Wholes
+pub mod Files
