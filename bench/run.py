@@ -624,6 +624,12 @@ def under_each_action(program):
     judged(program, "65,025 actions, 20 atoms each of a name of 20,000 letters", head.replace("#", named), problem(255, "z" * 20_000), "0: (a o0 o1)\n")
     parts = f"(and {'(p ?x) ' * 1_000})"
     judged(program, "10,000 actions of 1,000 atoms each", head.replace("#", parts), problem(100, "z"), "0: (a o0 o1)\n")
+    parts = f"(and {'(p ?x) ' * 5_000})"
+    steps = "".join(f"{tick}: (a o0 o{tick % 46})\n" for tick in range(512))
+    judged(program, "2,116 actions of 5,000 atoms each, 46 of them in a plan of 512 steps", head.replace("#", parts), problem(46, "z"), steps)
+    steps = "".join(f"{tick}: (a o{tick // 46} o{tick % 46})\n" for tick in range(512))
+    judged(program, "the same, and 512 of them in the plan", head.replace("#", parts), problem(46, "z"), steps)
+    judged(program, "65,025 actions, and a plan that names none", head.replace("#", "(p ?x)"), problem(255, "z"), "0: (a o0 o255)\n")
 
 
 def typed_objects(program):
