@@ -262,7 +262,8 @@ def differences(wanted, found):
 
 
 def many_calls(test):
-    """Marks a test that makes hundreds of calls: `scripts/refused-memory` leaves it out."""
+    """Marks a test that makes hundreds of calls, or calls that ask for memory thousands of times: `scripts/refused-memory` leaves it
+    out."""
     test.many_calls = True
     return test
 

@@ -1,5 +1,5 @@
 """Verdicts on plans in files, worked by hand."""
-from program import NEVER, Case, Once, held, told, world
+from program import NEVER, Case, Once, held, many_calls, told, world
 
 SUPPLY_DOMAIN = """(define (domain supply)
  (:functions (stock))
@@ -201,8 +201,12 @@ class Check(Case):
     def test_tasks_that_are_too_large(self):
         self.writes(LARGE, "", CALL, "fault ground 2 too-many actions\n")
 
+    @many_calls
     def test_of_many_ground_actions_those_are_kept_that_a_plan_names(self):
         self.each_writes(MANY, NAMED)
+        self.asks_for({"domain": Once(MANY[0]), "problem": Once(MANY[1])}, "fault file 1 read plan\n", 3)
+        plan = Once("0: (go o0 o1 o13)\n")
+        self.asks_for({"domain": Once(MANY[0]), "problem": Once(MANY[1]), "plan": plan}, "fault plan 3 no-action 1\n", 2)
 
     def test_quantifiers_in_one_another_that_would_be_gone_through_for_ever(self):
         """2^55 bindings: small where what they are written out to is shared, nothing where they stand above nothing."""
@@ -262,9 +266,6 @@ class Check(Case):
         self.asks_for({"domain": domain, "plan": NEVER}, "fault file 1 read problem\n", 3)
         self.asks_for({"domain": LARGE[0], "problem": LARGE[1], "plan": NEVER}, "fault ground 2 too-many actions\n", 2)
         self.asks_for({"domain": domain, "problem": problem}, "fault file 1 read plan\n", 3)
-        self.asks_for({"domain": Once(MANY[0]), "problem": Once(MANY[1])}, "fault file 1 read plan\n", 3)
-        plan = Once("0: (go o0 o1 o13)\n")
-        self.asks_for({"domain": Once(MANY[0]), "problem": Once(MANY[1]), "plan": plan}, "fault plan 3 no-action 1\n", 2)
 
     def test_a_verdict_that_cannot_be_written(self):
         files = {"domain": CHARGE[0], "problem": CHARGE[1], "plan": "0: (rest) [4]\n"}
