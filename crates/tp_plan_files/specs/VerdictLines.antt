@@ -1,9 +1,7 @@
--- The line of a verdict on a plan.
+-- The line of a plan that is not valid.
 use Rattle.std.specs.Prelude.{ℕ, List, ◌++◌, codes, decimal}
 use Rattle.tp_validate.specs.declared.ticks.Fault.{Fault}
 use Rattle.tp_validate.specs.declared.ticks.Fault.TheVariants.{Condition, Undefined, Clash, Interferes, OverAll, Duration, Goal}
-use Rattle.tp_validate.specs.declared.verdicts.Verdict.{Verdict}
-use Rattle.tp_validate.specs.declared.verdicts.Verdict.TheVariants.{Valid, Invalid}
 
 abbrev pub why_text : Fault → List ℕ
 why_text (Condition event) = codes "condition " ++ decimal event
@@ -17,7 +15,3 @@ why_text Goal = codes "goal"
 
 abbrev pub invalid_line : ℕ → Fault → List ℕ
 invalid_line tick why = codes "invalid " ++ decimal tick ++ codes " " ++ why_text why ++ codes "\n"
-
-abbrev pub verdict_line : Verdict → List ℕ
-verdict_line (Valid plan) = codes "valid\n"
-verdict_line (Invalid plan tick why) = invalid_line tick why

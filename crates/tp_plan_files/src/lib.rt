@@ -4,7 +4,7 @@
 //! - `plan_words`: the names of the files, and how the plan's time is measured
 //! - `judging`: the task, and the verdict on the plan
 //! - `judge_lines`: the lines of faults of texts, tasks and plans
-//! - `verdict_lines`: the line of a verdict
+//! - `verdict_lines`: the line of a plan that is not valid
 //! - `laws`: that a plan is read as it was written
 #![tactic(auto)]
 
@@ -18,4 +18,4 @@ pub use judge_lines::{file_line, judge_line, plan_line, syntax_line, task_line};
 pub use judging::{JudgeFault, domain_in, problem_in, task_in, verdict_in};
 pub use laws::task_plans_are_read;
 pub use plan_words::PlanWords;
-pub use verdict_lines::{write_invalid, write_verdict};
+pub use verdict_lines::write_invalid;

@@ -1,12 +1,12 @@
-//! The line of a verdict on a plan.
+//! The line of a plan that is not valid.
 
 ghost use Rattle.std.specs.Prelude.{◌≡◌, ◌+◌, ◌≤◌, ◌++◌, codes, decimal, length};
 ghost use Rattle.tp_device.specs.Bytes.{Writes, failures_after};
-ghost use Rattle.tp_plan_files.specs.VerdictLines.{invalid_line, verdict_line, why_text};
+ghost use Rattle.tp_plan_files.specs.VerdictLines.{invalid_line, why_text};
 
 use tp_device::{Failed, Sink, push_all};
 use tp_short_text::Text;
-use tp_validate::{Fault, Verdict};
+use tp_validate::Fault;
 
 /// A word, and the number of an event or of a step.
 fn numbered(word: &[u8], n: u16) -> Text
@@ -51,16 +51,4 @@ pub fn write_invalid<W: Sink>(writer: &mut W, tick: u32, why: Fault) -> Result<(
     line.put(why_line(why).as_slice());
     line.put(b"\n");
     push_all(writer, line.as_slice())
-}
-
-/// Writes the line of a verdict.
-pub fn write_verdict<W: Sink>(writer: &mut W, verdict: &Verdict<'_>) -> Result<(), Failed>
-    ensures bytes { Writes (W.held writer.old) (W.held writer.new)
-        (verdict_line verdict.now) result }
-    ensures cause { W.failures writer.new ≡ failures_after (W.failures writer.old) result }
-{
-    match verdict {
-        Verdict::Valid(_) => push_all(writer, b"valid\n"),
-        Verdict::Invalid { plan: _, tick, why } => write_invalid(writer, *tick, *why),
-    }
 }
