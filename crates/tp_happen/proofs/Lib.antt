@@ -1,6 +1,4 @@
 pub mod Rows
-pub mod OnJoined
-pub mod OnBriefs
 pub mod Meets
 pub mod Pairs
 pub mod NoFault
@@ -11,7 +9,8 @@ pub mod Lent
 pub mod OnClashes
 pub mod Compared
 pub mod Positions
-pub mod Mentioned
+pub mod Members
+pub mod Listed
 pub mod Walked
 pub mod FirstPairs
 pub mod Within

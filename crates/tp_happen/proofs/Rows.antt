@@ -57,10 +57,10 @@ module _ (s : State) where
   all_small-And : (cs : Vec Cond Global) → all_small s (And cs) ≡ each_small s cs.items
   all_small-And cs = let row = row_of (And cs) in small_row row.0 row.1 ∙ ap (each_small s) (items_hidden-the_row-Cond-0 cs)
 
-  pub finding-And : (cs : Vec Cond Global) → of_condition s (And cs) ≡ of_all s cs.items
+  finding-And : (cs : Vec Cond Global) → of_condition s (And cs) ≡ of_all s cs.items
   finding-And cs = ap (λ b. finding b (judgement s (And cs))) (all_small-And cs) ∙ ap (finding (each_small s cs.items)) (judgement-And cs)
 
-  pub finding-Or : (cs : Vec Cond Global) → of_condition s (Or cs) ≡ of_any s cs.items
+  finding-Or : (cs : Vec Cond Global) → of_condition s (Or cs) ≡ of_any s cs.items
   finding-Or cs = ap (λ b. finding b (judgement s (Or cs))) (all_small-And cs) ∙ ap (finding (each_small s cs.items)) (judgement-Or cs)
 
   -- the exits of a loop over the items

@@ -2,7 +2,8 @@ pub mod Small
 pub mod Clashes
 pub mod Stored
 pub mod Judged
-pub mod Briefs
+pub mod Met
+pub mod Mentioned
 pub mod Bounded
 pub mod Terms
 pub mod Fault

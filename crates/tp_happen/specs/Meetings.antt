@@ -1,10 +1,10 @@
 -- Ways in which two events interfere: something that one of them does to atoms or fluents, and something that the other does with them.
 use Rattle.std.specs.Prelude.{ℕ, ◌+◌, ◌==◌, Bool, ◌&&◌, ◌||◌, List, [], ◌∷◌, ◌++◌, Option, Some, None, if◌then◌else◌, nat_lt, nat_le}
-use Rattle.std.specs.List.{position_from, list_all}
+use Rattle.std.specs.List.{position_from, list_all, flat_map}
 use Rattle.tp_task.specs.declared.events.GroundEvent.{GroundEvent}
 use Rattle.tp_happen.specs.declared.meetings.Meeting.{Meeting}
 use Rattle.tp_happen.specs.declared.meetings.Meeting.TheVariants.{ChangedAndAsked, AddedAndDeleted, WrittenAndRead, SetAndWritten}
-use Rattle.tp_task.specs.State.{atoms_in}
+use Rattle.tp_task.specs.State.{atoms_in, fluents_of}
 use Rattle.tp_task.specs.Event.{meets, fluents_read, fluents_written, fluents_set}
 use Rattle.tp_task.specs.Happens.{EventOfStep}
 use Rattle.tp_happen.specs.Fault.{pair_or}
@@ -21,6 +21,12 @@ met ChangedAndAsked e = atoms_in e.condition
 met AddedAndDeleted e = e.deletes.items
 met WrittenAndRead e = fluents_read e
 met SetAndWritten e = fluents_written e
+
+-- the fluents that an event reads in its right sides and its duration constraint
+abbrev pub fluents_worked_out : GroundEvent → List ℕ
+fluents_worked_out e =
+    flat_map (λ w. fluents_of w.value) e.writes.items
+    ++ flat_map (λ l. fluents_of l.value) e.constraint.items
 
 -- the events meet in that way, whichever of them does the first
 abbrev pub meet : Meeting → GroundEvent → GroundEvent → Bool

@@ -13,7 +13,7 @@ use tp_task::{AtomId, Comparison, Cond, Expr};
 
 /// What a condition is found to be: one byte, so that it is handed back in a register.
 #[derive(Clone, Copy)]
-pub(crate) enum Finding {
+enum Finding {
     Holds,
     Fails,
     /// A fluent that it mentions has no number.
@@ -35,7 +35,7 @@ pub fn holds(state: &State, cond: &Cond) -> Result<bool, Range>
     }
 }
 
-pub(crate) fn not(x: Finding) -> Finding
+fn not(x: Finding) -> Finding
     ensures { result ≡ opposite x }
 {
     match x {
@@ -46,7 +46,7 @@ pub(crate) fn not(x: Finding) -> Finding
 }
 
 // Of a conjunction, by what its parts are found to be.
-pub(crate) fn and(x: Finding, y: Finding) -> Finding
+fn and(x: Finding, y: Finding) -> Finding
     ensures { result ≡ of_both x y }
 {
     match (x, y) {
@@ -58,7 +58,7 @@ pub(crate) fn and(x: Finding, y: Finding) -> Finding
 }
 
 // Of a disjunction.
-pub(crate) fn or(x: Finding, y: Finding) -> Finding
+fn or(x: Finding, y: Finding) -> Finding
     ensures { result ≡ of_either x y }
 {
     match (x, y) {
@@ -82,7 +82,7 @@ fn comparison(state: &State, how: Comparison, x: &Expr, y: &Expr) -> Result<Opti
     Ok(compared(how, a, b))
 }
 
-pub(crate) fn atom_found(state: &State, atom: u32) -> Finding
+fn atom_found(state: &State, atom: u32) -> Finding
     ensures { result ≡ finding true (Some ((state_of state.now).atom atom)) }
 {
     if state.has(AtomId(atom)) {
@@ -93,7 +93,7 @@ pub(crate) fn atom_found(state: &State, atom: u32) -> Finding
 }
 
 // Most parts of what is joined by `and` and `or` are atoms, which cost no call.
-pub(crate) fn found(state: &State, cond: &Cond) -> Finding
+fn found(state: &State, cond: &Cond) -> Finding
     ensures { result ≡ of_condition (state_of state.now) cond.now }
 {
     match cond {

@@ -9,7 +9,7 @@ ghost use Rattle.tp_happen.specs.Stored.{state_of};
 ghost use Rattle.tp_happen.specs.Small.{values_small};
 ghost use Rattle.tp_happen.specs.Terms.{terms_small, condition_small};
 ghost use Rattle.tp_happen.specs.Fault.{first_pair};
-ghost use Rattle.tp_happen.specs.Briefs.{AreMet};
+ghost use Rattle.tp_happen.specs.Met.{AreMet};
 
 use crate::interfere::interfere;
 use crate::{EventRef, Range, State, holds, value};

@@ -8,7 +8,7 @@ ghost use Rattle.tp_task.specs.Event.{mixes};
 ghost use Rattle.tp_happen.specs.Stored.{state_of, fits_in, OfOneTask};
 ghost use Rattle.tp_happen.specs.Bounded.{effects_small, all_sums_small, StaysSmall, Passes};
 ghost use Rattle.tp_happen.specs.Fault.{Applies, OnNext, OnRange};
-ghost use Rattle.tp_happen.specs.Briefs.{AreMet};
+ghost use Rattle.tp_happen.specs.Met.{AreMet};
 
 use crate::clashes::first_clash;
 use crate::faults::{Outcome, Why, first_undefined, first_unmet};
@@ -50,7 +50,7 @@ impl From<Range> for ApplyFault {
     }
 }
 
-fn atoms_after(
+pub(crate) fn atoms_after(
     alloc: Global,
     old: &[bool],
     events: &[EventRef<'_>],
@@ -68,7 +68,7 @@ fn atoms_after(
     Ok(atoms)
 }
 
-fn numbers_after(
+pub(crate) fn numbers_after(
     alloc: Global,
     state: &State,
     old: &[Option<i64>],

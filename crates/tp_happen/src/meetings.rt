@@ -5,10 +5,11 @@ ghost use Rattle.tp_task.specs.Event.{has};
 ghost use Rattle.std.specs.List.{list_all};
 ghost use Rattle.tp_happen.specs.Fault.{first_pair, pair_or};
 ghost use Rattle.tp_happen.specs.Stored.{fits_in};
-ghost use Rattle.tp_happen.specs.Meetings.{done, met, meet, pair_by, earlier, first_of, is_before, sooner, done_within};
+ghost use Rattle.tp_happen.specs.Meetings.{done, met, meet, fluents_worked_out, pair_by, earlier, first_of, is_before, sooner, done_within};
 
 use crate::faults::first_of_pairs;
-use crate::mentions::{push_atoms, push_read, push_set, push_written};
+use crate::mentions::{push_atoms, push_read, push_set, push_worked_out, push_written};
+use crate::states::copied;
 use crate::{Event, EventRef, State};
 use std::alloc::{AllocError, Global};
 use tp_task::{Cond, Expr, GroundEvent};
@@ -69,6 +70,29 @@ fn met(alloc: Global, way: Meeting, event: &GroundEvent) -> Result<Vec<u32>, All
     let mut numbers = Vec::new(alloc);
     push_met(way, event, &mut numbers)?;
     Ok(numbers)
+}
+
+/// Those of a list, and the fluents that an event reads beside those of its condition.
+fn read_beside(alloc: Global, fluents: &[u32], event: &GroundEvent) -> Result<Vec<u32>, AllocError>
+    ensures { IfOk result (λ v. v.items ≡ fluents.now ++ fluents_worked_out event.now) }
+{
+    let mut numbers = copied(alloc, fluents)?;
+    push_worked_out(event, &mut numbers)?;
+    Ok(numbers)
+}
+
+/// What an event does in the other's place, perhaps in another order and each once: by the list of what its condition mentions, if
+/// it brings one.
+fn asked(alloc: Global, way: Meeting, event: &EventRef<'_>) -> Result<Vec<u32>, AllocError>
+    ensures { IfOk result (λ v. (x : ℕ) → has v.items x ≡ has (met way event.now.event) x) }
+{
+    match (way, event.asked()) {
+        (Meeting::ChangedAndAsked, Some(listed)) => copied(alloc, &listed.atoms),
+        (Meeting::WrittenAndRead, Some(listed)) => {
+            read_beside(alloc, &listed.fluents, event.body())
+        }
+        _ => met(alloc, way, event.body()),
+    }
 }
 
 impl Event<'_> {
@@ -135,21 +159,21 @@ fn mark(table: &mut [Option<usize>], numbers: &[u32], event: usize)
 fn entered(
     alloc: Global,
     way: Meeting,
-    event: &GroundEvent,
+    event: &EventRef<'_>,
     i: usize,
     doers: &mut [Option<usize>],
     others: &mut [Option<usize>],
 ) -> Result<Option<usize>, AllocError>
-    ensures first { IfOk result
-        (λ r. r ≡ earlier (first_of (λ x. slice_index_or others.old x None) (done way event.now))
-        (first_of (λ x. slice_index_or doers.old x None) (met way event.now))) }
+    ensures first { IfOk result (λ r. r ≡ earlier
+        (first_of (λ x. slice_index_or others.old x None) (done way event.now.event))
+        (first_of (λ x. slice_index_or doers.old x None) (met way event.now.event))) }
     ensures doers { OnOk result ((a : ℕ) → a < length doers.old → slice_index_or doers.new a None
-        ≡ (if has (done way event.now) a then Some i else slice_index_or doers.old a None)) }
+        ≡ (if has (done way event.now.event) a then Some i else slice_index_or doers.old a None)) }
     ensures others { OnOk result ((a : ℕ) → a < length others.old → slice_index_or others.new a None
-        ≡ (if has (met way event.now) a then Some i else slice_index_or others.old a None)) }
+        ≡ (if has (met way event.now.event) a then Some i else slice_index_or others.old a None)) }
 {
-    let done = done(alloc, way, event)?;
-    let met = met(alloc, way, event)?;
+    let done = done(alloc, way, event.body())?;
+    let met = asked(alloc, way, event)?;
     let first = earlier(first_at(others, &done), first_at(doers, &met));
     mark(doers, &done, i);
     mark(others, &met, i);
@@ -183,7 +207,7 @@ fn walk(
     let mut i = events.len();
     while i > 0 {
         i -= 1;
-        let other = entered(alloc, way, events[i].body(), i, doers, others)?;
+        let other = entered(alloc, way, &events[i], i, doers, others)?;
         first = pair_or(i, other, first);
     }
     Ok(first)

@@ -10,3 +10,5 @@ pub mod AtPlace
 pub mod Ordered
 pub mod Starting
 pub mod Untouched
+pub mod Alike
+pub mod Foreseen

@@ -1,5 +1,5 @@
 pub mod OfTask
-pub mod InBrief
+pub mod Conditions
 pub mod Prepared
 pub mod Places
 pub mod Agenda
@@ -7,6 +7,7 @@ pub mod Tick
 pub mod Constraints
 pub mod Changed
 pub mod Touched
+pub mod Outlook
 pub mod Found
 pub mod Verdict
 pub mod Validated

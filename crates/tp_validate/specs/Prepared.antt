@@ -1,4 +1,4 @@
--- Actions whose conditions are kept in brief, by their numbers.
+-- Actions with lists of what their conditions mention, by their numbers.
 use Rattle.std.specs.Prelude.{◌≡◌, List, Some, slice_get}
 use Rattle.std.specs.List.{All}
 use Rattle.tp_task.specs.declared.events.Body.{Body}
@@ -6,4 +6,4 @@ use Rattle.tp_validate.specs.declared.prepared.Prepared.{Prepared}
 
 -- each is the action of its number
 abbrev pub ArePrepared : List Body → List Prepared → Type 0
-ArePrepared bodies ps = All (λ p. slice_get bodies p.action ≡ Some p.briefs) ps
+ArePrepared bodies ps = All (λ p. slice_get bodies p.action ≡ Some p.listed) ps

@@ -1,23 +1,24 @@
 //! The validator: whether a plan is valid for a task, and its first fault where it is not.
 //!
 //! - `placing`: the steps of a plan with what their actions do, and their events
-//! - `mentioned`: what a condition mentions, each once
-//! - `briefs`, `prepared`: the actions whose long conditions are kept in brief
+//! - `listed`, `prepared`: the actions of which a plan has many steps, with lists of what their long conditions mention
 //! - `agenda`: the events in the order of their moments, tick after tick
 //! - `durations`: whether a step's duration is lawful
 //! - `rosters`: the steps in the order of their starts
 //! - `changes`: the atoms and fluents that an event of a tick changes
 //! - `mentions`: the steps whose invariants mention what the events of a tick change
+//! - `outlook`, `ahead`: what is seen of conditions in the states of the next ticks, all at once
 //! - `ticks`: what happens at one tick, or the first fault there
 //! - `verdicts`: tick after tick, `validate`
 #![tactic(auto)]
 
 mod agenda;
-mod briefs;
+mod ahead;
 mod changes;
 mod durations;
-mod mentioned;
+mod listed;
 mod mentions;
+mod outlook;
 mod placing;
 mod prepared;
 mod rosters;

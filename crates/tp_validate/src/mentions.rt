@@ -10,10 +10,9 @@ ghost use Rattle.tp_validate.specs.Changed.{changed_atoms, changed_fluents};
 ghost use Rattle.tp_validate.specs.Touched.{invariant_atoms, invariant_fluents, HasMentions, reaches};
 
 use crate::changes::{changed_atoms, changed_fluents};
-use crate::mentioned::Mentioned;
 use crate::placing::{PlacedEvent, PlannedStep};
 use std::alloc::{AllocError, Global};
-use tp_happen::{Event, State, atoms_of, fluents_of};
+use tp_happen::{Event, Mentioned, State, atoms_of, fluents_of};
 use tp_number_sets::{Index, NumberSet};
 use tp_task::{Body, Cond};
 

@@ -2,20 +2,19 @@
 
 ghost use Rattle.std.specs.Prelude.{◌≡◌, ℕ, ◌+◌, ◌*◌, ◌<◌, ◌≤◌, ◌++◌, true, nat_le, length, map, option_map, slice_get, slice_index_or, IfOk, OnOk, IfSome};
 ghost use Rattle.std.specs.List.{list_all};
+ghost use Rattle.tp_task.specs.declared.events.Body.{Body as TheBody};
 ghost use Rattle.tp_task.specs.Valid.{events, events_of, count_of};
-ghost use Rattle.tp_happen.specs.Briefs.{IsMet, AreMet};
-ghost use Rattle.tp_happen.specs.Stored.{state_of};
-ghost use Rattle.tp_validate.specs.OfTask.{plan_of, step_of};
+ghost use Rattle.tp_happen.specs.Mentioned.{MentionsFit};
+ghost use Rattle.tp_validate.specs.OfTask.{plan_of, actions_of, step_of};
 ghost use Rattle.tp_validate.specs.Places.{numbers};
-ghost use Rattle.tp_validate.specs.InBrief.{first_condition, last_condition, OfInvariant, MentionsFit};
+ghost use Rattle.tp_validate.specs.Conditions.{first_condition, last_condition, OfInvariant};
 ghost use Rattle.tp_validate.specs.Prepared.{ArePrepared};
 
-use crate::briefs::Briefs;
-use crate::mentioned::Mentioned;
-use crate::prepared::{Prepared, briefs_among};
+use crate::listed::Listed;
+use crate::prepared::{Prepared, listed_among};
 use std::alloc::{AllocError, Global};
 use std::marker::Model;
-use tp_happen::{Brief, Event, EventRef, State, Step, holds};
+use tp_happen::{Event, EventRef, Mentioned, Step};
 use tp_task::{Body, GroundEvent, Task};
 
 /// A step of a plan with what its action does.
@@ -24,8 +23,8 @@ pub struct PlannedStep<'t> {
     pub tick: u32,
     pub duration: u32,
     pub body: &'t Body,
-    /// Its conditions in brief, if they are prepared.
-    briefs: Option<&'t Briefs<'t>>,
+    /// Lists of what its conditions mention, if they are prepared.
+    listed: Option<&'t Listed<'t>>,
 }
 
 impl<'t> Model for PlannedStep<'t> {
@@ -41,7 +40,7 @@ impl<'t> Model for PlannedStep<'t> {
 
     ghost use Rattle.std.specs.Prelude.{◌≡◌, IfSome};
 
-    ghost invariant = { λ s. IfSome s.briefs (λ b. b.now ≡ s.body.now) };
+    ghost invariant = { λ s. IfSome s.listed (λ l. l.now ≡ s.body.now) };
 }
 
 impl<'t> PlannedStep<'t> {
@@ -52,42 +51,32 @@ impl<'t> PlannedStep<'t> {
         self.tick
     }
 
-    /// Whether it is seen in brief that its invariant holds.
-    pub fn is_kept(&self, state: &State) -> bool
-        ensures { result ≡ true → OfInvariant self.now.body (IsMet (state_of state.now)) }
-    {
-        match self.briefs {
-            Some(briefs) => briefs.is_kept(state),
-            None => false,
-        }
-    }
-
-    /// What its invariant mentions, if that is prepared.
+    /// What its invariant mentions, if that is listed.
     pub fn mentioned(&self) -> Option<&Mentioned>
         ensures { OfInvariant self.now.body (λ v. IfSome result (λ m. MentionsFit v m.now)) }
     {
-        match self.briefs {
-            Some(briefs) => briefs.mentioned(),
+        match self.listed {
+            Some(listed) => listed.invariant(),
             None => None,
         }
     }
 
-    // The condition of its first event, or of its only one, in brief.
-    fn first_brief(&self) -> Option<&'t Brief<'t>>
-        ensures { IfSome result (λ b. b.now ≡ first_condition self.now.body) }
+    // What the condition of its first event, or of its only one, mentions.
+    fn asked_first(&self) -> Option<&'t Mentioned>
+        ensures { IfSome result (λ m. MentionsFit (first_condition self.now.body) m.now) }
     {
-        match self.briefs {
-            Some(briefs) => briefs.first(),
+        match self.listed {
+            Some(listed) => listed.first(),
             None => None,
         }
     }
 
-    // The condition of its end in brief.
-    fn last_brief(&self) -> Option<&'t Brief<'t>>
-        ensures { IfSome result (λ b. b.now ≡ last_condition self.now.body) }
+    // What the condition of its end mentions.
+    fn asked_last(&self) -> Option<&'t Mentioned>
+        ensures { IfSome result (λ m. MentionsFit (last_condition self.now.body) m.now) }
     {
-        match self.briefs {
-            Some(briefs) => briefs.last(),
+        match self.listed {
+            Some(listed) => listed.last(),
             None => None,
         }
     }
@@ -102,8 +91,8 @@ pub struct PlacedEvent<'t> {
     moment: u32,
     event: &'t GroundEvent,
     ticks: u32,
-    // Its condition in brief, if that is kept so.
-    brief: Option<&'t Brief<'t>>,
+    // What its condition mentions, if that is listed.
+    asked: Option<&'t Mentioned>,
 }
 
 impl<'t> Model for PlacedEvent<'t> {
@@ -123,9 +112,10 @@ impl<'t> Model for PlacedEvent<'t> {
       timed = record { event = e.event.now; ticks = e.ticks };
     } };
 
-    ghost use Rattle.std.specs.Prelude.{◌≡◌, IfSome};
+    ghost use Rattle.std.specs.Prelude.{IfSome};
+    ghost use Rattle.tp_happen.specs.Mentioned.{MentionsFit};
 
-    ghost invariant = { λ e. IfSome e.brief (λ b. b.now ≡ e.event.now.condition) };
+    ghost invariant = { λ e. IfSome e.asked (λ m. MentionsFit e.event.now.condition m.now) };
 }
 
 impl<'t> PlacedEvent<'t> {
@@ -161,44 +151,9 @@ impl<'t> PlacedEvent<'t> {
             moment: self.moment,
             event: self.event,
             ticks: self.ticks,
-            brief: self.brief,
+            asked: self.asked,
         }
     }
-
-    // Whether it is seen that its condition holds.
-    fn is_met(&self, state: &State) -> bool
-        ensures { result ≡ true → IsMet (state_of state.now) self.now.timed.event.condition }
-    {
-        match self.brief {
-            Some(brief) => brief.is_met(state),
-            None => matches!(holds(state, &self.event.condition), Ok(true)),
-        }
-    }
-}
-
-// Whether the condition of one of these events is kept in brief.
-fn is_one_in_brief(events: &[PlacedEvent<'_>]) -> bool {
-    for event in events {
-        if event.brief.is_some() {
-            return true;
-        }
-    }
-    false
-}
-
-/// Whether it is seen that the conditions of all these events hold, which is looked for if one of them is kept in brief.
-pub fn are_met(state: &State, events: &[PlacedEvent<'_>]) -> bool
-    ensures { result ≡ true → AreMet (state_of state.now) (map (λ e. e.timed) events.now) }
-{
-    if !is_one_in_brief(events) {
-        return false;
-    }
-    for event in events {
-        if !event.is_met(state) {
-            return false;
-        }
-    }
-    true
 }
 
 // A step with what its action does.
@@ -211,17 +166,17 @@ fn planned_step<'t>(
     ensures { result ≡ option_map (step_of step) (slice_get task.now.actions.items step.action.0) }
 {
     let body = task.actions.get(step.action.0 as usize)?;
-    let briefs = briefs_among(prepared, step.action);
+    let listed = listed_among(prepared, step.action);
     Some(PlannedStep {
         tick: step.tick,
         duration: step.duration,
         body,
-        briefs,
+        listed,
     })
 }
 
-/// The steps of a plan with what their actions do, and with the conditions of these in brief, where they are prepared.
-pub fn steps_in_brief<'t>(
+/// The steps of a plan with what their actions do, and with lists of what these mention, where they are prepared.
+pub fn prepared_steps<'t>(
     alloc: Global,
     task: &'t Task,
     steps: &[Step],
@@ -247,7 +202,29 @@ pub fn planned_steps<'t>(
 ) -> Result<Vec<PlannedStep<'t>>, AllocError>
     ensures { IfOk result (λ v. v.items ≡ plan_of task.now steps.now) }
 {
-    steps_in_brief(alloc, task, steps, &[])
+    prepared_steps(alloc, task, steps, &[])
+}
+
+// The number of a step's action, if the task has that action.
+fn planned_action(task: &Task, step: Step) -> Option<u32>
+    ensures { result ≡ option_map (λ (b : TheBody). step.action.0)
+        (slice_get task.now.actions.items step.action.0) }
+{
+    let _body = task.actions.get(step.action.0 as usize)?;
+    Some(step.action.0)
+}
+
+/// The numbers of the actions of a plan's steps.
+pub fn planned_actions(alloc: Global, task: &Task, steps: &[Step]) -> Result<Vec<u32>, AllocError>
+    ensures { IfOk result (λ v. v.items ≡ actions_of task.now.actions.items steps.now) }
+{
+    let mut actions = Vec::new(alloc);
+    for step in steps {
+        if let Some(action) = planned_action(task, *step) {
+            actions.push(action)?;
+        }
+    }
+    Ok(actions)
 }
 
 // The events of a step, numbered from `next`, and the number after them.
@@ -274,7 +251,7 @@ fn place<'t>(
                 moment: tick,
                 event: only,
                 ticks: 0,
-                brief: step.first_brief(),
+                asked: step.asked_first(),
             })?;
             Ok(next + 1)
         }
@@ -287,7 +264,7 @@ fn place<'t>(
                 moment: tick,
                 event: start,
                 ticks,
-                brief: step.first_brief(),
+                asked: step.asked_first(),
             })?;
             events.push(PlacedEvent {
                 number: last,
@@ -296,7 +273,7 @@ fn place<'t>(
                 moment: tick + ticks,
                 event: end,
                 ticks,
-                brief: step.last_brief(),
+                asked: step.asked_last(),
             })?;
             Ok(next + 2)
         }
@@ -329,7 +306,7 @@ pub fn event_refs<'t>(
 {
     let mut refs = Vec::new(alloc);
     for event in events {
-        refs.push(EventRef::new(Event::new(event.event), event.ticks))?;
+        refs.push(EventRef::asking(Event::new(event.event), event.ticks, event.asked))?;
     }
     Ok(refs)
 }

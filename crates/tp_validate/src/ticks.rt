@@ -1,22 +1,24 @@
 //! What happens at one tick of a plan, or the first fault there.
 
-ghost use Rattle.std.specs.Prelude.{◌≡◌, ◌<◌, ◌≤◌, ◌+◌, ◌==◌, ◌||◌, ◌&&◌, nat_le, nat_lt, true, false, length, map, IfOk, IfErr, IfSome, OnErr};
+ghost use Rattle.std.specs.Prelude.{◌≡◌, ◌<◌, ◌≤◌, ◌+◌, ◌==◌, ◌||◌, ◌&&◌, nat_le, nat_lt, true, false, List, length, map, slice_index_or, IfOk, IfErr, IfSome, OnErr};
 ghost use Rattle.std.specs.List.{list_all, position_from};
 ghost use Rattle.tp_task.specs.Happens.{Happens};
-ghost use Rattle.tp_task.specs.Valid.{events, at};
+ghost use Rattle.tp_task.specs.Valid.{Planned, events, at};
 ghost use Rattle.tp_task.specs.Verdict as verdict;
-ghost use Rattle.tp_happen.specs.Stored.{state_of, fits_in};
+ghost use Rattle.tp_happen.specs.Stored.{Stored, state_of, fits_in};
 ghost use Rattle.tp_happen.specs.Fault.{OnRange};
 ghost use Rattle.tp_number_sets.specs.Sets.{has_number};
 ghost use Rattle.tp_validate.specs.Agenda.{starting_at};
 ghost use Rattle.tp_validate.specs.Places.{here, numbers};
 ghost use Rattle.tp_validate.specs.Tick.{renumbered, invariant_small, PassesAt};
 ghost use Rattle.tp_validate.specs.Touched.{HasMentions, HoldsSoFar, AreKept};
+ghost use Rattle.tp_validate.specs.Outlook.{IsOutlook, Sees};
 ghost use Rattle.tp_validate.specs.Found.{told, IsFound};
 
 use crate::durations::first_unlawful;
 use crate::mentions::{Mentions, touched_by};
-use crate::placing::{PlacedEvent, PlannedStep, are_met, event_refs, number_at};
+use crate::outlook::{Outlook, Sight, are_met, is_kept, sight_after, sight_before};
+use crate::placing::{PlacedEvent, PlannedStep, event_refs, number_at};
 use std::alloc::Global;
 use tp_happen::{ApplyFault, Outcome, Range, State, Why, apply_seen, holds};
 use tp_number_sets::NumberSet;
@@ -69,9 +71,6 @@ fn is_broken(after: &State, step: &PlannedStep<'_>, moment: u32) -> Result<bool,
             if moment < tick || duration <= moment - tick {
                 return Ok(false);
             }
-            if step.is_kept(after) {
-                return Ok(false);
-            }
             Ok(!holds(after, invariant)?)
         }
     }
@@ -92,36 +91,54 @@ fn is_in_question(touched: &NumberSet, step: &PlannedStep<'_>, place: usize, mom
     step.tick == moment || touched.contains(place)
 }
 
-// The same as `is_broken`, where the invariant of a step that is not in question is known to be kept.
+// Whether it is known that the invariant of a step is not broken: it is not in question, or it was seen to hold.
+fn is_settled(
+    sight: Option<Sight<'_>>,
+    touched: &NumberSet,
+    step: &PlannedStep<'_>,
+    place: usize,
+    moment: u32,
+) -> bool
+    ensures { result ≡ true → (s : Stored) (ps : List Planned) → place < length ps
+        → step.now ≡ slice_index_or ps place step.now → AreKept (state_of s) moment touched.now ps
+        → IfSome sight.entry (λ v. Sees v s ps)
+        → verdict.is_broken (state_of s) moment step.now step.now.body ≡ false }
+{
+    !is_in_question(touched, step, place, moment) || is_kept(sight, place)
+}
+
+// The same as `is_broken`, where it may be known that the step is not.
 fn is_now_broken(
     after: &State,
     step: &PlannedStep<'_>,
-    in_question: bool,
+    is_settled: bool,
     moment: u32,
 ) -> Result<bool, Range>
-    requires { in_question ≡ false
+    requires { is_settled ≡ true
         → verdict.is_broken (state_of after.now) moment step.now step.now.body ≡ false }
     ensures ok { IfOk result
         (λ r. r ≡ verdict.is_broken (state_of after.now) moment step.now step.now.body) }
     ensures err { OnErr result
         (invariant_small (state_of after.now) moment step.now step.now.body ≡ false) }
 {
-    if in_question {
-        is_broken(after, step, moment)
-    } else {
+    if is_settled {
         Ok(false)
+    } else {
+        is_broken(after, step, moment)
     }
 }
 
 // The first step whose invariant runs past a moment and does not hold after it. Only the invariants of steps that start
-// there, or whose places are in the set, are evaluated.
+// there, or whose places are in the set, are evaluated, and of them only those that were not seen to hold.
 fn first_broken(
     after: &State,
     steps: &[PlannedStep<'_>],
     touched: &NumberSet,
     moment: u32,
+    sight: Option<Sight<'_>>,
 ) -> Result<Option<usize>, Range>
-    requires { AreKept (state_of after.now) moment touched.now steps.now }
+    requires kept { AreKept (state_of after.now) moment touched.now steps.now }
+    requires seen { IfSome sight (λ v. Sees v after.now steps.now) }
     ensures ok { IfOk result (λ r. r
         ≡ position_from (λ p. verdict.is_broken (state_of after.now) moment p p.body) 0 steps.now) }
     ensures place { IfOk result (λ r. IfSome r (λ i. i < length steps.now)) }
@@ -131,8 +148,8 @@ fn first_broken(
     for (i, step) in steps.iter().enumerate() {
         // Most steps do not run there: they are only looked at.
         if is_running(step, moment) {
-            let in_question = is_in_question(touched, step, i, moment);
-            if is_now_broken(after, step, in_question, moment)? {
+            let is_settled = is_settled(sight, touched, step, i, moment);
+            if is_now_broken(after, step, is_settled, moment)? {
                 return Ok(Some(i));
             }
         }
@@ -150,7 +167,9 @@ fn broken_after(
     mentions: &Mentions,
     there: &[PlacedEvent<'_>],
     moment: u32,
+    outlook: Option<&Outlook>,
 ) -> Result<Option<usize>, ApplyFault>
+    requires seen { IfSome outlook (λ o. IsOutlook o.now steps.now) }
     requires held { HoldsSoFar (state_of before.now) moment steps.now }
     requires mentions { HasMentions steps.now (length steps.now) mentions.now }
     requires happened { Happens before.now.scale
@@ -162,12 +181,14 @@ fn broken_after(
         (list_all (λ p. invariant_small (state_of after.now) moment p p.body) steps.now ≡ false)) }
 {
     let touched = touched_by(alloc, mentions, before, after, there)?;
-    let broken = first_broken(after, steps, &touched, moment)?;
+    let sight = sight_after(outlook, after);
+    let broken = first_broken(after, steps, &touched, moment, sight)?;
     Ok(broken)
 }
 
 /// What the events of a tick make of the state before it, or the first fault there. Of the steps that ran before it, it
-/// evaluates the invariants of those that mention something that an event there changes.
+/// evaluates the invariants of those that mention something that an event there changes. What an outlook tells of these two states is
+/// not evaluated again.
 pub fn judge_tick(
     alloc: Global,
     state: &State,
@@ -176,7 +197,9 @@ pub fn judge_tick(
     mentions: &Mentions,
     there: &[PlacedEvent<'_>],
     moment: u32,
+    outlook: Option<&Outlook>,
 ) -> Result<Judged, ApplyFault>
+    requires seen { IfSome outlook (λ o. IsOutlook o.now steps.now) }
     requires few { length steps.now ≤ 512 }
     requires starting { starting_at moment starting.now ≡ starting_at moment steps.now }
     requires held { HoldsSoFar (state_of state.now) moment steps.now }
@@ -191,11 +214,11 @@ pub fn judge_tick(
         return Ok(Judged::Faulty(Fault::Duration(step as u16)));
     }
     let happening = event_refs(alloc, there)?;
-    let are_met = are_met(state, there);
+    let are_met = are_met(sight_before(outlook, state), steps, moment);
     match apply_seen(alloc, state, &happening, are_met)? {
         Outcome::Fails(place, why) => Ok(Judged::Faulty(named(there, place, why))),
         Outcome::Next(next) => match broken_after(
-            alloc, state, &next, steps, mentions, there, moment,
+            alloc, state, &next, steps, mentions, there, moment, outlook,
         )? {
             Some(step) => Ok(Judged::Faulty(Fault::OverAll(step as u16))),
             None => Ok(Judged::Next(next)),

@@ -12,12 +12,16 @@ ghost use Rattle.tp_validate.specs.Verdict.{IsSound, PassesIn};
 ghost use Rattle.tp_validate.specs.Agenda.{IsAgenda, IsRoster};
 ghost use Rattle.tp_validate.specs.Touched.{HasMentions};
 ghost use Rattle.tp_validate.specs.Prepared.{ArePrepared};
+ghost use Rattle.tp_validate.specs.Outlook.{AreAlike};
 ghost use Rattle.tp_validate.specs.Reached.{IsRan, PassesBy};
 ghost use Rattle.tp_validate.specs.Answers.{IsFirst, IsVerdict, IsFault};
 
 use crate::agenda::{agenda_of, next_tick};
+use crate::ahead::{Course, are_long, turned};
 use crate::mentions::{Mentions, mentions_of};
-use crate::placing::{PlacedEvent, PlannedStep, placed_events, planned_steps, steps_in_brief};
+use crate::placing::{
+    PlacedEvent, PlannedStep, placed_events, planned_actions, planned_steps, prepared_steps,
+};
 use crate::prepared::{Prepared, prepared_for};
 use crate::rosters::{count_started, roster_of};
 use crate::ticks::{Fault, Judged, judge_tick};
@@ -104,7 +108,9 @@ fn run(
     roster: &[PlannedStep<'_>],
     agenda: &[PlacedEvent<'_>],
     mentions: &Mentions,
+    actions: &[u32],
 ) -> Result<Ran, ApplyFault>
+    requires alike { AreAlike actions.now steps.now }
     requires few { length steps.now ≤ 512 }
     requires roster { IsRoster steps.now 0 roster.now }
     requires agenda { IsAgenda (events steps.now) 0 agenda.now }
@@ -119,11 +125,21 @@ fn run(
     let mut from = 0;
     let mut done = 0;
     let mut started = 0;
+    let course = Course {
+        task,
+        steps,
+        actions,
+    };
+    let mut outlook = None;
     while let Some(tick) = next_tick(&agenda[done..]) {
         let moment = tick.moment;
         let waiting = &roster[started..];
         let (starting, _) = waiting.split_at(count_started(waiting, moment));
-        match judge_tick(alloc, &state, steps, starting, mentions, tick.there, moment)? {
+        outlook = turned(alloc, outlook, course, &state, &agenda[done..]);
+        let ahead = outlook.as_ref();
+        match judge_tick(
+            alloc, &state, steps, starting, mentions, tick.there, moment, ahead,
+        )? {
             Judged::Faulty(why) => return Ok(Ran::Faulty(moment, why)),
             Judged::Next(next) => state = next,
         }
@@ -159,6 +175,23 @@ fn roster_in<'t>(
     roster_of(planned)
 }
 
+// The numbers of the actions of a plan's steps, if it is worth while to look ahead.
+fn actions_if_long(
+    alloc: Global,
+    task: &Task,
+    steps: &[Step],
+    planned: &[PlannedStep<'_>],
+) -> Result<Vec<u32>, AllocError>
+    requires { planned.now ≡ plan_of task.now steps.now }
+    ensures { IfOk result (λ v. AreAlike v.items planned.now) }
+{
+    if are_long(planned) {
+        planned_actions(alloc, task, steps)
+    } else {
+        Ok(Vec::new(alloc))
+    }
+}
+
 // Carries out the steps of a plan, up to the first fault or to the last event.
 fn carry_out_steps(
     alloc: Global,
@@ -175,7 +208,8 @@ fn carry_out_steps(
 {
     let agenda = agenda_in(alloc, planned)?;
     let roster = roster_in(alloc, task, steps)?;
-    run(alloc, task, planned, &roster, &agenda, mentions)
+    let actions = actions_if_long(alloc, task, steps, planned)?;
+    run(alloc, task, planned, &roster, &agenda, mentions, &actions)
 }
 
 // Carries out a plan, some of whose actions are prepared.
@@ -190,7 +224,7 @@ fn carry_out_prepared(
     ensures ran { IfOk result (IsRan task.now (plan_of task.now steps.now)) }
     ensures range { IfErr result (λ e. OnRange e (PassesBy task.now (plan_of task.now steps.now))) }
 {
-    let planned = steps_in_brief(alloc, task, steps, prepared)?;
+    let planned = prepared_steps(alloc, task, steps, prepared)?;
     let mentions = mentions_of(alloc, &planned)?;
     carry_out_steps(alloc, task, steps, &planned, &mentions)
 }

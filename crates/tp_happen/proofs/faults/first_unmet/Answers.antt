@@ -1,4 +1,3 @@
-use Rattle.std.proofs.Common.{true}
 use Rattle.tp_task.specs.State.{holds}
 use Rattle.tp_task.specs.Happens.{EventOfStep}
 use Rattle.tp_happen.specs.Stored.{state_of}

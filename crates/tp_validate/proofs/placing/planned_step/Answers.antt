@@ -18,7 +18,7 @@ invariant_of-result c =
     let e : slice_get bodies i ≡ Some c.in_ok-body.body.now =
     subst (λ (bs : List Body). slice_get bs i ≡ Some c.in_ok-body.body.now) c.deref.ensures.value
     (slice_get_read c.deref.result.now (length c.deref.result.now) i c.in_ok-body.body.now refl (ltb-true _ _ (sym h.0)) h.1) in
-    same_number c.briefs_among-briefs.result bodies i c.in_ok-body.body.now (c.briefs_among-briefs.ensures bodies c.requires) e
+    same_number c.listed_among-listed.result bodies i c.in_ok-body.body.now (c.listed_among-listed.ensures bodies c.requires) e
 
 pub returns : goal.returns
 returns c =

@@ -9,8 +9,8 @@ use Rattle.tp_validate.specs.Tick.{invariant_small}
 use Rattle.tp_validate.proofs.Untouched.{kept, has_touched}
 use Rattle.tp_validate.proofs.ticks.broken_after.Goals as goal
 
-pub first_broken-requires : goal.first_broken-requires
-first_broken-requires c =
+pub first_broken-requires-clause-kept : goal.first_broken-requires-clause-kept
+first_broken-requires-clause-kept c =
     let old = state_of c.args.before.now in
     let new = state_of c.args.after.now in
     kept old new c.args.moment c.args.steps.now c.in_ok-touched.touched c.requires.held

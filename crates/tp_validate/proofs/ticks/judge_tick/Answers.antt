@@ -4,6 +4,7 @@ use Rattle.tp_task.specs.Happens.{EventOfStep, Happens}
 use Rattle.tp_task.specs.Valid.{Placed, events}
 use Rattle.tp_happen.specs.Stored.{state_of, OfOneTask}
 use Rattle.tp_happen.specs.Bounded.{StaysSmall}
+use Rattle.tp_happen.specs.Met.{AreMet}
 use Rattle.tp_happen.specs.Fault.{Applies, OnNext, OnRange, fault_of}
 use Rattle.tp_happen.proofs.Answered.{on_range, on_range_weaker}
 use Rattle.tp_validate.specs.Places.{numbers}
@@ -68,3 +69,9 @@ returns-clause-found c =
       task = subst (λ o. OnNext o (OfOneTask s)) c.in-Next.is c.in_ok-place.ensures.task;
       small = subst (λ (ts : List EventOfStep). StaysSmall s.scale (state_of s) ts) there (subst (λ o. OnNext o (λ _. StaysSmall s.scale (state_of s) c.deref.result.now)) c.in-Next.is c.in_ok-place.ensures.small);
     }
+
+pub apply_seen-requires-clause-met : goal.apply_seen-requires-clause-met
+apply_seen-requires-clause-met c held =
+    let s = c.args.state.now in
+    subst (AreMet (state_of s)) (sym (c.deref.ensures.value ∙ (c.in_ok-happening.ensures ∙ ap times c.requires.there)))
+    (c.are_met-are_met.ensures held s (c.sight_before.ensures c.args.steps.now c.requires.seen))

@@ -60,6 +60,7 @@ loop-tick-preserved c =
       waiting = s.rest;
       begun = begun_after c.args.steps.now c.loop-tick.from c.args.roster.now c.loop-tick.started c.loop-tick.invariant.waiting c.in-Some.tick.moment t.onward c.count_started.result
           c.split_at.result.0.now c.split_at.ensures.front c.split_at.ensures.front_len c.count_started.ensures.until c.count_started.ensures.after c.loop-tick.invariant.begun;
+      seen = c.turned-outlook.ensures;
     }
 
 pub overflow_add-from : goal.overflow_add-from
@@ -79,4 +80,5 @@ loop-tick-init c =
       within = omega arith;
       waiting = c.requires.roster;
       begun = omega arith;
+      seen = tt;
     }

@@ -1,8 +1,10 @@
 -- The run has come to a moment, the rests of the agenda and of the roster are those from there on, and the bound on the moment falls.
-use Rattle.std.proofs.Common.{◌-◌, ◌≤◌, length, drop}
+use Rattle.std.proofs.Common.{◌-◌, ◌≤◌, IfSome, length, drop}
 use Rattle.tp_task.specs.Valid.{events}
 use Rattle.tp_validate.specs.Agenda.{IsAgenda, IsRoster}
 use Rattle.tp_validate.specs.Reached.{Reached}
+use Rattle.tp_validate.specs.Outlook.{IsOutlook}
+use Rattle.tp_validate.specs.declared.outlook.Outlook.{Outlook}
 use Rattle.tp_validate.proofs.verdicts.run.Given as goal
 
 abbrev pub invariant-loop-tick : goal.invariant-loop-tick
@@ -13,6 +15,7 @@ invariant-loop-tick l =
       within : l.done ≤ length l.agenda;
       waiting : IsRoster l.steps l.from (drop l.started l.roster);
       begun : l.started ≤ length l.roster;
+      seen : IfSome l.outlook (λ (o : Outlook). IsOutlook o l.steps);
     }
 
 abbrev pub decreases-loop-tick : goal.decreases-loop-tick

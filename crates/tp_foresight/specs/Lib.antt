@@ -1,0 +1,4 @@
+pub mod Words
+pub mod Steady
+pub mod Foresight
+pub mod Sides

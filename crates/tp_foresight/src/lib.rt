@@ -1,0 +1,19 @@
+//! What holds in some states of a task, judged in all of them at once.
+//!
+//! - `foresight`: up to 64 states, with the truth of each atom in all of them as one word
+//! - `conditions`: conditions, a word for each part
+//! - `comparisons`: comparisons, a state after another or once for all
+//! - `steady`: fluents that have the same number in all of the states
+//! - `seen`: in which of the states a condition was seen to hold
+//! - `words`: words of a bit for each state
+#![tactic(auto)]
+
+mod comparisons;
+mod conditions;
+mod foresight;
+mod seen;
+mod steady;
+mod words;
+
+pub use foresight::Foresight;
+pub use seen::Seen;

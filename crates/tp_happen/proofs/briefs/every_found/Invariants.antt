@@ -1,8 +1,0 @@
-use Rattle.std.proofs.Common.{◌≡◌, map, drop}
-use Rattle.tp_happen.specs.Judged.{of_both}
-use Rattle.tp_happen.specs.Stored.{state_of}
-use Rattle.tp_happen.specs.Briefs.{member_found, joined_all}
-use Rattle.tp_happen.proofs.briefs.every_found.Given as goal
-
-abbrev pub invariant-loop-member : goal.invariant-loop-member
-invariant-loop-member l = of_both l.all (joined_all (map (member_found (state_of l.state) l.known) (drop l.member-index l.members))) ≡ joined_all (map (member_found (state_of l.state) l.known) l.members)

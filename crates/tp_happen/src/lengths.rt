@@ -1,0 +1,34 @@
+//! How long conditions are.
+
+use tp_task::Cond;
+
+// A condition of so many within one is short.
+const SHORT: usize = 4_096;
+
+#[cycle(left_after)]
+fn left_after_each(conds: &[Cond], most: usize) -> Option<usize> {
+    let mut left = most;
+    for cond in conds {
+        left = left_after(cond, left)?;
+    }
+    Some(left)
+}
+
+/// What is left of so many conditions after those that are gone through in one, if it has no more.
+#[cycle(left_after)]
+pub fn left_after(cond: &Cond, most: usize) -> Option<usize> {
+    let left = most.checked_sub(1)?;
+    match cond {
+        Cond::Atom(_) | Cond::Compare(_, _, _) => Some(left),
+        Cond::Not(inner) => left_after(inner, left),
+        Cond::And(conds) => left_after_each(conds, left),
+        Cond::Or(conds) => left_after_each(conds, left),
+        Cond::Shared(inner) => left_after(inner, left),
+    }
+}
+
+/// Whether a condition is long: whether more than 4,096 conditions stand in it, itself and those of a shared one counted as often
+/// as they stand there.
+pub fn is_long(cond: &Cond) -> bool {
+    left_after(cond, SHORT).is_none()
+}
