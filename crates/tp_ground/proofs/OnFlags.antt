@@ -1,6 +1,6 @@
 -- Which of some instances are kept, from what they were lowered to.
 use Rattle.std.proofs.Common.{◌≡◌, ◌<◌, ℕ, Bool, true, List, [], ◌∷◌, map, length, refl, sym, ap, subst, ◌∙◌, arith}
-use Rattle.std.specs.List.{AllByRecursion, IsDistinct, filter, flat_map, list_all}
+use Rattle.std.specs.List.{IsDistinct, filter, flat_map, list_all}
 use Rattle.std.proofs.lemmas.Bool.{and_from, and_parts}
 use Rattle.tp_ast.specs.Actions.{Action}
 use Rattle.tp_ast.specs.Conditions.{Condition}
@@ -12,7 +12,7 @@ use Rattle.tp_task.specs.Tables.{Tables}
 use Rattle.tp_task.specs.declared.events.Body.{Body}
 use Rattle.tp_task.specs.declared.events.Body.TheVariants.{Instant, Durative}
 use Rattle.tp_reach.specs.Rounds.{adds_in, adds_fit}
-use Rattle.tp_bindings.specs.Bindings.{Universe, bound, universe_of}
+use Rattle.tp_bindings.specs.Bindings.{Universe, universe_of}
 use Rattle.tp_lower.specs.ReadBack.{named_body}
 use Rattle.tp_ground_parts.specs.Initially.{GroundInitial, initial_in, named_initial}
 use Rattle.tp_bounds.specs.RunLimits.{RunLimits}
@@ -27,7 +27,7 @@ use Rattle.tp_ground.specs.Instances.{written_with, of_task_with, AreReached, Ar
 use Rattle.tp_ground.specs.WrittenTasks.{WrittenTask, named_task}
 use Rattle.tp_ground.specs.declared.grounder.LoweredTask.{LoweredTask}
 use Rattle.tp_ground.proofs.OnInitially.{with_all_distinct}
-use Rattle.tp_ground.proofs.OnTasks.{IsWritten, fit, same_extend}
+use Rattle.tp_ground.proofs.OnTasks.{some_written, fit, same_extend}
 use Rattle.tp_ground.proofs.OnReach.{reach, is_reach, flags_are}
 
 -- what fits adds what fits
@@ -42,10 +42,6 @@ adds_of atoms fluents (Durative start end invariant ∷ bs) h =
     and_from (adds_fit atoms (Durative start end invariant)) _
     (and_from (adds_in atoms start) _ (and_parts (adds_in atoms start) _ q.0).0 (and_parts (adds_in atoms end) _ q.1).0)
     (adds_of atoms fluents bs p.1)
-
-all_written : (u : Universe) (is : List Instance) → AllByRecursion (IsWritten u) (map (λ i. (action_of u i).body) is)
-all_written u [] = tt
-all_written u (i ∷ is) = ((bound i.action.parameters i.objects, (i.action.body, refl)), all_written u is)
 
 module _ (u : Universe) (initial : List Initial) (goal : Condition) (xs : List Instance) (none new : WriterView) (t : Tables) (l : LoweredTask) (most : ℕ)
     (empty : none.tables ≡ record { atoms = []; fluents = []; actions = []; most = most }) (same : t ≡ new.tables)
@@ -66,7 +62,7 @@ module _ (u : Universe) (initial : List Initial) (goal : Condition) (xs : List I
       (with_all_distinct [] (of_task_with u initial goal xs).atoms tt)
 
   pub adds_there : list_all (adds_fit (length t.atoms)) l.actions.items ≡ true
-  adds_there = adds_of (length t.atoms) (length t.fluents) l.actions.items (fit u t l.actions.items (map (λ i. (action_of u i).body) xs) (all_written u xs) bodies)
+  adds_there = adds_of (length t.atoms) (length t.fluents) l.actions.items (fit u t l.actions.items (map (λ i. (action_of u i).body) xs) (some_written u xs) bodies)
 
   pub flags_of : (flags : List Bool) → AreReached (length t.atoms) l flags → AreFlags u (map initial_in initial) xs flags
   flags_of flags r = record {

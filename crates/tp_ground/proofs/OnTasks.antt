@@ -102,6 +102,10 @@ module _ (u : Universe) where
   all_written [] = tt
   all_written (a ∷ each) = written_one a (bindings u a.parameters) (ground_actions u each) (all_written each)
 
+  pub some_written : (is : List Instance) → AllByRecursion (IsWritten u) (map (λ i. (action_of u i).body) is)
+  some_written [] = tt
+  some_written (i ∷ is) = ((bound i.action.parameters i.objects, (i.action.body, refl)), some_written is)
+
   pub fit : (t : Tables) (bs : List Body) (ys : List GroundBody) → AllByRecursion (IsWritten u) ys → map (named_body t) bs ≡ ys → list_all (body_fits (length t.atoms) (length t.fluents)) bs ≡ true
   fit t [] ys h e = refl
   fit t (b ∷ bs) [] h e = cc
@@ -272,10 +276,6 @@ module _ (limits : RunLimits) (scale : Scale) (d : Domain) (p : Problem) (is : L
   abbrev some_labels : List Words
   some_labels = map (λ i. (action_of (universe_of d p) i).words) is
 
-  written_some : (js : List Instance) → AllByRecursion (IsWritten (universe_of d p)) (map (λ i. (action_of (universe_of d p) i).body) js)
-  written_some [] = tt
-  written_some (i ∷ js) = ((bound i.action.parameters i.objects, (i.action.body, refl)), written_some js)
-
   as_many_of : length some_bodies ≡ length is
   as_many_of = length-map is (λ i. (action_of (universe_of d p) i).body)
 
@@ -283,7 +283,7 @@ module _ (limits : RunLimits) (scale : Scale) (d : Domain) (p : Problem) (is : L
   few_some h = few_of limits scale d p some_bodies some_labels (mentioned_of d p is) none new later l empty lowered names atoms fluents most (let e = as_many_of in omega arith)
 
   pub fits_some : list_all (body_fits (length later.atoms) (length later.fluents)) l.actions.items ≡ true
-  fits_some = fits_of limits scale d p some_bodies some_labels (mentioned_of d p is) none new later l empty lowered names atoms fluents most (written_some is)
+  fits_some = fits_of limits scale d p some_bodies some_labels (mentioned_of d p is) none new later l empty lowered names atoms fluents most (some_written (universe_of d p) is)
 
   pub named_some : length later.actions ≡ length l.actions.items
   named_some = named_of limits scale d p some_bodies some_labels (mentioned_of d p is) none new later l empty lowered names atoms fluents most (length-map is (λ i. (action_of (universe_of d p) i).words) ∙ sym as_many_of)

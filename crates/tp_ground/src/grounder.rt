@@ -134,8 +134,8 @@ fn look_around<'a>(
     Ok(())
 }
 
-// The types and objects of a problem with few enough ground actions.
-fn universe_within<'a>(
+/// The types and objects of a problem with few enough ground actions.
+pub fn universe_within<'a>(
     alloc: Global,
     domain: &'a Domain,
     problem: &'a Problem,
@@ -171,11 +171,12 @@ fn lower<'a>(
 {
     let entries = entries(alloc, writer, initial)?;
     let goal = closed_condition(alloc, universe, writer, goal)?;
-    let actions = lower_actions(alloc, universe, writer, actions)?;
+    let mut bodies = Vec::new(alloc);
+    lower_actions(alloc, universe, writer, actions, &mut bodies)?;
     Ok(LoweredTask {
         entries,
         goal,
-        actions,
+        actions: bodies,
     })
 }
 

@@ -2,32 +2,24 @@
 
 ghost use Rattle.std.specs.Prelude.{◌≡◌, ◌++◌, ◌∷◌, Bool, true, map, filter, length, IfOk, OnOk};
 ghost use Rattle.std.specs.List.{list_all};
-ghost use Rattle.tp_ast.specs.Symbols.{typed_view};
-ghost use Rattle.tp_ast.specs.DomainViews.{body_view};
 ghost use Rattle.tp_bindings.specs.Views.{universe_view};
-ghost use Rattle.tp_bindings.specs.Bindings.{bound, bindings};
-ghost use Rattle.tp_lower.specs.Written.{body_in};
-ghost use Rattle.tp_lower.specs.Mentions.{of_body, of_each};
+ghost use Rattle.tp_lower.specs.Mentions.{of_each};
 ghost use Rattle.tp_lower.specs.ReadBack.{named_body};
 ghost use Rattle.tp_lower.specs.Lowered.{Lowers};
 ghost use Rattle.tp_ground.specs.Reached as reached;
 ghost use Rattle.tp_ground.specs.Reached.{instances, action_of, of_instance};
 ghost use Rattle.tp_ground.specs.Schemas.{schema_view, is_hinted};
 ghost use Rattle.tp_ground.specs.Instances.{instance_view, has_hints};
-ghost use Rattle.tp_bindings.specs.Hints.{body_fits};
 ghost use Rattle.tp_bindings.specs.declared.objects.Universe as objects;
 ghost use Rattle.tp_bindings.specs.Rows.{product, lists_of};
 
 use crate::schema::Schema;
 use std::alloc::{AllocError, Global};
 use std::rc::Rc;
-use tp_bindings::environment::Env;
-use tp_bindings::hints::BodyHint;
 use tp_bindings::rows::{Rows, rows_of};
 use tp_bindings::universe::{Universe, copied, refill};
-use tp_bindings::variables::Variables;
+use tp_ground_parts::grounding::lower_under;
 use tp_lower::Writer;
-use tp_lower::bodies::body;
 use tp_task::{Body, GroundFault};
 
 /// An action, and the objects that its parameters stand for.
@@ -79,29 +71,7 @@ pub fn all_instances<'s, 'a>(
     Ok(all)
 }
 
-// The body of an action where its parameters stand for some objects.
-fn lower_under<'a>(
-    alloc: Global,
-    universe: &Universe<'a>,
-    writer: &mut Writer<'a>,
-    parameters: &Variables<'a>,
-    objects: &[&'a str],
-    written: &'a tp_ast::action::Body,
-    hints: &BodyHint,
-) -> Result<Body, GroundFault>
-    requires of_universe { universe_view universe.now ≡ writer.old.universe }
-    requires fit { body_fits universe.now hints.now (body_view written.now) ≡ true }
-    ensures { Lowers named_body writer.old result writer.new (body_in (universe_view universe.now)
-        (bound (map typed_view parameters.now) (map (λ o. o.now) objects.now))
-        (body_view written.now)) (of_body (universe_view universe.now)
-        (bound (map typed_view parameters.now) (map (λ o. o.now) objects.now))
-        (body_view written.now)) }
-{
-    let outside = Env::Empty;
-    let inner = Env::Inner(parameters, objects, &outside);
-    body(alloc, universe, &inner, writer, written, hints)
-}
-
+// The body of an instance.
 fn lower_one<'a>(
     alloc: Global,
     universe: &Universe<'a>,

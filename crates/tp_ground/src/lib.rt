@@ -12,8 +12,11 @@ mod reached;
 mod schema;
 mod schemas;
 
-pub use grounder::ground;
+pub use grounder::{LoweredTask, check, ground, task_of, universe_within};
+pub use instances::{Instance, lower_instances, name_instances};
 pub use laws::{actions_are_readable, reached_actions_are_readable};
 pub use reached::ground_reached;
+pub use schema::Schema;
+pub use schemas::schemas_of;
 pub use tp_ground_parts::numbers::has_great_number;
 pub use tp_task::{GroundFault, Task, TooManyKind};

@@ -3,3 +3,4 @@ pub mod OnFits
 pub mod OnGrounding
 pub mod OnEntries
 pub mod OnActions
+pub mod OnTaken

@@ -13,17 +13,14 @@ use Rattle.tp_bindings.specs.Bindings.{Universe, Env, bindings, bound}
 use Rattle.tp_lower.specs.Written.{GroundBody, body_in}
 use Rattle.tp_task.specs.Tables.{Tables}
 use Rattle.tp_lower.specs.Mentions.{Mentions, ◌then◌, of_body, of_each}
-use Rattle.tp_lower.specs.Lowered.{Notes, IsLowered, Overflows}
-use Rattle.tp_lower.specs.Gathered.{list_shows, IsGathered}
+use Rattle.tp_lower.specs.Lowered.{Notes, Overflows}
 use Rattle.tp_ground_parts.specs.Grounding.{ground_action, ground_actions, of_action}
 use Rattle.tp_bindings.specs.declared.environment.Env as code
 use Rattle.tp_bindings.specs.declared.environment.Env.{Inner, Empty}
 use Rattle.tp_task.specs.declared.fault.GroundFault.{GroundFault}
-use Rattle.tp_bindings.proofs.Along.{next, map_next}
 use Rattle.tp_bindings.proofs.OnEnvironments.{empty_env}
 use Rattle.tp_lower.proofs.OnInner.{inner_env}
-use Rattle.tp_lower.proofs.OnLowered.{then_assoc, of_each-append, of_each_one, notes_then, notes_extend, extends_then, lowered_same, overflows_first, overflows_then}
-use Rattle.tp_lower.proofs.OnGathered.{one_gathered, gathered_then, gathered_same}
+use Rattle.tp_lower.proofs.OnLowered.{then_assoc, of_each-append, of_each_one, overflows_first, overflows_then}
 
 module _ {X : Type 0} (of : X → Mentions) (xs : List X) (i : ℕ) (x : X) (lt : i < length xs) (item : x ≡ get_or xs i x) where
   pub each_next : of_each of (take (i + 1) xs) ≡ (of_each of (take i xs) then of x)
@@ -44,27 +41,9 @@ each_stopped of xs i x lt item a b e all m is p notes h =
     (overflows_then a b (of_each of (take i xs)) (of x then of_each of (drop (i + 1) xs)) e notes
     (overflows_first b (of x) (of_each of (drop (i + 1) xs)) e (subst (λ n. Overflows b n e) p h)))
 
-module _ {C Y : Type 0} (named : Tables → C → Y) where
-  abbrev pub every : Tables → Vec C Global → List Y
-  every t v = map (named t) v.items
-
-  module _ {X : Type 0} (of : X → Mentions) (xs : List X) (i : ℕ) (x : X) (lt : i < length xs) (item : x ≡ get_or xs i x) (a b c : WriterView) where
-    pub each_push : (u v w : Vec C Global) (g : X → Y) (o : C) (y : Y) (m : Mentions) → w.items ≡ v.items ++ o ∷ [] → y ≡ g x → m ≡ of x → IsGathered (list_shows named) a b u v (map g (take i xs)) (of_each of (take i xs)) → IsLowered named b c o y m → IsGathered (list_shows named) a c u w (map g (take (i + 1) xs)) (of_each of (take (i + 1) xs))
-    each_push u v w g o y m items p q l k =
-        gathered_same (list_shows named) (map g (take (i + 1) xs)) (of_each of (take (i + 1) xs))
-        (ap (λ z. map g (take i xs) ++ z ∷ []) p ∙ sym (map_next g xs i x lt item))
-        (ap (λ n. of_each of (take i xs) then n) q ∙ sym (each_next of xs i x lt item))
-        (gathered_then (list_shows named) a b c u v w (map g (take i xs)) (y ∷ []) (of_each of (take i xs)) m l (one_gathered named b c v w o y m items k))
-
-    pub each_append : (v u : Vec C Global) (g : X → List Y) (ys : List Y) (m : Mentions) → ys ≡ g x → m ≡ of x → IsLowered every a b v (flat_map g (take i xs)) (of_each of (take i xs)) → IsGathered (list_shows named) b c v u ys m → IsLowered every a c u (flat_map g (take (i + 1) xs)) (of_each of (take (i + 1) xs))
-    each_append v u g ys m p q l k =
-        lowered_same (flat_map g (take (i + 1) xs)) (of_each of (take (i + 1) xs))
-        (ap (λ zs. flat_map g (take i xs) ++ zs) p ∙ sym (next g xs i x lt item))
-        (ap (λ n. of_each of (take i xs) then n) q ∙ sym (each_next of xs i x lt item))
-        (record {
-          notes = notes_then a b c (of_each of (take i xs)) m l.notes k.notes;
-          says = λ later e. k.shown later (flat_map g (take i xs)) e (l.says later (extends_then b.tables c.tables later (notes_extend b c m k.notes) e));
-        })
+-- each item of a list by its name
+abbrev pub every : {C Y : Type 0} → (Tables → C → Y) → Tables → Vec C Global → List Y
+every named t v = map (named t) v.items
 
 -- what parameters stand for, and nothing else
 pub plain_env : (vars : Bor (List Typed)) (names : Bor (List (Bor (List ℕ)))) (outer : Bor code.Env) (b : List Name) → outer.now ≡ Empty → map (λ n. n.now) names.now ≡ b → env_view (Inner vars names outer) ≡ bound (map typed_view vars.now) b

@@ -1,3 +1,4 @@
 pub mod Great
 pub mod Initially
 pub mod Grounding
+pub mod Taken

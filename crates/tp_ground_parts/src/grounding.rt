@@ -9,11 +9,12 @@ ghost use Rattle.tp_lower.specs.Written.{body_in};
 ghost use Rattle.tp_lower.specs.Mentions.{of_body, of_each};
 ghost use Rattle.tp_lower.specs.ReadBack.{named_body};
 ghost use Rattle.tp_lower.specs.Lowered.{Lowers};
-ghost use Rattle.tp_lower.specs.Gathered.{list_shows, Gathers};
+ghost use Rattle.tp_ground_parts.specs.Taken.{Takes};
 ghost use Rattle.tp_ground_parts.specs.Grounding.{ground_actions, of_action};
 ghost use Rattle.tp_bindings.specs.Rows.{product, lists_of};
 ghost use Rattle.tp_bindings.specs.Hints.{body_fits};
 
+use crate::taking::Bodies;
 use std::alloc::{AllocError, Global};
 use tp_ast::action::Action;
 use tp_bindings::environment::Env;
@@ -92,19 +93,43 @@ pub fn name_actions(
     Ok(())
 }
 
-// Puts the body of an action under each binding of its parameters at the end of a list.
-fn push_bodies<'a>(
+/// The body of an action where its parameters stand for some objects.
+pub fn lower_under<'a>(
+    alloc: Global,
+    universe: &Universe<'a>,
+    writer: &mut Writer<'a>,
+    parameters: &Variables<'a>,
+    objects: &[&'a str],
+    written: &'a tp_ast::action::Body,
+    hints: &BodyHint,
+) -> Result<Body, GroundFault>
+    requires of_universe { universe_view universe.now ≡ writer.old.universe }
+    requires fit { body_fits universe.now hints.now (body_view written.now) ≡ true }
+    ensures { Lowers named_body writer.old result writer.new (body_in (universe_view universe.now)
+        (bound (map typed_view parameters.now) (map (λ o. o.now) objects.now))
+        (body_view written.now)) (of_body (universe_view universe.now)
+        (bound (map typed_view parameters.now) (map (λ o. o.now) objects.now))
+        (body_view written.now)) }
+{
+    let outside = Env::Empty;
+    let inner = Env::Inner(parameters, objects, &outside);
+    body(alloc, universe, &inner, writer, written, hints)
+}
+
+// Puts the body of an action under each binding of its parameters behind others. Room is asked for as for bodies that are
+// kept, so that what memory can't hold is refused before it is gone through.
+fn push_bodies<'a, B: Bodies>(
     alloc: Global,
     universe: &Universe<'a>,
     writer: &mut Writer<'a>,
     parameters: &Variables<'a>,
     written: &'a tp_ast::action::Body,
     hints: &BodyHint,
-    into: &mut Vec<Body>,
+    into: &mut B,
 ) -> Result<(), GroundFault>
     requires of_universe { universe_view universe.now ≡ writer.old.universe }
     requires fit { body_fits universe.now hints.now (body_view written.now) ≡ true }
-    ensures { Gathers (list_shows named_body) writer.old result writer.new into.old into.new
+    ensures { Takes B.took writer.old result writer.new into.old into.new
         (map (λ objects. body_in (universe_view universe.now)
         (bound (map typed_view parameters.now) objects) (body_view written.now))
         (bindings (universe_view universe.now) (map typed_view parameters.now)))
@@ -115,26 +140,27 @@ fn push_bodies<'a>(
     let mut rows = rows_of(alloc, universe, parameters.items())?;
     let room = of_body(written);
     writer.extent().ask_beside(alloc, rows.count, room)?;
-    into.reserve(rows.count)?;
-    let outside = Env::Empty;
+    into.make_room(rows.count)?;
     for place in 0..rows.count {
         rows.turn_to(place);
-        let inner = Env::Inner(&*parameters, &rows.row, &outside);
-        into.push(body(alloc, universe, &inner, writer, written, hints)?)?;
+        let next = lower_under(
+            alloc, universe, writer, parameters, &rows.row, written, hints,
+        )?;
+        into.take(next)?;
     }
     Ok(())
 }
 
-// Puts the body of an action under each of its bindings at the end of a list.
-fn push_action<'a>(
+// Puts the body of an action under each of its bindings behind others.
+fn push_action<'a, B: Bodies>(
     alloc: Global,
     universe: &Universe<'a>,
     writer: &mut Writer<'a>,
     action: &'a Action,
-    into: &mut Vec<Body>,
+    into: &mut B,
 ) -> Result<(), GroundFault>
     requires { universe_view universe.now ≡ writer.old.universe }
-    ensures { Gathers (list_shows named_body) writer.old result writer.new into.old into.new
+    ensures { Takes B.took writer.old result writer.new into.old into.new
         (map (λ objects. body_in (universe_view universe.now)
         (bound (action_view action.now).parameters objects) (action_view action.now).body)
         (bindings (universe_view universe.now) (action_view action.now).parameters))
@@ -153,21 +179,21 @@ fn push_action<'a>(
     )
 }
 
-/// The bodies of all ground actions, in order.
-pub fn lower_actions<'a>(
+/// The bodies of all ground actions, in order, put behind others.
+pub fn lower_actions<'a, B: Bodies>(
     alloc: Global,
     universe: &Universe<'a>,
     writer: &mut Writer<'a>,
     actions: &'a [Action],
-) -> Result<Vec<Body>, GroundFault>
+    into: &mut B,
+) -> Result<(), GroundFault>
     requires { universe_view universe.now ≡ writer.old.universe }
-    ensures { Lowers (λ t v. map (named_body t) v.items) writer.old result writer.new (map
-        (λ a. a.body) (ground_actions (universe_view universe.now) (map action_view actions.now)))
+    ensures { Takes B.took writer.old result writer.new into.old into.new (map (λ a. a.body)
+        (ground_actions (universe_view universe.now) (map action_view actions.now)))
         (of_each (of_action (universe_view universe.now)) (map action_view actions.now)) }
 {
-    let mut lowered = Vec::new(alloc);
     for action in actions {
-        push_action(alloc, universe, writer, action, &mut lowered)?;
+        push_action(alloc, universe, writer, action, into)?;
     }
-    Ok(lowered)
+    Ok(())
 }

@@ -4,7 +4,6 @@ use Rattle.tp_ast.specs.Symbols.{Name}
 use Rattle.tp_ast.specs.Actions.{Action}
 use Rattle.tp_ast.specs.Domains.{Domain}
 use Rattle.tp_ast.specs.Problems.{Problem}
-use Rattle.tp_ast.specs.DomainViews.{action_view}
 use Rattle.tp_task.specs.Words.{Words, with_all}
 use Rattle.tp_task.specs.Bounds.{In}
 use Rattle.tp_task.specs.Tables.{Tables}
@@ -16,8 +15,8 @@ use Rattle.tp_lower.proofs.OnLowered.{then_assoc}
 use Rattle.tp_lower.proofs.OnKept.{all_known, stay_known}
 use Rattle.tp_ground_parts.specs.Initially.{initial_in, of_initial}
 use Rattle.tp_ground_parts.specs.Grounding.{of_action, mentioned}
-use Rattle.tp_part_tasks.specs.declared.picking.Pick.{Pick}
-use Rattle.tp_part_tasks.specs.Picked.{of_pick, ArePicks, IsKnown}
+use Rattle.tp_ground.specs.Reached.{Instance, of_instance}
+use Rattle.tp_part_tasks.specs.Picked.{AreOf, IsKnown}
 
 segment : (known pre ws post : List Words) → with_all (with_all known (pre ++ (ws ++ post))) ws ≡ with_all known (pre ++ (ws ++ post))
 segment known pre ws post =
@@ -69,11 +68,11 @@ module _ (d : Domain) (p : Problem) (none t : Tables) (atoms : t.atoms ≡ with_
       (in_each (λ objects. of_body u (bound a.parameters objects) a.body) (bindings u a.parameters) os k)
       (in_each (of_action u) d.actions a h)))
 
-  pub known_picks : (ps : List Pick) → ArePicks u d.actions ps → IsKnown t (of_each (of_pick u) ps)
+  pub known_picks : (ps : List Instance) → AreOf u d.actions ps → IsKnown t (of_each (of_instance u) ps)
   known_picks [] h = (refl, refl)
   known_picks (q ∷ ps) h =
-      let one = known_action (action_view q.action.now) (map (λ o. o.now) q.row.items) h.0.0 h.0.1 in
+      let one = known_action q.action q.objects h.0.0 h.0.1 in
       let rest = known_picks ps h.1 in (
-        with_all-append t.atoms (of_pick u q).atoms (of_each (of_pick u) ps).atoms ∙ ap (λ ws. with_all ws (of_each (of_pick u) ps).atoms) one.0 ∙ rest.0,
-        with_all-append t.fluents (of_pick u q).fluents (of_each (of_pick u) ps).fluents ∙ ap (λ ws. with_all ws (of_each (of_pick u) ps).fluents) one.1 ∙ rest.1,
+        with_all-append t.atoms (of_instance u q).atoms (of_each (of_instance u) ps).atoms ∙ ap (λ ws. with_all ws (of_each (of_instance u) ps).atoms) one.0 ∙ rest.0,
+        with_all-append t.fluents (of_instance u q).fluents (of_each (of_instance u) ps).fluents ∙ ap (λ ws. with_all ws (of_each (of_instance u) ps).fluents) one.1 ∙ rest.1,
       )

@@ -1,11 +1,10 @@
 -- A task of picked ground actions, and the whole of which it is a part.
-use Rattle.std.proofs.Common.{◌≡◌, ℕ, ◌++◌, true, List, [], ◌∷◌, length, map, Vec, Global, refl, sym, ap, subst, ◌∙◌}
-use Rattle.std.specs.List.{AllByRecursion, list_all}
+use Rattle.std.proofs.Common.{◌≡◌, ℕ, ◌++◌, true, List, [], length, map, Vec, Global, sym, ap, subst, ◌∙◌}
+use Rattle.std.specs.List.{list_all}
 use Rattle.std.proofs.lemmas.List.{length-map}
 use Rattle.tp_ast.specs.Actions.{Action}
 use Rattle.tp_ast.specs.Domains.{Domain, SpellsDomain}
 use Rattle.tp_ast.specs.Problems.{Problem, SpellsProblem}
-use Rattle.tp_ast.specs.DomainViews.{action_view}
 use Rattle.tp_bounds.specs.RunLimits.{RunLimits}
 use Rattle.tp_text.specs.declared.number.Scale.{Scale}
 use Rattle.tp_task.specs.Fits.{body_fits}
@@ -15,23 +14,19 @@ use Rattle.tp_task.specs.Tables.{Tables}
 use Rattle.tp_task.specs.Words.{Words}
 use Rattle.tp_task.specs.declared.events.Body.{Body}
 use Rattle.tp_task.specs.declared.task.Task.{Task}
-use Rattle.tp_bindings.specs.Bindings.{Universe, universe_of, bound}
+use Rattle.tp_bindings.specs.Bindings.{Universe, universe_of}
 use Rattle.tp_lower.specs.ReadBack.{named_body}
 use Rattle.tp_lower.specs.WriterViews.{WriterView}
 use Rattle.tp_lower.specs.Lowered.{Extends}
 use Rattle.tp_ground_parts.specs.Grounding.{IsTask}
+use Rattle.tp_ground.specs.Reached.{action_of}
 use Rattle.tp_ground.specs.WrittenTasks.{IsMade}
-use Rattle.tp_ground.proofs.OnTasks.{IsWritten, fit, same_extend}
+use Rattle.tp_ground.proofs.OnTasks.{some_written, fit, same_extend}
 use Rattle.tp_part_tasks.specs.declared.outlines.Outline.{Outline}
-use Rattle.tp_part_tasks.specs.declared.picking.Pick.{Pick}
-use Rattle.tp_part_tasks.specs.Picked.{picked, ArePrepared}
+use Rattle.tp_part_tasks.specs.Picked.{ArePrepared}
 use Rattle.tp_part_tasks.specs.Outlines.{IsOutlineOf, IsPartOf}
 use Rattle.tp_part_tasks.proofs.OnKnown.{known_picks}
 use Rattle.tp_part_tasks.proofs.OnWholes.{notes, first_say, whole, is_whole, chosen, chosen_say, is_part}
-
-written_picks : (u : Universe) (ps : List Pick) → AllByRecursion (IsWritten u) (map (λ p. (picked u p).body) ps)
-written_picks u [] = tt
-written_picks u (p ∷ ps) = ((bound (action_view p.action.now).parameters (map (λ o. o.now) p.row.items), ((action_view p.action.now).body, refl)), written_picks u ps)
 
 module _ (u : Universe) (all : List Action) (old new : WriterView) (vb : Vec Body Global) (q : ArePrepared u all old new vb) (t : Tables) (same : t ≡ new.tables) where
   atoms_same : t.atoms ≡ q.middle.tables.atoms
@@ -40,21 +35,21 @@ module _ (u : Universe) (all : List Action) (old new : WriterView) (vb : Vec Bod
   fluents_same : t.fluents ≡ q.middle.tables.fluents
   fluents_same = ap (λ (n : Tables). n.fluents) same ∙ q.fluents
 
-  said : map (named_body t) vb.items ≡ map (λ p. (picked u p).body) q.picks
+  said : map (named_body t) vb.items ≡ map (λ p. (action_of u p).body) q.picks
   said = q.lowered.says t (same_extend q.middle.tables t atoms_same fluents_same)
 
   pub fits_prepared : list_all (body_fits (length t.atoms) (length t.fluents)) vb.items ≡ true
-  fits_prepared = fit u t vb.items (map (λ p. (picked u p).body) q.picks) (written_picks u q.picks) said
+  fits_prepared = fit u t vb.items (map (λ p. (action_of u p).body) q.picks) (some_written u q.picks) said
 
-  pub labels_prepared : old.tables.actions ≡ [] → t.actions ≡ map (λ p. (picked u p).words) q.picks
+  pub labels_prepared : old.tables.actions ≡ [] → t.actions ≡ map (λ p. (action_of u p).words) q.picks
   labels_prepared none =
       ap (λ (n : Tables). n.actions) same ∙ q.actions
-      ∙ ap (λ (ws : List Words). ws ++ map (λ p. (picked u p).words) q.picks) (q.lowered.notes.actions ∙ none)
+      ∙ ap (λ (ws : List Words). ws ++ map (λ p. (action_of u p).words) q.picks) (q.lowered.notes.actions ∙ none)
 
   pub named_prepared : old.tables.actions ≡ [] → length t.actions ≡ length vb.items
   named_prepared none =
-      ap length (labels_prepared none) ∙ length-map q.picks (λ p. (picked u p).words)
-      ∙ sym (length-map q.picks (λ p. (picked u p).body)) ∙ ap length (sym said) ∙ length-map vb.items (named_body t)
+      ap length (labels_prepared none) ∙ length-map q.picks (λ p. (action_of u p).words)
+      ∙ sym (length-map q.picks (λ p. (action_of u p).body)) ∙ ap length (sym said) ∙ length-map vb.items (named_body t)
 
 -- the law that words tell the actions of a task apart
 abbrev pub AreTold : Type 0
@@ -80,7 +75,7 @@ module _ (told : AreTold) (limits : RunLimits) (scale : Scale) (d : Domain) (p :
   fluents : t.fluents ≡ o.writer.tables.fluents
   fluents = ap (λ (n : Tables). n.fluents) same ∙ prepared.fluents ∙ known.1
 
-  say_picks : (later : Tables) → Extends o.writer.tables later → map (named_body later) vb.items ≡ map (λ q. (picked (universe_of d p) q).body) prepared.picks
+  say_picks : (later : Tables) → Extends o.writer.tables later → map (named_body later) vb.items ≡ map (λ q. (action_of (universe_of d p) q).body) prepared.picks
   say_picks later e =
       prepared.lowered.says later
       (record { atoms = subst (λ ws. Grows ws later.atoms) (sym known.0) e.atoms; fluents = subst (λ ws. Grows ws later.fluents) (sym known.1) e.fluents })

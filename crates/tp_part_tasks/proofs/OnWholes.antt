@@ -24,11 +24,11 @@ use Rattle.tp_lower.specs.Lowered.{Extends, IsLowered, Notes}
 use Rattle.tp_ground_parts.specs.Initially.{named_initial}
 use Rattle.tp_ground_parts.specs.Grounding.{ground_actions, mentioned, IsTask}
 use Rattle.tp_ground_parts.specs.declared.beginning.NumberedInitial.{NumberedInitial}
+use Rattle.tp_ground.specs.Reached.{Instance, action_of}
 use Rattle.tp_ground.specs.WrittenTasks.{WrittenTask, written_task, named_task, IsMade}
 use Rattle.tp_ground.proofs.OnTasks.{same_extend, fits_here, named_here, is_task}
 use Rattle.tp_part_plans.specs.Parts.{IsPart}
-use Rattle.tp_part_tasks.specs.declared.picking.Pick.{Pick}
-use Rattle.tp_part_tasks.specs.Picked.{picked, ArePicks}
+use Rattle.tp_part_tasks.specs.Picked.{AreOf}
 use Rattle.tp_part_tasks.proofs.OnLists.{get_map, below, at_index, in_at}
 use Rattle.tp_part_tasks.proofs.OnPicks.{is_action}
 use Rattle.tp_part_tasks.proofs.OnVecs.{vec_of}
@@ -153,9 +153,9 @@ module _ (limits : RunLimits) (scale : Scale) (d : Domain) (p : Problem) (w : Wr
 
     -- ---- the bodies of what was picked in place of others
 
-    module _ (readable : AreReadable labels) (ps : List Pick) (are : ArePicks u d.actions ps) (say_picks : (later : Tables) → Extends w.tables later → map (named_body later) vb.items ≡ map (λ q. (picked u q).body) ps) where
+    module _ (readable : AreReadable labels) (ps : List Instance) (are : AreOf u d.actions ps) (say_picks : (later : Tables) → Extends w.tables later → map (named_body later) vb.items ≡ map (λ q. (action_of u q).body) ps) where
       abbrev pub picks : List Words
-      picks = map (λ q. (picked u q).words) ps
+      picks = map (λ q. (action_of u q).words) ps
 
       abbrev pub chosen_at : Option ℕ → Body → Body
       chosen_at None b = b
@@ -181,27 +181,27 @@ module _ (limits : RunLimits) (scale : Scale) (d : Domain) (p : Problem) (w : Wr
           let ab : Some a ≡ Some b = sym at ∙ ap (slice_get all) ij ∙ bt in
           let r : a ≡ b = cc in r
 
-      pick_is_action : (qs : List Pick) → ArePicks u d.actions qs → (i : ℕ) (q : Pick) → slice_get qs i ≡ Some q → In (picked u q) all
+      pick_is_action : (qs : List Instance) → AreOf u d.actions qs → (i : ℕ) (q : Instance) → slice_get qs i ≡ Some q → In (action_of u q) all
       pick_is_action [] h i q at = absurd (cc)
-      pick_is_action (y ∷ qs) h zero q at = let e : y ≡ q = cc in subst (λ z. In (picked u z) all) e (is_action u d.actions y h.0)
+      pick_is_action (y ∷ qs) h zero q at = let e : y ≡ q = cc in subst (λ z. In (action_of u z) all) e (is_action u d.actions y h.0)
       pick_is_action (y ∷ qs) h (suc i) q at = pick_is_action qs h.1 i q at
 
       -- the pick at a place that is found by its words
       record IsFound (ws : Words) (j : ℕ) : Type 0 where
-        pub pick : Pick
+        pub pick : Instance
         pub at : slice_get ps j ≡ Some pick
-        pub words : (picked u pick).words ≡ ws
-        pub is_in : In (picked u pick) all
+        pub words : (action_of u pick).words ≡ ws
+        pub is_in : In (action_of u pick) all
         pub body : Body
         pub there : slice_get vb.items j ≡ Some body
-        pub says_it : (later : Tables) → Extends w.tables later → named_body later body ≡ (picked u pick).body
+        pub says_it : (later : Tables) → Extends w.tables later → named_body later body ≡ (action_of u pick).body
 
       found : (ws : Words) (j : ℕ) → position_from (same_words ws) 0 picks ≡ Some j → IsFound ws j
       found ws j h =
           let (ys, at_ys, same) = found_at (same_words ws) picks j h in
-          let (q, at_q, is_ys) = got_back (λ z. (picked u z).words) ps j ys at_ys in
-          let bodied : slice_get (map (named_body tables) vb.items) j ≡ Some (picked u q).body = ap (λ zs. slice_get zs j) (say_picks tables extended) ∙ get_map (λ z. (picked u z).body) ps j ∙ ap (option_map (λ z. (picked u z).body)) at_q in
-          let (c, at_c, is_body) = got_back (named_body tables) vb.items j (picked u q).body bodied in
+          let (q, at_q, is_ys) = got_back (λ z. (action_of u z).words) ps j ys at_ys in
+          let bodied : slice_get (map (named_body tables) vb.items) j ≡ Some (action_of u q).body = ap (λ zs. slice_get zs j) (say_picks tables extended) ∙ get_map (λ z. (action_of u z).body) ps j ∙ ap (option_map (λ z. (action_of u z).body)) at_q in
+          let (c, at_c, is_body) = got_back (named_body tables) vb.items j (action_of u q).body bodied in
           record {
             pick = q;
             at = at_q;
@@ -210,8 +210,8 @@ module _ (limits : RunLimits) (scale : Scale) (d : Domain) (p : Problem) (w : Wr
             body = c;
             there = at_c;
             says_it = λ later e.
-                let o : Some (named_body later c) ≡ Some (picked u q).body = sym (get_map (named_body later) vb.items j ∙ ap (option_map (named_body later)) at_c) ∙ ap (λ zs. slice_get zs j) (say_picks later e) ∙ get_map (λ z. (picked u z).body) ps j ∙ ap (option_map (λ z. (picked u z).body)) at_q in
-                let r : named_body later c ≡ (picked u q).body = cc in r;
+                let o : Some (named_body later c) ≡ Some (action_of u q).body = sym (get_map (named_body later) vb.items j ∙ ap (option_map (named_body later)) at_c) ∙ ap (λ zs. slice_get zs j) (say_picks later e) ∙ get_map (λ z. (action_of u z).body) ps j ∙ ap (option_map (λ z. (action_of u z).body)) at_q in
+                let r : named_body later c ≡ (action_of u q).body = cc in r;
           }
 
       chosen_is : (ws : Words) (j : ℕ) (f : IsFound ws j) (b : Body) → chosen_at (Some j) b ≡ f.body
@@ -221,7 +221,7 @@ module _ (limits : RunLimits) (scale : Scale) (d : Domain) (p : Problem) (w : Wr
       chosen_says later e a h b is None at = is
       chosen_says later e a h b is (Some j) at =
           let f = found a.words j at in
-          ap (named_body later) (chosen_is a.words j f b) ∙ f.says_it later e ∙ ap (λ z. z.body) (same_action (picked u f.pick) a f.is_in h f.words)
+          ap (named_body later) (chosen_is a.words j f b) ∙ f.says_it later e ∙ ap (λ z. z.body) (same_action (action_of u f.pick) a f.is_in h f.words)
 
       all_chosen : (later : Tables) → Extends w.tables later → (as_ : List GroundAction) (cs : List Body) → ((a : GroundAction) → In a as_ → In a all) → map (named_body later) cs ≡ map (λ a. a.body) as_ → map (named_body later) (choose_all as_ cs) ≡ map (λ a. a.body) as_
       all_chosen later e [] cs h is = is
@@ -252,14 +252,14 @@ module _ (limits : RunLimits) (scale : Scale) (d : Domain) (p : Problem) (w : Wr
         same_goal = refl;
         picks = λ ws j h.
             let f = found ws j (sym (ap (position_from (same_words ws) 0) labelled) ∙ h) in
-            let (i, at) = in_at all (picked u f.pick) f.is_in in
-            let li : i < length labels = subst (λ m. i < m) (sym (length-map all (λ z. z.words))) (below all i (picked u f.pick) at) in
-            let told : words_at labels i ≡ ws = words_got (λ z. z.words) all i (picked u f.pick) at ∙ f.words in
-            let lb : i < length bs = let m : length bs ≡ length all = many ∙ length-map all (λ z. z.body) in subst (λ k. i < k) (sym m) (below all i (picked u f.pick) at) in
+            let (i, at) = in_at all (action_of u f.pick) f.is_in in
+            let li : i < length labels = subst (λ m. i < m) (sym (length-map all (λ z. z.words))) (below all i (action_of u f.pick) at) in
+            let told : words_at labels i ≡ ws = words_got (λ z. z.words) all i (action_of u f.pick) at ∙ f.words in
+            let lb : i < length bs = let m : length bs ≡ length all = many ∙ length-map all (λ z. z.body) in subst (λ k. i < k) (sym m) (below all i (action_of u f.pick) at) in
             let (b, bt) = at_index bs i lb in (
               i,
               subst (λ z. position_from (same_words z) 0 labels ≡ Some i) told (readable.found i li),
-              chosen_got all bs i (picked u f.pick) b at bt
+              chosen_got all bs i (action_of u f.pick) b at bt
                   ∙ ap (λ (z : Words). Some (chosen_at (position_from (same_words z) 0 picks) b)) f.words
                   ∙ ap (λ o. Some (chosen_at o b)) (sym (ap (position_from (same_words ws) 0) labelled) ∙ h)
                   ∙ ap Some (chosen_is ws j f b) ∙ sym f.there

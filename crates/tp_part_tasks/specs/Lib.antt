@@ -1,3 +1,2 @@
-pub mod Passed
 pub mod Outlines
 pub mod Picked

@@ -1,6 +1,6 @@
 //! The task of the ground actions that a text names, as a part of the task of a problem.
 //!
-//! - `passing`, `outlines`, `outline`: all ground actions gone through, so that all that they mention is numbered
+//! - `outlines`, `outline`: all ground actions gone through, so that all that they mention is numbered
 //! - `asked`, `picking`, `part`: those that a text names, picked out of all, and the task of them
 #![tactic(auto)]
 
@@ -8,7 +8,6 @@ mod asked;
 mod outline;
 mod outlines;
 mod part;
-mod passing;
 mod picking;
 
 pub use outline::outline_of;

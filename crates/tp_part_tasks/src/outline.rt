@@ -1,12 +1,10 @@
 //! A problem of which all ground actions were gone through.
 
 ghost use Rattle.std.specs.Prelude.{◌≡◌, ◌≤◌, ◌++◌, false, map, length, nat_lt, IfOk, IfErr, IfSome, OnOk};
-ghost use Rattle.tp_ast.specs.Symbols.{typed_view};
 ghost use Rattle.tp_ast.specs.CondViews.{cond_view};
 ghost use Rattle.tp_ast.specs.DomainViews.{initial_view, action_view, domain_view, problem_view};
 ghost use Rattle.tp_bindings.specs.Bindings.{universe_of};
 ghost use Rattle.tp_bindings.specs.Views.{universe_view};
-ghost use Rattle.tp_bounds.specs.RunLimits.{RunLimits};
 ghost use Rattle.tp_lower.specs.Lowered.{Overflows};
 ghost use Rattle.tp_ground_parts.specs.Great.{has_great_number};
 ghost use Rattle.tp_ground_parts.specs.Grounding.{ground_actions, mentioned, HasNoTask};
@@ -14,76 +12,22 @@ ghost use Rattle.tp_ground.specs.WrittenTasks.{written_task, of_task};
 ghost use Rattle.tp_part_tasks.specs.Outlines.{IsGoneThrough, IsOutlineOf};
 
 use crate::outlines::Outline;
-use crate::passing::pass_actions;
 use std::alloc::Global;
 use tp_ast::action::Action;
 use tp_ast::domain::Domain;
 use tp_ast::problem::{Initial, Problem};
-use tp_ast::symbols::Typed;
-use tp_bindings::noting::{note_bodies, note_condition};
-use tp_bindings::universe::{Universe, plain_universe};
+use tp_bindings::universe::Universe;
 use tp_bounds::Limits;
+use tp_ground::{check, universe_within};
 use tp_ground_parts::beginning::{NumberedInitial, entries};
-use tp_ground_parts::grounding::actions_fit;
-use tp_ground_parts::numbers::has_great_number;
+use tp_ground_parts::grounding::{actions_fit, lower_actions};
+use tp_ground_parts::taking::Forgotten;
 use tp_lower::{Writer, closed_condition};
-use tp_task::{Cond, GroundFault, TooManyKind};
+use tp_task::{Cond, GroundFault};
 use tp_text::Scale;
-
-// The most objects that a problem may have.
-const MOST_OBJECTS: usize = 65_535;
 
 // So few ground actions are kept in as little time as those that a plan names are written out once more.
 const FEW: u32 = 2_048;
-
-fn has_too_many_objects(constants: &[Typed], objects: &[Typed]) -> bool
-    ensures { result
-        ≡ nat_lt 65_535 (length (map typed_view constants.now ++ map typed_view objects.now)) }
-{
-    constants.len() + objects.len() > MOST_OBJECTS
-}
-
-// What can be told before the types are looked at.
-fn check(domain: &Domain, problem: &Problem) -> Result<(), GroundFault>
-    ensures numbers { OnOk result
-        (has_great_number (domain_view domain.now) (problem_view problem.now) ≡ false) }
-    ensures objects { OnOk result (nat_lt 65_535 (length
-        ((domain_view domain.now).constants ++ (problem_view problem.now).objects)) ≡ false) }
-    ensures err { IfErr result (λ e. (limits : RunLimits)
-        → HasNoTask limits (domain_view domain.now) (problem_view problem.now) e) }
-{
-    if has_great_number(domain, problem) {
-        return Err(GroundFault::Range);
-    }
-    if has_too_many_objects(&domain.constants, &problem.objects) {
-        return Err(GroundFault::TooMany(TooManyKind::Objects));
-    }
-    Ok(())
-}
-
-// The types and objects of a problem with few enough ground actions.
-fn universe_within<'a>(
-    alloc: Global,
-    domain: &'a Domain,
-    problem: &'a Problem,
-    limits: &Limits,
-) -> Result<Universe<'a>, GroundFault>
-    ensures universe { IfOk result
-        (λ u. universe_view u ≡ universe_of (domain_view domain.now) (problem_view problem.now)) }
-    ensures most { OnOk result (limits.now.actions ≤ 65_535) }
-    ensures few { OnOk result (length (ground_actions (universe_of (domain_view domain.now)
-        (problem_view problem.now)) (domain_view domain.now).actions) ≤ limits.now.actions) }
-    ensures err { IfErr result
-        (HasNoTask limits.now (domain_view domain.now) (problem_view problem.now)) }
-{
-    let mut universe = plain_universe(alloc, domain, problem)?;
-    if !actions_fit(alloc, &mut universe, &domain.actions, limits.actions())? {
-        return Err(GroundFault::TooMany(TooManyKind::Actions));
-    }
-    note_bodies(alloc, &mut universe, &domain.actions)?;
-    note_condition(alloc, &mut universe, &problem.goal)?;
-    Ok(universe)
-}
 
 // What holds at first and the goal, by number.
 #[derive(Drop)]
@@ -111,7 +55,7 @@ fn go_through<'a>(
 {
     let entries = entries(alloc, writer, initial)?;
     let goal = closed_condition(alloc, universe, writer, goal)?;
-    pass_actions(alloc, universe, writer, actions)?;
+    lower_actions(alloc, universe, writer, actions, &mut Forgotten)?;
     Ok(Ends { entries, goal })
 }
 

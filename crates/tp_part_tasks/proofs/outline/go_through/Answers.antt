@@ -16,8 +16,8 @@ pub returns-clause-ok : goal.returns-clause-ok
 returns-clause-ok c =
     let u = universe_view c.args.universe.now in
     let acts = map action_view c.args.actions.now in
-    let (bs, l) = c.in_ok-pass_actions.ensures.ok in
-    let now = c.pass_actions.new.writer.tables in
+    let (bs, l, k) = c.in_ok-lower_actions.ensures in
+    let now = c.lower_actions.new.writer.tables in
     (bs, sym (length-map bs (named_body now)) ∙ ap length (l.says now (same_extend now now refl refl)), λ v is. task_lowered u c.args.initial.now (cond_view c.args.goal.now) (of_each (of_action u) acts) (map (λ a. a.body) (ground_actions u acts)) _ _ _ _ _ _ v _ refl c.in_ok-entries.ensures c.in_ok-goal.ensures (lowered_as (λ (y : List GroundBody). y) v (λ t. ap (map (named_body t)) is) l))
 
 pub returns-in_err-entries-clause-err : goal.returns-in_err-entries-clause-err
@@ -32,8 +32,8 @@ returns-in_err-goal-clause-err c =
     let acts = map action_view c.args.actions.now in
     not_made _ _ _ c.from_residual-in_err-goal.ensures.1 (goal_stopped u c.args.initial.now (cond_view c.args.goal.now) (of_each (of_action u) acts) (map (λ a. a.body) (ground_actions u acts)) c.args.writer.now _ _ c.in_ok-entries.ensures.notes c.in_err-goal.ensures)
 
-pub returns-in_err-pass_actions-clause-err : goal.returns-in_err-pass_actions-clause-err
-returns-in_err-pass_actions-clause-err c =
+pub returns-in_err-lower_actions-clause-err : goal.returns-in_err-lower_actions-clause-err
+returns-in_err-lower_actions-clause-err c =
     let u = universe_view c.args.universe.now in
     let acts = map action_view c.args.actions.now in
-    not_made _ _ _ c.from_residual-in_err-pass_actions.ensures.1 (actions_stopped u c.args.initial.now (cond_view c.args.goal.now) (of_each (of_action u) acts) (map (λ a. a.body) (ground_actions u acts)) c.args.writer.now _ _ _ c.in_ok-entries.ensures.notes c.in_ok-goal.ensures.notes c.in_err-pass_actions.ensures.err)
+    not_made _ _ _ c.from_residual-in_err-lower_actions.ensures.1 (actions_stopped u c.args.initial.now (cond_view c.args.goal.now) (of_each (of_action u) acts) (map (λ a. a.body) (ground_actions u acts)) c.args.writer.now _ _ _ c.in_ok-entries.ensures.notes c.in_ok-goal.ensures.notes c.in_err-lower_actions.ensures)

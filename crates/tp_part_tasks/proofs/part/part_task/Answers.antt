@@ -36,9 +36,9 @@ returns c = λ limits scale d p is.
     subst (λ (u : Universe). ArePrepared u d.actions o.writer new vb) is.of_universe
     (subst (λ (all : List Action). ArePrepared (universe_view o.universe) all o.writer new vb) (ap (map action_view) c.deref.ensures.value ∙ ap (λ (z : Domain). z.actions) is.of_domain) c.in_ok-bodies.ensures.prepared) in
     IfOk-weaker c.task_of.result _ _
-    (λ x h.
+    (λ x made.
     part_made c.actions_are_readable.ensures limits scale d p o is new vb x n c.into_numbering.ensures prepared
     (subst (λ (l : RunLimits). IsMade l scale n (record { entries = o.entries; goal = o.goal; actions = vb }) x) is.same_limits
     (subst (λ (s : Scale). IsMade o.limits s n (record { entries = o.entries; goal = o.goal; actions = vb }) x) is.same_scale
-    (h o.entries (sym c.deref-2.ensures.value)))))
-    c.task_of.ensures
+    made)))
+    c.task_of.ensures.made

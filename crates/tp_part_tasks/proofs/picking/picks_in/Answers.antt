@@ -1,10 +1,8 @@
-use Rattle.std.proofs.Common.{map}
-use Rattle.tp_ast.specs.DomainViews.{action_view}
 use Rattle.tp_part_tasks.proofs.OnPicks.{in_item}
 use Rattle.tp_part_tasks.proofs.picking.picks_in.Goals as goal
 
-pub loop-action-preserved : goal.loop-action-preserved
-loop-action-preserved c =
-    c.in_ok-pick_rows.ensures (map action_view c.args.actions.now)
-    (in_item action_view c.args.actions.now c.loop-action.action-index c.action-item.result c.loop-action-test.true c.action-item.is)
-    c.loop-action.invariant
+pub loop-schema-preserved : goal.loop-schema-preserved
+loop-schema-preserved c =
+    c.in_ok-pick_rows.ensures c.args.schemas.now
+    (in_item c.args.schemas.now c.loop-schema.schema-index c.schema-item.result c.loop-schema-test.true c.schema-item.is)
+    c.loop-schema.invariant

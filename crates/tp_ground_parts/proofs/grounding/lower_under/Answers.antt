@@ -7,7 +7,7 @@ use Rattle.tp_lower.specs.Mentions.{of_body}
 use Rattle.tp_lower.specs.ReadBack.{named_body}
 use Rattle.tp_lower.specs.Lowered.{Lowers}
 use Rattle.tp_ground_parts.proofs.OnActions.{plain_env}
-use Rattle.tp_ground.proofs.instances.lower_under.Goals as goal
+use Rattle.tp_ground_parts.proofs.grounding.lower_under.Goals as goal
 
 pub returns : goal.returns
 returns c =
