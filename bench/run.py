@@ -608,6 +608,36 @@ def quantified(program):
     judged(program, "a forall over 400^10 bindings", domain, problem.replace("#", "o0 o0 o0").replace("?c)", "?c ?d ?e ?f ?g ?h ?i ?j)"), "")
 
 
+def asked_often(program):
+    """Long conditions of different parts that many steps ask for, which are judged in the states of many ticks at once."""
+    head = "(define (domain d) (:requirements :adl :typing) (:types t) (:predicates (p ?x - t) (q ?x - t) (r) (s)) #)"
+    pairs = "(:action a :parameters () :precondition (forall (?x ?y - t) (or (p ?x) (q ?y))) :effect (r))"
+    other = "(:action b :parameters () :precondition () :effect (s))"
+    objects = each("o#", 2_024)
+    problem = f"(define (problem k) (:domain d) (:objects {objects} - t) (:init {each('(q o#)', 2_024)}) (:goal (r)))"
+    steps = "".join(f"{tick}: (a)\n" for tick in range(512))
+    judged(program, "4,096,576 disjunctions that differ, asked by 512 steps", head.replace("#", pairs), problem, steps)
+    steps = "".join(f"{tick}: (a)\n{tick}: (b)\n" for tick in range(256))
+    judged(program, "the same, asked by 256 steps with another at the tick of each", head.replace("#", pairs + other), problem, steps)
+    kept = "(over all (forall (?x ?y - t) (or (p ?x) (c) (u ?z) (q ?y))))"
+    change = "(:action # :parameters () :precondition () :effect #)"
+    domain = (
+        "(define (domain d) (:requirements :adl :typing :durative-actions) (:types t s) (:predicates (p ?x - t) (q ?y - t) (u ?z - s) (c)) "
+        f"(:durative-action a :parameters (?z - s) :duration (= ?duration 600) :condition {kept} :effect (at start (u ?z))) "
+        + change.replace("#", "flip", 1).replace("#", "(c)") + " " + change.replace("#", "flop", 1).replace("#", "(not (c))") + ")"
+    )
+    problem = f"(define (problem k) (:domain d) (:objects {each('o#', 48)} - t {each('z#', 256)} - s) (:init {each('(q o#)', 48)}) (:goal (u z0)))"
+    steps = "".join(f"{k}: (a z{k}) [600]\n" for k in range(256)) + "".join(f"{300 + k}: ({'flop' if k % 2 else 'flip'})\n" for k in range(256))
+    judged(program, "256 invariants of 2,304 disjunctions, of as many actions, an atom of all of which 256 steps change", domain, problem, steps)
+    head = "(define (domain d) (:requirements :adl :typing :fluents) (:types t) (:predicates (r)) (:functions (f ?x - t) (g ?x - t) (h)) #)"
+    pairs = "(:action a :parameters () :precondition (forall (?x ?y - t) (>= (+ (f ?x) #) (g ?y))) :effect (and (r) (increase (h) 1)))"
+    for count, term, name in ((1_000, "1", "1,000,000 comparisons of fluents that stay"), (200, "(h)", "40,000 comparisons with a fluent that each step increases")):
+        numbers = " ".join(f"(= (f o{k}) {k + count}) (= (g o{k}) {k})" for k in range(count))
+        problem = f"(define (problem k) (:domain d) (:objects {each('o#', count)} - t) (:init (= (h) 0) {numbers}) (:goal (r)))"
+        steps = "".join(f"{2 * k}: (a)\n" for k in range(512))
+        judged(program, f"{name}, asked by 512 steps", head.replace("#", pairs.replace("#", term)), problem, steps)
+
+
 def under_each_action(program):
     """Actions of two parameters each, above something that is written out anew for each of them."""
     head = "(define (domain d) (:types s t) (:predicates (p ?x - s) (q ?x ?y ?z) (r)) (:action a :parameters (?x ?y - s) :precondition # :effect (r)))"
@@ -934,6 +964,7 @@ def main():
         reads(program)
         worst_reads(program)
         quantified(program)
+        asked_often(program)
         under_each_action(program)
         typed_objects(program)
     if "--network" in groups:
