@@ -617,6 +617,7 @@ def asked_often(program):
     problem = f"(define (problem k) (:domain d) (:objects {objects} - t) (:init {each('(q o#)', 2_024)}) (:goal (r)))"
     steps = "".join(f"{tick}: (a)\n" for tick in range(512))
     judged(program, "4,096,576 disjunctions that differ, asked by 512 steps", head.replace("#", pairs), problem, steps)
+    judged(program, "the network of these steps", head.replace("#", pairs), problem, steps, "net")
     steps = "".join(f"{tick}: (a)\n{tick}: (b)\n" for tick in range(256))
     judged(program, "the same, asked by 256 steps with another at the tick of each", head.replace("#", pairs + other), problem, steps)
     kept = "(over all (forall (?x ?y - t) (or (p ?x) (c) (u ?z) (q ?y))))"
@@ -631,7 +632,7 @@ def asked_often(program):
     judged(program, "256 invariants of 2,304 disjunctions, of as many actions, an atom of all of which 256 steps change", domain, problem, steps)
     head = "(define (domain d) (:requirements :adl :typing :fluents) (:types t) (:predicates (r)) (:functions (f ?x - t) (g ?x - t) (h)) #)"
     pairs = "(:action a :parameters () :precondition (forall (?x ?y - t) (>= (+ (f ?x) #) (g ?y))) :effect (and (r) (increase (h) 1)))"
-    for count, term, name in ((1_000, "1", "1,000,000 comparisons of fluents that stay"), (200, "(h)", "40,000 comparisons with a fluent that each step increases")):
+    for count, term, name in ((1_000, "1", "1,000,000 comparisons of fluents that stay"), (1_000, "(h)", "1,000,000 comparisons with a fluent that each step increases")):
         numbers = " ".join(f"(= (f o{k}) {k + count}) (= (g o{k}) {k})" for k in range(count))
         problem = f"(define (problem k) (:domain d) (:objects {each('o#', count)} - t) (:init (= (h) 0) {numbers}) (:goal (r)))"
         steps = "".join(f"{2 * k}: (a)\n" for k in range(512))
@@ -652,6 +653,11 @@ def under_each_action(program):
     judged(program, "65,025 actions above an exists below a forall of 300 types", head.replace(":types s t", f":types s {kinds} - object t - t0").replace("#", under_long), problem(255, "z"), "0: (a o0 o1)\n")
     named = f"(forall (?z - t) (and {'(q ?x ?y ?z) ' * 20}))"
     judged(program, "65,025 actions, 20 atoms each of a name of 20,000 letters", head.replace("#", named), problem(255, "z" * 20_000), "0: (a o0 o1)\n")
+    named = f"(forall (?z - t) (and {'(= ?z ?z) ' * 2_000}))"
+    judged(program, "65,025 actions, 2,000 equalities each of a name of 100,000 letters", head.replace("#", named), problem(255, "z" * 100_000), "0: (a o0 o1)\n")
+    for part, name in (("(p ?x)", "atoms"), ("()", "empty parts"), ("(= ?x ?y)", "equalities")):
+        parts = f"(forall (?z - t) (and {(part + ' ') * 20_000}))"
+        judged(program, f"65,025 actions, 20,000 {name} each under a forall of one binding", head.replace("#", parts), problem(255, "z"), "0: (a o0 o1)\n")
     parts = f"(and {'(p ?x) ' * 1_000})"
     judged(program, "10,000 actions of 1,000 atoms each", head.replace("#", parts), problem(100, "z"), "0: (a o0 o1)\n")
     parts = f"(and {'(p ?x) ' * 5_000})"

@@ -1,5 +1,5 @@
-//! How much quantifiers are written out to. What is shared is counted as often as it stands there, since whoever goes through a
-//! condition goes through it as often; and what leaves nothing behind, as an effect without parts, is counted too.
+//! How much is written out, and to how much quantifiers are. What is shared is counted as often as it stands there, since whoever
+//! goes through a condition goes through it as often; and what leaves nothing behind, as an effect without parts, is counted too.
 
 use std::alloc::{AllocError, Global};
 use std::cell::Cell;
@@ -16,14 +16,32 @@ const LEAST_ROOM: usize = 8;
 // So many bindings of one quantifier are counted one by one: so many that too many atoms were named by then, if each names its own.
 const ONE_BY_ONE: usize = 131_072;
 
+// What is written out counts in letters, which take no longer than they are compared: each letter of an object's name as one, each
+// part of a condition, an effect or an expression as so many.
+const OF_PART: usize = 1_024;
+
+// The same of each word of many, and of each of a quantifier's many variables, which may be gone through for each term under it.
+const OF_WORD: usize = 512;
+
+const OF_VARIABLE: usize = 4_096;
+
+// So few words or variables are counted with the part that they stand in.
+const FEW_WORDS: usize = 16;
+
+// For so many letters no room is asked for. For each behind these a byte to half as much again is, and given back: a task of
+// more than 67 million parts takes seconds, and a text may ask for thousands of times as many.
+const FEW_LETTERS: usize = 68_719_476_736;
+
 // Of so many bytes no room is asked for before they are written.
 const FEW_BYTES: usize = 64_000_000;
 
-/// How many bindings of quantifiers were gone through, and how many bytes all bodies take at least.
+/// How many bindings of quantifiers were gone through, how much was written out in letters, and how many bytes all bodies take at
+/// least.
 #[derive(Drop)]
 pub struct Extent {
     within: Cell<usize>,
     all: Cell<usize>,
+    letters: Cell<usize>,
     granted: Cell<usize>,
     bodies: Cell<usize>,
 }
@@ -45,14 +63,41 @@ impl Extent {
         Extent {
             within: Cell::new(0),
             all: Cell::new(0),
+            letters: Cell::new(0),
             granted: Cell::new(0),
             bodies: Cell::new(0),
         }
     }
 
-    /// Begins a goal, or the body of an action under a binding.
-    pub fn begin(&self) {
+    /// Begins a goal, or the body of an action under a binding, if there is room for as much as was written out before it.
+    pub fn begin(&self, alloc: Global) -> Result<(), AllocError> {
         self.within.set(0);
+        self.count(alloc, 0)
+    }
+
+    /// Counts words. If that is too much is told where a body or a binding of a quantifier begins.
+    pub fn count_words(&self, words: &[&str]) {
+        let mut letters = self.letters.get();
+        for word in words {
+            letters = letters.saturating_add(word.len());
+        }
+        let more = words.len().saturating_sub(FEW_WORDS);
+        self.letters
+            .set(letters.saturating_add(more.saturating_mul(OF_WORD)));
+    }
+
+    /// Counts the variables of a quantifier in the same way.
+    pub fn count_variables(&self, variables: usize) {
+        let letters = variables
+            .saturating_sub(FEW_WORDS)
+            .saturating_mul(OF_VARIABLE);
+        self.letters.set(self.letters.get().saturating_add(letters));
+    }
+
+    /// Counts parts of conditions, of effects or of expressions in the same way.
+    pub fn count_parts(&self, parts: usize) {
+        let letters = parts.saturating_mul(OF_PART);
+        self.letters.set(self.letters.get().saturating_add(letters));
     }
 
     /// How many there were in this goal or body so far, or as many as can be told.
@@ -68,7 +113,8 @@ impl Extent {
             .get()
             .saturating_sub(FEW)
             .saturating_mul(LEAST_ROOM);
-        within.max(all)
+        let letters = self.letters.get().saturating_sub(FEW_LETTERS);
+        within.max(all).max(letters)
     }
 
     /// Counts the binding of a quantifier at a place, of so many. Where they are very many, those that are left are counted with

@@ -1,7 +1,9 @@
 -- What passes at a place of a list, as the list grows, and by which tests.
-use Rattle.std.proofs.Common.{◌≡◌, ℕ, zero, suc, ◌+◌, ◌<◌, ◌≤◌, Bool, true, false, cond, ◌&&◌, ◌||◌, ◌==◌, List, [], ◌∷◌, ◌++◌, length, map, get_or, take, set, ◌⊎◌, inl, inr, add-one, refl, sym, ap, ap₂, ◌∙◌, arith}
+use Rattle.std.proofs.Common.{◌≡◌, ℕ, zero, suc, ◌+◌, ◌<◌, ◌≤◌, Bool, true, false, cond, ◌&&◌, ◌||◌, ◌==◌, List, [], ◌∷◌, ◌++◌, length, map, get_or, take, set, ◌⊎◌, ⊎_elim, inl, inr, add-one, refl, sym, ap, ap₂, ◌∙◌, arith}
 use Rattle.std.specs.List.{list_any}
 use Rattle.std.proofs.lemmas.Bool.{eq-eqb, ne_eqb, cases_eq}
+use Rattle.std.proofs.lemmas.Bool.Decides.{eqb_tells}
+use Rattle.tp_task.specs.Event.{has}
 use Rattle.tp_deorder.specs.Places.{passes_at}
 
 or_false : (b : Bool) → (b || false) ≡ b
@@ -117,3 +119,34 @@ module _ {X Y : Type 0} where
   pub any_swap : (f : X → Y → Bool) (xs : List X) (ys : List Y) → list_any (λ x. list_any (f x) ys) xs ≡ list_any (λ y. list_any (λ x. f x y) xs) ys
   any_swap f [] ys = sym (any_false ys)
   any_swap f (x ∷ xs) ys = ap (λ b. list_any (f x) ys || b) (any_swap f xs ys) ∙ any_or (f x) (λ y. list_any (λ z. f z y) xs) ys
+
+-- what some member passes, a member of a list with the same members passes
+or_right : (b c : Bool) → c ≡ true → (b || c) ≡ true
+or_right true c h = refl
+or_right false c h = h
+
+module _ (p : ℕ → Bool) where
+  member_passes : (x : ℕ) (ys : List ℕ) → has ys x ≡ true → p x ≡ true → list_any p ys ≡ true
+  member_passes x [] h k = absurd (cc)
+  member_passes x (y ∷ ys) h k =
+      ⊎_elim
+      (λ (q : ((y == x) ≡ true) × (y ≡ x)). ap (λ b. b || list_any p ys) (ap p q.1 ∙ k))
+      (λ (q : ((y == x) ≡ false) × _). or_right (p y) (list_any p ys) (member_passes x ys (sym (ap (λ b. b || has ys x) q.0) ∙ h) k))
+      (eqb_tells y x)
+
+  any_within : (xs ys : List ℕ) → ((x : ℕ) → has xs x ≡ true → has ys x ≡ true) → list_any p xs ≡ true → list_any p ys ≡ true
+  any_within [] ys h k = absurd (cc)
+  any_within (x ∷ xs) ys h k = by_first (any_within xs ys (λ z q. h z (or_right (x == z) (has xs z) q))) (p x) refl k
+    where
+      by_first : (list_any p xs ≡ true → list_any p ys ≡ true) → (b : Bool) → p x ≡ b → (b || list_any p xs) ≡ true → list_any p ys ≡ true
+      by_first rest true e k = member_passes x ys (h x (ap (λ b. b || has xs x) (eq-eqb x x refl))) e
+      by_first rest false e k = rest k
+
+  same_bools : (a b : Bool) → (a ≡ true → b ≡ true) → (b ≡ true → a ≡ true) → a ≡ b
+  same_bools true b h k = sym (h refl)
+  same_bools false true h k = k refl
+  same_bools false false h k = refl
+
+  pub any_of_same : (xs ys : List ℕ) → ((x : ℕ) → has xs x ≡ has ys x) → list_any p xs ≡ list_any p ys
+  any_of_same xs ys h =
+      same_bools (list_any p xs) (list_any p ys) (any_within xs ys (λ x k. sym (h x) ∙ k)) (any_within ys xs (λ x k. h x ∙ k))

@@ -11,10 +11,12 @@ use Rattle.tp_task.specs.Bounds.{writes_into}
 use Rattle.tp_task.specs.Valid.{Placed}
 use Rattle.tp_happen.specs.declared.meetings.Meeting.TheVariants.{ChangedAndAsked, WrittenAndRead}
 use Rattle.tp_happen.specs.Meetings.{done}
+use Rattle.tp_happen.specs.Mentioned.{MentionsFit}
+use Rattle.tp_happen.specs.declared.mentioned.Mentioned.{Mentioned}
 use Rattle.tp_deorder.specs.declared.writers.Writers.{Writers}
 use Rattle.tp_deorder.specs.Inequalities.{touches, touching}
 use Rattle.tp_deorder.specs.Places.{passes_at, mentions_any, IsIndexOf, IsWriters}
-use Rattle.tp_deorder.proofs.OnPlaces.{passes_same, passes_or, any_alike, any_passes, any_swap}
+use Rattle.tp_deorder.proofs.OnPlaces.{passes_same, passes_or, any_alike, any_passes, any_swap, any_of_same}
 
 eq_swap : (a b : ℕ) → (a == b) ≡ (b == a)
 eq_swap a b = cases (cases_eq a b)
@@ -42,6 +44,15 @@ writers_found w c es h n none atoms all z p q =
     q ∙ (ap₂ (λ a b. a || b) (p ∙ (ap (λ b. b || mentions_any w.atoms (atoms_in c) n) z ∙ changed_by (λ (e : Placed). done ChangedAndAsked e.timed.event) es w.atoms h.atoms (atoms_in c) n))
     (changed_by (λ (e : Placed). done WrittenAndRead e.timed.event) es w.fluents h.fluents (fluents_in c) n)
     ∙ passes_or by_atom by_fluent es n)
+
+-- the same by a list of what the condition mentions
+pub listed_found : (w : Writers) (c : Cond) (m : Mentioned) → MentionsFit c m → (es : List Placed) → IsWriters es w → (xs ys : List ℕ) → xs ≡ m.atoms.items → ys ≡ m.fluents.items
+    → (n : ℕ) (none atoms all : Bool) → none ≡ false → atoms ≡ (none || mentions_any w.atoms xs n) → all ≡ (atoms || mentions_any w.fluents ys n)
+    → all ≡ passes_at (λ (e : Placed). writes_into e.timed.event c) es n
+listed_found w c m fit es h xs ys is_xs is_ys n none atoms all z p q =
+    writers_found w c es h n none atoms all z
+    (p ∙ ap (λ b. none || b) (ap (λ l. mentions_any w.atoms l n) is_xs ∙ any_of_same (λ x. is_met w.atoms x n) m.atoms.items (atoms_in c) fit.atoms))
+    (q ∙ ap (λ b. atoms || b) (ap (λ l. mentions_any w.fluents l n) is_ys ∙ any_of_same (λ x. is_met w.fluents x n) m.fluents.items (fluents_in c) fit.fluents))
 
 -- the events that touch an invariant, one after another
 pub touching_step : (first : ℕ) (c : Cond) (es : List Placed) (i : ℕ) (e : Placed) → i < length es → e ≡ get_or es i e → (b : Bool) → b ≡ touches first c e

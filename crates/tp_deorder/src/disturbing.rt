@@ -24,7 +24,7 @@ fn enter_met(
         ≡ (is_met index.old x n
         || (has (meetings.met way event.now.timed.event) x && n == place))) }
 {
-    let met = event.event().met(alloc, way)?;
+    let met = event.met(alloc, way)?;
     index.enter(&met, place)
 }
 

@@ -1,17 +1,19 @@
 //! Which events write into a condition: two indexes tell, by atom and by fluent, the events that change it.
 
-ghost use Rattle.std.specs.Prelude.{◌≡◌, ℕ, List, ◌==◌, ◌&&◌, ◌||◌, OnOk, IfOk};
+ghost use Rattle.std.specs.Prelude.{◌≡◌, ℕ, List, ◌==◌, ◌&&◌, ◌||◌, OnOk, IfOk, IfSome};
 ghost use Rattle.tp_task.specs.Event.{has};
 ghost use Rattle.tp_task.specs.State as state;
 ghost use Rattle.tp_task.specs.Bounds.{writes_into};
 ghost use Rattle.tp_task.specs.Valid.{Placed};
+ghost use Rattle.tp_task.specs.declared.events.Cond.{Cond as TheCond};
+ghost use Rattle.tp_happen.specs.Mentioned.{MentionsFit};
 ghost use Rattle.tp_happen.specs.Meetings as meetings;
 ghost use Rattle.tp_happen.specs.declared.meetings.Meeting.TheVariants.{ChangedAndAsked, WrittenAndRead};
 ghost use Rattle.tp_number_sets.specs.Sets.{has_number, is_met};
 ghost use Rattle.tp_deorder.specs.Places.{passes_at, mentions_any, IsIndexOf, IsWriters};
 
 use std::alloc::{AllocError, Global};
-use tp_happen::{Meeting, atoms_of, fluents_of};
+use tp_happen::{Meeting, Mentioned, atoms_of, fluents_of};
 use tp_number_sets::{Index, NumberSet};
 use tp_task::Cond;
 use tp_validate::PlacedEvent;
@@ -59,7 +61,7 @@ pub fn writers_of(alloc: Global, events: &[PlacedEvent<'_>]) -> Result<Writers, 
     Ok(Writers { atoms, fluents })
 }
 
-/// Adds to a set all that change an atom of a condition.
+/// Adds to a set all that change an atom of a condition, which is gone through.
 fn add_atoms(
     alloc: Global,
     index: &Index,
@@ -88,8 +90,8 @@ fn add_fluents(
 }
 
 impl Writers {
-    /// The places of the events that write into a condition.
-    pub fn find(&self, alloc: Global, cond: &Cond) -> Result<NumberSet, AllocError>
+    // The places of the events that write into a condition, which is gone through.
+    fn find_by_walk(&self, alloc: Global, cond: &Cond) -> Result<NumberSet, AllocError>
         ensures { IfOk result (λ s. (es : List Placed) → IsWriters es self.now → (n : ℕ)
             → has_number s n ≡ passes_at (λ e. writes_into e.timed.event cond.now) es n) }
     {
@@ -97,5 +99,34 @@ impl Writers {
         add_atoms(alloc, &self.atoms, cond, &mut set)?;
         add_fluents(alloc, &self.fluents, cond, &mut set)?;
         Ok(set)
+    }
+
+    // The same by the list of what the condition mentions.
+    fn find_listed(&self, alloc: Global, listed: &Mentioned) -> Result<NumberSet, AllocError>
+        ensures { IfOk result (λ s. (cond : TheCond) → MentionsFit cond listed.now
+            → (es : List Placed) → IsWriters es self.now → (n : ℕ)
+            → has_number s n ≡ passes_at (λ e. writes_into e.timed.event cond) es n) }
+    {
+        let mut set = NumberSet::new(alloc);
+        self.atoms.meet(&listed.atoms, &mut set)?;
+        self.fluents.meet(&listed.fluents, &mut set)?;
+        Ok(set)
+    }
+
+    /// The places of the events that write into a condition, by the list of what it mentions, if there is one.
+    pub fn find(
+        &self,
+        alloc: Global,
+        cond: &Cond,
+        listed: Option<&Mentioned>,
+    ) -> Result<NumberSet, AllocError>
+        requires { IfSome listed (λ m. MentionsFit cond.now m.now) }
+        ensures { IfOk result (λ s. (es : List Placed) → IsWriters es self.now → (n : ℕ)
+            → has_number s n ≡ passes_at (λ e. writes_into e.timed.event cond.now) es n) }
+    {
+        match listed {
+            Some(listed) => self.find_listed(alloc, listed),
+            None => self.find_by_walk(alloc, cond),
+        }
     }
 }

@@ -145,6 +145,7 @@ pub fn name_instances(
             instance.schema.action.name.as_str(),
             instance.objects.as_slice(),
         )?;
+        writer.extent().count_words(&words);
         writer.push_action(&words)?;
     }
     Ok(())

@@ -67,6 +67,7 @@ fn push_names(
     for place in 0..rows.count {
         rows.turn_to(place);
         refill(&mut words, action.name.as_str(), &rows.row)?;
+        writer.extent().count_words(&words);
         writer.push_action(&words)?;
     }
     Ok(())
@@ -116,6 +117,9 @@ pub fn lower_under<'a>(
     body(alloc, universe, &inner, writer, written, hints)
 }
 
+// So many objects of a binding are found in the time that a part takes.
+const TURNED_AT_ONCE: usize = 16;
+
 // Puts the body of an action under each binding of its parameters behind others. Room is asked for as for bodies that are
 // kept, so that what memory can't hold is refused before it is gone through.
 fn push_bodies<'a, B: Bodies>(
@@ -138,11 +142,13 @@ fn push_bodies<'a, B: Bodies>(
         (bindings (universe_view universe.now) (map typed_view parameters.now))) }
 {
     let mut rows = rows_of(alloc, universe, parameters.items())?;
+    let turned = rows.row.len() / TURNED_AT_ONCE;
     let room = of_body(written);
     writer.extent().ask_beside(alloc, rows.count, room)?;
     into.make_room(rows.count)?;
     for place in 0..rows.count {
         rows.turn_to(place);
+        writer.extent().count_parts(turned);
         let next = lower_under(
             alloc, universe, writer, parameters, &rows.row, written, hints,
         )?;

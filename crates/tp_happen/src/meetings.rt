@@ -111,6 +111,16 @@ impl Event<'_> {
     }
 }
 
+impl EventRef<'_> {
+    /// The atoms or fluents with which it does what the other one of two events does in that way, perhaps in another order: of a
+    /// condition whose mentions it brings in a list, each once.
+    pub fn met(&self, alloc: Global, way: Meeting) -> Result<Vec<u32>, AllocError>
+        ensures { IfOk result (λ v. (x : ℕ) → has v.items x ≡ has (met way self.now.event) x) }
+    {
+        asked(alloc, way, self)
+    }
+}
+
 fn earlier(a: Option<usize>, b: Option<usize>) -> Option<usize>
     ensures { result ≡ earlier a b }
 {

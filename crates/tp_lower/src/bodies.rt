@@ -255,7 +255,7 @@ pub fn body<'a>(
         (body_in (universe_view universe.now) (env_view env.now) (body_view body.now))
         (of_body (universe_view universe.now) (env_view env.now) (body_view body.now)) }
 {
-    writer.extent().begin();
+    writer.extent().begin(alloc)?;
     match body {
         tp_ast::action::Body::Instant {
             precondition,

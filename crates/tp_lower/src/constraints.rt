@@ -28,6 +28,7 @@ fn all_limits<'a>(
         (of_each of_limit
         (flat_map (λ r. limits_in (env_view env.now) (constraint_view r)) constraints.now)) }
 {
+    writer.extent().count_parts(constraints.len());
     let mut lowered = Vec::new(alloc);
     for constraint in constraints {
         let mut more = limits(alloc, env, writer, constraint)?;

@@ -145,6 +145,7 @@ fn push_parts<'a, P: Lowerable>(
         (universe_view universe.now) specifier) (env_view env.now)
         (joined_view P.seen p)) parts.now)) }
 {
+    writer.extent().count_parts(parts.len());
     for (place, part) in parts.iter().enumerate() {
         // A part that is nothing at the specifier is only looked at, which costs less.
         if may_be_at(part, specifier) {
@@ -190,7 +191,9 @@ fn push_under_each<'a, P: Lowerable>(
         (P.written (universe_view universe.now) specifier) e (joined_view P.seen part.now))
         (inner (universe_view universe.now) (env_view env.now) (map typed_view variables.now)))) }
 {
-    let mut rows = rows_with(alloc, universe, variables.items(), places_in(inside))?;
+    let items = variables.items();
+    writer.extent().count_variables(items.as_slice().len());
+    let mut rows = rows_with(alloc, universe, items, places_in(inside))?;
     if rows.count > FEW_BINDINGS {
         writer.extent().ask(alloc, rows.count, of_part(part))?;
     }

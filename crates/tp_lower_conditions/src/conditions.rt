@@ -30,6 +30,7 @@ use tp_ast::term::{Atom, Term};
 use tp_ast::typed_list::TypedList;
 use tp_ast::words::Comparison;
 use tp_bindings::environment::{Env, object_for, words_in};
+use tp_bindings::extent::Extent;
 use tp_bindings::hints::{Hint, Inside, hint_at, hint_in, inside_of, parts_of, places_in};
 use tp_bindings::keys::{Objects, objects_in};
 use tp_bindings::memory::Kept;
@@ -37,6 +38,15 @@ use tp_bindings::rows::rows_with;
 use tp_bindings::universe::Universe;
 use tp_bindings::variables::Variables;
 use tp_task::{Cond, GroundFault};
+
+// The number of the atom of some words, which are counted.
+fn atom_of(writer: &mut Writer, words: &[&str]) -> Result<u32, GroundFault>
+    ensures { Lowers (λ t i. words_at t.atoms i) writer.old result writer.new
+        (map (λ w. w.now) words.now) (an_atom (map (λ w. w.now) words.now)) }
+{
+    writer.extent().count_words(words);
+    writer.atom(words)
+}
 
 /// The number of an atom.
 pub fn atom<'a>(
@@ -52,11 +62,14 @@ pub fn atom<'a>(
     let name = atom.name.as_str();
     match atom.terms.as_slice() {
         [] => writer.atom(&[name]),
-        [first] => writer.atom(&[name, object_for(env, first)]),
-        [first, second] => writer.atom(&[name, object_for(env, first), object_for(env, second)]),
+        [first] => atom_of(writer, &[name, object_for(env, first)]),
+        [first, second] => atom_of(
+            writer,
+            &[name, object_for(env, first), object_for(env, second)],
+        ),
         _ => {
             let words = words_in(alloc, env, atom)?;
-            writer.atom(&words)
+            atom_of(writer, &words)
         }
     }
 }
@@ -76,10 +89,17 @@ fn fact<'a>(
 }
 
 // An equality of objects: the empty conjunction holds, the empty disjunction doesn't.
-fn same<'a>(alloc: Global, env: &Env<'_, 'a>, left: &'a Term, right: &'a Term) -> Cond
+fn same<'a>(
+    alloc: Global,
+    env: &Env<'_, 'a>,
+    extent: &Extent,
+    left: &'a Term,
+    right: &'a Term,
+) -> Cond
     ensures { (t : Tables) → named_condition t result
         ≡ same_in (env_view env.now) (term_view left.now) (term_view right.now) }
 {
+    extent.count_words(&[object_for(env, left)]);
     if object_for(env, left) == object_for(env, right) {
         Cond::And(Vec::new(alloc))
     } else {
@@ -132,6 +152,7 @@ fn conditions<'a>(
         conds.now) (of_each of_condition (map (λ c.
         condition_in (universe_view universe.now) (env_view env.now) (cond_view c)) conds.now)) }
 {
+    writer.extent().count_parts(conds.len());
     let mut lowered = Vec::with_capacity(alloc, conds.len())?;
     for (place, cond) in conds.iter().enumerate() {
         let hint = hint_at(universe, hints, conds, place, cond);
@@ -161,7 +182,9 @@ fn under_each<'a>(
         (map (λ e. condition_in (universe_view universe.now) e (cond_view cond.now))
         (inner (universe_view universe.now) (env_view env.now) (map typed_view variables.now)))) }
 {
-    let mut rows = rows_with(alloc, universe, variables.items(), places_in(inside))?;
+    let items = variables.items();
+    writer.extent().count_variables(items.as_slice().len());
+    let mut rows = rows_with(alloc, universe, items, places_in(inside))?;
     if rows.count > FEW_BINDINGS {
         writer.extent().ask(alloc, rows.count, of_condition(cond))?;
     }
@@ -346,7 +369,7 @@ fn written_out<'a>(
             )
         }
         tp_ast::cond::Cond::Atom(a) => fact(alloc, env, writer, a),
-        tp_ast::cond::Cond::Same(a, b) => Ok(same(alloc, env, a, b)),
+        tp_ast::cond::Cond::Same(a, b) => Ok(same(alloc, env, writer.extent(), a, b)),
         tp_ast::cond::Cond::Compare(comparison, a, b) => {
             compared(alloc, env, writer, *comparison, a, b)
         }
@@ -368,6 +391,8 @@ fn recalled(
         (condition_in writer.now.universe (env_view env.now) (cond_view cond.now)) (of_condition
         (condition_in writer.now.universe (env_view env.now) (cond_view cond.now))))) }
 {
+    writer.extent().count_parts(1);
+    writer.extent().count_words(objects);
     let Some(kept) = writer.recall(cond, mark, objects) else {
         return Ok(None);
     };
@@ -498,6 +523,6 @@ pub fn closed_condition<'a>(
         (condition_in (universe_view universe.now) [] (cond_view cond.now))) }
 {
     let hint = hint_of(alloc, universe, cond)?;
-    writer.extent().begin();
+    writer.extent().begin(alloc)?;
     condition(alloc, universe, &Env::Empty, writer, cond, Some(&hint))
 }

@@ -1,6 +1,6 @@
 //! Expressions.
 
-ghost use Rattle.std.specs.Prelude.{◌≡◌};
+ghost use Rattle.std.specs.Prelude.{◌≡◌, map};
 ghost use Rattle.tp_ast.specs.Terms.{atom_view};
 ghost use Rattle.tp_ast.specs.ExprViews.{expr_view};
 ghost use Rattle.tp_bindings.specs.Bindings.{words_in};
@@ -30,6 +30,15 @@ pub fn comparison_of(comparison: tp_ast::words::Comparison) -> Comparison
     }
 }
 
+// The number of the fluent of some words, which are counted.
+fn fluent_of(writer: &mut Writer, words: &[&str]) -> Result<u32, GroundFault>
+    ensures { Lowers (λ t i. words_at t.fluents i) writer.old result writer.new
+        (map (λ w. w.now) words.now) (a_fluent (map (λ w. w.now) words.now)) }
+{
+    writer.extent().count_words(words);
+    writer.fluent(words)
+}
+
 /// The number of a fluent.
 pub fn fluent<'a>(
     alloc: Global,
@@ -44,11 +53,14 @@ pub fn fluent<'a>(
     let name = atom.name.as_str();
     match atom.terms.as_slice() {
         [] => writer.fluent(&[name]),
-        [first] => writer.fluent(&[name, object_for(env, first)]),
-        [first, second] => writer.fluent(&[name, object_for(env, first), object_for(env, second)]),
+        [first] => fluent_of(writer, &[name, object_for(env, first)]),
+        [first, second] => fluent_of(
+            writer,
+            &[name, object_for(env, first), object_for(env, second)],
+        ),
         _ => {
             let words = words_in(alloc, env, atom)?;
-            writer.fluent(&words)
+            fluent_of(writer, &words)
         }
     }
 }
@@ -65,6 +77,7 @@ pub fn operand<'a>(
         (expression_in (env_view env.now) (expr_view expr.now))
         (of_expression (expression_in (env_view env.now) (expr_view expr.now))) }
 {
+    writer.extent().count_parts(1);
     let lowered = expression(alloc, env, writer, expr)?;
     Ok(Box::new(alloc, lowered)?)
 }

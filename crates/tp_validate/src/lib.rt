@@ -27,6 +27,9 @@ mod verdicts;
 
 pub use agenda::{Tick, agenda_of, next_tick};
 pub use durations::in_ticks;
-pub use placing::{PlacedEvent, PlannedStep, event_refs, placed_events, planned_steps};
+pub use placing::{
+    PlacedEvent, PlannedStep, event_refs, placed_events, planned_steps, prepared_steps,
+};
+pub use prepared::{Prepared, prepared_for};
 pub use ticks::Fault;
 pub use verdicts::{ValidPlan, ValidateFault, Verdict, validate};

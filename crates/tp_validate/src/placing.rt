@@ -4,6 +4,8 @@ ghost use Rattle.std.specs.Prelude.{◌≡◌, ℕ, ◌+◌, ◌*◌, ◌<◌, �
 ghost use Rattle.std.specs.List.{list_all};
 ghost use Rattle.tp_task.specs.declared.events.Body.{Body as TheBody};
 ghost use Rattle.tp_task.specs.Valid.{events, events_of, count_of};
+ghost use Rattle.tp_task.specs.Event.{has};
+ghost use Rattle.tp_happen.specs.Meetings.{met};
 ghost use Rattle.tp_happen.specs.Mentioned.{MentionsFit};
 ghost use Rattle.tp_validate.specs.OfTask.{plan_of, actions_of, step_of};
 ghost use Rattle.tp_validate.specs.Places.{numbers};
@@ -14,7 +16,7 @@ use crate::listed::Listed;
 use crate::prepared::{Prepared, listed_among};
 use std::alloc::{AllocError, Global};
 use std::marker::Model;
-use tp_happen::{Event, EventRef, Mentioned, Step};
+use tp_happen::{Event, EventRef, Meeting, Mentioned, Step};
 use tp_task::{Body, GroundEvent, Task};
 
 /// A step of a plan with what its action does.
@@ -138,6 +140,16 @@ impl<'t> PlacedEvent<'t> {
         ensures { result ≡ self.now.timed.event }
     {
         Event::new(self.event)
+    }
+
+    /// The atoms or fluents with which it does what the other one of two events does in that way, perhaps in another order, and
+    /// each once where its condition's mentions are listed.
+    pub fn met(&self, alloc: Global, way: Meeting) -> Result<Vec<u32>, AllocError>
+        ensures { IfOk result
+            (λ v. (x : ℕ) → has v.items x ≡ has (met way self.now.timed.event) x) }
+    {
+        let asking = EventRef::asking(Event::new(self.event), self.ticks, self.asked);
+        asking.met(alloc, way)
     }
 
     /// The same event once more.

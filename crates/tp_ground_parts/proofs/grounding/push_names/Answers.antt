@@ -19,7 +19,7 @@ loop-place-preserved c =
     let item = row_there (all_of c.loop-place.rows.lists) xs place row same lt.0 c.turn_to.ensures.row in
     let f = λ (ns : List Name). string_bytes c.args.action.now.name ∷ ns in
     let label =
-    ap (map (λ (o : Bor Name). o.now)) c.deref-in-loop-place.ensures.value
+    ap (map (λ (o : Bor Name). o.now)) c.deref-in-loop-place-2.ensures.value
     ∙ c.in_ok-refill.ensures
     ∙ ap₂ (λ (n : Name) (ns : List Name). n ∷ ns) c.as_str.ensures.value (ap (map (λ (o : Bor Name). o.now)) c.deref.ensures.value) in
     record {

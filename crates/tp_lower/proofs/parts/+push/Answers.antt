@@ -50,12 +50,12 @@ push_parts-returns g t c =
 pub push_under_each-loop-place-init : goal.push_under_each-loop-place-init
 push_under_each-loop-place-init g t c = record {
   appended = kept_gathered g.P.Lowerable.shows g.P.Lowerable.mentions _ _ _ _ refl c.in_ok-make_room.ensures;
-  lists = c.in_ok-rows.ensures ∙ ap (λ (vs : List Typed). bindings (universe_view c.args.universe.now) (map typed_view vs)) c.items.ensures;
+  lists = c.in_ok-rows.ensures ∙ ap (λ (vs : List Typed). bindings (universe_view c.args.universe.now) (map typed_view vs)) c.items-items.ensures;
   count = refl;
 }
 
 pub push_under_each-rows_with-requires : goal.push_under_each-rows_with-requires
-push_under_each-rows_with-requires g t c = listed_under c.args.universe.now (g.P.Lowerable.fits c.args.universe.now) c.args.inside c.places_in.result _ _ (joined_view g.P.Lowerable.seen c.args.part.now) c.places_in.ensures (ap (map typed_view) c.items.ensures) c.requires.fit
+push_under_each-rows_with-requires g t c = listed_under c.args.universe.now (g.P.Lowerable.fits c.args.universe.now) c.args.inside c.places_in.result _ _ (joined_view g.P.Lowerable.seen c.args.part.now) c.places_in.ensures (ap (map typed_view) c.items-items.ensures) c.requires.fit
 
 pub push_under_each-loop-place-preserved : goal.push_under_each-loop-place-preserved
 push_under_each-loop-place-preserved g t c =

@@ -38,7 +38,7 @@ conditions-returns t c =
     all_same named_condition of_condition _ _ _ _ _ (map_ended f c.args.conds.now c.loop-place.place c.loop-place-test.false) c.loop-place.invariant
 
 pub under_each-rows_with-requires : goal.under_each-rows_with-requires
-under_each-rows_with-requires t c = listed_inside c.args.universe.now c.args.inside c.places_in.result _ _ (cond_view c.args.cond.now) c.places_in.ensures (ap (map typed_view) c.items.ensures) c.requires.fit
+under_each-rows_with-requires t c = listed_inside c.args.universe.now c.args.inside c.places_in.result _ _ (cond_view c.args.cond.now) c.places_in.ensures (ap (map typed_view) c.items-items.ensures) c.requires.fit
 
 pub under_each-loop-place-preserved : goal.under_each-loop-place-preserved
 under_each-loop-place-preserved t c =

@@ -1,8 +1,9 @@
-use Rattle.tp_number_sets.specs.Sets.{has_number}
-use Rattle.tp_deorder.proofs.OnWriters.{writers_found}
+use Rattle.std.proofs.Common.{subst}
+use Rattle.std.specs.Prelude.{IfSome}
+use Rattle.tp_happen.specs.Mentioned.{MentionsFit}
+use Rattle.tp_deorder.proofs.OnNets.{ok_weaker}
 use Rattle.tp_deorder.proofs.writers.Writers.find.Goals as goal
 
-pub returns : goal.returns
-returns c es h n =
-    writers_found c.args.self.now c.args.cond.now es h n (has_number c.new-set.result n) (has_number c.add_atoms.new.set n) (has_number c.add_fluents.new.set n) (c.new-set.ensures n) (c.in_ok-add_atoms.ensures n)
-    (c.in_ok-add_fluents.ensures n)
+pub returns-in-Some : goal.returns-in-Some
+returns-in-Some c =
+    ok_weaker c.find_listed.result _ _ (λ s f. f c.args.cond.now (subst (λ o. IfSome o (λ m. MentionsFit c.args.cond.now m.now)) c.in-Some.is c.requires)) c.find_listed.ensures

@@ -10,7 +10,7 @@ use Rattle.tp_deorder.specs.Inequalities.{event_count_of, bound_count}
 use Rattle.tp_deorder.specs.Kept.{net_bounds}
 use Rattle.tp_deorder.proofs.OnNets.{net_of, ok_weaker, always_ok, not_past, not_more, counted}
 use Rattle.tp_deorder.proofs.OnSteps.{weaker_err}
-use Rattle.tp_deorder.proofs.deordering.bounds_within.Goals as goal
+use Rattle.tp_deorder.proofs.deordering.bounds_prepared.Goals as goal
 
 pub passes-requires-clause-few : goal.passes-requires-clause-few
 passes-requires-clause-few c =
