@@ -1,6 +1,7 @@
 //! Journals of executives: how they are written, and whether an answer is one that may stand there.
 //!
 //! - `writing`: lines of commands answered, with their journal.
+//! - `gathered`: a text that is gathered before it is written.
 //! - `faults`: what ends that early.
 //! - `refusals`: the first refusal that applies to a command, without the command.
 //! - `edges`: the edges of a reason, read from its words.
@@ -11,6 +12,7 @@
 
 mod edges;
 mod faults;
+mod gathered;
 mod judging;
 mod page;
 mod reasons;

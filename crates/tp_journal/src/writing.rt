@@ -1,6 +1,6 @@
 //! The writing of a journal: lines of commands are answered, and each answer has its pair in the log before it goes out.
 
-ghost use Rattle.std.specs.Prelude.{◌≡◌, ◌≤◌, [], ◌∷◌, ◌++◌, None, Some, IfOk, length, codes, decimal, map};
+ghost use Rattle.std.specs.Prelude.{◌≡◌, ◌≤◌, ◌<◌, [], ◌∷◌, ◌++◌, None, Some, IfOk, length, codes, decimal, map};
 ghost use Rattle.tp_device.specs.Bytes.{Writes, failures_after};
 ghost use Rattle.tp_script.specs.Reading.{SameLimits};
 ghost use Rattle.tp_script.specs.Serving.{commands_of};
@@ -10,6 +10,9 @@ ghost use Rattle.tp_journal.specs.Journal.{head_of, head_lines, kind_lines, own_
 ghost use Rattle.tp_journal.specs.Writing.{HeadIsOne, IsNewExecutive, AllAreInForce, pairs_text, SaysAll, EntersCommand, EntersLine, Turns, Journals, read_failures, write_failures, log_failures};
 
 use crate::faults::JournalFault;
+use crate::gathered::Gathered;
+use std::marker::Brand;
+use std::sync::ledger::{Blank, Ledger};
 use tp_bounds::BoundId;
 use tp_device::{Failed, Sink, Source, push_all};
 use tp_machine::{Answer, Command, Executive, Kind, perform};
@@ -129,6 +132,28 @@ fn write_pair<V: Sink>(log: &mut V, command: &Command, answer: &Answer) -> Resul
     write_reply(log, answer)
 }
 
+/// Writes the pair of a command, in as few pushes as the log wants for its bytes: they are gathered first. What is too long for
+/// that goes out piece by piece.
+fn write_pair_whole<V: Sink, L: Ledger>(
+    log: &mut V,
+    blank: Blank,
+    command: &Command,
+    answer: &Answer,
+) -> Result<(), Failed>
+    requires name { blank.name ≡ L.name }
+    requires parts { blank.parts ≡ L.parts }
+    requires some { 0 < blank.parts }
+    ensures bytes { Writes (V.held log.old) (V.held log.new)
+        (pairs_text (Some (command.now, answer.now) ∷ [])) result }
+    ensures cause { V.failures log.new ≡ failures_after (V.failures log.old) result }
+{
+    let mut gathered: Gathered<L> = Gathered::new(blank);
+    match write_pair(&mut gathered, command, answer) {
+        Ok(()) => push_all(log, gathered.as_slice()),
+        Err(_) => write_pair(log, command, answer),
+    }
+}
+
 /// Carries a command out, writes its pair, and then its answer.
 fn enter_command<N: Net, W: Sink, V: Sink>(
     executive: &mut Executive<N>,
@@ -142,7 +167,7 @@ fn enter_command<N: Net, W: Sink, V: Sink>(
     ensures log { V.failures log.new ≡ log_failures (V.failures log.old) result }
 {
     let answer = perform(executive, command);
-    if write_pair(log, &command, &answer).is_err() {
+    if write_pair_whole::<V, Brand>(log, Blank::new(1), &command, &answer).is_err() {
         return Err(JournalFault::Log);
     }
     match write_answer(answers, &answer) {

@@ -94,13 +94,13 @@ const ROWS: [Row; 8] = [
             status: 2,
         },
     ),
-    // the log fails in the second pair, whose answer does not go out
+    // the log fails in the second pair, of which it takes nothing, and whose answer does not go out
     (
         REST,
         "dispatch 0\nadvance 4\n",
         (usize::MAX, Some(79)),
         Some(
-            "journal 2\nnetwork 2 100\nown 2\nbound 0 1 0 -2\nbound 1 0 1 6\n> dispatch 0\n< ok\n> ",
+            "journal 2\nnetwork 2 100\nown 2\nbound 0 1 0 -2\nbound 1 0 1 6\n> dispatch 0\n< ok\n",
         ),
         Told {
             output: "ok\n",
