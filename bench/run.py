@@ -544,6 +544,9 @@ def worst_reads(program):
     names = " ".join(colliding(20_000))
     judged(program, "20,000 constants whose names collide", f"(define (domain d) (:constants {names}))", problem, "")
     judged(program, "20,000 types whose names collide", f"(define (domain d) (:types {names}))", problem, "")
+    kept = "".join(f"(:action a{k} :parameters () :precondition (forall (?x) (and (p ?x) {'() ' * k})) :effect ())" for k in range(20))
+    few = f"(define (problem q) (:domain d) (:objects {' '.join(colliding(8_000))}) (:init) (:goal ()))"
+    judged(program, "8,000 objects whose names collide, in an atom of each of 20 actions", f"(define (domain d) (:predicates (p ?x)) {kept})", few, "")
 
 
 def reads(program):
@@ -584,13 +587,18 @@ def quantified(program):
     nested = functools.reduce(lambda inner, k: f"(forall (?v{k}) {inner})", range(55), "(p o0 o0 o0)")
     two = "(define (problem q) (:domain d) (:objects o0 o1) (:init) (:goal #))"
     judged(program, "55 foralls in one another over two objects", domain, two.replace("#", nested), "")
+    steps = "".join(f"{tick}: (a)\n" for tick in range(512))
+    changing = "(define (domain d) (:predicates (r)) (:functions (h)) (:action a :parameters () :effect #))"
+    start = "(define (problem q) (:domain d) (:objects o0 o1) (:init (r) (= (h) 0)) (:goal (r)))"
+    for depth, effect, name in ((19, "(r)", "adds an atom"), (22, "(r)", "adds an atom"), (16, "(increase (h) 1)", "increases a fluent"), (22, "(increase (h) 1)", "increases a fluent")):
+        under = functools.reduce(lambda inner, k: f"(forall (?v{k}) {inner})", range(depth), effect)
+        judged(program, f"{depth} foralls in an effect that {name}, 512 steps", changing.replace("#", under), start, steps)
     nothing = nested.replace("(p o0 o0 o0)", "()")
     empty = f"(define (domain d) (:predicates (p ?x ?y ?z)) (:action a :parameters () :effect {nothing}))"
     judged(program, "the same in an effect, above nothing", empty, two.replace("#", "()"), "")
     deep = functools.reduce(lambda inner, k: f"(forall (?v{k}) (and (q ?v{k}) {inner}))", range(16), "(r)")
     asked = f"(define (domain d) (:predicates (q ?x) (r)) (:action a :parameters () :precondition {deep} :effect (r)))"
     met = "(define (problem q) (:domain d) (:objects o0 o1) (:init (r) (q o0) (q o1)) (:goal (r)))"
-    steps = "".join(f"{tick}: (a)\n" for tick in range(512))
     judged(program, "16 foralls in one another, asked by 512 steps a tick apart", asked, met, steps)
     plain = functools.reduce(lambda inner, k: f"(forall (?v{k}) {inner})", range(22), "(r)")
     judged(program, "22 above one atom, asked by 512 steps a tick apart", asked.replace(deep, plain), met, steps)
@@ -631,12 +639,17 @@ def asked_often(program):
     steps = "".join(f"{k}: (a z{k}) [600]\n" for k in range(256)) + "".join(f"{300 + k}: ({'flop' if k % 2 else 'flip'})\n" for k in range(256))
     judged(program, "256 invariants of 2,304 disjunctions, of as many actions, an atom of all of which 256 steps change", domain, problem, steps)
     head = "(define (domain d) (:requirements :adl :typing :fluents) (:types t) (:predicates (r)) (:functions (f ?x - t) (g ?x - t) (h)) #)"
-    pairs = "(:action a :parameters () :precondition (forall (?x ?y - t) (>= (+ (f ?x) #) (g ?y))) :effect (and (r) (increase (h) 1)))"
-    for count, term, name in ((1_000, "1", "1,000,000 comparisons of fluents that stay"), (1_000, "(h)", "1,000,000 comparisons with a fluent that each step increases")):
+    pairs = "(:action a :parameters () :precondition (forall (?x ?y - t) (>= (+ (f ?x) #) (g ?y))) :effect %)"
+    raised = pairs.replace("%", "(and (r) (increase (h) 1))")
+    for count, form, term, name in (
+        (1_000, pairs.replace("%", "(r)"), "1", "1,000,000 comparisons of fluents that stay"),
+        (400, raised, "(h)", "160,000 comparisons with a fluent that each step increases"),
+        (1_000, raised, "(h)", "1,000,000 of them"),
+    ):
         numbers = " ".join(f"(= (f o{k}) {k + count}) (= (g o{k}) {k})" for k in range(count))
         problem = f"(define (problem k) (:domain d) (:objects {each('o#', count)} - t) (:init (= (h) 0) {numbers}) (:goal (r)))"
         steps = "".join(f"{2 * k}: (a)\n" for k in range(512))
-        judged(program, f"{name}, asked by 512 steps", head.replace("#", pairs.replace("#", term)), problem, steps)
+        judged(program, f"{name}, asked by 512 steps", head.replace("#", form.replace("#", term)), problem, steps)
 
 
 def under_each_action(program):
@@ -658,6 +671,20 @@ def under_each_action(program):
     for part, name in (("(p ?x)", "atoms"), ("()", "empty parts"), ("(= ?x ?y)", "equalities")):
         parts = f"(forall (?z - t) (and {(part + ' ') * 20_000}))"
         judged(program, f"65,025 actions, 20,000 {name} each under a forall of one binding", head.replace("#", parts), problem(255, "z"), "0: (a o0 o1)\n")
+    def implied(depth):
+        return "(p ?x)" if depth == 0 else f"(imply {implied(depth - 1)} {implied(depth - 1)})"
+
+    judged(program, "65,025 actions, implications in one another of 4,096 atoms", head.replace("#", implied(12)), problem(255, "z"), "0: (a o0 o1)\n")
+    judged(program, "65,025 actions, each a forall of 20,000 bindings above an atom of its parameters", head.replace("#", "(forall (?z - t) (q ?x ?y ?x))"), problem(255, "z").replace(" z - t)", f" {each('z#', 20_000)} - t)").replace(" z))", " z0))"), "0: (a o0 o1)\n")
+    lists = [" ".join(f"?v{k}x{i}" for i in range(16)) for k in range(16)]
+    deep = functools.reduce(lambda inner, listed: f"(forall ({listed} - t) {inner})", lists, f"(and {'(p ?x) ' * 1_000})")
+    judged(program, "65,025 actions, 1,000 atoms each under 16 foralls of 16 variables", head.replace("#", deep), problem(255, "z"), "0: (a o0 o1)\n")
+    others = " ".join(f"(forall (?z{k} - t) (q ?x ?y ?z{k}))" for k in range(1_000))
+    judged(program, "65,025 actions, 1,000 foralls each that differ", head.replace("#", f"(and {others})"), problem(255, "z"), "0: (a o0 o1)\n")
+    more = head.replace("(?x ?y - s)", f"(?x ?y - s {each('?v#', 2_000)} - t)").replace("#", "(p ?x)")
+    judged(program, "65,025 actions of 2,002 parameters", more, problem(255, "z"), "0: (a o0 o1)\n")
+    parts = f"(and {'(p ?x) ' * 200})"
+    judged(program, "65,025 actions of 200 atoms each", head.replace("#", parts), problem(255, "z"), "0: (a o0 o1)\n")
     parts = f"(and {'(p ?x) ' * 1_000})"
     judged(program, "10,000 actions of 1,000 atoms each", head.replace("#", parts), problem(100, "z"), "0: (a o0 o1)\n")
     parts = f"(and {'(p ?x) ' * 5_000})"
@@ -788,6 +815,15 @@ def comparisons(places, count, numbers=3):
     return domain, f"(define (problem q) (:domain sums) (:objects {each('o#', places)}) (:init (= (sum) 0)) (:goal (and {goal})))"
 
 
+def sums(count, places):
+    """A goal of so many comparisons of a sum with a number that an action raises, for each pair of so many objects; none of them
+    ever holds."""
+    raised = "(:action raise :parameters (?x ?y) :effect (increase (h) 1))"
+    domain = f"(define (domain sums) (:functions (h) (f ?x)) {raised})"
+    goal = " ".join(f"(<= (+ (h) (f o{k % places})) -{k + 1})" for k in range(count))
+    return domain, f"(define (problem q) (:domain sums) (:objects {each('o#', places)}) (:init (= (h) 0) {each('(= (f o#) 0)', places)}) (:goal (and {goal})))"
+
+
 def moving_lamps(count, still):
     """One of some lamps is switched a tick; their atoms are numbered behind others that never come about."""
     domain = "(define (domain lamps) (:types l m) (:predicates (lit ?l - l) (b ?m - m) (tok)) (:functions (x))" + (
@@ -824,6 +860,21 @@ def sharers(count, shared, lacking=0):
     return domain, f"(define (problem q) (:domain shared) (:objects {objects}) (:init {facts}) (:goal (done a1)))"
 
 
+def nested_sharers(count, depth):
+    """Actions for all pairs of so many objects that share so many foralls in one another, and ask for an atom that never holds."""
+    inner = functools.reduce(lambda below, k: f"(forall (?v{k} - b) {below})", range(depth), "(or (p) (q ?v0))")
+    act = f"(:action act :parameters (?x ?y - a) :precondition (and {inner} (never)) :effect (done ?x ?y))"
+    domain = f"(define (domain shared) (:types a b) (:predicates (p) (q ?z - b) (never) (done ?x ?y - a) (g)) {act} (:action go :effect (g)))"
+    return domain, f"(define (problem q) (:domain shared) (:objects {each('a#', count)} - a b0 b1 - b) (:init (q b0) (q b1)) (:goal (g)))"
+
+
+def own_atoms(count):
+    """An action of three objects, each binding of which asks for an atom of its own; none of these holds."""
+    act = "(:action act :parameters (?x ?y ?z) :precondition (p ?x ?y ?z) :effect (done))"
+    domain = f"(define (domain own) (:predicates (p ?x ?y ?z) (done)) {act})"
+    return domain, f"(define (problem q) (:domain own) (:objects {each('o#', count)}) (:init) (:goal (done)))"
+
+
 def searches(program):
     judged(program, "a plan of one visit, 4,000 atoms, 8,000 actions", PLACES, places_problem(), None, "plan")
     judged(program, "40 lamps, no plan, a budget of 1,000,000", *lamps(40), None, "plan", ("--budget", "1000000"))
@@ -835,15 +886,21 @@ def searches(program):
     judged(program, "a goal of 5,001 conjuncts, the default budget", *many_goals(5000), None, "plan")
     judged(program, "20,000 comparisons of a number that 62,500 actions raise", *comparisons(250, 20_000), None, "plan", ("--budget", "0"))
     judged(program, "20,000 comparisons of a number that as many actions raise, one node", *comparisons(142, 20_000, 20_000), None, "plan", ("--budget", "1"))
+    judged(program, "10,000 comparisons of sums that 2,500 actions raise, one node", *sums(10_000, 50), None, "plan", ("--budget", "1"))
     judged(program, "20 lamps behind 43 atoms that stay, a budget of 1,000,000", *moving_lamps(20, 43), None, "plan", ("--budget", "1000000"))
     judged(program, "10 actions of 600 atoms each, until no node is left", *painters(10, 600), None, "plan", ("--budget", "1000000"))
     judged(program, "100 actions of 10,000 atoms each that all interfere, until no node is left", *rivals(100, 5000), None, "plan", ("--horizon", "0"))
     judged(program, "the same with time to go on, a budget of 10,000", *rivals(100, 5000), None, "plan", ("--budget", "10000"))
     judged(program, "the same, the default budget", *rivals(100, 5000), None, "plan")
     judged(program, "400 things to be made beside 57,600 actions that can always start", *makers(400, 240), None, "plan")
-    judged(program, "65,025 actions that share a condition of 8,000 atoms", *sharers(255, 8000), None, "plan")
-    judged(program, "65,025 actions that share one of 8,000 atoms, out of reach", *sharers(255, 8000, 1), None, "plan")
+    judged(program, "65,025 actions that share a condition of 4,000 atoms", *sharers(255, 4000), None, "plan")
+    judged(program, "65,025 actions that share one of 4,000 atoms, out of reach", *sharers(255, 4000, 1), None, "plan")
+    judged(program, "65,025 actions that share one of 20,000 atoms", *sharers(255, 20_000), None, "plan")
+    for count in (50, 255):
+        judged(program, f"{count * count:,} actions that share 14 foralls in one another", *nested_sharers(count, 14), None, "plan", ("--budget", "1"))
     judged(program, "90 places: 729,000 bindings, 89 in reach", *roads(90), None, "plan")
+    judged(program, "128 places: 2,097,152 bindings, 127 in reach", *roads(128), None, "plan")
+    judged(program, "1,000,000 bindings, each of its own atom", *own_atoms(100), None, "plan")
     kinds = each("(:action a# :parameters (?x - t#) :effect (g))", 13_000)
     three = "(define (problem q) (:domain d) (:objects " + " ".join(f"o{k} - t{k % 13_000}" for k in range(39_000)) + ") (:init) (:goal (g)))"
     judged(program, "13,000 actions of as many types, three objects of each", f"(define (domain d) (:types {each('t#', 13_000)}) (:predicates (g)) {kinds})", three, None, "plan")

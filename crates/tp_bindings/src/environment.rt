@@ -5,6 +5,7 @@ ghost use Rattle.tp_ast.specs.Terms.{variable, term_view, atom_view};
 ghost use Rattle.tp_bindings.specs.Bindings.{object_for, words_in};
 ghost use Rattle.tp_bindings.specs.Views.{env_view};
 
+use crate::extent::scope_of_list;
 use crate::variables::Variables;
 use smallvec::SmallVec;
 use std::alloc::{AllocError, Global};
@@ -38,6 +39,17 @@ pub fn object_for<'a>(env: &Env<'_, 'a>, argument: &'a Term) -> &'a str
     match argument {
         Term::Object(name) => name.as_str(),
         Term::Variable(name) => object_under(env, name.as_str()),
+    }
+}
+
+/// What a word counts as beside that is looked for among what variables stand for.
+pub fn scope_of(env: &Env<'_, '_>) -> usize {
+    match env {
+        Env::Empty => 0,
+        Env::Inner(variables, _, outer) => {
+            let inner = scope_of_list(variables.items().as_slice());
+            scope_of(outer).saturating_add(inner)
+        }
     }
 }
 

@@ -3,6 +3,7 @@
 
 use std::alloc::{AllocError, Global};
 use std::cell::Cell;
+use tp_ast::symbols::Typed;
 
 // For so many bindings no room is asked for.
 const FEW: usize = 65_535;
@@ -16,32 +17,77 @@ const LEAST_ROOM: usize = 8;
 // So many bindings of one quantifier are counted one by one: so many that too many atoms were named by then, if each names its own.
 const ONE_BY_ONE: usize = 131_072;
 
-// What is written out counts in letters, which take no longer than they are compared: each letter of an object's name as one, each
-// part of a condition, an effect or an expression as so many.
+// What is written out counts in letters, as long as it takes: sixteen of them take about a nanosecond. A letter of an object's name
+// counts as one, a part of a condition, an effect or an expression, or a binding of a quantifier, as so many,
 const OF_PART: usize = 1_024;
 
-// The same of each word of many, and of each of a quantifier's many variables, which may be gone through for each term under it.
-const OF_WORD: usize = 512;
+// a word that is looked up
+const OF_WORD: usize = 384;
+
+// and, where there are more than these, all of them together.
+const OF_LIST: usize = 1_536;
+
+const FEW_WORDS: usize = 3;
+
+// An atom or a fluent that is numbered counts as so many parts beside.
+const OF_NUMBERED: usize = 16;
+
+// A quantifier counts as so many parts; of many variables, of which a table may be made, each as so many letters, and each letter
+// of their names as so many.
+const OF_QUANTIFIER: usize = 2;
 
 const OF_VARIABLE: usize = 4_096;
 
-// So few words or variables are counted with the part that they stand in.
-const FEW_WORDS: usize = 16;
+const OF_LETTER: usize = 8;
 
-// For so many letters no room is asked for. For each behind these a byte to half as much again is, and given back: a task of
-// more than 67 million parts takes seconds, and a text may ask for thousands of times as many.
-const FEW_LETTERS: usize = 68_719_476_736;
+const FEW_VARIABLES: usize = 16;
+
+// What a word that is looked up counts as beside, for the variables in scope, since it is looked for among them: for each list of
+// them, and for each of the first few in it, with the letters of its name.
+const OF_SCOPE: usize = 160;
+
+const OF_ONE_IN_SCOPE: usize = 64;
+
+// For so many letters no room is asked for: to write out 33 million parts takes a second or two, and a text may ask for thousands
+// of times as many.
+const FEW_LETTERS: usize = 34_359_738_368;
+
+// For each letter behind these, so many bytes to half as many again are asked for, and given back.
+const ROOM_OF_LETTER: usize = 4;
 
 // Of so many bytes no room is asked for before they are written.
 const FEW_BYTES: usize = 64_000_000;
 
-/// How many bindings of quantifiers were gone through, how much was written out in letters, and how many bytes all bodies take at
-/// least.
+// How many letters the names of variables have, and the longest of them.
+fn letters_of(variables: &[Typed]) -> (usize, usize) {
+    let mut letters = 0usize;
+    let mut most = 0usize;
+    for variable in variables {
+        letters = letters.saturating_add(variable.name.len());
+        most = most.max(variable.name.len());
+    }
+    (letters, most)
+}
+
+/// What a word that is looked up counts as beside for a list of variables in scope.
+pub fn scope_of_list(variables: &[Typed]) -> usize {
+    let looked_at = variables.len().min(FEW_VARIABLES);
+    let (letters, most) = letters_of(variables);
+    looked_at
+        .saturating_mul(OF_ONE_IN_SCOPE)
+        .saturating_add(letters.min(most.saturating_mul(looked_at)))
+        .saturating_add(OF_SCOPE)
+}
+
+/// How many bindings of quantifiers were gone through, how much was written out in letters, what a word counts as beside for the
+/// variables in scope, how many atoms and fluents were numbered, and how many bytes all bodies take at least.
 #[derive(Drop)]
 pub struct Extent {
     within: Cell<usize>,
     all: Cell<usize>,
     letters: Cell<usize>,
+    scope: Cell<usize>,
+    numbered: Cell<usize>,
     granted: Cell<usize>,
     bodies: Cell<usize>,
 }
@@ -64,40 +110,74 @@ impl Extent {
             within: Cell::new(0),
             all: Cell::new(0),
             letters: Cell::new(0),
+            scope: Cell::new(0),
+            numbered: Cell::new(0),
             granted: Cell::new(0),
             bodies: Cell::new(0),
         }
     }
 
-    /// Begins a goal, or the body of an action under a binding, if there is room for as much as was written out before it.
-    pub fn begin(&self, alloc: Global) -> Result<(), AllocError> {
+    /// Begins a goal, or the body of an action under a binding, with so much for the variables in scope, if there is room for as
+    /// much as was written out before it.
+    pub fn begin(&self, alloc: Global, scope: usize) -> Result<(), AllocError> {
         self.within.set(0);
+        self.scope.set(scope);
         self.count(alloc, 0)
     }
 
-    /// Counts words. If that is too much is told where a body or a binding of a quantifier begins.
+    // Counts letters. If that is too much is told where a body or a binding of a quantifier begins.
+    fn count_letters(&self, letters: usize) {
+        self.letters.set(self.letters.get().saturating_add(letters));
+    }
+
+    /// Counts words in the same way.
     pub fn count_words(&self, words: &[&str]) {
-        let mut letters = self.letters.get();
+        let mut letters = words.len().saturating_mul(OF_WORD);
         for word in words {
             letters = letters.saturating_add(word.len());
         }
-        let more = words.len().saturating_sub(FEW_WORDS);
-        self.letters
-            .set(letters.saturating_add(more.saturating_mul(OF_WORD)));
+        if words.len() > FEW_WORDS {
+            letters = letters.saturating_add(OF_LIST);
+        }
+        self.count_letters(letters);
     }
 
-    /// Counts the variables of a quantifier in the same way.
-    pub fn count_variables(&self, variables: usize) {
-        let letters = variables
-            .saturating_sub(FEW_WORDS)
-            .saturating_mul(OF_VARIABLE);
-        self.letters.set(self.letters.get().saturating_add(letters));
+    /// Counts words that are looked for among the variables in scope in the same way.
+    pub fn count_looked_up(&self, words: &[&str]) {
+        self.count_words(words);
+        self.count_letters(words.len().saturating_mul(self.scope.get()));
+    }
+
+    /// Counts atoms and fluents in the same way: so many are numbered by now.
+    pub fn count_numbered(&self, numbered: usize) {
+        let more = numbered.saturating_sub(self.numbered.get());
+        self.numbered.set(numbered);
+        self.count_parts(more.saturating_mul(OF_NUMBERED));
+    }
+
+    /// Counts a quantifier of some variables in the same way, which are in scope from then on. Tells what was before.
+    pub fn enter(&self, variables: &[Typed]) -> usize {
+        self.count_parts(OF_QUANTIFIER);
+        let behind = variables.len().saturating_sub(FEW_VARIABLES);
+        if behind > 0 {
+            let (letters, _) = letters_of(variables);
+            self.count_letters(behind.saturating_mul(OF_VARIABLE));
+            self.count_letters(letters.saturating_mul(OF_LETTER));
+        }
+        let scope = self.scope.get();
+        self.scope
+            .set(scope.saturating_add(scope_of_list(variables)));
+        scope
+    }
+
+    /// Leaves a quantifier: in scope is what was before.
+    pub fn leave(&self, scope: usize) {
+        self.scope.set(scope);
     }
 
     /// Counts parts of conditions, of effects or of expressions in the same way.
     pub fn count_parts(&self, parts: usize) {
-        let letters = parts.saturating_mul(OF_PART);
-        self.letters.set(self.letters.get().saturating_add(letters));
+        self.count_letters(parts.saturating_mul(OF_PART));
     }
 
     /// How many there were in this goal or body so far, or as many as can be told.
@@ -113,7 +193,11 @@ impl Extent {
             .get()
             .saturating_sub(FEW)
             .saturating_mul(LEAST_ROOM);
-        let letters = self.letters.get().saturating_sub(FEW_LETTERS);
+        let letters = self
+            .letters
+            .get()
+            .saturating_sub(FEW_LETTERS)
+            .saturating_mul(ROOM_OF_LETTER);
         within.max(all).max(letters)
     }
 
@@ -125,13 +209,16 @@ impl Extent {
         place: usize,
         bindings: usize,
     ) -> Result<(), AllocError> {
-        if place < ONE_BY_ONE {
-            return self.count(alloc, 1);
+        if place > ONE_BY_ONE {
+            return Ok(());
         }
-        if place == ONE_BY_ONE {
-            return self.count(alloc, bindings.saturating_sub(place));
-        }
-        Ok(())
+        let more = if place == ONE_BY_ONE {
+            bindings.saturating_sub(place)
+        } else {
+            1
+        };
+        self.count_parts(more);
+        self.count(alloc, more)
     }
 
     /// Counts some more. Where there are many, their room and half as much again is asked for and given back, unless that much

@@ -43,6 +43,14 @@ const ROOM: usize = 4_096;
 // For so many bindings no room is asked for: all actions that a task may have.
 const FEW: usize = 65_535;
 
+// Where there are more bindings, or more objects in them, each counted, there has to be room for so many bytes: it takes seconds to
+// make more.
+const MOST_BINDINGS: usize = 2_097_152;
+
+const MOST_BOUND: usize = 67_108_864;
+
+const MUCH: usize = 274_877_906_944;
+
 // How many bindings some more parameters have after those before, or as many as can be told. The objects that they may
 // stand for are known from then on.
 fn count_more<'a>(
@@ -59,6 +67,16 @@ fn count_more<'a>(
     }
 }
 
+// The room that is asked for so many bindings, with so many objects in them.
+fn room_for(bindings: usize, bound: usize) -> usize {
+    let room = bindings.saturating_sub(FEW).saturating_mul(ROOM);
+    if bindings > MOST_BINDINGS || bound > MOST_BOUND {
+        room.max(MUCH)
+    } else {
+        room
+    }
+}
+
 // Asks for the room of what all bindings of all actions are written out to, but for a few: action after action, so that what is
 // known of objects by then takes little beside it.
 fn ask_for_room<'a>(
@@ -69,9 +87,13 @@ fn ask_for_room<'a>(
     ensures { universe_view universe.new ≡ universe_view universe.old }
 {
     let mut count = 0usize;
+    let mut bound = 0usize;
     for action in actions {
+        let before = count;
         count = count_more(alloc, universe, &action.parameters, count)?;
-        ask_for(alloc, count.saturating_sub(FEW).saturating_mul(ROOM))?;
+        let each = action.parameters.as_slice().len();
+        bound = bound.saturating_add(count.saturating_sub(before).saturating_mul(each));
+        ask_for(alloc, room_for(count, bound))?;
     }
     Ok(())
 }
@@ -358,7 +380,8 @@ fn reached_within<'a>(
 /// order. Atoms, fluents and actions are counted as far as what is kept mentions them. All type-correct bindings are
 /// written out once to find these, whatever the limits, so it takes time and memory in what all of them write out. Before
 /// that it asks for 4,096 bytes for each of them behind the 65,535th, and gives them back, so that many more than memory holds
-/// are refused at once; what a binding writes out beyond that, as by a quantifier, is asked for as it is gone through, as by `ground`.
+/// are refused at once, and for 275 GB where there are more than 2,097,152, or more than 67,108,864 objects in them; what a binding
+/// writes out beyond that, as by a quantifier, is asked for as it is gone through, as by `ground`.
 pub fn ground_reached(
     alloc: Global,
     domain: &Domain,

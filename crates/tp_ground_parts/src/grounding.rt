@@ -50,6 +50,9 @@ pub fn actions_fit<'a>(
     Ok(true)
 }
 
+// So many objects of a binding are found in the time that a part takes.
+const TURNED_AT_ONCE: usize = 16;
+
 // The words of an action under all bindings, after those of other actions.
 fn push_names(
     alloc: Global,
@@ -64,10 +67,13 @@ fn push_names(
     ensures most { writer.new.tables.most ≡ writer.old.tables.most }
 {
     let mut words = Vec::new(alloc);
+    let turned = rows.row.len() / TURNED_AT_ONCE;
     for place in 0..rows.count {
         rows.turn_to(place);
         refill(&mut words, action.name.as_str(), &rows.row)?;
         writer.extent().count_words(&words);
+        writer.extent().count_parts(turned);
+        writer.extent().count(alloc, 0)?;
         writer.push_action(&words)?;
     }
     Ok(())
@@ -116,9 +122,6 @@ pub fn lower_under<'a>(
     let inner = Env::Inner(parameters, objects, &outside);
     body(alloc, universe, &inner, writer, written, hints)
 }
-
-// So many objects of a binding are found in the time that a part takes.
-const TURNED_AT_ONCE: usize = 16;
 
 // Puts the body of an action under each binding of its parameters behind others. Room is asked for as for bodies that are
 // kept, so that what memory can't hold is refused before it is gone through.

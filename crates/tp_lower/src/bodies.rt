@@ -25,7 +25,7 @@ use tp_ast::effect::Effect;
 use tp_ast::timed::{TimedCond, TimedEffect};
 use tp_ast::words::TimeSpecifier;
 use tp_ast::words::TimeSpecifier::{AtEnd, AtStart, OverAll};
-use tp_bindings::environment::Env;
+use tp_bindings::environment::{Env, scope_of};
 use tp_bindings::hints::{BodyHint, Hint};
 use tp_bindings::universe::Universe;
 use tp_lower_conditions::conditions::condition;
@@ -255,7 +255,8 @@ pub fn body<'a>(
         (body_in (universe_view universe.now) (env_view env.now) (body_view body.now))
         (of_body (universe_view universe.now) (env_view env.now) (body_view body.now)) }
 {
-    writer.extent().begin(alloc)?;
+    writer.count_numbered();
+    writer.extent().begin(alloc, scope_of(env))?;
     match body {
         tp_ast::action::Body::Instant {
             precondition,

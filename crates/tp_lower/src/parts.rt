@@ -192,7 +192,7 @@ fn push_under_each<'a, P: Lowerable>(
         (inner (universe_view universe.now) (env_view env.now) (map typed_view variables.now)))) }
 {
     let items = variables.items();
-    writer.extent().count_variables(items.as_slice().len());
+    let outside = writer.extent().enter(items.as_slice());
     let mut rows = rows_with(alloc, universe, items, places_in(inside))?;
     if rows.count > FEW_BINDINGS {
         writer.extent().ask(alloc, rows.count, of_part(part))?;
@@ -205,6 +205,7 @@ fn push_under_each<'a, P: Lowerable>(
         let inner = Env::Inner(&*variables, &rows.row, &*env);
         push_part(alloc, universe, &inner, specifier, writer, part, hint, into)?;
     }
+    writer.extent().leave(outside);
     Ok(())
 }
 

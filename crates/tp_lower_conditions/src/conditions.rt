@@ -21,7 +21,7 @@ ghost use Rattle.tp_ast.specs.Conditions.{conditions as syntax_conditions};
 use crate::expressions::{comparison_of, operand};
 use crate::hinting::hint_of;
 use crate::rooms::{FEW_BINDINGS, of_condition};
-use crate::shortness::{mark_of_short, need_no_table};
+use crate::shortness::{mark_of_short, need_no_table, steps_by};
 use crate::writer::Writer;
 use std::alloc::{AllocError, Global};
 use std::rc::Rc;
@@ -39,12 +39,25 @@ use tp_bindings::universe::Universe;
 use tp_bindings::variables::Variables;
 use tp_task::{Cond, GroundFault};
 
+// As so many parts that are written out count: a negation, an implication beside its negation, that a quantifier is looked for
+// among those that were written out before, and that it is kept with them.
+const OF_NEGATION: usize = 2;
+
+const OF_IMPLICATION: usize = 2;
+
+const OF_FINDING: usize = 3;
+
+const OF_KEEPING: usize = 6;
+
+// So many steps of a look at a quantifier take as long as a part.
+const STEPS_OF_PART: usize = 2;
+
 // The number of the atom of some words, which are counted.
 fn atom_of(writer: &mut Writer, words: &[&str]) -> Result<u32, GroundFault>
     ensures { Lowers (λ t i. words_at t.atoms i) writer.old result writer.new
         (map (λ w. w.now) words.now) (an_atom (map (λ w. w.now) words.now)) }
 {
-    writer.extent().count_words(words);
+    writer.extent().count_looked_up(words);
     writer.atom(words)
 }
 
@@ -99,7 +112,7 @@ fn same<'a>(
     ensures { (t : Tables) → named_condition t result
         ≡ same_in (env_view env.now) (term_view left.now) (term_view right.now) }
 {
-    extent.count_words(&[object_for(env, left)]);
+    extent.count_looked_up(&[object_for(env, left)]);
     if object_for(env, left) == object_for(env, right) {
         Cond::And(Vec::new(alloc))
     } else {
@@ -183,7 +196,7 @@ fn under_each<'a>(
         (inner (universe_view universe.now) (env_view env.now) (map typed_view variables.now)))) }
 {
     let items = variables.items();
-    writer.extent().count_variables(items.as_slice().len());
+    let outside = writer.extent().enter(items.as_slice());
     let mut rows = rows_with(alloc, universe, items, places_in(inside))?;
     if rows.count > FEW_BINDINGS {
         writer.extent().ask(alloc, rows.count, of_condition(cond))?;
@@ -196,6 +209,7 @@ fn under_each<'a>(
         let inner = Env::Inner(&*variables, &rows.row, &*env);
         lowered.push(condition(alloc, universe, &inner, writer, cond, hint)?)?;
     }
+    writer.extent().leave(outside);
     Ok(lowered)
 }
 
@@ -214,6 +228,7 @@ fn negated<'a>(
         (universe_view universe.now) (env_view env.now) (cond_view cond.now))) (of_condition
         (condition_in (universe_view universe.now) (env_view env.now) (cond_view cond.now))) }
 {
+    writer.extent().count_parts(OF_NEGATION);
     let lowered = condition(alloc, universe, env, writer, cond, hint)?;
     Ok(Cond::Not(Box::new(alloc, lowered)?))
 }
@@ -342,6 +357,7 @@ fn written_out<'a>(
         }
         tp_ast::cond::Cond::Imply(a, b) => {
             let hints = parts_of(hint);
+            writer.extent().count_parts(OF_IMPLICATION);
             let first = negated(alloc, universe, env, writer, a, hints.get(0))?;
             let second = condition(alloc, universe, env, writer, b, hints.get(1))?;
             Ok(either(alloc, first, second)?)
@@ -391,8 +407,10 @@ fn recalled(
         (condition_in writer.now.universe (env_view env.now) (cond_view cond.now)) (of_condition
         (condition_in writer.now.universe (env_view env.now) (cond_view cond.now))))) }
 {
-    writer.extent().count_parts(1);
-    writer.extent().count_words(objects);
+    writer
+        .extent()
+        .count_parts(OF_FINDING.saturating_add(steps_by(mark) / STEPS_OF_PART));
+    writer.extent().count_looked_up(objects);
     let Some(kept) = writer.recall(cond, mark, objects) else {
         return Ok(None);
     };
@@ -451,6 +469,7 @@ fn written_once<'a>(
         (condition_in (universe_view universe.now) (env_view env.now) (cond_view cond.now))) }
 {
     let before = writer.extent().so_far();
+    writer.extent().count_parts(OF_KEEPING);
     let written = written_out(alloc, universe, env, writer, cond, hint)?;
     let bindings = writer.extent().so_far().saturating_sub(before);
     Ok(kept(alloc, writer, cond, mark, objects, written, bindings)?)
@@ -523,6 +542,6 @@ pub fn closed_condition<'a>(
         (condition_in (universe_view universe.now) [] (cond_view cond.now))) }
 {
     let hint = hint_of(alloc, universe, cond)?;
-    writer.extent().begin(alloc)?;
+    writer.extent().begin(alloc, 0)?;
     condition(alloc, universe, &Env::Empty, writer, cond, Some(&hint))
 }

@@ -35,7 +35,7 @@ fn fluent_of(writer: &mut Writer, words: &[&str]) -> Result<u32, GroundFault>
     ensures { Lowers (λ t i. words_at t.fluents i) writer.old result writer.new
         (map (λ w. w.now) words.now) (a_fluent (map (λ w. w.now) words.now)) }
 {
-    writer.extent().count_words(words);
+    writer.extent().count_looked_up(words);
     writer.fluent(words)
 }
 

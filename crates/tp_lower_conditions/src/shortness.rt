@@ -4,6 +4,7 @@
 
 use tp_ast::cond::Cond;
 use tp_ast::expr::Expr;
+use tp_ast::term::{Atom, Term};
 use tp_ast::typed_list::TypedList;
 use tp_bindings::memory::mark_of;
 use tp_bindings::variables::are_few;
@@ -63,13 +64,94 @@ pub fn after_condition(cond: &Cond, steps: usize) -> Option<usize> {
     }
 }
 
-/// The mark of a condition that is a quantifier's, and short.
+fn letters_of_term(term: &Term) -> usize {
+    match term {
+        Term::Object(name) | Term::Variable(name) => name.len(),
+    }
+}
+
+fn letters_of_terms(terms: &[Term]) -> usize {
+    let mut letters = 0usize;
+    for term in terms {
+        letters = letters.saturating_add(letters_of_term(term));
+    }
+    letters
+}
+
+fn letters_of_atom(atom: &Atom) -> usize {
+    atom.name
+        .len()
+        .saturating_add(letters_of_terms(&atom.terms))
+}
+
+fn letters_of_variables(variables: &TypedList) -> usize {
+    let mut letters = 0usize;
+    for variable in variables.as_slice() {
+        letters = letters.saturating_add(variable.name.len());
+        for name in variable.type_names() {
+            letters = letters.saturating_add(name.len());
+        }
+    }
+    letters
+}
+
+fn letters_of_value(expr: &Expr) -> usize {
+    match expr {
+        Expr::Number(_) | Expr::Duration => 0,
+        Expr::Fluent(atom) => letters_of_atom(atom),
+        Expr::Negated(a) => letters_of_value(a),
+        Expr::Sum(a, b) | Expr::Difference(a, b) | Expr::Product(a, b) => {
+            letters_of_value(a).saturating_add(letters_of_value(b))
+        }
+    }
+}
+
+#[cycle(letters_of)]
+fn letters_of_each(conds: &[Cond]) -> usize {
+    let mut letters = 0usize;
+    for cond in conds {
+        letters = letters.saturating_add(letters_of(cond));
+    }
+    letters
+}
+
+// How many letters stand in a condition.
+#[cycle(letters_of)]
+fn letters_of(cond: &Cond) -> usize {
+    match cond {
+        Cond::And(conds) | Cond::Or(conds) => letters_of_each(conds),
+        Cond::Not(inner) => letters_of(inner),
+        Cond::Imply(a, b) => letters_of(a).saturating_add(letters_of(b)),
+        Cond::Forall(variables, inner) | Cond::Exists(variables, inner) => {
+            letters_of_variables(variables).saturating_add(letters_of(inner))
+        }
+        Cond::Atom(atom) => letters_of_atom(atom),
+        Cond::Same(a, b) => letters_of_term(a).saturating_add(letters_of_term(b)),
+        Cond::Compare(_, a, b) => letters_of_value(a).saturating_add(letters_of_value(b)),
+    }
+}
+
+// So many letters are compared in the time of a step.
+const AT_ONCE: usize = 512;
+
+// The lowest bits of a mark tell how long the condition is looked at.
+const LONGEST: u32 = 1_023;
+
+/// The mark of a condition that is a quantifier's, and short: by how it is written, and how long it is looked at.
 pub fn mark_of_short(cond: &Cond) -> Option<u32> {
     if !matches!(cond, Cond::Forall(_, _) | Cond::Exists(_, _)) {
         return None;
     }
-    after_condition(cond, MOST_STEPS)?;
-    Some(mark_of(cond))
+    let left = after_condition(cond, MOST_STEPS)?;
+    let steps = MOST_STEPS.saturating_sub(left);
+    let length = steps.saturating_add(letters_of(cond) / AT_ONCE);
+    let length = u32::try_from(length).unwrap_or(LONGEST).min(LONGEST);
+    Some((mark_of(cond) & !LONGEST) | length)
+}
+
+/// How many steps it takes to look at a condition of this mark, to find or to see it again.
+pub fn steps_by(mark: u32) -> usize {
+    (mark & LONGEST) as usize
 }
 
 /// Whether variables over a condition need no table: they are few, or so little stands in it that they are walked over as fast

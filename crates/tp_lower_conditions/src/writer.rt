@@ -110,6 +110,13 @@ impl<'a> Writer<'a> {
         &self.extent
     }
 
+    /// Counts the atoms and fluents that are numbered by now with what is written out.
+    pub fn count_numbered(&self) {
+        let fluents = self.numbering.fluent_count();
+        self.extent
+            .count_numbered(self.numbering.atom_count().saturating_add(fluents));
+    }
+
     /// Keeps what a condition was written out to.
     pub fn keep(&mut self, alloc: Global, kept: Kept<'a>) -> Result<(), AllocError>
         requires { StillStands self.old kept }

@@ -10,6 +10,7 @@ ghost use Rattle.tp_reach.specs.Adding.{Adds, IsSettled};
 ghost use Rattle.tp_reach.specs.TaskReach.{acts_of, first_state, GoalIs};
 
 use crate::counting::Counters;
+use crate::walks::ask_for_walks;
 use std::alloc::{AllocError, Global};
 use tp_task::{Body, Cond, GroundEvent, Task};
 
@@ -212,6 +213,7 @@ pub fn saturate(alloc: Global, reach: &mut [bool], actions: &[Body]) -> Result<(
     ensures adds { OnOk result (Adds (acts_of_bodies actions.now) reach.old reach.new) }
     ensures settled { OnOk result (IsSettled (acts_of_bodies actions.now) reach.new) }
 {
+    ask_for_walks(alloc, actions)?;
     spread_all(alloc, reach, actions)?;
     settle(reach, actions);
     Ok(())

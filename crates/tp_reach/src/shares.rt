@@ -8,6 +8,9 @@ use tp_task::Cond;
 /// A shared condition with fewer parts is cheaper to look at than to find again.
 const FEW: usize = 16;
 
+/// Of what stands deeper in a condition so many parts are counted.
+const DEEP: usize = 64;
+
 /// A shared condition, how many parts it has, and whether it is asked for or its negation is; None where it is only
 /// mentioned.
 #[derive(Clone, Copy)]
@@ -24,16 +27,51 @@ pub struct Shares<'t> {
     last: usize,
 }
 
-fn parts_of(cond: &Cond) -> usize {
+// What is left of so many parts behind those of a condition.
+#[cycle(left_behind)]
+fn left_behind(cond: &Cond, parts: usize) -> usize {
+    if parts == 0 {
+        return 0;
+    }
     match cond {
-        Cond::And(parts) | Cond::Or(parts) => parts.len(),
-        _ => 1,
+        Cond::Atom(_) | Cond::Compare(_, _, _) => parts - 1,
+        Cond::Not(c) => left_behind(c, parts),
+        Cond::And(cs) | Cond::Or(cs) => left_behind_each(cs, parts),
+        Cond::Shared(c) => left_behind(c, parts),
     }
 }
 
-/// Whether a shared condition is worth finding again.
+#[cycle(left_behind)]
+fn left_behind_each(conds: &[Cond], parts: usize) -> usize {
+    let mut left = parts;
+    for c in conds {
+        if left == 0 {
+            return 0;
+        }
+        left = left_behind(c, left);
+    }
+    left
+}
+
+fn count_within(cond: &Cond, most: usize) -> usize {
+    most.saturating_sub(left_behind(cond, most))
+}
+
+// How many parts a condition has: its own, or those that stand in it, as far as they are counted.
+fn parts_of(cond: &Cond) -> usize {
+    let within = count_within(cond, DEEP);
+    match cond {
+        Cond::And(parts) | Cond::Or(parts) => parts.len().max(within),
+        _ => within,
+    }
+}
+
+/// Whether a shared condition is worth finding again: whether it has 16 parts or more, or as many stand in it.
 pub fn is_large(cond: &Cond) -> bool {
-    parts_of(cond) >= FEW
+    match cond {
+        Cond::And(parts) | Cond::Or(parts) if parts.len() >= FEW => true,
+        _ => count_within(cond, FEW) >= FEW,
+    }
 }
 
 impl<'t> Shares<'t> {

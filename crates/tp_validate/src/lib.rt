@@ -2,6 +2,7 @@
 //!
 //! - `placing`: the steps of a plan with what their actions do, and their events
 //! - `listed`, `prepared`: the actions of which a plan has many steps, with lists of what their long conditions mention
+//! - `work`: the room that is asked for before the steps of a plan make go through very much
 //! - `agenda`: the events in the order of their moments, tick after tick
 //! - `durations`: whether a step's duration is lawful
 //! - `rosters`: the steps in the order of their starts
@@ -24,6 +25,7 @@ mod prepared;
 mod rosters;
 mod ticks;
 mod verdicts;
+mod work;
 
 pub use agenda::{Tick, agenda_of, next_tick};
 pub use durations::in_ticks;

@@ -25,6 +25,7 @@ use crate::placing::{
 use crate::prepared::{Prepared, prepared_for};
 use crate::rosters::{count_started, roster_of};
 use crate::ticks::{Fault, Judged, judge_tick};
+use crate::work::ask_for_work;
 use std::alloc::{AllocError, Global};
 use std::marker::Model;
 use thiserror::Error;
@@ -235,6 +236,7 @@ fn carry_out(alloc: Global, task: &Task, steps: &[Step]) -> Result<Ran, ApplyFau
     ensures ran { IfOk result (IsRan task.now (plan_of task.now steps.now)) }
     ensures range { IfErr result (λ e. OnRange e (PassesBy task.now (plan_of task.now steps.now))) }
 {
+    ask_for_work(alloc, task, steps)?;
     let prepared = prepared_for(alloc, task, steps)?;
     carry_out_prepared(alloc, task, steps, &prepared)
 }
