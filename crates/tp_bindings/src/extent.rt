@@ -29,8 +29,8 @@ const OF_LIST: usize = 1_536;
 
 const FEW_WORDS: usize = 3;
 
-// An atom or a fluent that is numbered counts as so many parts beside.
-const OF_NUMBERED: usize = 16;
+// An atom or a fluent that is looked up by its names, as each is when it is numbered, counts as so many parts beside.
+const OF_LOOK_UP: usize = 32;
 
 // A quantifier counts as so many parts; of many variables, of which a table may be made, each as so many letters, and each letter
 // of their names as so many.
@@ -80,14 +80,14 @@ pub fn scope_of_list(variables: &[Typed]) -> usize {
 }
 
 /// How many bindings of quantifiers were gone through, how much was written out in letters, what a word counts as beside for the
-/// variables in scope, how many atoms and fluents were numbered, and how many bytes all bodies take at least.
+/// variables in scope, how many atoms and fluents were looked up by their names, and how many bytes all bodies take at least.
 #[derive(Drop)]
 pub struct Extent {
     within: Cell<usize>,
     all: Cell<usize>,
     letters: Cell<usize>,
     scope: Cell<usize>,
-    numbered: Cell<usize>,
+    look_ups: Cell<usize>,
     granted: Cell<usize>,
     bodies: Cell<usize>,
 }
@@ -111,10 +111,15 @@ impl Extent {
             all: Cell::new(0),
             letters: Cell::new(0),
             scope: Cell::new(0),
-            numbered: Cell::new(0),
+            look_ups: Cell::new(0),
             granted: Cell::new(0),
             bodies: Cell::new(0),
         }
+    }
+
+    /// Counts half of what no room is asked for beforehand, where all that is written out is written out once more behind it.
+    pub fn halve(&self) {
+        self.count_letters(FEW_LETTERS / 2);
     }
 
     /// Begins a goal, or the body of an action under a binding, with so much for the variables in scope, if there is room for as
@@ -148,11 +153,11 @@ impl Extent {
         self.count_letters(words.len().saturating_mul(self.scope.get()));
     }
 
-    /// Counts atoms and fluents in the same way: so many are numbered by now.
-    pub fn count_numbered(&self, numbered: usize) {
-        let more = numbered.saturating_sub(self.numbered.get());
-        self.numbered.set(numbered);
-        self.count_parts(more.saturating_mul(OF_NUMBERED));
+    /// Counts atoms and fluents that are looked up by their names in the same way: so many were by now.
+    pub fn count_look_ups(&self, look_ups: usize) {
+        let more = look_ups.saturating_sub(self.look_ups.get());
+        self.look_ups.set(look_ups);
+        self.count_parts(more.saturating_mul(OF_LOOK_UP));
     }
 
     /// Counts a quantifier of some variables in the same way, which are in scope from then on. Tells what was before.

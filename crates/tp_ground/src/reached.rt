@@ -243,6 +243,7 @@ fn flags_of<'a>(
         (map initial_in (problem_view problem.now).initial) (map instance_view some.now) v.items) }
 {
     let mut writer = Writer::new(alloc, domain, problem, u32::MAX);
+    writer.extent().halve();
     let lowered = lower_freely(alloc, universe, &mut writer, problem, some)?;
     let numbering = writer.into_numbering();
     are_reached(alloc, numbering.atom_count(), &lowered)
@@ -381,7 +382,8 @@ fn reached_within<'a>(
 /// written out once to find these, whatever the limits, so it takes time and memory in what all of them write out. Before
 /// that it asks for 4,096 bytes for each of them behind the 65,535th, and gives them back, so that many more than memory holds
 /// are refused at once, and for 275 GB where there are more than 2,097,152, or more than 67,108,864 objects in them; what a binding
-/// writes out beyond that, as by a quantifier, is asked for as it is gone through, as by `ground`.
+/// writes out beyond that, as by a quantifier, is asked for as it is gone through, as by `ground`, but from half as much on, since
+/// what is kept is written out twice.
 pub fn ground_reached(
     alloc: Global,
     domain: &Domain,

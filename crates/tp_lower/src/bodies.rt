@@ -255,7 +255,7 @@ pub fn body<'a>(
         (body_in (universe_view universe.now) (env_view env.now) (body_view body.now))
         (of_body (universe_view universe.now) (env_view env.now) (body_view body.now)) }
 {
-    writer.count_numbered();
+    writer.count_look_ups();
     writer.extent().begin(alloc, scope_of(env))?;
     match body {
         tp_ast::action::Body::Instant {

@@ -200,6 +200,7 @@ fn push_under_each<'a, P: Lowerable>(
     P::make_room(into, rows.count)?;
     let hint = hint_in(inside);
     for place in 0..rows.count {
+        writer.count_look_ups();
         writer.extent().count_one(alloc, place, rows.count)?;
         rows.turn_to(place);
         let inner = Env::Inner(&*variables, &rows.row, &*env);

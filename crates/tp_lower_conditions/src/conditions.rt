@@ -204,6 +204,7 @@ fn under_each<'a>(
     let mut lowered = Vec::with_capacity(alloc, rows.count)?;
     let hint = hint_in(inside);
     for place in 0..rows.count {
+        writer.count_look_ups();
         writer.extent().count_one(alloc, place, rows.count)?;
         rows.turn_to(place);
         let inner = Env::Inner(&*variables, &rows.row, &*env);

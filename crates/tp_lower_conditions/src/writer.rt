@@ -110,11 +110,9 @@ impl<'a> Writer<'a> {
         &self.extent
     }
 
-    /// Counts the atoms and fluents that are numbered by now with what is written out.
-    pub fn count_numbered(&self) {
-        let fluents = self.numbering.fluent_count();
-        self.extent
-            .count_numbered(self.numbering.atom_count().saturating_add(fluents));
+    /// Counts the atoms and fluents that were looked up by their names by now with what is written out.
+    pub fn count_look_ups(&self) {
+        self.extent.count_look_ups(self.numbering.looked_up());
     }
 
     /// Keeps what a condition was written out to.

@@ -1,14 +1,18 @@
 //! Where words were found before, as guesses: each is looked at before it is believed, so nothing is promised of them.
 
 use std::alloc::{AllocError, Global};
+use std::collections::BTreeMap;
 
 // How many guesses there are: one for each number of 16 bits.
 const SLOTS: usize = 65_536;
 
-/// For words, told by a mix of their ends, the place where such words were found last.
+/// For words, told by a mix of their ends, the place where such words were found last; and the numbers of names, in the order
+/// of their letters, so that none is slow to find, whatever names there are. It counts how often no guess was right.
 #[derive(Drop)]
 pub struct Guesses {
     places: Vec<u32>,
+    names: BTreeMap<String, usize>,
+    missed: usize,
 }
 
 // The last letters of a word.
@@ -36,11 +40,19 @@ impl Guesses {
     pub fn new(alloc: Global) -> Self {
         Guesses {
             places: Vec::new(alloc),
+            names: BTreeMap::new(alloc),
+            missed: 0,
         }
     }
 
-    /// Makes room for guesses where there is none yet.
-    pub fn make_room(&mut self, alloc: Global) -> Result<(), AllocError> {
+    /// How often words were not where a guess said.
+    pub fn missed(&self) -> usize {
+        self.missed
+    }
+
+    /// Counts that words are not where a guess said, and makes room for guesses where there is none yet.
+    pub fn miss(&mut self, alloc: Global) -> Result<(), AllocError> {
+        self.missed = self.missed.saturating_add(1);
         if self.places.is_empty() {
             self.places = vec![in alloc; 0; SLOTS]?;
         }
@@ -58,5 +70,22 @@ impl Guesses {
         if slot < self.places.len() {
             self.places[slot] = place;
         }
+    }
+
+    /// The number that a name may have.
+    pub fn number(&self, name: &str) -> Option<usize> {
+        self.names.get(name).copied()
+    }
+
+    /// Keeps the number of a name.
+    pub fn keep_number(
+        &mut self,
+        alloc: Global,
+        name: &str,
+        number: usize,
+    ) -> Result<(), AllocError> {
+        let owned = String::from_str(alloc, name)?;
+        self.names.insert(owned, number)?;
+        Ok(())
     }
 }

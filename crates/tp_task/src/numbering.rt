@@ -50,7 +50,7 @@ impl Model for Numbering {
         (map (λ l. l.items) n.fluents.keys) n.actions n.most };
 }
 
-// The number of a name, which gets one if it has none.
+// The number of a name, which gets one if it has none: all names of one hash are compared with it.
 fn name_number(names: &mut IndexSet<String>, name: &str) -> Result<usize, AllocError>
     requires { IsDistinct bytes_eq (map string_bytes names.old.keys) }
     ensures number { IfOk result
@@ -58,9 +58,6 @@ fn name_number(names: &mut IndexSet<String>, name: &str) -> Result<usize, AllocE
     ensures grows { Grows (map string_bytes names.old.keys) (map string_bytes names.new.keys) }
     ensures distinct { IsDistinct bytes_eq (map string_bytes names.new.keys) }
 {
-    if let Some(number) = names.get_index_of(name) {
-        return Ok(number);
-    }
     let owned = String::from_str(*names.allocator(), name)?;
     let (number, _) = names.insert_full(owned)?;
     Ok(number)
@@ -90,8 +87,39 @@ fn guessed_name(names: &IndexSet<String>, guesses: &Guesses, name: &str) -> Opti
     }
 }
 
-// The same as `name_number`, but looks first at a place of another label, and where one like it was found last: both cost
-// less than a look-up.
+// The number of a name that has one, found in the order of names.
+fn ordered_name(names: &IndexSet<String>, guesses: &Guesses, name: &str) -> Option<usize>
+    ensures { IfSome result
+        (λ i. slice_get (map string_bytes names.now.keys) i ≡ Some name.now) }
+{
+    let number = guesses.number(name)?;
+    match names.get_index(number) {
+        Some(known) if name == known.as_str() => Some(number),
+        _ => None,
+    }
+}
+
+// The same as `name_number`, but looks first in the order of names, so that those of one hash are compared once for each.
+fn sought_number(
+    names: &mut IndexSet<String>,
+    guesses: &mut Guesses,
+    name: &str,
+) -> Result<usize, AllocError>
+    requires { IsDistinct bytes_eq (map string_bytes names.old.keys) }
+    ensures number { IfOk result
+        (λ i. slice_get (map string_bytes names.new.keys) i ≡ Some name.now) }
+    ensures grows { Grows (map string_bytes names.old.keys) (map string_bytes names.new.keys) }
+    ensures distinct { IsDistinct bytes_eq (map string_bytes names.new.keys) }
+{
+    if let Some(number) = ordered_name(&*names, &*guesses, name) {
+        return Ok(number);
+    }
+    let number = name_number(names, name)?;
+    guesses.keep_number(*names.allocator(), name, number)?;
+    Ok(number)
+}
+
+// The same, but looks first at a place of another label, and where one like it was found last: both cost less than a look-up.
 fn number_near(
     names: &mut IndexSet<String>,
     guesses: &mut Guesses,
@@ -111,7 +139,7 @@ fn number_near(
     if let Some(number) = guessed_name(&*names, &*guesses, name) {
         return Ok(number);
     }
-    let number = name_number(names, name)?;
+    let number = sought_number(names, guesses, name)?;
     if let Ok(place) = u32::try_from(number) {
         guesses.keep(&[name], place);
     }
@@ -195,6 +223,12 @@ impl Numbering {
         self.fluents.len()
     }
 
+    /// How often atoms and fluents were looked up by their names, each that has a number once at least. This tells how long it took,
+    /// and nothing is promised of it.
+    pub fn looked_up(&self) -> usize {
+        self.guesses.missed()
+    }
+
     // The number of an atom that stands where such words were found last.
     fn guessed_atom(&self, words: &[&str]) -> Option<u32>
         ensures { IfSome result
@@ -240,7 +274,7 @@ impl Numbering {
         if let Some(place) = self.guessed_atom(words) {
             return Ok(place);
         }
-        self.guesses.make_room(*self.names.allocator())?;
+        self.guesses.miss(*self.names.allocator())?;
         let place = self.placed_atom(words)?;
         self.guesses.keep(words, place);
         Ok(place)
@@ -291,7 +325,7 @@ impl Numbering {
         if let Some(place) = self.guessed_fluent(words) {
             return Ok(place);
         }
-        self.guesses.make_room(*self.names.allocator())?;
+        self.guesses.miss(*self.names.allocator())?;
         let place = self.placed_fluent(words)?;
         self.guesses.keep(words, place);
         Ok(place)

@@ -1,11 +1,8 @@
-use Rattle.std.proofs.Common.{sym, ap, ◌∙◌, map, Some, string_bytes}
+use Rattle.std.proofs.Common.{ap, ◌∙◌, map, Some, string_bytes}
 use Rattle.std.specs.Str.{bytes_eq}
 use Rattle.std.specs.String.{string_eq}
-use Rattle.tp_task.proofs.OnKeys.{position_map, found_name, stored_name, key_grows, distinct_map}
+use Rattle.tp_task.proofs.OnKeys.{stored_name, key_grows, distinct_map}
 use Rattle.tp_task.proofs.numbering.name_number.Goals as goal
-
-pub returns-in-Some-clause-number : goal.returns-in-Some-clause-number
-returns-in-Some-clause-number c = found_name _ _ _ (position_map string_bytes (bytes_eq c.args.name.now) c.args.names.now.keys ∙ sym c.in-Some.ensures.index)
 
 pub returns-clause-number : goal.returns-clause-number
 returns-clause-number c =
