@@ -16,6 +16,7 @@ ghost use Rattle.tp_deorder.specs.Kept.{kept_orders, net_bounds, AreNumbered};
 ghost use Rattle.tp_deorder.specs.Answers.{OnTooMany, PassesLimits, IsNetOf, IsPlanNetOf, bounds_in};
 
 use crate::DeorderFault;
+use crate::changes::ask_for_changes;
 use crate::event_texts::event_texts;
 use crate::orders::note_orders;
 use crate::spans::Ticks;
@@ -178,6 +179,7 @@ fn bounds_within(
     ensures err { IfErr result
         (λ e. OnTooMany e (PassesLimits limits.now task.now steps.now)) }
 {
+    ask_for_changes(alloc, task, steps)?;
     let prepared = prepared_for(alloc, task, steps)?;
     bounds_prepared(alloc, task, steps, limits, &prepared)
 }

@@ -1,5 +1,6 @@
 //! Deordering: the network of all schedules of a validated plan.
 //!
+//! - `changes`: how much the events change, and a bound of it
 //! - `walk`: how many ticks each step may take, by the states that the plan's run goes through
 //! - `spans`: how many ticks a duration constraint allows in a state
 //! - `disturbing`: which events disturb which, by who mentions what
@@ -27,6 +28,7 @@ ghost use Rattle.tp_bounds.specs.RunLimits.{RunLimits};
 ghost use Rattle.tp_deorder.specs.Answers.{IsPlanNetOf};
 ghost use Rattle.tp_deorder.specs.Inequalities.{plan_bounds, event_count_of};
 
+mod changes;
 mod deordering;
 mod disturbing;
 mod event_texts;

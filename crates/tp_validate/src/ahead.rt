@@ -199,8 +199,8 @@ fn seen_within(
     Ok(seen)
 }
 
-// How many states of a task are looked at together.
-fn most_of(task: &Task) -> usize
+/// How many states of a task are looked at together.
+pub fn most_of(task: &Task) -> usize
     ensures some { 1 ≤ result }
     ensures few { result ≤ 64 }
 {

@@ -1,5 +1,6 @@
-//! How much the steps of a plan make go through, and the room that is asked for where that is very much.
+//! How much a goal and the steps of a plan make go through, and the room that is asked for where that is very much.
 
+use crate::ahead::most_of;
 use std::alloc::{AllocError, Global};
 use tp_happen::Step;
 use tp_task::{Body, Cond, Expr, GroundEvent, Limit, NumericEffect, Task};
@@ -27,9 +28,6 @@ const OF_CHANGING: usize = 128;
 const OF_INVARIANT: usize = 20;
 
 const OF_KEPT: usize = 4;
-
-// So many ticks are judged at once.
-const AT_ONCE: usize = 63;
 
 // For so much no room is asked for: it takes a second or two.
 const FEW: usize = 2_147_483_648;
@@ -172,11 +170,12 @@ fn flag_writes(changing: &mut [bool], event: &GroundEvent) {
     }
 }
 
-// The moments of a plan's events, in order, and the fluents that they change.
+// The moments of a plan's events, in order, the fluents that they change, and how many ticks are judged at once.
 #[derive(Clone, Copy)]
 struct Course<'c> {
     moments: &'c [u32],
     changing: &'c [bool],
+    at_once: usize,
 }
 
 // How often an action is started, and in how many rounds its steps last, at most.
@@ -187,9 +186,15 @@ struct Uses {
 }
 
 impl<'c> Course<'c> {
+    // In how many rounds so many ticks are judged, at most.
+    fn rounds_of_ticks(self, ticks: usize) -> usize {
+        let whole = ticks.checked_div(self.at_once).unwrap_or(ticks);
+        whole.saturating_add(1)
+    }
+
     // In how many rounds all ticks are judged.
     fn rounds(self) -> usize {
-        self.moments.len().div_ceil(AT_ONCE)
+        self.rounds_of_ticks(self.moments.len())
     }
 
     // In how many of these rounds a step lasts, at most.
@@ -197,7 +202,8 @@ impl<'c> Course<'c> {
         let end = step.tick.saturating_add(step.duration);
         let from = self.moments.partition_point(|moment| *moment < step.tick);
         let to = self.moments.partition_point(|moment| *moment < end);
-        (to.saturating_sub(from) / AT_ONCE).saturating_add(2)
+        self.rounds_of_ticks(to.saturating_sub(from))
+            .saturating_add(1)
     }
 
     // What is counted where a condition is judged so many times.
@@ -292,9 +298,21 @@ fn changed_by(alloc: Global, task: &Task, keys: &[u64]) -> Result<Vec<bool>, All
     Ok(changing)
 }
 
-// Whether steps make go through no more than little. The keys are those of the steps.
+// What is left behind the goal, which is judged once.
+fn left_behind_goal(goal: &Cond) -> Option<usize> {
+    let once = Each {
+        condition: OF_CONDITION,
+        times: 1,
+        changing: &[],
+    };
+    left_after(goal, once, FEW)
+}
+
+// Whether a goal and steps make go through no more than little. The keys are those of the steps.
 fn is_little(task: &Task, steps: &[Step], keys: &[u64], course: Course<'_>) -> bool {
-    let mut left = FEW;
+    let Some(mut left) = left_behind_goal(&task.goal) else {
+        return false;
+    };
     let mut uses = Uses {
         times: 0,
         rounds: 0,
@@ -323,8 +341,8 @@ fn is_little(task: &Task, steps: &[Step], keys: &[u64], course: Course<'_>) -> b
     true
 }
 
-/// Asks for the room of what the steps of a plan make go through, if it is very much, and gives it back, so that what would take
-/// minutes to days is refused before. It looks once at what each action of the plan is written out to.
+/// Asks for the room of what a goal and the steps of a plan make go through, if it is very much, and gives it back, so that what
+/// would take minutes to days is refused before. It looks once at what each action of the plan is written out to.
 pub fn ask_for_work(alloc: Global, task: &Task, steps: &[Step]) -> Result<(), AllocError> {
     let keys = keys_of(alloc, steps)?;
     let moments = moments_of(alloc, task, steps)?;
@@ -332,6 +350,7 @@ pub fn ask_for_work(alloc: Global, task: &Task, steps: &[Step]) -> Result<(), Al
     let course = Course {
         moments: &moments,
         changing: &changing,
+        at_once: most_of(task).saturating_sub(1),
     };
     if is_little(task, steps, &keys, course) {
         return Ok(());
