@@ -4,7 +4,7 @@ use crate::startable::{all_places, startable};
 use crate::state::{Places, SearchState, Span, part, place_in, small};
 use std::alloc::{AllocError, Global};
 use std::rc::Rc;
-use tp_reach::{Shares, is_large};
+use tp_reach::{Counted, Shares, is_large};
 use tp_task::truth::uses_duration;
 use tp_task::{Body, Change, Cond, Expr, GroundEvent, NumericEffect, Task};
 
@@ -17,13 +17,15 @@ pub enum Part<'t> {
 }
 
 /// A condition: the atoms that have to be true, those that have to be false, and those of the other conjuncts, in this
-/// order; the fluents of the other conjuncts; and these. What it shares with others stands in forms of its own.
+/// order; the fluents of the other conjuncts; and these, with how many parts they have. What it shares with others stands in
+/// forms of its own.
 #[derive(Clone, Copy)]
 pub struct CondForm {
     pub atoms: Span,
     pub holding: u32,
     pub lacking: u32,
     pub fluents: Span,
+    pub judged: u32,
     parts: Span,
 }
 
@@ -53,6 +55,7 @@ const EMPTY: CondForm = CondForm {
     holding: 0,
     lacking: 0,
     fluents: NOWHERE,
+    judged: 0,
     parts: NOWHERE,
 };
 
@@ -104,6 +107,7 @@ pub struct Forms<'t> {
     pub lists: Vec<u32>,
     parts: Vec<Part<'t>>,
     shares: Shares<'t>,
+    counted: Counted<'t>,
     shared: Vec<CondForm>,
     writes_out: bool,
     pub event_forms: Vec<EventForm<'t>>,
@@ -173,6 +177,7 @@ impl<'t> Forms<'t> {
             lists: Vec::new(alloc),
             parts: Vec::new(alloc),
             shares: Shares::new(alloc),
+            counted: Counted::new(alloc),
             shared: Vec::new(alloc),
             writes_out: false,
             event_forms: Vec::new(alloc),
@@ -370,13 +375,26 @@ impl<'t> Forms<'t> {
         let parts = self.add_parts(cond, positive)?;
         let atoms = self.since(at);
         let fluents = self.add_compared(parts)?;
+        let judged = self.count_judged(parts)?;
         Ok(CondForm {
             atoms,
             holding,
             lacking,
             fluents,
+            judged,
             parts,
         })
+    }
+
+    // How many parts those conjuncts have that are judged, with what stands in them.
+    fn count_judged(&mut self, parts: Span) -> Result<u32, AllocError> {
+        let mut count: usize = 0;
+        for place in parts.at..parts.at.saturating_add(parts.count) {
+            if let Some(Part::Judged(cond, _)) = self.parts.get(place as usize).copied() {
+                count = count.saturating_add(self.counted.count(cond)?);
+            }
+        }
+        Ok(small(count))
     }
 
     // The lists of a condition that is only mentioned.

@@ -7,6 +7,7 @@
 //! - `forms`: a task by lists of places
 //! - `holding`: whether conditions hold in the state at hand
 //! - `index`: the actions that wait for an atom, what an action changes and the conjuncts that mention it
+//! - `costs`: how long it takes to look at a condition
 //! - `steps`: how many conjuncts that compare a fluent with a number hold
 //! - `marks`: what the events of a tick mention, change, read and write
 //! - `effects`: what an event does
@@ -14,6 +15,7 @@
 //! - `fault`: out of memory, or a number out of range
 #![tactic(auto)]
 
+mod costs;
 mod durations;
 mod effects;
 mod fault;
@@ -27,6 +29,7 @@ mod state;
 mod steps;
 mod values;
 
+pub use costs::{Costs, cost};
 pub use durations::{least_duration, units_of};
 pub use effects::{carry_out, carry_out_writes, set_atoms};
 pub use fault::SearchFault;

@@ -115,6 +115,13 @@ impl Current {
         self.lacking = lacking;
     }
 
+    // Lists the conjuncts that a start may change.
+    fn list_changed(&mut self, known: &Known<'_>, action: u32) -> Result<(), AllocError> {
+        self.changed.list(&known.touching.touches, action)?;
+        let cost = known.touching.costs.of(self.changed.numbers());
+        known.looked.count(cost)
+    }
+
     fn is_met(&self, conjunct: u32) -> bool {
         match self.met.get(conjunct as usize).copied() {
             Some(Some(met)) => met,
@@ -150,7 +157,7 @@ impl Current {
             return Ok(self.lacking);
         }
         let touches = &known.touching.touches;
-        self.changed.list(touches, start.action)?;
+        self.list_changed(known, start.action)?;
         look_at(
             known,
             state,
@@ -191,7 +198,7 @@ impl Current {
     ) -> Result<bool, SearchFault> {
         for run in &self.running {
             if let Some(form) = known.invariant_of(run.action) {
-                if !known.forms.holds(state, form)? {
+                if !known.holds(state, form)? {
                     return Ok(false);
                 }
             }

@@ -173,6 +173,7 @@ impl<'t> Frontier<'t> {
         let Some(moment) = self.store.moment(node.moment) else {
             return Ok(());
         };
+        self.known.looked.restart();
         self.store.unpack(moment.kept, &mut self.state);
         if moment.starts.is_none() && usize::from(node.steps) < MOST_STEPS {
             self.find_starts(node.moment, moment.tick)?;

@@ -2,16 +2,17 @@
 //! that mention that.
 
 use crate::listed::Touching;
+use crate::looked::Looked;
 use crate::store::{Running, Start};
 use std::alloc::{AllocError, Global};
 use tp_forms::{
-    Action, CondForm, EventForm, Forms, Marks, SearchFault, SearchState, Waiting, carry_out,
+    Action, CondForm, EventForm, Forms, Marks, SearchFault, SearchState, Waiting, carry_out, cost,
     least_duration, units_of, waiting_for,
 };
 use tp_task::Task;
 use tp_text::Scale;
 
-/// What the search looks up, and never changes.
+/// What the search looks up, and never changes; and how much was looked at for the node at hand.
 #[derive(Drop)]
 pub struct Known<'t> {
     pub scale: Scale,
@@ -19,6 +20,7 @@ pub struct Known<'t> {
     pub forms: Forms<'t>,
     pub waiting: Waiting,
     pub touching: Touching,
+    pub looked: Looked,
 }
 
 impl<'t> Known<'t> {
@@ -54,6 +56,12 @@ impl<'t> Known<'t> {
         units_of(self.scale, ticks)
     }
 
+    /// Whether a condition holds, which counts among what is looked at for the node at hand.
+    pub fn holds(&self, state: &SearchState, form: CondForm) -> Result<bool, SearchFault> {
+        self.looked.count(cost(form))?;
+        self.forms.holds(state, form)
+    }
+
     // The duration with which an action can start, 0 for an instantaneous one.
     fn duration_of(
         &self,
@@ -84,7 +92,7 @@ impl<'t> Known<'t> {
         let Some(event_form) = self.event_form(action.first) else {
             return Ok(None);
         };
-        if !self.forms.holds(state, event_form.condition)? {
+        if !self.holds(state, event_form.condition)? {
             return Ok(None);
         }
         let Some(duration) = self.duration_of(state, action, event_form)? else {
@@ -187,14 +195,14 @@ impl<'t> Known<'t> {
         {
             return Ok(false);
         }
-        self.forms.holds(state, event_form.condition)
+        self.holds(state, event_form.condition)
     }
 
     // How many conjuncts of the goal the state lacks.
     pub fn lacking(&self, state: &SearchState) -> Result<usize, SearchFault> {
         let mut count: usize = 0;
         for form in &self.forms.conjuncts {
-            if !self.forms.holds(state, *form)? {
+            if !self.holds(state, *form)? {
                 count = count.saturating_add(1);
             }
         }
@@ -231,6 +239,7 @@ impl<'t> Known<'t> {
             forms,
             waiting,
             touching,
+            looked: Looked::new(alloc),
         })
     }
 }

@@ -5,6 +5,7 @@
 //! - `queues`: the nodes still to be taken
 //! - `known`: what the search looks up
 //! - `listed`: the conjuncts that an event may change
+//! - `looked`: how much is looked at for a node, and a bound of it
 //! - `pairs`: which events and starts interfere, as far as that was found out
 //! - `interference`: whether a start interferes with the events at hand
 //! - `current`: the node at hand
@@ -16,6 +17,7 @@ mod frontier;
 mod interference;
 mod known;
 mod listed;
+mod looked;
 mod pairs;
 mod queues;
 mod store;

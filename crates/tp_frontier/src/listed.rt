@@ -2,13 +2,14 @@
 
 use crate::known::push_copy;
 use std::alloc::{AllocError, Global};
-use tp_forms::{Forms, Lists, Touches, small, touched};
+use tp_forms::{Costs, Forms, Lists, Touches, small, touched};
 
-/// What the first event of each action may change of the goal; which actions are quiet: their first event changes nothing
-/// of the goal, and no number; and for each action the next that isn't, from itself on.
+/// What the first event of each action may change of the goal, and how long it takes to look at that; which actions are quiet:
+/// their first event changes nothing of the goal, and no number; and for each action the next that isn't, from itself on.
 #[derive(Drop)]
 pub struct Touching {
     pub touches: Touches,
+    pub costs: Costs,
     quiet: Vec<bool>,
     loud: Vec<u32>,
 }
@@ -56,10 +57,12 @@ fn loud_actions(alloc: Global, quiet: &[bool]) -> Result<Vec<u32>, AllocError> {
 impl Touching {
     pub fn new(alloc: Global, forms: &Forms<'_>) -> Result<Self, AllocError> {
         let touches = touched(alloc, forms)?;
+        let costs = Costs::new(alloc, forms)?;
         let quiet = quiet_actions(alloc, forms, &touches)?;
         let loud = loud_actions(alloc, &quiet)?;
         Ok(Touching {
             touches,
+            costs,
             quiet,
             loud,
         })

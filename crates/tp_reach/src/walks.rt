@@ -14,7 +14,7 @@ const ROOM: usize = 1_024;
 
 /// The shared conditions that were counted before, and how many parts each has.
 #[derive(Drop)]
-struct Counted<'t> {
+pub struct Counted<'t> {
     shares: Shares<'t>,
     parts: Vec<usize>,
 }
@@ -31,9 +31,18 @@ fn parts_of_value(value: &Expr) -> usize {
 }
 
 impl<'t> Counted<'t> {
-    // How many parts a condition has, or more than a few.
+    /// None.
+    pub fn new(alloc: Global) -> Self {
+        Counted {
+            shares: Shares::new(alloc),
+            parts: Vec::new(alloc),
+        }
+    }
+
+    /// How many parts a condition has, with those of the expressions in it, and those of a shared one as often as it stands
+    /// there. Behind 268,435,456 of an `and` or `or` the rest is not counted.
     #[cycle(count)]
-    fn count(&mut self, cond: &'t Cond) -> Result<usize, AllocError> {
+    pub fn count(&mut self, cond: &'t Cond) -> Result<usize, AllocError> {
         match cond {
             Cond::Atom(_) => Ok(1),
             Cond::Compare(_, x, y) => Ok(
@@ -88,10 +97,7 @@ impl<'t> Counted<'t> {
 
 // Whether no more than a few parts stand in the conditions of all events.
 fn are_few(alloc: Global, actions: &[Body]) -> Result<bool, AllocError> {
-    let mut counted = Counted {
-        shares: Shares::new(alloc),
-        parts: Vec::new(alloc),
-    };
+    let mut counted = Counted::new(alloc);
     let mut parts: usize = 0;
     for body in actions {
         parts = parts.saturating_add(counted.count_body(body)?);
@@ -102,6 +108,11 @@ fn are_few(alloc: Global, actions: &[Body]) -> Result<bool, AllocError> {
     Ok(true)
 }
 
+fn ask_for_many(alloc: Global) -> Result<(), AllocError> {
+    let _room: Vec<u8> = Vec::with_capacity(alloc, FEW.saturating_mul(ROOM))?;
+    Ok(())
+}
+
 /// Asks for the room of what is gone through where the conditions of all events are looked at, if it is very much, and gives it
 /// back, so that what would take minutes to days is refused before. What many conditions share takes little room itself, and
 /// is counted once here.
@@ -109,6 +120,14 @@ pub fn ask_for_walks(alloc: Global, actions: &[Body]) -> Result<(), AllocError> 
     if are_few(alloc, actions)? {
         return Ok(());
     }
-    let _room: Vec<u8> = Vec::with_capacity(alloc, FEW.saturating_mul(ROOM))?;
-    Ok(())
+    ask_for_many(alloc)
+}
+
+/// The same before one condition is looked at.
+pub fn ask_for_walk(alloc: Global, cond: &Cond) -> Result<(), AllocError> {
+    let mut counted = Counted::new(alloc);
+    if counted.count(cond)? <= FEW {
+        return Ok(());
+    }
+    ask_for_many(alloc)
 }

@@ -14,7 +14,7 @@ use tp_at_once::found::Found;
 use tp_forms::SearchFault;
 use tp_frontier::{Chosen, Frontier};
 use tp_happen::Step;
-use tp_reach::{met, reach};
+use tp_reach::{ask_for_walk, met, reach};
 use tp_task::Task;
 use tp_validate::ValidPlan;
 
@@ -109,6 +109,7 @@ pub fn search<'t>(
 ) -> Result<Found<'t>, SearchFault>
     ensures { IfOk result (IsAnswer task.now budget horizon) }
 {
+    ask_for_walk(alloc, &task.goal)?;
     let reached = reach(alloc, task)?;
     if met(&reached, true, &task.goal) {
         seek_in(alloc, task, &reached, budget, horizon)
