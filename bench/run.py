@@ -274,8 +274,20 @@ def orders(program):
     judged(program, "that of 1,024 such events, numbered backwards", twice, problem, "".join(f"{2 * k}: (set) [1]\n" for k in reversed(range(512))), "net")
     domain, problem = crowd("(a ?x)", "(b ?x)", 30_000, "(a ?x)")
     judged(program, "that of 512 steps, 30,000 atoms asked, 30,000 added", domain, problem, "".join(f"{k}: (act)\n" for k in range(512)), "net")
+    for atoms in (8_000, 30_000):
+        domain, problem = flips(atoms)
+        judged(program, f"that of 512 steps that ask for, delete and add {atoms:,} atoms twice", domain, problem, "".join(f"{4 * k}: (flip) [2]\n" for k in range(512)), "net")
     domain, problem = watch(3_000)
     judged(program, "that of 300 steps that write into an invariant of 6,000 atoms", domain, problem, "0: (watch) [600]\n" + "".join(f"{k}: (touch)\n" for k in range(1, 301)), "net")
+
+
+def flips(count):
+    """A step that asks for so many atoms, deletes and adds them at its start, and the same at its end."""
+    asked = "(forall (?x) (q ?x))"
+    done = "(forall (?x) (and (not (q ?x)) (q ?x)))"
+    action = f"(:durative-action flip :parameters () :duration (>= ?duration 1) :condition (and (at start {asked}) (at end {asked})) :effect (and (at start {done}) (at end {done})))"
+    domain = f"(define (domain d) (:predicates (q ?x)) {action})"
+    return domain, f"(define (problem p) (:domain d) (:objects {each('o#', count)}) (:init {each('(q o#)', count)}) (:goal ()))"
 
 
 def watch(count):
@@ -395,6 +407,14 @@ def colliding(count):
     for number in range(count):
         free = "".join(letters[number // 26**place % 26] for place in range(8))
         yield f"nxacfbaaaaaaaaaa1i42hk5t{free}{'a' * 16}"
+
+
+def alike(count, atoms, times):
+    """So many atoms of two names each, of so many that all end alike, which a goal mentions so many times: no guess finds them."""
+    names = [f"{name}_end" for name in short_names(count)]
+    pairs = "".join(f"(p {names[7919 * k % count]} {names[(k * k + 31 * k) % count]})" for k in range(atoms))
+    domain = "(define (domain d) (:types s t) (:predicates (p ?x ?y)))"
+    return domain, f"(define (problem q) (:domain d) (:objects {' '.join(names)} - s {each('z#', times)} - t) (:init) (:goal (forall (?z - t) (and {pairs}))))"
 
 
 def of_list(kinds, variables="?x"):
@@ -545,8 +565,12 @@ def worst_reads(program):
     judged(program, "20,000 constants whose names collide", f"(define (domain d) (:constants {names}))", problem, "")
     judged(program, "20,000 types whose names collide", f"(define (domain d) (:types {names}))", problem, "")
     kept = "".join(f"(:action a{k} :parameters () :precondition (forall (?x) (and (p ?x) {'() ' * k})) :effect ())" for k in range(20))
-    few = f"(define (problem q) (:domain d) (:objects {' '.join(colliding(8_000))}) (:init) (:goal ()))"
-    judged(program, "8,000 objects whose names collide, in an atom of each of 20 actions", f"(define (domain d) (:predicates (p ?x)) {kept})", few, "")
+    few = f"(define (problem q) (:domain d) (:objects {' '.join(colliding(19_000))}) (:init) (:goal ()))"
+    judged(program, "19,000 objects whose names collide, in an atom of each of 20 actions", f"(define (domain d) (:predicates (p ?x)) {kept})", few, "")
+    for times in (50, 600):
+        judged(program, f"{times} times 18,000 atoms of names that end alike", *alike(6_300, 18_000, times), "")
+    few = f"(define (problem q) (:domain d) (:objects {each('y#', 1_000)} - s {each('x#', 3_000)} - t) (:init (a)) (:goal (forall (?y - s) (forall (?x - t) (and {'(a)' * 100})))))"
+    judged(program, "a goal of a forall of 1,000 above one of 3,000 above 100 atoms", "(define (domain d) (:types s t) (:predicates (a)))", few, "")
 
 
 def reads(program):
@@ -824,6 +848,26 @@ def sums(count, places):
     return domain, f"(define (problem q) (:domain sums) (:objects {each('o#', places)}) (:init (= (h) 0) {each('(= (f o#) 0)', places)}) (:goal (and {goal})))"
 
 
+def choosers(places, atoms):
+    """Actions, one for each pair of so many objects, that need one of two things: what comes about late, or a condition of so many
+    atoms of each object that they share, which never holds."""
+    shared = f"(forall (?z - s) (and {' '.join(['(not (p ?z))'] * atoms)}))"
+    late = "(:action late :parameters () :precondition (later) :effect (last)) (:action later :parameters () :precondition (done) :effect (later))"
+    domain = f"(define (domain d) (:types s) (:predicates (p ?x) (done) (later) (last)) {late} (:action a :parameters (?x ?y - s) :precondition (or (last) {shared}) :effect (done)))"
+    return domain, f"(define (problem q) (:domain d) (:objects {each('o#', places)} - s) (:init {each('(p o#)', places)}) (:goal (and (done) (last))))"
+
+
+def sharing_goal(conjuncts, objects, atoms):
+    """A goal of so many conjuncts, each a choice between an atom and a condition that all share, of so many atoms of each object."""
+    kinds = [f"q{k}" for k in range(atoms)]
+    shared = f"(forall (?x) (and {' '.join(f'({kind} ?x)' for kind in kinds)}))"
+    effect = " ".join(f"({kind} ?x)" for kind in kinds)
+    late = "(:action late :parameters () :precondition (and (done) (not (done))) :effect (last))"
+    domain = f"(define (domain d) (:predicates (done) (last) {' '.join(f'({kind} ?x)' for kind in kinds)}) {late} (:action a :parameters (?x) :precondition () :effect (and (done) {effect})))"
+    goal = " ".join([f"(or (done) {shared})"] * conjuncts)
+    return domain, f"(define (problem q) (:domain d) (:objects {each('o#', objects)}) (:init) (:goal (and (last) {goal})))"
+
+
 def moving_lamps(count, still):
     """One of some lamps is switched a tick; their atoms are numbered behind others that never come about."""
     domain = "(define (domain lamps) (:types l m) (:predicates (lit ?l - l) (b ?m - m) (tok)) (:functions (x))" + (
@@ -887,6 +931,10 @@ def searches(program):
     judged(program, "20,000 comparisons of a number that 62,500 actions raise", *comparisons(250, 20_000), None, "plan", ("--budget", "0"))
     judged(program, "20,000 comparisons of a number that as many actions raise, one node", *comparisons(142, 20_000, 20_000), None, "plan", ("--budget", "1"))
     judged(program, "10,000 comparisons of sums that 2,500 actions raise, one node", *sums(10_000, 50), None, "plan", ("--budget", "1"))
+    judged(program, "30,000 comparisons of sums that they raise", *sums(30_000, 50), None, "plan", ("--budget", "1"))
+    judged(program, "1,500 conjuncts that share a choice of 60,000 atoms, no node", *sharing_goal(1_500, 3_000, 20), None, "plan", ("--budget", "0"))
+    for atoms in (1, 12):
+        judged(program, f"62,500 actions that share a choice of {250 * atoms:,} atoms, one node", *choosers(250, atoms), None, "plan", ("--budget", "1"))
     judged(program, "20 lamps behind 43 atoms that stay, a budget of 1,000,000", *moving_lamps(20, 43), None, "plan", ("--budget", "1000000"))
     judged(program, "10 actions of 600 atoms each, until no node is left", *painters(10, 600), None, "plan", ("--budget", "1000000"))
     judged(program, "100 actions of 10,000 atoms each that all interfere, until no node is left", *rivals(100, 5000), None, "plan", ("--horizon", "0"))
