@@ -409,7 +409,7 @@ def colliding(count):
         yield f"nxacfbaaaaaaaaaa1i42hk5t{free}{'a' * 16}"
 
 
-def alike(count, atoms, times):
+def sought(count, atoms, times):
     """So many atoms of two names each, of so many that all end alike, which a goal mentions so many times: no guess finds them."""
     names = [f"{name}_end" for name in short_names(count)]
     pairs = "".join(f"(p {names[7919 * k % count]} {names[(k * k + 31 * k) % count]})" for k in range(atoms))
@@ -567,8 +567,8 @@ def worst_reads(program):
     kept = "".join(f"(:action a{k} :parameters () :precondition (forall (?x) (and (p ?x) {'() ' * k})) :effect ())" for k in range(20))
     few = f"(define (problem q) (:domain d) (:objects {' '.join(colliding(19_000))}) (:init) (:goal ()))"
     judged(program, "19,000 objects whose names collide, in an atom of each of 20 actions", f"(define (domain d) (:predicates (p ?x)) {kept})", few, "")
-    for times in (50, 600):
-        judged(program, f"{times} times 18,000 atoms of names that end alike", *alike(6_300, 18_000, times), "")
+    for times in (100, 600):
+        judged(program, f"{times} times 18,000 atoms of names that end alike", *sought(6_300, 18_000, times), "")
     few = f"(define (problem q) (:domain d) (:objects {each('y#', 1_000)} - s {each('x#', 3_000)} - t) (:init (a)) (:goal (forall (?y - s) (forall (?x - t) (and {'(a)' * 100})))))"
     judged(program, "a goal of a forall of 1,000 above one of 3,000 above 100 atoms", "(define (domain d) (:types s t) (:predicates (a)))", few, "")
 

@@ -30,7 +30,7 @@ const OF_LIST: usize = 1_536;
 const FEW_WORDS: usize = 3;
 
 // An atom or a fluent that is looked up by its names, as each is when it is numbered, counts as so many parts beside.
-const OF_LOOK_UP: usize = 32;
+const OF_LOOK_UP: usize = 16;
 
 // A quantifier counts as so many parts; of many variables, of which a table may be made, each as so many letters, and each letter
 // of their names as so many.
