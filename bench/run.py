@@ -930,7 +930,7 @@ def searches(program):
     judged(program, "a goal of 5,001 conjuncts, the default budget", *many_goals(5000), None, "plan")
     judged(program, "20,000 comparisons of a number that 62,500 actions raise", *comparisons(250, 20_000), None, "plan", ("--budget", "0"))
     judged(program, "20,000 comparisons of a number that as many actions raise, one node", *comparisons(142, 20_000, 20_000), None, "plan", ("--budget", "1"))
-    judged(program, "10,000 comparisons of sums that 2,500 actions raise, one node", *sums(10_000, 50), None, "plan", ("--budget", "1"))
+    judged(program, "3,000 comparisons of sums that 2,500 actions raise, one node", *sums(3_000, 50), None, "plan", ("--budget", "1"))
     judged(program, "30,000 comparisons of sums that they raise", *sums(30_000, 50), None, "plan", ("--budget", "1"))
     judged(program, "1,500 conjuncts that share a choice of 60,000 atoms, no node", *sharing_goal(1_500, 3_000, 20), None, "plan", ("--budget", "0"))
     for atoms in (1, 12):
