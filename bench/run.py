@@ -409,12 +409,72 @@ def colliding(count):
         yield f"nxacfbaaaaaaaaaa1i42hk5t{free}{'a' * 16}"
 
 
+def named_steps(count, objects, steps):
+    """So many objects of names of one hash, all in the goal, and so many steps of the one action, each of the objects numbered last."""
+    names = list(colliding(count))
+    first, last = names[:-objects], names[-objects:]
+    parameters = " ".join(f"?v{k} - s{k}" for k in range(objects))
+    domain = f"(define (domain d) (:types {each('s#', objects)} t) (:predicates (q ?x)) (:action a :parameters ({parameters}) :effect ()))"
+    alone = " ".join(f"{name} - s{k}" for k, name in enumerate(last))
+    problem = f"(define (problem p) (:domain d) (:objects {' '.join(first)} - t {alone}) (:init) (:goal (forall (?x - t) (q ?x))))"
+    return domain, problem, "".join(f"{k}: (a {' '.join(last)})\n" for k in range(steps))
+
+
 def sought(count, atoms, times):
     """So many atoms of two names each, of so many that all end alike, which a goal mentions so many times: no guess finds them."""
     names = [f"{name}_end" for name in short_names(count)]
     pairs = "".join(f"(p {names[7919 * k % count]} {names[(k * k + 31 * k) % count]})" for k in range(atoms))
     domain = "(define (domain d) (:types s t) (:predicates (p ?x ?y)))"
     return domain, f"(define (problem q) (:domain d) (:objects {' '.join(names)} - s {each('z#', times)} - t) (:init) (:goal (forall (?z - t) (and {pairs}))))"
+
+
+def in_one_run(count, atoms, bits):
+    """So many atoms of two of so many names, and these names, by the number of each: so that their labels all belong at one place of
+    a hashed table of so many bits. The first label is that of a predicate over all names; the other predicate has the next number."""
+    low, whole, factor, seed = (1 << bits) - 1, (1 << 64) - 1, 0x9E3779B97F4A7C15, 0x243F6A8885A308D3
+    fold = lambda x, y: (lambda product: (product & whole) ^ (product >> 64))(x * y)
+    step = lambda state, number: fold(state ^ (number | number << 32), factor ^ 8)
+    begun, found, twice = step(fold(seed ^ 3, factor ^ 16), count + 1), [], [k | k << 32 for k in range(1, count + 1)]
+    for first in range(1, count + 1):
+        state = step(begun, first)
+        for second, number in enumerate(twice):
+            product = (state ^ number) * (factor ^ 8)
+            mixed = product ^ (product >> 64)
+            if not (mixed ^ ((mixed & whole) >> 32)) & low:
+                found.append((first - 1, second))
+                if len(found) == atoms:
+                    return found
+    return found
+
+
+def run_together(count, atoms, bits, times):
+    """A goal that mentions such atoms so many times; their names all end alike, so that no guess finds them."""
+    names = [f"{name}_end" for name in short_names(count)]
+    pairs = "".join(f"(p {names[first]} {names[second]})" for first, second in in_one_run(count, atoms, bits))
+    domain = f"(define (domain d) (:types s t) (:predicates (p ?x ?y) (r {each('?v#', count)})))"
+    return domain, f"(define (problem q) (:domain d) (:objects {' '.join(names)} - s {each('z#', times)} - t) (:init (r {' '.join(names)})) (:goal (forall (?z - t) (and {pairs}))))"
+
+
+def all_pairs(names, times, what):
+    """A goal with so many bindings for each pair of objects, and what stands under each."""
+    domain = "(define (domain d) (:types s t) (:predicates (p ?x ?y)))"
+    return domain, f"(define (problem q) (:domain d) (:objects {' '.join(names)} - s {each('z#', times)} - t) (:init) (:goal (forall (?z - t ?x ?y - s) {what})))"
+
+
+def long_sums(terms):
+    """512 steps at one tick, whose duration is at least a sum of so many fluents."""
+    parts = [f"(f{7919 * k % 20_000})" for k in range(terms)]
+    while len(parts) > 1:
+        parts = ["".join(pair) if len(pair) == 1 else f"(+ {pair[0]} {pair[1]})" for pair in zip(parts[::2], parts[1::2])] + parts[len(parts) // 2 * 2 :]
+    domain = f"(define (domain d) (:functions {each('(f#)', 20_000)}) (:predicates (r)) (:durative-action a :parameters () :duration (>= ?duration {parts[0]}) :condition () :effect (at end (r))))"
+    return domain, f"(define (problem q) (:domain d) (:init {each('(= (f#) 0)', 20_000)}) (:goal ()))", "0: (a) [1]\n" * 512
+
+
+def wide_steps(parameters, letters, steps):
+    """An action of so many parameters for one object of so many letters, which has to be started so many times."""
+    variables = each("?x#", parameters)
+    domain = f"(define (domain d) (:functions (f)) (:action a :parameters ({variables}) :effect (increase (f) 1)))"
+    return domain, f"(define (problem q) (:domain d) (:objects {'x' * letters}) (:init (= (f) 0)) (:goal (>= (f) {steps})))"
 
 
 def of_list(kinds, variables="?x"):
@@ -569,6 +629,19 @@ def worst_reads(program):
     judged(program, "19,000 objects whose names collide, in an atom of each of 20 actions", f"(define (domain d) (:predicates (p ?x)) {kept})", few, "")
     for times in (100, 600):
         judged(program, f"{times} times 18,000 atoms of names that end alike", *sought(6_300, 18_000, times), "")
+    judged(program, "240 times 8,000 atoms that belong at one place of a hashed table", *run_together(3_500, 8_000, 10, 240), "")
+    middle = [f"{'x' * 2_000}{k:03}{'x' * 1_997}" for k in range(250)]
+    judged(program, "36 times each pair of 250 objects whose names of 4,000 letters differ in the middle", *all_pairs(middle, 36, "(p ?x ?y)"), "")
+    judged(program, "a forall of 1,250,000 bindings above 50 equalities", *all_pairs(short_names(250), 20, f"(and {'(= ?x ?x)' * 50})"), "")
+    unlike = [f"{'a' * 499_985}{letter}cccc" for letter in "bd"]
+    asked = f"(define (domain d) (:types s r) (:predicates (p ?x)) (:action a :parameters (?x - s ?y - r) :precondition (and {'(p ?x)(p ?y)' * 70_000})))"
+    judged(program, "140,000 mentions of two objects of 499,990 letters in one body", asked, f"(define (problem q) (:domain d) (:objects {unlike[0]} - s {unlike[1]} - r) (:init) (:goal ()))", "")
+    unlike = [f"{'p' * 120_000}{letter}{'q' * 10}" for letter in "xy"]
+    asked = "".join(f"({name})" for name in unlike)
+    judged(program, "490,000 bindings above two atoms of 120,011 letters", f"(define (domain d) (:predicates {asked}) (:action a :precondition (forall (?c ?d) (and {asked}))))", f"(define (problem q) (:domain d) (:objects {each('o#', 700)}) (:init) (:goal ()))", "")
+    for terms in (10_000, 20_000):
+        judged(program, f"512 durations that are at least a sum of {terms:,} terms", *long_sums(terms))
+    judged(program, "500 steps that name 40 of 19,000 objects whose names collide", *named_steps(19_000, 40, 500))
     few = f"(define (problem q) (:domain d) (:objects {each('y#', 1_000)} - s {each('x#', 3_000)} - t) (:init (a)) (:goal (forall (?y - s) (forall (?x - t) (and {'(a)' * 100})))))"
     judged(program, "a goal of a forall of 1,000 above one of 3,000 above 100 atoms", "(define (domain d) (:types s t) (:predicates (a)))", few, "")
 
@@ -947,8 +1020,13 @@ def searches(program):
     for count in (50, 255):
         judged(program, f"{count * count:,} actions that share 14 foralls in one another", *nested_sharers(count, 14), None, "plan", ("--budget", "1"))
     judged(program, "90 places: 729,000 bindings, 89 in reach", *roads(90), None, "plan")
-    judged(program, "128 places: 2,097,152 bindings, 127 in reach", *roads(128), None, "plan")
-    judged(program, "1,000,000 bindings, each of its own atom", *own_atoms(100), None, "plan")
+    judged(program, "128 places: 2,097,152 bindings, whose look-ups are too many", *roads(128), None, "plan")
+    judged(program, "500 steps of an action of one parameter, of an object of 1,000,000 letters", *wide_steps(1, 1_000_000, 500), None, "plan")
+    judged(program, "500 steps of an action of 1,000 parameters, all of that object", *wide_steps(1_000, 1_000_000, 500), None, "plan")
+    unlike = " ".join(f"{'a' * 519_995}{letter}cccc" for letter in "bd")
+    named = f"(define (domain d) (:action a :parameters ({each('?x#', 15)})))"
+    judged(program, "15 parameters, two objects of 520,000 letters", named, f"(define (problem q) (:domain d) (:objects {unlike}) (:init) (:goal ()))", None, "plan")
+    judged(program, "857,375 bindings, each of its own atom", *own_atoms(95), None, "plan")
     kinds = each("(:action a# :parameters (?x - t#) :effect (g))", 13_000)
     three = "(define (problem q) (:domain d) (:objects " + " ".join(f"o{k} - t{k % 13_000}" for k in range(39_000)) + ") (:init) (:goal (g)))"
     judged(program, "13,000 actions of as many types, three objects of each", f"(define (domain d) (:types {each('t#', 13_000)}) (:predicates (g)) {kinds})", three, None, "plan")

@@ -243,6 +243,34 @@ class Check(Case):
         self.assertEqual(outcome, told("", "fault ground 1 memory\n", 3))
         self.assertLess(most, 128 << 20)
 
+    def test_what_stands_under_very_many_bindings_is_refused_on_the_way(self):
+        """1,250,000 bindings of one quantifier above 50 equalities each, 60 million in all, where 16 GB may be taken."""
+        objects = " ".join(f"o{number}" for number in range(250)) + " - s " + " ".join(f"z{number}" for number in range(20)) + " - t"
+        domain = "(define (domain d) (:types s t) (:predicates (p)))"
+        goal = f"(forall (?z - t ?x ?y - s) (and {'(= ?x ?x)' * 50}))"
+        problem = f"(define (problem q) (:domain d) (:objects {objects}) (:init) (:goal {goal}))"
+        for words in ("check domain problem plan", "plan domain problem"):
+            with self.subTest(words):
+                outcome, most = held(words, {"domain": domain, "problem": problem, "plan": ""}, 16 << 30)
+                self.assertEqual(outcome, told("", "fault ground 1 memory\n", 3))
+                self.assertLess(most, 1 << 30)
+
+    def test_atoms_that_are_asked_for_again_and_again_keep_their_numbers(self):
+        """64,449 atoms of three and of four objects whose names end alike, each mentioned four times: those that the tables were asked
+        for often are found in an order from then on."""
+        few = " ".join(f"o{number}_same" for number in range(15))
+        more = " ".join(f"m{number}_same" for number in range(9))
+        domain = "(define (domain d) (:types t all - object s - all) (:predicates (p ?a ?b ?c ?d) (q ?a ?b ?c)))"
+        goal = "(and (forall (?z - t ?a ?b ?c ?d - s) (not (p ?a ?b ?c ?d))) (forall (?z - t ?a ?b ?c - all) (not (q ?a ?b ?c))))"
+        for init, line in (
+            ("", "valid\n"),
+            ("(p o14_same o14_same o3_same o14_same)", "invalid 0 goal\n"),
+            ("(q m8_same o0_same m8_same)", "invalid 0 goal\n"),
+        ):
+            with self.subTest(init):
+                problem = f"(define (problem r) (:domain d) (:objects {few} - s {more} - all z0 z1 z2 z3 - t) (:init {init}) (:goal {goal}))"
+                self.writes((domain, problem), "", CALL, line)
+
     def test_plans_that_cannot_be_read(self):
         self.each_writes(CHARGE, PLANS)
         with self.subTest("too many steps"):

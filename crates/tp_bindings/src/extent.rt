@@ -14,11 +14,15 @@ const ROOM: usize = 1_024;
 // The same for each binding behind these in all of the task, if that is more.
 const LEAST_ROOM: usize = 8;
 
-// So many bindings of one quantifier are counted one by one: so many that too many atoms were named by then, if each names its own.
+// So many bindings of one quantifier are counted one by one, and the rest with the last of them: so many that too many atoms were
+// named by then, if each names its own.
 const ONE_BY_ONE: usize = 131_072;
 
-// What is written out counts in letters, as long as it takes: sixteen of them take about a nanosecond. A letter of an object's name
-// counts as one, a part of a condition, an effect or an expression, or a binding of a quantifier, as so many,
+// What is written out counts in letters, as long as it takes: sixteen of them are compared in about a nanosecond. A letter of an
+// object's name counts as so many, since a name that no guess finds is compared with several,
+const OF_NAME: usize = 4;
+
+// a part of a condition, an effect or an expression, or a binding of a quantifier, as so many,
 const OF_PART: usize = 1_024;
 
 // a word that is looked up
@@ -139,7 +143,7 @@ impl Extent {
     pub fn count_words(&self, words: &[&str]) {
         let mut letters = words.len().saturating_mul(OF_WORD);
         for word in words {
-            letters = letters.saturating_add(word.len());
+            letters = letters.saturating_add(word.len().saturating_mul(OF_NAME));
         }
         if words.len() > FEW_WORDS {
             letters = letters.saturating_add(OF_LIST);
@@ -207,7 +211,8 @@ impl Extent {
     }
 
     /// Counts the binding of a quantifier at a place, of so many. Where they are very many, those that are left are counted with
-    /// one of them, so that they are refused before they are gone through.
+    /// one of them, so that they are refused before they are gone through. What was written out under the others before is too, as
+    /// soon as it is too much.
     pub fn count_one(
         &self,
         alloc: Global,
@@ -215,7 +220,7 @@ impl Extent {
         bindings: usize,
     ) -> Result<(), AllocError> {
         if place > ONE_BY_ONE {
-            return Ok(());
+            return self.count(alloc, 0);
         }
         let more = if place == ONE_BY_ONE {
             bindings.saturating_sub(place)

@@ -126,6 +126,17 @@ pub fn lower_instances<'a>(
     Ok(lowered)
 }
 
+// Printing a plan of as many steps as it may have, each with so many letters, takes so many times as long as that many parts.
+const PARTS_OF_STEPS: usize = 8;
+
+fn letters_of(words: &[&str]) -> usize {
+    let mut letters = 0usize;
+    for word in words {
+        letters = letters.saturating_add(word.len());
+    }
+    letters
+}
+
 /// The words of some instances, in order.
 pub fn name_instances(
     alloc: Global,
@@ -139,15 +150,22 @@ pub fn name_instances(
     ensures most { writer.new.tables.most ≡ writer.old.tables.most }
 {
     let mut words = Vec::new(alloc);
+    let mut longest = 0usize;
     for instance in some {
         refill(
             &mut words,
             instance.schema.action.name.as_str(),
             instance.objects.as_slice(),
         )?;
+        longest = longest.max(letters_of(&words));
         writer.extent().count_words(&words);
+        writer.extent().count(alloc, 0)?;
         writer.push_action(&words)?;
     }
+    writer
+        .extent()
+        .count_parts(longest.saturating_mul(PARTS_OF_STEPS));
+    writer.extent().count(alloc, 0)?;
     Ok(())
 }
 

@@ -53,11 +53,12 @@ const OF_KEEPING: usize = 6;
 const STEPS_OF_PART: usize = 2;
 
 // The number of the atom of some words, which are counted.
-fn atom_of(writer: &mut Writer, words: &[&str]) -> Result<u32, GroundFault>
+fn atom_of(alloc: Global, writer: &mut Writer, words: &[&str]) -> Result<u32, GroundFault>
     ensures { Lowers (λ t i. words_at t.atoms i) writer.old result writer.new
         (map (λ w. w.now) words.now) (an_atom (map (λ w. w.now) words.now)) }
 {
     writer.extent().count_looked_up(words);
+    writer.extent().count(alloc, 0)?;
     writer.atom(words)
 }
 
@@ -74,15 +75,16 @@ pub fn atom<'a>(
 {
     let name = atom.name.as_str();
     match atom.terms.as_slice() {
-        [] => writer.atom(&[name]),
-        [first] => atom_of(writer, &[name, object_for(env, first)]),
+        [] => atom_of(alloc, writer, &[name]),
+        [first] => atom_of(alloc, writer, &[name, object_for(env, first)]),
         [first, second] => atom_of(
+            alloc,
             writer,
             &[name, object_for(env, first), object_for(env, second)],
         ),
         _ => {
             let words = words_in(alloc, env, atom)?;
-            atom_of(writer, &words)
+            atom_of(alloc, writer, &words)
         }
     }
 }

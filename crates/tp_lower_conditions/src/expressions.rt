@@ -31,11 +31,12 @@ pub fn comparison_of(comparison: tp_ast::words::Comparison) -> Comparison
 }
 
 // The number of the fluent of some words, which are counted.
-fn fluent_of(writer: &mut Writer, words: &[&str]) -> Result<u32, GroundFault>
+fn fluent_of(alloc: Global, writer: &mut Writer, words: &[&str]) -> Result<u32, GroundFault>
     ensures { Lowers (λ t i. words_at t.fluents i) writer.old result writer.new
         (map (λ w. w.now) words.now) (a_fluent (map (λ w. w.now) words.now)) }
 {
     writer.extent().count_looked_up(words);
+    writer.extent().count(alloc, 0)?;
     writer.fluent(words)
 }
 
@@ -52,15 +53,16 @@ pub fn fluent<'a>(
 {
     let name = atom.name.as_str();
     match atom.terms.as_slice() {
-        [] => writer.fluent(&[name]),
-        [first] => fluent_of(writer, &[name, object_for(env, first)]),
+        [] => fluent_of(alloc, writer, &[name]),
+        [first] => fluent_of(alloc, writer, &[name, object_for(env, first)]),
         [first, second] => fluent_of(
+            alloc,
             writer,
             &[name, object_for(env, first), object_for(env, second)],
         ),
         _ => {
             let words = words_in(alloc, env, atom)?;
-            fluent_of(writer, &words)
+            fluent_of(alloc, writer, &words)
         }
     }
 }

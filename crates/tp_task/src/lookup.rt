@@ -1,11 +1,12 @@
 //! Words looked up and written out by the numbers of their names.
 
-ghost use Rattle.std.specs.Prelude.{◌≡◌, ◌∷◌, [], ◌++◌, map, length, option_map, slice_get, IfOk, OnOk, slice_index_or, string_bytes, IfSome, ◌+◌, ◌<◌, ◌^◌, true, false, Some, MatchOption};
-ghost use Rattle.std.specs.List.{AllByRecursion, IsDistinct, position_from};
+ghost use Rattle.std.specs.Prelude.{◌≡◌, ◌∷◌, [], ◌++◌, map, length, option_map, slice_get, IfOk, OnOk, slice_index_or, string_bytes, IfSome, is_some, ◌+◌, ◌<◌, ◌^◌, true, false, Some, MatchOption};
+ghost use Rattle.std.specs.List.{AllByRecursion, IsDistinct, list_any, position_from};
 ghost use Rattle.std.specs.Str.{bytes_eq};
 ghost use Rattle.tp_task.specs.Words.{same_words, text_of_words};
 ghost use Rattle.tp_task.specs.Labels.{named, are_known, AreNamed};
 
+use crate::guesses::Guesses;
 use crate::labels::{Label, Labels};
 use indexmap::IndexSet;
 use smallvec::SmallVec;
@@ -81,9 +82,37 @@ fn find_by_names(
     None
 }
 
+/// The number of a name that has one, if it stands in the order of names.
+pub fn ordered_name(names: &IndexSet<String>, guesses: &Guesses, name: &str) -> Option<usize>
+    ensures { IfSome result
+        (λ i. slice_get (map string_bytes names.now.keys) i ≡ Some name.now) }
+{
+    let number = guesses.number(name)?;
+    match names.get_index(number) {
+        Some(known) if name == known.as_str() => Some(number),
+        _ => None,
+    }
+}
+
+// The number of a name, looked for in the order of names first.
+fn known_number(names: &IndexSet<String>, guesses: &Guesses, name: &str) -> Option<usize>
+    ensures index { IfSome result
+        (λ i. slice_get (map string_bytes names.now.keys) i ≡ Some name.now) }
+    ensures found { is_some result ≡ list_any (bytes_eq name.now) (map string_bytes names.now.keys) }
+{
+    if let Some(number) = ordered_name(names, guesses, name) {
+        return Some(number);
+    }
+    match names.get_index_of(name) {
+        Some(number) => Some(number),
+        None => None,
+    }
+}
+
 // The label of words, a name and its objects; None if one of them has no number.
 fn known_label(
     names: &IndexSet<String>,
+    guesses: &Guesses,
     name: &str,
     args: &[&str],
 ) -> Result<Option<Label>, AllocError>
@@ -94,13 +123,13 @@ fn known_label(
         ≡ name.now ∷ map (λ a. a.now) args.now)
         × AreNamed (length (map string_bytes names.now.keys)) l.items)) }
 {
-    let Some(first) = names.get_index_of(name) else {
+    let Some(first) = known_number(names, guesses, name) else {
         return Ok(None);
     };
     let mut label = SmallVec::new(*names.allocator());
     label.push(short(first)?)?;
     for arg in args {
-        let Some(number) = names.get_index_of(*arg) else {
+        let Some(number) = known_number(names, guesses, *arg) else {
             return Ok(None);
         };
         label.push(short(number)?)?;
@@ -109,14 +138,20 @@ fn known_label(
 }
 
 /// Where the first label of these words stands: a name and its objects.
-pub fn find(names: &IndexSet<String>, labels: &Labels, name: &str, args: &[&str]) -> Option<usize>
+pub fn find(
+    names: &IndexSet<String>,
+    guesses: &Guesses,
+    labels: &Labels,
+    name: &str,
+    args: &[&str],
+) -> Option<usize>
     requires distinct { IsDistinct bytes_eq (map string_bytes names.now.keys) }
     requires named { AllByRecursion
         (AreNamed (length (map string_bytes names.now.keys))) labels.now }
     ensures { result ≡ position_from (same_words (name.now ∷ map (λ a. a.now) args.now)) 0
         (map (named (map string_bytes names.now.keys)) labels.now) }
 {
-    match known_label(names, name, args) {
+    match known_label(names, guesses, name, args) {
         Ok(Some(label)) => labels.position(&label),
         Ok(None) => None,
         // No memory for the numbers of so many words: the labels are looked at one after another.

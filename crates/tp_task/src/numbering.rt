@@ -10,7 +10,8 @@ ghost use Rattle.tp_task.specs.Tables.{words_at, IsFull, CannotNumber};
 use crate::fault::{GroundFault, TooManyKind};
 use crate::guesses::Guesses;
 use crate::labels::{Label, Labels, label_at};
-use crate::lookup::{find, has_words_at, short, text_of, word_of};
+use crate::lookup::{find, has_words_at, ordered_name, short, text_of, word_of};
+use crate::order::Order;
 use indexmap::IndexSet;
 use smallvec::SmallVec;
 use std::alloc::{AllocError, Global};
@@ -26,6 +27,9 @@ pub struct Numbering {
     most: u32,
     /// Where atoms and fluents were found before.
     guesses: Guesses,
+    /// The same, of those that are looked up again and again.
+    atom_order: Order,
+    fluent_order: Order,
 }
 
 impl Model for Numbering {
@@ -81,18 +85,6 @@ fn guessed_name(names: &IndexSet<String>, guesses: &Guesses, name: &str) -> Opti
         (λ i. slice_get (map string_bytes names.now.keys) i ≡ Some name.now) }
 {
     let number = guesses.guess(&[name])? as usize;
-    match names.get_index(number) {
-        Some(known) if name == known.as_str() => Some(number),
-        _ => None,
-    }
-}
-
-// The number of a name that has one, found in the order of names.
-fn ordered_name(names: &IndexSet<String>, guesses: &Guesses, name: &str) -> Option<usize>
-    ensures { IfSome result
-        (λ i. slice_get (map string_bytes names.now.keys) i ≡ Some name.now) }
-{
-    let number = guesses.number(name)?;
     match names.get_index(number) {
         Some(known) if name == known.as_str() => Some(number),
         _ => None,
@@ -192,6 +184,46 @@ fn place_of(
     Ok(place as u32)
 }
 
+// The place of a label that has one, found in the order of labels.
+fn ordered_place(labels: &IndexSet<Label>, order: &Order, label: &Label) -> Option<u32>
+    ensures { IfSome result
+        (λ i. slice_get (map (λ l. l.items) labels.now.keys) i ≡ Some label.now.items) }
+{
+    let place = order.place(label)?;
+    match labels.get_index(place as usize) {
+        Some(known) if label == known => Some(place),
+        _ => None,
+    }
+}
+
+// The same as `place_of`, but looks first in the order of labels.
+fn sought_place(
+    labels: &mut IndexSet<Label>,
+    order: &mut Order,
+    most: u32,
+    label: Label,
+    kind: TooManyKind,
+) -> Result<u32, GroundFault>
+    requires { length (map (λ l. l.items) labels.old.keys) ≤ most }
+    ensures place { IfOk result
+        (λ i. slice_get (map (λ l. l.items) labels.new.keys) i ≡ Some label.items) }
+    ensures added { OnOk result (map (λ l. l.items) labels.new.keys
+        ≡ with_label (map (λ l. l.items) labels.old.keys) label.items) }
+    ensures unchanged { OnErr result (labels.new.keys ≡ labels.old.keys) }
+    ensures few { length (map (λ l. l.items) labels.new.keys) ≤ most }
+    ensures err { IfErr result (IsFull kind most (map (λ l. l.items) labels.old.keys) label.items) }
+{
+    if let Some(place) = ordered_place(&*labels, &*order, &label) {
+        return Ok(place);
+    }
+    let count = labels.len();
+    let place = place_of(labels, most, label, kind)?;
+    if labels.len() == count {
+        order.keep(*labels.allocator(), labels.as_slice(), place);
+    }
+    Ok(place)
+}
+
 impl Numbering {
     /// No atoms, fluents and actions, of the first two at most so many each.
     pub fn new(alloc: Global, most: u32) -> Self
@@ -204,6 +236,8 @@ impl Numbering {
             actions: Labels::new(alloc),
             most,
             guesses: Guesses::new(alloc),
+            atom_order: Order::new(alloc),
+            fluent_order: Order::new(alloc),
         }
     }
 
@@ -255,7 +289,13 @@ impl Numbering {
             (with_words self.old.atoms (map (λ w. w.now) words.now)) self.old.fluents) }
     {
         let label = label_of(&mut self.names, &mut self.guesses, &[], words)?;
-        place_of(&mut self.atoms, self.most, label, TooManyKind::Atoms)
+        sought_place(
+            &mut self.atoms,
+            &mut self.atom_order,
+            self.most,
+            label,
+            TooManyKind::Atoms,
+        )
     }
 
     /// The number of an atom, which gets the next one if it has none.
@@ -306,7 +346,13 @@ impl Numbering {
             (with_words self.old.fluents (map (λ w. w.now) words.now))) }
     {
         let label = label_of(&mut self.names, &mut self.guesses, &[], words)?;
-        place_of(&mut self.fluents, self.most, label, TooManyKind::Fluents)
+        sought_place(
+            &mut self.fluents,
+            &mut self.fluent_order,
+            self.most,
+            label,
+            TooManyKind::Fluents,
+        )
     }
 
     /// The number of a fluent, which gets the next one if it has none.
@@ -351,7 +397,7 @@ impl Numbering {
         ensures { result
             ≡ position_from (same_words (name.now ∷ map (λ a. a.now) args.now)) 0 self.now.actions }
     {
-        find(&self.names, &self.actions, name, args)
+        find(&self.names, &self.guesses, &self.actions, name, args)
     }
 
     /// An atom as text.

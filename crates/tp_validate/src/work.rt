@@ -8,8 +8,14 @@ use tp_task::{Body, Cond, Expr, GroundEvent, Limit, NumericEffect, Task};
 // What is gone through counts by how long it takes, a nanosecond as about one. An atom that is added or deleted counts as so much,
 const OF_ATOM: usize = 5;
 
-// a numeric effect, and each part of its expression, or of one in a duration constraint,
+// a numeric effect, and each number, fluent or duration in its expression,
 const OF_NUMBER: usize = 24;
+
+// one in a duration constraint, which is worked out more often,
+const OF_LIMIT: usize = 40;
+
+// and each operator over these as so many times as much, since what is under it is gone through again with it,
+const OF_OPERATOR: usize = 6;
 
 // a condition that is judged, in some states at once,
 const OF_CONDITION: usize = 12;
@@ -117,13 +123,16 @@ fn left_after(cond: &Cond, each: Each<'_>, left: usize) -> Option<usize> {
     }
 }
 
-// What is left behind an expression that is carried out, each of whose parts counts as so much.
+// What is left behind an expression that is carried out, each number, fluent or duration in which counts as so much.
 fn left_after_value(value: &Expr, each: usize, left: usize) -> Option<usize> {
-    let left = left.checked_sub(each)?;
     match value {
-        Expr::Number(_) | Expr::Duration | Expr::Fluent(_) => Some(left),
-        Expr::Negated(x) => left_after_value(x, each, left),
+        Expr::Number(_) | Expr::Duration | Expr::Fluent(_) => left.checked_sub(each),
+        Expr::Negated(x) => {
+            let left = left.checked_sub(each.saturating_mul(OF_OPERATOR))?;
+            left_after_value(x, each, left)
+        }
         Expr::Sum(x, y) | Expr::Difference(x, y) | Expr::Product(x, y) => {
+            let left = left.checked_sub(each.saturating_mul(OF_OPERATOR))?;
             let left = left_after_value(x, each, left)?;
             left_after_value(y, each, left)
         }
@@ -158,7 +167,7 @@ fn left_after_event(
     let left = left.checked_sub(atoms.saturating_mul(times.saturating_mul(OF_ATOM)))?;
     let left = left_after(&event.condition, judged, left)?;
     let left = left_after_writes(&event.writes, each, left)?;
-    left_after_limits(&event.constraint, each, left)
+    left_after_limits(&event.constraint, times.saturating_mul(OF_LIMIT), left)
 }
 
 // Flags the fluents that an event changes.

@@ -17,7 +17,7 @@ loop-instance-preserved c =
     let xs = c.args.some.now in
     let x = c.instance-item.result in
     let label =
-    ap (map (λ (o : Bor Name). o.now)) c.deref-in-loop-instance-2.ensures.value
+    ap (map (λ (o : Bor Name). o.now)) c.deref-in-loop-instance-3.ensures.value
     ∙ c.in_ok-refill.ensures
     ∙ ap₂ (λ (n : Name) (ns : List Name). n ∷ ns) c.as_str.ensures.value (ap (map (λ (o : Bor Name). o.now)) (c.as_slice.ensures.value ∙ ap (λ (v : Vec (Bor Name) Global). v.items) c.deref.ensures)) in
     record {

@@ -15,26 +15,26 @@ returns-in_err-label-clause-actions c = keep _ _ _ _ c.in_err-label.ensures.grow
 
 pub invariant_of-self-2 : goal.invariant_of-self-2
 invariant_of-self-2 c =
-    placed_fluents c.place_of.result _ _ _ _ _ _ c.in_ok-label.label.items (grown _ _ _ _ _ _ c.self.invariant c.in_ok-label.ensures.grows c.in_ok-label.ensures.distinct) c.in_ok-label.ensures.in_range c.place_of.ensures.added
-    (on_err_weaker c.place_of.result (ap (map (λ (l : SmallVec ℕ). l.items))) c.place_of.ensures.unchanged) c.place_of.ensures.few
+    placed_fluents c.sought_place.result _ _ _ _ _ _ c.in_ok-label.label.items (grown _ _ _ _ _ _ c.self.invariant c.in_ok-label.ensures.grows c.in_ok-label.ensures.distinct) c.in_ok-label.ensures.in_range c.sought_place.ensures.added
+    (on_err_weaker c.sought_place.result (ap (map (λ (l : SmallVec ℕ). l.items))) c.sought_place.ensures.unchanged) c.sought_place.ensures.few
 
 pub returns-clause-fluents : goal.returns-clause-fluents
 returns-clause-fluents c =
-    on_ok_weaker c.place_of.result
+    on_ok_weaker c.sought_place.result
     (added_words _ _ c.in_ok-label.label.items _ c.in_ok-label.ensures.grows c.in_ok-label.ensures.distinct c.in_ok-label.ensures.in_range c.in_ok-label.ensures.label _ _ c.self.invariant.fluents_named (ap (λ t. t.fluents) c.self.view_is) _)
-    c.place_of.ensures.added
+    c.sought_place.ensures.added
 
 pub returns-clause-place : goal.returns-clause-place
 returns-clause-place c =
-    IfOk-weaker c.place_of.result _ _
+    IfOk-weaker c.sought_place.result _ _
     (λ i. placed_words _ _ c.in_ok-label.label.items _ c.in_ok-label.ensures.grows c.in_ok-label.ensures.distinct c.in_ok-label.ensures.in_range c.in_ok-label.ensures.label _ i)
-    c.place_of.ensures.place
+    c.sought_place.ensures.place
 
 pub returns-clause-unchanged : goal.returns-clause-unchanged
 returns-clause-unchanged c =
-    on_err_weaker c.place_of.result
+    on_err_weaker c.sought_place.result
     (λ same. keep_same _ _ _ _ _ c.in_ok-label.ensures.grows c.self.invariant.fluents_named (ap (λ t. t.fluents) c.self.view_is) (ap (map (λ (l : SmallVec ℕ). l.items)) same))
-    c.place_of.ensures.unchanged
+    c.sought_place.ensures.unchanged
 
 pub returns-clause-atoms : goal.returns-clause-atoms
 returns-clause-atoms c = keep _ _ _ _ c.in_ok-label.ensures.grows c.self.invariant.atoms_named (ap (λ t. t.atoms) c.self.view_is)
@@ -44,5 +44,5 @@ returns-clause-actions c = keep _ _ _ _ c.in_ok-label.ensures.grows c.self.invar
 
 pub returns-clause-err : goal.returns-clause-err
 returns-clause-err c =
-    MatchResult-weaker c.place_of.result c.place_of.ensures.err (λ i h. h)
+    MatchResult-weaker c.sought_place.result c.sought_place.ensures.err (λ i h. h)
     (λ e. full_fluents _ _ c.in_ok-label.label.items _ c.in_ok-label.ensures.grows c.in_ok-label.ensures.distinct c.in_ok-label.ensures.in_range c.in_ok-label.ensures.label _ _ c.self.invariant.fluents_named (ap (λ t. t.fluents) c.self.view_is) _ _ _ e (ap (λ t. t.most) c.self.view_is))

@@ -1,7 +1,7 @@
 use Rattle.std.proofs.Common.{sym, ap, ◌∙◌, string_bytes}
 use Rattle.std.specs.Str.{bytes_eq}
 use Rattle.tp_task.proofs.OnKeys.{stored_name}
-use Rattle.tp_task.proofs.numbering.ordered_name.Goals as goal
+use Rattle.tp_task.proofs.lookup.ordered_name.Goals as goal
 
 pub returns-in-Some : goal.returns-in-Some
 returns-in-Some c =
