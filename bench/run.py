@@ -470,6 +470,24 @@ def long_sums(terms):
     return domain, f"(define (problem q) (:domain d) (:init {each('(= (f#) 0)', 20_000)}) (:goal ()))", "0: (a) [1]\n" * 512
 
 
+def shared_by_many(objects, actions):
+    """So many actions at one tick that share a disjunction for each pair of so many objects."""
+    names, others = [f"o{k}" for k in range(objects)], each("k#", actions)
+    domain = "(define (domain d) (:types s k) (:predicates (p ?x) (q ?x)) (:action a :parameters (?k - k) :precondition (forall (?c ?d - s) (or (p ?c) (p ?d))) :effect (q ?k)))"
+    problem = f"(define (problem r) (:domain d) (:objects {' '.join(names)} - s {others} - k) (:init {' '.join(f'(p {name})' for name in names)}) (:goal ()))"
+    return domain, problem, "".join(f"0: (a k{k})\n" for k in range(actions))
+
+
+def beside_invariants(objects, times, running, steps):
+    """So many running steps with an invariant over each pair of so many objects, and as many that in turn add and delete an atom for
+    each pair so many times."""
+    over = "(forall (?a ?b - s) (or (r ?a ?b) (t)))"
+    acts = "(:action a :effect (forall (?c - c ?a ?b - s) (r ?a ?b))) (:action b :effect (forall (?c - c ?a ?b - s) (not (r ?a ?b))))"
+    domain = f"(define (domain d) (:types s c) (:predicates (r ?x ?y) (t)) {acts} (:durative-action l :parameters () :duration (>= ?duration 1) :condition (over all {over}) :effect ()))"
+    problem = f"(define (problem q) (:domain d) (:objects {each('o#', objects)} - s {each('z#', times)} - c) (:init (t)) (:goal ()))"
+    return domain, problem, "0: (l) [600]\n" * running + "".join(f"{k + 1}: ({'ab'[k % 2]})\n" for k in range(steps))
+
+
 def wide_steps(parameters, letters, steps):
     """An action of so many parameters for one object of so many letters, which has to be started so many times."""
     variables = each("?x#", parameters)
@@ -639,6 +657,9 @@ def worst_reads(program):
     unlike = [f"{'p' * 120_000}{letter}{'q' * 10}" for letter in "xy"]
     asked = "".join(f"({name})" for name in unlike)
     judged(program, "490,000 bindings above two atoms of 120,011 letters", f"(define (domain d) (:predicates {asked}) (:action a :precondition (forall (?c ?d) (and {asked}))))", f"(define (problem q) (:domain d) (:objects {each('o#', 700)}) (:init) (:goal ()))", "")
+    for command in ("check", "net"):
+        judged(program, f"{command}: 512 actions at one tick that share 108,900 disjunctions", *shared_by_many(330, 512), command)
+    judged(program, "440 steps that add and delete 812,500 atoms beside 72 invariants", *beside_invariants(250, 13, 72, 440))
     for terms in (10_000, 20_000):
         judged(program, f"512 durations that are at least a sum of {terms:,} terms", *long_sums(terms))
     judged(program, "500 steps that name 40 of 19,000 objects whose names collide", *named_steps(19_000, 40, 500))
