@@ -52,9 +52,9 @@ const OF_SCOPE: usize = 160;
 
 const OF_ONE_IN_SCOPE: usize = 64;
 
-// For so many letters no room is asked for: to write out 33 million parts takes a second or two, and a text may ask for thousands
+// For so many letters no room is asked for: to write out 25 million parts takes a second or two, and a text may ask for thousands
 // of times as many.
-const FEW_LETTERS: usize = 34_359_738_368;
+const FEW_LETTERS: usize = 25_769_803_776;
 
 // For each letter behind these, so many bytes to half as many again are asked for, and given back.
 const ROOM_OF_LETTER: usize = 4;
@@ -121,9 +121,11 @@ impl Extent {
         }
     }
 
-    /// Counts half of what no room is asked for beforehand, where all that is written out is written out once more behind it.
-    pub fn halve(&self) {
-        self.count_letters(FEW_LETTERS / 2);
+    /// Counts what no room is asked for beforehand, but for one of so many parts of it, where what is written out is gone through
+    /// behind that.
+    pub fn leave_one_of(&self, parts: usize) {
+        let left = FEW_LETTERS.checked_div(parts).unwrap_or(FEW_LETTERS);
+        self.count_letters(FEW_LETTERS.saturating_sub(left));
     }
 
     /// Begins a goal, or the body of an action under a binding, with so much for the variables in scope, if there is room for as
@@ -194,6 +196,11 @@ impl Extent {
         self.within.get()
     }
 
+    // Whether no room is asked for.
+    fn is_little(&self) -> bool {
+        self.all.get() <= FEW && self.letters.get() <= FEW_LETTERS
+    }
+
     // How many bytes are to be asked for at least.
     fn room(&self) -> usize {
         let within = self.within.get().saturating_sub(FEW).saturating_mul(ROOM);
@@ -236,6 +243,9 @@ impl Extent {
     pub fn count(&self, alloc: Global, more: usize) -> Result<(), AllocError> {
         self.within.set(self.within.get().saturating_add(more));
         self.all.set(self.all.get().saturating_add(more));
+        if self.is_little() {
+            return Ok(());
+        }
         let room = self.room();
         if room <= self.granted.get() {
             return Ok(());

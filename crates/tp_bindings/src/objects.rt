@@ -19,10 +19,12 @@ pub struct Universe<'a> {
         ≡ true },
 }
 
-/// The objects that fit some types, and where the one before stands whose types have the same mix.
+/// The objects that fit some types, where the one before stands whose types have the same mix, and how many objects all lists up
+/// to this one have.
 #[derive(Drop)]
 pub struct Known<'a> {
     pub types: &'a [String],
     pub names: Vec<&'a str>,
     pub before: Option<usize>,
+    pub listed: usize,
 }

@@ -13,6 +13,7 @@ ghost use Rattle.tp_bindings.specs.KnownChoices.{of_types, is_known};
 ghost use Rattle.tp_bindings.specs.Hints.{listed, listed_in};
 ghost use Rattle.tp_bindings.specs.Rows.{names_in};
 
+use crate::extent::ask_for;
 use crate::objects::Known;
 pub use crate::objects::Universe;
 use indexmap::IndexMap;
@@ -181,11 +182,31 @@ pub fn choices<'u, 'a>(
     }
 }
 
-// Keeps the objects that fit a variable's types.
+// For so many objects in all lists that are kept no room is asked for: to look for them takes a second.
+const FEW_LISTED: usize = 4_194_304;
+
+// Where there are more, there has to be room for so many bytes.
+const MUCH: usize = 274_877_906_944;
+
+// How many objects all lists have.
+fn count_listed(known: &[Known]) -> usize {
+    match known.last() {
+        Some(entry) => entry.listed,
+        None => 0,
+    }
+}
+
+// The room that is asked for so many objects in all lists.
+fn room_of_lists(listed: usize) -> usize {
+    if listed > FEW_LISTED { MUCH } else { 0 }
+}
+
+// Keeps the objects that fit a variable's types. All lists have so many then.
 fn keep<'a>(
     universe: &mut Universe<'a>,
     variable: &'a Typed,
     names: Vec<&'a str>,
+    listed: usize,
 ) -> Result<(), AllocError>
     requires { map (λ o. o.now) names.items
         ≡ choices (universe_view universe.old) (typed_view variable.now) }
@@ -199,11 +220,13 @@ fn keep<'a>(
         types,
         names,
         before,
+        listed,
     })?;
     Ok(())
 }
 
-/// Looks for the objects that fit a variable, so that they are known from then on.
+/// Looks for the objects that fit a variable, so that they are known from then on. Behind 4,194,304 of them in all lists it asks for
+/// 275 GB and gives them back: a text may ask for thousands of lists of thousands.
 pub fn note<'a>(
     alloc: Global,
     universe: &mut Universe<'a>,
@@ -215,7 +238,9 @@ pub fn note<'a>(
         return Ok(());
     }
     let names = universe.objects.fitting(alloc, variable.type_names())?;
-    keep(universe, variable, names)
+    let listed = count_listed(&universe.known).saturating_add(names.len());
+    ask_for(alloc, room_of_lists(listed))?;
+    keep(universe, variable, names, listed)
 }
 
 /// Makes a list of a name and then those of a binding.

@@ -1,6 +1,6 @@
 //! Deordering: the network of all schedules of a validated plan.
 //!
-//! - `changes`: how much the events change, and a bound of it
+//! - `changes`: how much the network makes go through, and a bound of it
 //! - `walk`: how many ticks each step may take, by the states that the plan's run goes through
 //! - `spans`: how many ticks a duration constraint allows in a state
 //! - `disturbing`: which events disturb which, by who mentions what

@@ -70,7 +70,8 @@ fn opposite(x: i64) -> i64
 /// Turns the sign of each number.
 pub(crate) fn negate(row: &mut [i64; 64])
     ensures { (k : ℕ) → k < 64 → is_known (number_at row.new k) ≡ true
-        → (is_known (number_at row.old k) ≡ true) × (number_at row.new k ≡ neg_ℤ (number_at row.old k)) }
+        → (is_known (number_at row.old k) ≡ true)
+        × (number_at row.new k ≡ neg_ℤ (number_at row.old k)) }
 {
     for place in 0..64 {
         row[place] = opposite(row[place]);

@@ -342,7 +342,7 @@ fn within<'a>(
 /// they are written out, and given back, so that more than memory holds is refused at once. Behind the 65,535th binding of
 /// quantifiers in the goal or in a ground action's body, those of what is shared counted as often as it stands there, it asks
 /// for 1,024 to 1,536 bytes for each and gives them back, or for 8 to 12 behind the 65,535th of all, if that is more: so
-/// quantifiers in one another that would be gone through for days are refused for want of memory. And behind some 33 million
+/// quantifiers in one another that would be gone through for days are refused for want of memory. And behind some 25 million
 /// parts in all, or as much of bindings, names and variables as takes as long, which is a second or two, it asks for 4,096 to
 /// 6,144 bytes for each part.
 pub fn ground(

@@ -51,6 +51,12 @@ const MOST_BOUND: usize = 67_108_864;
 
 const MUCH: usize = 274_877_906_944;
 
+// What all bindings write out is let through up to one of so many parts of what a task may write out,
+const OF_ALL: usize = 2;
+
+// and what is kept of it up to one of so many, since that was written out before, and a search goes through it.
+const OF_KEPT: usize = 4;
+
 // How many bindings some more parameters have after those before, or as many as can be told. The objects that they may
 // stand for are known from then on.
 fn count_more<'a>(
@@ -243,7 +249,7 @@ fn flags_of<'a>(
         (map initial_in (problem_view problem.now).initial) (map instance_view some.now) v.items) }
 {
     let mut writer = Writer::new(alloc, domain, problem, u32::MAX);
-    writer.extent().halve();
+    writer.extent().leave_one_of(OF_ALL);
     let lowered = lower_freely(alloc, universe, &mut writer, problem, some)?;
     let numbering = writer.into_numbering();
     are_reached(alloc, numbering.atom_count(), &lowered)
@@ -321,6 +327,7 @@ fn task_with<'a>(
         (map instance_view some.now)).fluents)) }
 {
     let mut writer = Writer::new(alloc, domain, problem, limits.atoms());
+    writer.extent().leave_one_of(OF_KEPT);
     let lowered = prepare_with(alloc, universe, &mut writer, problem, some)?;
     Ok(task_of(alloc, *limits, scale, writer.into_numbering(), lowered)?)
 }
@@ -382,8 +389,8 @@ fn reached_within<'a>(
 /// written out once to find these, whatever the limits, so it takes time and memory in what all of them write out. Before
 /// that it asks for 4,096 bytes for each of them behind the 65,535th, and gives them back, so that many more than memory holds
 /// are refused at once, and for 275 GB where there are more than 2,097,152, or more than 67,108,864 objects in them; what a binding
-/// writes out beyond that, as by a quantifier, is asked for as it is gone through, as by `ground`, but from half as much on, since
-/// what is kept is written out twice.
+/// writes out beyond that, as by a quantifier, is asked for as it is gone through, as by `ground`, but from half as much on, and for
+/// what is kept, which is written out twice, from a quarter on.
 pub fn ground_reached(
     alloc: Global,
     domain: &Domain,

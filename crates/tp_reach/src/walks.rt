@@ -7,10 +7,10 @@ use tp_task::{Body, Cond, Expr, GroundEvent};
 
 /// For so many parts of conditions and of the expressions in them, those of a shared one counted as often as they stand there,
 /// no room is asked for: to go through them takes a second or two.
-const FEW: usize = 268_435_456;
+const FEW: usize = 134_217_728;
 
 /// Where there are more, there has to be room for so many bytes for each of these.
-const ROOM: usize = 1_024;
+const ROOM: usize = 2_048;
 
 /// The shared conditions that were counted before, and how many parts each has.
 #[derive(Drop)]
@@ -40,7 +40,7 @@ impl<'t> Counted<'t> {
     }
 
     /// How many parts a condition has, with those of the expressions in it, and those of a shared one as often as it stands
-    /// there. Behind 268,435,456 of an `and` or `or` the rest is not counted.
+    /// there. Behind 134,217,728 of an `and` or `or` the rest is not counted.
     #[cycle(count)]
     pub fn count(&mut self, cond: &'t Cond) -> Result<usize, AllocError> {
         match cond {

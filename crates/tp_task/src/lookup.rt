@@ -98,7 +98,8 @@ pub fn ordered_name(names: &IndexSet<String>, guesses: &Guesses, name: &str) -> 
 fn known_number(names: &IndexSet<String>, guesses: &Guesses, name: &str) -> Option<usize>
     ensures index { IfSome result
         (λ i. slice_get (map string_bytes names.now.keys) i ≡ Some name.now) }
-    ensures found { is_some result ≡ list_any (bytes_eq name.now) (map string_bytes names.now.keys) }
+    ensures found { is_some result
+        ≡ list_any (bytes_eq name.now) (map string_bytes names.now.keys) }
 {
     if let Some(number) = ordered_name(names, guesses, name) {
         return Some(number);

@@ -6,7 +6,7 @@ use tp_happen::Step;
 use tp_task::{Body, Cond, Expr, GroundEvent, Limit, NumericEffect, Task};
 
 // What is gone through counts by how long it takes, a nanosecond as about one. An atom that is added or deleted counts as so much,
-const OF_ATOM: usize = 5;
+const OF_ATOM: usize = 14;
 
 // a numeric effect, and each number, fluent or duration in its expression,
 const OF_NUMBER: usize = 24;
@@ -18,7 +18,7 @@ const OF_LIMIT: usize = 40;
 const OF_OPERATOR: usize = 6;
 
 // a condition that is judged, in some states at once,
-const OF_CONDITION: usize = 12;
+const OF_CONDITION: usize = 16;
 
 // and in it a fluent and any other part of an expression, where no number in it changes,
 const OF_STEADY_FLUENT: usize = 32;
@@ -35,11 +35,11 @@ const OF_INVARIANT: usize = 20;
 
 const OF_KEPT: usize = 4;
 
-// For so much no room is asked for: it takes a second or two.
-const FEW: usize = 2_147_483_648;
+// For so much no room is asked for: it takes a second and a half.
+const FEW: usize = 1_610_612_736;
 
 // Where there is more, there has to be room for so many bytes for each of these.
-const ROOM: usize = 64;
+const ROOM: usize = 85;
 
 // What a condition counts as, and how often a part of an expression in it is counted. The fluents are flagged that change.
 #[derive(Clone, Copy)]
