@@ -1,22 +1,24 @@
--- Bounds of a setting that come into force one after another, by rising identifier.
-use Rattle.std.proofs.Common.{◌≡◌, ℕ, ◌<◌, inl, inr, false, T, List, [], ◌∷◌, ◌++◌, map, get_or, replicate, Option, Some, None, refl, sym, ap, subst, ◌∙◌, arith}
-use Rattle.std.proofs.lemmas.List.{length-replicate, append_assoc}
+-- Bounds of a setting that come into force one after another, in any order.
+use Rattle.std.proofs.Common.{◌≡◌, ◌≢◌, ◌⊎◌, ℕ, ◌<◌, inl, inr, false, T, List, [], ◌∷◌, ◌++◌, map, get_or, replicate, Option, Some, None, refl, sym, ap, subst, ◌∙◌, arith}
+use Rattle.std.proofs.lemmas.List.{length-replicate}
 use Rattle.std.proofs.lemmas.Grind.{common_steps}
+use Rattle.std.proofs.lemmas.Bool.{cases_eq}
 use Rattle.std.specs.Ordering.{nat_cmp, eq_by_cmp, is_lt}
 use Rattle.std.specs.Cmp.{nat_cmp_total}
 use Rattle.std.specs.Borrow.{Bor}
 use Rattle.std.specs.Iterator.{Yields}
 use Rattle.std.specs.Map.Iter.{TakesFirst, deref_pair}
 use Rattle.std.proofs.lemmas.Map.Iter.{rest_more, rest_so_far}
-use Rattle.std.specs.FinMap.{FinMap, get, insert, entries, entries_sorted, get-entries, get-from_entries, from_entries_push, find, is_sorted, nat_cmp-IsAntisymmetric}
+use Rattle.std.specs.FinMap.{FinMap, get, get-empty, insert, same_map, entries, entries_sorted, get-entries, find, is_sorted, nat_cmp-IsAntisymmetric}
 use Rattle.std.specs.FinMap.Entries.{below_all}
 use Rattle.tp_bounds.specs.declared.Point.{Point}
 use Rattle.tp_bounds.specs.declared.Point.TheVariants.{Origin, Event}
 use Rattle.tp_bounds.specs.declared.Bound.{Bound}
 use Rattle.tp_bounds.specs.Setting.{Setting, event_count, HasPoint, IsInRange}
 use Rattle.tp_bounds.specs.Lawful.{IsLawful}
-use Rattle.tp_bounds.specs.Held.{held}
 use Rattle.tp_bounds.specs.Changes.{fresh, with_bound}
+use Rattle.tp_net.proofs.Laws.{get_inserted, get_insert_other}
+use Rattle.tp_machine.specs.Partly.{IsPartly, Joins}
 use Rattle.tp_agents.specs.declared.fault.SplitFault.{SplitFault}
 use Rattle.tp_agents.specs.declared.fault.SplitFault.TheVariants.{Memory, Owner, Conflict}
 use Rattle.tp_agents.specs.Splits.{IsUnbegun}
@@ -70,21 +72,19 @@ entry_found (e ∷ es) s p (inr h) =
 pub entry_get : (m : FinMap nat_cmp Bound) (p : ℕ × Bound) → Among p (entries m) → get m p.0 ≡ Some p.1
 entry_get m p a = get-entries m p.0 ∙ (entry_found (entries m) (entries_sorted m) p a).there
 
-below_middle : (x : ℕ) (ys rest : List (ℕ × Bound)) (p : ℕ × Bound) → T (below_all nat_cmp x (ys ++ p ∷ rest)) → T (is_lt (nat_cmp x p.0))
-below_middle x [] rest p h = (parts (is_lt (nat_cmp x p.0)) (below_all nat_cmp x rest) h).0
-below_middle x (e ∷ es) rest p h = below_middle x es rest p (parts (is_lt (nat_cmp x e.0)) (below_all nat_cmp x (es ++ p ∷ rest)) h).1
-
--- no entry has the key of a later one
-not_before : (ys rest : List (ℕ × Bound)) (p : ℕ × Bound) → T (is_sorted nat_cmp (ys ++ p ∷ rest)) → find nat_cmp p.0 ys ≡ None
-not_before [] rest p s = refl
-not_before (e ∷ es) rest p s =
-    let q = parts (below_all nat_cmp e.0 (es ++ p ∷ rest)) (is_sorted nat_cmp (es ++ p ∷ rest)) s in
-    cond_false (eq_by_cmp nat_cmp p.0 e.0) (Some e.1) (find nat_cmp p.0 es) (apart e.0 p.0 (below_middle e.0 es rest p q.0)) ∙ not_before es rest p q.1
-
 -- the entries that a loop over a map has before it, and those behind
 pub ahead_is : (bounds : FinMap nat_cmp Bound) (es : List (ℕ × Bound)) (xs : List (Bor ℕ × Bor Bound)) (s t u : List (ℕ × Bound)) (r : Option (Bor ℕ × Bor Bound)) (x : Bor ℕ × Bor Bound) → entries bounds ≡ es → s ≡ es → Yields (TakesFirst deref_pair) s xs t → r ≡ Some x → TakesFirst deref_pair t r u → entries bounds ≡ map deref_pair xs ++ deref_pair x ∷ u
 ahead_is bounds es xs s t u r x same start y is step =
     same ∙ (sym start ∙ (rest_so_far deref_pair xs s t y ∙ ap (λ (l : List (ℕ × Bound)). map deref_pair xs ++ l) (rest_more deref_pair t u r x is step)))
+
+none_behind : {X : Type 0} (ys : List X) → ys ++ [] ≡ ys
+none_behind [] = refl
+none_behind (y ∷ ys) = ap (λ l. y ∷ l) (none_behind ys)
+
+-- the entries of which a loop over a map has none behind it
+pub all_are : (bounds : FinMap nat_cmp Bound) (es : List (ℕ × Bound)) (xs : List (Bor ℕ × Bor Bound)) (s t : List (ℕ × Bound)) → entries bounds ≡ es → s ≡ es → Yields (TakesFirst deref_pair) s xs t → t ≡ [] → entries bounds ≡ map deref_pair xs
+all_are bounds es xs s t same start y none =
+    same ∙ (sym start ∙ (rest_so_far deref_pair xs s t y ∙ (ap (λ (l : List (ℕ × Bound)). map deref_pair xs ++ l) none ∙ none_behind (map deref_pair xs))))
 
 -- ---- a network of the first entries
 
@@ -101,60 +101,86 @@ fresh_count n horizon = length-replicate n None
 pub unbegun_fresh : (n horizon : ℕ) (m : FinMap nat_cmp Bound) → IsUnbegun (record (fresh n horizon) { bounds = m })
 unbegun_fresh n horizon m = record { start = refl; no_past = none_fixed n; asks_nothing = refl }
 
--- the first entries of a setting's bounds, alone in force
-pub part_of_entries : (s : Setting) → IsUnbegun s → (ys rest : List (ℕ × Bound)) → entries s.bounds ≡ ys ++ rest → IsPartOf (record (fresh (event_count s) s.horizon) { bounds = held ys }) s
-part_of_entries s unbegun ys rest all =
-    record {
-      one = unbegun_fresh (event_count s) s.horizon (held ys);
-      other = unbegun;
-      count = fresh_count (event_count s) s.horizon;
-      until = refl;
-      held = λ id b g.
-          let found : find nat_cmp id ys ≡ Some b = sym (get-from_entries nat_cmp_total ys id) ∙ g in
-          entry_get s.bounds (id, b) (subst (Among (id, b)) (sym all) (among_front (id, b) ys rest (found_entry ys id b found)));
-    }
+pub none_fresh : (n horizon q : ℕ) → get (fresh n horizon).bounds q ≡ None
+none_fresh n horizon q = get-empty nat_cmp q
 
-module _ (s old r : Setting) (ys : List (ℕ × Bound)) (p : ℕ × Bound) (rest : List (ℕ × Bound)) (new : old ≡ fresh (event_count s) s.horizon) (is : r ≡ record old { bounds = held ys }) (all : entries s.bounds ≡ ys ++ p ∷ rest) where
-  sorted : T (is_sorted nat_cmp (ys ++ p ∷ rest))
-  sorted = subst (λ es. T (is_sorted nat_cmp es)) all (entries_sorted s.bounds)
+-- ---- some of a setting's bounds are in force
 
-  not_found : find nat_cmp p.0 ys ≡ None
-  not_found = not_before ys rest p sorted
-
-  pub next_unused : get r.bounds p.0 ≡ None
-  next_unused = ap (λ (q : Setting). get q.bounds p.0) is ∙ (get-from_entries nat_cmp_total ys p.0 ∙ not_found)
-
-  pub next_there : get s.bounds p.0 ≡ Some p.1
-  next_there = entry_get s.bounds p (subst (Among p) (sym all) (among_between p ys rest))
-
+module _ (s r : Setting) (part : IsPartly (fresh (event_count s) s.horizon) r (get s.bounds)) (id : ℕ) (b : Bound) (there : get s.bounds id ≡ Some b) where
   same_count : event_count r ≡ event_count s
-  same_count = ap event_count is ∙ (ap event_count new ∙ fresh_count (event_count s) s.horizon)
+  same_count = ap event_count part.others ∙ fresh_count (event_count s) s.horizon
 
-  pub next_from : IsLawful s → HasPoint r p.1.from
-  next_from lawful = has_point_as r s same_count p.1.from (lawful.in_force p.0 p.1 next_there).from
+  pub next_from : IsLawful s → HasPoint r b.from
+  next_from lawful = has_point_as r s same_count b.from (lawful.in_force id b there).from
 
-  pub next_to : IsLawful s → HasPoint r p.1.to
-  next_to lawful = has_point_as r s same_count p.1.to (lawful.in_force p.0 p.1 next_there).to
+  pub next_to : IsLawful s → HasPoint r b.to
+  next_to lawful = has_point_as r s same_count b.to (lawful.in_force id b there).to
 
-  pub next_weight : IsLawful s → IsInRange p.1.w
-  next_weight lawful = (lawful.in_force p.0 p.1 next_there).weight
+  pub next_weight : IsLawful s → IsInRange b.w
+  next_weight lawful = (lawful.in_force id b there).weight
 
-  pushed : insert (held ys) p.0 p.1 ≡ held (ys ++ p ∷ [])
-  pushed = sym (from_entries_push nat_cmp_total nat_cmp-IsAntisymmetric ys p.0 p.1 not_found)
+  next_is : with_bound r id b ≡ record (fresh (event_count s) s.horizon) { bounds = insert r.bounds id b }
+  next_is = ap (λ (q : Setting). with_bound q id b) part.others
 
-  pub next_is : with_bound r p.0 p.1 ≡ record old { bounds = held (ys ++ p ∷ []) }
-  next_is = ap (λ (q : Setting). with_bound q p.0 p.1) is ∙ ap (λ m. record old { bounds = m }) pushed
+  held_next : (q : ℕ) (c : Bound) → get (insert r.bounds id b) q ≡ Some c → get s.bounds q ≡ Some c
+  held_next q c g =
+      elim (cases_eq q id) [
+        | inl same ↦ ap (get s.bounds) same ∙ (there ∙ (sym (get_inserted r.bounds id b) ∙ (ap (get (insert r.bounds id b)) (sym same) ∙ g)))
+        | inr ne ↦ part.each q c (sym (get_insert_other r.bounds id q b ne) ∙ g)
+      ]
 
-  next_part : IsUnbegun s → IsPartOf (with_bound r p.0 p.1) s
+  next_part : IsUnbegun s → IsPartOf (with_bound r id b) s
   next_part unbegun =
-      subst (λ q. IsPartOf q s) (sym (next_is ∙ ap (λ (q : Setting). record q { bounds = held (ys ++ p ∷ []) }) new))
-      (part_of_entries s unbegun (ys ++ p ∷ []) rest (all ∙ sym (append_assoc ys (p ∷ []) rest)))
+      subst (λ q. IsPartOf q s) (sym next_is) (record {
+        one = unbegun_fresh (event_count s) s.horizon (insert r.bounds id b);
+        other = unbegun;
+        count = fresh_count (event_count s) s.horizon;
+        until = refl;
+        held = held_next;
+      })
 
   -- what contradicts the bounds up to the next contradicts them all
-  pub next_contradicted : IsUnbegun s → (f : SplitFault) → IsContradicted (with_bound r p.0 p.1) f → IsContradicted s f
+  pub next_contradicted : IsUnbegun s → (f : SplitFault) → IsContradicted (with_bound r id b) f → IsContradicted s f
   next_contradicted unbegun Memory h = tt
   next_contradicted unbegun (Owner e) h = absurd h
-  next_contradicted unbegun (Conflict reason) h = contradicts_whole (with_bound r p.0 p.1) s (next_part unbegun) reason.edges.items h
+  next_contradicted unbegun (Conflict reason) h = contradicts_whole (with_bound r id b) s (next_part unbegun) reason.edges.items h
+
+-- where there is none, nothing comes into force
+pub joins_none : (r : Setting) (of : ℕ → Option Bound) (q : ℕ) → of q ≡ None → Joins r r of q
+joins_none r of q none = record { others = refl; each = λ p b g. inl g; stays = λ p h. h; there = λ some. absurd (some none) }
+
+-- ---- all of them
+
+abbrev pub AreThere : Setting → List (ℕ × Bound) → Type 0
+AreThere r es = (p : ℕ × Bound) → Among p es → get r.bounds p.0 ≢ None
+
+among_pushed : {X : Type 0} (x z : X) (xs : List X) → Among x (xs ++ z ∷ []) → Among x xs ⊎ (z ≡ x)
+among_pushed x z [] (inl same) = inr same
+among_pushed x z [] (inr h) = absurd h
+among_pushed x z (y ∷ ys) (inl same) = inl (inl same)
+among_pushed x z (y ∷ ys) (inr a) = elim (among_pushed x z ys a) [ inl h ↦ inl (inr h) | inr same ↦ inr same ]
+
+pub more_there : (s r t : Setting) (ys rest : List (ℕ × Bound)) (p : ℕ × Bound) → entries s.bounds ≡ ys ++ p ∷ rest → AreThere r ys → Joins r t (get s.bounds) p.0 → AreThere t (ys ++ p ∷ [])
+more_there s r t ys rest p all h j q a =
+    elim (among_pushed q p ys a) [
+      | inl before ↦ j.stays q.0 (h q before)
+      | inr same ↦
+          let in_force : get s.bounds p.0 ≡ Some p.1 = entry_get s.bounds p (subst (Among p) (sym all) (among_between p ys rest)) in
+          subst (λ (z : ℕ × Bound). get t.bounds z.0 ≢ None) same (j.there (λ none. let f : Some p.1 ≡ None = sym in_force ∙ none in (let g : ⊥ = cc in g)))
+    ]
+
+module _ (s r : Setting) (es : List (ℕ × Bound)) (part : IsPartly (fresh (event_count s) s.horizon) r (get s.bounds)) (all : entries s.bounds ≡ es) (there : AreThere r es) where
+  in_both : (q : ℕ) (o u : Option Bound) → get r.bounds q ≡ o → get s.bounds q ≡ u → get r.bounds q ≡ get s.bounds q
+  in_both q (Some b) u is other = is ∙ sym (part.each q b is)
+  in_both q None None is other = is ∙ sym other
+  in_both q None (Some c) is other =
+      let found : find nat_cmp q (entries s.bounds) ≡ Some c = sym (get-entries s.bounds q) ∙ other in
+      absurd (there (q, c) (subst (Among (q, c)) all (found_entry (entries s.bounds) q c found)) is)
+
+  pub all_of : r ≡ record (fresh (event_count s) s.horizon) { bounds = s.bounds }
+  all_of =
+      part.others
+      ∙ ap (λ (m : FinMap nat_cmp Bound). record (fresh (event_count s) s.horizon) { bounds = m }) (same_map nat_cmp_total nat_cmp-IsAntisymmetric r.bounds s.bounds (λ q. in_both q (get r.bounds q) (get s.bounds q) refl refl))
 
 -- a setting with the bounds of another, in which nothing has happened either
 pub part_of_same : (s r : Setting) → IsUnbegun s → r ≡ record (fresh (event_count s) s.horizon) { bounds = s.bounds } → IsPartOf r s

@@ -1,8 +1,9 @@
 -- Schedules of settings in which the network of a plan is in force.
-use Rattle.std.proofs.Common.{◌≡◌, ℕ, zero, suc, ◌+◌, ◌<◌, ◌≤◌, List, [], ◌∷◌, length, get_or, Some, sym, ap, subst, ◌∙◌, arith}
+use Rattle.std.proofs.Common.{◌≡◌, ℕ, zero, suc, ◌+◌, ◌<◌, ◌≤◌, List, [], ◌∷◌, length, get_or, pos, Some, sym, ap, subst, ◌∙◌, arith}
 use Rattle.std.proofs.lemmas.List.Elements.{All-weaker, All-from_get_or, recursion_from_All}
 use Rattle.std.specs.FinMap.{get}
 use Rattle.tp_bounds.specs.declared.Bound.{Bound}
+use Rattle.tp_bounds.specs.declared.Point.TheVariants.{Origin}
 use Rattle.tp_bounds.specs.declared.plan_nets.PlanNet.{PlanNet}
 use Rattle.tp_bounds.specs.RunLimits.{RunLimits}
 use Rattle.tp_bounds.specs.Setting.{Setting, event_count}
@@ -13,7 +14,7 @@ use Rattle.tp_bounds.specs.Changes.{with_bound}
 use Rattle.tp_bounds.proofs.Schedules.{is_schedule}
 use Rattle.tp_bounds.proofs.Numbering.{others_stay}
 use Rattle.tp_net.proofs.Laws.{get_inserted}
-use Rattle.tp_machine.proofs.OwnBounds.{stays_before, same_events, nothing}
+use Rattle.tp_machine.proofs.OwnBounds.{stays_before, same_events}
 use Rattle.tp_deorder.specs.tp_task.declared.task.Task.{Task}
 use Rattle.tp_deorder.specs.tp_happen.tp_plan_texts.declared.plans.Step.{Step}
 use Rattle.tp_deorder.specs.tp_validate.OfTask.{plan_of}
@@ -24,6 +25,10 @@ use Rattle.tp_joined_plans.specs.NetsInForce.{IsInForce, HasInForce, MakesValidP
 use Rattle.tp_exec.proofs.OwnSchedules.{in_time}
 
 -- ---- bounds come into force
+
+-- what stands for a bound where there is none
+nothing : Bound
+nothing = record { from = Origin; to = Origin; w = pos 0 }
 
 each_there : (s : Setting) (id : ℕ) (xs : List Bound) (d : Bound) (k : ℕ) → k < length xs → get (with_bounds s id xs).bounds (id + k) ≡ Some (get_or xs k d)
 each_there s id [] d k lt = absurd (let f : ⊥ = omega arith in f)

@@ -5,3 +5,4 @@ pub mod Runs
 pub mod CopyLemmas
 pub mod OwnBounds
 pub mod Keeping
+pub mod InTurn

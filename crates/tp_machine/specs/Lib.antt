@@ -3,3 +3,4 @@ pub mod Step
 pub mod Run
 pub mod Copies
 pub mod OwnBounds
+pub mod Partly

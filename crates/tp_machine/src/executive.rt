@@ -281,7 +281,7 @@ impl<N: Net + Drop> Executive<N> {
         ensures { IfOk result
             (λ executive. executive ≡ plan_machine (N.seen net) network.now.bounds.items limits) }
     {
-        let own = bring_own(&mut net, network, limits.ids())?;
+        let own = bring_own(alloc, &mut net, network, limits.ids())?;
         Ok(Executive {
             alloc,
             net,

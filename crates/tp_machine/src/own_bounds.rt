@@ -1,14 +1,16 @@
 //! The bounds of a plan come into force.
 
-ghost use Rattle.std.specs.Prelude.{◌≡◌, ◌≤◌, true, length, None, IfOk, OnOk};
+ghost use Rattle.std.specs.Prelude.{◌≡◌, ◌≤◌, true, length, slice_get, None, IfOk, OnOk};
 ghost use Rattle.std.specs.FinMap as map;
-ghost use Rattle.tp_bounds.specs.Setting.{event_count, HasPoint, IsInRange};
+ghost use Rattle.tp_bounds.specs.Setting.{Setting, event_count, HasPoint, IsInRange};
 ghost use Rattle.tp_bounds.specs.Schedule.{HasSchedule};
 ghost use Rattle.tp_bounds.specs.Changes.{with_bound};
 ghost use Rattle.tp_bounds.specs.OwnBounds.{with_bounds};
 ghost use Rattle.tp_machine.specs.Machine.{IsFresh};
+ghost use Rattle.tp_machine.specs.Partly.{IsPartly, Joins};
 
-use std::alloc::AllocError;
+use crate::firsts::foremost;
+use std::alloc::{AllocError, Global};
 use tp_bounds::{Bound, BoundId, PlanNet};
 use tp_net::{Net, NetFault};
 
@@ -30,9 +32,33 @@ fn bring<N: Net>(net: &mut N, id: BoundId, bound: Bound) -> Result<(), AllocErro
     }
 }
 
+/// Brings the bound at a place of a plan's network into force, if there is one that is not in force yet.
+fn bring_at<N: Net>(net: &mut N, network: &PlanNet, place: u32) -> Result<(), AllocError>
+    requires between { N.takes_between ≡ true }
+    requires begun { (s : Setting) × IsFresh s
+        × (event_count s ≡ length network.now.events.items) × (s.horizon ≡ network.now.horizon)
+        × IsPartly s (N.seen net.old) (slice_get network.now.bounds.items) }
+    ensures { OnOk result
+        (Joins (N.seen net.old) (N.seen net.new) (slice_get network.now.bounds.items) place) }
+{
+    let Some(bound) = network.bounds.get(place as usize) else {
+        return Ok(());
+    };
+    if net.bound(BoundId(place)).is_some() {
+        return Ok(());
+    }
+    bring(net, BoundId(place), *bound)
+}
+
 /// Brings the bounds of a plan's network into force, under identifiers from 0 on, and tells how many they are: at most so
-/// many as there are identifiers.
-pub(crate) fn bring_own<N: Net>(net: &mut N, network: &PlanNet, ids: u32) -> Result<u32, AllocError>
+/// many as there are identifiers. Those come first that hold moments in the end, since a bound that moves points behind others is
+/// looked at with all that these join.
+pub(crate) fn bring_own<N: Net>(
+    alloc: Global,
+    net: &mut N,
+    network: &PlanNet,
+    ids: u32,
+) -> Result<u32, AllocError>
     requires between { N.takes_between ≡ true }
     requires fresh { IsFresh (N.seen net.old) }
     requires events { event_count (N.seen net.old) ≡ length network.now.events.items }
@@ -42,9 +68,14 @@ pub(crate) fn bring_own<N: Net>(net: &mut N, network: &PlanNet, ids: u32) -> Res
         (N.seen net.new ≡ with_bounds (N.seen net.old) 0 network.now.bounds.items) }
     ensures count { IfOk result (λ own. own ≡ length network.now.bounds.items) }
 {
+    let events = network.events.len();
+    let order = foremost(alloc, &network.bounds, events, network.horizon)?;
+    for place in &order {
+        bring_at(net, network, *place)?;
+    }
     let mut next = 0;
-    for bound in &network.bounds {
-        bring(net, BoundId(next), *bound)?;
+    for _bound in &network.bounds {
+        bring_at(net, network, next)?;
         next += 1;
     }
     Ok(next)

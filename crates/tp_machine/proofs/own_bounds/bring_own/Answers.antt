@@ -1,43 +1,43 @@
-use Rattle.std.proofs.Common.{◌<◌, List, length, get_or, ap, ◌∙◌, arith}
-use Rattle.tp_bounds.specs.declared.Bound.{Bound}
-use Rattle.tp_bounds.specs.Changes.{with_bound}
-use Rattle.tp_machine.proofs.OwnBounds.{nothing, next_is, next_unused, next_possible, next_from, next_to}
+use Rattle.std.proofs.Common.{slice_get}
+use Rattle.std.proofs.Common.{◌<◌, length, arith, refl}
+use Rattle.tp_machine.proofs.OwnBounds.{none_yet}
+use Rattle.tp_machine.proofs.InTurn.{joined, none_partly, more_there, all_of}
 use Rattle.tp_machine.proofs.own_bounds.bring_own.Goals as goal
 
-pub bring-requires-clause-from : goal.bring-requires-clause-from
-bring-requires-clause-from g c =
-    let net = c.args.network.now in
-    let lt : c.loop-bound.bound-index < length net.bounds.items = omega (arith, c.deref-bound-items.ensures.len) in
-    rw c.deref-bound-items.ensures.value
-    (next_from (g.N.Net.seen c.args.net.now) (g.N.Net.seen c.loop-bound.net) net.bounds.items c.loop-bound.next c.loop-bound.bound-index _ c.loop-bound.invariant.bounds c.loop-bound.invariant.next lt _ c.requires.events net.net.suit)
+pub loop-place-init : goal.loop-place-init
+loop-place-init g c = none_partly (g.N.Net.seen c.args.net.now) (slice_get c.args.network.now.bounds.items) (none_yet (g.N.Net.seen c.args.net.now) c.requires.fresh)
 
-pub bring-requires-clause-to : goal.bring-requires-clause-to
-bring-requires-clause-to g c =
-    let net = c.args.network.now in
-    let lt : c.loop-bound.bound-index < length net.bounds.items = omega (arith, c.deref-bound-items.ensures.len) in
-    rw c.deref-bound-items.ensures.value
-    (next_to (g.N.Net.seen c.args.net.now) (g.N.Net.seen c.loop-bound.net) net.bounds.items c.loop-bound.next c.loop-bound.bound-index _ c.loop-bound.invariant.bounds c.loop-bound.invariant.next lt _ c.requires.events net.net.suit)
+pub bring_at-requires-clause-begun : goal.bring_at-requires-clause-begun
+bring_at-requires-clause-begun g c = (g.N.Net.seen c.args.net.now, c.requires.fresh, c.requires.events, c.requires.horizon, c.loop-place.invariant)
 
-pub bring-requires-clause-unused : goal.bring-requires-clause-unused
-bring-requires-clause-unused g c =
-    let net = c.args.network.now in
-    let lt : c.loop-bound.bound-index < length net.bounds.items = omega (arith, c.deref-bound-items.ensures.len) in
-    next_unused (g.N.Net.seen c.args.net.now) (g.N.Net.seen c.loop-bound.net) net.bounds.items c.loop-bound.next c.loop-bound.bound-index nothing c.loop-bound.invariant.bounds c.loop-bound.invariant.next lt c.requires.fresh
+pub loop-place-preserved : goal.loop-place-preserved
+loop-place-preserved g c =
+    joined (g.N.Net.seen c.args.net.now) (g.N.Net.seen c.loop-place.net) _ (slice_get c.args.network.now.bounds.items) _ c.loop-place.invariant c.in_ok-bring_at.ensures
 
-pub bring-requires-clause-possible : goal.bring-requires-clause-possible
-bring-requires-clause-possible g c =
-    let net = c.args.network.now in
-    let lt : c.loop-bound.bound-index < length net.bounds.items = omega (arith, c.deref-bound-items.ensures.len) in
-    rw c.deref-bound-items.ensures.value
-    (next_possible (g.N.Net.seen c.args.net.now) (g.N.Net.seen c.loop-bound.net) net.bounds.items c.loop-bound.next c.loop-bound.bound-index _ c.loop-bound.invariant.bounds c.loop-bound.invariant.next lt _ _ c.requires.fresh c.requires.events c.requires.horizon net.net.possible)
+pub loop-bound-init : goal.loop-bound-init
+loop-bound-init g c =
+    record {
+      partly = c.loop-place.invariant;
+      there = λ q lt. absurd (let f : ⊥ = omega arith in f);
+      next = refl;
+    }
+
+pub bring_at-requires-in-loop-bound-clause-begun : goal.bring_at-requires-in-loop-bound-clause-begun
+bring_at-requires-in-loop-bound-clause-begun g c = (g.N.Net.seen c.args.net.now, c.requires.fresh, c.requires.events, c.requires.horizon, c.loop-bound.invariant.partly)
 
 pub loop-bound-preserved : goal.loop-bound-preserved
 loop-bound-preserved g c =
-    let net = c.args.network.now in
-    let lt : c.loop-bound.bound-index < length net.bounds.items = omega (arith, c.deref-bound-items.ensures.len) in
+    let xs = c.args.network.now.bounds.items in
+    let r = g.N.Net.seen c.loop-bound.net in
+    let t = g.N.Net.seen c.bring_at-in-loop-bound.new.net in
+    let lt : c.loop-bound._bound-index < length xs = omega (arith, c.deref-bound-items.ensures.len) in
     record {
-      bounds = c.in_ok-bring.ensures
-          ∙ (ap (λ (xs : List Bound). with_bound (g.N.Net.seen c.loop-bound.net) c.loop-bound.next (get_or xs c.loop-bound.bound-index nothing)) c.deref-bound-items.ensures.value
-          ∙ next_is (g.N.Net.seen c.args.net.now) (g.N.Net.seen c.loop-bound.net) net.bounds.items c.loop-bound.next c.loop-bound.bound-index nothing c.loop-bound.invariant.bounds c.loop-bound.invariant.next lt);
+      partly = joined (g.N.Net.seen c.args.net.now) r t (slice_get xs) c.loop-bound.next c.loop-bound.invariant.partly c.in_ok-bring_at-2.ensures;
+      there = more_there r t xs c.loop-bound._bound-index c.loop-bound.next c.loop-bound.invariant.there lt c.loop-bound.invariant.next c.in_ok-bring_at-2.ensures;
       next = omega arith;
     }
+
+pub returns-clause-bounds : goal.returns-clause-bounds
+returns-clause-bounds g c =
+    all_of (g.N.Net.seen c.args.net.now) (g.N.Net.seen c.loop-bound.net) c.args.network.now.bounds.items c.requires.fresh c.loop-bound.invariant.partly
+    (λ q lt. c.loop-bound.invariant.there q (omega (arith, lt, c.deref-bound-items.ensures.len)))
