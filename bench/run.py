@@ -149,7 +149,8 @@ def judged(program, name, domain, problem, plan, command="check", options=(), ow
         best = None
         for _ in range(3):
             begin = time.perf_counter()
-            child = subprocess.Popen([str(program), command, *map(str, files), *options], stdout=subprocess.PIPE, stderr=subprocess.STDOUT, text=True)
+            words = [str(program), command, *map(str, files), *options]
+            child = subprocess.Popen(words, stdin=subprocess.DEVNULL, stdout=subprocess.PIPE, stderr=subprocess.STDOUT, text=True)
             said = child.stdout.read().strip()
             _, _, used = os.wait4(child.pid, 0)
             took = time.perf_counter() - begin
@@ -249,6 +250,8 @@ def at_once(program):
     small = "(define (domain few) (:predicates (a ?x)) (:action act :parameters (?x ?y) :precondition (a ?x) :effect (a ?y)))"
     names = " ".join(f"o{k}" for k in range(255))
     few = f"(define (problem q) (:domain few) (:objects {names}) (:init (a o0) (a o1)) (:goal ()))"
+    judged(program, "a small step at each of 512 ticks, beside 30,000 atoms and as many fluents", *at_each_tick(30_000, 30_000, 256))
+    judged(program, "no step beside them", *at_each_tick(30_000, 30_000, 0))
     judged(program, "two small steps at each of 256 ticks, 65,025 actions", small, few, "".join(f"{k}: (act o0 o2)\n{k}: (act o0 o3)\n" for k in range(256)))
 
 
@@ -470,6 +473,21 @@ def long_sums(terms):
     return domain, f"(define (problem q) (:domain d) (:init {each('(= (f#) 0)', 20_000)}) (:goal ()))", "0: (a) [1]\n" * 512
 
 
+def over_chain(quantifiers, types):
+    """A goal of so many quantifiers, each over another type of a chain of so many, with an object of each type."""
+    chain = " ".join(f"t{k} - t{k + 1}" for k in range(types))
+    goal = " ".join(f"(exists (?x - t{types - 1 - k}) (q))" for k in range(quantifiers))
+    objects = " ".join(f"c{k} - t{k}" for k in range(types))
+    return f"(define (domain d) (:types {chain}) (:constants {objects}) (:predicates (q)))", f"(define (problem p) (:domain d) (:goal (and {goal})))"
+
+
+def at_each_tick(atoms, fluents, ticks):
+    """Two small steps at each of so many ticks, beside so many atoms and fluents, the state of which is copied at each."""
+    domain = f"(define (domain d) (:types s) (:predicates (p ?x - s) (q)) (:functions (f ?x - s)) (:action a :effect (q)) (:action b :effect (not (q))))"
+    problem = f"(define (problem r) (:domain d) (:objects {each('o#', max(atoms, fluents))} - s) (:init {each('(p o#)', atoms)} {each('(= (f o#) 0)', fluents)}) (:goal ()))"
+    return domain, problem, "".join(f"{2 * k}: (a)\n{2 * k + 1}: (b)\n" for k in range(ticks))
+
+
 def shared_by_many(objects, actions):
     """So many actions at one tick that share a disjunction for each pair of so many objects."""
     names, others = [f"o{k}" for k in range(objects)], each("k#", actions)
@@ -645,24 +663,30 @@ def worst_reads(program):
     kept = "".join(f"(:action a{k} :parameters () :precondition (forall (?x) (and (p ?x) {'() ' * k})) :effect ())" for k in range(20))
     few = f"(define (problem q) (:domain d) (:objects {' '.join(colliding(19_000))}) (:init) (:goal ()))"
     judged(program, "19,000 objects whose names collide, in an atom of each of 20 actions", f"(define (domain d) (:predicates (p ?x)) {kept})", few, "")
-    for times in (100, 600):
+    for times in (60, 600):
         judged(program, f"{times} times 18,000 atoms of names that end alike", *sought(6_300, 18_000, times), "")
-    judged(program, "240 times 8,000 atoms that belong at one place of a hashed table", *run_together(3_500, 8_000, 10, 240), "")
+    judged(program, "150 times 8,000 atoms that belong at one place of a hashed table", *run_together(3_500, 8_000, 10, 150), "")
     middle = [f"{'x' * 2_000}{k:03}{'x' * 1_997}" for k in range(250)]
     judged(program, "36 times each pair of 250 objects whose names of 4,000 letters differ in the middle", *all_pairs(middle, 36, "(p ?x ?y)"), "")
     judged(program, "a forall of 1,250,000 bindings above 50 equalities", *all_pairs(short_names(250), 20, f"(and {'(= ?x ?x)' * 50})"), "")
     unlike = [f"{'a' * 499_985}{letter}cccc" for letter in "bd"]
-    asked = f"(define (domain d) (:types s r) (:predicates (p ?x)) (:action a :parameters (?x - s ?y - r) :precondition (and {'(p ?x)(p ?y)' * 70_000})))"
-    judged(program, "140,000 mentions of two objects of 499,990 letters in one body", asked, f"(define (problem q) (:domain d) (:objects {unlike[0]} - s {unlike[1]} - r) (:init) (:goal ()))", "")
+    mentions = f"(define (domain d) (:types s r) (:predicates (p ?x)) (:action a :parameters (?x - s ?y - r) :precondition (and {'(p ?x)(p ?y)' * 70_000})))"
+    judged(program, "140,000 mentions of two objects of 499,990 letters in one body", mentions, f"(define (problem q) (:domain d) (:objects {unlike[0]} - s {unlike[1]} - r) (:init) (:goal ()))", "")
     unlike = [f"{'p' * 120_000}{letter}{'q' * 10}" for letter in "xy"]
-    asked = "".join(f"({name})" for name in unlike)
-    judged(program, "490,000 bindings above two atoms of 120,011 letters", f"(define (domain d) (:predicates {asked}) (:action a :precondition (forall (?c ?d) (and {asked}))))", f"(define (problem q) (:domain d) (:objects {each('o#', 700)}) (:init) (:goal ()))", "")
-    for command in ("check", "net"):
-        judged(program, f"{command}: 512 actions at one tick that share 108,900 disjunctions", *shared_by_many(330, 512), command)
-    judged(program, "440 steps that add and delete 812,500 atoms beside 72 invariants", *beside_invariants(250, 13, 72, 440))
+    plain = "".join(f"({name})" for name in unlike)
+    judged(program, "490,000 bindings above two atoms of 120,011 letters", f"(define (domain d) (:predicates {plain}) (:action a :precondition (forall (?c ?d) (and {plain}))))", f"(define (problem q) (:domain d) (:objects {each('o#', 700)}) (:init) (:goal ()))", "")
+    for command, objects in (("check", 250), ("check", 330), ("net", 180), ("net", 250)):
+        judged(program, f"{command}: 512 actions at one tick that share {objects * objects:,} disjunctions", *shared_by_many(objects, 512), command)
+    for times in (4, 13):
+        judged(program, f"440 steps that add and delete {times * 62_500:,} atoms beside 72 invariants", *beside_invariants(250, times, 72, 440))
     for terms in (10_000, 20_000):
         judged(program, f"512 durations that are at least a sum of {terms:,} terms", *long_sums(terms))
     judged(program, "500 steps that name 40 of 19,000 objects whose names collide", *named_steps(19_000, 40, 500))
+    for quantifiers in (200, 2_000):
+        judged(program, f"a goal of {quantifiers:,} exists over different types of a chain of 20,000 objects", *over_chain(quantifiers, 20_000), "")
+    names = list(colliding(19_000))
+    declared, said = " ".join(f"({name})" for name in names), f"(define (problem q) (:domain d) (:init {' '.join(f'({name})' for name in names)}) (:goal ()))"
+    judged(program, "19,000 predicates whose names collide, each in :init", f"(define (domain d) (:predicates {declared}))", said, "")
     few = f"(define (problem q) (:domain d) (:objects {each('y#', 1_000)} - s {each('x#', 3_000)} - t) (:init (a)) (:goal (forall (?y - s) (forall (?x - t) (and {'(a)' * 100})))))"
     judged(program, "a goal of a forall of 1,000 above one of 3,000 above 100 atoms", "(define (domain d) (:types s t) (:predicates (a)))", few, "")
 
@@ -708,7 +732,7 @@ def quantified(program):
     steps = "".join(f"{tick}: (a)\n" for tick in range(512))
     changing = "(define (domain d) (:predicates (r)) (:functions (h)) (:action a :parameters () :effect #))"
     start = "(define (problem q) (:domain d) (:objects o0 o1) (:init (r) (= (h) 0)) (:goal (r)))"
-    for depth, effect, name in ((19, "(r)", "adds an atom"), (22, "(r)", "adds an atom"), (16, "(increase (h) 1)", "increases a fluent"), (22, "(increase (h) 1)", "increases a fluent")):
+    for depth, effect, name in ((17, "(r)", "adds an atom"), (22, "(r)", "adds an atom"), (15, "(increase (h) 1)", "increases a fluent"), (22, "(increase (h) 1)", "increases a fluent")):
         under = functools.reduce(lambda inner, k: f"(forall (?v{k}) {inner})", range(depth), effect)
         judged(program, f"{depth} foralls in an effect that {name}, 512 steps", changing.replace("#", under), start, steps)
     nothing = nested.replace("(p o0 o0 o0)", "()")
@@ -718,15 +742,15 @@ def quantified(program):
     asked = f"(define (domain d) (:predicates (q ?x) (r)) (:action a :parameters () :precondition {deep} :effect (r)))"
     met = "(define (problem q) (:domain d) (:objects o0 o1) (:init (r) (q o0) (q o1)) (:goal (r)))"
     judged(program, "16 foralls in one another, asked by 512 steps a tick apart", asked, met, steps)
-    plain = functools.reduce(lambda inner, k: f"(forall (?v{k}) {inner})", range(22), "(r)")
-    judged(program, "22 above one atom, asked by 512 steps a tick apart", asked.replace(deep, plain), met, steps)
+    plain = functools.reduce(lambda inner, k: f"(forall (?v{k}) {inner})", range(21), "(r)")
+    judged(program, "21 above one atom, asked by 512 steps a tick apart", asked.replace(deep, plain), met, steps)
     kept = f"(define (domain d) (:predicates (q ?x) (r)) (:durative-action a :parameters () :duration (= ?duration 1) :condition (over all {deep}) :effect (at end (r))))"
     spans = "".join(f"{2 * k}: (a) [1]\n" for k in range(512))
     judged(program, "16 foralls in one another, an invariant of 512 steps", kept, met, spans)
-    typed = functools.reduce(lambda inner, k: f"(forall (?v{k} - t) (and (q ?v{k}) {inner}))", range(14), "(r)")
+    typed = functools.reduce(lambda inner, k: f"(forall (?v{k} - t) (and (q ?v{k}) {inner}))", range(13), "(r)")
     others = f"(define (domain d) (:types s t) (:predicates (q ?x) (r)) (:durative-action a :parameters (?x - s) :duration (= ?duration 1) :condition (over all {typed}) :effect (at end (r))))"
     places = f"(define (problem q) (:domain d) (:objects {each('x#', 512)} - s o0 o1 - t) (:init (r) (q o0) (q o1)) (:goal (r)))"
-    judged(program, "14 foralls, an invariant of 512 steps of as many actions", others, places, "".join(f"{2 * k}: (a x{k}) [1]\n" for k in range(512)))
+    judged(program, "13 foralls, an invariant of 512 steps of as many actions", others, places, "".join(f"{2 * k}: (a x{k}) [1]\n" for k in range(512)))
     pairs = "(forall (?x ?y ?z) (or (q ?x ?y) (q ?y ?z)))"
     many = f"(define (domain d) (:predicates (q ?x ?y) (r)) (:action a :parameters () :precondition {pairs} :effect (r)))"
     all_pairs = " ".join(f"(q o{i} o{j})" for i in range(40) for j in range(40))
@@ -739,10 +763,10 @@ def asked_often(program):
     head = "(define (domain d) (:requirements :adl :typing) (:types t) (:predicates (p ?x - t) (q ?x - t) (r) (s)) #)"
     pairs = "(:action a :parameters () :precondition (forall (?x ?y - t) (or (p ?x) (q ?y))) :effect (r))"
     other = "(:action b :parameters () :precondition () :effect (s))"
-    objects = each("o#", 2_024)
-    problem = f"(define (problem k) (:domain d) (:objects {objects} - t) (:init {each('(q o#)', 2_024)}) (:goal (r)))"
+    objects = each("o#", 1_800)
+    problem = f"(define (problem k) (:domain d) (:objects {objects} - t) (:init {each('(q o#)', 1_800)}) (:goal (r)))"
     steps = "".join(f"{tick}: (a)\n" for tick in range(512))
-    judged(program, "4,096,576 disjunctions that differ, asked by 512 steps", head.replace("#", pairs), problem, steps)
+    judged(program, "3,240,000 disjunctions that differ, asked by 512 steps", head.replace("#", pairs), problem, steps)
     judged(program, "the network of these steps", head.replace("#", pairs), problem, steps, "net")
     steps = "".join(f"{tick}: (a)\n{tick}: (b)\n" for tick in range(256))
     judged(program, "the same, asked by 256 steps with another at the tick of each", head.replace("#", pairs + other), problem, steps)
@@ -761,7 +785,7 @@ def asked_often(program):
     raised = pairs.replace("%", "(and (r) (increase (h) 1))")
     for count, form, term, name in (
         (1_000, pairs.replace("%", "(r)"), "1", "1,000,000 comparisons of fluents that stay"),
-        (400, raised, "(h)", "160,000 comparisons with a fluent that each step increases"),
+        (300, raised, "(h)", "90,000 comparisons with a fluent that each step increases"),
         (1_000, raised, "(h)", "1,000,000 of them"),
     ):
         numbers = " ".join(f"(= (f o{k}) {k + count}) (= (g o{k}) {k})" for k in range(count))
@@ -805,9 +829,9 @@ def under_each_action(program):
     judged(program, "65,025 actions of 200 atoms each", head.replace("#", parts), problem(255, "z"), "0: (a o0 o1)\n")
     parts = f"(and {'(p ?x) ' * 1_000})"
     judged(program, "10,000 actions of 1,000 atoms each", head.replace("#", parts), problem(100, "z"), "0: (a o0 o1)\n")
-    parts = f"(and {'(p ?x) ' * 5_000})"
+    parts = f"(and {'(p ?x) ' * 4_000})"
     steps = "".join(f"{tick}: (a o0 o{tick % 46})\n" for tick in range(512))
-    judged(program, "2,116 actions of 5,000 atoms each, 46 of them in a plan of 512 steps", head.replace("#", parts), problem(46, "z"), steps)
+    judged(program, "2,116 actions of 4,000 atoms each, 46 of them in a plan of 512 steps", head.replace("#", parts), problem(46, "z"), steps)
     steps = "".join(f"{tick}: (a o{tick // 46} o{tick % 46})\n" for tick in range(512))
     judged(program, "the same, and 512 of them in the plan", head.replace("#", parts), problem(46, "z"), steps)
     judged(program, "65,025 actions, and a plan that names none", head.replace("#", "(p ?x)"), problem(255, "z"), "0: (a o0 o255)\n")
@@ -1035,19 +1059,20 @@ def searches(program):
     judged(program, "the same with time to go on, a budget of 10,000", *rivals(100, 5000), None, "plan", ("--budget", "10000"))
     judged(program, "the same, the default budget", *rivals(100, 5000), None, "plan")
     judged(program, "400 things to be made beside 57,600 actions that can always start", *makers(400, 240), None, "plan")
-    judged(program, "65,025 actions that share a condition of 4,000 atoms", *sharers(255, 4000), None, "plan")
-    judged(program, "65,025 actions that share one of 4,000 atoms, out of reach", *sharers(255, 4000, 1), None, "plan")
-    judged(program, "65,025 actions that share one of 20,000 atoms", *sharers(255, 20_000), None, "plan")
-    for count in (50, 255):
-        judged(program, f"{count * count:,} actions that share 14 foralls in one another", *nested_sharers(count, 14), None, "plan", ("--budget", "1"))
-    judged(program, "90 places: 729,000 bindings, 89 in reach", *roads(90), None, "plan")
+    judged(program, "65,025 actions that share a condition of 2,000 atoms", *sharers(255, 2_000), None, "plan")
+    judged(program, "65,025 actions that share one of 2,000 atoms, out of reach", *sharers(255, 2_000, 1), None, "plan")
+    for atoms in (4_000, 20_000):
+        judged(program, f"65,025 actions that share one of {atoms:,} atoms", *sharers(255, atoms), None, "plan")
+    for count, depth in ((50, 13), (255, 14)):
+        judged(program, f"{count * count:,} actions that share {depth} foralls in one another", *nested_sharers(count, depth), None, "plan", ("--budget", "1"))
+    judged(program, "80 places: 512,000 bindings, 79 in reach", *roads(80), None, "plan")
     judged(program, "128 places: 2,097,152 bindings, whose look-ups are too many", *roads(128), None, "plan")
     judged(program, "500 steps of an action of one parameter, of an object of 1,000,000 letters", *wide_steps(1, 1_000_000, 500), None, "plan")
     judged(program, "500 steps of an action of 1,000 parameters, all of that object", *wide_steps(1_000, 1_000_000, 500), None, "plan")
     unlike = " ".join(f"{'a' * 519_995}{letter}cccc" for letter in "bd")
     named = f"(define (domain d) (:action a :parameters ({each('?x#', 15)})))"
     judged(program, "15 parameters, two objects of 520,000 letters", named, f"(define (problem q) (:domain d) (:objects {unlike}) (:init) (:goal ()))", None, "plan")
-    judged(program, "857,375 bindings, each of its own atom", *own_atoms(95), None, "plan")
+    judged(program, "512,000 bindings, each of its own atom", *own_atoms(80), None, "plan")
     kinds = each("(:action a# :parameters (?x - t#) :effect (g))", 13_000)
     three = "(define (problem q) (:domain d) (:objects " + " ".join(f"o{k} - t{k % 13_000}" for k in range(39_000)) + ") (:init) (:goal (g)))"
     judged(program, "13,000 actions of as many types, three objects of each", f"(define (domain d) (:types {each('t#', 13_000)}) (:predicates (g)) {kinds})", three, None, "plan")
@@ -1144,6 +1169,30 @@ SHIFTS = """(define (domain shifts) (:predicates (open))
 """
 
 
+def begun_late(asking, deleting, steps, behind):
+    """A plan whose bounds, in their order, each raise all moments of a dense part that stands behind: between so many steps that ask for an
+    atom and so many that delete it, of as many steps each with an invariant as there are that write into it, each that much longer."""
+    domain = """(define (domain d) (:types fo xo ao) (:predicates (p) (q) (s) (w)) (:functions (df ?o - fo) (dx ?o - xo) (da ?o - ao))
+ (:durative-action f :parameters (?o - fo) :duration (= ?duration (df ?o)) :effect (and (at start (not (q))) (at end (s))))
+ (:durative-action x :parameters (?o - xo) :duration (= ?duration (dx ?o)) :condition (over all (q)) :effect ())
+ (:action so :parameters () :precondition (s) :effect (w))
+ (:durative-action aa :parameters (?o - ao) :duration (>= ?duration (da ?o)) :condition (and (at start (w)) (at end (p))) :effect ())
+ (:durative-action bb :parameters () :duration (>= ?duration 1) :effect (and (at start (not (p))) (at end (not (p))))))
+"""
+    writes = [1 + behind * (k + 1) for k in range(steps)]
+    kept = [1 + (k + 1) * behind * (steps + 1) for k in range(steps)]
+    asks = [asking - k for k in range(asking)]
+    lengths = " ".join(f"(= (d{kind} {kind}{k}) {value})" for kind, values in (("f", writes), ("x", kept), ("a", asks)) for k, value in enumerate(values))
+    objects = f"{each('f#', steps)} - fo {each('x#', steps)} - xo {each('a#', asking)} - ao"
+    problem = f"(define (problem pr) (:domain d) (:objects {objects}) (:init (p) (q) {lengths}) (:goal ()))"
+    begin = max(kept) + 1
+    then = begin + max(writes) + 1
+    plan = [f"{begin}: (f f{k}) [{value}]" for k, value in enumerate(writes)] + [f"{then}: (so)"]
+    plan += [f"{then + 1}: (aa a{k}) [{value}]" for k, value in enumerate(asks)] + [f"{then + asking + 3}: (bb) [1]"] * deleting
+    plan += [f"0: (x x{k}) [{value}]" for k, value in enumerate(kept)]
+    return domain, problem, "".join(f"{line}\n" for line in plan)
+
+
 def splits(program):
     """Networks that are split among agents, with the time that the network takes alone."""
     agents = {"1,024 agents": lambda k: 1023 - k, "512 agents": lambda k: k // 2, "two agents": lambda k: k // 2 % 2, "two agents, event by event": lambda k: k % 2}
@@ -1157,6 +1206,13 @@ def splits(program):
         judged(program, f"the network of {name}", *texts, "net")
         for count, owner in owners.items():
             judged(program, f"that network split among {count}", *texts, "split", owners=" ".join(str(owner(k)) for k in range(1024)))
+    for count, steps in ((64, 80), (105, 110), (127, 130)):
+        texts = begun_late(count, count, count, steps)
+        owners = " ".join(str(k % 2) for k in range(8 * count + 1))
+        horizon = ("--horizon", "1000000000")
+        judged(program, f"{4 * count + 1} steps whose bounds raise a dense part: net", *texts, "net", horizon)
+        judged(program, "the same: run, no command", *texts, "run", horizon)
+        judged(program, "the same: split among two agents", *texts, "split", horizon, owners)
 
 
 def main():

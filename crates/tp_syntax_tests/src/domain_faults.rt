@@ -78,6 +78,7 @@ fn types_must_fit(rt: HostRuntime) -> Result<(), Fail> {
         "(define (domain d) (:types a b) (:predicates (p ?x ?y - a)) (:action n :parameters (?y - a ?z) :effect ^(p ?y ?z)))",
         "(define (domain d) (:predicates (p ?x)) (:action n :effect ^(p)))",
         "(define (domain d) (:action n :parameters (?x) :precondition ^(= ?x 5)))",
+        "(define (domain d) (:action n :parameters (?x) :precondition ^(= 5 ?x)))",
     ] {
         let (fault, place) = fault_of(rt.alloc(), marked)?;
         assert!(rt; fault == Some(SyntaxFault::Types(place)), "in {marked}");
@@ -254,7 +255,7 @@ fn section_fault(
 }
 
 // One text or more for each construct that is left out.
-const LEFT_OUT: [(&str, LeftOutPart); 19] = [
+const LEFT_OUT: [(&str, LeftOutPart); 21] = [
     ("(:action a :effect ^(when (p) (q)))", LeftOutPart::When),
     (
         "(:durative-action a :duration () :effect (at end ^(when (p) (q))))",
@@ -290,6 +291,14 @@ const LEFT_OUT: [(&str, LeftOutPart); 19] = [
     ),
     (
         "(:durative-action a :duration () :condition (over all ^(<= ?duration 5)))",
+        LeftOutPart::DurationInCondition,
+    ),
+    (
+        "(:action a :parameters (?x) :precondition ^(= ?x ?duration))",
+        LeftOutPart::DurationInCondition,
+    ),
+    (
+        "(:durative-action a :duration () :condition (over all ^(= ?duration ?x)))",
         LeftOutPart::DurationInCondition,
     ),
     (
