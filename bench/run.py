@@ -252,6 +252,8 @@ def at_once(program):
     few = f"(define (problem q) (:domain few) (:objects {names}) (:init (a o0) (a o1)) (:goal ()))"
     judged(program, "a small step at each of 512 ticks, beside 30,000 atoms and as many fluents", *at_each_tick(30_000, 30_000, 256))
     judged(program, "no step beside them", *at_each_tick(30_000, 30_000, 0))
+    judged(program, "a small event at each of 1,024 ticks, beside 60,000 atoms and as many fluents", *at_twice_as_many(30_000, 512))
+    judged(program, "no event beside them", *at_twice_as_many(30_000, 0))
     judged(program, "two small steps at each of 256 ticks, 65,025 actions", small, few, "".join(f"{k}: (act o0 o2)\n{k}: (act o0 o3)\n" for k in range(256)))
 
 
@@ -482,10 +484,21 @@ def over_chain(quantifiers, types):
 
 
 def at_each_tick(atoms, fluents, ticks):
-    """Two small steps at each of so many ticks, beside so many atoms and fluents, the state of which is copied at each."""
+    """A small step at each of twice so many ticks, beside so many atoms and fluents, which none of them touches."""
     domain = f"(define (domain d) (:types s) (:predicates (p ?x - s) (q)) (:functions (f ?x - s)) (:action a :effect (q)) (:action b :effect (not (q))))"
     problem = f"(define (problem r) (:domain d) (:objects {each('o#', max(atoms, fluents))} - s) (:init {each('(p o#)', atoms)} {each('(= (f o#) 0)', fluents)}) (:goal ()))"
     return domain, problem, "".join(f"{2 * k}: (a)\n{2 * k + 1}: (b)\n" for k in range(ticks))
+
+
+def at_twice_as_many(objects, steps):
+    """A small event that writes twice at the start of each of so many steps, and one that deletes an atom at its end, each at its own tick,
+    beside two atoms and two fluents of each of so many objects."""
+    domain = """(define (domain d) (:types s) (:predicates (p ?x - s) (q ?x - s) (w)) (:functions (f ?x - s) (g ?x - s) (u) (v))
+ (:action z :parameters (?x - s) :effect (and (p ?x) (q ?x) (assign (f ?x) 0) (assign (g ?x) 0)))
+ (:durative-action a :parameters () :duration (= ?duration 1) :condition ()
+  :effect (and (at start (and (w) (assign (u) 1) (assign (v) 2))) (at end (not (w))))))"""
+    problem = f"(define (problem r) (:domain d) (:objects {each('o#', objects)} - s) (:init) (:goal ()))"
+    return domain, problem, "".join(f"{2 * k}: (a) [1]\n" for k in range(steps))
 
 
 def shared_by_many(objects, actions):

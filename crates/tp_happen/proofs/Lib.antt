@@ -14,4 +14,5 @@ pub mod Listed
 pub mod Walked
 pub mod FirstPairs
 pub mod Within
+pub mod Caught
 pub use Rattle.tp_plan_texts.proofs.OnTaskPlans

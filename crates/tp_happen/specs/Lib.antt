@@ -1,6 +1,7 @@
 pub mod Small
 pub mod Clashes
 pub mod Stored
+pub mod Differing
 pub mod Judged
 pub mod Met
 pub mod Mentioned

@@ -6,6 +6,7 @@ ghost use Rattle.tp_task.specs.Fits.{event_fits};
 ghost use Rattle.tp_happen.specs.Stored.{fits_in};
 
 use crate::happening::{atoms_after, numbers_after};
+use crate::states::copied;
 use crate::{EventRef, State};
 use std::alloc::Global;
 use tp_task::{GroundEvent, NumericEffect};
@@ -54,8 +55,8 @@ pub fn guess_after(alloc: Global, state: &State, events: &[EventRef<'_>]) -> Opt
     if !are_within(state, events) {
         return None;
     }
-    let atoms = atoms_after(alloc, &state.atoms, events).ok()?;
-    let numbers = numbers_after(alloc, state, &state.numbers, events).ok()?;
+    let atoms = atoms_after(copied(alloc, &state.atoms).ok()?, events);
+    let numbers = numbers_after(copied(alloc, &state.numbers).ok()?, state, events).ok()?;
     Some(State {
         scale: state.scale,
         atoms,

@@ -10,12 +10,14 @@
 //! - `mentioned`: what a condition mentions, each atom and each fluent once
 //! - `mentions`, `meetings`: what events mention, and the first two that interfere, by tables
 //! - `writes`: the effects of events, written one after another
+//! - `catching_up`: a state that differs from another only in what events change
 //! - `happening`: all of it together, `apply`
 //! - `guesses`: a guess of the state after events
 //!
 //! Offers plans and their texts (`tp_plan_texts`) again.
 #![tactic(auto)]
 
+mod catching_up;
 mod clashes;
 mod conditions;
 mod events;

@@ -150,6 +150,38 @@ fn the_first_fault_is_told(rt: HostRuntime) -> Result<(), Fail> {
     are_rows(&rt, rt.alloc(), COUNTERS, &FAULTS)
 }
 
+// With as many fluents an event's writes are compared in pairs.
+const WIDE: World<'static> = World {
+    domain: "(define (domain wide)
+ (:functions (a) (b) (c) (d))
+ (:action mix :parameters () :effect (and (assign (d) 1) (increase (d) 1)))
+ (:action twice :parameters () :effect (and (assign (d) 1) (assign (d) 1)))
+ (:action sum :parameters () :effect (and (increase (d) 1) (decrease (d) 3)))
+ (:action part :parameters () :effect (and (assign (a) 4) (increase (d) 1))))",
+    problem: "(define (problem p) (:domain wide) (:init (= (a) 0) (= (b) 0) (= (c) 0) (= (d) 2))
+ (:goal (= (d) 0)))",
+    scale: Scale::One,
+    horizon: 100,
+};
+
+const WIDTHS: [Row<'static>; 4] = [
+    Row(&[&[Only("sum"), Only("mix")]], Then::Fails(1, Why::Clash)),
+    Row(&[&[Only("twice")]], Then::Fails(0, Why::Clash)),
+    Row(
+        &[&[Only("sum")]],
+        Then::Numbers(&[(0, Some(0)), (3, Some(0))]),
+    ),
+    Row(
+        &[&[Only("part")], &[Only("sum")]],
+        Then::Numbers(&[(0, Some(4)), (3, Some(1))]),
+    ),
+];
+
+#[test]
+fn writes_of_one_event_beside_many_fluents(rt: HostRuntime) -> Result<(), Fail> {
+    are_rows(&rt, rt.alloc(), WIDE, &WIDTHS)
+}
+
 const SHINES: [Row<'static>; 1] = [Row(&[&[Only("blink")]], Then::Atoms("(on)"))];
 
 #[test]

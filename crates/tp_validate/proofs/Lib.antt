@@ -10,5 +10,6 @@ pub mod AtPlace
 pub mod Ordered
 pub mod Starting
 pub mod Untouched
+pub mod Differing
 pub mod Alike
 pub mod Foreseen

@@ -63,7 +63,7 @@ module _ (a : ℕ) where
       let p = or_parts (changes a e) (list_any (changes a) fs) h in
       ap₂ ◌||◌ (not_so (has e.timed.event.deletes.items a) (changes a e) (has_right e.timed.event.adds.items e.timed.event.deletes.items a) p.0) (none_deletes fs p.1)
 
-  atom_stays : (s : State) (fs : List Placed) → list_any (changes a) fs ≡ false → atom_after s (times fs) a ≡ s.atom a
+  pub atom_stays : (s : State) (fs : List Placed) → list_any (changes a) fs ≡ false → atom_after s (times fs) a ≡ s.atom a
   atom_stays s fs h = ap₂ (λ x y. x || (s.atom a && not y)) (none_adds fs h) (none_deletes fs h) ∙ and_true (s.atom a)
 
 -- a fluent that none writes keeps its number
@@ -80,7 +80,7 @@ module _ (scale : ℕ) (s : State) (f : ℕ) where
       let p = or_parts (writes f e) (list_any (writes f) fs) h in
       ap₂ ◌+ℤ◌ (added_none s (units scale e.timed.ticks) e.timed.event.writes.items f p.0) (none_adds_to fs p.1)
 
-  number_stays : (fs : List Placed) → list_any (writes f) fs ≡ false → number_after scale s (times fs) f ≡ s.number f
+  pub number_stays : (fs : List Placed) → list_any (writes f) fs ≡ false → number_after scale s (times fs) f ≡ s.number f
   number_stays fs h = none_sets fs _ h ∙ (ap (λ z. plus z (s.number f)) (none_adds_to fs h) ∙ plus_zero (s.number f))
 
 -- two states agree on an atom and on a fluent that are not changed

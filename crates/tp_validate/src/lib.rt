@@ -33,5 +33,5 @@ pub use placing::{
     PlacedEvent, PlannedStep, event_refs, placed_events, planned_steps, prepared_steps,
 };
 pub use prepared::{Prepared, prepared_for};
-pub use ticks::Fault;
+pub use ticks::{Fault, caught_up};
 pub use verdicts::{ValidPlan, ValidateFault, Verdict, validate};

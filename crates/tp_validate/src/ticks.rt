@@ -1,11 +1,12 @@
 //! What happens at one tick of a plan, or the first fault there.
 
-ghost use Rattle.std.specs.Prelude.{◌≡◌, ◌<◌, ◌≤◌, ◌+◌, ◌==◌, ◌||◌, ◌&&◌, nat_le, nat_lt, true, false, List, length, map, slice_index_or, IfOk, IfErr, IfSome, OnErr};
+ghost use Rattle.std.specs.Prelude.{◌≡◌, ◌<◌, ◌≤◌, ◌+◌, ◌==◌, ◌||◌, ◌&&◌, nat_le, nat_lt, true, false, List, length, map, slice_index_or, IfOk, IfErr, IfSome, MatchOption, None, Some, OnErr};
 ghost use Rattle.std.specs.List.{list_all, position_from};
 ghost use Rattle.tp_task.specs.Happens.{Happens};
 ghost use Rattle.tp_task.specs.Valid.{Planned, events, at};
 ghost use Rattle.tp_task.specs.Verdict as verdict;
 ghost use Rattle.tp_happen.specs.Stored.{Stored, state_of, fits_in};
+ghost use Rattle.tp_happen.specs.Differing.{DifferOnlyBy};
 ghost use Rattle.tp_happen.specs.Fault.{OnRange};
 ghost use Rattle.tp_number_sets.specs.Sets.{has_number};
 ghost use Rattle.tp_validate.specs.Agenda.{starting_at};
@@ -19,7 +20,7 @@ use crate::durations::first_unlawful;
 use crate::mentions::{Mentions, touched_by};
 use crate::outlook::{Outlook, Sight, are_met, is_kept, sight_after, sight_before};
 use crate::placing::{PlacedEvent, PlannedStep, event_refs, number_at};
-use std::alloc::Global;
+use std::alloc::{AllocError, Global};
 use tp_happen::{ApplyFault, Outcome, Range, State, Why, apply_seen, holds};
 use tp_number_sets::NumberSet;
 use tp_task::Body;
@@ -186,12 +187,33 @@ fn broken_after(
     Ok(broken)
 }
 
-/// What the events of a tick make of the state before it, or the first fault there. Of the steps that ran before it, it
-/// evaluates the invariants of those that mention something that an event there changes. What an outlook tells of these two states is
-/// not evaluated again.
-pub fn judge_tick(
+/// The same state as this one, made of one that differs from it only in what the events of a tick changed, if there is such a
+/// one. Takes the time of their effects.
+pub fn caught_up(
+    alloc: Global,
+    behind: Option<State>,
+    state: &State,
+    there: &[PlacedEvent<'_>],
+) -> Result<Option<State>, AllocError>
+    requires { IfSome behind (λ b. DifferOnlyBy b state.now (map (λ e. e.timed) there.now)) }
+    ensures { IfOk result (λ r. MatchOption behind (r ≡ None) (λ _. r ≡ Some state.now)) }
+{
+    match behind {
+        None => Ok(None),
+        Some(own) => {
+            let mut own = own;
+            let events = event_refs(alloc, there)?;
+            own.catch_up(state, &events);
+            Ok(Some(own))
+        }
+    }
+}
+
+// The same, where a state may be at hand that is the same as the one before the tick, and becomes the one behind it.
+fn judge_over(
     alloc: Global,
     state: &State,
+    spare: &mut Option<State>,
     steps: &[PlannedStep<'_>],
     starting: &[PlannedStep<'_>],
     mentions: &Mentions,
@@ -199,6 +221,7 @@ pub fn judge_tick(
     moment: u32,
     outlook: Option<&Outlook>,
 ) -> Result<Judged, ApplyFault>
+    requires same { IfSome spare.old (λ s. s ≡ state.now) }
     requires seen { IfSome outlook (λ o. IsOutlook o.now steps.now) }
     requires few { length steps.now ≤ 512 }
     requires starting { starting_at moment starting.now ≡ starting_at moment steps.now }
@@ -215,7 +238,7 @@ pub fn judge_tick(
     }
     let happening = event_refs(alloc, there)?;
     let are_met = are_met(sight_before(outlook, state), steps, moment);
-    match apply_seen(alloc, state, &happening, are_met)? {
+    match apply_seen(alloc, state, spare, &happening, are_met)? {
         Outcome::Fails(place, why) => Ok(Judged::Faulty(named(there, place, why))),
         Outcome::Next(next) => match broken_after(
             alloc, state, &next, steps, mentions, there, moment, outlook,
@@ -224,4 +247,38 @@ pub fn judge_tick(
             None => Ok(Judged::Next(next)),
         },
     }
+}
+
+/// What the events of a tick make of the state before it, or the first fault there. Of the steps that ran before it, it
+/// evaluates the invariants of those that mention something that an event there changes. What an outlook tells of these two
+/// states is not evaluated again. A state that differs from the one before it only in what the events of the last tick changed,
+/// as the one before that does, becomes the one behind it, so that no state is copied.
+pub fn judge_tick(
+    alloc: Global,
+    behind: Option<State>,
+    last: &[PlacedEvent<'_>],
+    state: &State,
+    steps: &[PlannedStep<'_>],
+    starting: &[PlannedStep<'_>],
+    mentions: &Mentions,
+    there: &[PlacedEvent<'_>],
+    moment: u32,
+    outlook: Option<&Outlook>,
+) -> Result<Judged, ApplyFault>
+    requires behind { IfSome behind (λ b. DifferOnlyBy b state.now (map (λ e. e.timed) last.now)) }
+    requires seen { IfSome outlook (λ o. IsOutlook o.now steps.now) }
+    requires few { length steps.now ≤ 512 }
+    requires starting { starting_at moment starting.now ≡ starting_at moment steps.now }
+    requires held { HoldsSoFar (state_of state.now) moment steps.now }
+    requires mentions { HasMentions steps.now (length steps.now) mentions.now }
+    requires there { there.now ≡ here moment (events steps.now) }
+    requires fits { list_all (fits_in state.now) (at moment (events steps.now)) ≡ true }
+    ensures found { IfOk result (IsFound state.now moment steps.now (events steps.now)) }
+    ensures range { IfErr result (λ e. OnRange e
+        (PassesAt state.now.scale (state_of state.now) moment steps.now (events steps.now))) }
+{
+    let mut spare = caught_up(alloc, behind, state, last)?;
+    judge_over(
+        alloc, state, &mut spare, steps, starting, mentions, there, moment, outlook,
+    )
 }

@@ -28,6 +28,7 @@ use crate::ticks::{Fault, Judged, judge_tick};
 use crate::work::ask_for_work;
 use std::alloc::{AllocError, Global};
 use std::marker::Model;
+use std::mem::replace;
 use thiserror::Error;
 use tp_happen::{ApplyFault, Plan, State, Step, holds};
 use tp_task::{Task, valid_without_fault};
@@ -102,14 +103,14 @@ enum Ran {
 }
 
 // Carries out the events of a plan, up to the first fault or to the last of them.
-fn run(
+fn run<'x>(
     alloc: Global,
-    task: &Task,
-    steps: &[PlannedStep<'_>],
+    task: &'x Task,
+    steps: &'x [PlannedStep<'_>],
     roster: &[PlannedStep<'_>],
     agenda: &[PlacedEvent<'_>],
     mentions: &Mentions,
-    actions: &[u32],
+    actions: &'x [u32],
 ) -> Result<Ran, ApplyFault>
     requires alike { AreAlike actions.now steps.now }
     requires few { length steps.now ≤ 512 }
@@ -123,7 +124,9 @@ fn run(
     ensures range { IfErr result (λ e. OnRange e (PassesBy task.now steps.now)) }
 {
     let mut state = State::initial(alloc, task)?;
+    let mut behind = None;
     let mut from = 0;
+    let mut before = 0;
     let mut done = 0;
     let mut started = 0;
     let course = Course {
@@ -138,13 +141,15 @@ fn run(
         let (starting, _) = waiting.split_at(count_started(waiting, moment));
         outlook = turned(alloc, outlook, course, &state, &agenda[done..]);
         let ahead = outlook.as_ref();
+        let last = &agenda[before..done];
         match judge_tick(
-            alloc, &state, steps, starting, mentions, tick.there, moment, ahead,
+            alloc, behind, last, &state, steps, starting, mentions, tick.there, moment, ahead,
         )? {
             Judged::Faulty(why) => return Ok(Ran::Faulty(moment, why)),
-            Judged::Next(next) => state = next,
+            Judged::Next(next) => behind = Some(replace(&mut state, next)),
         }
         from = moment + 1;
+        before = done;
         done += tick.there.len();
         started += starting.len();
     }
@@ -261,8 +266,8 @@ fn judge(alloc: Global, task: &Task, steps: &[Step]) -> Result<Option<(u32, Faul
 }
 
 /// Judges a plan of a task: whether it is valid, or its first fault by tick, kind and number. Takes the time of each mention
-/// of an event and of an invariant once, and at each tick that of a copy of the state, and of the invariants that begin
-/// there or that mention something that an event there changes.
+/// of an event and of an invariant once, and at each tick that of the effects there and at the tick before, and of the
+/// invariants that begin there or that mention something that an event there changes.
 pub fn validate<'t>(alloc: Global, task: &'t Task, plan: Plan) -> Result<Verdict<'t>, ValidateFault>
     requires { IsOfTask task.now plan }
     ensures verdict { IfOk result (IsVerdict task.now plan) }

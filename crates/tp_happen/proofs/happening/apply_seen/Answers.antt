@@ -1,5 +1,5 @@
 use Rattle.std.proofs.Common.{not, sym, ◌∙◌, inl}
-use Rattle.std.proofs.lemmas.Result.{MatchResult-from_err, err_from_is_err_and}
+use Rattle.std.proofs.lemmas.Result.{MatchResult-from_err}
 use Rattle.tp_task.specs.State.{holds}
 use Rattle.tp_task.specs.Event.{mixes}
 use Rattle.tp_task.specs.Happens.{EventOfStep, is_defined}
@@ -7,7 +7,7 @@ use Rattle.tp_happen.specs.Stored.{state_of}
 use Rattle.tp_happen.specs.Bounded.{Passes}
 use Rattle.tp_happen.specs.Fault.{OnRange}
 use Rattle.tp_happen.proofs.Limits.{terms_pass, conditions_pass, passes_from_writes, all_expressions}
-use Rattle.tp_happen.proofs.Answered.{on_range, on_range_weaker, if_none}
+use Rattle.tp_happen.proofs.Answered.{on_range, if_none}
 use Rattle.tp_happen.proofs.NoFault.{none_passes, each_passes, no_pair}
 use Rattle.tp_happen.proofs.happening.apply_seen.Goals as goal
 
@@ -37,8 +37,8 @@ returns-in_err-i-2-clause-range c =
 pub returns-in_err-next-clause-range : goal.returns-in_err-next-clause-range
 returns-in_err-next-clause-range c =
     let s = c.args.state.now in
-    let p = err_from_is_err_and c.from_residual-in_err-next.result c.from_residual-in_err-next.ensures.1 in
-    rw (p.1, p.2) (on_range_weaker c.in_err-next.field-0.0 _ _ (passes_from_writes s.scale (state_of s) c.args.events.now) c.in_err-next.ensures.range)
+    MatchResult-from_err c.from_residual-in_err-next.result (λ _. Unit {0}) (λ e. OnRange e (Passes s.scale (state_of s) c.args.events.now)) c.from_residual-in_err-next.ensures.0
+    (λ e. on_range e _ (passes_from_writes s.scale (state_of s) c.args.events.now c.in_err-next.ensures.range))
 
 pub returns-clause-ok : goal.returns-clause-ok
 returns-clause-ok c =

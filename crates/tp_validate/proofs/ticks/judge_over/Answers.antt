@@ -11,7 +11,7 @@ use Rattle.tp_validate.specs.Places.{numbers}
 use Rattle.tp_validate.specs.Tick.{renumbered, PassesAt}
 use Rattle.tp_validate.proofs.Numbers.{numbered, times}
 use Rattle.tp_validate.proofs.OneMoment.{failing, is_after, going_on, constraint_range, invariant_range}
-use Rattle.tp_validate.proofs.ticks.judge_tick.Goals as goal
+use Rattle.tp_validate.proofs.ticks.judge_over.Goals as goal
 
 pub returns-in_err-step-clause-range : goal.returns-in_err-step-clause-range
 returns-in_err-step-clause-range c =
