@@ -24,7 +24,7 @@ WORLDS = "crates/tp_small_worlds/src/lib.rt"
 # the journal that calls keep
 LOG = "night.log"
 # how long a call may take
-SECONDS = 20
+SECONDS = 60
 # how far any file may grow in a call that limits files and says no more of it
 LIMIT = 1 << 20
 
