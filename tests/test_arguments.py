@@ -8,6 +8,7 @@ REFUSED = (
     ("join", "error: unrecognized subcommand 'join'"),
     ("splits d p l o", "error: unrecognized subcommand 'splits'"),
     ("plan d", "<PROBLEM>"),
+    ("solve d", "<PROBLEM>"),
     ("audit", "<LOG>"),
     ("Bare", "error: unrecognized subcommand 'Bare'"),
     ("bare bare", "error: unexpected argument 'bare' found"),
@@ -33,7 +34,7 @@ REFUSED = (
     ("help join", "error: "),
 )
 
-# options that no call of `check`, `split` or `plan` may have
+# options that no call of `check`, `split`, `plan` or `solve` may have
 OTHERS = (
     ("check d p l --scale 0", ""),
     ("check d p l --scale 7", ""),
@@ -48,6 +49,12 @@ OTHERS = (
     ("plan d p --horizon 1000000001", "1000000001 is not in 0..=1000000000"),
     ("plan d p --budget 1000001", "1000001 is not in 0..=1000000"),
     ("plan d p --journal log", "error: unexpected argument '--journal' found"),
+    ("plan d p --improve", "error: unexpected argument '--improve' found"),
+    ("solve d p --scale 7", ""),
+    ("solve d p --horizon 1000000001", "1000000001 is not in 0..=1000000000"),
+    ("solve d p --budget 1000000001", "1000000001 is not in 0..=1000000000"),
+    ("solve d p --improve=1", "--improve"),
+    ("solve d p --progress --progress", "cannot be used multiple times"),
 )
 
 # calls for the help of the program and of its commands, and what stands in it
@@ -74,6 +81,10 @@ HELPS = (
     (
         ("plan --help", "help plan"),
         ("Usage: tempo plan", "unreachable", "exhausted", "spent B", "--budget", "100000", "--horizon", "--scale", "Example:"),
+    ),
+    (
+        ("solve --help", "help solve"),
+        ("Usage: tempo solve", "unreachable", "--budget", "1000000000", "--improve", "--progress", "makespan M expanded N", "Example:"),
     ),
     (
         ("split --help", "help split"),
@@ -119,12 +130,12 @@ class Arguments(Case):
                 with self.subTest(f"tempo {words}"):
                     self.helps(words, texts)
 
-    def test_the_version_is_the_logic_of_the_kit(self):
+    def test_the_version_names_the_logic_of_the_kit(self):
         _, logic = subprocess.run(["rt", "version"], capture_output=True, check=True).stdout.split(b" logic ")
         for words in ("--version", "-V"):
             with self.subTest(f"tempo {words}"):
                 found = call(words)
-                self.assertEqual((found.answers, found.faults, found.status), (b"tempo rattle logic " + logic, b"", 0))
+                self.assertEqual((found.answers, found.faults, found.status), (b"tempo 0.3.0 (rattle logic " + logic.strip() + b")\n", b"", 0))
 
     def test_other_scales_and_horizons_are_refused(self):
         for words, why in OTHERS:

@@ -53,7 +53,13 @@ LARGE = (
     "(define (problem p) (:domain d) (:objects x y) (:goal (and)))",
 )
 
-# 2,210 ground actions: so many are gone through, and those alone are kept that a plan names
+# 257 objects, two of which stand in each atom of this goal: 66,049 atoms
+WIDE = (
+    "(define (domain d) (:predicates (p ?a ?b)) (:action a :parameters ()))",
+    "(define (problem p) (:domain d) (:objects {}) (:goal (forall (?a ?b) (not (p ?a ?b)))))".format(" ".join(f"o{n}" for n in range(257))),
+)
+
+# 2,210 ground actions, of which those alone are written out that a plan names
 MANY = (
     """(define (domain many)
  (:predicates (at ?x) (seen ?x) (done)) (:functions (moves))
@@ -140,13 +146,6 @@ def verdict(line):
     return told(line, "", 0 if line == "valid\n" else 1)
 
 
-def nested(inner):
-    """55 quantifiers in one another, none of which depends on another."""
-    for number in range(55):
-        inner = f"(forall (?v{number}) {inner})"
-    return inner
-
-
 class Check(Case):
     def writes(self, example, plan, words, line):
         """A call with those files writes that line, and ends with its status."""
@@ -198,8 +197,12 @@ class Check(Case):
         with self.subTest("a fraction"):
             self.writes(FRACTION, "", CALL, "fault problem 7 left-out 52 number\n")
 
+    def test_of_any_number_of_bindings_those_are_judged_that_a_plan_names(self):
+        self.writes(LARGE, "0: (a {})\n".format(" ".join("xy" * 8 + "x")), CALL, "valid\n")
+        self.writes(LARGE, "0: (a {})\n".format(" ".join("xy" * 8)), CALL, "fault plan 3 no-action 1\n")
+
     def test_tasks_that_are_too_large(self):
-        self.writes(LARGE, "", CALL, "fault ground 2 too-many actions\n")
+        self.writes(WIDE, "", CALL, "fault ground 2 too-many atoms\n")
 
     @many_calls
     def test_of_many_ground_actions_those_are_kept_that_a_plan_names(self):
@@ -208,52 +211,17 @@ class Check(Case):
         plan = Once("0: (go o0 o1 o13)\n")
         self.asks_for({"domain": Once(MANY[0]), "problem": Once(MANY[1]), "plan": plan}, "fault plan 3 no-action 1\n", 2)
 
-    def test_quantifiers_in_one_another_that_would_be_gone_through_for_ever(self):
-        """2^55 bindings: small where what they are written out to is shared, nothing where they stand above nothing."""
-        problem = "(define (problem q) (:domain d) (:objects a b) (:init (p)) (:goal {}))"
-        domain = "(define (domain d) (:predicates (p)) (:action act :parameters () :precondition {} :effect {}))"
-        shared, above_nothing = nested("(p)"), nested("()")
-        for condition, effect, goal in ((shared, "(p)", "(p)"), ("(p)", above_nothing, "(p)"), ("(p)", "(p)", shared)):
-            files = {"domain": domain.format(condition, effect), "problem": problem.format(goal), "plan": "0: (act)\n"}
-            self.comes_to(told("", "fault ground 1 memory\n", 3), "check domain problem plan", files)
-
-    def test_what_memory_cannot_hold_is_refused_before_it_is_written_out(self):
-        """Hundreds of millions of conditions or effects, of 4 GB at least, where 2 GB may be taken."""
-        domain = "(define (domain d) (:predicates (p ?x)) (:action act :parameters ({}) :precondition {} :effect {}))"
-        few, many = "(p ?a)" * 10_000, "(p ?a)" * 100_000
-        for name, objects, action in (
-            ("bodies", 250, ("?a ?b", f"(and {few})", "(p ?a)")),
-            ("a condition", 40_000, ("", f"(forall (?a) (and {many}))", "()")),
-            ("effects", 40_000, ("", "()", f"(forall (?a) (and {many}))")),
-        ):
-            objects = " ".join(f"o{number}" for number in range(objects))
-            problem = f"(define (problem q) (:domain d) (:objects {objects}) (:init) (:goal ()))"
-            for words in ("check domain problem plan", "plan domain problem"):
-                with self.subTest(f"{name} {words}"):
-                    outcome, most = held(words, {"domain": domain.format(*action), "problem": problem, "plan": ""}, 2 << 30)
-                    self.assertEqual(outcome, told("", "fault ground 1 memory\n", 3))
-                    self.assertLess(most, 512 << 20)
-
-    def test_a_quantifier_of_very_many_bindings_is_refused_before_it_is_gone_through(self):
-        """64,000,000 bindings that name 400 atoms, where 16 GB may be taken."""
-        objects = " ".join(f"o{number}" for number in range(400))
-        domain = "(define (domain d) (:predicates (p ?x ?y ?z)))"
-        problem = f"(define (problem q) (:domain d) (:objects {objects}) (:init) (:goal (forall (?a ?b ?c) (p ?a o0 o0))))"
-        outcome, most = held("check domain problem plan", {"domain": domain, "problem": problem, "plan": ""}, 16 << 30)
-        self.assertEqual(outcome, told("", "fault ground 1 memory\n", 3))
-        self.assertLess(most, 128 << 20)
-
-    def test_what_stands_under_very_many_bindings_is_refused_on_the_way(self):
-        """1,250,000 bindings of one quantifier above 50 equalities each, 60 million in all, where 16 GB may be taken."""
-        objects = " ".join(f"o{number}" for number in range(250)) + " - s " + " ".join(f"z{number}" for number in range(20)) + " - t"
-        domain = "(define (domain d) (:types s t) (:predicates (p)))"
-        goal = f"(forall (?z - t ?x ?y - s) (and {'(= ?x ?x)' * 50}))"
-        problem = f"(define (problem q) (:domain d) (:objects {objects}) (:init) (:goal {goal}))"
-        for words in ("check domain problem plan", "plan domain problem"):
-            with self.subTest(words):
-                outcome, most = held(words, {"domain": domain, "problem": problem, "plan": ""}, 16 << 30)
+    def test_what_memory_cannot_hold_is_refused(self):
+        """Four thousand million conditions or effects, where 1 GB may be taken."""
+        domain = "(define (domain d) (:predicates (p ?x)) (:action act :parameters () :precondition {} :effect {}))"
+        objects = " ".join(f"o{number}" for number in range(40_000))
+        problem = f"(define (problem q) (:domain d) (:objects {objects}) (:init) (:goal ()))"
+        many = f"(forall (?a) (and {'(p ?a)' * 100_000}))"
+        for name, condition, effect in (("a condition", many, "()"), ("effects", "()", many)):
+            with self.subTest(name):
+                files = {"domain": domain.format(condition, effect), "problem": problem, "plan": "0: (act)\n"}
+                outcome, _ = held("check domain problem plan", files, 1 << 30)
                 self.assertEqual(outcome, told("", "fault ground 1 memory\n", 3))
-                self.assertLess(most, 1 << 30)
 
     def test_atoms_that_are_asked_for_again_and_again_keep_their_numbers(self):
         """64,449 atoms of three and of four objects whose names end alike, each mentioned four times: those that the tables were asked
@@ -292,7 +260,8 @@ class Check(Case):
         self.asks_for({"problem": NEVER, "plan": NEVER}, "fault file 1 read domain\n", 3)
         self.asks_for({"domain": Once("("), "problem": NEVER, "plan": NEVER}, "fault domain 2 text 4 unclosed 0\n", 2)
         self.asks_for({"domain": domain, "plan": NEVER}, "fault file 1 read problem\n", 3)
-        self.asks_for({"domain": LARGE[0], "problem": LARGE[1], "plan": NEVER}, "fault ground 2 too-many actions\n", 2)
+        self.asks_for({"domain": GREAT[0], "problem": GREAT[1], "plan": NEVER}, "fault ground 3 range\n", 2)
+        self.asks_for({"domain": WIDE[0], "problem": WIDE[1], "plan": NEVER}, "fault ground 2 too-many atoms\n", 2)
         self.asks_for({"domain": domain, "problem": problem}, "fault file 1 read plan\n", 3)
 
     def test_a_verdict_that_cannot_be_written(self):

@@ -1,5 +1,5 @@
 #!/usr/bin/env python3
-"""A second reader and judge of journals, written from docs/FORMATS.md alone.
+"""A second reader and judge of journals, written from docs/REFERENCE.md alone.
 
     journals.py LOG [NETWORK HORIZON]
 

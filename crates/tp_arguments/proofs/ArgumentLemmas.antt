@@ -1,5 +1,5 @@
 -- What a parse asks for.
-use Rattle.std.proofs.Common.{◌≡◌, ◌∙◌, ◌⊎◌, ap, ap₂, arith, ℕ, ◌∷◌, inl, inr, refl, sym, subst, List, [], Option, Some, None, true, codes}
+use Rattle.std.proofs.Common.{◌≡◌, ◌∙◌, ◌⊎◌, ap, ap₂, arith, ℕ, ◌∷◌, inl, inr, refl, sym, subst, List, [], Option, Some, None, true, false, codes}
 use Rattle.std.specs.Prelude.{Result, Ok, Err, Bool, if◌then◌else◌, ◌||◌, nat_eq}
 use Rattle.clap.specs.Words.{FailsBy, IsAmong, ReadsOne, Row, Text, fault_of, first_of, one_of, one_text, is_simple, is_simple_and_free, kind_of, rows_of, subcommand_of}
 use Rattle.clap.specs.declared.error.Error.{Error}
@@ -11,13 +11,20 @@ use Rattle.clap.proofs.WalkLemmas.{one_text-rows}
 use Rattle.std.specs.Str.Parse.{digits_value, without_leading_plus}
 use Rattle.clap.specs.declared.parser.matches.Found.{Found}
 use Rattle.tp_arguments.specs.Commands.{tempo_app}
-use Rattle.tp_arguments.specs.Requests.{AskForOneThing, AsksBy, AsksFor, NamesBare, Spells, TellsText, command_name, domain_name, journal_name, owners_name}
+use Rattle.tp_arguments.specs.Requests.{AskForOneThing, AsksBy, AsksFor, AsksSearch, IsFlag, IsSearchWords, NamesBare, Spells, TellsText, command_name, domain_name, journal_name, order_command, owners_name}
 use Rattle.tp_text.specs.Scales.{scale_ticks}
 use Rattle.tp_text.specs.declared.number.Scale.TheVariants.{One}
 use Rattle.tp_plan_files.specs.declared.plan_words.PlanWords.{PlanWords}
+use Rattle.tp_plan_search.specs.declared.search_words.Order.{Order}
+use Rattle.tp_plan_search.specs.declared.search_words.Order.TheVariants.{Lacking, Guided}
 use Rattle.tp_plan_search.specs.declared.search_words.SearchWords.{SearchWords}
+use Rattle.tp_solve.specs.declared.solving.Wishes.{Wishes}
 use Rattle.tp_arguments.specs.declared.requests.Request.{Request}
 use Rattle.tp_arguments.specs.declared.requests.Request.TheVariants.{Bare, BareLog, Check, Net, Run, RunLog, Plan, Audit, PlanAudit, Split, Help}
+
+abbrev first_letter : Text → ℕ
+first_letter [] = 0
+first_letter (x ∷ xs) = x
 
 pub simple : is_simple tempo_app ≡ true
 unfolding clap_on_literals
@@ -27,6 +34,14 @@ pub simple_and_free : is_simple_and_free tempo_app ≡ true
 unfolding clap_on_literals
 simple_and_free = refl
 
+-- the values of `plan` and of `solve`, for a search of its order
+pub asks_plan : (rows : List Row) (w : SearchWords) → IsSearchWords 1000000 rows w → w.order ≡ Lacking → AsksSearch (Some (codes "plan", rows)) w.order w
+asks_plan rows w h is = subst (λ o. AsksSearch (Some (codes "plan", rows)) o w) (sym is) (rows, refl, h)
+
+pub asks_solve : (rows : List Row) (w : SearchWords) (wishes : Wishes) → IsSearchWords 1000000000 rows w → w.order ≡ Guided wishes → IsFlag (one_of (codes "improve") rows) wishes.improve → IsFlag (one_of (codes "progress") rows) wishes.progress → AsksSearch (Some (codes "solve", rows)) w.order w
+asks_solve rows w wishes h is improve progress =
+    subst (λ o. AsksSearch (Some (codes "solve", rows)) o w) (sym is) (rows, refl, h, improve, progress)
+
 -- what matches ask for, the words ask for
 pub asks_by : (words : List Text) (named : Option (Text × List Row)) (r : Request) → fault_of tempo_app words ≡ [] → named ≡ subcommand_of tempo_app words → AsksBy named r → AsksFor words r
 asks_by words named Bare free is h = (free, subst (λ n. NamesBare n) is h)
@@ -35,7 +50,7 @@ asks_by words named (Check w) free is h = (free, subst (λ n. AsksBy n (Check w)
 asks_by words named (Net w) free is h = (free, subst (λ n. AsksBy n (Net w)) is h)
 asks_by words named (Run w) free is h = (free, subst (λ n. AsksBy n (Run w)) is h)
 asks_by words named (RunLog w log) free is h = (free, subst (λ n. AsksBy n (RunLog w log)) is h)
-asks_by words named (Plan w) free is h = (free, subst (λ n. AsksBy n (Plan w)) is h)
+asks_by words named (Plan w) free is h = (free, subst (λ n. AsksSearch n w.order w) is h)
 asks_by words named (Audit log) free is h = (free, subst (λ n. AsksBy n (Audit log)) is h)
 asks_by words named (PlanAudit log w) free is h = (free, subst (λ n. AsksBy n (PlanAudit log w)) is h)
 asks_by words named (Split w owners) free is h = (free, subst (λ n. AsksBy n (Split w owners)) is h)
@@ -205,11 +220,11 @@ split_words w v domain problem plan scale horizon owners = (
 )
 
 -- the two files, the budget that is given, and the scale and the horizon where none are given
-pub plan_words : (w : SearchWords) → w.domain.now ≡ codes "d" → w.problem.now ≡ codes "p" → scale_ticks w.scale ≡ 1 → w.horizon ≡ 1000000 → w.budget ≡ 7 → AsksFor (codes "plan" ∷ codes "d" ∷ codes "p" ∷ codes "--budget" ∷ codes "7" ∷ []) (Plan w)
+pub plan_words : (w : SearchWords) → w.domain.now ≡ codes "d" → w.problem.now ≡ codes "p" → scale_ticks w.scale ≡ 1 → w.horizon ≡ 1000000 → w.budget ≡ 7 → w.order ≡ Lacking → AsksFor (codes "plan" ∷ codes "d" ∷ codes "p" ∷ codes "--budget" ∷ codes "7" ∷ []) (Plan w)
 unfolding clap_on_literals
-plan_words w domain problem scale horizon budget = (
+plan_words w domain problem scale horizon budget order = (
   refl,
-  (
+  subst (λ o. AsksSearch (subcommand_of tempo_app (codes "plan" ∷ codes "d" ∷ codes "p" ∷ codes "--budget" ∷ codes "7" ∷ [])) o w) (sym order) (
     _,
     refl,
     record {
@@ -224,14 +239,44 @@ plan_words w domain problem scale horizon budget = (
   ),
 )
 
+abbrev text_letter : Option Text → ℕ
+text_letter None = 0
+text_letter (Some t) = first_letter t
+
+-- the same of the other search, with one of its two wishes
+pub solve_words : (w : SearchWords) (wishes : Wishes) → w.domain.now ≡ codes "d" → w.problem.now ≡ codes "p" → scale_ticks w.scale ≡ 1 → w.horizon ≡ 1000000 → w.budget ≡ 1000000 → w.order ≡ Guided wishes → wishes.improve ≡ true → wishes.progress ≡ false → AsksFor (codes "solve" ∷ codes "d" ∷ codes "p" ∷ codes "--improve" ∷ []) (Plan w)
+unfolding clap_on_literals
+solve_words w wishes domain problem scale horizon budget order improve progress = (
+  refl,
+  subst (λ o. AsksSearch (subcommand_of tempo_app (codes "solve" ∷ codes "d" ∷ codes "p" ∷ codes "--improve" ∷ [])) o w) (sym order) (
+    _,
+    refl,
+    record {
+      domain = ap Some (sym domain);
+      problem = ap Some (sym problem);
+      scale = (codes "1", refl, sym scale);
+      horizon = (codes "1000000", refl, sym horizon);
+      within = omega (arith, horizon);
+      budget = (codes "1000000", refl, sym budget);
+      most = omega (arith, budget);
+    },
+    (
+      (λ none. let e : 116 ≡ 0 = ap text_letter none in absurd (omega (arith, e))),
+      (λ given. improve),
+      (λ other. let e : 116 ≡ 102 = ap text_letter other in absurd (omega (arith, e))),
+    ),
+    (
+      (λ none. progress),
+      (λ given. let e : 102 ≡ 116 = ap text_letter given in absurd (omega (arith, e))),
+      (λ other. progress),
+    ),
+  ),
+)
+
 -- the file of a journal
 pub audit_words : (w : PlanWords) → w.plan.now ≡ codes "l" → AsksFor (codes "audit" ∷ codes "l" ∷ []) (Audit w.plan)
 unfolding clap_on_literals
 audit_words w log = (refl, (_, refl, ap Some (sym log), refl, (One, (codes "1", refl, refl))))
-
-abbrev first_letter : Text → ℕ
-first_letter [] = 0
-first_letter (x ∷ xs) = x
 
 -- the command that a parse names; a call without words is one of `bare`
 abbrev named_command : Option (Text × List Row) → Text
@@ -272,9 +317,13 @@ abbrev named_domain : Option (Text × List Row) → Option Text
 named_domain None = None
 named_domain (Some named) = domain_of named.0 (first_of (codes "DOMAIN") named.1)
 
+abbrev second_letter : Text → ℕ
+second_letter [] = 0
+second_letter (x ∷ xs) = first_letter xs
+
 -- the file of the agents, of the command that takes one
 abbrev owners_of : Text → Option Text → Option Text
-owners_of name given = if nat_eq (first_letter name) 115 then given else None
+owners_of name given = if nat_eq (second_letter name) 112 then given else None
 
 abbrev named_owners : Option (Text × List Row) → Option Text
 named_owners None = None
@@ -302,6 +351,14 @@ command_is named name rows is = ap Some (sym (ap named_command is))
 journal_is : (named : Option (Text × List Row)) (name : Text) (rows : List Row) (t : Option Text) → named ≡ Some (name, rows) → t ≡ named_journal (Some (name, rows)) → t ≡ named_journal named
 journal_is named name rows t is same = same ∙ sym (ap named_journal is)
 
+search_command_is : (named : Option (Text × List Row)) (o : Order) (w : SearchWords) → AsksSearch named o w → Some (order_command o) ≡ Some (named_command named)
+search_command_is named Lacking w h = command_is _ (codes "plan") h.0 h.1
+search_command_is named (Guided wishes) w h = command_is _ (codes "solve") h.0 h.1
+
+search_journal_is : (named : Option (Text × List Row)) (o : Order) (w : SearchWords) → AsksSearch named o w → None ≡ named_journal named
+search_journal_is named Lacking w h = journal_is _ (codes "plan") h.0 None h.1 refl
+search_journal_is named (Guided wishes) w h = journal_is _ (codes "solve") h.0 None h.1 refl
+
 -- what words ask for is of the command that a parse of them names
 asks_command : (words : List Text) (r : Request) → AsksFor words r → command_name r ≡ when_free (fault_of tempo_app words) (Some (named_command (subcommand_of tempo_app words)))
 asks_command words Bare h = free_is _ _ _ h.0 (bare_command_is _ h.1)
@@ -310,7 +367,7 @@ asks_command words (Check w) h = free_is _ _ _ h.0 (command_is _ (codes "check")
 asks_command words (Net w) h = free_is _ _ _ h.0 (command_is _ (codes "net") h.1.0 h.1.1)
 asks_command words (Run w) h = free_is _ _ _ h.0 (command_is _ (codes "run") h.1.0 h.1.1)
 asks_command words (RunLog w log) h = free_is _ _ _ h.0 (command_is _ (codes "run") h.1.0 h.1.1)
-asks_command words (Plan w) h = free_is _ _ _ h.0 (command_is _ (codes "plan") h.1.0 h.1.1)
+asks_command words (Plan w) h = free_is _ _ _ h.0 (search_command_is _ w.order w h.1)
 asks_command words (Audit log) h = free_is _ _ _ h.0 (command_is _ (codes "audit") h.1.0 h.1.1)
 asks_command words (PlanAudit log w) h = free_is _ _ _ h.0 (command_is _ (codes "audit") h.1.0 h.1.1)
 asks_command words (Split w owners) h = free_is _ _ _ h.0 (command_is _ (codes "split") h.1.0 h.1.1)
@@ -324,7 +381,7 @@ asks_journal words (Check w) h = free_is _ _ _ h.0 (journal_is _ (codes "check")
 asks_journal words (Net w) h = free_is _ _ _ h.0 (journal_is _ (codes "net") h.1.0 None h.1.1 refl)
 asks_journal words (Run w) h = free_is _ _ _ h.0 (journal_is _ (codes "run") h.1.0 None h.1.1 (sym h.1.2))
 asks_journal words (RunLog w log) h = free_is _ _ _ h.0 (journal_is _ (codes "run") h.1.0 _ h.1.1 (sym h.1.2))
-asks_journal words (Plan w) h = free_is _ _ _ h.0 (journal_is _ (codes "plan") h.1.0 None h.1.1 refl)
+asks_journal words (Plan w) h = free_is _ _ _ h.0 (search_journal_is _ w.order w h.1)
 asks_journal words (Audit log) h = free_is _ _ _ h.0 (journal_is _ (codes "audit") h.1.0 None h.1.1 refl)
 asks_journal words (PlanAudit log w) h = free_is _ _ _ h.0 (journal_is _ (codes "audit") h.1.0 None h.1.1 refl)
 asks_journal words (Split w owners) h = free_is _ _ _ h.0 (journal_is _ (codes "split") h.1.0 None h.1.1 refl)
@@ -332,6 +389,10 @@ asks_journal words (Help text) h = help_is _ _ h
 
 domain_is : (named : Option (Text × List Row)) (name : Text) (rows : List Row) (t : Option Text) → named ≡ Some (name, rows) → t ≡ named_domain (Some (name, rows)) → t ≡ named_domain named
 domain_is named name rows t is same = same ∙ sym (ap named_domain is)
+
+search_domain_is : (named : Option (Text × List Row)) (o : Order) (w : SearchWords) → AsksSearch named o w → Some w.domain.now ≡ named_domain named
+search_domain_is named Lacking w h = domain_is _ (codes "plan") h.0 _ h.1 (sym h.2.domain)
+search_domain_is named (Guided wishes) w h = domain_is _ (codes "solve") h.0 _ h.1 (sym h.2.domain)
 
 -- and of the domain in the file that they name
 asks_domain : (words : List Text) (r : Request) → AsksFor words r → domain_name r ≡ when_free (fault_of tempo_app words) (named_domain (subcommand_of tempo_app words))
@@ -341,7 +402,7 @@ asks_domain words (Check w) h = free_is _ _ _ h.0 (domain_is _ (codes "check") h
 asks_domain words (Net w) h = free_is _ _ _ h.0 (domain_is _ (codes "net") h.1.0 _ h.1.1 (sym h.1.2.domain))
 asks_domain words (Run w) h = free_is _ _ _ h.0 (domain_is _ (codes "run") h.1.0 _ h.1.1 (sym h.1.3.domain))
 asks_domain words (RunLog w log) h = free_is _ _ _ h.0 (domain_is _ (codes "run") h.1.0 _ h.1.1 (sym h.1.3.domain))
-asks_domain words (Plan w) h = free_is _ _ _ h.0 (domain_is _ (codes "plan") h.1.0 _ h.1.1 (sym h.1.2.domain))
+asks_domain words (Plan w) h = free_is _ _ _ h.0 (search_domain_is _ w.order w h.1)
 asks_domain words (Audit log) h = free_is _ _ _ h.0 (domain_is _ (codes "audit") h.1.0 None h.1.1 (sym h.1.3))
 asks_domain words (PlanAudit log w) h = free_is _ _ _ h.0 (domain_is _ (codes "audit") h.1.0 _ h.1.1 (sym h.1.3.domain))
 asks_domain words (Split w owners) h = free_is _ _ _ h.0 (domain_is _ (codes "split") h.1.0 _ h.1.1 (sym h.1.3.domain))
@@ -349,6 +410,10 @@ asks_domain words (Help text) h = help_is _ _ h
 
 owners_is : (named : Option (Text × List Row)) (name : Text) (rows : List Row) (t : Option Text) → named ≡ Some (name, rows) → t ≡ named_owners (Some (name, rows)) → t ≡ named_owners named
 owners_is named name rows t is same = same ∙ sym (ap named_owners is)
+
+search_owners_is : (named : Option (Text × List Row)) (o : Order) (w : SearchWords) → AsksSearch named o w → None ≡ named_owners named
+search_owners_is named Lacking w h = owners_is _ (codes "plan") h.0 None h.1 refl
+search_owners_is named (Guided wishes) w h = owners_is _ (codes "solve") h.0 None h.1 refl
 
 -- and of the agents in the file that they name
 asks_owners : (words : List Text) (r : Request) → AsksFor words r → owners_name r ≡ when_free (fault_of tempo_app words) (named_owners (subcommand_of tempo_app words))
@@ -358,7 +423,7 @@ asks_owners words (Check w) h = free_is _ _ _ h.0 (owners_is _ (codes "check") h
 asks_owners words (Net w) h = free_is _ _ _ h.0 (owners_is _ (codes "net") h.1.0 None h.1.1 refl)
 asks_owners words (Run w) h = free_is _ _ _ h.0 (owners_is _ (codes "run") h.1.0 None h.1.1 refl)
 asks_owners words (RunLog w log) h = free_is _ _ _ h.0 (owners_is _ (codes "run") h.1.0 None h.1.1 refl)
-asks_owners words (Plan w) h = free_is _ _ _ h.0 (owners_is _ (codes "plan") h.1.0 None h.1.1 refl)
+asks_owners words (Plan w) h = free_is _ _ _ h.0 (search_owners_is _ w.order w h.1)
 asks_owners words (Audit log) h = free_is _ _ _ h.0 (owners_is _ (codes "audit") h.1.0 None h.1.1 refl)
 asks_owners words (PlanAudit log w) h = free_is _ _ _ h.0 (owners_is _ (codes "audit") h.1.0 None h.1.1 refl)
 asks_owners words (Split w owners) h = free_is _ _ _ h.0 (owners_is _ (codes "split") h.1.0 _ h.1.1 (sym h.1.2))

@@ -1,7 +1,7 @@
 -- The commands of the program and their words, as a parse reads them.
 use Rattle.std.specs.Prelude.{[], ◌∷◌, Some, true, pos, codes}
 use Rattle.clap.specs.Words.{App, Rule, Text, new_app, new_rule, with_rule, with_subcommand}
-use Rattle.clap.specs.declared.builder.ArgAction.TheVariants.{Set}
+use Rattle.clap.specs.declared.builder.ArgAction.TheVariants.{Set, SetTrue}
 use Rattle.clap.specs.declared.builder.value_parser.ValueParser.TheVariants as vp
 
 -- a file that has to be named
@@ -42,6 +42,20 @@ budget_rule = record (new_rule (codes "budget")) {
   parser = Some (vp.Signed (pos 0) (pos 1000000));
 }
 
+-- `--budget` of a guided search, from 0 to 1000000000, by default 1000000
+abbrev pub solve_budget_rule : Rule
+solve_budget_rule = record (new_rule (codes "budget")) {
+  long = Some (codes "budget");
+  action = Some Set;
+  value_names = 1;
+  defaults = codes "1000000" ∷ [];
+  parser = Some (vp.Signed (pos 0) (pos 1000000000));
+}
+
+-- an option that is given or not
+abbrev pub flag_rule : Text → Rule
+flag_rule id = record (new_rule id) { long = Some id; action = Some SetTrue }
+
 -- `--journal`, a file, by default none
 abbrev pub journal_rule : Rule
 journal_rule = record (new_rule (codes "journal")) {
@@ -79,6 +93,19 @@ search_app =
     (file_rule (codes "PROBLEM")) in
     with_rule (with_rule (with_rule files scale_rule) horizon_rule) budget_rule
 
+-- the files of a problem, and how time is measured
+abbrev pub solve_files : App
+solve_files =
+    let files = with_rule (with_rule (new_app (codes "solve")) (file_rule (codes "DOMAIN")))
+    (file_rule (codes "PROBLEM")) in
+    with_rule (with_rule files scale_rule) horizon_rule
+
+-- with the budget of a guided search, and whether it goes on and tells what it finds
+abbrev pub solve_app : App
+solve_app =
+    with_rule (with_rule (with_rule solve_files solve_budget_rule) (flag_rule (codes "improve")))
+    (flag_rule (codes "progress"))
+
 -- the files of a plan, which may be left out
 abbrev pub with_others : App → App
 with_others log =
@@ -113,9 +140,13 @@ network_app = with_subcommand judging_app net_app.top
 abbrev pub planning_app : App
 planning_app = with_subcommand (with_subcommand network_app run_app.top) search_app.top
 
+-- and with the one that searches larger problems
+abbrev pub solving_app : App
+solving_app = with_subcommand planning_app solve_app.top
+
 -- and with the one that audits journals
 abbrev pub auditing_app : App
-auditing_app = with_subcommand planning_app audit_app.top
+auditing_app = with_subcommand solving_app audit_app.top
 
 abbrev pub tempo_app : App
 tempo_app = with_subcommand auditing_app split_app.top

@@ -1,5 +1,5 @@
 -- What the words of a call ask for.
-use Rattle.std.specs.Prelude.{◌≡◌, ◌≤◌, ◌⊎◌, ℕ, List, [], Option, Some, None, codes}
+use Rattle.std.specs.Prelude.{◌≡◌, ◌≤◌, ◌⊎◌, ℕ, Bool, true, false, List, [], Option, Some, None, codes}
 use Rattle.std.specs.Str.Parse.{digits_value, without_leading_plus}
 use Rattle.clap.specs.Words.{IsAmong, Row, Text, fault_of, first_of, one_of, subcommand_of}
 use Rattle.clap.specs.declared.error.kind.ErrorKind.{ErrorKind}
@@ -8,6 +8,9 @@ use Rattle.tp_text.specs.Scales.{scale_ticks}
 use Rattle.tp_text.specs.declared.number.Scale.{Scale}
 use Rattle.tp_arguments.specs.Commands.{tempo_app}
 use Rattle.tp_plan_files.specs.declared.plan_words.PlanWords.{PlanWords}
+use Rattle.tp_plan_search.specs.Searches.{tells_progress}
+use Rattle.tp_plan_search.specs.declared.search_words.Order.{Order}
+use Rattle.tp_plan_search.specs.declared.search_words.Order.TheVariants.{Lacking, Guided}
 use Rattle.tp_plan_search.specs.declared.search_words.SearchWords.{SearchWords}
 use Rattle.tp_arguments.specs.declared.requests.Request.{Request}
 use Rattle.tp_arguments.specs.declared.requests.Request.TheVariants.{Bare, BareLog, Check, Net, Run, RunLog, Plan, Audit, PlanAudit, Split, Help}
@@ -29,15 +32,34 @@ pub record IsPlanWords (rows : List Row) (w : PlanWords) : Type 0 where
 abbrev pub HasScale : List Row → Type 0
 HasScale rows = (scale : Scale) × Spells (one_of (codes "scale") rows) (scale_ticks scale)
 
--- the values of `plan`, or their defaults
-pub record IsSearchWords (rows : List Row) (w : SearchWords) : Type 0 where
+-- the values of `plan` and `solve`, or their defaults, with a budget of so many nodes at most
+pub record IsSearchWords (greatest : ℕ) (rows : List Row) (w : SearchWords) : Type 0 where
   pub domain : first_of (codes "DOMAIN") rows ≡ Some w.domain.now
   pub problem : first_of (codes "PROBLEM") rows ≡ Some w.problem.now
   pub scale : Spells (one_of (codes "scale") rows) (scale_ticks w.scale)
   pub horizon : Spells (one_of (codes "horizon") rows) w.horizon
   pub within : w.horizon ≤ 1000000000
   pub budget : Spells (one_of (codes "budget") rows) w.budget
-  pub most : w.budget ≤ 1000000
+  pub most : w.budget ≤ greatest
+
+-- whether an option is given that has no value
+abbrev pub IsFlag : Option Text → Bool → Type 0
+IsFlag text given =
+    (text ≡ None → given ≡ false) × (text ≡ Some (codes "true") → given ≡ true)
+    × (text ≡ Some (codes "false") → given ≡ false)
+
+-- `plan` asks for a search of the one order, and `solve` for one of the other, with what is wished for beside
+abbrev pub AsksSearch : Option (Text × List Row) → Order → SearchWords → Type 0
+AsksSearch named Lacking w = (rows : List Row) × (named ≡ Some (codes "plan", rows))
+    × IsSearchWords 1000000 rows w
+AsksSearch named (Guided wishes) w =
+    (rows : List Row) × (named ≡ Some (codes "solve", rows)) × IsSearchWords 1000000000 rows w
+    × IsFlag (one_of (codes "improve") rows) wishes.improve
+    × IsFlag (one_of (codes "progress") rows) wishes.progress
+
+abbrev pub order_command : Order → Text
+order_command Lacking = codes "plan"
+order_command (Guided wishes) = codes "solve"
 
 -- no command is named, or `bare` without a file for a journal
 abbrev pub NamesBare : Option (Text × List Row) → Type 0
@@ -59,8 +81,7 @@ AsksBy named (Run w) =
 AsksBy named (RunLog w log) =
     (rows : List Row) × (named ≡ Some (codes "run", rows))
     × (first_of (codes "journal") rows ≡ Some log.now) × IsPlanWords rows w
-AsksBy named (Plan w) = (rows : List Row) × (named ≡ Some (codes "plan", rows))
-    × IsSearchWords rows w
+AsksBy named (Plan w) = AsksSearch named w.order w
 AsksBy named (Audit log) =
     (rows : List Row) × (named ≡ Some (codes "audit", rows))
     × (first_of (codes "LOG") rows ≡ Some log.now) × (first_of (codes "DOMAIN") rows ≡ None)
@@ -109,6 +130,11 @@ pub record AsksForNoCommands (words : List Text) : Type 0 where
   pub no_run : (w : PlanWords) → AsksFor words (Run w) → ⊥
   pub no_run_log : (w : PlanWords) (log : _) → AsksFor words (RunLog w log) → ⊥
 
+-- the words ask for no search that tells of plans as it finds them
+abbrev pub AsksForNoProgress : List Text → Type 0
+AsksForNoProgress words =
+    (w : SearchWords) → AsksFor words (Plan w) → tells_progress w.order ≡ false
+
 -- the command that a request is one of; a call without words is one of `bare`, and help is none
 abbrev pub command_name : Request → Option Text
 command_name Bare = Some (codes "bare")
@@ -117,7 +143,7 @@ command_name (Check w) = Some (codes "check")
 command_name (Net w) = Some (codes "net")
 command_name (Run w) = Some (codes "run")
 command_name (RunLog w log) = Some (codes "run")
-command_name (Plan w) = Some (codes "plan")
+command_name (Plan w) = Some (order_command w.order)
 command_name (Audit log) = Some (codes "audit")
 command_name (PlanAudit log w) = Some (codes "audit")
 command_name (Split w owners) = Some (codes "split")

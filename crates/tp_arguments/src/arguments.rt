@@ -1,13 +1,14 @@
 //! The reading of the words of a call.
 
-ghost use Rattle.std.specs.Prelude.{◌≡◌, ◌≢◌, ◌⊎◌, ℕ, ◌∷◌, [], List, Some, None, Ok, Err, IfOk, IfErr, IfSome, map, option_map, codes};
+ghost use Rattle.std.specs.Prelude.{◌≡◌, ◌≢◌, ◌⊎◌, ℕ, ◌∷◌, [], List, true, false, Some, None, Ok, Err, IfOk, IfErr, IfSome, map, option_map, codes};
 ghost use Rattle.std.specs.String.{string_bytes};
 ghost use Rattle.clap.specs.Words.{Text, Row, first_of, found_of, kind_of, one_of, rows_of, subcommand_rows_of};
 ghost use Rattle.clap.specs.declared.error.kind.ErrorKind.TheVariants as kinds;
 ghost use Rattle.tp_text.specs.Scales.{scale_ticks};
 ghost use Rattle.tp_plan_files.specs.declared.plan_words.PlanWords.{PlanWords};
 ghost use Rattle.tp_plan_search.specs.declared.search_words.SearchWords.{SearchWords};
-ghost use Rattle.tp_arguments.specs.Requests.{AskForOneThing, AsksBy, AsksFor, IsPlanWords, IsSearchWords, NamesBare, Spells, TellsText};
+ghost use Rattle.tp_solve.specs.declared.solving.Wishes.{Wishes};
+ghost use Rattle.tp_arguments.specs.Requests.{AskForOneThing, AsksBy, AsksFor, IsFlag, IsPlanWords, IsSearchWords, NamesBare, Spells, TellsText};
 
 use crate::commands::tempo_command;
 use crate::requests::Request;
@@ -15,7 +16,7 @@ use clap::error::ErrorKind;
 use clap::{ArgMatches, Error};
 use std::alloc::{AllocError, Global};
 use tp_plan_files::PlanWords;
-use tp_plan_search::SearchWords;
+use tp_plan_search::{Order, SearchWords, Wishes};
 use tp_text::Scale;
 
 /// Why a call's words ask for nothing.
@@ -42,6 +43,9 @@ const GREATEST_HORIZON: u32 = 1_000_000_000;
 
 /// The greatest budget of a search.
 const GREATEST_BUDGET: u32 = 1_000_000;
+
+/// The greatest budget of a guided search.
+const GREATEST_GUIDED_BUDGET: u32 = 1_000_000_000;
 
 /// The value of a word.
 fn word<'w>(matches: &ArgMatches<'w>, id: &str) -> Option<&'w str>
@@ -86,16 +90,21 @@ fn plan_words<'w>(matches: &ArgMatches<'w>) -> Option<PlanWords<'w>>
     })
 }
 
-/// The files of a problem, how time is measured, and the budget of a search.
-fn search_words<'w>(matches: &ArgMatches<'w>) -> Option<SearchWords<'w>>
-    ensures { IfSome result (IsSearchWords (rows_of (found_of matches.now))) }
+/// The files of a problem, how time is measured, and the budget of a search of an order, up to the greatest one.
+fn search_words<'w>(
+    matches: &ArgMatches<'w>,
+    greatest: u32,
+    order: Order,
+) -> Option<SearchWords<'w>>
+    ensures words { IfSome result (IsSearchWords greatest (rows_of (found_of matches.now))) }
+    ensures order { IfSome result (λ w. w.order ≡ order) }
 {
     let domain = word(matches, "DOMAIN")?;
     let problem = word(matches, "PROBLEM")?;
     let scale = scale(matches)?;
     let horizon = number(matches, "horizon")?;
     let budget = number(matches, "budget")?;
-    if horizon > GREATEST_HORIZON || budget > GREATEST_BUDGET {
+    if horizon > GREATEST_HORIZON || budget > greatest {
         return None;
     }
     Some(SearchWords {
@@ -104,7 +113,35 @@ fn search_words<'w>(matches: &ArgMatches<'w>) -> Option<SearchWords<'w>>
         scale,
         horizon,
         budget,
+        order,
     })
+}
+
+/// Whether an option is given that has no value.
+fn flag(matches: &ArgMatches<'_>, id: &str) -> bool
+    ensures { IsFlag (one_of id.now (rows_of (found_of matches.now))) result }
+{
+    matches.get_flag(id)
+}
+
+/// What `plan` asks for.
+fn plan_asked<'w>(matches: &ArgMatches<'w>) -> Option<Request<'w>>
+    ensures { IfSome result (AsksBy (Some (codes "plan", rows_of (found_of matches.now)))) }
+{
+    let words = search_words(matches, GREATEST_BUDGET, Order::Lacking)?;
+    Some(Request::Plan(words))
+}
+
+/// What `solve` asks for.
+fn solve_asked<'w>(matches: &ArgMatches<'w>) -> Option<Request<'w>>
+    ensures { IfSome result (AsksBy (Some (codes "solve", rows_of (found_of matches.now)))) }
+{
+    let wishes = Wishes {
+        improve: flag(matches, "improve"),
+        progress: flag(matches, "progress"),
+    };
+    let words = search_words(matches, GREATEST_GUIDED_BUDGET, Order::Guided(wishes))?;
+    Some(Request::Plan(words))
 }
 
 /// What `bare` asks for: a journal too, where a file is named for it.
@@ -179,8 +216,13 @@ fn asked_by<'w>(name: &str, matches: &ArgMatches<'w>) -> Result<Request<'w>, NoR
         }
     }
     if name == "plan" {
-        if let Some(words) = search_words(matches) {
-            return Ok(Request::Plan(words));
+        if let Some(request) = plan_asked(matches) {
+            return Ok(request);
+        }
+    }
+    if name == "solve" {
+        if let Some(request) = solve_asked(matches) {
+            return Ok(request);
         }
     }
     if name == "audit" {
@@ -292,9 +334,19 @@ pub fn run_log_calls()
 /// Files and options of `plan`, with a horizon of 1000000 where none is given.
 pub fn plan_calls()
     ensures { (w : SearchWords) → w.domain.now ≡ codes "d" → w.problem.now ≡ codes "p"
-        → scale_ticks w.scale ≡ 1 → w.horizon ≡ 1000000 → w.budget ≡ 7
+        → scale_ticks w.scale ≡ 1 → w.horizon ≡ 1000000 → w.budget ≡ 7 → w.order ≡ Order.Lacking
         → AsksFor (codes "plan" ∷ codes "d" ∷ codes "p" ∷ codes "--budget" ∷ codes "7"
         ∷ []) (Request.Plan w) }
+{}
+
+/// The same of `solve`, with a budget of 1000000 where none is given, and one of its two wishes.
+pub fn solve_calls()
+    ensures { (w : SearchWords) (wishes : Wishes)
+        → w.domain.now ≡ codes "d" → w.problem.now ≡ codes "p" → scale_ticks w.scale ≡ 1
+        → w.horizon ≡ 1000000 → w.budget ≡ 1000000 → w.order ≡ Order.Guided wishes
+        → wishes.improve ≡ true → wishes.progress ≡ false
+        → AsksFor (codes "solve" ∷ codes "d" ∷ codes "p" ∷ codes "--improve" ∷ [])
+        (Request.Plan w) }
 {}
 
 /// The file of a journal behind `audit`.

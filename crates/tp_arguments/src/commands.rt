@@ -3,14 +3,14 @@
 ghost use Rattle.std.specs.Prelude.{◌≡◌, false, IfOk, codes};
 ghost use Rattle.clap.specs.Words.{app_of, new_app, rule_of, with_subcommand};
 ghost use Rattle.clap.specs.declared.builder.command.Command.TheViews.{out-Command as fields_of};
-ghost use Rattle.tp_arguments.specs.Commands.{audit_app, auditing_app, bare_app, budget_rule, check_app, file_rule, horizon_rule, journal_rule, judging_app, net_app, network_app, other_rule, plan_app, planning_app, run_app, scale_rule, search_app, split_app, start_app, tempo_app, with_others};
+ghost use Rattle.tp_arguments.specs.Commands.{audit_app, auditing_app, bare_app, budget_rule, check_app, file_rule, flag_rule, horizon_rule, journal_rule, judging_app, net_app, network_app, other_rule, plan_app, planning_app, run_app, scale_rule, search_app, solve_app, solve_budget_rule, solve_files, solving_app, split_app, start_app, tempo_app, with_others};
 
 use clap::{Arg, ArgAction, Command, value_parser};
 use std::alloc::{AllocError, Global};
 
-/// The logic that the program is proved in, as `rt version` tells it behind the kit's name: kits that differ in nothing that a
-/// proof rests on have one logic.
-const LOGIC: &str = "rattle logic dac8208d650f15bf";
+/// The version of the program, and the logic that it is proved in, as `rt version` prints it after the kit's name: kits that differ
+/// in nothing that a proof depends on have one logic.
+const VERSION: &str = "0.3.0 (rattle logic dac8208d650f15bf)";
 
 const ABOUT: &str =
     "Plans over time: judges them, and answers commands on networks of events and bounds";
@@ -24,6 +24,7 @@ Examples:
   printf 'network 1 5\\nwindow 0\\n' | tempo bare
   printf 'network 1 5\\nwindow 0\\n' | tempo bare --journal night.log
   tempo plan domain.pddl problem.pddl > plan.txt
+  tempo solve domain.pddl problem.pddl --improve > plan.txt
   tempo check domain.pddl problem.pddl plan.txt
   tempo net domain.pddl problem.pddl plan.txt
   printf 'dispatch 0\\nadvance 3\\ndispatch 1\\n' | tempo run domain.pddl problem.pddl plan.txt
@@ -124,7 +125,8 @@ const PLAN_HELP: &str =
 
   TIME: (NAME ARG ..) [DURATION]
 
-which `check` reads. Where none was found, prints
+which `check` reads. Nodes are expanded by the number of goal conjuncts that they lack: for larger problems there is `solve`.
+Where no plan was found, prints
 
   unreachable   no plan is valid: the goal is not met even where negated conditions and comparisons count as met
   exhausted     no node is left to expand
@@ -132,6 +134,25 @@ which `check` reads. Where none was found, prints
 
 Example:
   tempo plan domain.pddl problem.pddl --budget 1000
+prints
+  0: (need)";
+
+const SOLVE_ABOUT: &str = "Searches for a plan of a larger problem";
+
+const SOLVE_HELP: &str =
+    "Reads a domain and a problem of PDDL 2.1, and prints what `plan` prints: a valid plan, none of whose steps comes later than the
+plan's network asks for, or one of the lines `unreachable`, `exhausted` and `spent B`.
+
+The search is guided by relaxed plans, within three quarters of the budget; where it finds no plan, the search of `plan` has
+what is left. With `--improve` it goes on after its first plan until the budget is spent, and the plan that ends first is
+printed. With `--progress` each plan is told on standard error as it is found, by the line
+
+  makespan M expanded N
+
+A metric of the problem is read and ignored.
+
+Example:
+  tempo solve domain.pddl problem.pddl --improve --progress
 prints
   0: (need)";
 
@@ -233,6 +254,31 @@ fn budget_option<'a>(alloc: Global) -> Arg<'a>
         .help("How many nodes the search may expand, from 0 to 1000000")
 }
 
+/// How many nodes a guided search may expand.
+fn solve_budget_option<'a>(alloc: Global) -> Arg<'a>
+    ensures rule { rule_of result ≡ solve_budget_rule }
+    ensures local { result.global ≡ false }
+{
+    Arg::new(alloc, "budget")
+        .long("budget")
+        .value_name("B")
+        .action(ArgAction::Set)
+        .value_parser(value_parser!(u32).range(0..=1000000000))
+        .default_value("1000000")
+        .help("How many nodes the search may expand, from 0 to 1000000000")
+}
+
+/// An option that is given or not.
+fn flag_option<'a>(alloc: Global, id: &'a str, help: &'a str) -> Arg<'a>
+    ensures rule { rule_of result ≡ flag_rule id.entry.now }
+    ensures local { result.global ≡ false }
+{
+    Arg::new(alloc, id)
+        .long(id)
+        .action(ArgAction::SetTrue)
+        .help(help)
+}
+
 /// The file of a journal that is kept.
 fn journal_option<'a>(alloc: Global) -> Arg<'a>
     ensures rule { rule_of result ≡ journal_rule }
@@ -322,6 +368,37 @@ fn search_command<'a>(alloc: Global) -> Result<Command<'a>, AllocError>
         .arg(budget_option(alloc))
 }
 
+/// The command `solve` with its files and how its time is measured.
+fn solve_start<'a>(alloc: Global) -> Result<Command<'a>, AllocError>
+    ensures app { IfOk result (λ c. app_of c ≡ solve_files) }
+    ensures local { IfOk result (λ c. (fields_of c).has_globals ≡ false) }
+{
+    plan_start(alloc, "solve", SOLVE_ABOUT, SOLVE_HELP)
+        .arg(file_argument(alloc, "DOMAIN", "The file of the domain"))?
+        .arg(file_argument(alloc, "PROBLEM", "The file of the problem"))?
+        .arg(scale_option(alloc))?
+        .arg(horizon_option(alloc))
+}
+
+/// The command `solve`.
+fn solve_command<'a>(alloc: Global) -> Result<Command<'a>, AllocError>
+    ensures app { IfOk result (λ c. app_of c ≡ solve_app) }
+    ensures local { IfOk result (λ c. (fields_of c).has_globals ≡ false) }
+{
+    solve_start(alloc)?
+        .arg(solve_budget_option(alloc))?
+        .arg(flag_option(
+            alloc,
+            "improve",
+            "Go on for better plans until the budget is spent",
+        ))?
+        .arg(flag_option(
+            alloc,
+            "progress",
+            "Tell each plan on standard error as it is found",
+        ))
+}
+
 /// A file that may be named.
 fn other_argument<'a>(alloc: Global, id: &'a str, help: &'a str) -> Arg<'a>
     ensures rule { rule_of result ≡ other_rule id.entry.now }
@@ -384,7 +461,7 @@ fn tempo_start<'a>(alloc: Global) -> Result<Command<'a>, AllocError>
     ensures { IfOk result (λ c. app_of c ≡ start_app) }
 {
     Command::new(alloc, "tempo")
-        .version(LOGIC)
+        .version(VERSION)
         .no_binary_name(true)
         .about(ABOUT)
         .after_help(EXIT)
@@ -424,12 +501,20 @@ fn planning_command<'a>(alloc: Global) -> Result<Command<'a>, AllocError>
     running_command(alloc)?.subcommand(search)
 }
 
+/// The same with the command that searches larger problems.
+fn solving_command<'a>(alloc: Global) -> Result<Command<'a>, AllocError>
+    ensures { IfOk result (λ c. app_of c ≡ solving_app) }
+{
+    let solve = solve_command(alloc)?;
+    planning_command(alloc)?.subcommand(solve)
+}
+
 /// The same with the command that audits journals.
 fn auditing_command<'a>(alloc: Global) -> Result<Command<'a>, AllocError>
     ensures { IfOk result (λ c. app_of c ≡ auditing_app) }
 {
     let audit = audit_command(alloc)?;
-    planning_command(alloc)?.subcommand(audit)
+    solving_command(alloc)?.subcommand(audit)
 }
 
 /// The program with all its commands.

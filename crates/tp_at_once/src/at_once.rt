@@ -18,7 +18,7 @@ use crate::arena::Arena;
 use crate::found::Found;
 use crate::rows::{Rows, push_if};
 use std::alloc::{AllocError, Global};
-use tp_forms::SearchFault;
+use tp_frontier::SearchFault;
 use tp_happen::{ApplyFault, Event, EventRef, Outcome, Part, Plan, State, Step, apply, event};
 use tp_task::{ActionId, MOST_STEPS, Task};
 use tp_validate::{ValidPlan, ValidateFault, Verdict, validate};

@@ -1,9 +1,6 @@
-pub mod OnVariables
 pub mod OnEnvironments
-pub mod OnBindings
-pub mod OnObjects
 pub mod Along
 pub mod OnKnown
+pub mod OnFitting
 pub mod OnRows
-pub mod OnListed
-pub mod OnHints
+pub mod Visited

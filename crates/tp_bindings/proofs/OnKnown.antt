@@ -1,6 +1,5 @@
 -- Objects that were looked for before.
-use Rattle.std.proofs.Common.{◌≡◌, ℕ, zero, suc, ◌<◌, Bool, true, false, ◌&&◌, if◌then◌else◌, List, [], ◌∷◌, ◌++◌, map, length, get_or, string_bytes, refl, sym, ap, ◌∙◌, arith}
-use Rattle.std.proofs.lemmas.List.{get_or-map}
+use Rattle.std.proofs.Common.{◌≡◌, ℕ, zero, suc, ◌<◌, Bool, true, false, ◌&&◌, if◌then◌else◌, List, [], ◌∷◌, ◌++◌, map, length, get_or, string_bytes, refl, ap, ◌∙◌, arith}
 use Rattle.std.specs.List.{list_all}
 use Rattle.std.proofs.lemmas.Bool.{and_from}
 use Rattle.tp_ast.specs.Symbols.{Name}
@@ -8,8 +7,6 @@ use Rattle.tp_task.specs.Words.{same_words}
 use Rattle.tp_task.proofs.OnWords.{same_words_are, same_words_self}
 use Rattle.tp_bindings.specs.Bindings.{Universe, choices}
 use Rattle.tp_bindings.specs.KnownChoices.{of_types, is_known}
-use Rattle.tp_bindings.specs.Hints.{listed_in}
-use Rattle.tp_bindings.specs.Rows.{names_of}
 use Rattle.tp_bindings.specs.declared.objects.Known.{Known}
 
 both : (a b : Bool) → (a && b) ≡ true → (a ≡ true) × (b ≡ true)
@@ -33,13 +30,6 @@ pub known_here : (u : Universe) (ks : List Known) (i : ℕ) (k : Known) (ts : Li
 known_here u ks i k ts lt item h same =
     same_words_are (map (λ o. o.now) k.names.items) (choices u (of_types (map string_bytes k.types.now))) (all_there (is_known u) ks i k lt item h)
     ∙ ap (λ ys. choices u (of_types ys)) (same_words_are (map string_bytes k.types.now) ts same)
-
--- the same, by where it stands
-pub known_there : (u : Universe) (ks : List Known) (i : ℕ) (k : Known) (ts : List Name) → i < length ks → k ≡ get_or ks i k → list_all (is_known u) ks ≡ true → same_words (map string_bytes k.types.now) ts ≡ true → listed_in ks i ≡ choices u (of_types ts)
-known_there u ks i k ts lt item h same =
-    get_or-map (λ (x : Known). names_of x.names) ks i k [] lt
-    ∙ ap (λ (x : Known). names_of x.names) (sym item)
-    ∙ known_here u ks i k ts lt item h same
 
 -- what was looked for just now
 pub is_known_now : (u : Universe) (ts : List Name) (k : Known) → map string_bytes k.types.now ≡ ts → map (λ o. o.now) k.names.items ≡ choices u (of_types ts) → is_known u k ≡ true

@@ -1,8 +1,5 @@
 pub mod Bindings
-pub mod Counts
 pub mod Views
 pub mod KnownChoices
-pub mod Hints
-pub mod TermsIn
-pub mod Found
 pub mod Rows
+pub mod Left

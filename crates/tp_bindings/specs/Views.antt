@@ -1,6 +1,7 @@
 -- What a `Universe` and an `Env` show.
 use Rattle.std.specs.Prelude.{[], ◌++◌, map}
 use Rattle.tp_ast.specs.Symbols.{typed_view}
+use Rattle.tp_types.specs.TypeViews.{types_view}
 use Rattle.tp_bindings.specs.Bindings as bindings
 use Rattle.tp_bindings.specs.Bindings.{bound}
 use Rattle.tp_bindings.specs.declared.objects.Universe.{Universe}
@@ -8,7 +9,10 @@ use Rattle.tp_bindings.specs.declared.environment.Env.{Env, fold-Env}
 use Rattle.tp_bindings.specs.declared.environment.Env.TheOpen.{Env-F}
 
 abbrev pub universe_view : Universe → bindings.Universe
-universe_view u = record { types = u.objects.types; objects = u.objects.objects }
+universe_view u = record {
+  types = types_view u.types;
+  objects = map typed_view u.constants.now ++ map typed_view u.objects.now;
+}
 
 abbrev pub env_step : Env-F bindings.Env → bindings.Env
 env_step Env-F.Empty = []

@@ -1,22 +1,40 @@
 //! What variables stand for.
 
-ghost use Rattle.std.specs.Prelude.{◌≡◌, map, IfOk};
+ghost use Rattle.std.specs.Prelude.{◌≡◌, option_map, map, IfOk};
+ghost use Rattle.tp_ast.specs.Symbols.{typed_view};
 ghost use Rattle.tp_ast.specs.Terms.{variable, term_view, atom_view};
-ghost use Rattle.tp_bindings.specs.Bindings.{object_for, words_in};
+ghost use Rattle.tp_bindings.specs.Bindings.{bound, object_among, object_for, words_in};
 ghost use Rattle.tp_bindings.specs.Views.{env_view};
 
-use crate::extent::scope_of_list;
-use crate::variables::Variables;
 use smallvec::SmallVec;
 use std::alloc::{AllocError, Global};
+use tp_ast::symbols::Typed;
 use tp_ast::term::{Atom, Term};
 
 /// What variables stand for. An inner one hides an outer one of the same name.
 #[derive(Clone, Copy)]
 pub enum Env<'e, 'a> {
     Empty,
-    /// Variables, the objects that they stand for, and what stands outside.
-    Inner(&'e Variables<'a>, &'e [&'a str], &'e Env<'e, 'a>),
+    /// Variables, the objects that they stand for, and what those outside stand for.
+    Inner(&'e [Typed], &'e [&'a str], &'e Env<'e, 'a>),
+}
+
+// The object that one of some variables stands for, if each stands for the object at its place.
+fn object_among<'a>(variables: &[Typed], objects: &[&'a str], name: &str) -> Option<&'a str>
+    ensures { option_map (λ o. o.now) result ≡ object_among
+        (bound (map typed_view variables.now) (map (λ o. o.now) objects.now)) name.now }
+{
+    let mut left = objects;
+    for variable in variables {
+        let [object, others @ ..] = left else {
+            return None;
+        };
+        if variable.name.as_str() == name {
+            return Some(*object);
+        }
+        left = others;
+    }
+    None
 }
 
 // The object that a variable stands for. One that stands for none is left as it is.
@@ -25,7 +43,7 @@ fn object_under<'a>(env: &Env<'_, 'a>, name: &'a str) -> &'a str
 {
     match env {
         Env::Empty => name,
-        Env::Inner(variables, objects, outer) => match variables.object(objects, name) {
+        Env::Inner(variables, objects, outer) => match object_among(variables, objects, name) {
             Some(object) => object,
             None => object_under(outer, name),
         },
@@ -39,17 +57,6 @@ pub fn object_for<'a>(env: &Env<'_, 'a>, argument: &'a Term) -> &'a str
     match argument {
         Term::Object(name) => name.as_str(),
         Term::Variable(name) => object_under(env, name.as_str()),
-    }
-}
-
-/// What a word counts as beside that is looked for among what variables stand for.
-pub fn scope_of(env: &Env<'_, '_>) -> usize {
-    match env {
-        Env::Empty => 0,
-        Env::Inner(variables, _, outer) => {
-            let inner = scope_of_list(variables.items().as_slice());
-            scope_of(outer).saturating_add(inner)
-        }
     }
 }
 

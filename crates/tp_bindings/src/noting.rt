@@ -1,37 +1,32 @@
-//! Which types variables have: the objects that fit them are looked for once.
+//! The objects for all variables of a domain and a problem, looked for once for each list of types.
 
-ghost use Rattle.std.specs.Prelude.{◌≡◌};
+ghost use Rattle.std.specs.Prelude.{◌≡◌, IfOk};
+ghost use Rattle.tp_ast.specs.DomainViews.{domain_view, problem_view};
+ghost use Rattle.tp_bindings.specs.Bindings.{universe_of};
 ghost use Rattle.tp_bindings.specs.Views.{universe_view};
 
-use crate::universe::{Universe, have_choices, note};
+use crate::universe::{Universe, note, plain_universe};
 use std::alloc::{AllocError, Global};
 use tp_ast::action::{Action, Body};
 use tp_ast::cond::Cond;
+use tp_ast::domain::Domain;
 use tp_ast::effect::{Effect, SimpleEffect};
 use tp_ast::joined::Joined;
-use tp_ast::marks::is_marked;
+use tp_ast::problem::Problem;
+use tp_ast::symbols::Typed;
 use tp_ast::timed::Timed;
-use tp_ast::typed_list::TypedList;
 
-// Notes variables, unless there is no object for one of them: whether there may be one for each.
 fn note_variables<'a>(
     alloc: Global,
     universe: &mut Universe<'a>,
-    variables: &'a TypedList,
-) -> Result<bool, AllocError>
+    variables: &'a [Typed],
+) -> Result<(), AllocError>
     ensures { universe_view universe.new ≡ universe_view universe.old }
 {
-    // What stands under variables without bindings is never written out.
-    if !have_choices(&*universe, variables) {
-        return Ok(false);
+    for variable in variables {
+        note(alloc, universe, variable)?;
     }
-    let marks = variables.marks();
-    for (place, variable) in variables.as_slice().iter().enumerate() {
-        if !is_marked(marks, place) {
-            note(alloc, universe, variable)?;
-        }
-    }
-    Ok(true)
+    Ok(())
 }
 
 #[cycle(note_condition)]
@@ -48,9 +43,9 @@ fn note_conditions<'a>(
     Ok(())
 }
 
-/// Notes the variables of a condition's quantifiers.
+// Notes the variables of a condition's quantifiers.
 #[cycle(note_condition)]
-pub fn note_condition<'a>(
+fn note_condition<'a>(
     alloc: Global,
     universe: &mut Universe<'a>,
     cond: &'a Cond,
@@ -65,9 +60,7 @@ pub fn note_condition<'a>(
             note_condition(alloc, universe, b)
         }
         Cond::Forall(variables, inner) | Cond::Exists(variables, inner) => {
-            if !note_variables(alloc, universe, variables)? {
-                return Ok(());
-            }
+            note_variables(alloc, universe, variables.as_slice())?;
             note_condition(alloc, universe, inner)
         }
         Cond::Atom(_) | Cond::Same(_, _) | Cond::Compare(_, _, _) => Ok(()),
@@ -105,9 +98,7 @@ fn note_part<'a, P: Noted>(
     match part {
         Joined::And(parts) => note_parts(alloc, universe, parts),
         Joined::Forall(variables, inner) => {
-            if !note_variables(alloc, universe, variables)? {
-                return Ok(());
-            }
+            note_variables(alloc, universe, variables.as_slice())?;
             note_part(alloc, universe, inner)
         }
         Joined::One(one) => one.note(alloc, universe),
@@ -158,8 +149,7 @@ fn note_body<'a>(
     }
 }
 
-/// Notes the variables of the quantifiers of actions that have bindings.
-pub fn note_bodies<'a>(
+fn note_actions<'a>(
     alloc: Global,
     universe: &mut Universe<'a>,
     actions: &'a [Action],
@@ -167,9 +157,23 @@ pub fn note_bodies<'a>(
     ensures { universe_view universe.new ≡ universe_view universe.old }
 {
     for action in actions {
-        if have_choices(&*universe, &action.parameters) {
-            note_body(alloc, universe, &action.body)?;
-        }
+        note_variables(alloc, universe, action.parameters.as_slice())?;
+        note_body(alloc, universe, &action.body)?;
     }
     Ok(())
+}
+
+/// The types and objects of a problem, with the objects for all its variables looked for.
+pub fn universe_of<'a>(
+    alloc: Global,
+    domain: &'a Domain,
+    problem: &'a Problem,
+) -> Result<Universe<'a>, AllocError>
+    ensures { IfOk result
+        (λ u. universe_view u ≡ universe_of (domain_view domain.now) (problem_view problem.now)) }
+{
+    let mut universe = plain_universe(alloc, domain, problem)?;
+    note_actions(alloc, &mut universe, &domain.actions)?;
+    note_condition(alloc, &mut universe, &problem.goal)?;
+    Ok(universe)
 }

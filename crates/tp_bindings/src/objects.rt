@@ -1,30 +1,30 @@
-//! The types and the objects, and what was looked for among them.
+//! The types and the objects, and the objects that fit lists of types.
 
-ghost use Rattle.std.specs.Prelude.{◌≡◌, true};
+ghost use Rattle.std.specs.Prelude.{◌≡◌, ◌++◌, map, true};
 ghost use Rattle.std.specs.List.{list_all};
+ghost use Rattle.tp_ast.specs.Symbols.{typed_view};
+ghost use Rattle.tp_types.specs.TypeViews.{types_view};
 ghost use Rattle.tp_bindings.specs.KnownChoices.{is_known};
 
-use indexmap::IndexMap;
-use tp_objects::objects::Objects;
+use tp_ast::symbols::Typed;
+use tp_types::types::Types;
 
-/// The types and all objects, and what was looked for among them.
+/// The types, the domain's constants, the problem's objects, and the objects of each list of types that was looked for.
 #[derive(Drop)]
 pub struct Universe<'a> {
-    pub objects: Objects<'a>,
-    /// What was looked for before, and where the last of those stands whose types have a mix.
+    pub types: Types<'a>,
+    pub constants: &'a [Typed],
+    pub objects: &'a [Typed],
     pub known: Vec<Known<'a>>,
-    pub places: IndexMap<u64, usize>,
-    ghost right: { list_all
-        (is_known (record { types = objects.types; objects = objects.objects })) known.items
-        ≡ true },
+    ghost right: { list_all (is_known (record {
+      types = types_view types;
+      objects = map typed_view constants.now ++ map typed_view objects.now;
+    })) known.items ≡ true },
 }
 
-/// The objects that fit some types, where the one before stands whose types have the same mix, and how many objects all lists up
-/// to this one have.
+/// The objects that fit some types.
 #[derive(Drop)]
 pub struct Known<'a> {
     pub types: &'a [String],
     pub names: Vec<&'a str>,
-    pub before: Option<usize>,
-    pub listed: usize,
 }

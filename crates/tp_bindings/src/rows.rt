@@ -1,266 +1,186 @@
 //! The bindings of variables, one at a time.
 
-ghost use Rattle.std.specs.Prelude.{◌≡◌, ◌<◌, [], map, length, slice_index_or, true, IfOk, IfSome};
+ghost use Rattle.std.specs.Prelude.{◌≡◌, ◌+◌, ◌<◌, ◌≤◌, ◌∷◌, ℕ, [], map, length, slice_index, slice_index_or, true, false, IfOk, IfSome};
+ghost use Rattle.std.specs.List.{list_all};
 ghost use Rattle.tp_ast.specs.Symbols.{typed_view};
 ghost use Rattle.tp_bindings.specs.Bindings.{choices, bindings};
-ghost use Rattle.tp_bindings.specs.Counts.{IsCount};
-ghost use Rattle.tp_bindings.specs.Hints.{listed, AreListed};
 ghost use Rattle.tp_bindings.specs.Views.{universe_view};
-ghost use Rattle.tp_bindings.specs.Rows.{product, names_in, lists_of, EndsWith};
+ghost use Rattle.tp_bindings.specs.Rows.{product, lists_of, names_in, row_at, rows_behind, has_names, IsLast, IsTurned};
+ghost use Rattle.tp_bindings.specs.Left.{rows_left};
 
-use crate::universe::{Universe, choices, copied, count_bindings, listed, place_for, times};
+pub use crate::odometer::Rows;
+use crate::universe::{Universe, choices};
 use std::alloc::{AllocError, Global};
 use std::borrow::CowSlice;
-use tp_ast::marks::is_marked;
 use tp_ast::symbols::Typed;
-use tp_ast::typed_list::TypedList;
-
-/// The names that each variable may stand for, how many bindings they have, and one of those.
-#[derive(Drop)]
-pub struct Rows<'u, 'a> {
-    pub lists: Vec<CowSlice<'u, &'a str>>,
-    pub row: Vec<&'a str>,
-    pub count: usize,
-    ghost counted: { count ≡ length (product (lists_of lists.items)) },
-    ghost long: { length row.items ≡ length lists.items },
-}
 
 impl<'u, 'a> Rows<'u, 'a> {
-    /// Makes the row the binding at a place: a name of each list, the first of which varies slowest.
-    pub fn turn_to(&mut self, place: usize)
-        requires { place < self.old.count }
-        ensures row { map (λ o. o.now) self.new.row.items
-            ≡ slice_index_or (product (lists_of self.old.lists.items)) place [] }
-        ensures lists { self.new.lists ≡ self.old.lists }
-        ensures count { self.new.count ≡ self.old.count }
+    /// Makes the row the next binding, the first variable varying slowest, if there is one more.
+    pub fn advance(&mut self) -> bool
+        ensures some { result ≡ true → rows_left self.old
+            ≡ map (λ o. o.now) self.new.row.items ∷ rows_left self.new }
+        ensures none { result ≡ false → rows_left self.old ≡ [] }
     {
-        fill(self.row.as_mut_slice(), &self.lists, self.count, place);
+        if !self.is_fresh && !turn_on(&self.lists, self.places.as_mut_slice()) {
+            return false;
+        }
+        self.is_fresh = false;
+        fill(self.row.as_mut_slice(), &self.lists, &self.places);
+        true
+    }
+
+    /// How many bindings there are before the first, for the capacity of a list of them. Nothing is promised.
+    pub fn count(&self) -> usize {
+        if !self.is_fresh {
+            return 0;
+        }
+        let mut count = 1usize;
+        for names in &self.lists {
+            count = count.saturating_mul(names.as_slice().len());
+        }
+        count
     }
 }
 
-// Writes the row at a place.
-fn fill<'a>(row: &mut [&'a str], lists: &[CowSlice<'_, &'a str>], count: usize, place: usize)
-    requires long { length row.old ≡ length lists.now }
-    requires counted { count ≡ length (product (lists_of lists.now)) }
-    requires within { place < count }
-    ensures names { map (λ o. o.now) row.new
-        ≡ slice_index_or (product (lists_of lists.now)) place [] }
-    ensures long { length row.new ≡ length row.old }
+// How many names a list has.
+fn count_at(lists: &[CowSlice<'_, &str>], index: usize) -> usize
+    ensures { result ≡ length (slice_index_or (lists_of lists.now) index []) }
 {
-    let mut left = count;
-    let mut rest = place;
-    for index in 0..lists.len() {
-        let names = lists[index].as_slice();
-        if names.len() == 1 {
-            row[index] = names[0];
-        } else {
-            left /= names.len();
-            row[index] = names[rest / left];
-            rest %= left;
+    match lists.get(index) {
+        Some(names) => names.as_slice().len(),
+        None => 0,
+    }
+}
+
+// The name at a place of a list.
+fn name_at<'a>(lists: &[CowSlice<'_, &'a str>], index: usize, place: usize) -> &'a str
+    ensures { result.now
+        ≡ slice_index_or (slice_index_or (lists_of lists.now) index []) place [] }
+{
+    match lists.get(index) {
+        Some(names) => names.as_slice().get(place).copied().unwrap_or(""),
+        None => "",
+    }
+}
+
+// The last list with a name behind the one at its place.
+fn turning(lists: &[CowSlice<'_, &str>], places: &[usize]) -> Option<usize>
+    ensures last { IsLast (lists_of lists.now) places.now result }
+    ensures fits { IfSome result
+        (λ i. slice_index places.now i + 1 < 18_446_744_073_709_551_616) }
+{
+    for behind in 0..places.len() {
+        let index = places.len() - 1 - behind;
+        if places[index] < count_at(lists, index).saturating_sub(1) {
+            return Some(index);
         }
     }
+    None
 }
 
-// The same names, lent again or in a list of their own.
-fn again<'u, 'a>(
-    alloc: Global,
-    names: &CowSlice<'u, &'a str>,
-) -> Result<CowSlice<'u, &'a str>, AllocError>
-    ensures { IfOk result (λ v. names_in v ≡ names_in names.now) }
+// Moves a place on, and those behind it back to the first.
+fn turn(places: &mut [usize], index: usize)
+    requires within { index < length places.old }
+    requires fits { slice_index places.old index + 1 < 18_446_744_073_709_551_616 }
+    ensures { IsTurned index places.old places.new }
 {
-    match names {
-        CowSlice::Borrowed(lent) => Ok(CowSlice::Borrowed(lent)),
-        CowSlice::Owned(own) => Ok(CowSlice::Owned(copied(alloc, own)?)),
+    places[index] += 1;
+    for at in index + 1..places.len() {
+        places[at] = 0;
     }
 }
 
-// The objects that a variable may stand for: the last of these lists, if it is marked.
-fn choices_in_row<'u, 'a>(
-    alloc: Global,
-    universe: &'u Universe<'a>,
-    mark: bool,
-    lists: &[CowSlice<'u, &'a str>],
-    variable: &Typed,
-) -> Result<CowSlice<'u, &'a str>, AllocError>
-    ensures { let ns = choices (universe_view universe.now) (typed_view variable.now) in
-        (mark ≡ true → EndsWith (lists_of lists.now) ns) → IfOk result (λ v. names_in v ≡ ns) }
+// Moves the places on to those of the next row, if there is one.
+fn turn_on(lists: &[CowSlice<'_, &str>], places: &mut [usize]) -> bool
+    requires some { list_all has_names (lists_of lists.now) ≡ true }
+    requires placed { length places.old ≡ length lists.now }
+    ensures long { length places.new ≡ length places.old }
+    ensures some { result ≡ true → rows_behind (lists_of lists.now) places.old
+        ≡ row_at (lists_of lists.now) places.new ∷ rows_behind (lists_of lists.now) places.new }
+    ensures none { result ≡ false → rows_behind (lists_of lists.now) places.old ≡ [] }
 {
-    match lists {
-        [.., last] if mark => again(alloc, last),
-        _ => choices(alloc, universe, variable),
+    let Some(index) = turning(lists, &*places) else {
+        return false;
+    };
+    turn(places, index);
+    true
+}
+
+// Writes the row at some places.
+fn fill<'a>(row: &mut [&'a str], lists: &[CowSlice<'_, &'a str>], places: &[usize])
+    requires wide { length row.old ≡ length lists.now }
+    requires placed { length places.now ≡ length lists.now }
+    ensures names { map (λ o. o.now) row.new ≡ row_at (lists_of lists.now) places.now }
+    ensures wide { length row.new ≡ length row.old }
+{
+    for index in 0..places.len() {
+        row[index] = name_at(lists, index, places[index]);
     }
 }
 
-// The objects that each variable may stand for.
-fn lists_of<'u, 'a>(
+/// The objects that each variable may stand for.
+pub fn lists_of<'u, 'a>(
     alloc: Global,
     universe: &'u Universe<'a>,
-    variables: &TypedList,
+    variables: &[Typed],
 ) -> Result<Vec<CowSlice<'u, &'a str>>, AllocError>
     ensures { IfOk result (λ v. lists_of v.items
-        ≡ map (choices (universe_view universe.now)) (map typed_view variables.now.items)) }
+        ≡ map (choices (universe_view universe.now)) (map typed_view variables.now)) }
 {
-    let marks = variables.marks();
-    let items = variables.as_slice();
-    let mut lists = Vec::with_capacity(alloc, items.len())?;
-    for (place, variable) in items.iter().enumerate() {
-        let mark = is_marked(marks, place);
-        lists.push(choices_in_row(alloc, universe, mark, &lists, variable)?)?;
+    let mut lists = Vec::with_capacity(alloc, variables.len())?;
+    for variable in variables {
+        lists.push(choices(alloc, universe, variable)?)?;
     }
     Ok(lists)
 }
 
-// One list with no name in it.
-fn no_name<'u, 'a>(
-    alloc: Global,
-    universe: &'u Universe<'a>,
-) -> Result<Vec<CowSlice<'u, &'a str>>, AllocError>
-    ensures { IfOk result (λ v. product (lists_of v.items) ≡ []) }
+// Whether each list has a name.
+fn have_names(lists: &[CowSlice<'_, &str>]) -> bool
+    ensures some { result ≡ true → list_all has_names (lists_of lists.now) ≡ true }
+    ensures none { result ≡ false → product (lists_of lists.now) ≡ [] }
 {
-    let mut lists = Vec::with_capacity(alloc, 1)?;
-    lists.push(CowSlice::Borrowed(listed(universe, universe.known.len())))?;
-    Ok(lists)
+    for names in lists {
+        if names.as_slice().is_empty() {
+            return false;
+        }
+    }
+    true
 }
 
-fn begun<'u, 'a>(
+// The rows of some lists.
+fn rows_over<'u, 'a>(
     alloc: Global,
     lists: Vec<CowSlice<'u, &'a str>>,
-    count: usize,
 ) -> Result<Rows<'u, 'a>, AllocError>
-    requires { count ≡ length (product (lists_of lists.items)) }
-    ensures lists { IfOk result (λ r. r.lists ≡ lists.entry) }
-    ensures count { IfOk result (λ r. r.count ≡ count) }
+    ensures { IfOk result (λ r. rows_left r ≡ product (lists_of lists.entry.items)) }
 {
+    if !have_names(&lists) {
+        return Ok(Rows {
+            lists: Vec::new(alloc),
+            places: Vec::new(alloc),
+            row: Vec::new(alloc),
+            is_fresh: false,
+        });
+    }
+    let places = vec![in alloc; 0; lists.len()]?;
     let row = vec![in alloc; ""; lists.len()]?;
-    Ok(Rows { lists, row, count })
+    Ok(Rows {
+        lists,
+        places,
+        row,
+        is_fresh: true,
+    })
 }
 
-// Asks for the room of more rows than can be told, which is refused.
-fn too_many<'u, 'a>(alloc: Global) -> Result<Rows<'u, 'a>, AllocError>
-    ensures { IfOk result (λ _. ⊥) }
-{
-    let _room: Vec<u8> = Vec::with_capacity(alloc, usize::MAX)?;
-    Err(AllocError)
-}
-
-/// How many rows the lists at some places have. None where they are 2^64 or more.
-pub fn count_rows(universe: &Universe, places: &[usize]) -> Option<usize>
-    ensures { IsCount 18_446_744_073_709_551_615
-        (length (product (map (listed universe.now) places.now))) result }
-{
-    let mut count = Some(1usize);
-    for place in places {
-        let names = listed(universe, *place);
-        if names.is_empty() {
-            return Some(0);
-        }
-        count = times(count, names.len(), usize::MAX);
-    }
-    count
-}
-
-// The lists at some places.
-fn lists_at<'u, 'a>(
-    alloc: Global,
-    universe: &'u Universe<'a>,
-    places: &[usize],
-) -> Result<Vec<CowSlice<'u, &'a str>>, AllocError>
-    ensures { IfOk result (λ v. lists_of v.items ≡ map (listed universe.now) places.now) }
-{
-    let mut lists = Vec::with_capacity(alloc, places.len())?;
-    for place in places {
-        lists.push(CowSlice::Borrowed(listed(universe, *place)))?;
-    }
-    Ok(lists)
-}
-
-// The rows of the lists at some places.
-fn rows_at<'u, 'a>(
-    alloc: Global,
-    universe: &'u Universe<'a>,
-    places: &[usize],
-) -> Result<Rows<'u, 'a>, AllocError>
-    ensures { IfOk result (λ r. product (lists_of r.lists.items)
-        ≡ product (map (listed universe.now) places.now)) }
-{
-    match count_rows(universe, places) {
-        None => too_many(alloc),
-        Some(0) => begun(alloc, no_name(alloc, universe)?, 0),
-        Some(count) => begun(alloc, lists_at(alloc, universe, places)?, count),
-    }
-}
-
-// Where the objects for a variable stand: at the last of these places, if it is marked.
-fn place_in_row(
-    universe: &Universe,
-    mark: bool,
-    places: &[usize],
-    variable: &Typed,
-) -> Option<usize>
-    ensures { let ns = choices (universe_view universe.now) (typed_view variable.now) in
-        (mark ≡ true → EndsWith (map (listed universe.now) places.now) ns)
-        → IfSome result (λ p. listed universe.now p ≡ ns) }
-{
-    match places {
-        [.., last] if mark => Some(*last),
-        _ => place_for(universe, variable),
-    }
-}
-
-/// Where the objects for each variable stand, if they were all looked for.
-pub fn places_for(
-    alloc: Global,
-    universe: &Universe,
-    variables: &TypedList,
-) -> Result<Option<Vec<usize>>, AllocError>
-    ensures { IfOk result (λ o. IfSome o (λ v. map (listed universe.now) v.items
-        ≡ map (choices (universe_view universe.now)) (map typed_view variables.now.items))) }
-{
-    let marks = variables.marks();
-    let items = variables.as_slice();
-    let mut places = Vec::with_capacity(alloc, items.len())?;
-    for (place, variable) in items.iter().enumerate() {
-        let Some(found) = place_in_row(universe, is_marked(marks, place), &places, variable) else {
-            return Ok(None);
-        };
-        places.push(found)?;
-    }
-    Ok(Some(places))
-}
-
-/// As `rows_of`, where it may be known where the objects for the variables stand.
-pub fn rows_with<'u, 'a>(
-    alloc: Global,
-    universe: &'u Universe<'a>,
-    variables: &TypedList,
-    places: Option<&[usize]>,
-) -> Result<Rows<'u, 'a>, AllocError>
-    requires { AreListed universe.now places (map typed_view variables.now.items) }
-    ensures { IfOk result (λ r. product (lists_of r.lists.items)
-        ≡ bindings (universe_view universe.now) (map typed_view variables.now.items)) }
-{
-    match places {
-        None => rows_of(alloc, universe, variables),
-        Some(places) => rows_at(alloc, universe, places),
-    }
-}
-
-/// The bindings of variables, none of them made yet. Where there are 2^64 or more, room is asked for as many bytes, and refused.
+/// The bindings of variables, none of them made yet.
 pub fn rows_of<'u, 'a>(
     alloc: Global,
     universe: &'u Universe<'a>,
-    variables: &TypedList,
+    variables: &[Typed],
 ) -> Result<Rows<'u, 'a>, AllocError>
-    ensures { IfOk result (λ r. product (lists_of r.lists.items)
-        ≡ bindings (universe_view universe.now) (map typed_view variables.now.items)) }
+    ensures { IfOk result (λ r. rows_left r
+        ≡ bindings (universe_view universe.now) (map typed_view variables.now)) }
 {
-    if let Some(places) = places_for(alloc, universe, variables)? {
-        return rows_at(alloc, universe, &places);
-    }
-    match count_bindings(universe, variables, usize::MAX) {
-        None => too_many(alloc),
-        // No list is made: many variables may have many objects each.
-        Some(0) => begun(alloc, no_name(alloc, universe)?, 0),
-        Some(count) => begun(alloc, lists_of(alloc, universe, variables)?, count),
-    }
+    let lists = lists_of(alloc, universe, variables)?;
+    rows_over(alloc, lists)
 }

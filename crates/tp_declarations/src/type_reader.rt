@@ -7,8 +7,7 @@ ghost use Rattle.tp_ast.specs.Domains.{object, above, type_below, is_object, men
 ghost use Rattle.std.specs.Option.{is_some};
 ghost use Rattle.tp_declarations.specs.RowViews.{AreParentRows, HaveParentRows};
 ghost use Rattle.tp_declarations.specs.SignatureViews.{Knows, to_mention};
-ghost use Rattle.tp_types.specs.Marks.{has_mark};
-ghost use Rattle.tp_types.specs.Parents.{ArePlaced};
+ghost use Rattle.tp_types.specs.Among.{has_mark};
 ghost use Rattle.tp_ast.specs.Symbols.{Parent, parent_view, typed_view};
 ghost use Rattle.tp_ast.specs.Terms.{shapes};
 ghost use Rattle.tp_ast.specs.Gives.{Gives};
@@ -23,11 +22,9 @@ use tp_ast::type_list::TypeList;
 use tp_ast::types::TypeName;
 use tp_ast::words::Items;
 use tp_text::Tree;
-use tp_types::cycles::no_cycle_by_places;
 use tp_types::names::NameSet;
-use tp_types::parents::parents_by_rows;
-use tp_types::table::{places, second_named};
-use tp_types::types::Types;
+use tp_types::table::second_named;
+use tp_types::types::{Types, no_cycle};
 
 // The type that is named first, or `object`.
 fn above(alloc: Global, types: &[String]) -> Result<String, AllocError>
@@ -233,30 +230,12 @@ fn with_mentioned(
     Ok(TypeRows { types, marks })
 }
 
-// Where the parents of types stand, unless the types lead round in a cycle.
-fn straight_parents(
-    alloc: Global,
-    types: &[TypeName],
-    marks: &[bool],
-) -> Result<Option<Vec<Option<usize>>>, AllocError>
-    requires { AreParentRows marks.now (map parent_view types.now) }
-    ensures straight { IfOk result (λ o. is_some o ≡ no_cycle (map parent_view types.now)) }
-    ensures parents { IfOk result (λ o. IfSome o (λ v. ArePlaced types.now v.items)) }
+// Whether the parents of types make no cycle.
+fn are_straight(alloc: Global, types: &[TypeName]) -> Result<bool, AllocError>
+    ensures { IfOk result (λ b. b ≡ no_cycle (map parent_view types.now)) }
 {
-    let places = places(alloc, types)?;
-    let parents = parents_by_rows(alloc, types, &places, marks)?;
-    if no_cycle_by_places(alloc, types, &places, &parents)? {
-        Ok(Some(parents))
-    } else {
-        Ok(None)
-    }
-}
-
-/// Types, and where the parent of each stands.
-#[derive(Drop)]
-pub struct PlacedTypes {
-    pub types: TypeList,
-    pub parents: Vec<Option<usize>>,
+    let known = Types::new(alloc, types)?;
+    Ok(no_cycle(&known))
 }
 
 // The types that these lines of the section at `at` declare.
@@ -266,11 +245,10 @@ fn types_from(
     marks: &[bool],
     trees: &[Tree],
     at: u32,
-) -> Result<PlacedTypes, SyntaxFault>
+) -> Result<TypeList, SyntaxFault>
     requires { AreParentRows marks.now (map parent_view listed.now) }
-    ensures types { Gives (λ p. map parent_view p.types.items) result
+    ensures { Gives (λ v. map parent_view v.items) result
         (types_from (map parent_view listed.now)) }
-    ensures parents { IfOk result (λ p. ArePlaced p.types.items p.parents.items) }
 {
     if let Some(number) = second_named(alloc, listed)? {
         return Err(SyntaxFault::Twice(item_place(trees, number, at)));
@@ -279,23 +257,18 @@ fn types_from(
         return Err(SyntaxFault::Types(at));
     }
     let TypeRows { types, marks } = with_mentioned(alloc, listed, marks)?;
-    match straight_parents(alloc, &types, &marks)? {
-        Some(parents) => Ok(PlacedTypes {
-            types: TypeList { types, marks },
-            parents,
-        }),
-        None => Err(SyntaxFault::Types(at)),
+    if !are_straight(alloc, &types)? {
+        return Err(SyntaxFault::Types(at));
     }
+    Ok(TypeList { types, marks })
 }
 
 /// The types of the section at `at`, all but `object`. What types that were given one parent together share is looked at once.
 #[tactic(auto, unfolding(tp_ast::specs::Domains::types_in))]
-pub fn types_in(alloc: Global, trees: &[Tree], at: u32) -> Result<PlacedTypes, SyntaxFault>
-    ensures types { Gives (λ p. map parent_view p.types.items) result
-        (types_in (shapes trees.now)) }
-    ensures parents { IfOk result (λ p. ArePlaced p.types.items p.parents.items) }
+pub fn types_in(alloc: Global, trees: &[Tree], at: u32) -> Result<TypeList, SyntaxFault>
+    ensures { Gives (λ v. map parent_view v.items) result (types_in (shapes trees.now)) }
 {
-    let none = Types::listed(&[]);
+    let none = Types::new(alloc, &[])?;
     let items = typed_items(alloc, &none, Items::Names, trees, at)?;
     let marks = items.items.marks();
     let listed = types_below(alloc, items.items.as_slice(), marks)?;

@@ -3,9 +3,6 @@ pub mod Durations
 pub mod Listed
 pub mod Kept
 pub mod OnRows
-pub mod OnPlaces
-pub mod OnDisturbing
-pub mod OnWriters
 pub mod OnSteps
 pub mod OnWalks
 pub mod OnNets

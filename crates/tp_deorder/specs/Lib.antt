@@ -1,7 +1,7 @@
 pub mod Spans
 pub mod Inequalities
 pub mod Kept
-pub mod Places
+pub mod Touching
 pub mod Answers
 pub mod RunPlans
 pub mod EventTexts

@@ -9,14 +9,12 @@ ghost use Rattle.tp_happen.specs.Bounded.{StaysSmall};
 ghost use Rattle.tp_happen.specs.tp_plan_texts.Steps.{IsPlan};
 ghost use Rattle.tp_validate.specs.Verdict.{IsSound};
 ghost use Rattle.tp_validate.specs.OfTask.{scale_of, begin, plan_of};
-ghost use Rattle.tp_validate.specs.Prepared.{ArePrepared};
 ghost use Rattle.tp_deorder.specs.Spans.{plan_ticks};
 ghost use Rattle.tp_deorder.specs.Inequalities.{comes_before, steps_by, bound_count, event_count_of};
 ghost use Rattle.tp_deorder.specs.Kept.{kept_orders, net_bounds, AreNumbered};
 ghost use Rattle.tp_deorder.specs.Answers.{OnTooMany, PassesLimits, IsNetOf, IsPlanNetOf, bounds_in};
 
 use crate::DeorderFault;
-use crate::changes::ask_for_changes;
 use crate::event_texts::event_texts;
 use crate::orders::note_orders;
 use crate::spans::Ticks;
@@ -26,10 +24,7 @@ use std::alloc::Global;
 use tp_bounds::{Bound, Limits, PlanNet};
 use tp_happen::Step;
 use tp_task::Task;
-use tp_validate::{
-    PlacedEvent, PlannedStep, Prepared, ValidPlan, agenda_of, placed_events, prepared_for,
-    prepared_steps,
-};
+use tp_validate::{PlacedEvent, PlannedStep, ValidPlan, agenda_of, placed_events, planned_steps};
 
 /// The bounds of steps that may take these numbers of ticks. TooMany where they are more than `most`.
 fn note_all(
@@ -134,33 +129,6 @@ fn passes(alloc: Global, steps: &[PlannedStep<'_>], limits: &Limits) -> Result<b
     Ok((limits.events() as usize) < events.len() || limits.horizon() < last_tick(&events))
 }
 
-/// The bounds of a sound plan of a task, some of whose actions are prepared, within limits.
-fn bounds_prepared(
-    alloc: Global,
-    task: &Task,
-    steps: &[Step],
-    limits: &Limits,
-    prepared: &[Prepared<'_>],
-) -> Result<Vec<Bound>, DeorderFault>
-    requires plan { IsPlan steps.now }
-    requires sound { IsSound task.now steps.now }
-    requires prepared { ArePrepared task.now.actions.items prepared.now }
-    ensures net { IfOk result (λ v. IsNetOf task.now steps.now limits.now.horizon v.items) }
-    ensures bounds { IfOk result
-        (λ v. v.items ≡ bounds_in task.now steps.now limits.now.horizon) }
-    ensures events { IfOk result
-        (λ _. event_count_of (plan_of task.now steps.now) ≤ limits.now.events) }
-    ensures few { IfOk result (λ v. length v.items ≤ limits.now.bounds) }
-    ensures err { IfErr result
-        (λ e. OnTooMany e (PassesLimits limits.now task.now steps.now)) }
-{
-    let planned = prepared_steps(alloc, task, steps, prepared)?;
-    if passes(alloc, &planned, limits)? {
-        return Err(DeorderFault::TooMany);
-    }
-    bounds_of(alloc, task, &planned, limits.horizon(), limits.bounds())
-}
-
 /// The bounds of a sound plan of a task, within limits.
 fn bounds_within(
     alloc: Global,
@@ -179,9 +147,11 @@ fn bounds_within(
     ensures err { IfErr result
         (λ e. OnTooMany e (PassesLimits limits.now task.now steps.now)) }
 {
-    ask_for_changes(alloc, task, steps)?;
-    let prepared = prepared_for(alloc, task, steps)?;
-    bounds_prepared(alloc, task, steps, limits, &prepared)
+    let planned = planned_steps(alloc, task, steps)?;
+    if passes(alloc, &planned, limits)? {
+        return Err(DeorderFault::TooMany);
+    }
+    bounds_of(alloc, task, &planned, limits.horizon(), limits.bounds())
 }
 
 /// The network of a sound plan of a task, within limits.
@@ -210,14 +180,11 @@ fn net_within(
 /// of a run at each of them is valid. TooMany exactly where the plan has more events than the limits allow, ends past
 /// their horizon, or its network has more bounds than they allow.
 ///
-/// It finds which events interfere, and which write into an invariant, by indexes from atoms and fluents to events: it goes
-/// over each mention of an event once for each way in which two interfere, and over each of an invariant once (those of a long
-/// condition of an action with eight steps or more once in all, and over each atom and fluent there for each step), and takes a
-/// step for each 64 events at each thing that an event changes, and at each that an invariant mentions and an event changes. It
-/// leaves out the order of two events where one between them interferes with both, since it follows from two others: for each
-/// pair in order it looks through the events behind the first up to one that stands between, at most the cube of the events in
-/// looks at a table. For each durative step it looks at each event and each pair of those that write into its invariant. Which
-/// bounds express the schedules is this function's own choice, the same for a plan whenever it is asked.
+/// It compares each two events by their footprints, and each event with the invariant of each durative step: a step for each
+/// atom and fluent that one of them changes. It leaves out the order of two events where one between them interferes with both,
+/// since it follows from two others: for each pair in order it looks through the later events up to one that stands between, at
+/// most the cube of the events in looks at a table. Which bounds express the schedules is this function's own choice, the same
+/// for a plan whenever it is asked.
 pub fn deorder(
     alloc: Global,
     plan: &ValidPlan<'_>,

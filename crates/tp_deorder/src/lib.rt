@@ -1,12 +1,10 @@
 //! Deordering: the network of all schedules of a validated plan.
 //!
-//! - `changes`: how much the network makes go through, and a bound of it
 //! - `walk`: how many ticks each step may take, by the states that the plan's run goes through
 //! - `spans`: how many ticks a duration constraint allows in a state
-//! - `disturbing`: which events disturb which, by who mentions what
+//! - `traces`: the events with what they read and write
 //! - `marks`: which events come before which that they interfere with
 //! - `orders`: bounds that keep the order of interfering events
-//! - `writers`: which events write into a condition, by what they change
 //! - `invariants`: bounds that keep what writes into an invariant in its place
 //! - `steps`: bounds that keep the steps' lengths and their invariants
 //! - `event_texts`: the texts of the events
@@ -28,17 +26,15 @@ ghost use Rattle.tp_bounds.specs.RunLimits.{RunLimits};
 ghost use Rattle.tp_deorder.specs.Answers.{IsPlanNetOf};
 ghost use Rattle.tp_deorder.specs.Inequalities.{plan_bounds, event_count_of};
 
-mod changes;
 mod deordering;
-mod disturbing;
 mod event_texts;
 mod invariants;
 mod marks;
 mod orders;
 mod spans;
 mod steps;
+mod traces;
 mod walk;
-mod writers;
 
 pub use deordering::deorder;
 pub use event_texts::has_two;

@@ -1,6 +1,6 @@
 -- Nodes that wait, a queue for each number of goal conjuncts that they lack, from 0 on.
-use Rattle.std.specs.Prelude.{ℕ, ◌≡◌, ◌<◌, ◌≤◌, ◌+◌, List, [], ◌∷◌, ◌++◌, length, set, take, slice_index_or}
-use Rattle.std.specs.List.{All, sum_by}
+use Rattle.std.specs.Prelude.{ℕ, ◌≡◌, ◌<◌, List, [], ◌∷◌, ◌++◌, length, set, take, slice_index_or}
+use Rattle.std.specs.List.{All}
 
 -- no node waits
 abbrev pub AreEmpty : List (List ℕ) → Type 0
@@ -25,19 +25,3 @@ GoesOn [] (_ ∷ _) = ⊥
 GoesOn (_ ∷ _) [] = ⊥
 GoesOn (queue ∷ queues) (longer ∷ others) =
     ((later : List ℕ) × (longer ≡ queue ++ later)) × GoesOn queues others
-
--- how many nodes wait that lack fewer than so many
-abbrev pub waiting_below : List (List ℕ) → ℕ → ℕ
-waiting_below queues lacking = sum_by length (take lacking queues)
-
--- The nodes that wait, and how many more are taken at most.
-pub record Waiting : Type 0 where
-  pub queues : List (List ℕ)
-  pub left : ℕ
-
--- One more node that lacks so many or more would never be taken, since at least as many wait before it as are still taken. No
--- more are counted than wait before that.
-abbrev pub IsClosed : List (List ℕ) → ℕ → ℕ → ℕ → Type 0
-IsClosed queues left closed count =
-    (closed ≤ length queues) × (count ≤ waiting_below queues closed)
-    × (closed < length queues → left ≤ waiting_below queues (closed + 1))

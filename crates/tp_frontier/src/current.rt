@@ -1,204 +1,150 @@
-//! The node at hand.
+//! The node that is expanded.
 
-use crate::interference::Interference;
-use crate::known::{Known, push_copy};
-use crate::listed::Listed;
-use crate::store::{Running, Start};
+use crate::fault::SearchFault;
+use crate::starts::{carry_out, holds};
+use crate::store::{Start, push_copy};
 use std::alloc::{AllocError, Global};
-use tp_forms::{EventForm, SearchFault, SearchState, carry_out, carry_out_writes, set_atoms};
+use tp_guided_task::{Marks, Running, State, Task};
 
-/// The node at hand: the steps that run past its tick, the events of its tick, which conjuncts its state meets, as far as
-/// they were looked at, how many it lacks, those that the start looked at may change, and the state's number once it is kept.
+/// The node that is expanded: the steps that run past its tick, the events of its tick, the starts that were chosen there,
+/// which conjuncts of the goal its own state meets, and the number of its state once that is kept.
 #[derive(Drop)]
 pub struct Current {
     pub running: Vec<Running>,
     pub events: Vec<u32>,
     pub chain: Vec<Start>,
-    pub met: Vec<Option<bool>>,
-    pub lacking: usize,
-    changed: Listed,
-    pub values: Vec<Option<i64>>,
+    pub met: Vec<bool>,
     pub kept: Option<u32>,
 }
 
+/// How many conjuncts of the goal a state lacks.
+pub fn lacking(task: &Task, state: &State) -> Result<usize, SearchFault> {
+    let mut count: usize = 0;
+    for form in &task.conjuncts {
+        if !holds(task, state, form)? {
+            count = count.saturating_add(1);
+        }
+    }
+    Ok(count)
+}
+
 impl Current {
-    // For states of so many conjuncts.
-    pub fn new(alloc: Global, conjuncts: usize) -> Result<Self, AllocError> {
-        let met = Vec::from_elem(alloc, None, conjuncts)?;
-        let changed = Listed::new(alloc, conjuncts)?;
-        Ok(Current {
+    /// No node yet.
+    pub fn new(alloc: Global) -> Self {
+        Current {
             running: Vec::new(alloc),
             events: Vec::new(alloc),
             chain: Vec::new(alloc),
-            met,
-            lacking: 0,
-            changed,
-            values: Vec::new(alloc),
+            met: Vec::new(alloc),
             kept: None,
-        })
+        }
     }
 
-    // Ends that are due happen; the other steps go on.
-    fn take_run(
+    /// Begins with a node.
+    pub fn clear(&mut self) {
+        self.running.clear();
+        self.events.clear();
+        self.kept = None;
+    }
+
+    /// A step ends where it has no ticks left, else it goes on.
+    pub fn take_run(
         &mut self,
-        known: &Known<'_>,
-        state: &mut SearchState,
+        task: &Task,
+        state: &mut State,
         run: Running,
     ) -> Result<(), SearchFault> {
         if run.left > 0 {
             push_copy(&mut self.running, run)?;
             return Ok(());
         }
-        if let (Some(action), Some(event_form)) = (
-            known.action(run.action),
-            known.end_of(run.action),
-        ) {
-            push_copy(&mut self.events, action.first.saturating_add(1))?;
-            let units = known.units(run.duration);
-            carry_out(&known.forms, state, event_form, units, &mut self.values)?;
+        if let (Some(action), Some(event)) = (task.action(run.action), task.end_of(run.action)) {
+            push_copy(&mut self.events, action.event.saturating_add(1))?;
+            carry_out(task, state, event, run.duration)?;
         }
         Ok(())
     }
 
+    // A chosen start happens, and where it lasts it runs.
     fn take_start(
         &mut self,
-        known: &Known<'_>,
-        state: &mut SearchState,
+        task: &Task,
+        state: &mut State,
         start: Start,
     ) -> Result<(), SearchFault> {
-        if let (Some(action), Some(event_form)) = (
-            known.action(start.action),
-            known.first_of(start.action),
-        ) {
-            push_copy(&mut self.events, action.first)?;
-            let units = known.units(start.duration);
-            carry_out(&known.forms, state, event_form, units, &mut self.values)?;
-            if action.invariant.is_some() {
-                push_copy(&mut self.running, running_from(start))?;
-            }
+        let (Some(action), Some(event)) = (task.action(start.action), task.start_of(start.action))
+        else {
+            return Ok(());
+        };
+        push_copy(&mut self.events, action.event)?;
+        carry_out(task, state, event, start.duration)?;
+        if action.durative {
+            push_copy(
+                &mut self.running,
+                Running {
+                    action: start.action,
+                    duration: start.duration,
+                    left: start.duration,
+                },
+            )?;
         }
         Ok(())
     }
 
-    pub fn take_runs(
-        &mut self,
-        known: &Known<'_>,
-        state: &mut SearchState,
-        runs: &[Running],
-    ) -> Result<(), SearchFault> {
-        self.running.clear();
-        self.events.clear();
-        for run in runs {
-            self.take_run(known, state, *run)?;
-        }
-        Ok(())
-    }
-
-    pub fn take_starts(
-        &mut self,
-        known: &Known<'_>,
-        state: &mut SearchState,
-    ) -> Result<(), SearchFault> {
+    /// The chosen starts happen.
+    pub fn take_starts(&mut self, task: &Task, state: &mut State) -> Result<(), SearchFault> {
         for place in 0..self.chain.len() {
             if let Some(start) = self.chain.get(place).copied() {
-                self.take_start(known, state, start)?;
+                self.take_start(task, state, start)?;
             }
         }
         Ok(())
     }
 
-    // A state at hand that lacks so many conjuncts, of which none was looked at.
-    pub fn lack(&mut self, lacking: usize) {
-        for met in &mut self.met {
-            *met = None;
+    /// Finds which conjuncts the node's own state meets, and returns how many it lacks.
+    pub fn find_met(&mut self, task: &Task, state: &State) -> Result<usize, SearchFault> {
+        self.met.clear();
+        let mut count: usize = 0;
+        for form in &task.conjuncts {
+            let met = holds(task, state, form)?;
+            if !met {
+                count = count.saturating_add(1);
+            }
+            push_copy(&mut self.met, met)?;
         }
-        self.lacking = lacking;
+        Ok(count)
     }
 
-    // Lists the conjuncts that a start may change.
-    fn list_changed(&mut self, known: &Known<'_>, action: u32) -> Result<(), AllocError> {
-        self.changed.list(&known.touching.touches, action)?;
-        let cost = known.touching.costs.of(self.changed.numbers());
-        known.looked.count(cost)
-    }
-
-    fn is_met(&self, conjunct: u32) -> bool {
-        match self.met.get(conjunct as usize).copied() {
-            Some(Some(met)) => met,
-            _ => true,
-        }
-    }
-
-    // How many conjuncts are lacking once those listed may have changed.
-    fn lacking_after(&self, known: &Known<'_>, state: &SearchState) -> Result<usize, SearchFault> {
-        let mut count = self.lacking;
-        for conjunct in self.changed.numbers() {
-            let now = known.conjunct_holds(state, *conjunct)?;
-            let before = self.is_met(*conjunct);
+    /// How many conjuncts a state lacks in which only some of them may differ from the node's own, which lacks so many.
+    pub fn lacking_with(
+        &self,
+        task: &Task,
+        state: &State,
+        touched: &[u32],
+        lacking: usize,
+    ) -> Result<usize, SearchFault> {
+        let mut count = lacking;
+        for number in touched {
+            let before = self.met.get(*number as usize).copied().unwrap_or(true);
+            let now = match task.conjuncts.get(*number as usize) {
+                Some(form) => holds(task, state, form)?,
+                None => before,
+            };
+            if before && !now {
+                count = count.saturating_add(1);
+            }
             if now && !before {
                 count = count.saturating_sub(1);
-            } else if before && !now {
-                count = count.saturating_add(1);
             }
         }
         Ok(count)
     }
 
-    // How many conjuncts lack with one more event, of whose effects on atoms only those that the goal mentions are
-    // carried out.
-    pub fn lacking_with(
-        &mut self,
-        known: &Known<'_>,
-        state: &mut SearchState,
-        event_form: &EventForm<'_>,
-        start: Start,
-    ) -> Result<usize, SearchFault> {
-        if known.touching.is_quiet(start.action) {
-            return Ok(self.lacking);
-        }
-        let touches = &known.touching.touches;
-        self.list_changed(known, start.action)?;
-        look_at(
-            known,
-            state,
-            self.changed.numbers(),
-            self.met.as_mut_slice(),
-        )?;
-        let before = touches.met_by_steps(state, start.action);
-        let units = known.units(start.duration);
-        carry_out_writes(&known.forms, state, event_form, units, &mut self.values)?;
-        set_atoms(
-            state,
-            touches.deleted.of(start.action),
-            touches.added.of(start.action),
-        )?;
-        let lacking = self.lacking_after(known, state)?;
-        let after = touches.met_by_steps(state, start.action);
-        state.undo();
-        Ok(lacking.saturating_add(before).saturating_sub(after))
-    }
-
-    // The least count of ticks that a running step has left.
-    pub fn least_left(&self) -> Option<u32> {
-        let mut least = None;
+    /// Whether the invariants of all steps that run past the tick hold.
+    pub fn invariants_hold(&self, task: &Task, state: &State) -> Result<bool, SearchFault> {
         for run in &self.running {
-            match least {
-                Some(left) if left <= run.left => {}
-                _ => least = Some(run.left),
-            }
-        }
-        least
-    }
-
-    // Whether the invariants of all running steps hold in the state at hand.
-    pub fn invariants_hold(
-        &self,
-        known: &Known<'_>,
-        state: &SearchState,
-    ) -> Result<bool, SearchFault> {
-        for run in &self.running {
-            if let Some(form) = known.invariant_of(run.action) {
-                if !known.holds(state, form)? {
+            if let Some(invariant) = task.invariant_of(run.action) {
+                if !holds(task, state, invariant)? {
                     return Ok(false);
                 }
             }
@@ -206,7 +152,12 @@ impl Current {
         Ok(true)
     }
 
-    // The running steps so many ticks later, sorted; no step has fewer left.
+    /// The least number of ticks that a running step has left.
+    pub fn least_left(&self) -> Option<u32> {
+        self.running.iter().map(|run| run.left).min()
+    }
+
+    /// The running steps some ticks later, sorted.
     pub fn runs_after(&self, alloc: Global, ticks: u32) -> Result<Vec<Running>, AllocError> {
         let mut runs = Vec::new(alloc);
         for run in &self.running {
@@ -218,59 +169,43 @@ impl Current {
         runs.sort_unstable();
         Ok(runs)
     }
-}
 
-// Looks at those of some conjuncts that were not looked at in the state at hand.
-fn look_at(
-    known: &Known<'_>,
-    state: &SearchState,
-    conjuncts: &[u32],
-    met: &mut [Option<bool>],
-) -> Result<(), SearchFault> {
-    for conjunct in conjuncts {
-        look_at_one(known, state, *conjunct, met)?;
-    }
-    Ok(())
-}
-
-fn look_at_one(
-    known: &Known<'_>,
-    state: &SearchState,
-    conjunct: u32,
-    met: &mut [Option<bool>],
-) -> Result<(), SearchFault> {
-    if let Some(met) = met.get_mut(conjunct as usize) {
-        if met.is_none() {
-            *met = Some(known.conjunct_holds(state, conjunct)?);
+    /// Marks the events of the tick.
+    pub fn mark(&self, task: &Task, marks: &mut Marks) {
+        for number in &self.events {
+            if let Some(event) = task.event(*number) {
+                marks.put(task, event);
+            }
         }
     }
-    Ok(())
-}
 
-fn running_from(start: Start) -> Running {
-    Running {
-        action: start.action,
-        duration: start.duration,
-        left: start.duration,
+    /// Takes the marks of the tick's events away.
+    pub fn wipe(&self, task: &Task, marks: &mut Marks) {
+        for number in &self.events {
+            if let Some(event) = task.event(*number) {
+                marks.wipe(task, event);
+            }
+        }
     }
 }
 
-/// How many conjuncts lack with one more start, None where it interferes with an event of the tick.
-pub fn lacking_with(
-    known: &Known<'_>,
-    interference: &mut Interference,
-    state: &mut SearchState,
-    current: &mut Current,
-    start: Start,
-) -> Result<Option<usize>, SearchFault> {
-    let Some(event_form) = known.first_of(start.action) else {
-        return Ok(None);
-    };
-    if !current.events.is_empty()
-        && interference.meets(known, &current.events, start.action, event_form)?
-    {
-        return Ok(None);
+/// Whether no two of the ends that are due interfere.
+pub fn ends_are_apart(task: &Task, marks: &mut Marks, runs: &[Running]) -> bool {
+    let mut apart = true;
+    for run in runs {
+        if run.left == 0 {
+            if let Some(event) = task.end_of(run.action) {
+                apart = apart && !marks.interferes(task, event);
+                marks.put(task, event);
+            }
+        }
     }
-    let lacking = current.lacking_with(known, state, event_form, start)?;
-    Ok(Some(lacking))
+    for run in runs {
+        if run.left == 0 {
+            if let Some(event) = task.end_of(run.action) {
+                marks.wipe(task, event);
+            }
+        }
+    }
+    apart
 }

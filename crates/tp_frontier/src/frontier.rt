@@ -3,114 +3,109 @@
 ghost use Rattle.std.specs.Prelude.{◌≡◌, MatchOption};
 ghost use Rattle.tp_frontier.specs.Waiting.{AreEmpty, IsTaken, GoesOn};
 
-use crate::current::{Current, lacking_with};
-use crate::interference::Interference;
-use crate::known::{Known, carry_out_ends, ends_are_apart, wipe_ends};
+use crate::current::{Current, ends_are_apart, lacking};
+use crate::fault::SearchFault;
 use crate::queues::Queues;
-use crate::store::{Choice, Chosen, Moment, Node, Running, Store};
+use crate::starts::{carry_out, carry_out_ends, end_can_happen, startable, starts_at};
+use crate::store::{Chosen, Moment, Node, ROOT, Start, Store};
+use crate::touched::touched_by;
+use crate::waits::{Waits, hash_of};
 use std::alloc::{AllocError, Global};
 use std::marker::Model;
-use tp_forms::{Forms, SearchFault, SearchState, Span};
-use tp_task::{MOST_STEPS, Task};
+use tp_guided_task::{Lists, Marks, NONE, Running, Span, State, Task, Watched};
+use tp_task::MOST_STEPS;
 
 /// The nodes of a search, seen as those that still wait: a queue for each number of goal conjuncts that they lack, each in
 /// the order in which they were made.
 #[derive(Drop)]
-pub struct Frontier<'t> {
+pub struct Frontier {
     alloc: Global,
-    known: Known<'t>,
+    task: Task,
+    watched: Watched,
+    touched: Lists,
     store: Store,
+    waits: Waits,
     queues: Queues,
-    interference: Interference,
-    state: SearchState,
+    marks: Marks,
+    state: State,
     current: Current,
-    taken: Option<(u32, usize)>,
 }
 
-impl<'t> Model for Frontier<'t> {
+impl Model for Frontier {
     ghost use Rattle.std.specs.Prelude.{ℕ, List};
 
     ghost Value = { List (List ℕ) };
 
-    ghost view = { λ f. f.queues.queues };
+    ghost view = { λ f. f.queues };
 }
 
-fn first_moment(kept: u32) -> Moment {
-    Moment {
-        hash: 0,
-        tick: 0,
-        kept,
-        running: Span { at: 0, count: 0 },
-        starts: None,
-    }
+// The actions that may start, compiled.
+fn compiled(
+    alloc: Global,
+    task: &tp_task::Task,
+    reach: &[bool],
+    horizon: u32,
+) -> Result<Task, AllocError> {
+    let kept = startable(alloc, task, reach)?;
+    Task::new(alloc, task, &kept, horizon)
 }
 
-// The number of the first start of a span that comes after a choice.
-fn next_start(starts: Span, choice: Choice) -> u32 {
-    match choice {
-        Choice::Wait => starts.at,
-        Choice::Start(number) => number.saturating_add(1),
-    }
+fn watched_in(alloc: Global, task: &Task, state: &State) -> Result<Watched, AllocError> {
+    let live = Vec::from_elem(alloc, true, task.actions.len())?;
+    Watched::new(alloc, task, state, &live)
 }
 
-impl<'t> Frontier<'t> {
-    /// The frontier of a task at the root: tick 0, the state in which the task begins. At most so many nodes are expanded,
-    /// and one more is taken.
+impl Frontier {
+    /// The frontier of a task at the root: tick 0, the state in which the task begins, whose relaxed reach is known.
     pub fn new(
         alloc: Global,
-        task: &'t Task,
+        task: &tp_task::Task,
         reach: &[bool],
-        budget: u32,
         horizon: u32,
     ) -> Result<Self, SearchFault> {
-        let forms = Forms::new(alloc, task, reach)?;
-        let state = forms.initial_state(alloc, task)?;
-        let known = Known::new(alloc, task, forms, &state, horizon)?;
-        Frontier::from_known(alloc, known, state, budget as usize + 1)
-    }
-
-    fn from_known(
-        alloc: Global,
-        known: Known<'t>,
-        state: SearchState,
-        most: usize,
-    ) -> Result<Self, SearchFault> {
-        let forms = &known.forms;
-        let interference = Interference::new(alloc, &known)?;
-        let queues = Queues::new(alloc, forms.conjuncts.len(), most)?;
-        let store = Store::new(alloc, known.width(), forms.fluents.moving)?;
-        let current = Current::new(alloc, forms.conjuncts.len())?;
-        let mut frontier = Frontier {
-            alloc,
-            known,
-            store,
-            queues,
-            interference,
-            state,
-            current,
-            taken: None,
-        };
+        let task = compiled(alloc, task, reach, horizon)?;
+        let state = State::initial(alloc, &task)?;
+        let mut frontier = Frontier::of(alloc, task, state)?;
         frontier.make_root()?;
         Ok(frontier)
     }
 
+    // No nodes of a task that begins in a state.
+    fn of(alloc: Global, task: Task, state: State) -> Result<Self, AllocError> {
+        Ok(Frontier {
+            alloc,
+            watched: watched_in(alloc, &task, &state)?,
+            touched: touched_by(alloc, &task)?,
+            store: Store::new(alloc, &task),
+            waits: Waits::new(alloc)?,
+            queues: Queues::new(alloc, task.conjuncts.len())?,
+            marks: Marks::new(alloc, &task)?,
+            state,
+            current: Current::new(alloc),
+            task,
+        })
+    }
+
     fn make_root(&mut self) -> Result<(), SearchFault> {
-        let kept = self.store.pack(&self.state)?;
-        let moment = self.store.add_moment(first_moment(kept))?;
-        let lacking = self.known.lacking(&self.state)?;
-        self.make(moment, lacking)?;
+        let state = self.store.pack(&self.state)?;
+        let moment = Moment {
+            hash: 0,
+            tick: 0,
+            state,
+            running: Span::EMPTY,
+            starts: None,
+        };
+        self.store.add_moment(moment, &[])?;
+        let lacking = lacking(&self.task, &self.state)?;
+        self.make(ROOT, lacking)?;
         Ok(())
     }
 
-    // Makes a child, by the number of its start, or of its moment if it waits, unless it is never taken.
     #[tactic(auto, using(crate::proofs::Waiting::goes_on_same, crate::proofs::Waiting::goes_on_node))]
-    fn make(&mut self, choice: u32, lacking: usize) -> Result<(), AllocError>
+    fn make(&mut self, node: Node, lacking: usize) -> Result<(), AllocError>
         ensures { GoesOn self.old self.new }
     {
-        if !self.queues.is_open(lacking) {
-            return Ok(());
-        }
-        let number = self.store.add_child(choice)?;
+        let number = self.store.add_node(node)?;
         self.queues.put(number, lacking)?;
         Ok(())
     }
@@ -120,8 +115,7 @@ impl<'t> Frontier<'t> {
         ensures { MatchOption result (AreEmpty self.old × (self.new ≡ self.old))
             (λ t. IsTaken self.old t.0 t.1 self.new) }
     {
-        self.taken = self.queues.take();
-        self.taken
+        self.queues.take()
     }
 
     /// Whether no step of a node runs past its tick. With no conjunct lacking it is a plan then.
@@ -131,23 +125,23 @@ impl<'t> Frontier<'t> {
         let Some(node) = self.store.node(number) else {
             return Ok(true);
         };
-        self.store.push_chain(node, &mut self.current.chain)?;
-        let known = &self.known;
-        let starts = self.current.chain.iter().any(|s| known.lasts(s.action));
-        let runs = self.runs_of(node).iter().any(|r| r.left > 0);
+        self.store.chain(node, &mut self.current.chain)?;
+        let task = &self.task;
+        let starts = self
+            .current
+            .chain
+            .iter()
+            .any(|s| task.end_of(s.action).is_some());
+        let runs = match self.store.moment(node.moment) {
+            Some(moment) => self.store.runs_of(&moment).iter().any(|r| r.left > 0),
+            None => false,
+        };
         Ok(!starts && !runs)
-    }
-
-    fn runs_of(&self, node: Node) -> &[Running] {
-        match self.store.moment(node.moment) {
-            Some(moment) => self.store.runs(moment.running),
-            None => &[],
-        }
     }
 
     /// The steps of a node, in the order in which they were chosen.
     pub fn steps(&self, number: u32) -> Result<Vec<Chosen>, AllocError> {
-        self.store.steps(self.alloc, number)
+        self.store.steps(self.alloc, &self.task, number)
     }
 
     /// Makes the children of a node.
@@ -157,172 +151,197 @@ impl<'t> Frontier<'t> {
     {
         if let Some(node) = self.store.node(number) {
             self.load(node)?;
-            self.store.begin(node)?;
-            let lacking = self.lacking_at(number)?;
-            self.make_starts(node, lacking)?;
-            self.store.begin_waits();
-            self.make_waits(node, lacking)?;
+            self.make_starts(number, node)?;
+            self.make_waits(number, node)?;
         }
         Ok(())
     }
 
-    // Makes a node the one at hand: its own state, its events, its running steps.
+    // The own state of a node, its events and its running steps.
     fn load(&mut self, node: Node) -> Result<(), SearchFault>
         ensures { self.new ≡ self.old }
     {
         let Some(moment) = self.store.moment(node.moment) else {
             return Ok(());
         };
-        self.known.looked.restart();
-        self.store.unpack(moment.kept, &mut self.state);
-        if moment.starts.is_none() && usize::from(node.steps) < MOST_STEPS {
+        self.store.unpack(moment.state, &mut self.state);
+        self.state.keep();
+        if moment.starts.is_none() {
             self.find_starts(node.moment, moment.tick)?;
         }
-        self.store.push_chain(node, &mut self.current.chain)?;
-        let runs = self.store.runs(moment.running);
-        self.current.take_runs(&self.known, &mut self.state, runs)?;
-        self.current.take_starts(&self.known, &mut self.state)?;
+        self.current.clear();
+        for run in self.store.runs_of(&moment) {
+            self.current.take_run(&self.task, &mut self.state, *run)?;
+        }
+        self.store.chain(node, &mut self.current.chain)?;
+        self.current.take_starts(&self.task, &mut self.state)?;
         self.state.keep();
-        self.current.kept = None;
         Ok(())
     }
 
     fn find_starts(&mut self, moment: u32, tick: u32) -> Result<(), SearchFault>
         ensures { self.new ≡ self.old }
     {
-        let starts = self.known.starts_at(self.alloc, &self.state, tick)?;
+        let starts = starts_at(self.alloc, &self.task, &self.watched, &self.state, tick)?;
         self.store.add_starts(moment, &starts)?;
         Ok(())
     }
 
-    fn starts_after(&self, node: Node) -> Option<(u32, u32)> {
-        let starts = self.store.moment(node.moment)?.starts?;
-        let end = starts.at.saturating_add(starts.count);
-        Some((next_start(starts, node.choice), end))
-    }
-
-    // How many conjuncts the state at hand, a node's own, lacks; known of the node taken last.
-    fn lacking_at(&self, number: u32) -> Result<usize, SearchFault> {
-        match self.taken {
-            Some((node, lacking)) if node == number => Ok(lacking),
-            _ => self.known.lacking(&self.state),
+    // The numbers of the starts that a node may choose next.
+    fn starts_after(&self, node: Node) -> Span {
+        let found = match self.store.moment(node.moment) {
+            Some(moment) => moment.starts.unwrap_or(Span::EMPTY),
+            None => Span::EMPTY,
+        };
+        if node.choice == NONE {
+            return found;
+        }
+        let end = found.at.saturating_add(found.count);
+        let next = node.choice.saturating_add(1);
+        Span {
+            at: next,
+            count: end.saturating_sub(next),
         }
     }
 
     // The children that choose one more start at the node's tick.
     #[tactic(auto, using(crate::proofs::Waiting::goes_on_same, crate::proofs::Waiting::goes_on_further))]
-    fn make_starts(&mut self, node: Node, lacking: usize) -> Result<(), SearchFault>
+    fn make_starts(&mut self, number: u32, node: Node) -> Result<(), SearchFault>
         ensures { GoesOn self.old self.new }
     {
-        let Some((first, end)) = self.starts_after(node) else {
-            return Ok(());
-        };
-        if usize::from(node.steps) >= MOST_STEPS || first >= end {
+        let starts = self.starts_after(node);
+        if node.steps as usize >= MOST_STEPS || starts.count == 0 {
             return Ok(());
         }
-        self.current.lack(lacking);
-        let mut next = first;
-        for _ in first..end {
-            if next >= end {
-                break;
-            }
-            self.make_start(next)?;
-            next = self.start_after(next, end);
+        let lacking = self.current.find_met(&self.task, &self.state)?;
+        self.current.mark(&self.task, &mut self.marks);
+        for choice in starts.at..starts.at.saturating_add(starts.count) {
+            self.make_start(number, node, choice, lacking)?;
         }
-        self.interference.leave(&self.known, &self.current.events);
+        self.current.wipe(&self.task, &mut self.marks);
         Ok(())
     }
 
-    // The number of the start to look at behind one: the next, or where a child that lacks as much as its parent is never
-    // taken, the next that may change that.
-    fn start_after(&self, start: u32, end: u32) -> u32 {
-        let next = start.saturating_add(1);
-        if next >= end || self.queues.is_open(self.current.lacking) {
-            return next;
-        }
-        match self.store.start(next) {
-            Some(there) => {
-                let action = self.known.touching.loud_from(there.action);
-                self.store.start_from(next, end, action)
-            }
-            None => next,
-        }
-    }
-
+    // The child that chooses a start, unless that interferes with an event of the tick.
     #[tactic(auto, using(crate::proofs::Waiting::goes_on_same))]
-    fn make_start(&mut self, choice: u32) -> Result<(), SearchFault>
+    fn make_start(
+        &mut self,
+        parent: u32,
+        node: Node,
+        choice: u32,
+        lacking: usize,
+    ) -> Result<(), SearchFault>
         ensures { GoesOn self.old self.new }
     {
         let Some(start) = self.store.start(choice) else {
             return Ok(());
         };
-        let lacking = lacking_with(
-            &self.known,
-            &mut self.interference,
-            &mut self.state,
-            &mut self.current,
-            start,
-        )?;
-        if let Some(lacking) = lacking {
-            self.make(choice, lacking)?;
+        if self.interferes(start) {
+            return Ok(());
         }
+        let lacking = self.lacking_with(start, lacking)?;
+        let child = Node {
+            parent,
+            moment: node.moment,
+            choice,
+            steps: node.steps.saturating_add(1),
+        };
+        self.make(child, lacking)?;
         Ok(())
+    }
+
+    fn interferes(&self, start: Start) -> bool {
+        match self.task.start_of(start.action) {
+            Some(event) => self.marks.interferes(&self.task, event),
+            None => true,
+        }
+    }
+
+    // How many conjuncts the own state lacks after a start too, where it lacks so many before.
+    fn lacking_with(&mut self, start: Start, lacking: usize) -> Result<usize, SearchFault>
+        ensures { self.new ≡ self.old }
+    {
+        let touched = self.touched.of(start.action);
+        let Some(event) = self.task.start_of(start.action) else {
+            return Ok(lacking);
+        };
+        if touched.is_empty() && event.writes.count == 0 {
+            return Ok(lacking);
+        }
+        carry_out(&self.task, &mut self.state, event, start.duration)?;
+        let now = self
+            .current
+            .lacking_with(&self.task, &self.state, touched, lacking)?;
+        self.state.undo();
+        Ok(now)
     }
 
     // The children that wait.
     #[tactic(auto, using(crate::proofs::Waiting::goes_on_same, crate::proofs::Waiting::goes_on_further))]
-    fn make_waits(&mut self, node: Node, lacking: usize) -> Result<(), SearchFault>
+    fn make_waits(&mut self, number: u32, node: Node) -> Result<(), SearchFault>
         ensures { GoesOn self.old self.new }
     {
-        if !self.current.invariants_hold(&self.known, &self.state)? {
+        if !self.current.invariants_hold(&self.task, &self.state)? {
             return Ok(());
         }
         let least = self.current.least_left();
         if !self.current.events.is_empty() {
-            self.make_wait(node, lacking, 1)?;
+            self.make_wait(number, node, 1)?;
             if least == Some(1) {
                 return Ok(());
             }
         }
         if let Some(ticks) = least {
-            self.make_wait(node, lacking, ticks)?;
+            self.make_wait(number, node, ticks)?;
         }
         Ok(())
     }
 
     #[tactic(auto, using(crate::proofs::Waiting::goes_on_same))]
-    fn make_wait(&mut self, node: Node, lacking: usize, ticks: u32) -> Result<(), SearchFault>
+    fn make_wait(&mut self, parent: u32, node: Node, ticks: u32) -> Result<(), SearchFault>
         ensures { GoesOn self.old self.new }
     {
         let Some(moment) = self.store.moment(node.moment) else {
             return Ok(());
         };
         let tick = moment.tick.saturating_add(ticks);
-        if tick > self.known.horizon {
+        if tick > self.task.horizon {
             return Ok(());
         }
         let runs = self.current.runs_after(self.alloc, ticks)?;
-        self.wait_with(lacking, tick, &runs)
+        self.wait_with(parent, node, tick, &runs)
     }
 
+    // The child that waits until a tick, with the steps that run then.
     #[tactic(auto, using(crate::proofs::Waiting::goes_on_same))]
-    fn wait_with(&mut self, lacking: usize, tick: u32, runs: &[Running]) -> Result<(), SearchFault>
+    fn wait_with(
+        &mut self,
+        parent: u32,
+        node: Node,
+        tick: u32,
+        runs: &[Running],
+    ) -> Result<(), SearchFault>
         ensures { GoesOn self.old self.new }
     {
-        let hash = self.store.hash_of(&self.state, runs);
-        if self.store.is_known(hash, &self.state, runs) || !self.ends_can_happen(runs)? {
+        let hash = hash_of(&self.store, &self.state, runs);
+        if self.waits.is_known(&self.store, hash, &self.state, runs)
+            || !self.ends_can_happen(runs)?
+        {
             return Ok(());
         }
-        let lacking = self.lacking_after(lacking, runs)?;
-        if !self.queues.is_open(lacking) {
-            return Ok(());
-        }
+        let lacking = self.lacking_after(runs)?;
         let moment = self.add_moment(hash, tick, runs)?;
-        self.make(moment, lacking)?;
+        let child = Node {
+            parent,
+            moment,
+            choice: NONE,
+            steps: node.steps,
+        };
+        self.make(child, lacking)?;
         Ok(())
     }
 
-    // The number of the state at hand, which is kept once for all waits of a node.
+    // The number of the own state, which is kept once for all waits of a node.
     fn packed(&mut self) -> Result<u32, AllocError>
         ensures { self.new ≡ self.old }
     {
@@ -337,52 +356,39 @@ impl<'t> Frontier<'t> {
     fn add_moment(&mut self, hash: u64, tick: u32, runs: &[Running]) -> Result<u32, AllocError>
         ensures { self.new ≡ self.old }
     {
-        let kept = self.packed()?;
-        let running = self.store.add_runs(runs)?;
-        let moment = self.store.add_moment(Moment {
+        let state = self.packed()?;
+        let moment = Moment {
             hash,
             tick,
-            kept,
-            running,
+            state,
+            running: Span::EMPTY,
             starts: None,
-        })?;
-        self.store.enter_last(self.alloc)?;
-        Ok(moment)
+        };
+        let number = self.store.add_moment(moment, runs)?;
+        self.waits.enter_last(self.alloc, &self.store)?;
+        Ok(number)
     }
 
-    // How many conjuncts lack once the ends that are due have happened: as many as before where none is.
-    fn lacking_after(&mut self, lacking: usize, runs: &[Running]) -> Result<usize, SearchFault>
+    // How many conjuncts lack once the ends that are due have happened.
+    fn lacking_after(&mut self, runs: &[Running]) -> Result<usize, SearchFault>
         ensures { self.new ≡ self.old }
     {
-        if runs.iter().any(|r| r.left == 0) {
-            self.lacking_after_ends(runs)
-        } else {
-            Ok(lacking)
-        }
-    }
-
-    fn lacking_after_ends(&mut self, runs: &[Running]) -> Result<usize, SearchFault>
-        ensures { self.new ≡ self.old }
-    {
-        let values = &mut self.current.values;
-        carry_out_ends(&self.known, &mut self.state, runs, values)?;
-        let lacking = self.known.lacking(&self.state)?;
+        carry_out_ends(&self.task, &mut self.state, runs)?;
+        let lacking = lacking(&self.task, &self.state)?;
         self.state.undo();
         Ok(lacking)
     }
 
-    // Whether the ends that are due can happen in the state at hand.
+    // Whether the ends that are due can happen in the own state.
     fn ends_can_happen(&mut self, runs: &[Running]) -> Result<bool, SearchFault>
         ensures { self.new ≡ self.old }
     {
         for run in runs {
-            if run.left == 0 && !self.known.end_can_happen(&self.state, *run)? {
+            let ends = run.left == 0;
+            if ends && !end_can_happen(&self.task, &self.state, run.action, run.duration)? {
                 return Ok(false);
             }
         }
-        let marks = &mut self.interference.marks;
-        let free = ends_are_apart(&self.known, marks, runs);
-        wipe_ends(&self.known, marks, runs);
-        Ok(free)
+        Ok(ends_are_apart(&self.task, &mut self.marks, runs))
     }
 }

@@ -1,26 +1,25 @@
 //! The frontier of a search for plans: its nodes, their order and their children. What it finds is not proved to be a plan:
-//! who takes its steps has them judged.
+//! its caller has each plan judged.
 //!
-//! - `store`: nodes, moments, states; the waits made so far, by hash
-//! - `queues`: the nodes still to be taken
-//! - `known`: what the search looks up
-//! - `listed`: the conjuncts that an event may change
-//! - `looked`: how much is looked at for a node, and a bound of it
-//! - `pairs`: which events and starts interfere, as far as that was found out
-//! - `interference`: whether a start interferes with the events at hand
-//! - `current`: the node at hand
+//! - `fault`: what keeps a search from an answer
+//! - `store`: nodes, moments, states
+//! - `waits`: the moments that waits made, by hash
+//! - `queues`: the nodes that are still to be taken
+//! - `starts`: what can start in a state, and with which duration
+//! - `touched`: the conjuncts of the goal that an action may change
+//! - `current`: the node that is expanded
 //! - `frontier`: taking and expanding
 #![tactic(auto)]
 
 mod current;
+mod fault;
 mod frontier;
-mod interference;
-mod known;
-mod listed;
-mod looked;
-mod pairs;
 mod queues;
+mod starts;
 mod store;
+mod touched;
+mod waits;
 
+pub use fault::SearchFault;
 pub use frontier::Frontier;
 pub use store::Chosen;

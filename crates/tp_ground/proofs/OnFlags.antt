@@ -2,7 +2,6 @@
 use Rattle.std.proofs.Common.{◌≡◌, ◌<◌, ℕ, Bool, true, List, [], ◌∷◌, map, length, refl, sym, ap, subst, ◌∙◌, arith}
 use Rattle.std.specs.List.{IsDistinct, filter, flat_map, list_all}
 use Rattle.std.proofs.lemmas.Bool.{and_from, and_parts}
-use Rattle.tp_ast.specs.Actions.{Action}
 use Rattle.tp_ast.specs.Conditions.{Condition}
 use Rattle.tp_ast.specs.Domains.{Domain}
 use Rattle.tp_ast.specs.Problems.{Initial, Problem}
@@ -14,18 +13,17 @@ use Rattle.tp_task.specs.declared.events.Body.TheVariants.{Instant, Durative}
 use Rattle.tp_reach.specs.Rounds.{adds_in, adds_fit}
 use Rattle.tp_bindings.specs.Bindings.{Universe, universe_of}
 use Rattle.tp_lower.specs.ReadBack.{named_body}
-use Rattle.tp_ground_parts.specs.Initially.{GroundInitial, initial_in, named_initial}
+use Rattle.tp_ground_parts.specs.Initially.{initial_in, named_initial}
 use Rattle.tp_bounds.specs.RunLimits.{RunLimits}
 use Rattle.tp_ground_parts.specs.Grounding.{HasNoTask, ground_actions, mentioned}
 use Rattle.tp_task.specs.declared.fault.GroundFault.{GroundFault}
 use Rattle.tp_task.specs.declared.fault.GroundFault.TheVariants as faults
 use Rattle.tp_task.specs.declared.fault.TooManyKind.TheVariants as kinds
 use Rattle.tp_ground.specs.Reached.{AreKept, HasNoReachedTask, Instance, IsReach, action_of, happenings_of, instances, is_kept}
-use Rattle.tp_lower.specs.WriterViews.{WriterView}
 use Rattle.tp_lower.specs.Lowered.{IsLowered}
-use Rattle.tp_ground.specs.Instances.{written_with, of_task_with, AreReached, AreFlags, AreKeptOf}
+use Rattle.tp_ground.specs.Instances.{written_with, of_task_with, AreReached, AreFlags}
 use Rattle.tp_ground.specs.WrittenTasks.{WrittenTask, named_task}
-use Rattle.tp_ground.specs.declared.grounder.LoweredTask.{LoweredTask}
+use Rattle.tp_ground.specs.declared.tasks.LoweredTask.{LoweredTask}
 use Rattle.tp_ground.proofs.OnInitially.{with_all_distinct}
 use Rattle.tp_ground.proofs.OnTasks.{some_written, fit, same_extend}
 use Rattle.tp_ground.proofs.OnReach.{reach, is_reach, flags_are}
@@ -43,11 +41,11 @@ adds_of atoms fluents (Durative start end invariant ∷ bs) h =
     (and_from (adds_in atoms start) _ (and_parts (adds_in atoms start) _ q.0).0 (and_parts (adds_in atoms end) _ q.1).0)
     (adds_of atoms fluents bs p.1)
 
-module _ (u : Universe) (initial : List Initial) (goal : Condition) (xs : List Instance) (none new : WriterView) (t : Tables) (l : LoweredTask) (most : ℕ)
-    (empty : none.tables ≡ record { atoms = []; fluents = []; actions = []; most = most }) (same : t ≡ new.tables)
+module _ (u : Universe) (initial : List Initial) (goal : Condition) (xs : List Instance) (none new : Tables) (t : Tables) (l : LoweredTask) (most : ℕ)
+    (empty : none ≡ record { atoms = []; fluents = []; actions = []; most = most }) (same : t ≡ new)
     (lowered : IsLowered named_task none new l (written_with u initial goal xs) (of_task_with u initial goal xs)) where
   said : named_task t l ≡ written_with u initial goal xs
-  said = lowered.says t (same_extend new.tables t (ap (λ (n : Tables). n.atoms) same) (ap (λ (n : Tables). n.fluents) same))
+  said = lowered.says t (same_extend new t (ap (λ (n : Tables). n.atoms) same) (ap (λ (n : Tables). n.fluents) same))
 
   bodies : map (named_body t) l.actions.items ≡ map (λ i. (action_of u i).body) xs
   bodies = ap (λ (w : WrittenTask). w.bodies) said
@@ -76,24 +74,14 @@ abbrev with_counts : RunLimits → ℕ → ℕ → RunLimits
 with_counts l atoms actions = record { events = l.events; bounds = l.bounds; ids = l.ids; horizon = l.horizon; atoms = atoms; actions = actions; expansions = l.expansions }
 
 -- those that are flagged are those that the relaxed reach keeps
-pub kept_among : (u : Universe) (initial : List GroundInitial) (all : List Action) (xs kept : List Instance) (flags : List Bool) → xs ≡ instances u all → AreFlags u initial xs flags → ((test : Instance → Bool) → flags ≡ map test xs → kept ≡ filter test xs) → AreKeptOf u initial all kept
-kept_among u initial all xs kept flags same f picks = record { reach = f.reach; is_reach = there.0; are = there.1 }
+pub kept_of : (d : Domain) (p : Problem) (u : Universe) (xs kept : List Instance) (flags : List Bool) → u ≡ universe_of d p → xs ≡ instances u d.actions → AreFlags u (map initial_in p.initial) xs flags → ((test : Instance → Bool) → flags ≡ map test xs → kept ≡ filter test xs) → AreKept d p kept
+kept_of d p u xs kept flags same all f picks = record { reach = f.reach; is_reach = there.0; are = there.1 }
   where
-    Are : List Instance → Type 0
-    Are ys = IsReach initial (flat_map (λ i. happenings_of (action_of u i).body) ys) f.reach × (kept ≡ filter (λ i. is_kept f.reach (action_of u i).body) ys)
+    Are : Universe → List Instance → Type 0
+    Are v ys = IsReach (map initial_in p.initial) (flat_map (λ i. happenings_of (action_of v i).body) ys) f.reach × (kept ≡ filter (λ i. is_kept f.reach (action_of v i).body) ys)
 
-    there : Are (instances u all)
-    there = subst Are same (f.is_reach, picks (λ i. is_kept f.reach (action_of u i).body) f.are)
-
--- those of a domain's actions
-pub kept_of : (d : Domain) (p : Problem) (u : Universe) (all : List Action) (kept : List Instance) → u ≡ universe_of d p → all ≡ d.actions → AreKeptOf u (map initial_in p.initial) all kept → AreKept d p kept
-kept_of d p u all kept same actions k = record { reach = k.reach; is_reach = there.0; are = there.1 }
-  where
-    Are : Universe → List Action → Type 0
-    Are v acts = IsReach (map initial_in p.initial) (flat_map (λ i. happenings_of (action_of v i).body) (instances v acts)) k.reach × (kept ≡ filter (λ i. is_kept k.reach (action_of v i).body) (instances v acts))
-
-    there : Are (universe_of d p) d.actions
-    there = subst (λ (v : Universe). Are v d.actions) same (subst (Are u) actions (k.is_reach, k.are))
+    there : Are (universe_of d p) (instances (universe_of d p) d.actions)
+    there = subst (λ (v : Universe). Are v (instances v d.actions)) same (subst (Are u) all (f.is_reach, picks (λ i. is_kept f.reach (action_of u i).body) f.are))
 
 -- a fault that is told whatever the limits is no want of room within them
 pub whatever_the_limits : (d : Domain) (p : Problem) (e : GroundFault) → ((limits : RunLimits) → HasNoTask limits d p e) → (small : RunLimits) → HasNoReachedTask small d p e

@@ -9,20 +9,20 @@ use Rattle.tp_ast.specs.Symbols.{Name}
 use Rattle.tp_ast.specs.Actions as actions
 use Rattle.tp_bindings.specs.Bindings.{Universe, bindings}
 use Rattle.tp_ground.specs.Reached.{Instance, instances}
-use Rattle.tp_ground.specs.Schemas.{schema_view}
+use Rattle.tp_ast.specs.DomainViews.{action_view}
 use Rattle.tp_lower.specs.Mentions.{Mentions, ◌then◌, of_each}
-use Rattle.tp_ground.specs.declared.schema.Schema.{Schema}
+use Rattle.tp_ast.specs.declared.action.Action.{Action}
 use Rattle.tp_bindings.proofs.Along.{map_next}
 
 -- the instances of an action
 abbrev pub bound_to : actions.Action → List Name → Instance
 bound_to a ns = record { action = a; objects = ns }
 
-abbrev pub instances_of : Universe → Schema → List Instance
-instances_of u s = map (bound_to (schema_view s)) (bindings u (schema_view s).parameters)
+abbrev pub instances_of : Universe → Action → List Instance
+instances_of u a = map (bound_to (action_view a)) (bindings u (action_view a).parameters)
 
-pub all_of : (u : Universe) (xs : List Schema) → flat_map (instances_of u) xs ≡ instances u (map schema_view xs)
-all_of u xs = sym (flat_map-map (λ (a : actions.Action). map (bound_to a) (bindings u a.parameters)) schema_view xs)
+pub all_of : (u : Universe) (xs : List Action) → flat_map (instances_of u) xs ≡ instances u (map action_view xs)
+all_of u xs = sym (flat_map-map (λ (a : actions.Action). map (bound_to a) (bindings u a.parameters)) action_view xs)
 
 -- mentions of what is told in other words
 pub each_view : {X Y : Type 0} (of : Y → Mentions) (f : X → Y) (xs : List X) → of_each (λ x. of (f x)) xs ≡ of_each of (map f xs)

@@ -15,8 +15,7 @@ use Rattle.tp_task.specs.Words.{Words}
 use Rattle.tp_lower.specs.ReadBack.{named_condition}
 use Rattle.tp_lower.specs.Written.{GroundCondition, GroundConditions, atom, compared, negation, all_of, any_of, no_conditions, condition, conditions_from}
 use Rattle.tp_ground_parts.proofs.OnFits.{are_words}
-use Rattle.tp_lower.proofs.OnKept.{named_Shared}
-use Rattle.tp_lower.proofs.OnConditions.{named_And, named_Or, named_Not, named_Atom, named_Compare}
+use Rattle.tp_lower.proofs.OnConditions.{named_And, named_Or, named_Not, named_Atom, named_Compare, named_Shared}
 use Rattle.tp_reach.specs.Rounds.{over}
 use Rattle.tp_reach.proofs.Rows.{met_And, met_Or}
 use Rattle.tp_ground.specs.Reached.{met, each_met, some_met}

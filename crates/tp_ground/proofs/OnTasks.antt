@@ -3,7 +3,6 @@ use Rattle.std.proofs.Common.{◌≡◌, ◌<◌, ◌≤◌, true, false, None, 
 use Rattle.std.specs.List.{AllByRecursion, IsDistinct, list_all}
 use Rattle.std.proofs.lemmas.Bool.{and_from}
 use Rattle.std.proofs.lemmas.List.{length-map, get_or-map}
-use Rattle.tp_ast.specs.Symbols.{Name}
 use Rattle.tp_ast.specs.Conditions.{Condition}
 use Rattle.tp_ast.specs.Actions as actions
 use Rattle.tp_ast.specs.Domains.{Domain}
@@ -12,22 +11,20 @@ use Rattle.tp_ast.specs.DomainViews.{initial_view}
 use Rattle.tp_ast.specs.declared.problem.Initial.{Initial}
 use Rattle.tp_bounds.specs.RunLimits.{RunLimits}
 use Rattle.tp_text.specs.declared.number.Scale.{Scale}
-use Rattle.tp_lower.specs.WriterViews.{WriterView}
 use Rattle.tp_task.specs.Words.{Words, same_words, with_all, firsts}
-use Rattle.tp_bindings.specs.Bindings.{Universe, Env, bindings, bound, universe_of}
+use Rattle.tp_bindings.specs.Bindings.{Universe, Env, bound, universe_of}
 use Rattle.tp_task.specs.Fits.{body_fits}
 use Rattle.tp_task.specs.Tables.{Tables}
-use Rattle.tp_lower.specs.Written.{GroundCondition, GroundBody, GroundAction, condition_in, body_in}
+use Rattle.tp_lower.specs.Written.{GroundCondition, GroundBody, condition_in, body_in}
 use Rattle.tp_lower.specs.Mentions.{Mentions, ◌then◌, of_condition, of_each}
 use Rattle.tp_lower.specs.ReadBack.{named_condition, named_body}
 use Rattle.tp_ground_parts.specs.Initially.{GroundInitial, initial_in, of_initial, named_initial, is_initially_true, initial_value}
 use Rattle.tp_lower.specs.Lowered.{Notes, Extends, IsLowered, Overflows}
 use Rattle.tp_ground.specs.Reached.{Instance, IsTaskOf, action_of, mentioned_of}
 use Rattle.tp_ground.specs.Instances.{written_with}
-use Rattle.tp_ground_parts.specs.Grounding.{ground_action, ground_actions, mentioned, IsTask}
-use Rattle.tp_ground.specs.WrittenTasks.{WrittenTask, written_task, named_task, IsMade}
+use Rattle.tp_ground.specs.WrittenTasks.{WrittenTask, named_task, IsMade}
 use Rattle.tp_ground_parts.specs.declared.beginning.NumberedInitial.{NumberedInitial}
-use Rattle.tp_ground.specs.declared.grounder.LoweredTask.{LoweredTask}
+use Rattle.tp_ground.specs.declared.tasks.LoweredTask.{LoweredTask}
 use Rattle.tp_task.specs.declared.task.Task.{Task}
 use Rattle.tp_task.specs.declared.fault.GroundFault.{GroundFault}
 use Rattle.tp_task.specs.declared.events.Cond.{Cond}
@@ -68,19 +65,19 @@ module _ (u : Universe) (is : List Initial) (c : Condition) (third : Mentions) (
   abbrev written : WrittenTask
   written = record { initial = map initial_in (map initial_view is); goal = condition_in u [] c; bodies = bodies }
 
-  pub entries_stopped : (a : WriterView) (e : GroundFault) → Overflows a (of_each of_initial told) e → Overflows a all e
+  pub entries_stopped : (a : Tables) (e : GroundFault) → Overflows a (of_each of_initial told) e → Overflows a all e
   entries_stopped a e h = at_first a first second third e (subst (λ (es : List GroundInitial). Overflows a (of_each of_initial es) e) (entries_view is) h)
 
-  entries_noted : (a b : WriterView) → Notes a b (of_each of_initial told) → Notes a b first
+  entries_noted : (a b : Tables) → Notes a b (of_each of_initial told) → Notes a b first
   entries_noted a b l = subst (λ (es : List GroundInitial). Notes a b (of_each of_initial es)) (entries_view is) l
 
-  pub goal_stopped : (a b : WriterView) (e : GroundFault) → Notes a b (of_each of_initial told) → Overflows b (of_condition (condition_in u [] c)) e → Overflows a all e
+  pub goal_stopped : (a b : Tables) (e : GroundFault) → Notes a b (of_each of_initial told) → Overflows b (of_condition (condition_in u [] c)) e → Overflows a all e
   goal_stopped a b e l h = at_second a first second third e b (entries_noted a b l) h
 
-  pub actions_stopped : (a b d : WriterView) (e : GroundFault) → Notes a b (of_each of_initial told) → Notes b d (of_condition (condition_in u [] c)) → Overflows d third e → Overflows a all e
+  pub actions_stopped : (a b d : Tables) (e : GroundFault) → Notes a b (of_each of_initial told) → Notes b d (of_condition (condition_in u [] c)) → Overflows d third e → Overflows a all e
   actions_stopped a b d e l k h = at_third a first second third e b d (entries_noted a b l) k h
 
-  pub task_lowered : (a b d w : WriterView) (es : Vec NumberedInitial Global) (g : Cond) (bs : Vec Body Global) (x : LoweredTask) → x ≡ record { entries = es; goal = g; actions = bs } → IsLowered all_entries a b es told (of_each of_initial told) → IsLowered named_condition b d g (condition_in u [] c) (of_condition (condition_in u [] c)) → IsLowered all_bodies d w bs bodies third → IsLowered named_task a w x written all
+  pub task_lowered : (a b d w : Tables) (es : Vec NumberedInitial Global) (g : Cond) (bs : Vec Body Global) (x : LoweredTask) → x ≡ record { entries = es; goal = g; actions = bs } → IsLowered all_entries a b es told (of_each of_initial told) → IsLowered named_condition b d g (condition_in u [] c) (of_condition (condition_in u [] c)) → IsLowered all_bodies d w bs bodies third → IsLowered named_task a w x written all
   task_lowered a b d w es g bs x is_x l k h =
       subst (λ (y : LoweredTask). IsLowered named_task a w y written all) (sym is_x)
       (lowered_both (λ (p : List GroundInitial × GroundCondition) (q : List GroundBody). record { initial = p.0; goal = p.1; bodies = q }) (record { entries = es; goal = g; actions = bs }) (λ t. refl)
@@ -94,14 +91,6 @@ abbrev pub IsWritten : Universe → GroundBody → Type 0
 IsWritten u y = (env : Env) × ((a : actions.Body) × (y ≡ body_in u env a))
 
 module _ (u : Universe) where
-  written_one : (a : actions.Action) (bs : List (List Name)) (rest : List GroundAction) → AllByRecursion (IsWritten u) (map (λ g. g.body) rest) → AllByRecursion (IsWritten u) (map (λ g. g.body) (map (ground_action u a) bs ++ rest))
-  written_one a [] rest h = h
-  written_one a (b ∷ bs) rest h = ((bound a.parameters b, (a.body, refl)), written_one a bs rest h)
-
-  all_written : (each : List actions.Action) → AllByRecursion (IsWritten u) (map (λ g. g.body) (ground_actions u each))
-  all_written [] = tt
-  all_written (a ∷ each) = written_one a (bindings u a.parameters) (ground_actions u each) (all_written each)
-
   pub some_written : (is : List Instance) → AllByRecursion (IsWritten u) (map (λ i. (action_of u i).body) is)
   some_written [] = tt
   some_written (i ∷ is) = ((bound i.action.parameters i.objects, (i.action.body, refl)), some_written is)
@@ -124,13 +113,13 @@ same_extend a b atoms fluents = record { atoms = ([], atoms ∙ sym (append-nil 
 abbrev pub written_bodies : Domain → Problem → List GroundBody → WrittenTask
 written_bodies d p bodies = record { initial = map initial_in p.initial; goal = condition_in (universe_of d p) [] p.goal; bodies = bodies }
 
-module _ (limits : RunLimits) (scale : Scale) (d : Domain) (p : Problem) (bodies : List GroundBody) (labels : List Words) (m : Mentions) (none new : WriterView) (later : Tables) (l : LoweredTask)
-    (empty : none.tables ≡ record { atoms = []; fluents = []; actions = []; most = limits.atoms })
+module _ (limits : RunLimits) (scale : Scale) (d : Domain) (p : Problem) (bodies : List GroundBody) (labels : List Words) (m : Mentions) (none new : Tables) (later : Tables) (l : LoweredTask)
+    (empty : none ≡ record { atoms = []; fluents = []; actions = []; most = limits.atoms })
     (lowered : IsLowered named_task none new l (written_bodies d p bodies) m)
-    (names : later.actions ≡ new.tables.actions ++ labels)
-    (atoms : later.atoms ≡ new.tables.atoms) (fluents : later.fluents ≡ new.tables.fluents) (most : later.most ≡ new.tables.most) where
+    (names : later.actions ≡ new.actions ++ labels)
+    (atoms : later.atoms ≡ new.atoms) (fluents : later.fluents ≡ new.fluents) (most : later.most ≡ new.most) where
   said : named_task later l ≡ written_bodies d p bodies
-  said = lowered.says later (same_extend new.tables later atoms fluents)
+  said = lowered.says later (same_extend new later atoms fluents)
 
   all_said : map (named_body later) l.actions.items ≡ bodies
   all_said = ap (λ (w : WrittenTask). w.bodies) said
@@ -218,58 +207,12 @@ module _ (limits : RunLimits) (scale : Scale) (d : Domain) (p : Problem) (bodies
     pub same_values : t.initial_numbers.items ≡ map (initial_value (map initial_in p.initial)) t.numbering.fluents
     same_values = numbers_then ∙ sym (ap (λ (n : Tables). map (initial_value (map initial_in p.initial)) n.fluents) made.same_numbering)
 
--- of all ground actions
-module _ (limits : RunLimits) (scale : Scale) (d : Domain) (p : Problem) (none new : WriterView) (later : Tables) (l : LoweredTask)
-    (empty : none.tables ≡ record { atoms = []; fluents = []; actions = []; most = limits.atoms })
-    (lowered : IsLowered named_task none new l (written_task (universe_of d p) p.initial p.goal d.actions) (mentioned d p))
-    (names : later.actions ≡ new.tables.actions ++ map (λ a. a.words) (ground_actions (universe_of d p) d.actions))
-    (atoms : later.atoms ≡ new.tables.atoms) (fluents : later.fluents ≡ new.tables.fluents) (most : later.most ≡ new.tables.most) where
-  abbrev every_action : List GroundAction
-  every_action = ground_actions (universe_of d p) d.actions
-
-  abbrev bodies : List GroundBody
-  bodies = map (λ a. a.body) every_action
-
-  abbrev labels : List Words
-  labels = map (λ a. a.words) every_action
-
-  as_many : length bodies ≡ length every_action
-  as_many = length-map every_action (λ a. a.body)
-
-  pub few_here : length every_action ≤ 65_535 → length l.actions.items ≤ 65_535
-  few_here h = few_of limits scale d p bodies labels (mentioned d p) none new later l empty lowered names atoms fluents most (let e = as_many in omega arith)
-
-  pub few_atoms : length later.atoms ≤ later.most → length (firsts (mentioned d p).atoms) ≤ limits.atoms
-  few_atoms h = atoms_of limits scale d p bodies labels (mentioned d p) none new later l empty lowered names atoms fluents most h
-
-  pub few_fluents : length later.fluents ≤ later.most → length (firsts (mentioned d p).fluents) ≤ limits.atoms
-  few_fluents h = fluents_of limits scale d p bodies labels (mentioned d p) none new later l empty lowered names atoms fluents most h
-
-  pub fits_here : list_all (body_fits (length later.atoms) (length later.fluents)) l.actions.items ≡ true
-  fits_here = fits_of limits scale d p bodies labels (mentioned d p) none new later l empty lowered names atoms fluents most (all_written (universe_of d p) d.actions)
-
-  pub named_here : length later.actions ≡ length l.actions.items
-  named_here = named_of limits scale d p bodies labels (mentioned d p) none new later l empty lowered names atoms fluents most (length-map every_action (λ a. a.words) ∙ sym as_many)
-
-  pub is_task : (t : Task) → IsMade limits scale later l t → IsTask limits scale d p t
-  is_task t made = record {
-    same_limits = made.same_limits;
-    same_scale = made.same_scale;
-    atoms = same_atoms limits scale d p bodies labels (mentioned d p) none new later l empty lowered names atoms fluents most t made;
-    fluents = same_fluents limits scale d p bodies labels (mentioned d p) none new later l empty lowered names atoms fluents most t made;
-    names = same_names limits scale d p bodies labels (mentioned d p) none new later l empty lowered names atoms fluents most t made;
-    bodies = same_bodies limits scale d p bodies labels (mentioned d p) none new later l empty lowered names atoms fluents most t made;
-    goal = same_goal limits scale d p bodies labels (mentioned d p) none new later l empty lowered names atoms fluents most t made;
-    initial_atoms = same_truths limits scale d p bodies labels (mentioned d p) none new later l empty lowered names atoms fluents most t made;
-    initial_numbers = same_values limits scale d p bodies labels (mentioned d p) none new later l empty lowered names atoms fluents most t made;
-  }
-
 -- of some ground actions
-module _ (limits : RunLimits) (scale : Scale) (d : Domain) (p : Problem) (is : List Instance) (none new : WriterView) (later : Tables) (l : LoweredTask)
-    (empty : none.tables ≡ record { atoms = []; fluents = []; actions = []; most = limits.atoms })
+module _ (limits : RunLimits) (scale : Scale) (d : Domain) (p : Problem) (is : List Instance) (none new : Tables) (later : Tables) (l : LoweredTask)
+    (empty : none ≡ record { atoms = []; fluents = []; actions = []; most = limits.atoms })
     (lowered : IsLowered named_task none new l (written_with (universe_of d p) p.initial p.goal is) (mentioned_of d p is))
-    (names : later.actions ≡ new.tables.actions ++ map (λ i. (action_of (universe_of d p) i).words) is)
-    (atoms : later.atoms ≡ new.tables.atoms) (fluents : later.fluents ≡ new.tables.fluents) (most : later.most ≡ new.tables.most) where
+    (names : later.actions ≡ new.actions ++ map (λ i. (action_of (universe_of d p) i).words) is)
+    (atoms : later.atoms ≡ new.atoms) (fluents : later.fluents ≡ new.fluents) (most : later.most ≡ new.most) where
   abbrev some_bodies : List GroundBody
   some_bodies = map (λ i. (action_of (universe_of d p) i).body) is
 

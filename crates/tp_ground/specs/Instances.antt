@@ -1,7 +1,6 @@
 -- Actions with the objects that their parameters stand for, and what is written out of some of them.
-use Rattle.std.specs.Prelude.{◌≡◌, ℕ, ◌<◌, Bool, true, false, List, [], map, length, filter, slice_index_or}
+use Rattle.std.specs.Prelude.{◌≡◌, ℕ, ◌<◌, Bool, true, false, List, [], map, length, slice_index_or}
 use Rattle.std.specs.List.{flat_map, list_any}
-use Rattle.tp_ast.specs.Actions.{Action}
 use Rattle.tp_ast.specs.Conditions.{Condition}
 use Rattle.tp_ast.specs.Problems.{Initial}
 use Rattle.tp_task.specs.Reach.{met}
@@ -11,22 +10,17 @@ use Rattle.tp_reach.specs.Rounds.{set_of, acts_in, acts_of_bodies}
 use Rattle.tp_reach.specs.Adding.{Adds, IsSettled}
 use Rattle.tp_bindings.specs.Bindings.{Universe}
 use Rattle.tp_lower.specs.Written.{condition_in}
-use Rattle.tp_ground.specs.Schemas.{schema_view, is_hinted}
+use Rattle.tp_ast.specs.DomainViews.{action_view}
 use Rattle.tp_lower.specs.Mentions.{Mentions, ◌then◌, of_condition, of_each}
 use Rattle.tp_ground_parts.specs.Initially.{GroundInitial, initial_in, of_initial, true_at}
 use Rattle.tp_ground.specs.WrittenTasks.{WrittenTask}
-use Rattle.tp_ground.specs.Reached.{Instance, instances, action_of, of_instance, happenings_of, is_kept, IsReach}
+use Rattle.tp_ground.specs.Reached.{Instance, action_of, of_instance, happenings_of, is_kept, IsReach}
 use Rattle.tp_ground.specs.declared.instances.Instance as code
-use Rattle.tp_bindings.specs.declared.objects.Universe as objects
-use Rattle.tp_ground.specs.declared.grounder.LoweredTask.{LoweredTask}
+use Rattle.tp_ground.specs.declared.tasks.LoweredTask.{LoweredTask}
 
 abbrev pub instance_view : code.Instance → Instance
 instance_view i =
-    record { action = schema_view i.schema.now; objects = map (λ o. o.now) i.objects.value.items }
-
--- what is known of the quantifiers of its action fits
-abbrev pub has_hints : objects.Universe → code.Instance → Bool
-has_hints u i = is_hinted u i.schema.now
+    record { action = action_view i.action.now; objects = map (λ o. o.now) i.objects.items }
 
 -- the entries of ':init', the goal, and the bodies of these
 abbrev pub written_with : Universe → List Initial → Condition → List Instance → WrittenTask
@@ -69,11 +63,3 @@ pub record AreFlags (u : Universe) (initial : List GroundInitial) (is : List Ins
   pub is_reach :
       IsReach initial (flat_map (λ i. happenings_of (action_of u i).body) is) reach
   pub are : flags ≡ map (λ i. is_kept reach (action_of u i).body) is
-
--- These are the instances of some actions, in order, that have an event whose condition is met in their relaxed reach.
-pub record AreKeptOf (u : Universe) (initial : List GroundInitial) (all : List Action)
-    (kept : List Instance) : Type 0 where
-  pub reach : Words → Bool
-  pub is_reach :
-      IsReach initial (flat_map (λ i. happenings_of (action_of u i).body) (instances u all)) reach
-  pub are : kept ≡ filter (λ i. is_kept reach (action_of u i).body) (instances u all)

@@ -1,5 +1,4 @@
 pub mod Reached
-pub mod Schemas
 pub mod Instances
 pub mod WrittenTasks
 pub mod OwnNames

@@ -7,7 +7,6 @@ use Rattle.tp_ast.specs.Actions as actions
 use Rattle.tp_ast.specs.DomainViews.{action_view}
 use Rattle.tp_ast.specs.declared.symbols.Typed.{Typed}
 use Rattle.tp_ast.specs.declared.action.Action.{Action}
-use Rattle.tp_lower.specs.WriterViews.{WriterView}
 use Rattle.tp_bindings.specs.Views.{env_view}
 use Rattle.tp_bindings.specs.Bindings.{Universe, Env, bindings, bound}
 use Rattle.tp_lower.specs.Written.{GroundBody, body_in}
@@ -35,7 +34,7 @@ module _ {X : Type 0} (of : X → Mentions) (xs : List X) (i : ℕ) (x : X) (lt 
       ∙ sym (then_assoc (of_each of (take i xs)) (of x) (of_each of (drop (i + 1) xs)))
 
 -- a fault at one that comes after others, in all
-pub each_stopped : {X : Type 0} (of : X → Mentions) (xs : List X) (i : ℕ) (x : X) → i < length xs → x ≡ get_or xs i x → (a b : WriterView) (e : GroundFault) (all m : Mentions) → all ≡ of_each of xs → m ≡ of x → Notes a b (of_each of (take i xs)) → Overflows b m e → Overflows a all e
+pub each_stopped : {X : Type 0} (of : X → Mentions) (xs : List X) (i : ℕ) (x : X) → i < length xs → x ≡ get_or xs i x → (a b : Tables) (e : GroundFault) (all m : Mentions) → all ≡ of_each of xs → m ≡ of x → Notes a b (of_each of (take i xs)) → Overflows b m e → Overflows a all e
 each_stopped of xs i x lt item a b e all m is p notes h =
     subst (λ n. Overflows a n e) (sym (is ∙ each_whole of xs i x lt item))
     (overflows_then a b (of_each of (take i xs)) (of x then of_each of (drop (i + 1) xs)) e notes
@@ -52,30 +51,3 @@ plain_env vars names outer b none is =
     ∙ ap (λ (o : code.Env). bound (map typed_view vars.now) b ++ env_view o) none
     ∙ ap (λ (e : Env). bound (map typed_view vars.now) b ++ e) empty_env
     ∙ append-nil (bound (map typed_view vars.now) b)
-
-module _ (u : Universe) (vs : List Declared) (x : actions.Body) where
-  abbrev pub body_under : List Name → GroundBody
-  body_under b = body_in u (bound vs b) x
-
-  abbrev pub mentions_under : List Name → Mentions
-  mentions_under b = of_body u (bound vs b) x
-
--- the bodies of an action
-abbrev pub bodies_of : Universe → Action → List GroundBody
-bodies_of u a = map (λ objects. body_in u (bound (action_view a).parameters objects) (action_view a).body) (bindings u (action_view a).parameters)
-
-module _ (u : Universe) where
-  bodies_one : (a : actions.Action) (bs : List (List Name)) → map (λ objects. body_in u (bound a.parameters objects) a.body) bs ≡ map (λ g. g.body) (map (ground_action u a) bs)
-  bodies_one a [] = refl
-  bodies_one a (b ∷ bs) = ap (λ ys. body_in u (bound a.parameters b) a.body ∷ ys) (bodies_one a bs)
-
-  pub bodies_all : (xs : List Action) → flat_map (bodies_of u) xs ≡ map (λ g. g.body) (ground_actions u (map action_view xs))
-  bodies_all [] = refl
-  bodies_all (x ∷ xs) =
-      ap (λ ys. ys ++ flat_map (bodies_of u) xs) (bodies_one (action_view x) (bindings u (action_view x).parameters))
-      ∙ ap (λ ys. map (λ g. g.body) (map (ground_action u (action_view x)) (bindings u (action_view x).parameters)) ++ ys) (bodies_all xs)
-      ∙ sym (map-append (λ g. g.body) (map (ground_action u (action_view x)) (bindings u (action_view x).parameters)) (ground_actions u (map action_view xs)))
-
-  pub mentions_all : (xs : List Action) → of_each (λ x. of_action u (action_view x)) xs ≡ of_each (of_action u) (map action_view xs)
-  mentions_all [] = refl
-  mentions_all (x ∷ xs) = ap (λ m. of_action u (action_view x) then m) (mentions_all xs)

@@ -1,11 +1,11 @@
 -- Entries of ':init' that cannot be numbered.
+use Rattle.tp_task.specs.Tables.{Tables}
 use Rattle.std.proofs.Common.{◌≡◌, ℤ, sym, subst}
 use Rattle.tp_ast.specs.Terms.{atom_view}
 use Rattle.tp_ast.specs.DomainViews.{initial_view}
 use Rattle.tp_ast.specs.declared.term.Atom.{Atom}
 use Rattle.tp_ast.specs.declared.problem.Initial.{Initial}
 use Rattle.tp_ast.specs.declared.problem.Initial.TheVariants.{Holds, Fails, HasValue}
-use Rattle.tp_lower.specs.WriterViews.{WriterView}
 use Rattle.tp_bindings.specs.Bindings.{Env, words_in}
 use Rattle.tp_bindings.specs.Views.{env_view}
 use Rattle.tp_lower.specs.Mentions.{an_atom, a_fluent}
@@ -15,7 +15,7 @@ use Rattle.tp_bindings.specs.declared.environment.Env.{Empty}
 use Rattle.tp_bindings.proofs.OnEnvironments.{empty_env}
 use Rattle.tp_task.specs.declared.fault.GroundFault.{GroundFault}
 
-module _ (a : WriterView) (i : Initial) (f : Atom) where
+module _ (a : Tables) (i : Initial) (f : Atom) where
   pub holds_stopped : (e : GroundFault) → i ≡ Holds f → Overflows a (an_atom (words_in (env_view Empty) (atom_view f))) e → Overflows a (of_initial (initial_in (initial_view i))) e
   holds_stopped e is h = subst (λ j. Overflows a (of_initial (initial_in (initial_view j))) e) (sym is) (subst (λ (env : Env). Overflows a (an_atom (words_in env (atom_view f))) e) empty_env h)
 

@@ -1,4 +1,3 @@
 pub mod Great
 pub mod Initially
 pub mod Grounding
-pub mod Taken

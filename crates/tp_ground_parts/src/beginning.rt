@@ -9,8 +9,8 @@ ghost use Rattle.tp_lower.specs.Lowered.{Lowers};
 use std::alloc::{AllocError, Global};
 use tp_ast::problem::Initial;
 use tp_bindings::environment::Env;
-use tp_lower::{Writer, atom, fluent};
-use tp_task::GroundFault;
+use tp_lower::{atom, fluent};
+use tp_task::{GroundFault, Numbering};
 
 /// What one entry of `:init` says, by number.
 #[derive(Clone, Copy)]
@@ -23,23 +23,23 @@ pub enum NumberedInitial {
 // One entry by number.
 fn entry<'a>(
     alloc: Global,
-    writer: &mut Writer<'a>,
+    numbering: &mut Numbering,
     said: &'a Initial,
 ) -> Result<NumberedInitial, GroundFault>
-    ensures { Lowers named_initial writer.old result writer.new
+    ensures { Lowers named_initial numbering.old result numbering.new
         (initial_in (initial_view said.now)) (of_initial (initial_in (initial_view said.now))) }
 {
     match said {
         Initial::Holds(fact) => {
-            let number = atom(alloc, &Env::Empty, writer, fact)?;
+            let number = atom(alloc, &Env::Empty, numbering, fact)?;
             Ok(NumberedInitial::Holds(number))
         }
         Initial::Fails(fact) => {
-            let number = atom(alloc, &Env::Empty, writer, fact)?;
+            let number = atom(alloc, &Env::Empty, numbering, fact)?;
             Ok(NumberedInitial::Fails(number))
         }
         Initial::HasValue(fact, value) => {
-            let number = fluent(alloc, &Env::Empty, writer, fact)?;
+            let number = fluent(alloc, &Env::Empty, numbering, fact)?;
             Ok(NumberedInitial::HasValue(number, *value))
         }
     }
@@ -48,16 +48,16 @@ fn entry<'a>(
 /// All entries by number.
 pub fn entries<'a>(
     alloc: Global,
-    writer: &mut Writer<'a>,
+    numbering: &mut Numbering,
     said: &'a [Initial],
 ) -> Result<Vec<NumberedInitial>, GroundFault>
-    ensures { Lowers (λ t v. map (named_initial t) v.items) writer.old result writer.new
+    ensures { Lowers (λ t v. map (named_initial t) v.items) numbering.old result numbering.new
         (map (λ i. initial_in (initial_view i)) said.now)
         (of_each of_initial (map (λ i. initial_in (initial_view i)) said.now)) }
 {
     let mut lowered = Vec::new(alloc);
     for one in said {
-        lowered.push(entry(alloc, writer, one)?)?;
+        lowered.push(entry(alloc, numbering, one)?)?;
     }
     Ok(lowered)
 }

@@ -2,11 +2,9 @@
 //!
 //! - `numbers`: whether a number of a domain or a problem passes the limit
 //! - `beginning`: the initial state
-//! - `taking`: what keeps bodies, or forgets them
-//! - `grounding`: all ground actions
+//! - `grounding`: whether ground actions are few enough, and the body of one
 #![tactic(auto)]
 
 pub mod beginning;
 pub mod grounding;
 pub mod numbers;
-pub mod taking;

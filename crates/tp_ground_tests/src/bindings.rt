@@ -132,7 +132,7 @@ fn has_last(
 
 #[test]
 fn many_parameters_take_no_deep_stack(rt: HostRuntime) -> Result<(), Fail> {
-    assert!(rt; is_wide(rt.alloc(), 100_000, 100_000)?);
+    assert!(rt; is_wide(rt.alloc(), 20_000, 20_000)?);
     Ok(())
 }
 
@@ -151,6 +151,6 @@ fn is_deep(alloc: Global, count: usize) -> Result<bool, Fail> {
 
 #[test]
 fn many_bound_variables_take_no_deep_stack(rt: HostRuntime) -> Result<(), Fail> {
-    assert!(rt; is_deep(rt.alloc(), 100_000)?);
+    assert!(rt; is_deep(rt.alloc(), 20_000)?);
     Ok(())
 }

@@ -1,6 +1,7 @@
 pub mod Rows
 pub mod Meets
-pub mod Pairs
+pub mod FirstPair
+pub mod OnSides
 pub mod NoFault
 pub mod Times
 pub mod Limits
@@ -8,11 +9,5 @@ pub mod Answered
 pub mod Lent
 pub mod OnClashes
 pub mod Compared
-pub mod Positions
-pub mod Members
-pub mod Listed
-pub mod Walked
-pub mod FirstPairs
-pub mod Within
-pub mod Caught
+pub mod Mentioned
 pub use Rattle.tp_plan_texts.proofs.OnTaskPlans

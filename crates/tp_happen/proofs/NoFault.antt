@@ -1,5 +1,5 @@
 -- Where no fault is found, the events can happen.
-use Rattle.std.proofs.Common.{◌≡◌, ℕ, ◌+◌, ◌<◌, Bool, true, false, not, nat_lt, length, get_or, List, [], ◌∷◌, Option, Some, None, refl, sym, ap, ◌∙◌, ⊎_elim, All}
+use Rattle.std.proofs.Common.{◌≡◌, ℕ, ◌+◌, ◌<◌, Bool, true, false, not, nat_lt, length, get_or, List, [], ◌∷◌, Option, Some, None, refl, sym, ◌∙◌, ⊎_elim, All}
 use Rattle.std.specs.List.{position_from, AllByRecursion, list_all}
 use Rattle.std.proofs.lemmas.Bool.{cases_Bool, cond-true, cond-false, and_from, and_parts, not_from_false, not-false, ltb-true}
 use Rattle.std.proofs.lemmas.List.Sums.{AllPass-from_list_all}
@@ -17,13 +17,6 @@ none_passes p i (x ∷ xs) h = ⊎_elim (λ e. absurd (let z = h ∙ cond-true (
 pub each_passes : {X : Type 0} (p : X → Bool) (xs : List X) → AllByRecursion (λ x. not (p x) ≡ false) xs → AllByRecursion (λ x. p x ≡ true) xs
 each_passes p [] h = tt
 each_passes p (x ∷ xs) h = (not-false (p x) h.0, each_passes p xs h.1)
-
--- nothing is found where all pass
-pub all_pass : {X : Type 0} (p : X → Bool) (i : ℕ) (xs : List X) → list_all p xs ≡ true → None ≡ position_from (λ x. not (p x)) i xs
-all_pass p i [] h = refl
-all_pass p i (x ∷ xs) h =
-    let q = and_parts (p x) (list_all p xs) h in
-    all_pass p (i + 1) xs q.1 ∙ sym (cond-false (not (p x)) (Some i) (position_from (λ x. not (p x)) (i + 1) xs) (ap not q.0))
 
 all_apart : (t : EventOfStep) (ts : List EventOfStep) → AllByRecursion (λ (u : EventOfStep). interferes t.event u.event ≡ false) ts → list_all (λ (u : EventOfStep). not (interferes t.event u.event)) ts ≡ true
 all_apart t [] h = refl

@@ -1,5 +1,5 @@
 -- Writes that mix, found by a table of the writes so far.
-use Rattle.std.proofs.Common.{◌≡◌, ℕ, Bool, true, false, cond, not, ◌&&◌, ◌||◌, ◌==◌, List, [], ◌∷◌, Option, Some, None, ◌+◌, ◌<◌, length, drop, get_or, set, refl, sym, ap, ap₂, ◌∙◌}
+use Rattle.std.proofs.Common.{◌≡◌, ℕ, Bool, true, false, cond, not, ◌&&◌, ◌||◌, ◌==◌, List, [], ◌∷◌, Option, Some, None, ◌+◌, ◌<◌, length, drop, get_or, set, arith, refl, sym, ap, ap₂, ◌∙◌}
 use Rattle.std.specs.List.{list_any}
 use Rattle.std.proofs.lemmas.Bool.{eqb-true, eqb-false, false≢true}
 use Rattle.std.proofs.lemmas.List.{drop_more, get_or-set_same, get_or-set_other}
@@ -78,3 +78,9 @@ go_on effects i w table a all lt is known additive h before =
     ∙ ap (λ v. some_clashes (λ f. get_or table f None) (v ∷ drop (i + 1) effects) || mixes_in (v ∷ drop (i + 1) effects)) is
     ∙ ap (λ ws. some_clashes (λ f. get_or table f None) ws || mixes_in ws) (sym (drop_more effects i w lt))
     ∙ before
+
+-- fewer than two writes do not mix
+pub few : (ws : List NumericEffect) → length ws < 2 → mixes_in ws ≡ false
+few [] h = refl
+few (w ∷ []) h = refl
+few (w ∷ v ∷ ws) h = absurd (let no : ⊥ = omega (arith, h) in no)

@@ -37,39 +37,14 @@ fn mixes(effects: &[NumericEffect], table: &mut [Option<bool>]) -> bool
     false
 }
 
-// Whether a write mixes with others.
-fn mixes_with(write: &NumericEffect, others: &[NumericEffect]) -> bool
-    ensures { result ≡ event_spec.mixes_with write.now others.now }
-{
-    let additive = is_additive(write.change);
-    for other in others {
-        if other.fluent == write.fluent && !(is_additive(other.change) && additive) {
-            return true;
-        }
-    }
-    false
-}
-
-// Whether writes mix, each compared with those behind it.
-fn mixes_in_pairs(effects: &[NumericEffect]) -> bool
-    ensures { result ≡ event_spec.mixes_in effects.now }
-{
-    for (i, effect) in effects.iter().enumerate() {
-        if mixes_with(effect, &effects[i + 1..]) {
-            return true;
-        }
-    }
-    false
-}
-
-/// Whether writes mix: in pairs where a table of so many fluents would take longer.
+/// Whether writes mix, by a table of so many fluents.
+#[tactic(auto, using(crate::proofs::OnClashes::few))]
 fn do_mix(alloc: Global, effects: &[NumericEffect], fluents: usize) -> Result<bool, AllocError>
     requires { All (λ w. w.fluent < fluents) effects.now }
     ensures { IfOk result (λ r. r ≡ event_spec.mixes_in effects.now) }
 {
-    let count = effects.len();
-    if count.saturating_mul(count) <= fluents {
-        return Ok(mixes_in_pairs(effects));
+    if effects.len() < 2 {
+        return Ok(false);
     }
     let mut table = vec![in alloc; None; fluents]?;
     Ok(mixes(effects, table.as_mut_slice()))

@@ -1,9 +1,7 @@
 //! Events as a task lends them.
 
-ghost use Rattle.std.specs.Prelude.{◌≡◌, IfSome};
-ghost use Rattle.tp_happen.specs.Mentioned.{MentionsFit};
+ghost use Rattle.std.specs.Prelude.{◌≡◌};
 
-use crate::Mentioned;
 use std::marker::Model;
 use tp_task::GroundEvent;
 
@@ -47,8 +45,6 @@ impl<'t> Event<'t> {
 pub struct EventRef<'t> {
     body: &'t GroundEvent,
     ticks: u32,
-    // What its condition mentions, if that is listed.
-    asked: Option<&'t Mentioned>,
 }
 
 impl<'t> Model for EventRef<'t> {
@@ -61,11 +57,6 @@ impl<'t> Model for EventRef<'t> {
     ghost coded = { Prim.hlevel (codes, ground_event.the_row.coded) };
 
     ghost view = { λ r. record { event = r.body.now; ticks = r.ticks } };
-
-    ghost use Rattle.std.specs.Prelude.{IfSome};
-    ghost use Rattle.tp_happen.specs.Mentioned.{MentionsFit};
-
-    ghost invariant = { λ r. IfSome r.asked (λ m. MentionsFit r.body.now.condition m.now) };
 }
 
 impl<'t> EventRef<'t> {
@@ -74,20 +65,9 @@ impl<'t> EventRef<'t> {
         ensures event { result.event ≡ event.entry }
         ensures ticks { result.ticks ≡ ticks }
     {
-        EventRef::asking(event, ticks, None)
-    }
-
-    /// The same, with a list of what the event's condition mentions, if there is one: where the first two events that
-    /// interfere are found by tables, the list is gone through in the condition's place.
-    pub fn asking(event: Event<'t>, ticks: u32, asked: Option<&'t Mentioned>) -> Self
-        requires { IfSome asked (λ m. MentionsFit event.condition m.now) }
-        ensures event { result.event ≡ event.entry }
-        ensures ticks { result.ticks ≡ ticks }
-    {
         EventRef {
             body: event.body,
             ticks,
-            asked,
         }
     }
 
@@ -109,12 +89,5 @@ impl<'t> EventRef<'t> {
         ensures { result.now ≡ self.now.event }
     {
         self.body
-    }
-
-    // What its condition mentions, if that is listed.
-    pub(crate) fn asked(&self) -> Option<&'t Mentioned>
-        ensures { IfSome result (λ m. MentionsFit self.now.event.condition m.now) }
-    {
-        self.asked
     }
 }

@@ -1,19 +1,15 @@
 //! The first fault of a happening.
 
-ghost use Rattle.std.specs.Prelude.{◌≡◌, ◌+◌, ◌≤◌, true, false, not, ◌&&◌, ◌||◌, length, drop, IfOk, OnOk, OnErr, IfNone, is_some, None};
+ghost use Rattle.std.specs.Prelude.{◌≡◌, true, false, not, ◌&&◌, ◌||◌, IfOk, OnOk, OnErr, IfNone, is_some, None};
 ghost use Rattle.std.specs.List.{list_all, position_from};
 ghost use Rattle.tp_task.specs.State as spec;
-ghost use Rattle.tp_task.specs.Event as event_spec;
 ghost use Rattle.tp_task.specs.Happens as happens;
 ghost use Rattle.tp_happen.specs.Stored.{state_of};
 ghost use Rattle.tp_happen.specs.Small.{values_small};
 ghost use Rattle.tp_happen.specs.Terms.{terms_small, condition_small};
-ghost use Rattle.tp_happen.specs.Fault.{first_pair};
-ghost use Rattle.tp_happen.specs.Met.{AreMet};
 
-use crate::interfere::interfere;
 use crate::{EventRef, Range, State, holds, value};
-use tp_task::{Change, FluentId, GroundEvent, Limit, NumericEffect};
+use tp_task::{Change, FluentId, Limit, NumericEffect};
 
 /// Why an event can't happen.
 #[derive(Clone, Copy, Debug, PartialEq, Eq)]
@@ -128,13 +124,8 @@ pub(crate) fn first_undefined(
     Ok(None)
 }
 
-/// The first event whose condition does not hold, where it may have been seen before that there is none.
-pub(crate) fn first_unmet(
-    state: &State,
-    events: &[EventRef<'_>],
-    are_met: bool,
-) -> Result<Option<usize>, Range>
-    requires { are_met ≡ true → AreMet (state_of state.now) events.now }
+/// The first event whose condition does not hold.
+pub(crate) fn first_unmet(state: &State, events: &[EventRef<'_>]) -> Result<Option<usize>, Range>
     ensures ok { IfOk result (λ r. r ≡ position_from
         (λ t. not (spec.holds (state_of state.now) t.event.condition)) 0 events.now) }
     ensures small { IfOk result
@@ -142,38 +133,10 @@ pub(crate) fn first_unmet(
     ensures err { OnErr result
         (list_all (condition_small (state_of state.now)) events.now ≡ false) }
 {
-    if are_met {
-        return Ok(None);
-    }
     for (i, event) in events.iter().enumerate() {
         if !holds(state, &event.body().condition)? {
             return Ok(Some(i));
         }
     }
     Ok(None)
-}
-
-fn first_disturbed(event: &GroundEvent, events: &[EventRef<'_>], from: usize) -> Option<usize>
-    requires { from ≤ length events.now }
-    ensures { result
-        ≡ position_from (λ u. event_spec.interferes event.now u.event) from (drop from events.now) }
-{
-    for j in from..events.len() {
-        if interfere(event, events[j].body()) {
-            return Some(j);
-        }
-    }
-    None
-}
-
-/// The first two events that interfere, by comparing all pairs.
-pub(crate) fn first_of_pairs(events: &[EventRef<'_>]) -> Option<(usize, usize)>
-    ensures { result ≡ first_pair 0 events.now }
-{
-    for (i, event) in events.iter().enumerate() {
-        if let Some(j) = first_disturbed(event.body(), events, i + 1) {
-            return Some((i, j));
-        }
-    }
-    None
 }

@@ -5,7 +5,6 @@ ghost use Rattle.std.specs.List.{flat_map, filter};
 ghost use Rattle.tp_task.specs.State.{atoms_in, fluents_in, fluents_of};
 ghost use Rattle.tp_task.specs.Event as spec;
 ghost use Rattle.tp_task.specs.Event.{fluents_read};
-ghost use Rattle.tp_happen.specs.Meetings.{fluents_worked_out};
 
 use crate::interfere::is_additive;
 use std::alloc::{AllocError, Global};
@@ -13,7 +12,7 @@ use tp_task::{Cond, Expr, GroundEvent, Limit, NumericEffect};
 
 /// Appends the atoms that a condition mentions.
 #[cycle(push_atoms)]
-#[tactic(auto, using(crate::proofs::Listed::atoms_And, crate::proofs::Listed::atoms_Or))]
+#[tactic(auto, using(crate::proofs::Mentioned::atoms_And, crate::proofs::Mentioned::atoms_Or))]
 pub(crate) fn push_atoms(cond: &Cond, into: &mut Vec<u32>) -> Result<(), AllocError>
     ensures { OnOk result (into.new.items ≡ into.old.items ++ atoms_in cond.now) }
 {
@@ -64,7 +63,7 @@ fn push_fluents(expr: &Expr, into: &mut Vec<u32>) -> Result<(), AllocError>
 
 /// Appends the fluents that a condition mentions.
 #[cycle(push_fluents_in)]
-#[tactic(auto, using(crate::proofs::Listed::fluents_And, crate::proofs::Listed::fluents_Or))]
+#[tactic(auto, using(crate::proofs::Mentioned::fluents_And, crate::proofs::Mentioned::fluents_Or))]
 fn push_fluents_in(cond: &Cond, into: &mut Vec<u32>) -> Result<(), AllocError>
     ensures { OnOk result (into.new.items ≡ into.old.items ++ fluents_in cond.now) }
 {
@@ -132,20 +131,13 @@ fn push_limits(constraint: &[Limit], into: &mut Vec<u32>) -> Result<(), AllocErr
     Ok(())
 }
 
-/// Appends the fluents that an event reads in its right sides or duration constraint.
-pub(crate) fn push_worked_out(event: &GroundEvent, into: &mut Vec<u32>) -> Result<(), AllocError>
-    ensures { OnOk result (into.new.items ≡ into.old.items ++ fluents_worked_out event.now) }
-{
-    push_values(&event.writes, into)?;
-    push_limits(&event.constraint, into)
-}
-
 /// Appends the fluents that an event reads in its condition, right sides or duration constraint.
 pub(crate) fn push_read(event: &GroundEvent, into: &mut Vec<u32>) -> Result<(), AllocError>
     ensures { OnOk result (into.new.items ≡ into.old.items ++ fluents_read event.now) }
 {
     push_fluents_in(&event.condition, into)?;
-    push_worked_out(event, into)
+    push_values(&event.writes, into)?;
+    push_limits(&event.constraint, into)
 }
 
 /// Appends the fluents that effects write.

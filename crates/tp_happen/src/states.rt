@@ -1,6 +1,6 @@
 //! States of a task.
 
-ghost use Rattle.std.specs.Prelude.{◌≡◌, ◌↔◌, IfOk, IsTrue};
+ghost use Rattle.std.specs.Prelude.{◌≡◌, IfOk};
 ghost use Rattle.tp_text.specs.Scales.{scale_ticks};
 ghost use Rattle.tp_task.specs.State.{units};
 ghost use Rattle.tp_happen.specs.Stored.{state_of, first_of};
@@ -66,29 +66,6 @@ impl State {
         }
     }
 
-    /// A state of its own with the same scale, atoms and numbers. Takes the time and memory of the state.
-    pub fn again(&self, alloc: Global) -> Result<Self, AllocError>
-        ensures { IfOk result (λ s. s ≡ self.now) }
-    {
-        let atoms = copied(alloc, &self.atoms)?;
-        let numbers = copied(alloc, &self.numbers)?;
-        Ok(State {
-            scale: self.scale,
-            atoms,
-            numbers,
-        })
-    }
-
-    /// Whether two states have the same scale, atoms and numbers. Takes the time of the shorter state at most, and no
-    /// memory.
-    pub fn same(&self, other: &State) -> bool
-        ensures { IsTrue result ↔ self.now ≡ other.now }
-    {
-        self.scale.ticks() == other.scale.ticks()
-            && same_truths(&self.atoms, &other.atoms)
-            && same_numbers(&self.numbers, &other.numbers)
-    }
-
     /// Ticks as a duration in units of time, None where they are no whole number of units.
     #[tactic(auto, using(crate::proofs::Times::scale_positive))]
     pub fn duration(&self, ticks: u32) -> Option<i64>
@@ -110,16 +87,4 @@ pub(crate) fn copied<T: Copy>(alloc: Global, xs: &[T]) -> Result<Vec<T>, AllocEr
     let mut copy = Vec::with_capacity(alloc, xs.len())?;
     copy.extend_from_slice(xs)?;
     Ok(copy)
-}
-
-fn same_truths(a: &[bool], b: &[bool]) -> bool
-    ensures { IsTrue result ↔ a.now ≡ b.now }
-{
-    a == b
-}
-
-fn same_numbers(a: &[Option<i64>], b: &[Option<i64>]) -> bool
-    ensures { IsTrue result ↔ a.now ≡ b.now }
-{
-    a == b
 }

@@ -1,4 +1,4 @@
-//! The effects of events, written one after another over a state that is the same as the one before them.
+//! The effects of events, written into a copy of the state one after another.
 
 ghost use Rattle.std.specs.Prelude.{◌≡◌, ℕ, ◌<◌, ◌&&◌, ◌⊎◌, if◌then◌else◌, length, true, false, None, slice_index_or, IfOk, OnOk, OnErr};
 ghost use Rattle.std.specs.List.{All, list_all};

@@ -1,7 +1,7 @@
 //! Fluents of a tank and of a counter: what writes do to them, one by one and at once.
 
 use crate::rows::Named::Only;
-use crate::rows::{Named, Row, Then, are_rows, copies_are_the_same};
+use crate::rows::{Named, Row, Then, are_rows};
 use std::test::Fail;
 use tp_happen::Why;
 use tp_small_tasks::{TANKS, World};
@@ -150,7 +150,7 @@ fn the_first_fault_is_told(rt: HostRuntime) -> Result<(), Fail> {
     are_rows(&rt, rt.alloc(), COUNTERS, &FAULTS)
 }
 
-// With as many fluents an event's writes are compared in pairs.
+// One fluent that is written, beside others.
 const WIDE: World<'static> = World {
     domain: "(define (domain wide)
  (:functions (a) (b) (c) (d))
@@ -191,16 +191,6 @@ fn an_atom_deleted_and_added_at_once_is_true(rt: HostRuntime) -> Result<(), Fail
         ..COUNTERS
     };
     are_rows(&rt, rt.alloc(), world, &SHINES)
-}
-
-#[test]
-fn a_state_is_the_same_as_its_copy(rt: HostRuntime) -> Result<(), Fail> {
-    copies_are_the_same(&rt, rt.alloc(), COUNTERS, &[&[Only("grow")]])
-}
-
-#[test]
-fn states_may_differ_in_an_atom_alone(rt: HostRuntime) -> Result<(), Fail> {
-    copies_are_the_same(&rt, rt.alloc(), COUNTERS, &[&[Only("light")]])
 }
 
 const GROW: Named<'static> = Only("grow");

@@ -113,38 +113,6 @@ fn state_after(alloc: Global, task: &Task, happenings: &[&[Named<'_>]]) -> Resul
     Ok(state)
 }
 
-/// Whether a copy of the initial state is the same as it, and whether the state after some happenings is.
-fn are_same(alloc: Global, task: &Task, happenings: &[&[Named<'_>]]) -> Result<(bool, bool), Fail> {
-    let begin = State::initial(alloc, task)?;
-    let copy = begin.again(alloc)?;
-    let next = state_after(alloc, task, happenings)?;
-    Ok((begin.same(&copy), begin.same(&next)))
-}
-
-fn a_copy_is_the_same(
-    rt: &impl Abort,
-    alloc: Global,
-    task: &Task,
-    happenings: &[&[Named<'_>]],
-) -> Result<(), Fail> {
-    let same = are_same(alloc, task, happenings)?;
-    assert!(rt; same == (true, false));
-    Ok(())
-}
-
-/// A copy of the initial state of a world is the same as it, and the state after some happenings is another.
-pub(crate) fn copies_are_the_same(
-    rt: &impl Abort,
-    alloc: Global,
-    world: World<'_>,
-    happenings: &[&[Named<'_>]],
-) -> Result<(), Fail>
-    requires { world.horizon ≤ 1000000000 }
-{
-    let task = task_of(alloc, world)?;
-    a_copy_is_the_same(rt, alloc, &task, happenings)
-}
-
 fn put_atom(alloc: Global, task: &Task, atom: AtomId, text: &mut String) -> Result<(), Fail> {
     let one = task.atom_text(atom)?;
     text.push_str(one.as_str())?;

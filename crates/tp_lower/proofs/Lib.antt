@@ -6,5 +6,4 @@ pub use Rattle.tp_lower_conditions.proofs.OnLowered
 pub use Rattle.tp_lower_conditions.proofs.OnExpressions
 pub use Rattle.tp_lower_conditions.proofs.OnConditions
 pub use Rattle.tp_lower_conditions.proofs.OnInner
-pub use Rattle.tp_lower_conditions.proofs.OnKept
 pub use Rattle.tp_lower_conditions.proofs.Stopped

@@ -3,7 +3,6 @@ use Rattle.std.proofs.Common.{◌≡◌, ℕ, List, [], ◌∷◌, ◌++◌, Res
 use Rattle.tp_task.specs.Words.{Words}
 use Rattle.tp_task.specs.Tables.{Tables}
 use Rattle.tp_lower_conditions.specs.Written.{GroundEffect, GroundWrite, adds, deletes, writes, added, deleted, written}
-use Rattle.tp_lower_conditions.specs.WriterViews.{WriterView}
 use Rattle.tp_lower_conditions.specs.Mentions.{Mentions, of_simple_effect, of_each}
 use Rattle.tp_lower.specs.Changes.{shows_atoms, shows_writes, shows_changes}
 use Rattle.tp_lower.specs.Gathered.{IsGathered, Gathers}
@@ -41,7 +40,7 @@ same_writes t v ws all is h = h ∙ sym (is ∙ append-nil ws)
 as_each : (o : GroundEffect) (m : Mentions) → m ≡ of_simple_effect o → m ≡ of_each of_simple_effect (o ∷ [])
 as_each o m is = is ∙ sym (of_each_one of_simple_effect o)
 
-module _ (a b : WriterView) (u v : Changes) where
+module _ (a b : Tables) (u v : Changes) where
   pub one_add : (w : Words) → v.deletes ≡ u.deletes → v.writes ≡ u.writes → (r : Result (Unit {0}) GroundFault) → Gathers shows_atoms a r b u.adds v.adds (w ∷ []) (of_simple_effect (adds w)) → Gathers shows_changes a r b u v (adds w ∷ []) (of_each of_simple_effect (adds w ∷ []))
   one_add w ds ws (Ok x) l = subst (λ m. IsGathered shows_changes a b u v (adds w ∷ []) m) (as_each (adds w) (of_simple_effect (adds w)) refl) (record {
     notes = l.notes;

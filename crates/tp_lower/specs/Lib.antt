@@ -4,5 +4,4 @@ pub mod NumberedEnds
 pub use Rattle.tp_lower_conditions.specs.Written
 pub use Rattle.tp_lower_conditions.specs.Mentions
 pub use Rattle.tp_lower_conditions.specs.ReadBack
-pub use Rattle.tp_lower_conditions.specs.WriterViews
 pub use Rattle.tp_lower_conditions.specs.Lowered

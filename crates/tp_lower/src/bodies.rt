@@ -1,6 +1,6 @@
 //! The bodies of actions.
 
-ghost use Rattle.std.specs.Prelude.{◌≡◌, List, map, true};
+ghost use Rattle.std.specs.Prelude.{◌≡◌, List, map};
 ghost use Rattle.tp_ast.specs.CondViews.{cond_view};
 ghost use Rattle.tp_ast.specs.ConstraintViews.{constraint_view};
 ghost use Rattle.tp_ast.specs.EffectViews.{effect_view, timed_condition_view, timed_effect_view};
@@ -14,7 +14,6 @@ ghost use Rattle.tp_lower_conditions.specs.ReadBack.{named_condition, named_limi
 ghost use Rattle.tp_lower.specs.NumberedEnds.{named_ends};
 ghost use Rattle.tp_lower.specs.Changes.{shows_changes};
 ghost use Rattle.tp_lower_conditions.specs.Lowered.{Lowers};
-ghost use Rattle.tp_bindings.specs.Hints.{fits, if_known, joined_fits, nothing_fits, timed_condition_fits, timed_effect_fits, body_fits};
 
 use crate::changes::Changes;
 use crate::constraints::limits;
@@ -25,12 +24,10 @@ use tp_ast::effect::Effect;
 use tp_ast::timed::{TimedCond, TimedEffect};
 use tp_ast::words::TimeSpecifier;
 use tp_ast::words::TimeSpecifier::{AtEnd, AtStart, OverAll};
-use tp_bindings::environment::{Env, scope_of};
-use tp_bindings::hints::{BodyHint, Hint};
+use tp_bindings::environment::Env;
 use tp_bindings::universe::Universe;
 use tp_lower_conditions::conditions::condition;
-use tp_lower_conditions::writer::Writer;
-use tp_task::{Body, Cond, GroundEvent, GroundFault, Limit};
+use tp_task::{Body, Cond, GroundEvent, GroundFault, Limit, Numbering};
 
 // The event of these changes.
 fn event(condition: Cond, changes: Changes, constraint: Vec<Limit>) -> GroundEvent
@@ -58,55 +55,36 @@ fn condition_at<'a>(
     universe: &Universe<'a>,
     env: &Env<'_, 'a>,
     specifier: TimeSpecifier,
-    writer: &mut Writer<'a>,
+    numbering: &mut Numbering,
     condition: &'a TimedCond,
-    hint: Option<&Hint>,
-    room: usize,
 ) -> Result<Cond, GroundFault>
-    requires of_universe { universe_view universe.now ≡ writer.old.universe }
-    requires fit { if_known (joined_fits universe.now (timed_condition_fits universe.now)) hint
-        (timed_condition_view condition.now) ≡ true }
-    ensures { Lowers named_condition writer.old result writer.new (condition_at
+    ensures { Lowers named_condition numbering.old result numbering.new (condition_at
         (universe_view universe.now) specifier (env_view env.now)
         (timed_condition_view condition.now))
         (of_condition (condition_at (universe_view universe.now) specifier
         (env_view env.now) (timed_condition_view condition.now))) }
 {
-    Ok(Cond::And(joined(
-        alloc, universe, env, specifier, writer, condition, hint, room,
-    )?))
+    Ok(Cond::And(joined(alloc, universe, env, specifier, numbering, condition)?))
 }
 
 fn start<'a>(
     alloc: Global,
     universe: &Universe<'a>,
     env: &Env<'_, 'a>,
-    writer: &mut Writer<'a>,
+    numbering: &mut Numbering,
     duration: &'a DurationRule,
     condition: &'a TimedCond,
     effect: &'a TimedEffect,
-    hints: &BodyHint,
 ) -> Result<GroundEvent, GroundFault>
-    requires of_universe { universe_view universe.now ≡ writer.old.universe }
-    requires condition { joined_fits universe.now (timed_condition_fits universe.now)
-        hints.now.condition (timed_condition_view condition.now) ≡ true }
-    requires effect { joined_fits universe.now (timed_effect_fits universe.now)
-        hints.now.effect (timed_effect_view effect.now) ≡ true }
-    ensures { Lowers named_event writer.old result writer.new
+    ensures { Lowers named_event numbering.old result numbering.new
         (start_in (universe_view universe.now) (env_view env.now) (constraint_view duration.now)
         (timed_condition_view condition.now) (timed_effect_view effect.now))
         (of_start (universe_view universe.now) (env_view env.now) (constraint_view duration.now)
         (timed_condition_view condition.now) (timed_effect_view effect.now)) }
 {
-    let known = Some(&hints.condition);
-    let room = hints.conditions.at_start;
-    let condition = condition_at(
-        alloc, universe, env, AtStart, writer, condition, known, room,
-    )?;
-    let known = Some(&hints.effect);
-    let room = hints.effects.at_start;
-    let changes = joined(alloc, universe, env, AtStart, writer, effect, known, room)?;
-    let constraint = limits(alloc, env, writer, duration)?;
+    let condition = condition_at(alloc, universe, env, AtStart, numbering, condition)?;
+    let changes = joined(alloc, universe, env, AtStart, numbering, effect)?;
+    let constraint = limits(alloc, env, numbering, duration)?;
     Ok(event(condition, changes, constraint))
 }
 
@@ -114,27 +92,17 @@ fn end<'a>(
     alloc: Global,
     universe: &Universe<'a>,
     env: &Env<'_, 'a>,
-    writer: &mut Writer<'a>,
+    numbering: &mut Numbering,
     condition: &'a TimedCond,
     effect: &'a TimedEffect,
-    hints: &BodyHint,
 ) -> Result<GroundEvent, GroundFault>
-    requires of_universe { universe_view universe.now ≡ writer.old.universe }
-    requires condition { joined_fits universe.now (timed_condition_fits universe.now)
-        hints.now.condition (timed_condition_view condition.now) ≡ true }
-    requires effect { joined_fits universe.now (timed_effect_fits universe.now)
-        hints.now.effect (timed_effect_view effect.now) ≡ true }
-    ensures { Lowers named_event writer.old result writer.new
+    ensures { Lowers named_event numbering.old result numbering.new
         (end_in (universe_view universe.now) (env_view env.now) (timed_condition_view condition.now)
         (timed_effect_view effect.now)) (of_end (universe_view universe.now)
         (env_view env.now) (timed_condition_view condition.now) (timed_effect_view effect.now)) }
 {
-    let known = Some(&hints.condition);
-    let room = hints.conditions.at_end;
-    let condition = condition_at(alloc, universe, env, AtEnd, writer, condition, known, room)?;
-    let known = Some(&hints.effect);
-    let room = hints.effects.at_end;
-    let changes = joined(alloc, universe, env, AtEnd, writer, effect, known, room)?;
+    let condition = condition_at(alloc, universe, env, AtEnd, numbering, condition)?;
+    let changes = joined(alloc, universe, env, AtEnd, numbering, effect)?;
     Ok(event(condition, changes, Vec::new(alloc)))
 }
 
@@ -142,26 +110,17 @@ fn instant<'a>(
     alloc: Global,
     universe: &Universe<'a>,
     env: &Env<'_, 'a>,
-    writer: &mut Writer<'a>,
+    numbering: &mut Numbering,
     precondition: &'a tp_ast::cond::Cond,
     effect: &'a Effect,
-    hints: &BodyHint,
 ) -> Result<GroundEvent, GroundFault>
-    requires of_universe { universe_view universe.now ≡ writer.old.universe }
-    requires condition { fits universe.now hints.now.condition (cond_view precondition.now)
-        ≡ true }
-    requires effect { joined_fits universe.now (nothing_fits universe.now) hints.now.effect
-        (effect_view effect.now) ≡ true }
-    ensures { Lowers named_event writer.old result writer.new
+    ensures { Lowers named_event numbering.old result numbering.new
         (instant_in (universe_view universe.now) (env_view env.now) (cond_view precondition.now)
         (effect_view effect.now)) (of_instant (universe_view universe.now)
         (env_view env.now) (cond_view precondition.now) (effect_view effect.now)) }
 {
-    let known = Some(&hints.condition);
-    let condition = condition(alloc, universe, env, writer, precondition, known)?;
-    let known = Some(&hints.effect);
-    let room = hints.effects.at_start;
-    let changes = joined(alloc, universe, env, AtStart, writer, effect, known, room)?;
+    let condition = condition(alloc, universe, env, numbering, precondition)?;
+    let changes = joined(alloc, universe, env, AtStart, numbering, effect)?;
     Ok(event(condition, changes, Vec::new(alloc)))
 }
 
@@ -176,18 +135,12 @@ fn ends_of<'a>(
     alloc: Global,
     universe: &Universe<'a>,
     env: &Env<'_, 'a>,
-    writer: &mut Writer<'a>,
+    numbering: &mut Numbering,
     duration: &'a DurationRule,
     condition: &'a TimedCond,
     effect: &'a TimedEffect,
-    hints: &BodyHint,
 ) -> Result<Ends, GroundFault>
-    requires of_universe { universe_view universe.now ≡ writer.old.universe }
-    requires condition { joined_fits universe.now (timed_condition_fits universe.now)
-        hints.now.condition (timed_condition_view condition.now) ≡ true }
-    requires effect { joined_fits universe.now (timed_effect_fits universe.now)
-        hints.now.effect (timed_effect_view effect.now) ≡ true }
-    ensures { Lowers named_ends writer.old result writer.new (
+    ensures { Lowers named_ends numbering.old result numbering.new (
       start_in (universe_view universe.now) (env_view env.now) (constraint_view duration.now)
           (timed_condition_view condition.now) (timed_effect_view effect.now),
       end_in (universe_view universe.now) (env_view env.now) (timed_condition_view condition.now)
@@ -198,10 +151,8 @@ fn ends_of<'a>(
         then of_end (universe_view universe.now)
         (env_view env.now) (timed_condition_view condition.now) (timed_effect_view effect.now)) }
 {
-    let first = start(
-        alloc, universe, env, writer, duration, condition, effect, hints,
-    )?;
-    let last = end(alloc, universe, env, writer, condition, effect, hints)?;
+    let first = start(alloc, universe, env, numbering, duration, condition, effect)?;
+    let last = end(alloc, universe, env, numbering, condition, effect)?;
     Ok(Ends { first, last })
 }
 
@@ -210,18 +161,12 @@ fn durative<'a>(
     alloc: Global,
     universe: &Universe<'a>,
     env: &Env<'_, 'a>,
-    writer: &mut Writer<'a>,
+    numbering: &mut Numbering,
     duration: &'a DurationRule,
     condition: &'a TimedCond,
     effect: &'a TimedEffect,
-    hints: &BodyHint,
 ) -> Result<Body, GroundFault>
-    requires of_universe { universe_view universe.now ≡ writer.old.universe }
-    requires condition { joined_fits universe.now (timed_condition_fits universe.now)
-        hints.now.condition (timed_condition_view condition.now) ≡ true }
-    requires effect { joined_fits universe.now (timed_effect_fits universe.now)
-        hints.now.effect (timed_effect_view effect.now) ≡ true }
-    ensures { Lowers named_body writer.old result writer.new
+    ensures { Lowers named_body numbering.old result numbering.new
         (body_in (universe_view universe.now) (env_view env.now)
         (durative (constraint_view duration.now)
         (timed_condition_view condition.now) (timed_effect_view effect.now)))
@@ -229,14 +174,8 @@ fn durative<'a>(
         (durative (constraint_view duration.now)
         (timed_condition_view condition.now) (timed_effect_view effect.now))) }
 {
-    let ends = ends_of(
-        alloc, universe, env, writer, duration, condition, effect, hints,
-    )?;
-    let known = Some(&hints.condition);
-    let room = hints.conditions.over_all;
-    let between = condition_at(
-        alloc, universe, env, OverAll, writer, condition, known, room,
-    )?;
+    let ends = ends_of(alloc, universe, env, numbering, duration, condition, effect)?;
+    let between = condition_at(alloc, universe, env, OverAll, numbering, condition)?;
     Ok(Body::Durative(ends.first, ends.last, between))
 }
 
@@ -245,32 +184,25 @@ pub fn body<'a>(
     alloc: Global,
     universe: &Universe<'a>,
     env: &Env<'_, 'a>,
-    writer: &mut Writer<'a>,
+    numbering: &mut Numbering,
     body: &'a tp_ast::action::Body,
-    hints: &BodyHint,
 ) -> Result<Body, GroundFault>
-    requires of_universe { universe_view universe.now ≡ writer.old.universe }
-    requires fit { body_fits universe.now hints.now (body_view body.now) ≡ true }
-    ensures { Lowers named_body writer.old result writer.new
+    ensures { Lowers named_body numbering.old result numbering.new
         (body_in (universe_view universe.now) (env_view env.now) (body_view body.now))
         (of_body (universe_view universe.now) (env_view env.now) (body_view body.now)) }
 {
-    writer.count_look_ups();
-    writer.extent().begin(alloc, scope_of(env))?;
     match body {
         tp_ast::action::Body::Instant {
             precondition,
             effect,
         } => {
-            let event = instant(alloc, universe, env, writer, precondition, effect, hints)?;
+            let event = instant(alloc, universe, env, numbering, precondition, effect)?;
             Ok(Body::Instant(event))
         }
         tp_ast::action::Body::Durative {
             duration,
             condition,
             effect,
-        } => durative(
-            alloc, universe, env, writer, duration, condition, effect, hints,
-        ),
+        } => durative(alloc, universe, env, numbering, duration, condition, effect),
     }
 }

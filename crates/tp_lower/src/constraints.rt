@@ -13,25 +13,23 @@ use std::alloc::Global;
 use tp_ast::constraint::DurationRule;
 use tp_bindings::environment::Env;
 use tp_lower_conditions::expressions::{comparison_of, expression};
-use tp_lower_conditions::writer::Writer;
-use tp_task::{GroundFault, Limit};
+use tp_task::{GroundFault, Limit, Numbering};
 
 #[cycle(limits)]
 fn all_limits<'a>(
     alloc: Global,
     env: &Env<'_, 'a>,
-    writer: &mut Writer<'a>,
+    numbering: &mut Numbering,
     constraints: &'a [DurationRule],
 ) -> Result<Vec<Limit>, GroundFault>
-    ensures { Lowers (λ t v. map (named_limit t) v.items) writer.old result writer.new
+    ensures { Lowers (λ t v. map (named_limit t) v.items) numbering.old result numbering.new
         (flat_map (λ r. limits_in (env_view env.now) (constraint_view r)) constraints.now)
         (of_each of_limit
         (flat_map (λ r. limits_in (env_view env.now) (constraint_view r)) constraints.now)) }
 {
-    writer.extent().count_parts(constraints.len());
     let mut lowered = Vec::new(alloc);
     for constraint in constraints {
-        let mut more = limits(alloc, env, writer, constraint)?;
+        let mut more = limits(alloc, env, numbering, constraint)?;
         lowered.append(&mut more)?;
     }
     Ok(lowered)
@@ -42,17 +40,17 @@ fn all_limits<'a>(
 pub fn limits<'a>(
     alloc: Global,
     env: &Env<'_, 'a>,
-    writer: &mut Writer<'a>,
+    numbering: &mut Numbering,
     constraint: &'a DurationRule,
 ) -> Result<Vec<Limit>, GroundFault>
-    ensures { Lowers (λ t v. map (named_limit t) v.items) writer.old result writer.new
+    ensures { Lowers (λ t v. map (named_limit t) v.items) numbering.old result numbering.new
         (limits_in (env_view env.now) (constraint_view constraint.now))
         (of_each of_limit (limits_in (env_view env.now) (constraint_view constraint.now))) }
 {
     match constraint {
-        DurationRule::And(constraints) => all_limits(alloc, env, writer, constraints),
+        DurationRule::And(constraints) => all_limits(alloc, env, numbering, constraints),
         DurationRule::Limit(comparison, value) => {
-            let value = expression(alloc, env, writer, value)?;
+            let value = expression(alloc, env, numbering, value)?;
             let mut one = Vec::with_capacity(alloc, 1)?;
             one.push(Limit {
                 how: comparison_of(*comparison),

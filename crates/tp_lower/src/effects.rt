@@ -1,6 +1,6 @@
 //! Effects, and the parts of a durative action at its time specifiers.
 
-ghost use Rattle.std.specs.Prelude.{◌≡◌, ◌∷◌, [], IfOk};
+ghost use Rattle.std.specs.Prelude.{◌≡◌, ◌∷◌, []};
 ghost use Rattle.tp_ast.specs.Terms.{atom_view};
 ghost use Rattle.tp_ast.specs.ExprViews.{expr_view};
 ghost use Rattle.tp_ast.specs.CondViews.{cond_view};
@@ -16,29 +16,21 @@ ghost use Rattle.tp_lower_conditions.specs.ReadBack.{named_condition, named_writ
 ghost use Rattle.tp_lower.specs.Changes.{shows_atoms, shows_writes, shows_changes};
 ghost use Rattle.tp_lower.specs.Gathered.{list_shows, Gathers};
 ghost use Rattle.tp_lower_conditions.specs.Lowered.{Lowers};
-ghost use Rattle.tp_bindings.specs.Hints.{nothing_fits, timed_condition_fits, timed_effect_fits};
 
 use crate::changes::Changes;
-use crate::part_hints::joined_hint;
-use crate::part_lengths::{after_part, after_simple_effect};
-use crate::part_rooms::{of_part, of_simple_effect, room_at};
-use crate::parts::{Lowerable, push_next};
-use std::alloc::{AllocError, Global};
+use crate::parts::{Lowerable, push_part};
+use std::alloc::Global;
 use tp_ast::effect::{Effect, SimpleEffect};
 use tp_ast::expr::Expr;
 use tp_ast::term::Atom;
 use tp_ast::timed::Timed;
 use tp_ast::words::{TimeSpecifier, Writing};
 use tp_bindings::environment::Env;
-use tp_bindings::hints::Hint;
 use tp_bindings::universe::Universe;
-use tp_lower_conditions::conditions::{atom, condition};
-use tp_lower_conditions::expressions::{expression, fluent};
-use tp_lower_conditions::hinting::hint_of;
-use tp_lower_conditions::rooms::of_condition;
-use tp_lower_conditions::shortness::after_condition;
-use tp_lower_conditions::writer::Writer;
-use tp_task::{Change, Cond, GroundFault, NumericEffect};
+use tp_lower_conditions::conditions::condition;
+use tp_lower_conditions::expressions::expression;
+use tp_lower_conditions::numbers::{atom, fluent};
+use tp_task::{Change, Cond, GroundFault, Numbering, NumericEffect};
 
 fn change_of(writing: Writing) -> Change
     ensures { result ≡ change_of writing }
@@ -54,20 +46,20 @@ fn change_of(writing: Writing) -> Change
 fn write<'a>(
     alloc: Global,
     env: &Env<'_, 'a>,
-    writer: &mut Writer<'a>,
+    numbering: &mut Numbering,
     writing: Writing,
     atom: &'a Atom,
     value: &'a Expr,
 ) -> Result<NumericEffect, GroundFault>
-    ensures { Lowers named_write writer.old result writer.new (record {
+    ensures { Lowers named_write numbering.old result numbering.new (record {
       change = change_of writing;
       fluent = words_in (env_view env.now) (atom_view atom.now);
       value = expression_in (env_view env.now) (expr_view value.now);
     }) (a_fluent (words_in (env_view env.now) (atom_view atom.now))
         then of_expression (expression_in (env_view env.now) (expr_view value.now))) }
 {
-    let fluent = fluent(alloc, env, writer, atom)?;
-    let value = expression(alloc, env, writer, value)?;
+    let fluent = fluent(alloc, env, numbering, atom)?;
+    let value = expression(alloc, env, numbering, value)?;
     Ok(NumericEffect {
         fluent,
         change: change_of(writing),
@@ -79,14 +71,15 @@ fn write<'a>(
 fn push_atom<'a>(
     alloc: Global,
     env: &Env<'_, 'a>,
-    writer: &mut Writer<'a>,
+    numbering: &mut Numbering,
     fact: &'a Atom,
     into: &mut Vec<u32>,
 ) -> Result<(), GroundFault>
     ensures { let w = words_in (env_view env.now) (atom_view fact.now) in
-        Gathers shows_atoms writer.old result writer.new into.old into.new (w ∷ []) (an_atom w) }
+        Gathers shows_atoms numbering.old result numbering.new into.old into.new (w ∷ [])
+        (an_atom w) }
 {
-    let number = atom(alloc, env, writer, fact)?;
+    let number = atom(alloc, env, numbering, fact)?;
     into.push(number)?;
     Ok(())
 }
@@ -95,7 +88,7 @@ fn push_atom<'a>(
 fn push_write<'a>(
     alloc: Global,
     env: &Env<'_, 'a>,
-    writer: &mut Writer<'a>,
+    numbering: &mut Numbering,
     writing: Writing,
     atom: &'a Atom,
     value: &'a Expr,
@@ -103,23 +96,23 @@ fn push_write<'a>(
 ) -> Result<(), GroundFault>
     ensures { let w = words_in (env_view env.now) (atom_view atom.now) in
         let x = expression_in (env_view env.now) (expr_view value.now) in
-        Gathers shows_writes writer.old result writer.new into.old into.new
+        Gathers shows_writes numbering.old result numbering.new into.old into.new
         (record { change = change_of writing; fluent = w; value = x } ∷ [])
         (a_fluent w then of_expression x) }
 {
-    into.push(write(alloc, env, writer, writing, atom, value)?)?;
+    into.push(write(alloc, env, numbering, writing, atom, value)?)?;
     Ok(())
 }
 
-// No changes, with room for so many writes.
-fn no_changes(alloc: Global, writes: usize) -> Result<Changes, AllocError>
-    ensures { IfOk result (λ c. (t : Tables) → shows_changes t c []) }
+// No changes.
+fn no_changes(alloc: Global) -> Changes
+    ensures { (t : Tables) → shows_changes t result [] }
 {
-    Ok(Changes {
+    Changes {
         adds: Vec::new(alloc),
         deletes: Vec::new(alloc),
-        writes: Vec::with_capacity(alloc, writes)?,
-    })
+        writes: Vec::new(alloc),
+    }
 }
 
 fn is_specifier(left: TimeSpecifier, right: TimeSpecifier) -> bool
@@ -148,37 +141,8 @@ impl Lowerable for SimpleEffect {
 
     ghost written = { simple_effect_part };
 
-    ghost fits = { nothing_fits };
-
-    fn count_at(&self, _specifier: TimeSpecifier) -> usize {
-        match self {
-            SimpleEffect::Add(_) | SimpleEffect::Delete(_) => 0,
-            SimpleEffect::Write(_, _, _) => 1,
-        }
-    }
-
-    fn begun(alloc: Global, room: usize) -> Result<Changes, AllocError> {
-        no_changes(alloc, room)
-    }
-
-    fn make_room(_into: &mut Changes, _bindings: usize) -> Result<(), AllocError> {
-        Ok(())
-    }
-
-    fn after(&self, steps: usize) -> Option<usize> {
-        after_simple_effect(self, steps)
-    }
-
-    fn room(&self) -> usize {
-        of_simple_effect(self)
-    }
-
-    fn hint(&self, _alloc: Global, _universe: &Universe) -> Result<Hint, AllocError> {
-        Ok(Hint::Nothing)
-    }
-
-    fn is_at(&self, _specifier: TimeSpecifier) -> bool {
-        true
+    fn begun(alloc: Global) -> Changes {
+        no_changes(alloc)
     }
 
     fn lower<'a>(
@@ -187,18 +151,17 @@ impl Lowerable for SimpleEffect {
         _universe: &Universe<'a>,
         env: &Env<'_, 'a>,
         _mark: TimeSpecifier,
-        writer: &mut Writer<'a>,
-        _hint: Option<&Hint>,
+        numbering: &mut Numbering,
         into: &mut Changes,
     ) -> Result<(), GroundFault> {
         match self {
-            SimpleEffect::Add(added) => push_atom(alloc, env, writer, added, &mut into.adds),
+            SimpleEffect::Add(added) => push_atom(alloc, env, numbering, added, &mut into.adds),
             SimpleEffect::Delete(deleted) => {
-                push_atom(alloc, env, writer, deleted, &mut into.deletes)
+                push_atom(alloc, env, numbering, deleted, &mut into.deletes)
             }
             SimpleEffect::Write(writing, fluent, value) => {
                 let writes = &mut into.writes;
-                push_write(alloc, env, writer, *writing, fluent, value, writes)
+                push_write(alloc, env, numbering, *writing, fluent, value, writes)
             }
         }
     }
@@ -219,34 +182,8 @@ impl Lowerable for Timed<tp_ast::cond::Cond> {
 
     ghost written = { condition_part };
 
-    ghost fits = { timed_condition_fits };
-
-    fn count_at(&self, specifier: TimeSpecifier) -> usize {
-        usize::from(is_specifier(self.specifier, specifier))
-    }
-
-    fn begun(alloc: Global, room: usize) -> Result<Vec<Cond>, AllocError> {
-        Vec::with_capacity(alloc, room)
-    }
-
-    fn make_room(into: &mut Vec<Cond>, bindings: usize) -> Result<(), AllocError> {
-        into.reserve(bindings)
-    }
-
-    fn after(&self, steps: usize) -> Option<usize> {
-        after_condition(&self.what, steps)
-    }
-
-    fn room(&self) -> usize {
-        of_condition(&self.what)
-    }
-
-    fn hint(&self, alloc: Global, universe: &Universe) -> Result<Hint, AllocError> {
-        hint_of(alloc, universe, &self.what)
-    }
-
-    fn is_at(&self, specifier: TimeSpecifier) -> bool {
-        is_specifier(self.specifier, specifier)
+    fn begun(alloc: Global) -> Vec<Cond> {
+        Vec::new(alloc)
     }
 
     fn lower<'a>(
@@ -255,14 +192,13 @@ impl Lowerable for Timed<tp_ast::cond::Cond> {
         universe: &Universe<'a>,
         env: &Env<'_, 'a>,
         specifier: TimeSpecifier,
-        writer: &mut Writer<'a>,
-        hint: Option<&Hint>,
+        numbering: &mut Numbering,
         into: &mut Vec<Cond>,
     ) -> Result<(), GroundFault> {
         if !is_specifier(self.specifier, specifier) {
             return Ok(());
         }
-        into.push(condition(alloc, universe, env, writer, &self.what, hint)?)?;
+        into.push(condition(alloc, universe, env, numbering, &self.what)?)?;
         Ok(())
     }
 }
@@ -282,38 +218,8 @@ impl Lowerable for Timed<Effect> {
 
     ghost written = { simple_effects_part };
 
-    ghost fits = { timed_effect_fits };
-
-    fn count_at(&self, specifier: TimeSpecifier) -> usize {
-        if is_specifier(self.specifier, specifier) {
-            room_at(&self.what, specifier)
-        } else {
-            0
-        }
-    }
-
-    fn begun(alloc: Global, room: usize) -> Result<Changes, AllocError> {
-        no_changes(alloc, room)
-    }
-
-    fn make_room(_into: &mut Changes, _bindings: usize) -> Result<(), AllocError> {
-        Ok(())
-    }
-
-    fn after(&self, steps: usize) -> Option<usize> {
-        after_part(&self.what, steps)
-    }
-
-    fn room(&self) -> usize {
-        of_part(&self.what)
-    }
-
-    fn hint(&self, alloc: Global, universe: &Universe) -> Result<Hint, AllocError> {
-        joined_hint(alloc, universe, &self.what)
-    }
-
-    fn is_at(&self, specifier: TimeSpecifier) -> bool {
-        is_specifier(self.specifier, specifier)
+    fn begun(alloc: Global) -> Changes {
+        no_changes(alloc)
     }
 
     fn lower<'a>(
@@ -322,15 +228,12 @@ impl Lowerable for Timed<Effect> {
         universe: &Universe<'a>,
         env: &Env<'_, 'a>,
         specifier: TimeSpecifier,
-        writer: &mut Writer<'a>,
-        hint: Option<&Hint>,
+        numbering: &mut Numbering,
         into: &mut Changes,
     ) -> Result<(), GroundFault> {
         if !is_specifier(self.specifier, specifier) {
             return Ok(());
         }
-        push_next(
-            alloc, universe, env, specifier, writer, &self.what, hint, into,
-        )
+        push_part(alloc, universe, env, specifier, numbering, &self.what, into)
     }
 }

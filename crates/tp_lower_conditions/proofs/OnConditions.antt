@@ -11,8 +11,8 @@ use Rattle.tp_ast.specs.declared.expr.Expr.{Expr}
 use Rattle.tp_ast.specs.declared.symbols.Typed.{Typed}
 use Rattle.tp_ast.specs.declared.cond.Cond as syntax
 use Rattle.std.specs.Str.{bytes_eq}
+use Rattle.std.specs.declared.rc.Rc.{Rc}
 use Rattle.tp_ast.specs.Terms.{Argument}
-use Rattle.tp_lower_conditions.specs.WriterViews.{WriterView}
 use Rattle.tp_bindings.specs.Bindings.{Universe, Env, object_for}
 use Rattle.tp_task.specs.Tables.{Tables, words_at}
 use Rattle.tp_lower_conditions.specs.Written.{GroundCondition, atom, compared, negation, all_of, any_of, conditions_from, always, never, either, same_in, inner, condition_in, conditions_in}
@@ -85,6 +85,9 @@ module _ (t : Tables) where
   pub named_Not : (b : Box Cond Global) → named_condition t (conds.Not b) ≡ negation (named_condition t b.value)
   named_Not b = search (rules, conds.the_lemmas)
 
+  pub named_Shared : (r : Rc Cond Global) → named_condition t (conds.Shared r) ≡ named_condition t r.value
+  named_Shared r = search (rules, conds.the_lemmas)
+
   pub named_Atom : (a : ℕ) → named_condition t (conds.Atom a) ≡ atom (words_at t.atoms a)
   named_Atom a = search (rules, conds.the_lemmas)
 
@@ -92,14 +95,14 @@ module _ (t : Tables) where
   named_Compare op x y = search (rules, conds.the_lemmas)
 
 -- all or any of what a list says
-module _ (a b : WriterView) (v : Vec Cond Global) (ys : List GroundCondition) (y : GroundCondition) where
+module _ (a b : Tables) (v : Vec Cond Global) (ys : List GroundCondition) (y : GroundCondition) where
   pub all_lowered : y ≡ all_of (conditions_from ys) → AllLowered named_condition of_condition a b v ys → IsLowered named_condition a b (conds.And v) y (of_condition y)
   all_lowered is l = lowered_same y (of_condition y) (sym is) (sym (ap of_condition is ∙ of_conditions_each ys)) (lowered_as (λ (zs : List GroundCondition). all_of (conditions_from zs)) (conds.And v) (λ t. named_And t v) l)
 
   pub any_lowered : y ≡ any_of (conditions_from ys) → AllLowered named_condition of_condition a b v ys → IsLowered named_condition a b (conds.Or v) y (of_condition y)
   any_lowered is l = lowered_same y (of_condition y) (sym is) (sym (ap of_condition is ∙ of_conditions_each ys)) (lowered_as (λ (zs : List GroundCondition). any_of (conditions_from zs)) (conds.Or v) (λ t. named_Or t v) l)
 
-module _ (a b : WriterView) (ys : List GroundCondition) (y : GroundCondition) (r : Result Cond GroundFault) (f : GroundFault) (err : IsErrAnd r (λ e. e ≡ f)) (h : Overflows a (of_each of_condition ys) f) where
+module _ (a b : Tables) (ys : List GroundCondition) (y : GroundCondition) (r : Result Cond GroundFault) (f : GroundFault) (err : IsErrAnd r (λ e. e ≡ f)) (h : Overflows a (of_each of_condition ys) f) where
   pub all_failed : y ≡ all_of (conditions_from ys) → Lowers named_condition a r b y (of_condition y)
   all_failed is = failed named_condition a b y (of_condition y) r f err (subst (λ m. Overflows a m f) (sym (ap of_condition is ∙ of_conditions_each ys)) h)
 
@@ -111,7 +114,7 @@ same_nothing : (b : Bool) → of_condition (if b then always else never) ≡ not
 same_nothing true = refl
 same_nothing false = refl
 
-pub same_lowered : (a : WriterView) (x : Cond) (env : Env) (p q : Argument) → ((t : Tables) → named_condition t x ≡ same_in env p q) → IsLowered named_condition a a x (same_in env p q) (of_condition (same_in env p q))
+pub same_lowered : (a : Tables) (x : Cond) (env : Env) (p q : Argument) → ((t : Tables) → named_condition t x ≡ same_in env p q) → IsLowered named_condition a a x (same_in env p q) (of_condition (same_in env p q))
 same_lowered a x env p q says = lowered_same (same_in env p q) (of_condition (same_in env p q)) refl (sym (same_nothing (bytes_eq (object_for env p) (object_for env q)))) (lowered_none a x (same_in env p q) says)
 
 pub either_mentions : (c d : GroundCondition) → of_condition (either c d) ≡ (of_condition c then of_condition d)

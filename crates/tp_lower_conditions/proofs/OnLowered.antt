@@ -4,8 +4,7 @@ use Rattle.std.specs.List.{slice_get}
 use Rattle.std.proofs.lemmas.List.{map-append}
 use Rattle.tp_task.specs.Words.{Words, with_words, with_all}
 use Rattle.tp_task.specs.Labels.{Grows}
-use Rattle.tp_task.specs.Tables.{Tables, words_at, CannotNumber}
-use Rattle.tp_lower_conditions.specs.WriterViews.{WriterView}
+use Rattle.tp_task.specs.Tables.{Tables, with_actions, words_at, CannotNumber}
 use Rattle.tp_lower_conditions.specs.Mentions.{Mentions, nothing, an_atom, a_fluent, ◌then◌, of_each}
 use Rattle.tp_lower_conditions.specs.Lowered.{Notes, Extends, IsLowered, Overflows, Lowers}
 use Rattle.tp_task.specs.declared.fault.GroundFault.{GroundFault}
@@ -36,25 +35,24 @@ of_each_one of y = then_nothing (of y)
 
 -- ---- tables
 
-pub notes_none : (w : WriterView) → Notes w w nothing
-notes_none w = record { atoms = refl; fluents = refl; actions = refl; most = refl; universe = refl }
+pub notes_none : (w : Tables) → Notes w w nothing
+notes_none w = record { atoms = refl; fluents = refl; actions = refl; most = refl }
 
-pub notes_then : (a b c : WriterView) (m n : Mentions) → Notes a b m → Notes b c n → Notes a c (m then n)
+pub notes_then : (a b c : Tables) (m n : Mentions) → Notes a b m → Notes b c n → Notes a c (m then n)
 notes_then a b c m n f g = record {
-  atoms = g.atoms ∙ ap (λ ws. with_all ws n.atoms) f.atoms ∙ sym (with_all-append a.tables.atoms m.atoms n.atoms);
-  fluents = g.fluents ∙ ap (λ ws. with_all ws n.fluents) f.fluents ∙ sym (with_all-append a.tables.fluents m.fluents n.fluents);
+  atoms = g.atoms ∙ ap (λ ws. with_all ws n.atoms) f.atoms ∙ sym (with_all-append a.atoms m.atoms n.atoms);
+  fluents = g.fluents ∙ ap (λ ws. with_all ws n.fluents) f.fluents ∙ sym (with_all-append a.fluents m.fluents n.fluents);
   actions = g.actions ∙ f.actions;
   most = g.most ∙ f.most;
-  universe = g.universe ∙ f.universe;
 }
 
 pub extends_then : (a b c : Tables) → Extends a b → Extends b c → Extends a c
 extends_then a b c f g = record { atoms = grows_on a.atoms b.atoms c.atoms f.atoms g.atoms; fluents = grows_on a.fluents b.fluents c.fluents f.fluents g.fluents }
 
-pub notes_extend : (a b : WriterView) (m : Mentions) → Notes a b m → Extends a.tables b.tables
+pub notes_extend : (a b : Tables) (m : Mentions) → Notes a b m → Extends a b
 notes_extend a b m f = record {
-  atoms = subst (λ ws. Grows a.tables.atoms ws) (sym f.atoms) (with_all_grows a.tables.atoms m.atoms);
-  fluents = subst (λ ws. Grows a.tables.fluents ws) (sym f.fluents) (with_all_grows a.tables.fluents m.fluents);
+  atoms = subst (λ ws. Grows a.atoms ws) (sym f.atoms) (with_all_grows a.atoms m.atoms);
+  fluents = subst (λ ws. Grows a.fluents ws) (sym f.fluents) (with_all_grows a.fluents m.fluents);
 }
 
 -- ---- faults
@@ -67,36 +65,45 @@ cannot_more most ks bs fs gs (faults.TooMany kinds.Objects) p q h = h
 cannot_more most ks bs fs gs (faults.TooMany kinds.Actions) p q h = h
 cannot_more most ks bs fs gs faults.Range p q h = h
 
-pub overflows_first : (a : WriterView) (m n : Mentions) (e : GroundFault) → Overflows a m e → Overflows a (m then n) e
-overflows_first a m n e h = cannot_more a.tables.most _ _ _ _ e (with_all-longer_append a.tables.atoms m.atoms n.atoms) (with_all-longer_append a.tables.fluents m.fluents n.fluents) h
+pub overflows_first : (a : Tables) (m n : Mentions) (e : GroundFault) → Overflows a m e → Overflows a (m then n) e
+overflows_first a m n e h = cannot_more a.most _ _ _ _ e (with_all-longer_append a.atoms m.atoms n.atoms) (with_all-longer_append a.fluents m.fluents n.fluents) h
 
-pub overflows_then : (a b : WriterView) (m n : Mentions) (e : GroundFault) → Notes a b m → Overflows b n e → Overflows a (m then n) e
+pub overflows_then : (a b : Tables) (m n : Mentions) (e : GroundFault) → Notes a b m → Overflows b n e → Overflows a (m then n) e
 overflows_then a b m n e f h =
-    subst (λ ws. CannotNumber a.tables.most ws (with_all a.tables.fluents (m.fluents ++ n.fluents)) e) (sym (with_all-append a.tables.atoms m.atoms n.atoms))
-    (subst (λ ws. CannotNumber a.tables.most (with_all (with_all a.tables.atoms m.atoms) n.atoms) ws e) (sym (with_all-append a.tables.fluents m.fluents n.fluents))
-    (subst (λ ws. CannotNumber a.tables.most (with_all ws n.atoms) (with_all (with_all a.tables.fluents m.fluents) n.fluents) e) f.atoms
-    (subst (λ ws. CannotNumber a.tables.most (with_all b.tables.atoms n.atoms) (with_all ws n.fluents) e) f.fluents
-    (subst (λ k. CannotNumber k (with_all b.tables.atoms n.atoms) (with_all b.tables.fluents n.fluents) e) f.most h))))
+    subst (λ ws. CannotNumber a.most ws (with_all a.fluents (m.fluents ++ n.fluents)) e) (sym (with_all-append a.atoms m.atoms n.atoms))
+    (subst (λ ws. CannotNumber a.most (with_all (with_all a.atoms m.atoms) n.atoms) ws e) (sym (with_all-append a.fluents m.fluents n.fluents))
+    (subst (λ ws. CannotNumber a.most (with_all ws n.atoms) (with_all (with_all a.fluents m.fluents) n.fluents) e) f.atoms
+    (subst (λ ws. CannotNumber a.most (with_all b.atoms n.atoms) (with_all ws n.fluents) e) f.fluents
+    (subst (λ k. CannotNumber k (with_all b.atoms n.atoms) (with_all b.fluents n.fluents) e) f.most h))))
 
 -- ---- what is lowered
 
 module _ {X Y : Type 0} {named : Tables → X → Y} where
-  pub lowered_none : (a : WriterView) (x : X) (y : Y) → ((t : Tables) → named t x ≡ y) → IsLowered named a a x y nothing
+  pub lowered_none : (a : Tables) (x : X) (y : Y) → ((t : Tables) → named t x ≡ y) → IsLowered named a a x y nothing
   lowered_none a x y h = record { notes = notes_none a; says = λ later e. h later }
 
-  pub lowered_same : {a b : WriterView} {x : X} {y : Y} {m : Mentions} (z : Y) (n : Mentions) → y ≡ z → m ≡ n → IsLowered named a b x y m → IsLowered named a b x z n
+  pub lowered_same : {a b : Tables} {x : X} {y : Y} {m : Mentions} (z : Y) (n : Mentions) → y ≡ z → m ≡ n → IsLowered named a b x y m → IsLowered named a b x z n
   lowered_same {a = a} {b = b} {x = x} {y = y} {m = m} z n p q l = subst (λ k. IsLowered named a b x z k) q (subst (λ w. IsLowered named a b x w m) p l)
 
   module _ {X1 Y1 : Type 0} {named1 : Tables → X1 → Y1} where
-    pub lowered_as : {a b : WriterView} {x1 : X1} {y1 : Y1} {m : Mentions} (g : Y1 → Y) (x : X) → ((t : Tables) → named t x ≡ g (named1 t x1)) → IsLowered named1 a b x1 y1 m → IsLowered named a b x (g y1) m
+    pub lowered_as : {a b : Tables} {x1 : X1} {y1 : Y1} {m : Mentions} (g : Y1 → Y) (x : X) → ((t : Tables) → named t x ≡ g (named1 t x1)) → IsLowered named1 a b x1 y1 m → IsLowered named a b x (g y1) m
     lowered_as g x h l = record { notes = l.notes; says = λ later e. h later ∙ ap g (l.says later e) }
 
     module _ {X2 Y2 : Type 0} {named2 : Tables → X2 → Y2} where
-      pub lowered_both : {a b c : WriterView} {x1 : X1} {x2 : X2} {y1 : Y1} {y2 : Y2} {m n : Mentions} (g : Y1 → Y2 → Y) (x : X) → ((t : Tables) → named t x ≡ g (named1 t x1) (named2 t x2)) → IsLowered named1 a b x1 y1 m → IsLowered named2 b c x2 y2 n → IsLowered named a c x (g y1 y2) (m then n)
+      pub lowered_both : {a b c : Tables} {x1 : X1} {x2 : X2} {y1 : Y1} {y2 : Y2} {m n : Mentions} (g : Y1 → Y2 → Y) (x : X) → ((t : Tables) → named t x ≡ g (named1 t x1) (named2 t x2)) → IsLowered named1 a b x1 y1 m → IsLowered named2 b c x2 y2 n → IsLowered named a c x (g y1 y2) (m then n)
       lowered_both {a = a} {b = b} {c = c} {x2 = x2} {y1 = y1} {m = m} {n = n} g x h l k = record {
         notes = notes_then a b c m n l.notes k.notes;
-        says = λ later e. h later ∙ ap (λ v. g v (named2 later x2)) (l.says later (extends_then b.tables c.tables later (notes_extend b c n k.notes) e)) ∙ ap (g y1) (k.says later e);
+        says = λ later e. h later ∙ ap (λ v. g v (named2 later x2)) (l.says later (extends_then b c later (notes_extend b c n k.notes) e)) ∙ ap (g y1) (k.says later e);
       }
+
+  -- when only actions come after
+  pub more_named : (a b d : Tables) (x : X) (y : Y) (m : Mentions) → d.atoms ≡ b.atoms → d.fluents ≡ b.fluents → d.most ≡ b.most → IsLowered named a b x y m → IsLowered named a (with_actions d a.actions) x y m
+  more_named a b d x y m atoms fluents most l = record {
+    notes = record { atoms = atoms ∙ l.notes.atoms; fluents = fluents ∙ l.notes.fluents; actions = refl; most = most ∙ l.notes.most };
+    says =
+        λ later e.
+        l.says later (record { atoms = subst (λ ws. Grows ws later.atoms) atoms e.atoms; fluents = subst (λ ws. Grows ws later.fluents) fluents e.fluents });
+  }
 
 -- ---- lists
 
@@ -105,24 +112,24 @@ module _ {C Y : Type 0} (named : Tables → C → Y) (of : Y → Mentions) where
   abbrev pub all_named : Tables → Vec C Global → List Y
   all_named t v = map (named t) v.items
 
-  abbrev pub AllLowered : WriterView → WriterView → Vec C Global → List Y → Type 0
+  abbrev pub AllLowered : Tables → Tables → Vec C Global → List Y → Type 0
   AllLowered a b v ys = IsLowered all_named a b v ys (of_each of ys)
 
-  pub all_none : (a : WriterView) (v : Vec C Global) → v.items ≡ [] → AllLowered a a v []
+  pub all_none : (a : Tables) (v : Vec C Global) → v.items ≡ [] → AllLowered a a v []
   all_none a v none = lowered_none a v [] (λ t. ap (map (named t)) none)
 
-  pub all_append : (a b c : WriterView) (v w u : Vec C Global) (ys zs all : List Y) → u.items ≡ v.items ++ w.items → all ≡ ys ++ zs → AllLowered a b v ys → AllLowered b c w zs → AllLowered a c u all
+  pub all_append : (a b c : Tables) (v w u : Vec C Global) (ys zs all : List Y) → u.items ≡ v.items ++ w.items → all ≡ ys ++ zs → AllLowered a b v ys → AllLowered b c w zs → AllLowered a c u all
   all_append a b c v w u ys zs all items is l k =
       lowered_same all (of_each of all) (sym is) (sym (ap (of_each of) is ∙ of_each-append of ys zs))
       (lowered_both (λ (p q : List Y). p ++ q) u (λ t. ap (map (named t)) items ∙ map-append (named t) v.items w.items) l k)
 
-  pub all_push : (a b c : WriterView) (v u : Vec C Global) (x : C) (ys all : List Y) (y : Y) → u.items ≡ v.items ++ x ∷ [] → all ≡ ys ++ y ∷ [] → AllLowered a b v ys → IsLowered named b c x y (of y) → AllLowered a c u all
+  pub all_push : (a b c : Tables) (v u : Vec C Global) (x : C) (ys all : List Y) (y : Y) → u.items ≡ v.items ++ x ∷ [] → all ≡ ys ++ y ∷ [] → AllLowered a b v ys → IsLowered named b c x y (of y) → AllLowered a c u all
   all_push a b c v u x ys all y items is l k =
       lowered_same all (of_each of all) (sym is) (ap (λ m. of_each of ys then m) (sym (of_each_one of y)) ∙ sym (ap (of_each of) is ∙ of_each-append of ys (y ∷ [])))
       (lowered_both (λ (p : List Y) (q : Y). p ++ q ∷ []) u (λ t. ap (map (named t)) items ∙ map-append (named t) v.items (x ∷ [])) l k)
 
   -- a fault at some that come after others, in all
-  pub all_fail : (a b : WriterView) (v : Vec C Global) (ys zs rest all : List Y) (e : GroundFault) → all ≡ ys ++ (zs ++ rest) → AllLowered a b v ys → Overflows b (of_each of zs) e → Overflows a (of_each of all) e
+  pub all_fail : (a b : Tables) (v : Vec C Global) (ys zs rest all : List Y) (e : GroundFault) → all ≡ ys ++ (zs ++ rest) → AllLowered a b v ys → Overflows b (of_each of zs) e → Overflows a (of_each of all) e
   all_fail a b v ys zs rest all e is l h =
       subst (λ m. Overflows a m e) (sym (ap (of_each of) is ∙ of_each-append of ys (zs ++ rest)))
       (overflows_then a b (of_each of ys) (of_each of (zs ++ rest)) e l.notes
@@ -131,11 +138,11 @@ module _ {C Y : Type 0} (named : Tables → C → Y) (of : Y → Mentions) where
 -- ---- what functions return
 
 module _ {X Y : Type 0} (named : Tables → X → Y) where
-  pub failed : (a b : WriterView) (y : Y) (m : Mentions) (r : Result X GroundFault) (f : GroundFault) → IsErrAnd r (λ e. e ≡ f) → Overflows a m f → Lowers named a r b y m
+  pub failed : (a b : Tables) (y : Y) (m : Mentions) (r : Result X GroundFault) (f : GroundFault) → IsErrAnd r (λ e. e ≡ f) → Overflows a m f → Lowers named a r b y m
   failed a b y m (Ok x) f is h = absurd is
   failed a b y m (Err e) f is h = subst (λ g. Overflows a m g) (sym is) h
 
-  pub written_as : (of : Y → Mentions) (a b : WriterView) (r : Result X GroundFault) (y z : Y) → y ≡ z → Lowers named a r b z (of z) → Lowers named a r b y (of y)
+  pub written_as : (of : Y → Mentions) (a b : Tables) (r : Result X GroundFault) (y z : Y) → y ≡ z → Lowers named a r b z (of z) → Lowers named a r b y (of y)
   written_as of a b r y z p l = subst (λ v. Lowers named a r b v (of v)) (sym p) l
 
 -- ---- the number of an atom or a fluent
@@ -151,19 +158,19 @@ atom_named t i = words_at t.atoms i
 abbrev pub fluent_named : Tables → ℕ → Words
 fluent_named t i = words_at t.fluents i
 
-pub atom_numbered : (a b : WriterView) (w : Words) (r : Result ℕ GroundFault) → b.universe ≡ a.universe → OnOk r (b.tables.atoms ≡ with_words a.tables.atoms w) → IfOk r (λ i. slice_get b.tables.atoms i ≡ Some w) → b.tables.fluents ≡ a.tables.fluents → b.tables.actions ≡ a.tables.actions → b.tables.most ≡ a.tables.most → IfErr r (CannotNumber a.tables.most (with_words a.tables.atoms w) a.tables.fluents) → Lowers atom_named a r b w (an_atom w)
-atom_numbered a b w (Ok i) universe atoms place fluents actions most err = record {
-  notes = record { atoms = atoms; fluents = fluents; actions = actions; most = most; universe = universe };
-  says = λ later e. ap (λ ws. words_at ws i) e.atoms.1 ∙ at_place b.tables.atoms e.atoms.0 i w place;
+pub atom_numbered : (a b : Tables) (w : Words) (r : Result ℕ GroundFault) → OnOk r (b.atoms ≡ with_words a.atoms w) → IfOk r (λ i. slice_get b.atoms i ≡ Some w) → b.fluents ≡ a.fluents → b.actions ≡ a.actions → b.most ≡ a.most → IfErr r (CannotNumber a.most (with_words a.atoms w) a.fluents) → Lowers atom_named a r b w (an_atom w)
+atom_numbered a b w (Ok i) atoms place fluents actions most err = record {
+  notes = record { atoms = atoms; fluents = fluents; actions = actions; most = most };
+  says = λ later e. ap (λ ws. words_at ws i) e.atoms.1 ∙ at_place b.atoms e.atoms.0 i w place;
 }
-atom_numbered a b w (Err e) universe atoms place fluents actions most err = err
+atom_numbered a b w (Err e) atoms place fluents actions most err = err
 
-pub fluent_numbered : (a b : WriterView) (w : Words) (r : Result ℕ GroundFault) → b.universe ≡ a.universe → OnOk r (b.tables.fluents ≡ with_words a.tables.fluents w) → IfOk r (λ i. slice_get b.tables.fluents i ≡ Some w) → b.tables.atoms ≡ a.tables.atoms → b.tables.actions ≡ a.tables.actions → b.tables.most ≡ a.tables.most → IfErr r (CannotNumber a.tables.most a.tables.atoms (with_words a.tables.fluents w)) → Lowers fluent_named a r b w (a_fluent w)
-fluent_numbered a b w (Ok i) universe fluents place atoms actions most err = record {
-  notes = record { atoms = atoms; fluents = fluents; actions = actions; most = most; universe = universe };
-  says = λ later e. ap (λ ws. words_at ws i) e.fluents.1 ∙ at_place b.tables.fluents e.fluents.0 i w place;
+pub fluent_numbered : (a b : Tables) (w : Words) (r : Result ℕ GroundFault) → OnOk r (b.fluents ≡ with_words a.fluents w) → IfOk r (λ i. slice_get b.fluents i ≡ Some w) → b.atoms ≡ a.atoms → b.actions ≡ a.actions → b.most ≡ a.most → IfErr r (CannotNumber a.most a.atoms (with_words a.fluents w)) → Lowers fluent_named a r b w (a_fluent w)
+fluent_numbered a b w (Ok i) fluents place atoms actions most err = record {
+  notes = record { atoms = atoms; fluents = fluents; actions = actions; most = most };
+  says = λ later e. ap (λ ws. words_at ws i) e.fluents.1 ∙ at_place b.fluents e.fluents.0 i w place;
 }
-fluent_numbered a b w (Err e) universe fluents place atoms actions most err = err
+fluent_numbered a b w (Err e) fluents place atoms actions most err = err
 
 -- ---- two parts, one after the other, and what is made of both
 
@@ -171,27 +178,27 @@ mentioned : {Y Y1 Y2 : Type 0} (of : Y → Mentions) (of1 : Y1 → Mentions) (of
 mentioned of of1 of2 g splits y p q is = ap of is ∙ splits p q
 
 module _ {X X1 X2 Y Y1 Y2 : Type 0} (named : Tables → X → Y) (named1 : Tables → X1 → Y1) (named2 : Tables → X2 → Y2) (of : Y → Mentions) (of1 : Y1 → Mentions) (of2 : Y2 → Mentions) (g : Y1 → Y2 → Y) (splits : (p : Y1) (q : Y2) → of (g p q) ≡ (of1 p then of2 q)) (y : Y) (p : Y1) (q : Y2) (is : y ≡ g p q) where
-  pub first_failed : (a b : WriterView) (r : Result X GroundFault) (f : GroundFault) → IsErrAnd r (λ e. e ≡ f) → Overflows a (of1 p) f → Lowers named a r b y (of y)
+  pub first_failed : (a b : Tables) (r : Result X GroundFault) (f : GroundFault) → IsErrAnd r (λ e. e ≡ f) → Overflows a (of1 p) f → Lowers named a r b y (of y)
   first_failed a b r f err h = subst (λ m. Lowers named a r b y m) (sym (mentioned of of1 of2 g splits y p q is)) (failed named a b y (of1 p then of2 q) r f err (overflows_first a (of1 p) (of2 q) f h))
 
-  pub second_failed : (a b c : WriterView) (x1 : X1) (r : Result X GroundFault) (f : GroundFault) → IsErrAnd r (λ e. e ≡ f) → IsLowered named1 a b x1 p (of1 p) → Overflows b (of2 q) f → Lowers named a r c y (of y)
+  pub second_failed : (a b c : Tables) (x1 : X1) (r : Result X GroundFault) (f : GroundFault) → IsErrAnd r (λ e. e ≡ f) → IsLowered named1 a b x1 p (of1 p) → Overflows b (of2 q) f → Lowers named a r c y (of y)
   second_failed a b c x1 r f err l h = subst (λ m. Lowers named a r c y m) (sym (mentioned of of1 of2 g splits y p q is)) (failed named a c y (of1 p then of2 q) r f err (overflows_then a b (of1 p) (of2 q) f l.notes h))
 
-  pub both_lowered : (a b c : WriterView) (x1 : X1) (x2 : X2) (x : X) → ((t : Tables) → named t x ≡ g (named1 t x1) (named2 t x2)) → IsLowered named1 a b x1 p (of1 p) → IsLowered named2 b c x2 q (of2 q) → IsLowered named a c x y (of y)
+  pub both_lowered : (a b c : Tables) (x1 : X1) (x2 : X2) (x : X) → ((t : Tables) → named t x ≡ g (named1 t x1) (named2 t x2)) → IsLowered named1 a b x1 p (of1 p) → IsLowered named2 b c x2 q (of2 q) → IsLowered named a c x y (of y)
   both_lowered a b c x1 x2 x says l k = lowered_same y (of y) (sym is) (sym (mentioned of of1 of2 g splits y p q is)) (lowered_both g x says l k)
 
 -- ---- loops that lower one after another
 
 module _ {C Y : Type 0} (named : Tables → C → Y) (of : Y → Mentions) where
-  pub all_same : (a b : WriterView) (v : Vec C Global) (ys zs : List Y) → ys ≡ zs → AllLowered named of a b v ys → AllLowered named of a b v zs
+  pub all_same : (a b : Tables) (v : Vec C Global) (ys zs : List Y) → ys ≡ zs → AllLowered named of a b v ys → AllLowered named of a b v zs
   all_same a b v ys zs is l = subst (λ ws. AllLowered named of a b v ws) is l
 
-  module _ (a b c : WriterView) (v : Vec C Global) (ys rest all : List Y) (r : Result (Vec C Global) GroundFault) (e : GroundFault) (err : IsErrAnd r (λ f. f ≡ e)) (l : AllLowered named of a b v ys) where
+  module _ (a b c : Tables) (v : Vec C Global) (ys rest all : List Y) (r : Result (Vec C Global) GroundFault) (e : GroundFault) (err : IsErrAnd r (λ f. f ≡ e)) (l : AllLowered named of a b v ys) where
     pub all_stopped : (zs : List Y) → all ≡ ys ++ (zs ++ rest) → Overflows b (of_each of zs) e → Lowers (all_named named of) a r c all (of_each of all)
     all_stopped zs is h = failed (all_named named of) a c all (of_each of all) r e err (all_fail named of a b v ys zs rest all e is l h)
 
     pub one_stopped : (y : Y) → all ≡ ys ++ ((y ∷ []) ++ rest) → Overflows b (of y) e → Lowers (all_named named of) a r c all (of_each of all)
     one_stopped y is h = all_stopped (y ∷ []) is (subst (λ m. Overflows b m e) (sym (of_each_one of y)) h)
 
-pub as_written : {X Y : Type 0} {named : Tables → X → Y} (of : Y → Mentions) {a b : WriterView} {x : X} (y z : Y) → y ≡ z → IsLowered named a b x z (of z) → IsLowered named a b x y (of y)
+pub as_written : {X Y : Type 0} {named : Tables → X → Y} (of : Y → Mentions) {a b : Tables} {x : X} (y z : Y) → y ≡ z → IsLowered named a b x z (of z) → IsLowered named a b x y (of y)
 as_written of y z is l = lowered_same y (of y) (sym is) (sym (ap of is)) l

@@ -4,17 +4,15 @@ use Rattle.std.specs.Prelude.{◌≡◌, Result, Ok, Err}
 use Rattle.tp_task.specs.Words.{with_all}
 use Rattle.tp_task.specs.Labels.{Grows}
 use Rattle.tp_task.specs.Tables.{Tables, CannotNumber}
-use Rattle.tp_lower_conditions.specs.WriterViews.{WriterView}
 use Rattle.tp_lower_conditions.specs.Mentions.{Mentions}
 use Rattle.tp_task.specs.declared.fault.GroundFault.{GroundFault}
 
--- once these are numbered too, over the same universe
-pub record Notes (old new : WriterView) (m : Mentions) : Type 0 where
-  pub atoms : new.tables.atoms ≡ with_all old.tables.atoms m.atoms
-  pub fluents : new.tables.fluents ≡ with_all old.tables.fluents m.fluents
-  pub actions : new.tables.actions ≡ old.tables.actions
-  pub most : new.tables.most ≡ old.tables.most
-  pub universe : new.universe ≡ old.universe
+-- once these are numbered too
+pub record Notes (old new : Tables) (m : Mentions) : Type 0 where
+  pub atoms : new.atoms ≡ with_all old.atoms m.atoms
+  pub fluents : new.fluents ≡ with_all old.fluents m.fluents
+  pub actions : new.actions ≡ old.actions
+  pub most : new.most ≡ old.most
 
 -- the atoms and fluents that had numbers keep them
 pub record Extends (old new : Tables) : Type 0 where
@@ -22,20 +20,20 @@ pub record Extends (old new : Tables) : Type 0 where
   pub fluents : Grows old.fluents new.fluents
 
 -- What was mentioned is numbered, and x says y in these tables and in all that extend them.
-pub record IsLowered {X Y : Type 0} (named : Tables → X → Y) (old new : WriterView) (x : X) (y : Y)
+pub record IsLowered {X Y : Type 0} (named : Tables → X → Y) (old new : Tables) (x : X) (y : Y)
     (m : Mentions) : Type 0 where
   pub notes : Notes old new m
-  pub says : (later : Tables) → Extends new.tables later → named later x ≡ y
+  pub says : (later : Tables) → Extends new later → named later x ≡ y
 
 -- Greater is mentioned than may be numbered. Out of memory says nothing.
-abbrev pub Overflows : WriterView → Mentions → GroundFault → Type 0
+abbrev pub Overflows : Tables → Mentions → GroundFault → Type 0
 Overflows old m e =
-    CannotNumber old.tables.most (with_all old.tables.atoms m.atoms)
-    (with_all old.tables.fluents m.fluents) e
+    CannotNumber old.most (with_all old.atoms m.atoms)
+    (with_all old.fluents m.fluents) e
 
 abbrev pub Lowers :
     {X Y : Type 0}
     → (Tables → X → Y)
-    → WriterView → Result X GroundFault → WriterView → Y → Mentions → Type 0
+    → Tables → Result X GroundFault → Tables → Y → Mentions → Type 0
 Lowers named old (Ok x) new y m = IsLowered named old new x y m
 Lowers named old (Err e) new y m = Overflows old m e

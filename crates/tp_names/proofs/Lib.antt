@@ -1,4 +1,3 @@
 pub mod OnSymbols
-pub mod OnFits
 pub mod OnScope
 pub mod OnArguments

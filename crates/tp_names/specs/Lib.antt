@@ -3,4 +3,3 @@ pub mod Bound
 pub mod Fits
 pub mod LevelViews
 pub mod ScopeViews
-pub mod Parameters

@@ -6,17 +6,13 @@ ghost use Rattle.tp_ast.specs.Terms.{term_view, shapes, atom_view};
 ghost use Rattle.tp_ast.specs.Symbols as declared;
 ghost use Rattle.tp_ast.specs.Symbols.{typed_view, types_of, signature_view, signature_of, argument_types, argument_fits, arguments_fit, atom_in};
 ghost use Rattle.tp_names.specs.SymbolViews.{symbols_view};
-ghost use Rattle.tp_names.specs.LevelViews.{levels_view, AreOver};
+ghost use Rattle.tp_names.specs.LevelViews.{levels_view};
 ghost use Rattle.tp_names.specs.ScopeViews.{scope_view, symbols_of};
-ghost use Rattle.tp_names.specs.Fits.{signatures_of, types_at, fit_if_any, AreStarts};
-ghost use Rattle.tp_names.specs.Parameters.{IsParameter};
+ghost use Rattle.tp_names.specs.Fits.{signatures_of, types_at};
 ghost use Rattle.tp_ast.specs.Gives.{Gives};
 
-use crate::asked::takes_long;
-use crate::fits::starts_of;
 use crate::levels::Levels;
 pub use crate::levels::Scope;
-use crate::near::{lists_fit, near_at};
 use crate::symbols::{Kind, Symbols, object_types, signature_in};
 use crate::variables::Variables;
 use std::alloc::{AllocError, Global};
@@ -26,7 +22,7 @@ use tp_ast::term::{Atom, Term};
 use tp_declarations::term::{name_of, terms_of};
 use tp_declarations::typed::place;
 use tp_text::{Token, Tree};
-use tp_types::guesses::Guesses;
+use tp_types::types::lists_fit;
 
 impl<'a, 's, 'd> Scope<'a, 's, 'd> {
     /// A scope without variables.
@@ -77,14 +73,6 @@ fn variable_types<'a>(name: &str, levels: &'a Levels) -> Option<&'a [String]>
     }
 }
 
-// How many types a variable in scope has at most.
-fn most_types_in(levels: &Levels) -> usize {
-    match levels {
-        Levels::Empty => 0,
-        Levels::Inner(variables, outer) => variables.most_types().max(most_types_in(outer)),
-    }
-}
-
 // The types of an object that is declared, or of a variable in scope.
 fn argument_types<'a>(scope: &'a Scope, argument: &Term) -> Option<&'a [String]>
     ensures { option_map (λ ts. map string_bytes ts.now) result ≡ argument_types
@@ -96,17 +84,7 @@ fn argument_types<'a>(scope: &'a Scope, argument: &Term) -> Option<&'a [String]>
     }
 }
 
-/// A parameter of a predicate or a function: its types, guesses where one may stand among them, and where the first parameter stands
-/// that was given its types together with it, if that was found out.
-#[derive(Clone, Copy)]
-pub struct Parameter<'a> {
-    kind: Kind,
-    name: &'a str,
-    types: &'a [String],
-    start: Option<usize>,
-    guesses: Option<&'a Guesses>,
-}
-
+// The types of the parameter at a place.
 fn parameter_types(signature: &Signature, place: usize) -> Option<&[String]>
     ensures { option_map (λ ts. map string_bytes ts.now) result
         ≡ types_at (signature_view signature.now).parameters place }
@@ -117,113 +95,20 @@ fn parameter_types(signature: &Signature, place: usize) -> Option<&[String]>
     }
 }
 
-fn number_at(numbers: &[usize], place: usize) -> Option<usize>
-    ensures { result ≡ slice_get numbers.now place }
-{
-    match numbers.get(place) {
-        Some(number) => Some(*number),
-        None => None,
-    }
-}
-
-// The parameter at a place.
-fn parameter_at<'a>(
-    kind: Kind,
-    name: &'a str,
-    signature: &'a Signature,
-    starts: &[usize],
-    place: usize,
-    guesses: Option<&'a Guesses>,
-) -> Option<Parameter<'a>>
-    ensures types { option_map (λ p. map string_bytes p.types.now) result
-        ≡ types_at (signature_view signature.now).parameters place }
-    ensures is { AreStarts starts.now signature.now.parameters.items → (σ : declared.Symbols)
-        → signature_of name.now (signatures_of kind σ) ≡ Some (signature_view signature.now)
-        → IfSome result (IsParameter σ) }
-{
-    let types = parameter_types(signature, place)?;
-    let start = number_at(starts, place);
-    Some(Parameter {
-        kind,
-        name,
-        types,
-        start,
-        guesses,
-    })
-}
-
-// Whether it is known of a variable in scope that it fits a parameter.
-fn is_known_to_fit(levels: &Levels, variable: &str, parameter: &Parameter) -> bool
-    ensures { result ≡ true → (σ : declared.Symbols) → AreOver σ levels.now
-        → IsParameter σ parameter.now → fit_if_any σ.types
-        (types_of variable.now (levels_view levels.now))
-        (Some (map string_bytes parameter.now.types.now)) ≡ true }
-{
-    let (Levels::Inner(variables, outer), Some(start)) = (levels, parameter.start) else {
-        return false;
-    };
-    match variables.find(variable) {
-        Some(_) => variables.is_known_to_fit(parameter.kind, parameter.name, variable, start),
-        None => is_known_to_fit(outer, variable, parameter),
-    }
-}
-
-// Whether it is known of an argument that it fits a parameter.
-fn is_known(scope: &Scope, argument: &Term, parameter: &Parameter) -> bool
-    requires { IsParameter (symbols_of scope.now) parameter.now }
-    ensures { result ≡ true → fit_if_any (symbols_of scope.now).types (argument_types
-        (symbols_of scope.now).objects (scope_view scope.now) (term_view argument.now))
-        (Some (map string_bytes parameter.now.types.now)) ≡ true }
-{
-    match argument {
-        Term::Object(_) => false,
-        Term::Variable(name) => is_known_to_fit(&scope.levels, name.as_str(), parameter),
-    }
-}
-
-// Whether an argument may stand for a parameter.
+// Whether an argument may stand for a parameter of some types.
 fn argument_fits(
     alloc: Global,
     scope: &Scope,
     argument: &Term,
-    parameter: &Parameter,
+    parameter: &[String],
 ) -> Result<bool, AllocError>
-    requires { IsParameter (symbols_of scope.now) parameter.now }
     ensures { IfOk result (λ b. b
         ≡ argument_fits (symbols_of scope.now).types (symbols_of scope.now).objects
-        (scope_view scope.now) (term_view argument.now)
-        (map string_bytes parameter.now.types.now)) }
+        (scope_view scope.now) (term_view argument.now) (map string_bytes parameter.now)) }
 {
-    let Some(types) = argument_types(scope, argument) else {
-        return Ok(false);
-    };
-    if takes_long(types.len(), parameter.types.len()) && is_known(scope, argument, parameter) {
-        return Ok(true);
-    }
-    lists_fit(
-        alloc,
-        &scope.symbols.types,
-        types,
-        parameter.types,
-        parameter.guesses,
-    )
-}
-
-// Of each parameter the first that was given its types together with it, if something may have been found out of a variable.
-fn starts_if_asked(
-    alloc: Global,
-    scope: &Scope,
-    signature: &Signature,
-) -> Result<Vec<usize>, AllocError>
-    ensures { IfOk result (λ v. AreStarts v.items signature.now.parameters.items) }
-{
-    if takes_long(
-        most_types_in(&scope.levels),
-        scope.symbols.hints.most_types(),
-    ) {
-        starts_of(alloc, &signature.parameters)
-    } else {
-        Ok(Vec::new(alloc))
+    match argument_types(scope, argument) {
+        Some(types) => lists_fit(alloc, &scope.symbols.types, types, parameter),
+        None => Ok(false),
     }
 }
 
@@ -231,26 +116,19 @@ fn starts_if_asked(
 fn arguments_fit(
     alloc: Global,
     scope: &Scope,
-    kind: Kind,
-    name: &str,
     signature: &Signature,
     arguments: &[Term],
 ) -> Result<bool, AllocError>
-    requires { signature_of name.now (signatures_of kind (symbols_of scope.now))
-        ≡ Some (signature_view signature.now) }
     ensures { IfOk result (λ b. b
         ≡ arguments_fit (symbols_of scope.now).types (symbols_of scope.now).objects
         (scope_view scope.now) (map term_view arguments.now)
         (signature_view signature.now).parameters) }
 {
-    let starts = starts_if_asked(alloc, scope, signature)?;
-    let near = scope.symbols.hints.near(signature);
     for (place, argument) in arguments.iter().enumerate() {
-        let guesses = near_at(near, place);
-        let Some(parameter) = parameter_at(kind, name, signature, &starts, place, guesses) else {
+        let Some(parameter) = parameter_types(signature, place) else {
             return Ok(false);
         };
-        if !argument_fits(alloc, scope, argument, &parameter)? {
+        if !argument_fits(alloc, scope, argument, parameter)? {
             return Ok(false);
         }
     }
@@ -286,7 +164,7 @@ pub fn atom_in(
         return Err(SyntaxFault::Unknown(word.span.start));
     };
     let terms = terms_of(alloc, args, at)?;
-    if !arguments_fit(alloc, scope, kind, name.as_str(), signature, &terms)? {
+    if !arguments_fit(alloc, scope, signature, &terms)? {
         return Err(arguments_fault(scope, &terms, args, at));
     }
     Ok(Atom { name, terms })

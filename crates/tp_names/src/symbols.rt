@@ -5,13 +5,12 @@ ghost use Rattle.tp_ast.specs.Symbols.{typed_view, types_of, signature_view, sig
 ghost use Rattle.tp_names.specs.SymbolViews.{symbols_view};
 ghost use Rattle.tp_names.specs.Fits.{signatures_of};
 
-use crate::near::Hints;
 use tp_ast::symbols::{Signature, Typed};
 use tp_types::lookup::Lookup;
 use tp_types::types::Types;
 
 /// What an atom is of.
-#[derive(Clone, Copy, PartialEq, Eq, PartialOrd, Ord)]
+#[derive(Clone, Copy)]
 pub enum Kind {
     Predicate,
     Function,
@@ -25,7 +24,6 @@ pub struct Symbols<'a> {
     pub objects: Lookup<'a, Typed>,
     pub predicates: Lookup<'a, Signature>,
     pub functions: Lookup<'a, Signature>,
-    pub hints: Hints<'a>,
 }
 
 fn types_found<'a>(name: &str, declared: &'a Lookup<Typed>) -> Option<&'a [String]>

@@ -1,3 +1,2 @@
 pub mod TestLemmas
 pub mod WordLemmas
-pub mod SetLemmas

@@ -1,14 +1,14 @@
 -- Bits of words that grow, are read and are written.
-use Rattle.std.specs.Prelude.{ℕ, zero, suc, ◌≡◌, ◌+◌, ◌*◌, ◌/◌, ◌%◌, ◌^◌, ◌<◌, ◌≤◌, ◌==◌, ◌&&◌, ◌||◌, false, List, [], ◌∷◌, ◌++◌, length, set, take, max, bit_and, bit_or}
+use Rattle.std.specs.Prelude.{ℕ, zero, suc, ◌≡◌, ◌+◌, ◌*◌, ◌/◌, ◌%◌, ◌^◌, ◌<◌, ◌≤◌, ◌==◌, ◌&&◌, ◌||◌, false, List, [], ◌∷◌, ◌++◌, length, set, max, bit_and, bit_or}
 use Rattle.std.specs.Int.{bit_at}
 use Rattle.std.proofs.Common.{refl, sym, ap, subst, ◌∙◌, arith, get_or, inl, inr, eq-eqb}
-use Rattle.std.proofs.lemmas.List.{get_or-set_same, get_or-set_other, get_or-take, get_or_past, length-take}
-use Rattle.std.proofs.lemmas.Bool.{cases_eq, cases_lt, ne_eqb, and_left, and_right}
+use Rattle.std.proofs.lemmas.List.{get_or-set_same, get_or-set_other}
+use Rattle.std.proofs.lemmas.Bool.{cases_eq, ne_eqb, and_left, and_right}
 use Rattle.std.proofs.lemmas.Bool.Decides.{nat_tests}
 use Rattle.std.proofs.lemmas.Nat.{one_shl}
 use Rattle.std.proofs.lemmas.Nat.Bits.{bit_at_or, bit_at-zero, bit_at-pow_same, bit_at-pow_other, shr_and_one}
 use Rattle.tp_number_sets.specs.Sets.{has_bit, is_in_word}
-use Rattle.tp_number_sets.proofs.TestLemmas.{or_false, or_more}
+use Rattle.tp_number_sets.proofs.TestLemmas.{or_false}
 
 bit_small : (n i : ℕ) → bit_at n i ≤ 1
 bit_small n i = omega arith
@@ -66,49 +66,6 @@ pub has_bit_put : (words : List ℕ) (place word : ℕ) → place < length words
 unfolding has_bit is_in_word
 has_bit_put words place word within n = put_bit words place word (n / 64) (n % 64) within
 
-more_here : (words : List ℕ) (place i : ℕ)
-    → (bit_at (get_or (take (place + 1) words) place 0) i == 1)
-    ≡ ((bit_at (get_or (take place words) place 0) i == 1) || (place == place && bit_at (get_or words place 0) i == 1))
-more_here words place i =
-    let at : get_or (take (place + 1) words) place 0 ≡ get_or words place 0 = get_or-take (place + 1) words place 0 (omega arith) in
-    let past : get_or (take place words) place 0 ≡ 0 = get_or_past (take place words) place 0 (omega (arith, length-take place words)) in
-    let none : (bit_at (get_or (take place words) place 0) i == 1) ≡ false =
-    ap (λ w. bit_at w i == 1) past ∙ ap (λ b. b == 1) (bit_at-zero i) in
-    ap (λ w. bit_at w i == 1) at
-    ∙ sym (ap (λ t. (bit_at (get_or (take place words) place 0) i == 1) || (t && bit_at (get_or words place 0) i == 1)) (eq-eqb place place refl)
-    ∙ ap (λ t. t || (bit_at (get_or words place 0) i == 1)) none)
-
-same_elsewhere : (words : List ℕ) (place k : ℕ) → (k ≡ place → ⊥) → get_or (take (place + 1) words) k 0 ≡ get_or (take place words) k 0
-same_elsewhere words place k other = elim (cases_lt k place) [
-  | inl below ↦ get_or-take (place + 1) words k 0 (omega arith) ∙ sym (get_or-take place words k 0 below)
-  | inr above ↦ get_or_past (take (place + 1) words) k 0 (omega (arith, length-take (place + 1) words))
-      ∙ sym (get_or_past (take place words) k 0 (omega (arith, length-take place words)))
-]
-
-more_elsewhere : (words : List ℕ) (place word k i : ℕ) → (k ≡ place → ⊥)
-    → (bit_at (get_or (take (place + 1) words) k 0) i == 1)
-    ≡ ((bit_at (get_or (take place words) k 0) i == 1) || (k == place && bit_at word i == 1))
-more_elsewhere words place word k i other =
-    ap (λ w. bit_at w i == 1) (same_elsewhere words place k other)
-    ∙ sym (ap (λ t. (bit_at (get_or (take place words) k 0) i == 1) || (t && bit_at word i == 1)) (ne_eqb k place other)
-    ∙ or_false (bit_at (get_or (take place words) k 0) i == 1))
-
-more_bit : (words : List ℕ) (place k i : ℕ)
-    → (bit_at (get_or (take (place + 1) words) k 0) i == 1)
-    ≡ ((bit_at (get_or (take place words) k 0) i == 1) || (k == place && bit_at (get_or words place 0) i == 1))
-more_bit words place k i = elim (cases_eq k place) [
-  | inl same ↦ subst (λ j. (bit_at (get_or (take (place + 1) words) j 0) i == 1)
-      ≡ ((bit_at (get_or (take place words) j 0) i == 1) || (j == place && bit_at (get_or words place 0) i == 1)))
-      (sym same) (more_here words place i)
-  | inr other ↦ more_elsewhere words place (get_or words place 0) k i other
-]
-
--- the words before a place, and the one there
-pub has_bit_more : (words : List ℕ) (place n : ℕ)
-    → has_bit (take (place + 1) words) n ≡ (has_bit (take place words) n || is_in_word place (get_or words place 0) n)
-unfolding has_bit is_in_word
-has_bit_more words place n = more_bit words place (n / 64) (n % 64)
-
 one_other : (number n : ℕ) → (n ≡ number → ⊥) → (n / 64 == number / 64 && bit_at (2 ^ (number % 64)) (n % 64) == 1) ≡ (n == number)
 one_other number n other = (elim (cases_eq (n / 64) (number / 64)) [
   | inl same ↦ and_right (n / 64 == number / 64) (bit_at (2 ^ (number % 64)) (n % 64) == 1)
@@ -141,12 +98,3 @@ pub has_bit_past : (words : List ℕ) (number : ℕ) → 0 ≡ get_or words (num
 unfolding has_bit
 has_bit_past words number is =
     sym (ap (λ b. b == 1) (bit_at-zero (number % 64))) ∙ ap (λ w. bit_at w (number % 64) == 1) is
-
--- the words before a place are put in, and then the one there
-pub put_more : (words now new others : List ℕ) (place n : ℕ)
-    → has_bit now n ≡ (has_bit words n || has_bit (take place others) n)
-    → has_bit new n ≡ (has_bit now n || is_in_word place (get_or others place 0) n)
-    → has_bit new n ≡ (has_bit words n || has_bit (take (place + 1) others) n)
-put_more words now new others place n is_now is_new =
-    or_more (has_bit words n) (has_bit (take place others) n) (has_bit now n) (is_in_word place (get_or others place 0) n)
-    (has_bit (take (place + 1) others) n) (has_bit new n) is_now is_new (has_bit_more others place n)

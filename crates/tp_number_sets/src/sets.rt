@@ -21,16 +21,6 @@ fn put_word(words: &mut [u64], place: usize, word: u64)
     words[place] |= word;
 }
 
-// Puts in the numbers that other words have.
-fn put_words(words: &mut [u64], others: &[u64])
-    requires { length others.now ≤ length words.old }
-    ensures { (n : ℕ) → has_bit words.new n ≡ (has_bit words.old n || has_bit others.now n) }
-{
-    for place in 0..others.len() {
-        put_word(words, place, others[place]);
-    }
-}
-
 // Makes at least so many words, those that come being empty.
 fn make_words(words: &mut Vec<u64>, count: usize) -> Result<(), AllocError>
     ensures same { (n : ℕ) → has_bit words.new.items n ≡ has_bit words.old.items n }
@@ -91,17 +81,6 @@ impl NumberSet {
         let place = number / 64;
         make_words(&mut self.words, place + 1)?;
         put_word(&mut self.words, place, 1 << (number % 64));
-        Ok(())
-    }
-
-    /// Puts in each number of another set. It costs a step for each word of the other.
-    pub fn extend(&mut self, other: &NumberSet) -> Result<(), AllocError>
-        ensures ok { OnOk result
-            ((n : ℕ) → has_number self.new n ≡ (has_number self.old n || has_number other.now n)) }
-        ensures err { OnErr result ((n : ℕ) → has_number self.new n ≡ has_number self.old n) }
-    {
-        make_words(&mut self.words, other.words.len())?;
-        put_words(&mut self.words, &other.words);
         Ok(())
     }
 }

@@ -1,11 +1,12 @@
 //! The audit of the journal in a file against the plan that words name.
 
-ghost use Rattle.std.specs.Prelude.{◌≡◌, ◌≢◌, ◌≤◌, [], IfOk, IfErr};
+ghost use Rattle.std.specs.Prelude.{◌≡◌, ◌≢◌, ◌≤◌, ℕ, List, [], Option, IfOk, IfErr};
 ghost use Rattle.tp_files.specs.FaultLines.{TellsFault};
 ghost use Rattle.tp_plan_audits.specs.AuditStops.{plan_stop_failures};
 ghost use Rattle.tp_plan_audits.specs.Ends.{SaysHeaded, StopsHeaded};
 ghost use Rattle.tp_plan_audits.specs.PlanAudits.{EndsPlanAudit, SaysPlan, SaysPlanJournal, SaysPlanNo, StopsPlanAudit, WritesAuditPart};
-ghost use Rattle.tp_plan_files.specs.Named.{IsNamedTask};
+ghost use Rattle.tp_plan_files.specs.Named.{IsNamedPlan};
+ghost use Rattle.tp_validate.specs.OfTask.{IsOfTask};
 
 use crate::auditing::audit_verdict;
 use crate::stop_lines::{PlanAuditStop, plan_stop_line};
@@ -13,37 +14,39 @@ use std::alloc::Global;
 use tp_audit::JournalHead;
 use tp_device::{Sink, Source};
 use tp_files::{Files, OUT_OF_ORDER, REFUSED, complain};
+use tp_happen::Plan;
 use tp_log_audits::{AuditStop, head_in};
-use tp_plan_files::{PlanWords, task_in, verdict_in};
+use tp_plan_files::{NamedPlan, PlanWords, plan_in, verdict_of};
 use tp_task::Task;
 
-/// Audits what a source has left, a journal with that head, against the plan that the words name, of their task, and writes what was
+/// Audits what a source has left, a journal with that head, against the plan that the words name, of its task, and writes what was
 /// found. Answers whether the plan is valid and it is a journal.
-fn audit_task<N: Files, S: Source + Drop, O: Sink>(
+fn audit_task<S: Source + Drop, O: Sink>(
     alloc: Global,
-    files: &mut N,
     words: PlanWords<'_>,
     task: &Task,
+    plan: Plan,
     head: &JournalHead,
     source: S,
     output: &mut O,
 ) -> Result<bool, PlanAuditStop>
-    requires { words.horizon ≤ 1000000000 }
-    ensures said { IsNamedTask (N.held files.old) words.entry task.now → IfOk result (SaysHeaded
-        (N.held files.old) words.entry head.now (S.left source) (O.held output.old)
-        (O.held output.new)) }
-    ensures cause { IsNamedTask (N.held files.old) words.entry task.now → IfErr result (StopsHeaded
-        (N.held files.old) words.entry head.now (S.left source) (O.held output.old)
-        (O.held output.new)) }
+    requires limit { words.horizon ≤ 1000000000 }
+    requires of_task { IsOfTask task.now plan }
+    ensures said { (held : List ℕ → Option (List ℕ))
+        → IsNamedPlan held words.entry task.now plan → IfOk result (SaysHeaded held
+        words.entry head.now (S.left source) (O.held output.old) (O.held output.new)) }
+    ensures cause { (held : List ℕ → Option (List ℕ))
+        → IsNamedPlan held words.entry task.now plan → IfErr result (StopsHeaded held
+        words.entry head.now (S.left source) (O.held output.old) (O.held output.new)) }
     ensures failures { O.failures output.new ≡ plan_stop_failures (O.failures output.old) result }
 {
-    match verdict_in(alloc, files, words, task) {
+    match verdict_of(alloc, task, plan) {
         Ok(verdict) => audit_verdict(alloc, &verdict, words.horizon, head, source, output),
         Err(fault) => Err(PlanAuditStop::Judging(fault)),
     }
 }
 
-/// The same of the task of the files, too. A file is opened only when what stands before it is done.
+/// The same with the files read. A file is opened only when what stands before it is done.
 fn audit_words<N: Files, S: Source + Drop, O: Sink>(
     alloc: Global,
     files: &mut N,
@@ -59,8 +62,11 @@ fn audit_words<N: Files, S: Source + Drop, O: Sink>(
         (S.left source) (O.held output.old) (O.held output.new)) }
     ensures failures { O.failures output.new ≡ plan_stop_failures (O.failures output.old) result }
 {
-    match task_in(alloc, files, words) {
-        Ok(task) => audit_task(alloc, files, words, &task, head, source, output),
+    match plan_in(alloc, files, words) {
+        Ok(named) => {
+            let NamedPlan { task, plan } = named;
+            audit_task(alloc, words, &task, plan, head, source, output)
+        }
         Err(fault) => Err(PlanAuditStop::Judging(fault)),
     }
 }

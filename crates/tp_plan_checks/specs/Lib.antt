@@ -1,3 +1,2 @@
 pub mod Judgements
-pub mod Wholes
 pub mod Files

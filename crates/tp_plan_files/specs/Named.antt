@@ -1,10 +1,12 @@
--- The task and the plan that words name.
+-- The plan that words name, and its task: the ground actions that the plan's text names, of all type-correct bindings of the problem.
 use Rattle.std.specs.Prelude.{ℕ, List, Option}
 use Rattle.tp_bounds.specs.RunLimits.{greatest_limits}
 use Rattle.tp_syntax.specs.Domains.{Domain, SpellsDomain}
 use Rattle.tp_syntax.specs.Problems.{Problem, SpellsProblem}
-use Rattle.tp_ground.specs.Grounding.{IsTask}
+use Rattle.tp_ground.specs.Reached.{IsTaskOf}
+use Rattle.tp_named_tasks.specs.Named.{chosen}
 use Rattle.tp_task.specs.declared.task.Task.{Task}
+use Rattle.tp_happen.specs.tp_plan_texts.PlanNames.{plan_names}
 use Rattle.tp_happen.specs.tp_plan_texts.PlanTexts.{SpellsPlan}
 use Rattle.tp_happen.specs.tp_plan_texts.TaskWords.{readable}
 use Rattle.tp_happen.specs.tp_plan_texts.declared.plans.Step.{Step}
@@ -15,24 +17,24 @@ use Rattle.tp_plan_files.specs.declared.plan_words.PlanWords.{PlanWords}
 abbrev pub IsIn : Option (List ℕ) → (List ℕ → Type 0) → Type 0
 IsIn held spells = (text : List ℕ) × HoldsText held text × spells text
 
--- the task is that of a domain and the problem that the words name
-pub record IsTaskWith (held : List ℕ → Option (List ℕ)) (w : PlanWords) (domain : Domain)
-    (task : Task) : Type 0 where
-  pub problem : Problem
-  pub problem_in : IsIn (held w.problem.now) (λ text. SpellsProblem domain text problem)
-  pub task_of : IsTask (greatest_limits w.horizon) w.scale domain problem task
+-- the domain and the problem are those that the words name
+abbrev pub AreNamed : (List ℕ → Option (List ℕ)) → PlanWords → Domain → Problem → Type 0
+AreNamed held w d p =
+    IsIn (held w.domain.now) (λ text. SpellsDomain text d)
+    × IsIn (held w.problem.now) (λ text. SpellsProblem d text p)
 
--- the task is that of the domain and the problem that the words name
-pub record IsNamedTask (held : List ℕ → Option (List ℕ)) (w : PlanWords)
-    (task : Task) : Type 0 where
-  pub domain : Domain
-  pub problem : Problem
-  pub domain_in : IsIn (held w.domain.now) (λ text. SpellsDomain text domain)
-  pub problem_in : IsIn (held w.problem.now) (λ text. SpellsProblem domain text problem)
-  pub task_of : IsTask (greatest_limits w.horizon) w.scale domain problem task
+-- The task of a plan's text: its actions are all type-correct bindings that the text names, and there is no limit on the others.
+abbrev pub IsTaskFor : PlanWords → Domain → Problem → List ℕ → Task → Type 0
+IsTaskFor w d p text task =
+    IsTaskOf (greatest_limits w.horizon) w.scale d p (chosen d p (plan_names text)) task
 
 -- the steps are those of the plan that the words name, of its task
 pub record IsNamedPlan (held : List ℕ → Option (List ℕ)) (w : PlanWords) (task : Task)
     (steps : List Step) : Type 0 where
-  pub of_task : IsNamedTask held w task
-  pub plan_in : IsIn (held w.plan.now) (λ text. SpellsPlan (readable task) text steps)
+  pub domain : Domain
+  pub problem : Problem
+  pub text : List ℕ
+  pub are_named : AreNamed held w domain problem
+  pub plan_in : HoldsText (held w.plan.now) text
+  pub task_of : IsTaskFor w domain problem text task
+  pub spelled : SpellsPlan (readable task) text steps

@@ -4,7 +4,9 @@ use Rattle.tp_text.specs.declared.number.Scale.{Scale}
 use Rattle.tp_ast.specs.Domains.{Domain, SpellsDomain}
 use Rattle.tp_ast.specs.Problems.{Problem, SpellsProblem}
 use Rattle.tp_bounds.specs.RunLimits.{RunLimits}
-use Rattle.tp_ground.specs.Grounding.{IsTask}
+use Rattle.tp_ground.specs.Reached.{IsTaskOf}
+use Rattle.tp_named_tasks.specs.Named.{chosen}
+use Rattle.tp_task.specs.Words.{Words}
 use Rattle.tp_task.specs.declared.task.Task.{Task}
 use Rattle.tp_happen.specs.tp_plan_texts.declared.plans.Step.{Step}
 use Rattle.tp_happen.specs.tp_plan_texts.PlanTexts.{SpellsPlan, AreKnown}
@@ -12,14 +14,16 @@ use Rattle.tp_happen.specs.tp_plan_texts.PlanPrints.{plan_text}
 use Rattle.tp_happen.specs.tp_plan_texts.TaskPlans.{EndInTime}
 use Rattle.tp_happen.specs.tp_plan_texts.TaskWords.{readable}
 
--- The task of a problem that is spelled by texts: what is written for steps of it that end by its horizon spells them.
+-- A task of chosen ground actions of a problem that is spelled by texts: what is written for steps of it that end by its horizon
+-- spells them.
 abbrev pub TaskPlansAreRead : Type 0
 TaskPlansAreRead =
     (text other : List ℕ) (d : Domain)
-    (p : Problem) (limits : RunLimits) (scale : Scale) (t : Task) (steps : List Step)
+    (p : Problem) (limits : RunLimits) (scale : Scale) (asked : List Words) (t : Task)
+    (steps : List Step)
     → SpellsDomain text d
     → SpellsProblem d other p
-    → IsTask limits scale d p t
+    → IsTaskOf limits scale d p (chosen d p asked) t
     → AreKnown (readable t) steps
     → EndInTime t steps
     → SpellsPlan (readable t) (plan_text (readable t) steps) steps

@@ -1,10 +1,11 @@
 //! The run of the plan that words name.
 
-ghost use Rattle.std.specs.Prelude.{◌≡◌, ◌≢◌, ◌≤◌, ◌⊎◌, [], IfOk, IfErr};
+ghost use Rattle.std.specs.Prelude.{◌≡◌, ◌≢◌, ◌≤◌, ◌⊎◌, ℕ, List, [], Option, IfOk, IfErr};
 ghost use Rattle.tp_bounds.specs.RunLimits.{greatest_limits};
 ghost use Rattle.tp_deorder.specs.Answers.{IsPlanNetOf};
 ghost use Rattle.tp_files.specs.FaultLines.{TellsFault};
-ghost use Rattle.tp_plan_files.specs.Named.{IsNamedTask};
+ghost use Rattle.tp_plan_files.specs.Named.{IsNamedPlan};
+ghost use Rattle.tp_validate.specs.OfTask.{IsOfTask};
 ghost use Rattle.tp_plan_runs.specs.Answered.{IsLong};
 ghost use Rattle.tp_plan_runs.specs.Ends.{RunsSteps, RunsVerdict, StopsSteps, StopsVerdict};
 ghost use Rattle.tp_plan_runs.specs.RunLines.{run_failures};
@@ -18,7 +19,8 @@ use tp_bounds::{Limits, PlanNet};
 use tp_deorder::deorder;
 use tp_device::{Sink, Source};
 use tp_files::{Files, OUT_OF_ORDER, REFUSED, complain};
-use tp_plan_files::{PlanWords, task_in, verdict_in, write_invalid};
+use tp_happen::Plan;
+use tp_plan_files::{NamedPlan, PlanWords, plan_in, verdict_of, write_invalid};
 use tp_task::Task;
 use tp_validate::{ValidPlan, Verdict};
 
@@ -89,29 +91,32 @@ fn run_verdict<I: Source + Drop, O: Sink>(
     }
 }
 
-/// The same of the plan that the words name, of their task.
-fn run_of<N: Files, I: Source + Drop, O: Sink>(
+/// The same of the plan that the words name, of its task.
+fn run_of<I: Source + Drop, O: Sink>(
     alloc: Global,
-    files: &mut N,
     words: PlanWords<'_>,
     task: &Task,
+    plan: Plan,
     input: I,
     output: &mut O,
 ) -> Result<bool, RunStop>
-    requires { words.horizon ≤ 1000000000 }
-    ensures said { IsNamedTask (N.held files.old) words.entry task.now → IfOk result (Runs
-        (N.held files.old) words.entry (I.left input) (O.held output.old) (O.held output.new)) }
-    ensures cause { IsNamedTask (N.held files.old) words.entry task.now → IfErr result (StopsRun
-        (N.held files.old) words.entry (I.left input) (O.held output.old) (O.held output.new)) }
+    requires limit { words.horizon ≤ 1000000000 }
+    requires of_task { IsOfTask task.now plan }
+    ensures said { (held : List ℕ → Option (List ℕ))
+        → IsNamedPlan held words.entry task.now plan → IfOk result
+        (Runs held words.entry (I.left input) (O.held output.old) (O.held output.new)) }
+    ensures cause { (held : List ℕ → Option (List ℕ))
+        → IsNamedPlan held words.entry task.now plan → IfErr result
+        (StopsRun held words.entry (I.left input) (O.held output.old) (O.held output.new)) }
     ensures failures { O.failures output.new ≡ run_failures (O.failures output.old) result }
 {
-    match verdict_in(alloc, files, words, task) {
+    match verdict_of(alloc, task, plan) {
         Ok(verdict) => run_verdict(alloc, &verdict, words.horizon, input, output),
         Err(fault) => Err(RunStop::Judging(fault)),
     }
 }
 
-/// The same of the task of the files, too. A file is opened only when what stands before it is done.
+/// The same with the files read. A file is opened only when what stands before it is done.
 fn run<N: Files, I: Source + Drop, O: Sink>(
     alloc: Global,
     files: &mut N,
@@ -126,8 +131,11 @@ fn run<N: Files, I: Source + Drop, O: Sink>(
         (O.held output.old) (O.held output.new)) }
     ensures failures { O.failures output.new ≡ run_failures (O.failures output.old) result }
 {
-    match task_in(alloc, files, words) {
-        Ok(task) => run_of(alloc, files, words, &task, input, output),
+    match plan_in(alloc, files, words) {
+        Ok(named) => {
+            let NamedPlan { task, plan } = named;
+            run_of(alloc, words, &task, plan, input, output)
+        }
         Err(fault) => Err(RunStop::Judging(fault)),
     }
 }

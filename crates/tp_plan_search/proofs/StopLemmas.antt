@@ -9,8 +9,8 @@ use Rattle.tp_ast.specs.declared.fault.SyntaxFault.{SyntaxFault}
 use Rattle.tp_ast.specs.declared.fault.SyntaxFault.TheVariants as syntax_fault
 use Rattle.tp_task.specs.declared.fault.GroundFault.{GroundFault}
 use Rattle.tp_task.specs.declared.fault.GroundFault.TheVariants as ground_fault
-use Rattle.tp_search.specs.tp_forms.declared.fault.SearchFault.{SearchFault}
-use Rattle.tp_search.specs.tp_forms.declared.fault.SearchFault.TheVariants as search_fault
+use Rattle.tp_search.specs.tp_frontier.declared.fault.SearchFault.{SearchFault}
+use Rattle.tp_search.specs.tp_frontier.declared.fault.SearchFault.TheVariants as search_fault
 use Rattle.tp_files.specs.FaultLines.{Tells}
 use Rattle.tp_files.specs.FileFaults.{file_status}
 use Rattle.tp_files.specs.declared.files.FileFault.{FileFault}

@@ -1,8 +1,8 @@
 -- What is told where a search stops without an answer, and why it stops.
 use Rattle.std.specs.Prelude.{◌≡◌, ℕ, ◌+◌, List, Option, Result, Ok, Err, codes}
 use Rattle.tp_task.specs.declared.task.Task.{Task}
-use Rattle.tp_search.specs.tp_forms.declared.fault.SearchFault.{SearchFault}
-use Rattle.tp_search.specs.tp_forms.declared.fault.SearchFault.TheVariants as search
+use Rattle.tp_search.specs.tp_frontier.declared.fault.SearchFault.{SearchFault}
+use Rattle.tp_search.specs.tp_frontier.declared.fault.SearchFault.TheVariants as search
 use Rattle.tp_files.specs.FaultLines.{Tells, fault_line}
 use Rattle.tp_plan_files.specs.JudgeLines.{judge_status, judge_text}
 use Rattle.tp_plan_search.specs.SearchTasks.{ExplainsTask, IsSearchTask}

@@ -8,7 +8,14 @@ use Rattle.tp_task.specs.declared.task.Task.{Task}
 use Rattle.tp_plan_files.specs.declared.plan_words.PlanWords.{PlanWords}
 use Rattle.tp_plan_search.specs.SearchTasks.{IsSearchTask}
 use Rattle.tp_plan_search.specs.FoundText.{IsNoPlanLine, IsPlanText}
+use Rattle.tp_plan_search.specs.declared.search_words.Order.{Order}
+use Rattle.tp_plan_search.specs.declared.search_words.Order.TheVariants.{Lacking, Guided}
 use Rattle.tp_plan_search.specs.declared.search_words.SearchWords.{SearchWords}
+
+-- plans are told of as they are found
+abbrev pub tells_progress : Order → Bool
+tells_progress Lacking = false
+tells_progress (Guided wishes) = wishes.progress
 
 -- the same words as those of a plan in a file, though no file of a plan is opened
 abbrev pub task_words : SearchWords → PlanWords

@@ -1,25 +1,28 @@
 //! The search for a plan of the problem in a file.
 
-ghost use Rattle.std.specs.Prelude.{◌≡◌, ◌≢◌, ◌≤◌, ℕ, List, [], Option, IfOk, IfErr};
+ghost use Rattle.std.specs.Prelude.{◌≡◌, ◌≢◌, ◌≤◌, ℕ, List, [], Option, IfOk, IfErr, false};
 ghost use Rattle.tp_files.specs.FaultLines.{TellsFault};
+ghost use Rattle.tp_search.specs.tp_at_once.Answers.{IsAnswer};
 ghost use Rattle.tp_plan_search.specs.FoundText.{IsFoundOfTask};
 ghost use Rattle.tp_plan_search.specs.SearchStops.{EndsSearch, StopsSearch, stop_failures};
 ghost use Rattle.tp_plan_search.specs.SearchTasks.{ExplainsTask, IsSearchTask};
-ghost use Rattle.tp_plan_search.specs.Searches.{SaysNoPlan, Searches, SearchesPart, WritesPlan, task_words};
+ghost use Rattle.tp_plan_search.specs.Searches.{SaysNoPlan, Searches, SearchesPart, WritesPlan, task_words, tells_progress};
 ghost use Rattle.tp_plan_search.specs.Telling.{StopsTelling, TellsFound};
 
 use crate::found_text::write_found;
-use crate::search_words::SearchWords;
+use crate::search_words::{Order, SearchWords};
 use crate::stops::{SearchStop, stop_line};
 use crate::tasks::task_in;
 use std::alloc::Global;
+use std::io::Write;
 use tp_device::Sink;
 use tp_files::{Files, OUT_OF_ORDER, REFUSED, complain};
 use tp_ground::{actions_are_readable, reached_actions_are_readable};
 use tp_happen::plans_are_read;
 use tp_plan_files::JudgeFault;
 use tp_same_plans::{same_goal_is_in_reach, same_plans_are_valid};
-use tp_search::{Found, search};
+use tp_search::{Found, SearchFault, search};
+use tp_solve::solve_with;
 use tp_task::Task;
 
 /// Writes what a search came to. Answers whether that is a plan.
@@ -35,11 +38,30 @@ fn tell<O: Sink>(found: &Found<'_>, output: &mut O) -> Result<bool, SearchStop>
     }
 }
 
+/// What the search that the words name comes to.
+fn found_in<'t, B: Write>(
+    alloc: Global,
+    words: SearchWords<'_>,
+    task: &'t Task,
+    board: &mut B,
+) -> Result<Found<'t>, SearchFault>
+    ensures answer { IfOk result (IsAnswer task.now words.entry.budget words.entry.horizon) }
+    ensures quiet { tells_progress words.entry.order ≡ false → board.new ≡ board.old }
+{
+    match words.order {
+        Order::Lacking => search(alloc, task, words.budget, words.horizon),
+        Order::Guided(wishes) => {
+            solve_with(alloc, task, words.budget, words.horizon, wishes, board)
+        }
+    }
+}
+
 /// Searches for a plan of a task, and writes it, or why there is none. Answers whether there is one.
-fn search_of<O: Sink>(
+fn search_of<B: Write, O: Sink>(
     alloc: Global,
     words: SearchWords<'_>,
     task: &Task,
+    board: &mut B,
     output: &mut O,
 ) -> Result<bool, SearchStop>
     requires { words.horizon ≤ 1000000000 }
@@ -49,13 +71,14 @@ fn search_of<O: Sink>(
         → IsSearchTask held (task_words words.entry) task.now
         → IfErr result (StopsSearch held words.entry (O.held output.old) (O.held output.new)) }
     ensures failures { O.failures output.new ≡ stop_failures (O.failures output.old) result }
+    ensures quiet { tells_progress words.entry.order ≡ false → board.new ≡ board.old }
 {
     plans_are_read();
     actions_are_readable();
     reached_actions_are_readable();
     same_plans_are_valid();
     same_goal_is_in_reach();
-    match search(alloc, task, words.budget, words.horizon) {
+    match found_in(alloc, words, task, board) {
         Ok(found) => tell(&found, output),
         Err(fault) => Err(SearchStop::Searching(fault)),
     }
@@ -75,10 +98,11 @@ fn task_of<N: Files>(
 }
 
 /// Searches for a plan of the task that the words name, and writes it, or why there is none. Answers whether there is one.
-fn plan<N: Files, O: Sink>(
+fn plan<N: Files, B: Write, O: Sink>(
     alloc: Global,
     files: &mut N,
     words: SearchWords<'_>,
+    board: &mut B,
     output: &mut O,
 ) -> Result<bool, SearchStop>
     requires { words.horizon ≤ 1000000000 }
@@ -87,9 +111,10 @@ fn plan<N: Files, O: Sink>(
     ensures cause { IfErr result
         (StopsSearch (N.held files.old) words.entry (O.held output.old) (O.held output.new)) }
     ensures failures { O.failures output.new ≡ stop_failures (O.failures output.old) result }
+    ensures quiet { tells_progress words.entry.order ≡ false → board.new ≡ board.old }
 {
     match task_of(alloc, files, words) {
-        Ok(task) => search_of(alloc, words, &task, output),
+        Ok(task) => search_of(alloc, words, &task, board, output),
         Err(fault) => Err(SearchStop::Files(fault)),
     }
 }
@@ -99,11 +124,13 @@ fn plan<N: Files, O: Sink>(
 /// none was found, and for another writes one fault line.
 ///
 /// The search is of the task that `ground_reached` makes: no more actions than its relaxed reach keeps. The cost is that of reading
-/// both texts, of that grounding and of the search.
-pub fn run_plan<N: Files, O: Sink, F: Sink>(
+/// both texts, of that grounding and of the search. What a guided search tells of plans as it finds them goes to `board`, if the words
+/// wish for it.
+pub fn run_plan<N: Files, B: Write, O: Sink, F: Sink>(
     alloc: Global,
     files: &mut N,
     words: SearchWords<'_>,
+    board: &mut B,
     output: &mut O,
     faults: &mut F,
 ) -> u8
@@ -130,8 +157,9 @@ pub fn run_plan<N: Files, O: Sink, F: Sink>(
     ensures silent { result ≤ 1 → faults.new ≡ faults.old }
     ensures fault { 2 ≤ result → TellsFault [] (F.failures faults.old) (F.held faults.old)
         (F.failures faults.new) (F.held faults.new) }
+    ensures quiet { tells_progress words.entry.order ≡ false → board.new ≡ board.old }
 {
-    match plan(alloc, files, words, output) {
+    match plan(alloc, files, words, board, output) {
         Ok(true) => 0,
         Ok(false) => 1,
         Err(stop) => complain(faults, stop_line(stop, words)),

@@ -3,10 +3,20 @@
 ghost use Rattle.std.specs.Prelude.{◌≡◌};
 
 use tp_plan_files::PlanWords;
+use tp_solve::Wishes;
 use tp_text::Scale;
 
-/// The files of a domain and a problem, the ticks of a unit of time, the tick that no step may end past, and how many nodes may be
-/// expanded.
+/// In which order a search takes its nodes.
+#[derive(Clone, Copy, Debug, PartialEq, Eq)]
+pub enum Order {
+    /// By the count of goal conjuncts that they lack.
+    Lacking,
+    /// By relaxed plans, and what is wished for beside a plan.
+    Guided(Wishes),
+}
+
+/// The files of a domain and a problem, the ticks of a unit of time, the tick that no step may end past, how many nodes may be
+/// expanded, and in which order.
 #[derive(Clone, Copy)]
 pub struct SearchWords<'w> {
     pub domain: &'w str,
@@ -14,6 +24,7 @@ pub struct SearchWords<'w> {
     pub scale: Scale,
     pub horizon: u32,
     pub budget: u32,
+    pub order: Order,
 }
 
 impl<'w> SearchWords<'w> {

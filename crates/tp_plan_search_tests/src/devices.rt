@@ -3,11 +3,11 @@
 ghost use Rattle.std.specs.Prelude.{◌≡◌, ◌<◌, ◌≤◌};
 
 use std::alloc::Global;
-use std::io::Write;
+use std::io::{Write, sink};
 use std::marker::Brand;
 use std::sync::ledger::{Blank, Ledger};
 use tp_device::ToWrite;
-use tp_plan_search::{SearchWords, run_plan};
+use tp_plan_search::{Order, SearchWords, run_plan};
 use tp_small_devices::Shelf;
 use tp_text::Scale;
 
@@ -51,11 +51,19 @@ fn status<W: Write + Drop, V: Write + Drop, O: Ledger, F: Ledger>(
         scale: asked.scale,
         horizon: asked.horizon,
         budget: asked.budget,
+        order: Order::Lacking,
     };
     let mut files = files;
     let mut output = ToWrite::<W, O>::new(output, writes);
     let mut faults = ToWrite::<V, F>::new(faults, tells);
-    run_plan(alloc, &mut files, words, &mut output, &mut faults)
+    run_plan(
+        alloc,
+        &mut files,
+        words,
+        &mut sink(),
+        &mut output,
+        &mut faults,
+    )
 }
 
 /// Whether a search with so many bytes of room for its answer comes to that.

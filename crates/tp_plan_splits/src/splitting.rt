@@ -1,8 +1,9 @@
 //! The split of the network of the plan that words name.
 
-ghost use Rattle.std.specs.Prelude.{◌≡◌, ◌≢◌, ◌≤◌, [], IfOk, IfErr, OnOk};
+ghost use Rattle.std.specs.Prelude.{◌≡◌, ◌≢◌, ◌≤◌, ℕ, List, [], Option, IfOk, IfErr, OnOk};
 ghost use Rattle.tp_files.specs.FaultLines.{TellsFault};
-ghost use Rattle.tp_plan_files.specs.Named.{IsNamedTask};
+ghost use Rattle.tp_plan_files.specs.Named.{IsNamedPlan};
+ghost use Rattle.tp_validate.specs.OfTask.{IsOfTask};
 ghost use Rattle.tp_plan_runs.specs.Invalid.{SaysInvalid};
 ghost use Rattle.tp_plan_splits.specs.Splits.{EndsSplit, Splits, SplitsPart, StopsSplit, StopsTelling, StopsWriting, TellsSplit, WritesPlan, WritesSplit};
 ghost use Rattle.tp_plan_splits.specs.Stops.{split_failures};
@@ -12,7 +13,8 @@ use crate::stops::{SplitStop, split_line};
 use std::alloc::Global;
 use tp_device::{Sink, push_all};
 use tp_files::{Files, OUT_OF_ORDER, REFUSED, complain};
-use tp_plan_files::{PlanWords, task_in, verdict_in, write_invalid};
+use tp_happen::Plan;
+use tp_plan_files::{NamedPlan, PlanWords, plan_in, verdict_of, write_invalid};
 use tp_task::Task;
 use tp_validate::{ValidPlan, Verdict};
 
@@ -69,29 +71,35 @@ fn tell<N: Files, O: Sink>(
     }
 }
 
-/// The same of the plan that the words name, of their task.
+/// The same of the plan that the words name, of its task.
 fn split_of<N: Files, O: Sink>(
     alloc: Global,
     files: &mut N,
     words: PlanWords<'_>,
     owners: &str,
     task: &Task,
+    plan: Plan,
     output: &mut O,
 ) -> Result<bool, SplitStop>
-    requires { words.horizon ≤ 1000000000 }
-    ensures said { IsNamedTask (N.held files.old) words.entry task.now → IfOk result
-        (Splits (N.held files.old) words.entry owners.now (O.held output.old) (O.held output.new)) }
-    ensures cause { IsNamedTask (N.held files.old) words.entry task.now → IfErr result (StopsSplit
-        (N.held files.old) words.entry owners.now (O.held output.old) (O.held output.new)) }
+    requires limit { words.horizon ≤ 1000000000 }
+    requires of_task { IsOfTask task.now plan }
+    ensures said { (held : List ℕ → Option (List ℕ))
+        → N.held files.old owners.now ≡ held owners.now
+        → IsNamedPlan held words.entry task.now plan → IfOk result
+        (Splits held words.entry owners.now (O.held output.old) (O.held output.new)) }
+    ensures cause { (held : List ℕ → Option (List ℕ))
+        → N.held files.old owners.now ≡ held owners.now
+        → IsNamedPlan held words.entry task.now plan → IfErr result
+        (StopsSplit held words.entry owners.now (O.held output.old) (O.held output.new)) }
     ensures failures { O.failures output.new ≡ split_failures (O.failures output.old) result }
 {
-    match verdict_in(alloc, files, words, task) {
+    match verdict_of(alloc, task, plan) {
         Ok(verdict) => tell(alloc, files, owners, &verdict, words.horizon, output),
         Err(fault) => Err(SplitStop::Judging(fault)),
     }
 }
 
-/// The same of the task of the files, too. A file is opened only when what stands before it is done.
+/// The same with the files read. A file is opened only when what stands before it is done.
 fn split_named<N: Files, O: Sink>(
     alloc: Global,
     files: &mut N,
@@ -106,8 +114,11 @@ fn split_named<N: Files, O: Sink>(
         (N.held files.old) words.entry owners.now (O.held output.old) (O.held output.new)) }
     ensures failures { O.failures output.new ≡ split_failures (O.failures output.old) result }
 {
-    match task_in(alloc, files, words) {
-        Ok(task) => split_of(alloc, files, words, owners, &task, output),
+    match plan_in(alloc, files, words) {
+        Ok(named) => {
+            let NamedPlan { task, plan } = named;
+            split_of(alloc, files, words, owners, &task, plan, output)
+        }
         Err(fault) => Err(SplitStop::Judging(fault)),
     }
 }

@@ -5,3 +5,4 @@ pub mod PlanTexts
 pub mod PlanPrints
 pub mod TaskWords
 pub mod TaskPlans
+pub mod PlanNames

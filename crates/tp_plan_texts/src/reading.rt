@@ -71,7 +71,7 @@ fn fault_at(number: usize, wrong: Wrong) -> PlanFault
 }
 
 // The first line of bytes, and what follows its LF.
-fn first_line(bytes: &[u8]) -> (&[u8], &[u8])
+pub(crate) fn first_line(bytes: &[u8]) -> (&[u8], &[u8])
     requires { 0 < length bytes.now }
     ensures lines { lines_of bytes.now ≡ result.0.now ∷ lines_of result.1.now }
     ensures shorter { length result.1.now < length bytes.now }

@@ -29,6 +29,6 @@ pub use streams::{Ended, Refused, refuse_streams, run_streams};
 pub use tp_arguments::{
     NoRequest, Request, audit_calls, bare_calls, bare_log_calls, check_calls, net_calls,
     plan_audit_calls, plan_calls, read_words, requests_are_distinct, run_calls, run_log_calls,
-    split_calls,
+    solve_calls, split_calls,
 };
 pub use words::run_words;

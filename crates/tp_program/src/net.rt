@@ -1,10 +1,11 @@
 //! The network of the plan in a file.
 
-ghost use Rattle.std.specs.Prelude.{◌≡◌, ◌≢◌, ◌≤◌, [], IfOk, IfErr, OnOk};
+ghost use Rattle.std.specs.Prelude.{◌≡◌, ◌≢◌, ◌≤◌, ℕ, List, [], Option, IfOk, IfErr, OnOk};
 ghost use Rattle.std.specs.String.{string_bytes};
 ghost use Rattle.tp_deorder.specs.Answers.{OnTooMany, PassesLimits};
 ghost use Rattle.tp_files.specs.FaultLines.{TellsFault};
-ghost use Rattle.tp_plan_files.specs.Named.{IsNamedTask};
+ghost use Rattle.tp_plan_files.specs.Named.{IsNamedPlan};
+ghost use Rattle.tp_validate.specs.OfTask.{IsOfTask};
 ghost use Rattle.tp_plan_runs.specs.Invalid.{SaysInvalid};
 ghost use Rattle.tp_program.specs.Networks.{EndsNet, Shows, ShowsNetwork, ShowsPart, ShowsVerdict, StopsNet, StopsNetwork, StopsShown, TellsNetwork, WritesNetwork};
 ghost use Rattle.tp_program.specs.Stops.{stop_failures};
@@ -15,8 +16,9 @@ use tp_bounds::Limits;
 use tp_deorder::{DeorderFault, deorder};
 use tp_device::{Sink, push_all};
 use tp_files::{Files, OUT_OF_ORDER, REFUSED, complain};
+use tp_happen::Plan;
 use tp_net_lines::network_text;
-use tp_plan_files::{PlanWords, task_in, verdict_in, write_invalid};
+use tp_plan_files::{NamedPlan, PlanWords, plan_in, verdict_of, write_invalid};
 use tp_task::Task;
 use tp_validate::{ValidPlan, Verdict};
 
@@ -83,21 +85,25 @@ fn show<O: Sink>(
     }
 }
 
-/// The same of the plan that the words name, of their task.
-fn show_of<N: Files, O: Sink>(
+/// The same of the plan that the words name, of its task.
+fn show_of<O: Sink>(
     alloc: Global,
-    files: &mut N,
     words: PlanWords<'_>,
     task: &Task,
+    plan: Plan,
     output: &mut O,
 ) -> Result<bool, PlanStop>
-    ensures said { IsNamedTask (N.held files.old) words.entry task.now →
-        IfOk result (Shows (N.held files.old) words.entry (O.held output.old) (O.held output.new)) }
-    ensures cause { IsNamedTask (N.held files.old) words.entry task.now → IfErr result
-        (StopsNet (N.held files.old) words.entry (O.held output.old) (O.held output.new)) }
+    requires { IsOfTask task.now plan }
+    ensures said { (held : List ℕ → Option (List ℕ))
+        → IsNamedPlan held words.entry task.now plan
+        → IfOk result (Shows held words.entry (O.held output.old) (O.held output.new)) }
+    ensures cause { (held : List ℕ → Option (List ℕ))
+        → IsNamedPlan held words.entry task.now plan
+        → IfErr result (StopsNet held words.entry (O.held output.old) (O.held output.new)) }
     ensures failures { O.failures output.new ≡ stop_failures (O.failures output.old) result }
 {
-    match verdict_in(alloc, files, words, task) {
+    let _ = words;
+    match verdict_of(alloc, task, plan) {
         Ok(verdict) => show(alloc, &verdict, &task.limits, output),
         Err(fault) => Err(PlanStop::Judging(fault)),
     }
@@ -118,8 +124,11 @@ fn net<N: Files, O: Sink>(
         (StopsNet (N.held files.old) words.entry (O.held output.old) (O.held output.new)) }
     ensures failures { O.failures output.new ≡ stop_failures (O.failures output.old) result }
 {
-    match task_in(alloc, files, words) {
-        Ok(task) => show_of(alloc, files, words, &task, output),
+    match plan_in(alloc, files, words) {
+        Ok(named) => {
+            let NamedPlan { task, plan } = named;
+            show_of(alloc, words, &task, plan, output)
+        }
         Err(fault) => Err(PlanStop::Judging(fault)),
     }
 }

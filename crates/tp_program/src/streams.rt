@@ -7,6 +7,7 @@ ghost use Rattle.std.specs.String.{string_bytes};
 ghost use Rattle.tp_files.specs.Calls.{call_status, call_text};
 ghost use Rattle.tp_files.specs.FaultLines.{TellsFault};
 ghost use Rattle.tp_device.specs.Bytes.{AppendsPart};
+ghost use Rattle.tp_arguments.specs.Requests.{AsksForNoProgress};
 ghost use Rattle.tp_program.specs.CallFiles.{call_files};
 ghost use Rattle.tp_program.specs.Streams.{Ends, HandsOn, TellsSome};
 
@@ -109,13 +110,14 @@ fn run_counted<
     F: Ledger,
     N: Files,
     L: Logs,
+    B: Write,
     R: Read + Drop,
     W: Write + Drop,
     V: Write + Drop,
 >(
     alloc: Global,
     words: &[String],
-    files: &mut Desk<N, L>,
+    files: &mut Desk<N, L, B>,
     input: Counted<R>,
     output: Counted<LineWriter<W>>,
     faults: Counted<V>,
@@ -129,12 +131,14 @@ fn run_counted<
     requires f { faults.blank.name ≡ F.name }
     requires f_parts { faults.blank.parts ≡ F.parts }
     requires f_some { 0 < faults.blank.parts }
-    ensures { Ends (map string_bytes words.now) (call_files (N.held files.old.shelf)
+    ensures ends { Ends (map string_bytes words.now) (call_files (N.held files.old.shelf)
         (L.asked files.old.logs) (L.asked files.new.logs) L.blank
         (L.named files.new.logs) (L.kept files.new.logs))
         (R.remaining input.stream)
         (line_writer_contents W.contents output.stream) (V.contents faults.stream) W.contents
         result.status result.output (V.contents result.faults) }
+    ensures quiet { AsksForNoProgress (map string_bytes words.now)
+        → files.new.board ≡ files.old.board }
 {
     let input = FromRead::<R, I>::new(input.stream, input.blank);
     let mut output = Outlet::<LineWriter<W>, O>::new(output.stream, output.blank);
@@ -179,26 +183,28 @@ fn end_lost<F: Ledger, W, V: Write + Drop>(faults: Counted<V>) -> Ended<W, V>
 ///
 /// Each answer is handed to `output` as soon as its line is whole. What could not be written to `output` in the end is told
 /// as a failed write.
-pub fn run_streams<N: Files, L: Logs, R: Read + Drop, W: Write + Drop, V: Write + Drop>(
+pub fn run_streams<N: Files, L: Logs, B: Write, R: Read + Drop, W: Write + Drop, V: Write + Drop>(
     alloc: Global,
     words: &[String],
-    files: &mut Desk<N, L>,
+    files: &mut Desk<N, L, B>,
     input: R,
     output: W,
     faults: V,
 ) -> Ended<W, V>
-    ensures { Ends (map string_bytes words.now) (call_files (N.held files.old.shelf)
+    ensures ends { Ends (map string_bytes words.now) (call_files (N.held files.old.shelf)
         (L.asked files.old.logs) (L.asked files.new.logs) L.blank
         (L.named files.new.logs) (L.kept files.new.logs))
         (R.remaining input) (W.contents output) (V.contents faults) W.contents result.status
         result.output (V.contents result.faults) }
+    ensures quiet { AsksForNoProgress (map string_bytes words.now)
+        → files.new.board ≡ files.old.board }
 {
     let input = Counted::new(input);
     let faults = Counted::new(faults);
     match LineWriter::new(alloc, output) {
         Ok(writer) => {
             let output = Counted::new(writer);
-            run_counted::<Brand, Brand, Brand, _, _, _, _, _>(
+            run_counted::<Brand, Brand, Brand, _, _, _, _, _, _>(
                 alloc, words, files, input, output, faults,
             )
         }

@@ -10,12 +10,13 @@ ghost use Rattle.tp_program.specs.Done.{AnswersNo, DoesPart, DoesWhatIsAsked};
 ghost use Rattle.tp_program.specs.Journaled.{AsksForNoJournal};
 ghost use Rattle.tp_files.specs.FaultLines.{TellsFault, TellsRefusal};
 ghost use Rattle.tp_program.specs.Endings.{EndsBare, EndsCall, RefusesWords, StopsHelp};
-ghost use Rattle.tp_arguments.specs.Requests.{AsksFor, AsksForNoCommands};
+ghost use Rattle.tp_arguments.specs.Requests.{AsksFor, AsksForNoCommands, AsksForNoProgress};
 
 use crate::check::run_check;
 use crate::desk::Desk;
 use crate::net::run_net;
 use std::alloc::Global;
+use std::io::Write;
 use tp_arguments::{NoRequest, Request, read_words};
 use tp_bare::run_bare;
 use tp_bare_journals::run_bare_journal;
@@ -30,10 +31,10 @@ use tp_plan_splits::run_split;
 use tp_run_journals::run_run_journal;
 
 /// Does what the words ask for. Answers the exit status, and for another than 0 and 1 writes one fault line.
-pub fn run_words<N: Files, L: Logs, I: Source + Drop, O: Sink, F: Sink>(
+pub fn run_words<N: Files, L: Logs, B: Write, I: Source + Drop, O: Sink, F: Sink>(
     alloc: Global,
     words: &[String],
-    files: &mut Desk<N, L>,
+    files: &mut Desk<N, L, B>,
     input: I,
     output: &mut O,
     faults: &mut F,
@@ -82,6 +83,10 @@ pub fn run_words<N: Files, L: Logs, I: Source + Drop, O: Sink, F: Sink>(
     ensures unlogged { AsksForNoJournal (map string_bytes words.now)
         → L.asked files.new.logs ≡ L.asked files.old.logs }
 
+    // Plans are told of as they are found only where the words ask for that.
+    ensures quiet { AsksForNoProgress (map string_bytes words.now)
+        → files.new.board ≡ files.old.board }
+
     // A write that failed is always told. A fault line goes with each fault, and with nothing else; behind it stands only what
     // `clap` says of words that are refused.
     ensures told { result ≢ OUT_OF_ORDER → O.failures output.new ≡ O.failures output.old }
@@ -90,7 +95,7 @@ pub fn run_words<N: Files, L: Logs, I: Source + Drop, O: Sink, F: Sink>(
     ensures fault { 2 ≤ result → TellsRefusal result (F.failures faults.old) (F.held faults.old)
         (F.failures faults.new) (F.held faults.new) }
 {
-    let Desk { shelf, logs } = files;
+    let Desk { shelf, logs, board } = files;
     match read_words(alloc, words) {
         Ok(Request::Bare) => run_bare(alloc, input, output, faults),
         Ok(Request::BareLog(log)) => run_bare_journal(alloc, logs, log, input, output, faults),
@@ -100,7 +105,7 @@ pub fn run_words<N: Files, L: Logs, I: Source + Drop, O: Sink, F: Sink>(
         Ok(Request::RunLog(plan, log)) => run_run_journal(
             alloc, shelf, logs, plan, log, input, output, faults,
         ),
-        Ok(Request::Plan(search)) => run_plan(alloc, shelf, search, output, faults),
+        Ok(Request::Plan(search)) => run_plan(alloc, shelf, search, board, output, faults),
         Ok(Request::Audit(log)) => run_bare_audit(alloc, shelf, log, output, faults),
         Ok(Request::PlanAudit(log, plan)) => run_plan_audit(
             alloc, shelf, log, plan, output, faults,

@@ -1,4 +1,4 @@
-//! What events add: first the actions that counters tell, then rounds over all actions until one adds nothing.
+//! What events add: first the actions that counters find, then rounds over all actions until one adds nothing.
 
 ghost use Rattle.std.specs.Prelude.{◌≡◌, length, nat_lt, true, count_by, IfOk, OnOk};
 ghost use Rattle.std.specs.List.{All, list_all};
@@ -10,7 +10,6 @@ ghost use Rattle.tp_reach.specs.Adding.{Adds, IsSettled};
 ghost use Rattle.tp_reach.specs.TaskReach.{acts_of, first_state, GoalIs};
 
 use crate::counting::Counters;
-use crate::walks::ask_for_walks;
 use std::alloc::{AllocError, Global};
 use tp_task::{Body, Cond, GroundEvent, Task};
 
@@ -108,7 +107,7 @@ fn round(reach: &mut [bool], actions: &[Body])
 
 // Counts the atoms that an action's events add and that are reached.
 fn count_added(
-    counters: &mut Counters<'_>,
+    counters: &mut Counters,
     reach: &[bool],
     event: &GroundEvent,
 ) -> Result<(), AllocError> {
@@ -120,7 +119,7 @@ fn count_added(
     Ok(())
 }
 
-fn count_body(counters: &mut Counters<'_>, reach: &[bool], body: &Body) -> Result<(), AllocError> {
+fn count_body(counters: &mut Counters, reach: &[bool], body: &Body) -> Result<(), AllocError> {
     match body {
         Body::Instant(only) => count_added(counters, reach, only),
         Body::Durative(start, end, _) => {
@@ -130,7 +129,7 @@ fn count_body(counters: &mut Counters<'_>, reach: &[bool], body: &Body) -> Resul
     }
 }
 
-fn count_reached(counters: &mut Counters<'_>, reach: &[bool]) -> Result<(), AllocError> {
+fn count_reached(counters: &mut Counters, reach: &[bool]) -> Result<(), AllocError> {
     let mut atom: u32 = 0;
     for truth in reach {
         if *truth {
@@ -143,7 +142,7 @@ fn count_reached(counters: &mut Counters<'_>, reach: &[bool]) -> Result<(), Allo
 
 // Takes an action, if it is one of them, and counts what it adds.
 fn take_action(
-    counters: &mut Counters<'_>,
+    counters: &mut Counters,
     reach: &mut [bool],
     actions: &[Body],
     action: u32,
@@ -160,12 +159,8 @@ fn take_action(
     }
 }
 
-// Takes the actions that counters tell, one after another.
-fn spread(
-    counters: &mut Counters<'_>,
-    reach: &mut [bool],
-    actions: &[Body],
-) -> Result<(), AllocError>
+// Takes the actions that counters find, one after another.
+fn spread(counters: &mut Counters, reach: &mut [bool], actions: &[Body]) -> Result<(), AllocError>
     requires { list_all (adds_fit (length reach.old)) actions.now ≡ true }
     ensures { Adds (acts_of_bodies actions.now) reach.old reach.new }
 {
@@ -213,7 +208,6 @@ pub fn saturate(alloc: Global, reach: &mut [bool], actions: &[Body]) -> Result<(
     ensures adds { OnOk result (Adds (acts_of_bodies actions.now) reach.old reach.new) }
     ensures settled { OnOk result (IsSettled (acts_of_bodies actions.now) reach.new) }
 {
-    ask_for_walks(alloc, actions)?;
     spread_all(alloc, reach, actions)?;
     settle(reach, actions);
     Ok(())

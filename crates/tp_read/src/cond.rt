@@ -301,7 +301,7 @@ fn read_bound(
     if !more.is_empty() {
         return Err(SyntaxFault::Shape(at));
     }
-    let known = Variables::new(alloc, scope, vars, body)?;
+    let known = Variables::new(alloc, scope, vars)?;
     let wider = Scope::inside(&*scope, &known);
     let inner = read_cond(alloc, tree, &wider, at)?;
     bound(alloc, head, known.into_items(), inner)

@@ -84,7 +84,7 @@ fn read_bound<P: Inner>(
     if !more.is_empty() {
         return Err(SyntaxFault::Shape(at));
     }
-    let known = Variables::new(alloc, scope, vars, body)?;
+    let known = Variables::new(alloc, scope, vars)?;
     let wider = Scope::inside(&*scope, &known);
     let inner = read_joined(alloc, tree, duration, &wider, at)?;
     Ok(Joined::Forall(known.into_items(), Box::new(alloc, inner)?))

@@ -1,6 +1,6 @@
 //! The run of the plan that words name, with the journal file of a name.
 
-ghost use Rattle.std.specs.Prelude.{◌≡◌, ◌≢◌, ◌≤◌, ◌⊎◌, suc, List, [], length, option_map, IfOk, IfErr, IfSome};
+ghost use Rattle.std.specs.Prelude.{◌≡◌, ◌≢◌, ◌≤◌, ◌⊎◌, ℕ, suc, List, [], length, Option, option_map, IfOk, IfErr, IfSome};
 ghost use Rattle.tp_bounds.specs.RunLimits.{greatest_limits};
 ghost use Rattle.tp_task.specs.declared.task.Task.{Task};
 ghost use Rattle.tp_happen.specs.tp_plan_texts.declared.plans.Step.{Step};
@@ -8,7 +8,8 @@ ghost use Rattle.tp_deorder.specs.Answers.{IsPlanNetOf};
 ghost use Rattle.tp_exec.specs.FromPlan.{CameFrom};
 ghost use Rattle.tp_files.specs.FaultLines.{TellsFault};
 ghost use Rattle.tp_bare_journals.specs.Logged.{output_failures};
-ghost use Rattle.tp_plan_files.specs.Named.{IsNamedTask};
+ghost use Rattle.tp_plan_files.specs.Named.{IsNamedPlan};
+ghost use Rattle.tp_validate.specs.OfTask.{IsOfTask};
 ghost use Rattle.tp_plan_runs.specs.Answered.{IsLong};
 ghost use Rattle.tp_plan_runs.specs.Runs.{RunsPart};
 ghost use Rattle.tp_run_journals.specs.Ends.{LogsSteps, LogsVerdict, StopsSteps, StopsVerdict, told_result};
@@ -25,9 +26,10 @@ use tp_bounds::{Limits, PlanNet};
 use tp_deorder::deorder;
 use tp_device::{Sink, Source};
 use tp_files::{Files, OUT_OF_ORDER, REFUSED, complain};
+use tp_happen::Plan;
 use tp_logs::Logs;
 use tp_machine::Executive;
-use tp_plan_files::{PlanWords, task_in, verdict_in, write_invalid};
+use tp_plan_files::{NamedPlan, PlanWords, plan_in, verdict_of, write_invalid};
 use tp_plan_runs::{RunStop, tell_run};
 use tp_repair::RepairNet;
 use tp_task::Task;
@@ -162,35 +164,39 @@ fn run_verdict<L: Logs, I: Source + Drop, O: Sink>(
     }
 }
 
-/// The same of the plan that the words name, of their task.
-fn run_of<N: Files, L: Logs, I: Source + Drop, O: Sink>(
+/// The same of the plan that the words name, of its task.
+fn run_of<L: Logs, I: Source + Drop, O: Sink>(
     alloc: Global,
-    files: &mut N,
     logs: &mut L,
     words: PlanWords<'_>,
     name: &str,
     task: &Task,
+    plan: Plan,
     input: I,
     output: &mut O,
 ) -> Result<bool, RunJournalStop>
-    requires { words.horizon ≤ 1000000000 }
-    ensures said { IsNamedTask (N.held files.old) words.entry task.now → IfOk result (LogsTo
-        (N.held files.old) words.entry (I.left input) (O.held output.old) (O.held output.new)
+    requires limit { words.horizon ≤ 1000000000 }
+    requires of_task { IsOfTask task.now plan }
+    ensures said { (held : List ℕ → Option (List ℕ))
+        → IsNamedPlan held words.entry task.now plan
+        → IfOk result (LogsTo held words.entry (I.left input) (O.held output.old) (O.held output.new)
         (log_file name.now (L.asked logs.old) (L.asked logs.new)
         (L.named logs.new) L.blank (L.kept logs.new))) }
-    ensures cause { IsNamedTask (N.held files.old) words.entry task.now → IfErr result (StopsRunLog
-        (N.held files.old) words.entry (I.left input) (O.held output.old) (O.held output.new)
+    ensures cause { (held : List ℕ → Option (List ℕ))
+        → IsNamedPlan held words.entry task.now plan
+        → IfErr result (StopsRunLog held words.entry (I.left input) (O.held output.old)
+        (O.held output.new)
         (log_file name.now (L.asked logs.old) (L.asked logs.new)
         (L.named logs.new) L.blank (L.kept logs.new))) }
     ensures failures { O.failures output.new ≡ run_stop_failures (O.failures output.old) result }
 {
-    match verdict_in(alloc, files, words, task) {
+    match verdict_of(alloc, task, plan) {
         Ok(verdict) => run_verdict(alloc, logs, name, &verdict, words.horizon, input, output),
         Err(fault) => Err(RunJournalStop::Judging(fault)),
     }
 }
 
-/// The same of the task of the files, too. A file is opened, and the journal file made, only when what stands before it is done.
+/// The same with the files read. A file is opened, and the journal file made, only when what stands before it is done.
 fn run<N: Files, L: Logs, I: Source + Drop, O: Sink>(
     alloc: Global,
     files: &mut N,
@@ -211,8 +217,11 @@ fn run<N: Files, L: Logs, I: Source + Drop, O: Sink>(
         (L.named logs.new) L.blank (L.kept logs.new))) }
     ensures failures { O.failures output.new ≡ run_stop_failures (O.failures output.old) result }
 {
-    match task_in(alloc, files, words) {
-        Ok(task) => run_of(alloc, files, logs, words, name, &task, input, output),
+    match plan_in(alloc, files, words) {
+        Ok(named) => {
+            let NamedPlan { task, plan } = named;
+            run_of(alloc, logs, words, name, &task, plan, input, output)
+        }
         Err(fault) => Err(RunJournalStop::Judging(fault)),
     }
 }

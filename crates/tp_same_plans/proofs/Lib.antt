@@ -1,10 +1,14 @@
 mod OnLists
 mod ByWords
+mod FaultsByWords
 mod OnNamed
 mod OnEffects
 mod OnRuns
+mod OnFaults
 mod OnTables
 mod OnSteps
 mod OnReached
 mod OnSame
+mod OnTold
+mod OnJudged
 mod OnGoal

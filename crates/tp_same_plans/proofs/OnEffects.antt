@@ -137,7 +137,7 @@ module _ (t : Tables) (d : AreDistinct t) where
       (meets_named t.fluents d.fluents (fluents_written a) (fluents_read b) (ap (list_all are_words) (written_named t a.writes.items) ∙ written_worded (map (named_write t) a.writes.items) h.writes) ∙ ap₂ share (written_named t a.writes.items) (reads_named t b))
       (meets_named t.fluents d.fluents (fluents_set a) (fluents_written b) (ap (list_all are_words) (set_named t a.writes.items) ∙ set_worded (map (named_write t) a.writes.items) h.writes) ∙ ap₂ share (set_named t a.writes.items) (written_named t b.writes.items))))
 
-  interferes_named : (a b : GroundEvent) → IsWorded (named_event t a) → IsWorded (named_event t b) → interferes a b ≡ interfere (named_event t a) (named_event t b)
+  pub interferes_named : (a b : GroundEvent) → IsWorded (named_event t a) → IsWorded (named_event t b) → interferes a b ≡ interfere (named_event t a) (named_event t b)
   interferes_named a b h k = ap₂ (λ x y. x || y) (disturbs_named a b h) (disturbs_named b a k)
 
   Worded : List NumericEffect → Type 0

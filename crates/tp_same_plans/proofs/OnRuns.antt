@@ -36,7 +36,7 @@ module _ (t : Tables) where
       map-append (named_placed t) (events_of k p p.body) (events_from (k + count_of p.body) ps)
       ∙ ap₂ (λ (v w : List Part). v ++ w) (parts_of_named k p p.body) (parts_named (k + count_of p.body) ps)
 
-  at_named : (m : ℕ) (es : List Placed) → map (named_timed t) (at m es) ≡ parts_at m (map (named_placed t) es)
+  pub at_named : (m : ℕ) (es : List Placed) → map (named_timed t) (at m es) ≡ parts_at m (map (named_placed t) es)
   at_named m [] = refl
   at_named m (e ∷ es) = by (e.moment == m) (at_named m es)
     where
@@ -72,7 +72,7 @@ module _ (t : Tables) (d : AreDistinct t) (scale : ℕ) (s : WordState) (es : Li
   abbrev r : ℕ → WordState
   r = run scale s (map (named_placed t) es)
 
-  now_worded : (m : ℕ) → AllWorded (map (named_timed t) (at m es))
+  pub now_worded : (m : ℕ) → AllWorded (map (named_timed t) (at m es))
   now_worded m = subst AllWorded (sym (at_named t m es)) (all_at_moment (λ e. IsWorded e.happening) m (map (named_placed t) es) worded)
 
   next : State → ℕ → State

@@ -192,7 +192,7 @@ module _ (scale : Scale) (d : Domain) (p : Problem) (is : List Instance) (t : Ta
       λ f. ap (λ ns. slice_index_or ns f None) k.initial_numbers ∙ index_map (initial_value (map initial_in p.initial)) None (no_value p.initial) t.numbering.fluents f in
       λ i. record { atom = λ a. atom_is a i; number = λ f. number_is f i }
 
-  steps_named : (ms : List Step) → map (named_planned t.numbering) (plan_of t ms) ≡ acts_of bs ms
+  pub steps_named : (ms : List Step) → map (named_planned t.numbering) (plan_of t ms) ≡ acts_of bs ms
   steps_named ms = plan_named t.numbering t.actions.items ms ∙ ap (λ cs. acts_of cs ms) k.bodies
 
   -- a plan is valid for the task exactly if it is by words

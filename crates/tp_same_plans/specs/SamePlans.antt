@@ -1,11 +1,19 @@
 -- Two tasks with the same plans, where the actions of steps are taken by their words.
-use Rattle.std.specs.Prelude.{◌≡◌, true, List, [], ◌∷◌, ◌↔◌, slice_get}
+use Rattle.std.specs.Prelude.{◌≡◌, ℕ, Bool, true, List, [], ◌∷◌, ◌↔◌, slice_get, filter}
+use Rattle.tp_ast.specs.Domains.{Domain, SpellsDomain}
+use Rattle.tp_ast.specs.Problems.{Problem, SpellsProblem}
+use Rattle.tp_bounds.specs.RunLimits.{RunLimits}
+use Rattle.tp_text.specs.declared.number.Scale.{Scale}
 use Rattle.tp_task.specs.declared.task.Task.{Task}
 use Rattle.tp_task.specs.Tables.{words_at}
 use Rattle.tp_happen.specs.tp_plan_texts.declared.plans.Step.{Step}
 use Rattle.tp_happen.specs.tp_plan_texts.PlanPrints.{plan_text}
 use Rattle.tp_happen.specs.tp_plan_texts.TaskWords.{is_durative, readable}
+use Rattle.tp_validate.specs.Answers.{IsFirst}
 use Rattle.tp_validate.specs.OfTask.{IsOfTask, IsValidPlan, is_step_of}
+use Rattle.tp_validate.specs.declared.ticks.Fault.{Fault}
+use Rattle.tp_ground.specs.Bindings.{universe_of}
+use Rattle.tp_ground.specs.Reached.{Instance, instances, IsTaskOf}
 
 -- Steps at the same tick, as long, and of actions of the same words.
 pub record IsSameStep (t u : Task) (m n : Step) : Type 0 where
@@ -45,3 +53,23 @@ pub record HaveSamePlans (t u : Task) : Type 0 where
       (ms ns : List Step)
       → IsOfTask t ms → IsOfTask u ns
       → AreSameSteps t u ms ns → plan_text (readable t) ms ≡ plan_text (readable u) ns
+
+-- some ground actions of a problem, in order
+abbrev pub some_of : Domain → Problem → (Instance → Bool) → List Instance
+some_of d p test = filter test (instances (universe_of d p) d.actions)
+
+-- The same steps are valid for both tasks or for neither, and have the same first fault.
+pub record AreJudgedAlike (t u : Task) (ms ns : List Step) : Type 0 where
+  pub valid : IsValidPlan t ms ↔ IsValidPlan u ns
+  pub first : (tick : ℕ) (why : Fault) → IsFirst t ms tick why ↔ IsFirst u ns tick why
+
+-- Two tasks of a problem that texts spell, each with some of its ground actions, whichever these are, judge the same steps alike.
+abbrev pub PlansAreJudgedAlike : Type 0
+PlansAreJudgedAlike =
+    (text other : List ℕ) (d : Domain) (p : Problem) (limits small : RunLimits) (scale : Scale)
+    (these those : Instance → Bool) (t u : Task)
+    → SpellsDomain text d → SpellsProblem d other p
+    → IsTaskOf limits scale d p (some_of d p these) t
+    → IsTaskOf small scale d p (some_of d p those) u
+    → (ms ns : List Step)
+    → IsOfTask t ms → IsOfTask u ns → AreSameSteps t u ms ns → AreJudgedAlike t u ms ns

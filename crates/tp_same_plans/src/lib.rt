@@ -1,5 +1,5 @@
-//! What is kept where a problem's task is cut down to the actions of the relaxed reach: valid plans, and whether the goal is
-//! in reach.
+//! What is kept where a problem's task has only some of its ground actions: verdicts on plans; and where these are the actions of the
+//! relaxed reach, valid plans and whether the goal is in reach.
 #![tactic(auto)]
 
 ghost use Rattle.std.specs.Prelude.{◌↔◌, ℕ, Bool, List};
@@ -11,7 +11,7 @@ ghost use Rattle.tp_task.specs.declared.task.Task.{Task};
 ghost use Rattle.tp_reach.specs.TaskReach.{GoalIs};
 ghost use Rattle.tp_ground.specs.Grounding.{IsTask};
 ghost use Rattle.tp_ground.specs.Reached.{IsReachedTask};
-ghost use Rattle.tp_same_plans.specs.SamePlans.{HaveSamePlans};
+ghost use Rattle.tp_same_plans.specs.SamePlans.{HaveSamePlans, PlansAreJudgedAlike};
 
 use tp_ground::actions_are_readable;
 
@@ -25,6 +25,12 @@ pub fn same_plans_are_valid()
 {
     actions_are_readable();
 }
+
+/// A plan, its actions taken by name and objects, is judged alike, with the same first fault, for any two tasks of a problem that have
+/// its actions: so a verdict on the task of the ground actions that a plan names is one on the task of all, however many there are.
+pub fn plans_are_judged_alike()
+    ensures { PlansAreJudgedAlike }
+{}
 
 /// The goal is met in the relaxed reach of the whole task of a problem exactly if it is in that of the task of the actions
 /// that are kept.

@@ -1,2 +1,2 @@
-pub use Rattle.tp_forms.specs as tp_forms
+pub use Rattle.tp_frontier.specs as tp_frontier
 pub use Rattle.tp_at_once.specs as tp_at_once

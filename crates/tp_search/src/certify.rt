@@ -8,7 +8,7 @@ ghost use Rattle.tp_validate.specs.OfTask.{IsOfTask, IsValidPlan, is_step_of};
 ghost use Rattle.tp_at_once.specs.Plans.{ends_by, is_step_within, EndsBy, is_plan_within};
 
 use std::alloc::Global;
-use tp_forms::SearchFault;
+use tp_frontier::SearchFault;
 use tp_happen::{Plan, Step};
 use tp_task::{Body, MOST_STEPS, Task};
 use tp_validate::{ValidPlan, ValidateFault, Verdict, validate};

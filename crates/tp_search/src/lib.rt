@@ -11,7 +11,8 @@ mod certify;
 mod laws;
 mod seeking;
 
+pub use certify::certified;
 pub use laws::{plans_at_once_are_met, unreachable_has_no_plan};
 pub use seeking::search;
 pub use tp_at_once::found::Found;
-pub use tp_forms::SearchFault;
+pub use tp_frontier::SearchFault;

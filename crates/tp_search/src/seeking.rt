@@ -11,10 +11,9 @@ use crate::certify::certified;
 use std::alloc::{AllocError, Global};
 use tp_at_once::at_once::{judge, plan_at_once};
 use tp_at_once::found::Found;
-use tp_forms::SearchFault;
-use tp_frontier::{Chosen, Frontier};
+use tp_frontier::{Chosen, Frontier, SearchFault};
 use tp_happen::Step;
-use tp_reach::{ask_for_walk, met, reach};
+use tp_reach::{met, reach};
 use tp_task::Task;
 use tp_validate::ValidPlan;
 
@@ -34,7 +33,7 @@ fn steps_of(alloc: Global, chosen: &[Chosen]) -> Result<Vec<Step>, AllocError> {
 fn plan_at<'t>(
     alloc: Global,
     task: &'t Task,
-    frontier: &mut Frontier<'_>,
+    frontier: &mut Frontier,
     node: u32,
     horizon: u32,
 ) -> Result<Option<ValidPlan<'t>>, SearchFault>
@@ -53,7 +52,7 @@ fn plan_at<'t>(
 fn seek<'t>(
     alloc: Global,
     task: &'t Task,
-    frontier: &mut Frontier<'_>,
+    frontier: &mut Frontier,
     budget: u32,
     horizon: u32,
 ) -> Result<Found<'t>, SearchFault>
@@ -91,7 +90,7 @@ fn seek_in<'t>(
     if let Some(plan) = judge(alloc, task, &[])? {
         return Ok(Found::Plan(plan));
     }
-    let mut frontier = Frontier::new(alloc, task, reached, budget, horizon)?;
+    let mut frontier = Frontier::new(alloc, task, reached, horizon)?;
     seek(alloc, task, &mut frontier, budget, horizon)
 }
 
@@ -109,7 +108,6 @@ pub fn search<'t>(
 ) -> Result<Found<'t>, SearchFault>
     ensures { IfOk result (IsAnswer task.now budget horizon) }
 {
-    ask_for_walk(alloc, &task.goal)?;
     let reached = reach(alloc, task)?;
     if met(&reached, true, &task.goal) {
         seek_in(alloc, task, &reached, budget, horizon)

@@ -15,8 +15,6 @@ pub use Rattle.tp_ast.specs.Effects
 pub use Rattle.tp_ast.specs.Actions
 pub use Rattle.tp_ast.specs.Domains
 pub use Rattle.tp_declarations.specs.SignatureViews
-pub use Rattle.tp_types.specs.Cycles
-pub use Rattle.tp_types.specs.Jumps
 pub use Rattle.tp_ast.specs.Problems
 pub use Rattle.tp_ast.specs.ExprViews
 pub use Rattle.tp_ast.specs.CondViews

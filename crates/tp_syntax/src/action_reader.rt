@@ -198,7 +198,7 @@ pub fn read_action(
     let fields = read_fields(alloc, lasts, rest, at)?;
     let parameters = parameters(alloc, &symbols.types, &fields, at)?;
     let none = Scope::of(symbols);
-    let known = Variables::new(alloc, &none, parameters, rest)?;
+    let known = Variables::new(alloc, &none, parameters)?;
     let body = body(alloc, lasts, &known, &fields, at)?;
     Ok(Action {
         name,

@@ -10,7 +10,6 @@ ghost use Rattle.tp_declarations.specs.SignatureViews.{predicates_in, functions_
 ghost use Rattle.tp_parts.specs.SectionViews.{section_body_view, Adds, action_kind, actions_once, domain_symbols};
 ghost use Rattle.tp_syntax.specs.Refusals.{IsRefusedDomain};
 ghost use Rattle.tp_names.specs.SymbolViews.{symbols_view};
-ghost use Rattle.tp_types.specs.Parents.{ArePlaced};
 ghost use Rattle.tp_types.specs.TypeViews.{types_view};
 ghost use Rattle.tp_ast.specs.Symbols.{typed_view, parent_view, signature_view};
 ghost use Rattle.tp_ast.specs.Terms.{shapes};
@@ -24,10 +23,11 @@ use tp_ast::action::Action;
 use tp_ast::domain::Domain;
 use tp_ast::fault::{SyntaxFault, text_fault, tree_fault};
 use tp_ast::symbols::{Signature, Typed};
+use tp_ast::type_list::TypeList;
 use tp_ast::words::Section;
 use tp_declarations::head::{defined, named, requirements_in};
 use tp_declarations::signatures::{functions_in, predicates_in};
-use tp_declarations::type_reader::{PlacedTypes, types_in};
+use tp_declarations::type_reader::types_in;
 use tp_declarations::typed::{objects_in, place};
 use tp_names::symbols::Symbols;
 use tp_parts::keyed::SectionItem;
@@ -118,10 +118,9 @@ fn requirements(alloc: Global, parts: &[SectionItem<Section>]) -> Result<Vec<Str
     requirements_in(alloc, part.body, part.at)
 }
 
-fn types(alloc: Global, parts: &[SectionItem<Section>]) -> Result<PlacedTypes, SyntaxFault>
-    ensures types { Gives (λ p. map parent_view p.types.items) result
+fn types(alloc: Global, parts: &[SectionItem<Section>]) -> Result<TypeList, SyntaxFault>
+    ensures { Gives (λ v. map parent_view v.items) result
         (types_in (section sections.Types (map section_body_view parts.now))) }
-    ensures parents { IfOk result (λ p. ArePlaced p.types.items p.parents.items) }
 {
     let part = find_section(Section::Types, parts);
     types_in(alloc, part.body, part.at)
@@ -179,7 +178,7 @@ fn actions_over<'d>(
         (map section_body_view parts.now)) }
 {
     let constants = Lookup::new(alloc, constants)?;
-    let objects = Lookup::listed(&[]);
+    let objects = Lookup::new(alloc, &[])?;
     let symbols = with_signatures(alloc, types, constants, objects, predicates, functions)?;
     actions_once(alloc, &symbols, parts)
 }
@@ -193,8 +192,8 @@ fn domain_with(
         (domain_with (string_bytes name) (map section_body_view parts.now)) }
 {
     let requirements = requirements(alloc, parts)?;
-    let PlacedTypes { types, parents } = types(alloc, parts)?;
-    let known = Types::above(alloc, types.as_slice(), parents)?;
+    let types = types(alloc, parts)?;
+    let known = Types::new(alloc, types.as_slice())?;
     let constants = constants(alloc, &known, parts)?;
     let predicates = predicates(alloc, &known, parts)?;
     let functions = functions(alloc, &known, parts)?;

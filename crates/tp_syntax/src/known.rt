@@ -8,7 +8,6 @@ ghost use Rattle.tp_parts.specs.SectionViews.{domain_symbols};
 
 use std::alloc::{AllocError, Global};
 use tp_ast::symbols::{Signature, Typed};
-use tp_names::near::Hints;
 use tp_names::symbols::Symbols;
 use tp_types::lookup::Lookup;
 use tp_types::types::Types;
@@ -26,8 +25,6 @@ pub fn with_signatures<'d>(
         (types_view types.entry) (map typed_view constants.entry ++ map typed_view objects.entry)
         (map signature_view predicates.now) (map signature_view functions.now)) }
 {
-    let declared = [constants.items(), objects.items()];
-    let hints = Hints::new(alloc, &types, declared, predicates, functions)?;
     let predicates = Lookup::new(alloc, predicates)?;
     let functions = Lookup::new(alloc, functions)?;
     Ok(Symbols {
@@ -36,6 +33,5 @@ pub fn with_signatures<'d>(
         objects,
         predicates,
         functions,
-        hints,
     })
 }

@@ -216,7 +216,7 @@ fn problem_with(
     let words = find_section(ProblemSection::Requirements, parts, at);
     let _words = requirements_in(alloc, words.body, words.at)?;
     let listed = find_section(ProblemSection::Objects, parts, at);
-    let types = Types::new(alloc, &domain.types)?;
+    let types = Types::new(alloc, domain.types.as_slice())?;
     let objects = new_objects(alloc, &types, domain, listed.body, listed.at)?;
     let (initial, goal) = stated_of(alloc, types, domain, &objects, parts, at)?;
     Ok(Problem {

@@ -3,11 +3,8 @@
 use std::alloc::{AllocError, Global};
 use std::rc::Rc;
 use std::test::Fail;
-use tp_syntax::{TypeList, TypeName, Types, types_fit};
-use tp_types::cycles::ranks_by_places;
-use tp_types::jumps::jumps_by_places;
-use tp_types::parents::parents_by_rows;
-use tp_types::table::places;
+use tp_syntax::{TypeName, Types, types_fit};
+use tp_types::types::lists_fit;
 
 fn below(alloc: Global, name: &str, parent: &str) -> Result<TypeName, AllocError> {
     Ok(TypeName {
@@ -17,14 +14,14 @@ fn below(alloc: Global, name: &str, parent: &str) -> Result<TypeName, AllocError
 }
 
 // Eight types, each below the one before it.
-fn chain(alloc: Global) -> Result<TypeList, AllocError> {
+fn chain(alloc: Global) -> Result<Vec<TypeName>, AllocError> {
     let mut types = Vec::new(alloc);
     let mut above = "object";
     for name in ["a", "b", "c", "d", "e", "f", "g", "h"] {
         types.push(below(alloc, name, above)?)?;
         above = name;
     }
-    Ok(TypeList::unmarked(alloc, types))
+    Ok(types)
 }
 
 // Whether the one type fits where the other is asked for.
@@ -32,33 +29,6 @@ fn fits(alloc: Global, types: &Types, argument: &str, parameter: &str) -> Result
     let arguments = [String::from_str(alloc, argument)?];
     let parameters = [String::from_str(alloc, parameter)?];
     Ok(types_fit(types, &arguments, &parameters))
-}
-
-// Whether each type's rank is its number in the chain, and its jump the one that is wanted.
-fn jump_to(ranks: &[usize], jumps: &[usize], wanted: &[usize]) -> bool {
-    for (place, jump) in wanted.iter().enumerate() {
-        if ranks.get(place).copied() != Some(place + 1)
-            || jumps.get(place).copied() != Some(*jump)
-        {
-            return false;
-        }
-    }
-    true
-}
-
-fn chain_jumps(alloc: Global, chain: &[TypeName], wanted: &[usize]) -> Result<bool, AllocError> {
-    let places = places(alloc, chain)?;
-    let parents = parents_by_rows(alloc, chain, &places, &[])?;
-    let ranks = ranks_by_places(alloc, chain, &parents)?;
-    let jumps = jumps_by_places(alloc, &parents, &ranks)?;
-    Ok(jump_to(&ranks, &jumps, wanted))
-}
-
-#[test]
-fn jumps_lead_far_up(rt: HostRuntime) -> Result<(), Fail> {
-    let chain = chain(rt.alloc())?;
-    assert!(rt; chain_jumps(rt.alloc(), chain.as_slice(), &[8, 0, 1, 0, 3, 4, 3, 0])?);
-    Ok(())
 }
 
 // Whether the types of the chain fit those above them.
@@ -85,16 +55,39 @@ fn chain_fits(alloc: Global, types: &Types) -> Result<bool, AllocError> {
 fn types_fit_those_above_them(rt: HostRuntime) -> Result<(), Fail> {
     let chain = chain(rt.alloc())?;
     assert!(rt; chain_fits(rt.alloc(), &Types::new(rt.alloc(), &chain)?)?);
-    assert!(rt; chain_fits(rt.alloc(), &Types::listed(chain.as_slice()))?);
+    Ok(())
+}
+
+// Texts that own their letters.
+fn texts(alloc: Global, names: &[&str]) -> Result<Vec<String>, AllocError> {
+    let mut texts = Vec::new(alloc);
+    for name in names {
+        texts.push(String::from_str(alloc, name)?)?;
+    }
+    Ok(texts)
+}
+
+// Whether lists too long for pairs fit where each type is below one of the other list, and not where one is not.
+fn long_lists(alloc: Global, types: &Types) -> Result<bool, AllocError> {
+    let below = texts(alloc, &["h", "g", "f", "e", "d"])?;
+    let above = texts(alloc, &["other", "another", "c", "d"])?;
+    let apart = texts(alloc, &["other", "another", "f", "e"])?;
+    Ok(lists_fit(alloc, types, &below, &above)? && !lists_fit(alloc, types, &below, &apart)?)
+}
+
+#[test]
+fn long_lists_fit_as_pairs_do(rt: HostRuntime) -> Result<(), Fail> {
+    let chain = chain(rt.alloc())?;
+    assert!(rt; long_lists(rt.alloc(), &Types::new(rt.alloc(), &chain)?)?);
     Ok(())
 }
 
 // Two types, each below the other.
-fn cycle(alloc: Global) -> Result<TypeList, AllocError> {
+fn cycle(alloc: Global) -> Result<Vec<TypeName>, AllocError> {
     let mut types = Vec::new(alloc);
     types.push(below(alloc, "a", "b")?)?;
     types.push(below(alloc, "b", "a")?)?;
-    Ok(TypeList::unmarked(alloc, types))
+    Ok(types)
 }
 
 // Whether of two types that lead round one fits the other, and not `object`.

@@ -1,13 +1,6 @@
 pub mod OnPairs
 pub mod OnTables
-pub mod OnCycles
-pub mod OnJumps
-pub mod OnTypeTables
-pub mod OnClimbs
-pub mod OnMarks
+pub mod OnTypes
 pub mod OnNames
-pub mod OnAscending
-pub mod OnGuesses
-pub mod OnParents
+pub mod OnClimbs
 pub mod OnRows
-pub mod OnOrder

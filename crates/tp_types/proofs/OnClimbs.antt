@@ -1,91 +1,94 @@
--- Climbs from place to place.
-use Rattle.std.proofs.Common.{◌≡◌, ℕ, ◌≤◌, List, map, length, Bool, true, false, cond, Option, Some, None, option_map, IfSome, refl, sym, ap, ◌∙◌, arith}
-use Rattle.std.specs.Prelude.{nat_eq}
-use Rattle.std.specs.List.{slice_get}
+-- Types that are one of some names, or below one of them.
+use Rattle.std.proofs.Common.{◌≡◌, ℕ, ◌+◌, List, [], ◌∷◌, ◌++◌, ◌<◌, length, map, take, drop, get_or, cond, Bool, true, false, ◌||◌, ◌&&◌, Some, None, Bor, String, Global, string_bytes, refl, sym, ap, ◌∙◌}
+use Rattle.std.specs.List.{list_any}
 use Rattle.std.specs.Str.{bytes_eq}
-use Rattle.std.proofs.lemmas.List.{length-map}
-use Rattle.tp_ast.specs.Gives.{◌>>=◌}
-use Rattle.tp_ast.specs.Domains.{object}
-use Rattle.tp_ast.specs.Symbols.{Name, Parent, parent_view, parent_of, at_or_below}
-use Rattle.tp_ast.specs.declared.types.TypeName.{TypeName}
-use Rattle.tp_types.specs.Cycles.{type_name, rank_of, is_ranked}
-use Rattle.tp_types.specs.Jumps.{jump_from, IsAbove, IsPlaceAbove}
-use Rattle.tp_ast.specs.Shared.{parent_in}
-use Rattle.tp_types.specs.Parents.{parent_at}
-use Rattle.tp_types.specs.Tables.{place_of}
-use Rattle.tp_types.proofs.OnTypeTables.{IsTypeTable}
-use Rattle.tp_types.specs.declared.type_tables.TypeTable.{TypeTable}
-use Rattle.tp_types.proofs.OnCycles.{at_the_place, all_at_place, from_ranked, ranked_below}
-use Rattle.tp_types.proofs.OnJumps.{parent_above, jump_above, at_level}
-use Rattle.tp_types.proofs.OnParents.{parent_place, no_parent_at, place_once, name_at_place, same_place, jump_by_place, item_from}
+use Rattle.std.proofs.lemmas.Bool.{or_parts}
+use Rattle.std.proofs.lemmas.List.{take_more, drop_more, map-append}
+use Rattle.std.proofs.lemmas.List.Folds.{list_any-append}
+use Rattle.tp_ast.specs.Symbols.{Name, Parent, parent_of, at_or_below, types_fit}
+use Rattle.tp_types.specs.Among.{has_mark, AreAmong}
+use Rattle.tp_types.specs.NameSets.{same_text, insert_key}
+use Rattle.std.specs.Cmp.Lexicographic.{bytes_decides}
+use Rattle.tp_types.proofs.OnTypes.{goes_up, is_there, is_highest}
 
-module _ (ts : List TypeName) (table : TypeTable) (is : IsTypeTable ts table) where
-  abbrev ns : List Name
-  ns = map type_name ts
+or_left : (a b : Bool) → a ≡ true → (a || b) ≡ true
+or_left a b h = ap (λ (v : Bool). v || b) h
 
-  abbrev ds : List Parent
-  ds = map parent_view ts
+or_right : (a b : Bool) → b ≡ true → (a || b) ≡ true
+or_right true b h = refl
+or_right false b h = h
 
-  abbrev ranks : List ℕ
-  ranks = table.ranks.items
+or_none : (a b : Bool) → a ≡ false → b ≡ false → (a || b) ≡ false
+or_none a b h k = ap (λ (v : Bool). v || b) h ∙ k
 
-  abbrev rank : Name → Option ℕ
-  rank = rank_of ns ranks
+or_false : (a b : Bool) → (a || (b || false)) ≡ (a || b)
+or_false true b = refl
+or_false false true = refl
+or_false false false = refl
 
-  -- a type that stands somewhere has a rank above its parent's
-  ranked_there : (t : Name) (k : ℕ) → place_of t ns ≡ Some k → is_ranked ts ranks t ≡ true
-  ranked_there t k there = all_at_place (is_ranked ts ranks) ns t k is.ranked there
+or_known : (a b : Bool) → (b ≡ true → a ≡ true) → a ≡ (a || b)
+or_known true b h = refl
+or_known false false h = refl
+or_known false true h = h refl
 
-  rank_unless : (t : Name) (k : ℕ) (b : Bool) → place_of t ns ≡ Some k → bytes_eq t object ≡ b → rank t ≡ slice_get ranks k
-  rank_unless t k false there apart =
-      ap (λ (c : Bool). cond c (Some 0) (place_of t ns >>= slice_get ranks)) apart ∙ ap (λ (o : Option ℕ). o >>= slice_get ranks) there
-  rank_unless t k true there same =
-      from_ranked rank (rank t) (length ts) 0 (ap (λ (c : Bool). cond c (Some 0) (place_of t ns >>= slice_get ranks)) same) (parent_of t ds) (ranked_there t k there)
-      (λ q s up at lt. absurd (omega (arith, lt)))
+module _ (ds : List Parent) where
+  here_first : (m : ℕ) (ps : List Name) (t p : Name) (b : Bool) → bytes_eq t p ≡ b → (b || list_any (bytes_eq t) ps) ≡ true → (list_any (bytes_eq t) ps ≡ true → list_any (λ q. at_or_below ds m t q) ps ≡ true) → list_any (λ q. at_or_below ds m t q) (p ∷ ps) ≡ true
+  here_first m ps t p true is h rest = or_left (at_or_below ds m t p) (list_any (λ q. at_or_below ds m t q) ps) (is_there ds m t p is)
+  here_first m ps t p false is h rest = or_right (at_or_below ds m t p) (list_any (λ q. at_or_below ds m t q) ps) (rest h)
 
-  pub rank_there : (t : Name) (k : ℕ) → place_of t ns ≡ Some k → rank t ≡ slice_get ranks k
-  rank_there t k there = rank_unless t k (bytes_eq t object) there refl
+  -- one of the names
+  pub found : (m : ℕ) (ps : List Name) (t : Name) → list_any (bytes_eq t) ps ≡ true → list_any (λ q. at_or_below ds m t q) ps ≡ true
+  found m [] t h = cc
+  found m (p ∷ ps) t h = here_first m ps t p (bytes_eq t p) refl h (found m ps t)
 
-  -- ---- ways up
+  -- none of them, with nothing above it
+  pub highest : (m : ℕ) (ps : List Name) (t : Name) → list_any (bytes_eq t) ps ≡ false → parent_of t ds ≡ None → list_any (λ q. at_or_below ds m t q) ps ≡ false
+  highest m [] t h none = refl
+  highest m (p ∷ ps) t h none =
+      let e = or_parts (bytes_eq t p) (list_any (bytes_eq t) ps) h in
+      or_none (at_or_below ds m t p) (list_any (λ q. at_or_below ds m t q) ps) (is_highest ds m t p e.0 none) (highest m ps t e.1 none)
 
-  pub parent_up : (k j : ℕ) → parent_at table.parents.items k ≡ Some j → IsPlaceAbove ts ranks k j
-  parent_up k j above = λ t there. by_type t there (slice_get ts k) refl where
-    by_type : (t : Name) → place_of t ns ≡ Some k → (o : Option TypeName) → slice_get ts k ≡ o → (q : Name) × (place_of q ns ≡ Some j) × IsAbove ts ranks t q
-    by_type t there None at = absurd (let e : None ≡ Some j = sym (no_parent_at table.places ts table.parents.items is.places is.parents k at) ∙ above in cc)
-    by_type t there (Some d) at = (
-      parent_in d,
-      parent_place table.places ts table.parents.items is.places is.parents k d at ∙ above,
-      parent_above ts ranks is.ranked t (parent_in d) (at_the_place ts t k (Some d) there at),
-    )
+  -- none of them, with a parent
+  pub one_up : (left k : ℕ) (ps : List Name) (t q : Name) → left ≡ k + 1 → list_any (bytes_eq t) ps ≡ false → parent_of t ds ≡ Some q → list_any (λ p. at_or_below ds left t p) ps ≡ list_any (λ p. at_or_below ds k q p) ps
+  one_up left k [] t q is h up = refl
+  one_up left k (p ∷ ps) t q is h up =
+      let e = or_parts (bytes_eq t p) (list_any (bytes_eq t) ps) h in
+      ap (λ (b : Bool). b || list_any (λ r. at_or_below ds left t r) ps) (goes_up ds left k t p q is e.0 up)
+      ∙ ap (λ (b : Bool). at_or_below ds k q p || b) (one_up left k ps t q is e.1 up)
 
-  pub parent_up_if : (k : ℕ) (o : Option ℕ) → parent_at table.parents.items k ≡ o → IfSome o (IsPlaceAbove ts ranks k)
-  parent_up_if k None above = tt
-  parent_up_if k (Some j) above = parent_up k j above
+  pub at_zero : (left : ℕ) (ps : List Name) (t : Name) → left ≡ 0 → list_any (λ p. at_or_below ds left t p) ps ≡ list_any (bytes_eq t) ps
+  at_zero left [] t is = refl
+  at_zero left (p ∷ ps) t is =
+      ap (λ (n : ℕ). at_or_below ds n t p || list_any (λ r. at_or_below ds left t r) ps) is
+      ∙ ap (λ (b : Bool). bytes_eq t p || b) (at_zero left ps t is)
 
-  pub jump_up : (k j : ℕ) → jump_from ts table.jumps.items k ≡ Some j → IsPlaceAbove ts ranks k j
-  jump_up k j leap = λ t there. item_from ts table.jumps.items k j leap (λ d at. (
-    type_name d,
-    place_once ts j d is.once at,
-    jump_above ts ranks is.ranked table.jumps.items is.jumps t (type_name d)
-        (jump_by_place ts table.jumps.items t (Some k) there
-        ∙ ap (λ (m : Option ℕ). m >>= λ i. option_map type_name (slice_get ts i)) leap
-        ∙ ap (option_map type_name) at),
-  ))
+-- ---- one more name
 
-  -- ---- where a climb ends
+marked_once : (n : Name) (ks : List (Bor (List ℕ))) (k : Bor (List ℕ)) (b : Bool) → has_mark ks k.now ≡ b → has_mark (cond b ks (ks ++ k ∷ [])) n ≡ (has_mark ks n || bytes_eq n k.now)
+marked_once n ks k false is = list_any-append (λ j. bytes_eq n j.now) ks (k ∷ []) ∙ or_false (has_mark ks n) (bytes_eq n k.now)
+marked_once n ks k true is = or_known (has_mark ks n) (bytes_eq n k.now) (λ t. ap (has_mark ks) ((bytes_decides n k.now).0 t) ∙ is)
 
-  pub below_object : (t : Name) (k : ℕ) → place_of t ns ≡ Some k → true ≡ at_or_below ds (length ts) t object
-  below_object t k there =
-      sym (ap (λ (n : ℕ). at_or_below ds n t object) (sym (length-map ts parent_view)) ∙ ranked_below ts ranks is.ranked t (ranked_there t k there))
+one_more : (n : Name) (ks : List (Bor (List ℕ))) (k : Bor (List ℕ)) → has_mark (insert_key same_text ks k) n ≡ (has_mark ks n || bytes_eq n k.now)
+one_more n ks k = marked_once n ks k (has_mark ks k.now) refl
 
-  same_type : (c p : Name) (k end : ℕ) → place_of c ns ≡ Some k → place_of p ns ≡ Some end → bytes_eq c p ≡ nat_eq k end
-  same_type c p k end there up = by_type (slice_get ts end) refl (name_at_place ts p end up) where
-    by_type : (o : Option TypeName) → slice_get ts end ≡ o → option_map type_name o ≡ Some p → bytes_eq c p ≡ nat_eq k end
-    by_type None at named = absurd (let e : None ≡ Some p = named in cc)
-    by_type (Some d) at named =
-        let e : type_name d ≡ p = cc in
-        ap (bytes_eq c) (sym e) ∙ same_place ts is.once end d at c (Some k) (bytes_eq c (type_name d)) there refl
+pub among_more : (ps : List Name) (ks js : List (Bor (List ℕ))) (k : Bor (List ℕ)) (m : Name) → m ≡ k.now → js ≡ insert_key same_text ks k → AreAmong ps ks → AreAmong (ps ++ m ∷ []) js
+among_more ps ks js k m is grown are = λ n.
+    ap (λ (ls : List (Bor (List ℕ))). has_mark ls n) grown
+    ∙ one_more n ks k
+    ∙ ap (λ (b : Bool). b || bytes_eq n k.now) (are n)
+    ∙ sym (list_any-append (bytes_eq n) ps (m ∷ []) ∙ or_false (list_any (bytes_eq n) ps) (bytes_eq n m) ∙ ap (λ (x : Name). list_any (bytes_eq n) ps || bytes_eq n x) is)
 
-  pub ends : (c p : Name) (k end left least : ℕ) → place_of c ns ≡ Some k → place_of p ns ≡ Some end → rank c ≡ Some left → slice_get ranks end ≡ Some least → left ≤ least → nat_eq k end ≡ at_or_below ds (length ts) c p
-  ends c p k end left least there up own high le =
-      sym (at_level ts ranks is.ranked c p left least own (rank_there p end up ∙ high) le ∙ same_type c p k end there up)
+-- ---- lists of texts, one after another
+
+-- the names of a list's front, and one more of them
+pub front_more : (ss : List (String Global)) (i : ℕ) (s : String Global) (n : Name) → i < length ss → s ≡ get_or ss i s → n ≡ string_bytes s → map string_bytes (take i ss) ++ n ∷ [] ≡ map string_bytes (take (i + 1) ss)
+front_more ss i s n lt at is =
+    ap (λ (m : Name). map string_bytes (take i ss) ++ m ∷ []) (is ∙ ap (λ (t : String Global). string_bytes t) at)
+    ∙ sym (ap (map string_bytes) (take_more ss i s lt) ∙ map-append string_bytes (take i ss) (get_or ss i s ∷ []))
+
+-- one more of a list's names
+pub rest_more : (ds : List Parent) (ps : List Name) (ss : List (String Global)) (i : ℕ) (s : String Global) (b : Bool) → i < length ss → s ≡ get_or ss i s → b ≡ list_any (λ p. at_or_below ds (length ds) (string_bytes s) p) ps → types_fit ds (map string_bytes (drop i ss)) ps ≡ (b && types_fit ds (map string_bytes (drop (i + 1) ss)) ps)
+rest_more ds ps ss i s b lt at is =
+    ap (λ (us : List (String Global)). types_fit ds (map string_bytes us) ps) (drop_more ss i s lt)
+    ∙ ap (λ (u : String Global). list_any (λ p. at_or_below ds (length ds) (string_bytes u) p) ps && types_fit ds (map string_bytes (drop (i + 1) ss)) ps) (sym at)
+    ∙ ap (λ (v : Bool). v && types_fit ds (map string_bytes (drop (i + 1) ss)) ps) (sym is)

@@ -4,7 +4,7 @@ use Rattle.std.proofs.lemmas.List.{map-append, length-map}
 use Rattle.std.specs.Option.{is_some}
 use Rattle.std.specs.Str.{bytes_eq}
 use Rattle.tp_types.specs.Tables.{Name, Table, place_of, or_place, found, IsTable}
-use Rattle.tp_types.specs.Marks.{has_mark}
+use Rattle.tp_types.specs.Among.{has_mark}
 use Rattle.tp_types.proofs.OnPairs.{same_turned}
 use Rattle.tp_types.proofs.OnTables.{place_of-push, after_put}
 

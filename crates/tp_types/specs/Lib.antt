@@ -1,11 +1,6 @@
 pub mod Tables
 pub mod OwnTables
-pub mod Parents
-pub mod Cycles
-pub mod Jumps
+pub mod TypeNames
 pub mod TypeViews
-pub mod Marks
+pub mod Among
 pub mod NameSets
-pub mod Ascending
-pub mod Once
-pub mod Order

@@ -25,10 +25,6 @@ found t n = get_by (λ k. slice_cmp nat_cmp n k.now) t
 abbrev pub IsTable : Table → List Name → Type 0
 IsTable t ns = (n : Name) → found t n ≡ place_of n ns
 
-abbrev pub IsTableIfAny : Option Table → List Name → Type 0
-IsTableIfAny (Some t) ns = IsTable t ns
-IsTableIfAny None ns = Unit {0}
-
 -- the first item of a name
 abbrev pub item_of : {X : Type 0} → (X → Name) → Name → List X → Option X
 item_of named n [] = None

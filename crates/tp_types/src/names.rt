@@ -1,7 +1,7 @@
 //! Names, each once, that are found in an order: no choice of names makes that slow.
 
 ghost use Rattle.std.specs.Prelude.{◌≡◌, [], ◌∷◌, ◌++◌, map, not, false, IfOk, OnOk};
-ghost use Rattle.tp_types.specs.Marks.{has_mark};
+ghost use Rattle.tp_types.specs.Among.{has_mark};
 ghost use Rattle.tp_types.specs.NameSets.{same_text, insert_key};
 ghost use Rattle.tp_types.specs.Tables.{IsTable};
 

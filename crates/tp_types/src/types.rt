@@ -1,90 +1,49 @@
-//! Types and the order among them.
+//! The types that a domain declares, and the order among them.
 
-ghost use Rattle.std.specs.Prelude.{◌≡◌, map, option_map, string_bytes, length, true, false, IfOk, IfSome};
-ghost use Rattle.std.specs.List.{list_any, list_all};
+ghost use Rattle.std.specs.Prelude.{◌≡◌, map, length, option_map, string_bytes, List, IfOk};
+ghost use Rattle.std.specs.List.{list_all, list_any};
+ghost use Rattle.tp_ast.specs.Domains.{object, no_cycle};
 ghost use Rattle.tp_ast.specs.Symbols.{parent_view, parent_of, at_or_below, types_fit};
-ghost use Rattle.tp_types.specs.Order.{IsTransitive};
-ghost use Rattle.tp_types.specs.Parents.{ArePlaced};
+ghost use Rattle.tp_ast.specs.TypedLists.{is_type};
+ghost use Rattle.tp_types.specs.Among.{AreAmong};
+ghost use Rattle.tp_types.specs.Tables.{Name, IsTable};
+ghost use Rattle.tp_types.specs.TypeNames.{type_name};
 ghost use Rattle.tp_types.specs.TypeViews.{types_view};
-ghost use Rattle.tp_ast.specs.TypedLists.{is_type, has_twice};
 
-use crate::climbs::climb;
-use crate::marks::{fit_by_marks, past_shared};
-use crate::type_tables::{TypeTable, parent_of as parent_in, type_table, type_table_above};
+use crate::names::NameSet;
+use crate::table::places;
 use std::alloc::{AllocError, Global};
+use std::collections::BTreeMap;
 use std::marker::Model;
-use std::rc::Rc;
-use tp_ast::type_list::TypeList;
 use tp_ast::types::TypeName;
 
-/// The types that a domain declares.
+/// The types that a domain declares, and a table of their places.
 #[derive(Drop)]
 pub struct Types<'a> {
     declared: &'a [TypeName],
-    table: Option<TypeTable<'a>>,
+    places: BTreeMap<&'a str, usize>,
 }
 
 impl<'a> Model for Types<'a> {
-    ghost use Rattle.std.specs.Prelude.{List};
+    ghost use Rattle.std.specs.Prelude.{List, map};
     ghost use Rattle.tp_ast.specs.declared.types.TypeName.{TypeName};
+    ghost use Rattle.tp_types.specs.Tables.{IsTable};
+    ghost use Rattle.tp_types.specs.TypeNames.{type_name};
 
     ghost Value = { List TypeName };
 
-    ghost use Rattle.tp_types.specs.TypeViews.{IsOfIfAny};
-
     ghost view = { λ t. t.declared.now };
 
-    ghost invariant = { λ t. IsOfIfAny t.declared.now t.table };
+    ghost invariant = { λ t. IsTable t.places (map type_name t.declared.now) };
 }
 
 impl<'a> Types<'a> {
-    /// Types with no table, for which no memory is wanted: each look-up walks over them.
-    pub fn listed(declared: &'a [TypeName]) -> Types<'a>
-        ensures { types_view result ≡ map parent_view declared.now }
-    {
-        Types {
-            declared,
-            table: None,
-        }
-    }
-
-    /// Types with a table: a parent is found as fast however many there are, and a climb takes few steps.
-    pub fn new(alloc: Global, list: &'a TypeList) -> Result<Types<'a>, AllocError>
-        ensures { IfOk result (λ t. types_view t ≡ map parent_view list.now.items) }
-    {
-        let table = type_table(alloc, list)?;
-        let declared = list.as_slice();
-        Ok(Types { declared, table })
-    }
-
-    /// As `new`, where it is known where parents stand: no name of a parent is looked for.
-    pub fn above(
-        alloc: Global,
-        declared: &'a [TypeName],
-        parents: Vec<Option<usize>>,
-    ) -> Result<Types<'a>, AllocError>
-        requires { ArePlaced declared.now parents.items }
+    /// Types with a table: a parent is found in the logarithm of their number.
+    pub fn new(alloc: Global, declared: &'a [TypeName]) -> Result<Types<'a>, AllocError>
         ensures { IfOk result (λ t. types_view t ≡ map parent_view declared.now) }
     {
-        let table = type_table_above(alloc, declared, parents)?;
-        Ok(Types { declared, table })
-    }
-
-    /// The types, as they are declared.
-    pub fn declared(&self) -> &'a [TypeName]
-        ensures { result.now ≡ self.now }
-    {
-        self.declared
-    }
-
-    /// Where the parent of each type stands, if there is a table: it takes no time.
-    pub fn parents(&self) -> Option<&[Option<usize>]>
-        ensures { IfSome result (λ ps. ArePlaced self.now ps.now) }
-    {
-        match &self.table {
-            Some(table) => Some(table.parents.as_slice()),
-            None => None,
-        }
+        let places = places(alloc, declared)?;
+        Ok(Types { declared, places })
     }
 
     fn len(&self) -> usize
@@ -92,18 +51,30 @@ impl<'a> Types<'a> {
     {
         self.declared.len()
     }
+
+    fn declared(&self) -> &'a [TypeName]
+        ensures { result.now ≡ self.now }
+    {
+        self.declared
+    }
 }
 
-fn parent_among<'a>(name: &str, types: &'a [TypeName]) -> Option<&'a String>
+fn parent_among<'a>(
+    types: &'a [TypeName],
+    places: &BTreeMap<&str, usize>,
+    name: &str,
+) -> Option<&'a String>
+    requires { IsTable places.now (map type_name types.now) }
     ensures { option_map (λ p. string_bytes p.now) result
         ≡ parent_of name.now (map parent_view types.now) }
 {
-    for declared in types {
-        if declared.name.as_str() == name {
-            return Some(declared.parent.as_ref());
-        }
-    }
-    None
+    let Some(place) = places.get(name) else {
+        return None;
+    };
+    let Some(declared) = types.get(*place) else {
+        return None;
+    };
+    Some(declared.parent.as_ref())
 }
 
 /// The parent of a type, if the type is declared.
@@ -111,21 +82,7 @@ pub fn parent_of<'a>(name: &str, types: &Types<'a>) -> Option<&'a String>
     ensures { option_map (λ p. string_bytes p.now) result
         ≡ parent_of name.now (types_view types.now) }
 {
-    match &types.table {
-        Some(table) => parent_in(table, name),
-        None => parent_among(name, types.declared),
-    }
-}
-
-// What a climb by jumps tells, if there is a table: whether a type is another, or stands below it.
-fn climbed(types: &Types, below: &str, above: &str) -> Option<bool>
-    ensures { IfSome result
-        (λ b. b ≡ at_or_below (types_view types.now) (length types.now) below.now above.now) }
-{
-    let Some(table) = &types.table else {
-        return None;
-    };
-    climb(table, below, above)
+    parent_among(types.declared, &types.places, name)
 }
 
 fn climbs(types: &Types, steps: usize, below: &String, above: &str) -> bool
@@ -146,7 +103,7 @@ fn climbs(types: &Types, steps: usize, below: &String, above: &str) -> bool
     current.as_str() == above
 }
 
-// Whether a type is another, or stands below it in at most so many steps.
+// Whether a type is another, or is below it in at most so many steps.
 fn at_or_below(types: &Types, steps: usize, below: &str, above: &str) -> bool
     ensures { result ≡ at_or_below (types_view types.now) steps below.now above.now }
 {
@@ -162,32 +119,32 @@ fn at_or_below(types: &Types, steps: usize, below: &str, above: &str) -> bool
     }
 }
 
-// The types of a table are in an order, by their ranks.
-fn is_order(table: &TypeTable) -> bool
-    ensures { IsTransitive (map parent_view table.now.types.now) }
-{
-    let _ = table;
-    true
-}
-
-/// Whether the types are known to be in an order: what a type is below, all those below it are.
-pub fn is_ordered(types: &Types) -> bool
-    ensures { result ≡ true → IsTransitive (types_view types.now) }
-{
-    match &types.table {
-        Some(table) => is_order(table),
-        None => false,
-    }
-}
-
-/// Whether a type is another, or stands below it.
+/// Whether a type is another, or is below it: a climb from parent to parent.
 pub fn is_below(types: &Types, below: &str, above: &str) -> bool
     ensures { result ≡ at_or_below (types_view types.now) (length types.now) below.now above.now }
 {
-    match climbed(types, below, above) {
-        Some(is_below) => is_below,
-        None => at_or_below(types, types.len(), below, above),
+    at_or_below(types, types.len(), below, above)
+}
+
+// Whether each of some types is below `object`.
+fn are_below_object(types: &Types, some: &[TypeName]) -> bool
+    ensures { result
+        ≡ list_all (λ p. at_or_below (types_view types.now) (length types.now) p.name object)
+        (map parent_view some.now) }
+{
+    for declared in some {
+        if !is_below(types, declared.name.as_str(), "object") {
+            return false;
+        }
     }
+    true
+}
+
+/// Whether each type is below `object`.
+pub fn no_cycle(types: &Types) -> bool
+    ensures { result ≡ no_cycle (types_view types.now) }
+{
+    are_below_object(types, types.declared())
 }
 
 // Whether a type is at or below one of these.
@@ -204,7 +161,7 @@ fn type_fits(types: &Types, below: &str, parameter: &[String]) -> bool
     false
 }
 
-// Whether each of some types is at or below one of these.
+/// Whether each of some types is at or below one of these: each pair is compared.
 pub fn types_fit(types: &Types, argument: &[String], parameter: &[String]) -> bool
     ensures { result ≡ types_fit
         (types_view types.now) (map string_bytes argument.now) (map string_bytes parameter.now) }
@@ -217,15 +174,55 @@ pub fn types_fit(types: &Types, argument: &[String], parameter: &[String]) -> bo
     true
 }
 
-// So few pairs of types are compared one by one as fast as marks are made.
+// Whether a type is one of some names, or is below one of them in at most so many steps.
+fn climbs_to(types: &Types, steps: usize, below: &String, above: &NameSet) -> bool
+    ensures { (ps : List Name) → AreAmong ps above.now → result
+        ≡ list_any (λ p. at_or_below (types_view types.now) steps (string_bytes below.now) p) ps }
+{
+    let mut current = below;
+    let mut left = steps;
+    'up: while left > 0 {
+        if above.contains(current.as_str()) {
+            return true;
+        }
+        let Some(parent) = parent_of(current.as_str(), types) else {
+            return false;
+        };
+        current = parent;
+        left -= 1;
+    }
+    above.contains(current.as_str())
+}
+
+// The names of some types.
+fn names_of<'a>(alloc: Global, types: &'a [String]) -> Result<NameSet<'a>, AllocError>
+    ensures { IfOk result (λ s. AreAmong (map string_bytes types.now) s) }
+{
+    let mut names = NameSet::new(alloc);
+    for name in types {
+        names.insert(name.as_str())?;
+    }
+    Ok(names)
+}
+
+// Whether each of some types is one of some names, or is below one of them.
+fn fit_names(types: &Types, argument: &[String], names: &NameSet) -> bool
+    ensures { (ps : List Name) → AreAmong ps names.now → result
+        ≡ types_fit (types_view types.now) (map string_bytes argument.now) ps }
+{
+    for below in argument {
+        if !climbs_to(types, types.len(), below, names) {
+            return false;
+        }
+    }
+    true
+}
+
+// The pairs of so few types are compared one by one.
 const FEW: usize = 16;
 
-// A pair is compared, by jumps, about as fast as so many steps of a way up are gone that looks for a mark, which may lead over all types.
-const STEPS: usize = 32;
-
-/// As `types_fit`, for lists that may be long: about as many steps as there are types in the two lists
-/// and on the ways up from the first.
-pub fn long_lists_fit(
+/// As `types_fit`, for lists that may be long: a climb for each type of the argument.
+pub fn lists_fit(
     alloc: Global,
     types: &Types,
     argument: &[String],
@@ -234,31 +231,11 @@ pub fn long_lists_fit(
     ensures { IfOk result (λ b. b ≡ types_fit
         (types_view types.now) (map string_bytes argument.now) (map string_bytes parameter.now)) }
 {
-    let rest = past_shared(argument, parameter);
-    let few = FEW.max(types.len() / STEPS);
-    if rest.len().saturating_mul(parameter.len()) <= few {
-        return Ok(types_fit(types, rest, parameter));
+    if argument.len().saturating_mul(parameter.len()) <= FEW {
+        return Ok(types_fit(types, argument, parameter));
     }
-    match fit_by_table(alloc, types, rest, parameter)? {
-        Some(fits) => Ok(fits),
-        None => Ok(types_fit(types, rest, parameter)),
-    }
-}
-
-// What marks tell, if there is a table.
-fn fit_by_table(
-    alloc: Global,
-    types: &Types,
-    argument: &[String],
-    parameter: &[String],
-) -> Result<Option<bool>, AllocError>
-    ensures { IfOk result (λ o. IfSome o (λ b. b ≡ types_fit
-        (types_view types.now) (map string_bytes argument.now) (map string_bytes parameter.now))) }
-{
-    let Some(table) = &types.table else {
-        return Ok(None);
-    };
-    fit_by_marks(alloc, table, argument, parameter)
+    let names = names_of(alloc, parameter)?;
+    Ok(fit_names(types, argument, &names))
 }
 
 /// Whether a type is declared.
@@ -268,6 +245,7 @@ pub fn is_type(types: &Types, name: &str) -> bool
     name == "object" || parent_of(name, types).is_some()
 }
 
+/// Whether each of some types is declared.
 pub fn are_types(types: &Types, names: &[String]) -> bool
     ensures { result ≡ list_all (is_type (types_view types.now)) (map string_bytes names.now) }
 {

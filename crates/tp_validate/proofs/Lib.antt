@@ -8,8 +8,5 @@ pub mod Judging
 pub mod Lawful
 pub mod AtPlace
 pub mod Ordered
-pub mod Starting
 pub mod Untouched
-pub mod Differing
-pub mod Alike
-pub mod Foreseen
+pub mod OnMentions

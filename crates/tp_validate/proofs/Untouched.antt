@@ -1,30 +1,25 @@
 -- An invariant stays as it was where no event of a moment changes anything that it mentions.
 use Rattle.std.proofs.Common.{◌≡◌, ◌≢◌, ℕ, ◌+◌, ◌<◌, Bool, true, false, not, ◌&&◌, ◌||◌, ◌==◌, nat_le, nat_lt, List, [], ◌∷◌, ◌++◌, length, get_or, filter, ⊎_elim, refl, sym, ap, ap₂, ◌∙◌, arith, Option, ℤ, pos, ◌+ℤ◌}
-use Rattle.std.specs.List.{list_any}
+use Rattle.std.specs.List.{list_any, flat_map}
+use Rattle.std.proofs.lemmas.List.Folds.{list_any-append}
 use Rattle.std.specs.Cmp.{booleans_Decides}
 use Rattle.std.proofs.lemmas.Bool.{both_ways, cases_Bool, cond-true, cond-false, eqb-true, eqb-false, leb-true, ltb-true, not_from_true, not-false, or_parts, or_cases, or_left, or_right}
 use Rattle.tp_task.specs.declared.events.Body.{Body}
 use Rattle.tp_task.specs.declared.events.Body.TheVariants.{Instant, Durative}
 use Rattle.tp_task.specs.State.{State, holds, units}
-use Rattle.tp_task.specs.Event.{has, fluents_set, fluents_written}
+use Rattle.tp_task.specs.Event.{has, meets, fluents_set, fluents_written}
 use Rattle.tp_task.specs.Happens.{EventOfStep, Happens, atom_after, number_after, set_by, added_by, plus}
 use Rattle.tp_task.specs.Valid.{Planned, Placed}
 use Rattle.tp_task.specs.Verdict.{is_broken}
 use Rattle.tp_task.proofs.Same.{has_left, has_right, holds_same}
 use Rattle.tp_task.proofs.Bridge.{plus_zero, set_written, added_none}
 use Rattle.tp_happen.proofs.Compared.{numbers_Decides}
-use Rattle.tp_number_sets.specs.declared.sets.NumberSet.{NumberSet}
-use Rattle.tp_number_sets.specs.Sets.{has_number, is_met}
-use Rattle.tp_validate.specs.declared.mentions.Mentions.{Mentions}
-use Rattle.tp_validate.specs.Changed.{is_atom_changed, is_fluent_changed, changed_atoms}
-use Rattle.tp_validate.specs.Touched.{invariant_holds, HasMentions, reaches, Agree, HasTouched, HoldsSoFar, AreKept}
+use Rattle.tp_happen.specs.declared.meetings.Meeting.TheVariants.{ChangedAndAsked, WrittenAndRead}
+use Rattle.tp_happen.specs.Meetings.{done}
+use Rattle.tp_validate.specs.Changed.{is_atom_changed, is_fluent_changed, atoms_changed, fluents_changed}
+use Rattle.tp_validate.specs.Touched.{invariant_atoms, invariant_fluents, invariant_holds, mentions_any, Agree, HoldsSoFar, AreKept}
 use Rattle.tp_validate.proofs.Numbers.{times}
 use Rattle.tp_validate.proofs.Quiet.{behind, and_true}
-
--- where some pass a test, some pass one that it leads to
-any_weaker : {X : Type 0} (p q : X → Bool) → ((x : X) → p x ≡ true → q x ≡ true) → (xs : List X) → list_any p xs ≡ true → list_any q xs ≡ true
-any_weaker p q f [] h = absurd (cc)
-any_weaker p q f (x ∷ xs) h = ⊎_elim (λ e. or_left (q x) _ (f x e)) (λ e. or_right (q x) _ (any_weaker p q f xs e)) (or_cases (p x) (list_any p xs) h)
 
 -- a test that leads to one that fails fails too
 not_so : (a b : Bool) → (a ≡ true → b ≡ true) → b ≡ false → a ≡ false
@@ -41,6 +36,16 @@ any_kept p q (x ∷ xs) a h i j =
     (λ f. ap (list_any q) (cond-false (p x) _ _ f) ∙ any_kept p q xs a e i j)
     (cases_Bool (p x)))
     (or_cases (x == a) (has xs a) h)
+
+-- what is in the list of some, and passes a filter, is found among those of all that pass it
+some_kept : {X : Type 0} (p q : ℕ → Bool) (g : X → List ℕ) (a : ℕ) (xs : List X) → list_any (λ x. has (g x) a) xs ≡ true → p a ≡ true → q a ≡ true → list_any q (flat_map (λ x. filter p (g x)) xs) ≡ true
+some_kept p q g a [] h i j = absurd (cc)
+some_kept p q g a (x ∷ xs) h i j =
+    list_any-append q (filter p (g x)) (flat_map (λ y. filter p (g y)) xs)
+    ∙ ⊎_elim
+    (λ e. or_left (list_any q (filter p (g x))) _ (any_kept p q (g x) a e i j))
+    (λ e. or_right (list_any q (filter p (g x))) _ (some_kept p q g a xs e i j))
+    (or_cases (has (g x) a) (list_any (λ y. has (g y) a) xs) h)
 
 -- an event adds or deletes an atom, or writes a fluent
 abbrev changes : ℕ → Placed → Bool
@@ -63,7 +68,7 @@ module _ (a : ℕ) where
       let p = or_parts (changes a e) (list_any (changes a) fs) h in
       ap₂ ◌||◌ (not_so (has e.timed.event.deletes.items a) (changes a e) (has_right e.timed.event.adds.items e.timed.event.deletes.items a) p.0) (none_deletes fs p.1)
 
-  pub atom_stays : (s : State) (fs : List Placed) → list_any (changes a) fs ≡ false → atom_after s (times fs) a ≡ s.atom a
+  atom_stays : (s : State) (fs : List Placed) → list_any (changes a) fs ≡ false → atom_after s (times fs) a ≡ s.atom a
   atom_stays s fs h = ap₂ (λ x y. x || (s.atom a && not y)) (none_adds fs h) (none_deletes fs h) ∙ and_true (s.atom a)
 
 -- a fluent that none writes keeps its number
@@ -80,7 +85,7 @@ module _ (scale : ℕ) (s : State) (f : ℕ) where
       let p = or_parts (writes f e) (list_any (writes f) fs) h in
       ap₂ ◌+ℤ◌ (added_none s (units scale e.timed.ticks) e.timed.event.writes.items f p.0) (none_adds_to fs p.1)
 
-  pub number_stays : (fs : List Placed) → list_any (writes f) fs ≡ false → number_after scale s (times fs) f ≡ s.number f
+  number_stays : (fs : List Placed) → list_any (writes f) fs ≡ false → number_after scale s (times fs) f ≡ s.number f
   number_stays fs h = none_sets fs _ h ∙ (ap (λ z. plus z (s.number f)) (none_adds_to fs h) ∙ plus_zero (s.number f))
 
 -- two states agree on an atom and on a fluent that are not changed
@@ -100,38 +105,34 @@ module _ (old new : State) where
       let high = ltb-true m (p.moment + p.duration) v in
       not_from_true (holds new c) (holds_same new old c same.atoms same.numbers ∙ held (omega arith) high)))
 
-  -- the steps that don't start at the moment, and aren't in a set with all whose invariants mention what is changed, stay unbroken
-  pub kept : (m : ℕ) (ps : List Planned) (touched : NumberSet) → HoldsSoFar old m ps → HasTouched ps old new touched → AreKept new m touched ps
-  kept m ps touched held has_all k d b n =
-      let p : Planned = get_or ps k d in
-      let q = or_parts (p.moment == m) (has_number touched k) n in
-      unbroken m p p.body (eqb-false p.moment m q.0) (has_all k d b q.1) (held k d b)
-
--- the steps that events reach by the indexes are all whose invariants mention what they change
-module _ (scale : ℕ) (old new : State) (fs : List Placed) (h : Happens scale old (times fs) new) (m : Mentions) (k : ℕ) (n : list_any (λ (e : Placed). reaches m old new e.timed.event k) fs ≡ false) where
-  -- no event writes what is changed and the step is entered at, since it would reach the step; so that stays as it was
-  atom_agrees : (a : ℕ) → is_met m.atoms a k ≡ true → new.atom a ≡ old.atom a
-  atom_agrees a i =
-      ⊎_elim
-      (λ t. h.atoms a ∙ atom_stays a old fs
-      (not_so (list_any (changes a) fs) _ (any_weaker (changes a) (λ (e : Placed). reaches m old new e.timed.event k)
-      (λ (e : Placed) w. or_left (list_any (λ x. is_met m.atoms x k) (changed_atoms old new e.timed.event)) _ (any_kept (is_atom_changed old new) (λ x. is_met m.atoms x k) _ a w t i)) fs) n))
-      (same_atom old new a)
-      (cases_Bool (is_atom_changed old new a))
-
-  number_agrees : (f : ℕ) → is_met m.fluents f k ≡ true → new.number f ≡ old.number f
-  number_agrees f i =
-      ⊎_elim
-      (λ t. h.numbers f ∙ number_stays scale old f fs
-      (not_so (list_any (writes f) fs) _ (any_weaker (writes f) (λ (e : Placed). reaches m old new e.timed.event k)
-      (λ (e : Placed) w. or_right (list_any (λ x. is_met m.atoms x k) (changed_atoms old new e.timed.event)) _ (any_kept (is_fluent_changed old new) (λ x. is_met m.fluents x k) _ f w t i)) fs) n))
-      (same_number old new f)
-      (cases_Bool (is_fluent_changed old new f))
-
+-- where an invariant mentions nothing that the events change, the states before and after them agree on it
 module _ (scale : ℕ) (old new : State) (fs : List Placed) (h : Happens scale old (times fs) new) where
-  pub has_touched : (ps : List Planned) (m : Mentions) (touched : NumberSet) → HasMentions ps (length ps) m → ((k : ℕ) → has_number touched k ≡ list_any (λ (e : Placed). reaches m old new e.timed.event k) fs) → HasTouched ps old new touched
-  has_touched ps m touched mentioned all k d b u =
-      record {
-        atoms = λ a i. atom_agrees scale old new fs h m k (sym (all k) ∙ u) a (mentioned.atoms k a d b i);
-        numbers = λ f i. number_agrees scale old new fs h m k (sym (all k) ∙ u) f (mentioned.fluents k f d b i);
-      }
+  module _ (b : Body) (n : mentions_any b (atoms_changed old new fs) (fluents_changed old new fs) ≡ false) where
+    apart : (meets (atoms_changed old new fs) (invariant_atoms b) ≡ false) × (meets (fluents_changed old new fs) (invariant_fluents b) ≡ false)
+    apart = or_parts (meets (atoms_changed old new fs) (invariant_atoms b)) (meets (fluents_changed old new fs) (invariant_fluents b)) n
+
+    atom_agrees : (a : ℕ) → has (invariant_atoms b) a ≡ true → new.atom a ≡ old.atom a
+    atom_agrees a i =
+        ⊎_elim
+        (λ t. h.atoms a ∙ atom_stays a old fs
+        (not_so (list_any (changes a) fs) _ (λ w. some_kept (is_atom_changed old new) (has (invariant_atoms b)) (λ (e : Placed). done ChangedAndAsked e.timed.event) a fs w t i) apart.0))
+        (same_atom old new a)
+        (cases_Bool (is_atom_changed old new a))
+
+    number_agrees : (f : ℕ) → has (invariant_fluents b) f ≡ true → new.number f ≡ old.number f
+    number_agrees f i =
+        ⊎_elim
+        (λ t. h.numbers f ∙ number_stays scale old f fs
+        (not_so (list_any (writes f) fs) _ (λ w. some_kept (is_fluent_changed old new) (has (invariant_fluents b)) (λ (e : Placed). done WrittenAndRead e.timed.event) f fs w t i) apart.1))
+        (same_number old new f)
+        (cases_Bool (is_fluent_changed old new f))
+
+    agree : Agree old new b
+    agree = record { atoms = atom_agrees; numbers = number_agrees }
+
+  -- so the steps that do not start at the moment stay unbroken
+  pub kept : (m : ℕ) (ps : List Planned) → HoldsSoFar old m ps → AreKept new m (atoms_changed old new fs) (fluents_changed old new fs) ps
+  kept m ps held k d b n =
+      let p : Planned = get_or ps k d in
+      let q = or_parts (p.moment == m) (mentions_any p.body (atoms_changed old new fs) (fluents_changed old new fs)) n in
+      unbroken old new m p p.body (eqb-false p.moment m q.0) (agree p.body q.1) (held k d b)

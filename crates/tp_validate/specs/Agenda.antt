@@ -1,8 +1,8 @@
--- The events and the steps of a plan in the order of their moments, gone through tick after tick.
+-- The events of a plan in the order of their moments, tick after tick.
 use Rattle.std.specs.Prelude.{◌≡◌, ℕ, ◌≤◌, ◌<◌, ◌==◌, List, length, take, drop}
 use Rattle.std.specs.List.{All, filter}
 use Rattle.std.specs.List.Sorted.{IsNonDecreasingBy}
-use Rattle.tp_task.specs.Valid.{Planned, Placed}
+use Rattle.tp_task.specs.Valid.{Placed}
 
 -- What is left of xs from a moment on, in the order of its moments; those of one moment stand as they do in xs.
 pub record IsLeft {X : Type 0} (n : X → ℕ) (xs : List X) (from : ℕ) (left : List X) : Type 0 where
@@ -20,11 +20,3 @@ pub record IsNextTick (agenda : List Placed) (m : ℕ) (there : List Placed) : T
   pub first : All (λ e. e.moment ≡ m) there
   pub after : All (λ e. m < e.moment) (drop (length there) agenda)
   pub some : 0 < length there
-
--- what is left of the steps from a moment on
-abbrev pub IsRoster : List Planned → ℕ → List Planned → Type 0
-IsRoster ps from roster = IsLeft (λ p. p.moment) ps from roster
-
--- the steps that start at a moment
-abbrev pub starting_at : ℕ → List Planned → List Planned
-starting_at m ps = filter (λ p. p.moment == m) ps

@@ -1,13 +1,10 @@
 pub mod OfTask
-pub mod Conditions
-pub mod Prepared
 pub mod Places
 pub mod Agenda
 pub mod Tick
 pub mod Constraints
 pub mod Changed
 pub mod Touched
-pub mod Outlook
 pub mod Found
 pub mod Verdict
 pub mod Validated

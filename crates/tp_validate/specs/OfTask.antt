@@ -31,13 +31,6 @@ planned bodies [] = []
 planned bodies (s ∷ ss) =
     option_to_list (option_map (step_of s) (slice_get bodies s.action.0)) ++ planned bodies ss
 
--- the numbers of their actions
-abbrev pub actions_of : List Body → List Step → List ℕ
-actions_of bodies [] = []
-actions_of bodies (s ∷ ss) =
-    option_to_list (option_map (λ (b : Body). s.action.0) (slice_get bodies s.action.0))
-    ++ actions_of bodies ss
-
 abbrev pub plan_of : Task → List Step → List Planned
 plan_of t steps = planned t.actions.items steps
 

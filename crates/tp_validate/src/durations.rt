@@ -6,7 +6,6 @@ ghost use Rattle.tp_text.specs.Scales.{scale_ticks};
 ghost use Rattle.tp_task.specs.Verdict as verdict;
 ghost use Rattle.tp_happen.specs.Small.{is_small, values_small};
 ghost use Rattle.tp_happen.specs.Stored.{state_of};
-ghost use Rattle.tp_validate.specs.Agenda.{starting_at};
 ghost use Rattle.tp_validate.specs.Constraints.{limit_holds, start_small, constraint_small_at};
 
 use crate::placing::PlannedStep;
@@ -84,8 +83,8 @@ fn is_unlawful(state: &State, ticks: u32, body: &Body) -> Result<bool, Range>
     }
 }
 
-// The first of some steps that starts at a moment and has no lawful duration.
-fn unlawful_among(
+/// The first step that starts at a moment and has no lawful duration.
+pub fn first_unlawful(
     state: &State,
     steps: &[PlannedStep<'_>],
     moment: u32,
@@ -103,26 +102,4 @@ fn unlawful_among(
         }
     }
     Ok(None)
-}
-
-/// The first step that starts at a moment and has no lawful duration. It is looked for among all only where one of
-/// `starting`, which has all that start then, is such a step.
-pub fn first_unlawful(
-    state: &State,
-    steps: &[PlannedStep<'_>],
-    starting: &[PlannedStep<'_>],
-    moment: u32,
-) -> Result<Option<usize>, Range>
-    requires starting { starting_at moment starting.now ≡ starting_at moment steps.now }
-    ensures ok { IfOk result
-        (λ r. r ≡ position_from (λ p. (p.moment == moment) && verdict.is_unlawful state.now.scale
-        (state_of state.now) p.duration p.body) 0 steps.now) }
-    ensures place { IfOk result (λ r. IfSome r (λ i. i < length steps.now)) }
-    ensures err { OnErr result
-        (list_all (constraint_small_at (state_of state.now) moment) steps.now ≡ false) }
-{
-    match unlawful_among(state, starting, moment)? {
-        Some(_) => unlawful_among(state, steps, moment),
-        None => Ok(None),
-    }
 }

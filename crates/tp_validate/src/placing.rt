@@ -1,22 +1,18 @@
 //! The steps of a plan with what their actions do, and their events in order.
 
-ghost use Rattle.std.specs.Prelude.{◌≡◌, ℕ, ◌+◌, ◌*◌, ◌<◌, ◌≤◌, ◌++◌, true, nat_le, length, map, option_map, slice_get, slice_index_or, IfOk, OnOk, IfSome};
-ghost use Rattle.std.specs.List.{list_all};
-ghost use Rattle.tp_task.specs.declared.events.Body.{Body as TheBody};
+ghost use Rattle.std.specs.Prelude.{◌≡◌, ℕ, ◌+◌, ◌*◌, ◌<◌, ◌≤◌, ◌||◌, ◌++◌, true, nat_le, length, map, option_map, slice_get, slice_index_or, IfOk, OnOk};
+ghost use Rattle.std.specs.List.{list_all, list_any};
 ghost use Rattle.tp_task.specs.Valid.{events, events_of, count_of};
-ghost use Rattle.tp_task.specs.Event.{has};
-ghost use Rattle.tp_happen.specs.Meetings.{met};
-ghost use Rattle.tp_happen.specs.Mentioned.{MentionsFit};
-ghost use Rattle.tp_validate.specs.OfTask.{plan_of, actions_of, step_of};
+ghost use Rattle.tp_validate.specs.OfTask.{plan_of, step_of};
 ghost use Rattle.tp_validate.specs.Places.{numbers};
-ghost use Rattle.tp_validate.specs.Conditions.{first_condition, last_condition, OfInvariant};
-ghost use Rattle.tp_validate.specs.Prepared.{ArePrepared};
+ghost use Rattle.tp_number_sets.specs.Sets.{has_number};
+ghost use Rattle.tp_validate.specs.Touched.{mentions_any};
 
-use crate::listed::Listed;
-use crate::prepared::{Prepared, listed_among};
+use crate::mentions::{invariant_atoms, invariant_fluents};
 use std::alloc::{AllocError, Global};
 use std::marker::Model;
-use tp_happen::{Event, EventRef, Meeting, Mentioned, Step};
+use tp_happen::{Event, EventRef, Step};
+use tp_number_sets::NumberSet;
 use tp_task::{Body, GroundEvent, Task};
 
 /// A step of a plan with what its action does.
@@ -25,8 +21,9 @@ pub struct PlannedStep<'t> {
     pub tick: u32,
     pub duration: u32,
     pub body: &'t Body,
-    /// Lists of what its conditions mention, if they are prepared.
-    listed: Option<&'t Listed<'t>>,
+    // What its invariant mentions.
+    atoms: NumberSet,
+    fluents: NumberSet,
 }
 
 impl<'t> Model for PlannedStep<'t> {
@@ -40,47 +37,25 @@ impl<'t> Model for PlannedStep<'t> {
 
     ghost view = { λ s. record { moment = s.tick; duration = s.duration; body = s.body.now } };
 
-    ghost use Rattle.std.specs.Prelude.{◌≡◌, IfSome};
+    ghost use Rattle.tp_validate.specs.Touched.{MentionsFit};
 
-    ghost invariant = { λ s. IfSome s.listed (λ l. l.now ≡ s.body.now) };
+    ghost invariant = { λ s. MentionsFit s.body.now s.atoms s.fluents };
+}
+
+// Whether one set has some of these atoms, or the other some of these fluents.
+fn have_any(atoms: &NumberSet, some: &[u32], fluents: &NumberSet, others: &[u32]) -> bool
+    ensures { result ≡ (list_any (has_number atoms.now) some.now
+        || list_any (has_number fluents.now) others.now) }
+{
+    atoms.has_any(some) || fluents.has_any(others)
 }
 
 impl<'t> PlannedStep<'t> {
-    /// The moment at which it starts.
-    pub fn start(&self) -> u32
-        ensures { result ≡ self.now.moment }
+    /// Whether its invariant mentions one of these atoms or of these fluents. Takes a step for each of them.
+    pub fn mentions_any(&self, atoms: &[u32], fluents: &[u32]) -> bool
+        ensures { result ≡ mentions_any self.now.body atoms.now fluents.now }
     {
-        self.tick
-    }
-
-    /// What its invariant mentions, if that is listed.
-    pub fn mentioned(&self) -> Option<&Mentioned>
-        ensures { OfInvariant self.now.body (λ v. IfSome result (λ m. MentionsFit v m.now)) }
-    {
-        match self.listed {
-            Some(listed) => listed.invariant(),
-            None => None,
-        }
-    }
-
-    // What the condition of its first event, or of its only one, mentions.
-    fn asked_first(&self) -> Option<&'t Mentioned>
-        ensures { IfSome result (λ m. MentionsFit (first_condition self.now.body) m.now) }
-    {
-        match self.listed {
-            Some(listed) => listed.first(),
-            None => None,
-        }
-    }
-
-    // What the condition of its end mentions.
-    fn asked_last(&self) -> Option<&'t Mentioned>
-        ensures { IfSome result (λ m. MentionsFit (last_condition self.now.body) m.now) }
-    {
-        match self.listed {
-            Some(listed) => listed.last(),
-            None => None,
-        }
+        have_any(&self.atoms, atoms, &self.fluents, fluents)
     }
 }
 
@@ -93,8 +68,6 @@ pub struct PlacedEvent<'t> {
     moment: u32,
     event: &'t GroundEvent,
     ticks: u32,
-    // What its condition mentions, if that is listed.
-    asked: Option<&'t Mentioned>,
 }
 
 impl<'t> Model for PlacedEvent<'t> {
@@ -113,11 +86,6 @@ impl<'t> Model for PlacedEvent<'t> {
       moment = e.moment;
       timed = record { event = e.event.now; ticks = e.ticks };
     } };
-
-    ghost use Rattle.std.specs.Prelude.{IfSome};
-    ghost use Rattle.tp_happen.specs.Mentioned.{MentionsFit};
-
-    ghost invariant = { λ e. IfSome e.asked (λ m. MentionsFit e.event.now.condition m.now) };
 }
 
 impl<'t> PlacedEvent<'t> {
@@ -142,14 +110,11 @@ impl<'t> PlacedEvent<'t> {
         Event::new(self.event)
     }
 
-    /// The atoms or fluents with which it does what the other one of two events does in that way, perhaps in another order, and
-    /// each once where its condition's mentions are listed.
-    pub fn met(&self, alloc: Global, way: Meeting) -> Result<Vec<u32>, AllocError>
-        ensures { IfOk result
-            (λ v. (x : ℕ) → has v.items x ≡ has (met way self.now.timed.event) x) }
+    /// What happens, with the ticks of its step.
+    pub fn timed(&self) -> EventRef<'t>
+        ensures { result ≡ self.now.timed }
     {
-        let asking = EventRef::asking(Event::new(self.event), self.ticks, self.asked);
-        asking.met(alloc, way)
+        EventRef::new(self.event(), self.ticks)
     }
 
     /// The same event once more.
@@ -163,47 +128,35 @@ impl<'t> PlacedEvent<'t> {
             moment: self.moment,
             event: self.event,
             ticks: self.ticks,
-            asked: self.asked,
         }
     }
 }
 
 // A step with what its action does.
 fn planned_step<'t>(
-    task: &'t Task,
+    alloc: Global,
     step: Step,
-    prepared: &'t [Prepared<'t>],
-) -> Option<PlannedStep<'t>>
-    requires { ArePrepared task.now.actions.items prepared.now }
-    ensures { result ≡ option_map (step_of step) (slice_get task.now.actions.items step.action.0) }
+    body: &'t Body,
+) -> Result<PlannedStep<'t>, AllocError>
+    ensures { IfOk result (λ p. p ≡ step_of step body.now) }
 {
-    let body = task.actions.get(step.action.0 as usize)?;
-    let listed = listed_among(prepared, step.action);
-    Some(PlannedStep {
+    let atoms = invariant_atoms(alloc, body)?;
+    let fluents = invariant_fluents(alloc, body)?;
+    Ok(PlannedStep {
         tick: step.tick,
         duration: step.duration,
         body,
-        listed,
+        atoms,
+        fluents,
     })
 }
 
-/// The steps of a plan with what their actions do, and with lists of what these mention, where they are prepared.
-pub fn prepared_steps<'t>(
-    alloc: Global,
-    task: &'t Task,
-    steps: &[Step],
-    prepared: &'t [Prepared<'t>],
-) -> Result<Vec<PlannedStep<'t>>, AllocError>
-    requires { ArePrepared task.now.actions.items prepared.now }
-    ensures { IfOk result (λ v. v.items ≡ plan_of task.now steps.now) }
+// What the action of a step does, if the task has that action.
+fn body_of<'t>(task: &'t Task, step: Step) -> Option<&'t Body>
+    ensures { option_map (λ b. b.now) result
+        ≡ slice_get task.now.actions.items step.action.0 }
 {
-    let mut planned = Vec::new(alloc);
-    for step in steps {
-        if let Some(with_body) = planned_step(task, *step, prepared) {
-            planned.push(with_body)?;
-        }
-    }
-    Ok(planned)
+    task.actions.get(step.action.0 as usize)
 }
 
 /// The steps of a plan with what their actions do.
@@ -214,29 +167,13 @@ pub fn planned_steps<'t>(
 ) -> Result<Vec<PlannedStep<'t>>, AllocError>
     ensures { IfOk result (λ v. v.items ≡ plan_of task.now steps.now) }
 {
-    prepared_steps(alloc, task, steps, &[])
-}
-
-// The number of a step's action, if the task has that action.
-fn planned_action(task: &Task, step: Step) -> Option<u32>
-    ensures { result ≡ option_map (λ (b : TheBody). step.action.0)
-        (slice_get task.now.actions.items step.action.0) }
-{
-    let _body = task.actions.get(step.action.0 as usize)?;
-    Some(step.action.0)
-}
-
-/// The numbers of the actions of a plan's steps.
-pub fn planned_actions(alloc: Global, task: &Task, steps: &[Step]) -> Result<Vec<u32>, AllocError>
-    ensures { IfOk result (λ v. v.items ≡ actions_of task.now.actions.items steps.now) }
-{
-    let mut actions = Vec::new(alloc);
+    let mut planned = Vec::new(alloc);
     for step in steps {
-        if let Some(action) = planned_action(task, *step) {
-            actions.push(action)?;
+        if let Some(body) = body_of(task, *step) {
+            planned.push(planned_step(alloc, *step, body)?)?;
         }
     }
-    Ok(actions)
+    Ok(planned)
 }
 
 // The events of a step, numbered from `next`, and the number after them.
@@ -263,7 +200,6 @@ fn place<'t>(
                 moment: tick,
                 event: only,
                 ticks: 0,
-                asked: step.asked_first(),
             })?;
             Ok(next + 1)
         }
@@ -276,7 +212,6 @@ fn place<'t>(
                 moment: tick,
                 event: start,
                 ticks,
-                asked: step.asked_first(),
             })?;
             events.push(PlacedEvent {
                 number: last,
@@ -285,7 +220,6 @@ fn place<'t>(
                 moment: tick + ticks,
                 event: end,
                 ticks,
-                asked: step.asked_last(),
             })?;
             Ok(next + 2)
         }
@@ -318,7 +252,7 @@ pub fn event_refs<'t>(
 {
     let mut refs = Vec::new(alloc);
     for event in events {
-        refs.push(EventRef::asking(Event::new(event.event), event.ticks, event.asked))?;
+        refs.push(event.timed())?;
     }
     Ok(refs)
 }

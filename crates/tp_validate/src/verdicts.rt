@@ -9,26 +9,15 @@ ghost use Rattle.tp_happen.specs.Fault.{OnRange};
 ghost use Rattle.tp_happen.specs.tp_plan_texts.Steps.{IsPlan};
 ghost use Rattle.tp_validate.specs.OfTask.{IsOfTask, plan_of, IsValidPlan};
 ghost use Rattle.tp_validate.specs.Verdict.{IsSound, PassesIn};
-ghost use Rattle.tp_validate.specs.Agenda.{IsAgenda, IsRoster};
-ghost use Rattle.tp_validate.specs.Touched.{HasMentions};
-ghost use Rattle.tp_validate.specs.Prepared.{ArePrepared};
-ghost use Rattle.tp_validate.specs.Outlook.{AreAlike};
+ghost use Rattle.tp_validate.specs.Agenda.{IsAgenda};
 ghost use Rattle.tp_validate.specs.Reached.{IsRan, PassesBy};
 ghost use Rattle.tp_validate.specs.Answers.{IsFirst, IsVerdict, IsFault};
 
 use crate::agenda::{agenda_of, next_tick};
-use crate::ahead::{Course, are_long, turned};
-use crate::mentions::{Mentions, mentions_of};
-use crate::placing::{
-    PlacedEvent, PlannedStep, placed_events, planned_actions, planned_steps, prepared_steps,
-};
-use crate::prepared::{Prepared, prepared_for};
-use crate::rosters::{count_started, roster_of};
+use crate::placing::{PlacedEvent, PlannedStep, placed_events, planned_steps};
 use crate::ticks::{Fault, Judged, judge_tick};
-use crate::work::ask_for_work;
 use std::alloc::{AllocError, Global};
 use std::marker::Model;
-use std::mem::replace;
 use thiserror::Error;
 use tp_happen::{ApplyFault, Plan, State, Step, holds};
 use tp_task::{Task, valid_without_fault};
@@ -103,55 +92,31 @@ enum Ran {
 }
 
 // Carries out the events of a plan, up to the first fault or to the last of them.
-fn run<'x>(
+fn run(
     alloc: Global,
-    task: &'x Task,
-    steps: &'x [PlannedStep<'_>],
-    roster: &[PlannedStep<'_>],
+    task: &Task,
+    steps: &[PlannedStep<'_>],
     agenda: &[PlacedEvent<'_>],
-    mentions: &Mentions,
-    actions: &'x [u32],
 ) -> Result<Ran, ApplyFault>
-    requires alike { AreAlike actions.now steps.now }
     requires few { length steps.now ≤ 512 }
-    requires roster { IsRoster steps.now 0 roster.now }
     requires agenda { IsAgenda (events steps.now) 0 agenda.now }
     requires fits { list_all (λ p. body_fits (length task.now.initial_atoms.items)
         (length task.now.initial_numbers.items) p.body) steps.now ≡ true }
     requires ends { last_moment (events steps.now) ≤ 1000000000 }
-    requires mentions { HasMentions steps.now (length steps.now) mentions.now }
     ensures ran { IfOk result (IsRan task.now steps.now) }
     ensures range { IfErr result (λ e. OnRange e (PassesBy task.now steps.now)) }
 {
     let mut state = State::initial(alloc, task)?;
-    let mut behind = None;
     let mut from = 0;
-    let mut before = 0;
     let mut done = 0;
-    let mut started = 0;
-    let course = Course {
-        task,
-        steps,
-        actions,
-    };
-    let mut outlook = None;
     while let Some(tick) = next_tick(&agenda[done..]) {
         let moment = tick.moment;
-        let waiting = &roster[started..];
-        let (starting, _) = waiting.split_at(count_started(waiting, moment));
-        outlook = turned(alloc, outlook, course, &state, &agenda[done..]);
-        let ahead = outlook.as_ref();
-        let last = &agenda[before..done];
-        match judge_tick(
-            alloc, behind, last, &state, steps, starting, mentions, tick.there, moment, ahead,
-        )? {
+        match judge_tick(alloc, &state, steps, tick.there, moment)? {
             Judged::Faulty(why) => return Ok(Ran::Faulty(moment, why)),
-            Judged::Next(next) => behind = Some(replace(&mut state, next)),
+            Judged::Next(next) => state = next,
         }
         from = moment + 1;
-        before = done;
         done += tick.there.len();
-        started += starting.len();
     }
     Ok(Ran::Done(from, state))
 }
@@ -169,70 +134,20 @@ fn agenda_in<'t>(
     agenda_of(events)
 }
 
-// The steps of a plan in the order of their starts.
-fn roster_in<'t>(
-    alloc: Global,
-    task: &'t Task,
-    steps: &[Step],
-) -> Result<Vec<PlannedStep<'t>>, AllocError>
-    ensures { IfOk result (λ v. IsRoster (plan_of task.now steps.now) 0 v.items) }
-{
-    let planned = planned_steps(alloc, task, steps)?;
-    roster_of(planned)
-}
-
-// The numbers of the actions of a plan's steps, if it is worth while to look ahead.
-fn actions_if_long(
-    alloc: Global,
-    task: &Task,
-    steps: &[Step],
-    planned: &[PlannedStep<'_>],
-) -> Result<Vec<u32>, AllocError>
-    requires { planned.now ≡ plan_of task.now steps.now }
-    ensures { IfOk result (λ v. AreAlike v.items planned.now) }
-{
-    if are_long(planned) {
-        planned_actions(alloc, task, steps)
-    } else {
-        Ok(Vec::new(alloc))
-    }
-}
-
 // Carries out the steps of a plan, up to the first fault or to the last event.
 fn carry_out_steps(
     alloc: Global,
     task: &Task,
     steps: &[Step],
     planned: &[PlannedStep<'_>],
-    mentions: &Mentions,
 ) -> Result<Ran, ApplyFault>
     requires plan { IsPlan steps.now }
     requires planned { planned.now ≡ plan_of task.now steps.now }
-    requires mentions { HasMentions planned.now (length planned.now) mentions.now }
     ensures ran { IfOk result (IsRan task.now (plan_of task.now steps.now)) }
     ensures range { IfErr result (λ e. OnRange e (PassesBy task.now (plan_of task.now steps.now))) }
 {
     let agenda = agenda_in(alloc, planned)?;
-    let roster = roster_in(alloc, task, steps)?;
-    let actions = actions_if_long(alloc, task, steps, planned)?;
-    run(alloc, task, planned, &roster, &agenda, mentions, &actions)
-}
-
-// Carries out a plan, some of whose actions are prepared.
-fn carry_out_prepared(
-    alloc: Global,
-    task: &Task,
-    steps: &[Step],
-    prepared: &[Prepared<'_>],
-) -> Result<Ran, ApplyFault>
-    requires plan { IsPlan steps.now }
-    requires prepared { ArePrepared task.now.actions.items prepared.now }
-    ensures ran { IfOk result (IsRan task.now (plan_of task.now steps.now)) }
-    ensures range { IfErr result (λ e. OnRange e (PassesBy task.now (plan_of task.now steps.now))) }
-{
-    let planned = prepared_steps(alloc, task, steps, prepared)?;
-    let mentions = mentions_of(alloc, &planned)?;
-    carry_out_steps(alloc, task, steps, &planned, &mentions)
+    run(alloc, task, planned, &agenda)
 }
 
 // Carries out a plan, up to its first fault or to its last event.
@@ -241,9 +156,8 @@ fn carry_out(alloc: Global, task: &Task, steps: &[Step]) -> Result<Ran, ApplyFau
     ensures ran { IfOk result (IsRan task.now (plan_of task.now steps.now)) }
     ensures range { IfErr result (λ e. OnRange e (PassesBy task.now (plan_of task.now steps.now))) }
 {
-    ask_for_work(alloc, task, steps)?;
-    let prepared = prepared_for(alloc, task, steps)?;
-    carry_out_prepared(alloc, task, steps, &prepared)
+    let planned = planned_steps(alloc, task, steps)?;
+    carry_out_steps(alloc, task, steps, &planned)
 }
 
 // The tick of the first fault and why, None for a plan that has none.
@@ -266,8 +180,8 @@ fn judge(alloc: Global, task: &Task, steps: &[Step]) -> Result<Option<(u32, Faul
 }
 
 /// Judges a plan of a task: whether it is valid, or its first fault by tick, kind and number. Takes the time of each mention
-/// of an event and of an invariant once, and at each tick that of the effects there and at the tick before, and of the
-/// invariants that begin there or that mention something that an event there changes.
+/// of an event and of an invariant once, and at each tick that of a copy of the state, and of the invariants that begin
+/// there or that mention something that an event there changes.
 pub fn validate<'t>(alloc: Global, task: &'t Task, plan: Plan) -> Result<Verdict<'t>, ValidateFault>
     requires { IsOfTask task.now plan }
     ensures verdict { IfOk result (IsVerdict task.now plan) }

@@ -1,5 +1,5 @@
 use Rattle.std.proofs.Common.{sym, ◌∙◌}
-use Rattle.tp_types.proofs.OnCycles.{not_true}
+use Rattle.tp_types.proofs.OnTypes.{not_true}
 use Rattle.tp_declarations.proofs.OnTypes.{not_false, mention_kept, mention_pushed, mention_skipped, key_put}
 use Rattle.tp_declarations.proofs.type_reader.mention.Goals as goal
 

@@ -2,7 +2,7 @@ use Rattle.std.proofs.Common.{List, ℕ, String, Global, string_bytes, ◌+◌, 
 use Rattle.std.proofs.lemmas.List.{at_drop_more}
 use Rattle.tp_ast.specs.Symbols.{parent_view}
 use Rattle.tp_ast.specs.Domains.{object, mentioned}
-use Rattle.tp_types.specs.Marks.{has_mark}
+use Rattle.tp_types.specs.Among.{has_mark}
 use Rattle.tp_ast.specs.Shared.{parent_in}
 use Rattle.tp_types.proofs.OnRows.{as_before, last_taken}
 use Rattle.tp_declarations.specs.SignatureViews.{names_in, to_mention}

@@ -1,7 +1,7 @@
 use Rattle.std.proofs.Common.{◌≡◌, ◌∷◌, map, drop, take, true}
 use Rattle.tp_ast.specs.Symbols.{parent_view}
 use Rattle.tp_ast.specs.Domains.{object, mentioned}
-use Rattle.tp_types.specs.Marks.{has_mark}
+use Rattle.tp_types.specs.Among.{has_mark}
 use Rattle.tp_ast.specs.Shared.{parent_in}
 use Rattle.tp_ast.specs.Rows.{last_of}
 use Rattle.tp_declarations.specs.SignatureViews.{to_mention}

@@ -9,4 +9,4 @@ use Rattle.tp_ground_parts.proofs.OnActions.{every}
 use Rattle.tp_ground.proofs.instances.lower_instances.Given as goal
 
 abbrev pub invariant-loop-instance : goal.invariant-loop-instance
-invariant-loop-instance l = IsLowered (every named_body) l.fn.writer l.writer l.lowered (map (λ x. (action_of (universe_view l.universe) (instance_view x)).body) (take l.instance-index l.some)) (of_each (λ x. of_instance (universe_view l.universe) (instance_view x)) (take l.instance-index l.some))
+invariant-loop-instance l = IsLowered (every named_body) l.fn.numbering l.numbering l.lowered (map (λ x. (action_of (universe_view l.universe) (instance_view x)).body) (take l.instance-index l.some)) (of_each (λ x. of_instance (universe_view l.universe) (instance_view x)) (take l.instance-index l.some))

@@ -1,4 +1,4 @@
-use Rattle.std.proofs.Common.{List, Vec, Global, Bor, [], ◌∷◌, ◌++◌, map, sym, ap, ap₂, ◌∙◌, append_assoc}
+use Rattle.std.proofs.Common.{List, Bor, [], ◌∷◌, ◌++◌, map, sym, ap, ap₂, ◌∙◌, append_assoc}
 use Rattle.std.proofs.lemmas.List.{take_all}
 use Rattle.std.proofs.lemmas.Simd.{map-map}
 use Rattle.tp_ast.specs.Symbols.{Name}
@@ -17,16 +17,16 @@ loop-instance-preserved c =
     let xs = c.args.some.now in
     let x = c.instance-item.result in
     let label =
-    ap (map (λ (o : Bor Name). o.now)) c.deref-in-loop-instance-3.ensures.value
+    ap (map (λ (o : Bor Name). o.now)) c.deref-in-loop-instance.ensures.value
     ∙ c.in_ok-refill.ensures
-    ∙ ap₂ (λ (n : Name) (ns : List Name). n ∷ ns) c.as_str.ensures.value (ap (map (λ (o : Bor Name). o.now)) (c.as_slice.ensures.value ∙ ap (λ (v : Vec (Bor Name) Global). v.items) c.deref.ensures)) in
+    ∙ ap₂ (λ (n : Name) (ns : List Name). n ∷ ns) c.as_str.ensures.value (ap (map (λ (o : Bor Name). o.now)) c.deref.ensures.value) in
     record {
       actions =
           c.in_ok-push_action.ensures.actions
-          ∙ ap (λ (w : Words). c.loop-instance.writer.tables.actions ++ w ∷ []) label
+          ∙ ap (λ (w : Words). c.loop-instance.numbering.actions ++ w ∷ []) label
           ∙ ap (λ (ws : List Words). ws ++ words_of x ∷ []) c.loop-instance.invariant.actions
-          ∙ append_assoc c.args.writer.now.tables.actions (map words_of _) (words_of x ∷ [])
-          ∙ ap (λ (ws : List Words). c.args.writer.now.tables.actions ++ ws) (sym (map_next words_of xs c.loop-instance.instance-index x c.loop-instance-test.true c.instance-item.is));
+          ∙ append_assoc c.args.numbering.now.actions (map words_of _) (words_of x ∷ [])
+          ∙ ap (λ (ws : List Words). c.args.numbering.now.actions ++ ws) (sym (map_next words_of xs c.loop-instance.instance-index x c.loop-instance-test.true c.instance-item.is));
       atoms = c.push_action.ensures.atoms ∙ c.loop-instance.invariant.atoms;
       fluents = c.push_action.ensures.fluents ∙ c.loop-instance.invariant.fluents;
       most = c.push_action.ensures.most ∙ c.loop-instance.invariant.most;
@@ -35,5 +35,5 @@ loop-instance-preserved c =
 pub returns-clause-actions : goal.returns-clause-actions
 returns-clause-actions c =
     c.loop-instance.invariant.actions
-    ∙ ap (λ (ws : List Words). c.args.writer.now.tables.actions ++ ws)
+    ∙ ap (λ (ws : List Words). c.args.numbering.now.actions ++ ws)
     (ap (map words_of) (take_all c.loop-instance.instance-index c.args.some.now c.loop-instance-test.false) ∙ sym (map-map (λ (i : reached.Instance). i.action.name ∷ i.objects) instance_view c.args.some.now))

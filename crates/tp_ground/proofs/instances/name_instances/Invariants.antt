@@ -4,8 +4,8 @@ use Rattle.tp_ground.proofs.instances.name_instances.Given as goal
 
 abbrev pub invariant-loop-instance : goal.invariant-loop-instance
 invariant-loop-instance l = record {
-  actions : l.writer.tables.actions ≡ l.initial.writer.tables.actions ++ map (λ x. (instance_view x).action.name ∷ (instance_view x).objects) (take l.instance-index l.some);
-  atoms : l.writer.tables.atoms ≡ l.initial.writer.tables.atoms;
-  fluents : l.writer.tables.fluents ≡ l.initial.writer.tables.fluents;
-  most : l.writer.tables.most ≡ l.initial.writer.tables.most;
+  actions : l.numbering.actions ≡ l.initial.numbering.actions ++ map (λ x. (instance_view x).action.name ∷ (instance_view x).objects) (take l.instance-index l.some);
+  atoms : l.numbering.atoms ≡ l.initial.numbering.atoms;
+  fluents : l.numbering.fluents ≡ l.initial.numbering.fluents;
+  most : l.numbering.most ≡ l.initial.numbering.most;
 }

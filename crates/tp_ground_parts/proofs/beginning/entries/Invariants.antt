@@ -5,4 +5,4 @@ use Rattle.tp_lower.proofs.OnLowered.{AllLowered}
 use Rattle.tp_ground_parts.proofs.beginning.entries.Given as goal
 
 abbrev pub invariant-loop-one : goal.invariant-loop-one
-invariant-loop-one l = AllLowered named_initial of_initial l.fn.writer l.writer l.lowered (map (λ i. initial_in (initial_view i)) (take l.one-index l.said))
+invariant-loop-one l = AllLowered named_initial of_initial l.fn.numbering l.numbering l.lowered (map (λ i. initial_in (initial_view i)) (take l.one-index l.said))

@@ -5,7 +5,4 @@ use Rattle.tp_ground_parts.specs.Grounding.{ground_actions}
 use Rattle.tp_ground_parts.proofs.grounding.actions_fit.Given as goal
 
 abbrev pub invariant-loop-action : goal.invariant-loop-action
-invariant-loop-action l = record {
-  left : nat_le (length (ground_actions (universe_view l.initial.universe) (map action_view (drop l.action-index l.actions)))) l.left ≡ nat_le (length (ground_actions (universe_view l.initial.universe) (map action_view l.actions))) l.most;
-  universe : universe_view l.universe ≡ universe_view l.initial.universe;
-}
+invariant-loop-action l = nat_le (length (ground_actions (universe_view l.universe) (map action_view (drop l.action-index l.actions)))) l.left ≡ nat_le (length (ground_actions (universe_view l.universe) (map action_view l.actions))) l.most

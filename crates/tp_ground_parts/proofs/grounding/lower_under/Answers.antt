@@ -1,6 +1,8 @@
-use Rattle.std.proofs.Common.{map, refl, subst}
-use Rattle.tp_ast.specs.DomainViews.{body_view}
-use Rattle.tp_bindings.specs.Bindings.{Env}
+use Rattle.std.proofs.Common.{List, map, refl, subst}
+use Rattle.tp_ast.specs.Symbols.{typed_view}
+use Rattle.tp_ast.specs.DomainViews.{action_view}
+use Rattle.tp_ast.specs.declared.symbols.Typed.{Typed}
+use Rattle.tp_bindings.specs.Bindings.{Env, bound}
 use Rattle.tp_bindings.specs.Views.{universe_view}
 use Rattle.tp_lower.specs.Written.{body_in}
 use Rattle.tp_lower.specs.Mentions.{of_body}
@@ -12,6 +14,8 @@ use Rattle.tp_ground_parts.proofs.grounding.lower_under.Goals as goal
 pub returns : goal.returns
 returns c =
     let u = universe_view c.args.universe.now in
-    let x = body_view c.args.written.now in
-    subst (λ (e : Env). Lowers named_body c.args.writer.now c.body.result c.body.new.writer (body_in u e x) (of_body u e x))
-    (plain_env _ _ _ (map (λ o. o.now) c.args.objects.now) refl refl) c.body.ensures
+    let x = (action_view c.args.action.now).body in
+    let names = map (λ o. o.now) c.args.objects.now in
+    let P = λ (e : Env). Lowers named_body c.args.numbering.now c.body.result c.body.new.numbering (body_in u e x) (of_body u e x) in
+    subst (λ (vs : List Typed). P (bound (map typed_view vs) names)) c.as_slice.ensures
+    (subst P (plain_env _ _ _ names refl refl) c.body.ensures)

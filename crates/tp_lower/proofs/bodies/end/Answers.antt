@@ -12,7 +12,7 @@ pub returns-in_err-condition : goal.returns-in_err-condition
 returns-in_err-condition c =
     let u = universe_view c.args.universe.now in
     let env = env_view c.args.env.now in
-    failed named_event _ _ _ _ _ _ c.from_residual.ensures.1 (overflows_first c.args.writer.now (of_condition (condition_at u AtEnd env (timed_condition_view c.args.condition.now))) (of_each of_simple_effect (simple_effects_at u AtEnd env (timed_effect_view c.args.effect.now))) _ c.in_err-condition.ensures)
+    failed named_event _ _ _ _ _ _ c.from_residual.ensures.1 (overflows_first c.args.numbering.now (of_condition (condition_at u AtEnd env (timed_condition_view c.args.condition.now))) (of_each of_simple_effect (simple_effects_at u AtEnd env (timed_effect_view c.args.effect.now))) _ c.in_err-condition.ensures)
 
 pub returns-in_err-changes : goal.returns-in_err-changes
 returns-in_err-changes c =

@@ -10,7 +10,7 @@ pub returns-in_err-first : goal.returns-in_err-first
 returns-in_err-first c =
     let u = universe_view c.args.universe.now in
     let env = env_view c.args.env.now in
-    start_stopped _ c.args.writer.now _ _ _ (of_start u env (constraint_view c.args.duration.now) (timed_condition_view c.args.condition.now) (timed_effect_view c.args.effect.now)) (of_end u env (timed_condition_view c.args.condition.now) (timed_effect_view c.args.effect.now)) _ _ c.from_residual.ensures.1 c.in_err-first.ensures
+    start_stopped _ c.args.numbering.now _ _ _ (of_start u env (constraint_view c.args.duration.now) (timed_condition_view c.args.condition.now) (timed_effect_view c.args.effect.now)) (of_end u env (timed_condition_view c.args.condition.now) (timed_effect_view c.args.effect.now)) _ _ c.from_residual.ensures.1 c.in_err-first.ensures
 
 pub returns-in_err-last : goal.returns-in_err-last
 returns-in_err-last c =

@@ -9,4 +9,4 @@ use Rattle.tp_lower_conditions.proofs.OnLowered.{AllLowered}
 use Rattle.tp_lower.proofs.constraints.+limits.Given as goal
 
 abbrev pub invariant-all_limits-loop-constraint : goal.invariant-all_limits-loop-constraint
-invariant-all_limits-loop-constraint l = AllLowered named_limit of_limit l.fn.writer l.writer l.lowered (flat_map (λ r. limits_in (env_view l.env) (constraint_view r)) (take l.constraint-index l.constraints))
+invariant-all_limits-loop-constraint l = AllLowered named_limit of_limit l.fn.numbering l.numbering l.lowered (flat_map (λ r. limits_in (env_view l.env) (constraint_view r)) (take l.constraint-index l.constraints))

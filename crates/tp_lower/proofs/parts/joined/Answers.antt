@@ -2,4 +2,4 @@ use Rattle.tp_lower.proofs.OnGathered.{made_whole}
 use Rattle.tp_lower.proofs.parts.joined.Goals as goal
 
 pub returns : goal.returns
-returns g c = made_whole g.P.Lowerable.shows _ _ _ _ _ _ c.in_ok-gathered.ensures c.in_ok-push_part.ensures
+returns g c = made_whole g.P.Lowerable.shows _ _ _ _ _ _ c.begun-gathered.ensures c.in_ok-push_part.ensures

@@ -13,4 +13,4 @@ pub returns : goal.returns
 returns c =
     let u = universe_view c.args.universe.now in
     let x = cond_view c.args.cond.now in
-    subst (λ (env : Env). Lowers named_condition c.args.writer.now c.condition.result c.condition.new.writer (condition_in u env x) (of_condition (condition_in u env x))) empty_env c.condition.ensures
+    subst (λ (env : Env). Lowers named_condition c.args.numbering.now c.condition.result c.condition.new.numbering (condition_in u env x) (of_condition (condition_in u env x))) empty_env c.condition.ensures

@@ -14,14 +14,14 @@ returns-in_default c =
     let σ = symbols_of c.args.scope.now in
     let k = c.loop-place.place in
     let there = slice_get-map term_view c.args.arguments.now k ∙ ap (option_map term_view) (slice_get_read c.args.arguments.now (length c.args.arguments.now) k c.index-arguments-place.result refl c.loop-place-test.true c.index-arguments-place.is) in
-    sym (too_many σ.types σ.objects (scope_view c.args.scope.now) (map term_view c.args.arguments.now) (map typed_view c.args.signature.now.parameters.items) k (term_view c.index-arguments-place.result) there (sym c.in_default.ensures.types)) ∙ c.loop-place.invariant.0
+    sym (too_many σ.types σ.objects (scope_view c.args.scope.now) (map term_view c.args.arguments.now) (map typed_view c.args.signature.now.parameters.items) k (term_view c.index-arguments-place.result) there (sym c.in_default.ensures)) ∙ c.loop-place.invariant.0
 
 pub returns-then-not-branch : goal.returns-then-not-branch
 returns-then-not-branch c =
     let σ = symbols_of c.args.scope.now in
     let k = c.loop-place.place in
     let there = slice_get-map term_view c.args.arguments.now k ∙ ap (option_map term_view) (slice_get_read c.args.arguments.now (length c.args.arguments.now) k c.index-arguments-place.result refl c.loop-place-test.true c.index-arguments-place.is) in
-    sym (fails σ.types σ.objects (scope_view c.args.scope.now) (map term_view c.args.arguments.now) (map typed_view c.args.signature.now.parameters.items) k (term_view c.index-arguments-place.result) _ there (sym c.in-Some.ensures.types) (sym c.in_ok-argument_fits.ensures ∙ c.if-not-branch.true)) ∙ c.loop-place.invariant.0
+    sym (fails σ.types σ.objects (scope_view c.args.scope.now) (map term_view c.args.arguments.now) (map typed_view c.args.signature.now.parameters.items) k (term_view c.index-arguments-place.result) _ there (sym c.in-Some.ensures) (sym c.in_ok-argument_fits.ensures ∙ c.if-not-branch.true)) ∙ c.loop-place.invariant.0
 
 pub loop-place-preserved : goal.loop-place-preserved
 loop-place-preserved c =
@@ -31,7 +31,7 @@ loop-place-preserved c =
     let ps = map typed_view c.args.signature.now.parameters.items in
     let there = slice_get-map term_view c.args.arguments.now k ∙ ap (option_map term_view) (slice_get_read c.args.arguments.now (length c.args.arguments.now) k c.index-arguments-place.result refl c.loop-place-test.true c.index-arguments-place.is) in (
       ap (λ (i : ℕ). arguments_fit σ.types σ.objects (scope_view c.args.scope.now) (drop i xs) (drop i ps)) (add-one k)
-          ∙ next σ.types σ.objects (scope_view c.args.scope.now) xs ps k (term_view c.index-arguments-place.result) _ there (sym c.in-Some.ensures.types) (sym c.in_ok-argument_fits.ensures ∙ c.if-not-branch.false)
+          ∙ next σ.types σ.objects (scope_view c.args.scope.now) xs ps k (term_view c.index-arguments-place.result) _ there (sym c.in-Some.ensures) (sym c.in_ok-argument_fits.ensures ∙ c.if-not-branch.false)
           ∙ c.loop-place.invariant.0,
       omega (c.loop-place-test.true, arith),
     )

@@ -1,22 +1,11 @@
 use Rattle.std.proofs.lemmas.Result.{IfErr-weaker, IfOk-weaker}
-use Rattle.tp_syntax.specs.DomainViews.{domain_view}
-use Rattle.tp_syntax.specs.Domains.{SpellsDomain}
-use Rattle.tp_plan_files.proofs.NamedLemmas.{back, explains_over, in_over}
-use Rattle.tp_plan_checks.proofs.Told.{judged_over}
+use Rattle.tp_plan_files.proofs.NamedLemmas.{unjudged}
 use Rattle.tp_plan_checks.proofs.judging.judge_in.Goals as goal
 
-pub returns-clause-judged : goal.returns-clause-judged
-returns-clause-judged g c =
-    let held = g.N.Files.held c.args.files.now in
-    let later = g.N.Files.held c.domain_in.new.files in
-    IfOk-weaker c.judge_with-judged.result _ _ (λ judgement h. judged_over later held c.args.words judgement c.domain_in.ensures.same h)
-    (c.judge_with-judged.ensures.judged
-    (in_over held later c.args.words.domain.now (λ text. SpellsDomain text (domain_view c.in_ok-domain.domain)) (back later held c.domain_in.ensures.same) c.in_ok-domain.ensures.spelled))
+pub returns-in-Ok-clause-judged : goal.returns-in-Ok-clause-judged
+returns-in-Ok-clause-judged g c =
+    IfOk-weaker c.judge-judged.result _ _ (λ judgement h. record { task = c.in-Ok.named.task; steps = c.in-Ok.named.plan; named = c.in-Ok.ensures.named; judged = h }) c.judge-judged.ensures.judged
 
-pub returns-clause-cause : goal.returns-clause-cause
-returns-clause-cause g c =
-    let held = g.N.Files.held c.args.files.now in
-    let later = g.N.Files.held c.domain_in.new.files in
-    IfErr-weaker c.judge_with-judged.result _ _ (λ fault h. explains_over later held c.args.words fault c.domain_in.ensures.same h)
-    (c.judge_with-judged.ensures.cause
-    (in_over held later c.args.words.domain.now (λ text. SpellsDomain text (domain_view c.in_ok-domain.domain)) (back later held c.domain_in.ensures.same) c.in_ok-domain.ensures.spelled))
+pub returns-in-Ok-clause-cause : goal.returns-in-Ok-clause-cause
+returns-in-Ok-clause-cause g c =
+    IfErr-weaker c.judge-judged.result _ _ (λ fault h. unjudged (g.N.Files.held c.args.files.now) c.args.words c.in-Ok.named.task c.in-Ok.named.plan fault c.in-Ok.ensures.named h) c.judge-judged.ensures.fault

@@ -5,8 +5,8 @@ use Rattle.tp_program.specs.CallFiles.{call_files}
 use Rattle.tp_program.proofs.StreamLemmas.{counted, refusal_some, runs_from}
 use Rattle.tp_program.proofs.streams.run_counted.Goals as goal
 
-pub returns : goal.returns
-returns g c =
+pub returns-clause-ends : goal.returns-clause-ends
+returns-clause-ends g c =
     let words = map string_bytes c.args.words.now in
     let files = call_files (g.N.Files.held c.args.files.now.shelf) (g.L.Logs.asked c.args.files.now.logs) (g.L.Logs.asked c.run_words-status.new.files.logs) g.L.Logs.blank (g.L.Logs.named c.run_words-status.new.files.logs) (g.L.Logs.kept c.run_words-status.new.files.logs) in
     let runs = runs_from words files _ c.run_words-status.result _ _ c.run_words-status.ensures.done c.run_words-status.ensures.no c.run_words-status.ensures.all c.run_words-status.ensures.part c.run_words-status.ensures.broken c.run_words-status.ensures.kept in

@@ -96,6 +96,10 @@ returns-in-Ok-Plan-clause-stopped g c =
     λ two.
     inr (inr (Plan c.in-Ok-Plan.search, rw c.in-Ok-Plan.field-0-is at c.in-Ok-Plan.ensures.asked, c.run_plan.ensures.stopped two))
 
+pub returns-in-Ok-Plan-clause-quiet : goal.returns-in-Ok-Plan-clause-quiet
+returns-in-Ok-Plan-clause-quiet g c =
+    λ none. c.run_plan.ensures.quiet (none c.in-Ok-Plan.search (rw c.in-Ok-Plan.field-0-is at c.in-Ok-Plan.ensures.asked))
+
 pub returns-in-Ok-Audit-clause-stopped : goal.returns-in-Ok-Audit-clause-stopped
 returns-in-Ok-Audit-clause-stopped g c =
     λ two.

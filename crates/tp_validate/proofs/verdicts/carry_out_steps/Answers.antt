@@ -3,7 +3,7 @@ use Rattle.std.specs.List.{list_all}
 use Rattle.tp_task.specs.Valid.{Planned, Placed, events}
 use Rattle.tp_task.specs.Verdict.{last_moment}
 use Rattle.tp_validate.specs.OfTask.{plan_of}
-use Rattle.tp_validate.specs.Agenda.{IsAgenda, IsRoster}
+use Rattle.tp_validate.specs.Agenda.{IsAgenda}
 use Rattle.tp_validate.proofs.Planning.{planned_few, ends, planned_ends, fits, planned_fits, last_ends}
 use Rattle.tp_validate.proofs.verdicts.carry_out_steps.Goals as goal
 
@@ -26,14 +26,9 @@ run-requires-clause-fits c =
     subst (λ (ps : List Planned). list_all (fits (length c.args.task.now.initial_atoms.items) (length c.args.task.now.initial_numbers.items)) ps ≡ true) (sym c.requires.planned)
     (planned_fits (length c.args.task.now.initial_atoms.items) (length c.args.task.now.initial_numbers.items) c.args.task.now.actions.items c.args.steps.now c.args.task.now.fits)
 
-pub run-requires-clause-roster : goal.run-requires-clause-roster
-run-requires-clause-roster c =
-    subst (λ (xs : List Planned). IsRoster c.args.planned.now 0 xs) (sym c.deref.ensures.value)
-    (subst (λ (ps : List Planned). IsRoster ps 0 c.in_ok-roster.roster.items) (sym c.requires.planned) c.in_ok-roster.ensures)
-
 pub run-requires-clause-agenda : goal.run-requires-clause-agenda
 run-requires-clause-agenda c =
-    subst (λ (xs : List Placed). IsAgenda (events c.args.planned.now) 0 xs) (sym c.deref-2.ensures.value) c.in_ok-agenda.ensures
+    subst (λ (xs : List Placed). IsAgenda (events c.args.planned.now) 0 xs) (sym c.deref.ensures.value) c.in_ok-agenda.ensures
 
 pub run-requires-clause-ends : goal.run-requires-clause-ends
 run-requires-clause-ends c =

@@ -1,27 +1,14 @@
-use Rattle.std.proofs.Common.{◌+◌, subst, sym, arith, rules}
+use Rattle.std.proofs.Common.{subst, arith, rules}
 use Rattle.std.proofs.lemmas.Result.{err_from_is_err_and}
 use Rattle.tp_task.specs.Valid.{events}
 use Rattle.tp_happen.proofs.Answered.{on_range_weaker}
 use Rattle.tp_validate.specs.Found.{IsFound, told}
-use Rattle.tp_validate.specs.Reached.{Reached}
-use Rattle.tp_validate.proofs.Starting.{in_order_after, starts_after, begun_after}
 use Rattle.tp_validate.proofs.Ordered.{turn_after, rest_after, within_after, all_done_after}
 use Rattle.tp_validate.proofs.Runs.{before, held_here, fault_here, passes_here, fits_here, next}
-use Rattle.tp_validate.proofs.Differing.{differ_next}
 use Rattle.tp_validate.proofs.verdicts.run.Goals as goal
 
 pub judge_tick-requires-clause-there : goal.judge_tick-requires-clause-there
 judge_tick-requires-clause-there c = (turn_after (events c.args.steps.now) c.loop-tick.from c.args.agenda.now c.loop-tick.done c.loop-tick.invariant.left c.in-Some.tick.moment c.in-Some.tick.there.now c.in-Some.ensures).found
-
-pub count_started-requires : goal.count_started-requires
-count_started-requires c = in_order_after c.args.steps.now c.loop-tick.from c.args.roster.now c.loop-tick.started c.loop-tick.invariant.waiting
-
-pub judge_tick-requires-clause-starting : goal.judge_tick-requires-clause-starting
-judge_tick-requires-clause-starting c =
-    let t = turn_after (events c.args.steps.now) c.loop-tick.from c.args.agenda.now c.loop-tick.done c.loop-tick.invariant.left c.in-Some.tick.moment c.in-Some.tick.there.now c.in-Some.ensures in
-    let s = starts_after c.args.steps.now c.loop-tick.from c.args.roster.now c.loop-tick.started c.loop-tick.invariant.waiting c.in-Some.tick.moment t.onward c.count_started.result
-    c.split_at.result.0.now c.split_at.ensures.front c.split_at.ensures.front_len c.count_started.ensures.until c.count_started.ensures.after in
-    s.starts
 
 pub judge_tick-requires-clause-held : goal.judge_tick-requires-clause-held
 judge_tick-requires-clause-held c =
@@ -52,22 +39,11 @@ returns-in-Faulty-clause-ran c =
 pub loop-tick-preserved : goal.loop-tick-preserved
 loop-tick-preserved c =
     let t = turn_after (events c.args.steps.now) c.loop-tick.from c.args.agenda.now c.loop-tick.done c.loop-tick.invariant.left c.in-Some.tick.moment c.in-Some.tick.there.now c.in-Some.ensures in
-    let s = starts_after c.args.steps.now c.loop-tick.from c.args.roster.now c.loop-tick.started c.loop-tick.invariant.waiting c.in-Some.tick.moment t.onward c.count_started.result
-    c.split_at.result.0.now c.split_at.ensures.front c.split_at.ensures.front_len c.count_started.ensures.until c.count_started.ensures.after in
     record {
-      reached = subst (Reached c.args.task.now c.args.steps.now (c.in-Some.tick.moment + 1)) (sym c.replace.ensures.after) (next c.args.task.now c.args.steps.now c.loop-tick.from c.in-Some.tick.moment c.loop-tick.state c.loop-tick.invariant.reached t.onward t.covered c.in-Next.next t.last
-          (subst (λ j. IsFound c.loop-tick.state c.in-Some.tick.moment c.args.steps.now (events c.args.steps.now) j) c.in-Next.is c.in_ok-why.ensures.found));
+      reached = next c.args.task.now c.args.steps.now c.loop-tick.from c.in-Some.tick.moment c.loop-tick.state c.loop-tick.invariant.reached t.onward t.covered c.in-Next.next t.last
+          (subst (λ j. IsFound c.loop-tick.state c.in-Some.tick.moment c.args.steps.now (events c.args.steps.now) j) c.in-Next.is c.in_ok-why.ensures.found);
       left = rest_after (events c.args.steps.now) c.loop-tick.from c.args.agenda.now c.loop-tick.done c.loop-tick.invariant.left c.in-Some.tick.moment c.in-Some.tick.there.now t;
       within = within_after (events c.args.steps.now) c.loop-tick.from c.args.agenda.now c.loop-tick.done c.loop-tick.invariant.left c.in-Some.tick.moment c.in-Some.tick.there.now c.loop-tick.invariant.within t;
-      waiting = s.rest;
-      begun = begun_after c.args.steps.now c.loop-tick.from c.args.roster.now c.loop-tick.started c.loop-tick.invariant.waiting c.in-Some.tick.moment t.onward c.count_started.result
-          c.split_at.result.0.now c.split_at.ensures.front c.split_at.ensures.front_len c.count_started.ensures.until c.count_started.ensures.after c.loop-tick.invariant.begun;
-      ordered = omega arith;
-      behind = differ_next _ _ c.loop-tick.state c.in-Next.next c.in-Some.tick.moment c.args.steps.now c.loop-tick.done c.args.agenda.now c.in-Some.tick.there.now c.in-Some.ensures t.found
-          (fits_here c.args.task.now c.args.steps.now c.loop-tick.from c.in-Some.tick.moment c.loop-tick.state c.loop-tick.invariant.reached t.onward t.covered c.requires.fits)
-          (subst (λ j. IsFound c.loop-tick.state c.in-Some.tick.moment c.args.steps.now (events c.args.steps.now) j) c.in-Next.is c.in_ok-why.ensures.found)
-          c.replace.ensures.value c.replace.ensures.after;
-      seen = c.turned-outlook.ensures;
     }
 
 pub overflow_add-from : goal.overflow_add-from
@@ -85,9 +61,4 @@ loop-tick-init c =
       reached = search rules;
       left = c.requires.agenda;
       within = omega arith;
-      waiting = c.requires.roster;
-      begun = omega arith;
-      ordered = omega arith;
-      behind = tt;
-      seen = tt;
     }

@@ -1,5 +1,5 @@
 use Rattle.tp_frontier.specs.Waiting.{GoesOn}
 use Rattle.tp_frontier.proofs.frontier.Frontier.make_starts.Given as goal
 
-abbrev pub invariant-loop : goal.invariant-loop
-invariant-loop l = GoesOn l.fn.self l.self
+abbrev pub invariant-loop-choice : goal.invariant-loop-choice
+invariant-loop-choice l = GoesOn l.fn.self l.self

@@ -9,4 +9,4 @@ pub returns-then-not-is_specifier : goal.returns-then-not-is_specifier
 returns-then-not-is_specifier c = none_gathered shows_changes of_simple_effect _ _ _ _ (unspecified _ _ (sym c.is_specifier.ensures ∙ c.if-not-is_specifier.true)) refl
 
 pub returns : goal.returns
-returns c = gathers_as shows_changes of_simple_effect _ _ _ _ _ _ _ (specified _ _ (sym c.is_specifier.ensures ∙ c.if-not-is_specifier.false)) c.push_next.ensures
+returns c = gathers_as shows_changes of_simple_effect _ _ _ _ _ _ _ (specified _ _ (sym c.is_specifier.ensures ∙ c.if-not-is_specifier.false)) c.push_part.ensures

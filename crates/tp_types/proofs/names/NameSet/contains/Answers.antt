@@ -1,5 +1,5 @@
 use Rattle.std.proofs.Common.{ℕ, List, Bor, ap, ◌∙◌}
-use Rattle.tp_types.specs.Marks.{has_mark}
+use Rattle.tp_types.specs.Among.{has_mark}
 use Rattle.tp_types.proofs.OnNames.{is_among}
 use Rattle.tp_types.proofs.names.NameSet.contains.Goals as goal
 

@@ -1,2 +1,0 @@
-pub mod OnLists
-pub mod OnSpans

@@ -1,0 +1,14 @@
+//! The guided search for a plan, in rounds that go on from call to call.
+//!
+//! - `search`: one round: two queues of nodes, and chains of walks
+//! - `rounds`: what changes from round to round
+//! - `ready`: a task as the rounds search it
+//! - `guided`: the rounds of a task
+#![tactic(auto)]
+
+mod guided;
+mod ready;
+mod rounds;
+mod search;
+
+pub use guided::{Guided, Proposal};

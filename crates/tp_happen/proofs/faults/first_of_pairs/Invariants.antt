@@ -1,6 +1,0 @@
-use Rattle.std.proofs.Common.{◌≡◌, drop}
-use Rattle.tp_happen.specs.Fault.{first_pair}
-use Rattle.tp_happen.proofs.faults.first_of_pairs.Given as goal
-
-abbrev pub invariant-loop-i : goal.invariant-loop-i
-invariant-loop-i l = first_pair l.i (drop l.i l.events) ≡ first_pair 0 l.events

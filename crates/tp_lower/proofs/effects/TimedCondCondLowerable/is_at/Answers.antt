@@ -1,6 +1,0 @@
-use Rattle.std.proofs.Common.{sym, ◌∙◌}
-use Rattle.tp_lower.proofs.OnGathered.{unspecified}
-use Rattle.tp_lower.proofs.effects.TimedCondCondLowerable.is_at.Goals as goal
-
-pub returns : goal.returns
-returns c h u e = unspecified _ _ (sym c.is_specifier.ensures ∙ h)

@@ -1,0 +1,3 @@
+pub mod OnPicks
+pub mod OnChosen
+pub mod OnEnds

@@ -1,5 +1,0 @@
-mod OnFitting
-mod OnKinds
-mod OnIndex
-mod OnPlaces
-mod OnNaming

@@ -1,7 +1,0 @@
-mod OnKnown
-mod OnLists
-mod OnOutlines
-mod OnParts
-mod OnPicks
-mod OnVecs
-mod OnWholes

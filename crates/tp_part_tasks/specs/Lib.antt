@@ -1,2 +1,0 @@
-pub mod Outlines
-pub mod Picked

@@ -1,0 +1,18 @@
+(define (problem p) (:domain openstacks-time)
+ (:objects o0 o1 - order p0 p1 - product n0 n1 n2 n3 - count)
+ (:init
+  (next-count n0 n1)
+  (next-count n1 n2)
+  (next-count n2 n3)
+  (stacks-avail n3)
+  (machine-free)
+  (includes o1 p1)
+  (includes o1 p0)
+  (waiting o1)
+  (includes o0 p0)
+  (waiting o0)
+  (= (make-time p0) 83)
+  (= (make-time p1) 53))
+ (:goal (and
+  (shipped o0)
+  (shipped o1))))
