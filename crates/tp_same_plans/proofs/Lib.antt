@@ -1,14 +1,14 @@
-mod OnLists
-mod ByWords
+pub mod OnLists
+pub mod ByWords
 mod FaultsByWords
-mod OnNamed
-mod OnEffects
-mod OnRuns
-mod OnFaults
+pub mod OnNamed
+pub mod OnEffects
+pub mod OnRuns
+pub mod OnFaults
 mod OnTables
-mod OnSteps
+pub mod OnSteps
 mod OnReached
-mod OnSame
-mod OnTold
-mod OnJudged
+pub mod OnSame
+pub mod OnTold
+pub mod OnJudged
 mod OnGoal

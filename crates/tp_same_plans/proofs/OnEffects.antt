@@ -63,7 +63,7 @@ module _ (ns : List Words) (d : IsDistinct same_words ns) where
   has_named_at [] x h = refl
   has_named_at (y ∷ xs) x h = ap₂ (λ a b. a || b) (same_right y x h) (has_named_at xs x h)
 
-  meets_named : (xs ys : List ℕ) → list_all are_words (map (words_at ns) xs) ≡ true → meets xs ys ≡ share (map (words_at ns) xs) (map (words_at ns) ys)
+  pub meets_named : (xs ys : List ℕ) → list_all are_words (map (words_at ns) xs) ≡ true → meets xs ys ≡ share (map (words_at ns) xs) (map (words_at ns) ys)
   meets_named [] ys h = refl
   meets_named (x ∷ xs) ys h =
       let p = and_parts (are_words (words_at ns x)) (list_all are_words (map (words_at ns) xs)) h in
@@ -76,7 +76,7 @@ pub record IsWorded (h : GroundHappening) : Type 0 where
   pub deletes : list_all are_words h.deletes ≡ true
   pub writes : list_all (λ w. are_words w.fluent) h.writes ≡ true
 
-written_worded : (ws : List GroundWrite) → list_all (λ w. are_words w.fluent) ws ≡ true → list_all are_words (written_by ws) ≡ true
+pub written_worded : (ws : List GroundWrite) → list_all (λ w. are_words w.fluent) ws ≡ true → list_all are_words (written_by ws) ≡ true
 written_worded [] h = refl
 written_worded (w ∷ ws) h = let p = and_parts (are_words w.fluent) _ h in and_from (are_words w.fluent) _ p.0 (written_worded ws p.1)
 
@@ -89,7 +89,7 @@ set_worded (w ∷ ws) h = let p = and_parts (are_words w.fluent) _ h in by (not 
     by false p q = q
 
 module _ (t : Tables) where
-  written_named : (ws : List NumericEffect) → map (words_at t.fluents) (map (λ w. w.fluent) ws) ≡ written_by (map (named_write t) ws)
+  pub written_named : (ws : List NumericEffect) → map (words_at t.fluents) (map (λ w. w.fluent) ws) ≡ written_by (map (named_write t) ws)
   written_named [] = refl
   written_named (w ∷ ws) = ap (λ (vs : List Words). words_at t.fluents w.fluent ∷ vs) (written_named ws)
 
@@ -121,7 +121,7 @@ pub record AreDistinct (t : Tables) : Type 0 where
   pub fluents : IsDistinct same_words t.fluents
 
 module _ (t : Tables) (d : AreDistinct t) where
-  changed_worded : (e : GroundEvent) → IsWorded (named_event t e) → list_all are_words (map (words_at t.atoms) (e.adds.items ++ e.deletes.items)) ≡ true
+  pub changed_worded : (e : GroundEvent) → IsWorded (named_event t e) → list_all are_words (map (words_at t.atoms) (e.adds.items ++ e.deletes.items)) ≡ true
   changed_worded e h =
       ap (list_all are_words) (map-append (words_at t.atoms) e.adds.items e.deletes.items)
       ∙ list_all-append are_words (map (words_at t.atoms) e.adds.items) (map (words_at t.atoms) e.deletes.items)

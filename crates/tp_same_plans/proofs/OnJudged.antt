@@ -34,7 +34,7 @@ module _ (scale : Scale) (d : Domain) (p : Problem) (is : List Instance) (t : Ta
   abbrev acts : List Acted
   acts = acts_of (bodies_of (universe_of d p) is) ms
 
-  named_worded : AreWorded (map (named_placed t.numbering) (events (plan_of t ms)))
+  pub named_worded : AreWorded (map (named_placed t.numbering) (events (plan_of t ms)))
   named_worded =
       subst AreWorded (sym (parts_named t.numbering 0 (plan_of t ms)))
       (subst (λ (ps : List Acted). AreWorded (parts ps)) (sym (steps_named scale d p is t k ms)) (all_parts IsWorded (bodies_of (universe_of d p) is) (bodies_worded (universe_of d p) is) ms))

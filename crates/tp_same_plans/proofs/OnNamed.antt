@@ -72,16 +72,16 @@ is_named t (Not' p c) = tt
 is_named t (Shared' p c) = tt
 
 module _ (t : Tables) where
-  is_negative : (p : _) (x : Expr) → named_expression t (Negated' p x) ≡ negative (named_expression t x)
+  pub is_negative : (p : _) (x : Expr) → named_expression t (Negated' p x) ≡ negative (named_expression t x)
   is_negative p x = named_Negated t _
 
-  is_sum : (p : _) (x : Expr) (q : _) (y : Expr) → named_expression t (Sum' p x q y) ≡ sum (named_expression t x) (named_expression t y)
+  pub is_sum : (p : _) (x : Expr) (q : _) (y : Expr) → named_expression t (Sum' p x q y) ≡ sum (named_expression t x) (named_expression t y)
   is_sum p x q y = named_Sum t _ _
 
-  is_difference : (p : _) (x : Expr) (q : _) (y : Expr) → named_expression t (Difference' p x q y) ≡ difference (named_expression t x) (named_expression t y)
+  pub is_difference : (p : _) (x : Expr) (q : _) (y : Expr) → named_expression t (Difference' p x q y) ≡ difference (named_expression t x) (named_expression t y)
   is_difference p x q y = named_Difference t _ _
 
-  is_product : (p : _) (x : Expr) (q : _) (y : Expr) → named_expression t (Product' p x q y) ≡ product (named_expression t x) (named_expression t y)
+  pub is_product : (p : _) (x : Expr) (q : _) (y : Expr) → named_expression t (Product' p x q y) ≡ product (named_expression t x) (named_expression t y)
   is_product p x q y = named_Product t _ _
 
   is_negation : (p : _) (c : Cond) → named_condition t (Not' p c) ≡ negation (named_condition t c)

@@ -119,6 +119,14 @@ module _ (scale : Scale) (d : Domain) (p : Problem) (told : AreTold scale d p) (
       let xy : Some x ≡ Some y = sym g ∙ ap (slice_get every) ij ∙ h in
       let r : x ≡ y = cc in r
 
+  -- the same step does the same
+  pub same_got : (m n : Step) → is_step_of t m ≡ true → is_step_of v n ≡ true → IsSameStep t v m n → slice_get (bodies_of uu is) m.action.0 ≡ slice_get (bodies_of uu js) n.action.0
+  same_got m n h g e =
+      let (x, at_m) = at_step scale d p is m (sym (step_by_words scale d p is t k m) ∙ h) in
+      let (y, at_n) = at_step scale d p js n (sym (step_by_words scale d p js v l n) ∙ g) in
+      let xy : x ≡ y = same_instance x y (in_is x (got_in is m.action.0 x at_m)) (in_js y (got_in js n.action.0 y at_n)) (sym (action_words scale d p is js t v k l m.action.0 x at_m) ∙ e.action ∙ other_words scale d p is js t v k l n.action.0 y at_n) in
+      body_got scale d p is m.action.0 x at_m ∙ ap (λ (z : Instance). Some (action_of uu z).body) xy ∙ sym (body_got scale d p js n.action.0 y at_n)
+
   pub same_acts : (ms ns : List Step) → IsOfTask t ms → IsOfTask v ns → AreSameSteps t v ms ns → acts_of (bodies_of uu is) ms ≡ acts_of (bodies_of uu js) ns
   same_acts [] [] h g e = refl
   same_acts [] (n ∷ ns) h g e = absurd e
@@ -126,24 +134,13 @@ module _ (scale : Scale) (d : Domain) (p : Problem) (told : AreTold scale d p) (
   same_acts (m ∷ ms) (n ∷ ns) h g e =
       let hs = and_parts (is_step_of t m) (list_all (is_step_of t) ms) h in
       let gs = and_parts (is_step_of v n) (list_all (is_step_of v) ns) g in
-      let (x, at_m) = at_step scale d p is m (sym (step_by_words scale d p is t k m) ∙ hs.0) in
-      let (y, at_n) = at_step scale d p js n (sym (step_by_words scale d p js v l n) ∙ gs.0) in
-      let xy : x ≡ y = same_instance x y (in_is x (got_in is m.action.0 x at_m)) (in_js y (got_in js n.action.0 y at_n)) (sym (action_words scale d p is js t v k l m.action.0 x at_m) ∙ e.0.action ∙ other_words scale d p is js t v k l n.action.0 y at_n) in
-      let got : slice_get (bodies_of uu is) m.action.0 ≡ slice_get (bodies_of uu js) n.action.0 =
-      body_got scale d p is m.action.0 x at_m ∙ ap (λ (z : Instance). Some (action_of uu z).body) xy ∙ sym (body_got scale d p js n.action.0 y at_n) in
       let one : acted m ≡ acted n = ap₂ {C = GroundBody → Acted} (λ a b. λ c. record { moment = a; duration = b; body = c }) e.0.tick e.0.duration in
       ap₂ (λ (xs ys : List Acted). xs ++ ys)
-      (ap₂ (λ (f : GroundBody → Acted) (o : Option GroundBody). option_to_list (option_map f o)) one got)
+      (ap₂ (λ (f : GroundBody → Acted) (o : Option GroundBody). option_to_list (option_map f o)) one (same_got m n hs.0 gs.0 e.0))
       (same_acts ms ns hs.1 gs.1 e.1)
 
   pub same_body : (m n : Step) → is_step_of t m ≡ true → is_step_of v n ≡ true → IsSameStep t v m n → is_durative (slice_get t.actions.items m.action.0) ≡ is_durative (slice_get v.actions.items n.action.0)
-  same_body m n h g e =
-      let (x, at_m) = at_step scale d p is m (sym (step_by_words scale d p is t k m) ∙ h) in
-      let (y, at_n) = at_step scale d p js n (sym (step_by_words scale d p js v l n) ∙ g) in
-      let xy : x ≡ y = same_instance x y (in_is x (got_in is m.action.0 x at_m)) (in_js y (got_in js n.action.0 y at_n)) (sym (action_words scale d p is js t v k l m.action.0 x at_m) ∙ e.action ∙ other_words scale d p is js t v k l n.action.0 y at_n) in
-      let got : slice_get (bodies_of uu is) m.action.0 ≡ slice_get (bodies_of uu js) n.action.0 =
-      body_got scale d p is m.action.0 x at_m ∙ ap (λ (z : Instance). Some (action_of uu z).body) xy ∙ sym (body_got scale d p js n.action.0 y at_n) in
-      durative_of scale d p is t k m ∙ ap durative_by got ∙ sym (durative_of scale d p js v l n)
+  same_body m n h g e = durative_of scale d p is t k m ∙ ap durative_by (same_got m n h g e) ∙ sym (durative_of scale d p js v l n)
 
   -- the same step is written as the same text
   same_text : (m n : Step) → is_step_of t m ≡ true → is_step_of v n ≡ true → IsSameStep t v m n → step_text (told_as t) m ≡ step_text (told_as v) n
