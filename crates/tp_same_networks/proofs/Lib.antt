@@ -3,5 +3,6 @@ mod OnEvents
 mod OnTicks
 mod OnPlans
 mod OnBounds
+mod OnLimits
 mod OnSteps
 mod OnNetworks

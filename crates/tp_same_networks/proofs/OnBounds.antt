@@ -27,7 +27,7 @@ module _ (t u : Tables) (d : AreDistinct t) (o : AreDistinct u) where
 
   -- ---- orders
 
-  same_before : (a b e f : Placed) → IsSamePlaced t u a e → IsSamePlaced t u b f → comes_before a b ≡ comes_before e f
+  pub same_before : (a b e f : Placed) → IsSamePlaced t u a e → IsSamePlaced t u b f → comes_before a b ≡ comes_before e f
   same_before a b e f h k =
       ap₂ (λ (x y : Bool). x && y) (ap₂ nat_lt h.moment k.moment)
       (same_interference t u d o a.timed.event b.timed.event e.timed.event f.timed.event h.event k.event)
@@ -84,7 +84,7 @@ module _ (t u : Tables) (d : AreDistinct t) (o : AreDistinct u) where
         (ap (λ (n : ℕ). not (n == first) && not (n == first + 1)) h.number)
         (same_writing t u d o x.timed.event y.timed.event c k h.event i)) es fs all
 
-    same_invariant : (first : ℕ) (p q : Planned) (c k : Cond) → p.moment ≡ q.moment → p.duration ≡ q.duration → named_condition t c ≡ named_condition u k → invariant_bounds es first p.moment (p.moment + p.duration) c ≡ invariant_bounds fs first q.moment (q.moment + q.duration) k
+    pub same_invariant : (first : ℕ) (p q : Planned) (c k : Cond) → p.moment ≡ q.moment → p.duration ≡ q.duration → named_condition t c ≡ named_condition u k → invariant_bounds es first p.moment (p.moment + p.duration) c ≡ invariant_bounds fs first q.moment (q.moment + q.duration) k
     same_invariant first p q c k m l i =
         same_kept first p.moment (p.moment + p.duration) (touching first c es) (touching first k fs) (same_touching first c k i)
         ∙ ap₂ (λ (x y : ℕ). kept_by first x (x + y) (touching first k fs)) m l

@@ -38,6 +38,7 @@ use Rattle.tp_same_plans.proofs.OnSame.{AreTold, same_got, same_acts}
 use Rattle.tp_same_plans.proofs.OnSteps.{acts_of, bodies_of, bodies_worded, initially, IsTaskFor, begins, steps_named}
 use Rattle.tp_same_networks.specs.SameNetworks.{HaveSameNetwork}
 use Rattle.tp_same_networks.proofs.OnBounds.{same_net}
+use Rattle.tp_same_networks.proofs.OnLimits.{passes_same}
 use Rattle.tp_same_networks.proofs.OnPlans.{IsSamePlanned, same_event_count}
 use Rattle.tp_same_networks.proofs.OnSteps.{MayBeSame, same_found, IsAlike, same_plan, same_lines, same_runs}
 
@@ -108,5 +109,6 @@ module _ (scale : Scale) (d : Domain) (p : Problem) (told : AreTold scale d p) (
           let same : setting_of (event_count_of (plan_of t ms)) horizon (bounds_in t ms horizon) ≡ setting_of (event_count_of (plan_of u ns)) horizon (bounds_in u ns horizon) =
           ap₂ (λ (n : ℕ) (bounds : List Bound). setting_of n horizon bounds) counted (bounded horizon) in
           (subst (λ z. IsSchedule z m) same, subst (λ z. IsSchedule z m) (sym same));
+      limits = λ limits. passes_same t.numbering u.numbering k.distinct l.distinct limits t u ms ns plans (bounded limits.horizon);
       runs = λ m. same_runs t u m 0 ms ns alike;
     }

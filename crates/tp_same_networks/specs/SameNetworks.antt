@@ -10,7 +10,7 @@ use Rattle.tp_task.specs.declared.task.Task.{Task}
 use Rattle.tp_happen.specs.tp_plan_texts.declared.plans.Step.{Step}
 use Rattle.tp_validate.specs.OfTask.{IsOfTask, plan_of}
 use Rattle.tp_ground.specs.Reached.{Instance, IsTaskOf}
-use Rattle.tp_deorder.specs.Answers.{bounds_in}
+use Rattle.tp_deorder.specs.Answers.{bounds_in, PassesLimits}
 use Rattle.tp_deorder.specs.EventTexts.{event_lines}
 use Rattle.tp_deorder.specs.Inequalities.{event_count_of}
 use Rattle.tp_deorder.specs.RunPlans.{run_steps}
@@ -29,6 +29,8 @@ pub record HaveSameNetwork (t u : Task) (ms ns : List Step) : Type 0 where
       (horizon : ℕ) (m : ℕ → ℕ)
       → IsSchedule (setting_of (event_count_of (plan_of t ms)) horizon (bounds_in t ms horizon)) m
       ↔ IsSchedule (setting_of (event_count_of (plan_of u ns)) horizon (bounds_in u ns horizon)) m
+  -- the plans exceed the same limits
+  pub limits : (l : RunLimits) → PassesLimits l t ms ↔ PassesLimits l u ns
   -- the runs at each assignment are the same steps
   pub runs : (m : ℕ → ℕ) → AreSameSteps t u (run_steps t m ms) (run_steps u m ns)
 
