@@ -16,8 +16,6 @@ pub mod OnWords
 pub mod OnLabels
 pub mod Growth
 pub mod OnKeys
-pub mod OnGuesses
 pub mod OnNumberings
 pub mod OnPlaces
-pub mod OnPushes
 pub mod OnLookups

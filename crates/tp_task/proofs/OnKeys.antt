@@ -1,5 +1,5 @@
 -- Sets of names and of labels, seen as lists of what tells their keys apart.
-use Rattle.std.proofs.Common.{◌≡◌, ℕ, ◌+◌, Bool, true, false, cond, not, ◌||◌, List, [], ◌∷◌, ◌++◌, map, length, get_or, position, slice_get, Some, None, option_map, nat_lt, nat_eq, if◌then◌else◌, refl, sym, ap, ◌∙◌, arith, append-nil, length-append}
+use Rattle.std.proofs.Common.{◌≡◌, ℕ, ◌+◌, Bool, true, false, cond, not, ◌||◌, List, [], ◌∷◌, ◌++◌, map, length, get_or, position, slice_get, Option, Some, None, IfSome, option_map, nat_lt, nat_eq, if◌then◌else◌, refl, sym, ap, ◌∙◌, arith, append-nil, length-append}
 use Rattle.std.proofs.lemmas.List.{map-append, length-map}
 use Rattle.std.proofs.lemmas.List.Quantifiers.{position-Some}
 use Rattle.std.proofs.lemmas.Map.Keys.{IsDistinct-head, IsDistinct-tail, IsDistinct-cons}
@@ -55,9 +55,10 @@ key_label f ks k =
     by false = map-append f ks (k ∷ [])
 
 -- the name that is found is the name that was looked for
-pub found_name : (n : List ℕ) (ns : List (List ℕ)) (i : ℕ) → position (bytes_eq n) ns ≡ Some i → slice_get ns i ≡ Some n
-found_name n ns i e =
-    let at = position-Some (bytes_eq n) ns i [] e in
+pub found_name : (n : List ℕ) (ns : List (List ℕ)) (r : Option ℕ) → r ≡ position (bytes_eq n) ns → IfSome r (λ i. slice_get ns i ≡ Some n)
+found_name n ns None e = tt
+found_name n ns (Some i) e =
+    let at = position-Some (bytes_eq n) ns i [] (sym e) in
     slice_get-get_or ns i [] at.0 ∙ ap Some (sym ((bytes_eq-Decides n (get_or ns i [])).0 at.1))
 
 -- a key that is stored is the one that was inserted

@@ -1,6 +1,6 @@
 //! Labels in order, which are found by a table.
 
-ghost use Rattle.std.specs.Prelude.{◌≡◌, ◌∷◌, [], ◌++◌, ◌-◌, map, length, nat_eq, IfOk, OnOk, OnErr, slice_index_or};
+ghost use Rattle.std.specs.Prelude.{◌≡◌, ◌∷◌, [], ◌++◌, map, length, nat_eq, OnOk, OnErr, slice_index_or};
 ghost use Rattle.std.specs.List.{position_from};
 ghost use Rattle.std.specs.Cmp.Lexicographic.{pointwise};
 
@@ -10,7 +10,7 @@ use std::alloc::{AllocError, Global};
 use std::marker::Model;
 
 /// Words by the numbers of their names: most atoms have at most three objects.
-pub type Label = SmallVec<u32, 4>;
+pub type Label = SmallVec<usize, 4>;
 
 /// Labels in order, of which two may be the same.
 #[derive(Drop)]
@@ -30,21 +30,13 @@ impl Model for Labels {
 }
 
 /// The label at a place, empty past the end.
-pub fn label_at<'a>(labels: &'a [Label], place: usize) -> &'a [u32]
+pub fn label_at<'a>(labels: &'a [Label], place: usize) -> &'a [usize]
     ensures { result.now ≡ slice_index_or (map (λ l. l.items) labels.now) place [] }
 {
     match labels.get(place) {
         Some(label) => label.as_slice(),
         None => &[],
     }
-}
-
-// The label at a place once more, empty past the end.
-fn copy_at(alloc: Global, labels: &[Label], place: usize) -> Result<Label, AllocError>
-    ensures { IfOk result
-        (λ l. l.items ≡ slice_index_or (map (λ l. l.items) labels.now) place []) }
-{
-    SmallVec::from_slice(alloc, label_at(labels, place))
 }
 
 // Where the first label of these numbers stands among some that are not in a table.
@@ -79,7 +71,7 @@ impl Labels {
     }
 
     /// The label at a place, empty past the end.
-    pub fn at(&self, place: usize) -> &[u32]
+    pub fn at(&self, place: usize) -> &[usize]
         ensures { result.now ≡ slice_index_or self.now place [] }
     {
         let count = self.first.len();
@@ -87,13 +79,6 @@ impl Labels {
             return label_at(self.first.as_slice(), place);
         }
         label_at(&self.more, place - count)
-    }
-
-    /// The last label, empty if there is none.
-    pub fn last(&self) -> &[u32]
-        ensures { result.now ≡ slice_index_or self.now (length self.now - 1) [] }
-    {
-        self.at(self.len().saturating_sub(1))
     }
 
     /// Where the first label of these numbers stands.
@@ -112,15 +97,10 @@ impl Labels {
         ensures added { OnOk result (self.new ≡ self.old ++ label.items ∷ []) }
         ensures unchanged { OnErr result (self.new ≡ self.old) }
     {
-        if !self.more.is_empty() {
+        if self.more.is_empty() && !self.first.contains(&label) {
+            self.first.insert(label)?;
+        } else {
             self.more.push(label)?;
-            return Ok(());
-        }
-        let (place, is_new) = self.first.insert_full(label)?;
-        if !is_new {
-            // It stands there already.
-            let again = copy_at(*self.first.allocator(), self.first.as_slice(), place)?;
-            self.more.push(again)?;
         }
         Ok(())
     }

@@ -2,18 +2,16 @@
 //!
 //! - `events`, `task`: conditions, expressions, effects, events and tasks as data; `laws`: what holds of their plans
 //! - `truth`: whether parts of a condition hold, where they have a truth; whether effects mention the duration
-//! - `labels`, `lookup`, `guesses`, `order`, `numbering`: names, atoms, fluents and actions by number
+//! - `labels`, `lookup`, `numbering`: names, atoms, fluents and actions by number
 //! - `fault`: why a problem has no task
 #![tactic(auto)]
 
 mod events;
 mod fault;
-mod guesses;
 mod labels;
 mod laws;
 mod lookup;
 mod numbering;
-mod order;
 mod task;
 pub mod truth;
 

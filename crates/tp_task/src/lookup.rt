@@ -1,40 +1,29 @@
 //! Words looked up and written out by the numbers of their names.
 
-ghost use Rattle.std.specs.Prelude.{◌≡◌, ◌∷◌, [], ◌++◌, map, length, option_map, slice_get, IfOk, OnOk, slice_index_or, string_bytes, IfSome, is_some, ◌+◌, ◌<◌, ◌^◌, true, false, Some, MatchOption};
+ghost use Rattle.std.specs.Prelude.{◌≡◌, ◌∷◌, [], ◌++◌, map, length, option_map, slice_get, IfOk, OnOk, slice_index_or, string_bytes, IfSome, is_some, ◌+◌, ◌<◌, ◌^◌, false, Some, MatchOption};
 ghost use Rattle.std.specs.List.{AllByRecursion, IsDistinct, list_any, position_from};
 ghost use Rattle.std.specs.Str.{bytes_eq};
 ghost use Rattle.tp_task.specs.Words.{same_words, text_of_words};
 ghost use Rattle.tp_task.specs.Labels.{named, are_known, AreNamed};
 
-use crate::guesses::Guesses;
 use crate::labels::{Label, Labels};
 use indexmap::IndexSet;
 use smallvec::SmallVec;
 use std::alloc::AllocError;
 
-/// A number as it stands in a label. More names than 2^32 are past memory.
-pub fn short(number: usize) -> Result<u32, AllocError>
-    ensures { IfOk result (λ n. n ≡ number) }
-{
-    match u32::try_from(number) {
-        Ok(number) => Ok(number),
-        Err(_) => Err(AllocError),
-    }
-}
-
 // Whether a number's name is this word.
-fn is_name(names: &IndexSet<String>, number: u32, word: &str) -> bool
+fn is_name(names: &IndexSet<String>, number: usize, word: &str) -> bool
     ensures { result
         ≡ bytes_eq word.now (slice_index_or (map string_bytes names.now.keys) number []) }
 {
-    match names.get_index(number as usize) {
+    match names.get_index(number) {
         Some(name) => word == name.as_str(),
         None => word.is_empty(),
     }
 }
 
 // Whether numbers' names are these words.
-fn are_names(names: &IndexSet<String>, numbers: &[u32], words: &[&str]) -> bool
+fn are_names(names: &IndexSet<String>, numbers: &[usize], words: &[&str]) -> bool
     ensures { result ≡ same_words
         (map (λ w. w.now) words.now) (named (map string_bytes names.now.keys) numbers.now) }
 {
@@ -54,7 +43,7 @@ fn are_names(names: &IndexSet<String>, numbers: &[u32], words: &[&str]) -> bool
 }
 
 // Whether a label has exactly these words: a name and its objects.
-fn is_called(names: &IndexSet<String>, label: &[u32], name: &str, args: &[&str]) -> bool
+fn is_called(names: &IndexSet<String>, label: &[usize], name: &str, args: &[&str]) -> bool
     ensures { result ≡ same_words
         (name.now ∷ map (λ w. w.now) args.now) (named (map string_bytes names.now.keys) label.now) }
 {
@@ -82,38 +71,19 @@ fn find_by_names(
     None
 }
 
-/// The number of a name that has one, if it stands in the order of names.
-pub fn ordered_name(names: &IndexSet<String>, guesses: &Guesses, name: &str) -> Option<usize>
-    ensures { IfSome result
-        (λ i. slice_get (map string_bytes names.now.keys) i ≡ Some name.now) }
-{
-    let number = guesses.number(name)?;
-    match names.get_index(number) {
-        Some(known) if name == known.as_str() => Some(number),
-        _ => None,
-    }
-}
-
-// The number of a name, looked for in the order of names first.
-fn known_number(names: &IndexSet<String>, guesses: &Guesses, name: &str) -> Option<usize>
+/// The number of a name; None if it has none.
+pub fn known_number(names: &IndexSet<String>, name: &str) -> Option<usize>
     ensures index { IfSome result
         (λ i. slice_get (map string_bytes names.now.keys) i ≡ Some name.now) }
     ensures found { is_some result
         ≡ list_any (bytes_eq name.now) (map string_bytes names.now.keys) }
 {
-    if let Some(number) = ordered_name(names, guesses, name) {
-        return Some(number);
-    }
-    match names.get_index_of(name) {
-        Some(number) => Some(number),
-        None => None,
-    }
+    names.get_index_of(name)
 }
 
 // The label of words, a name and its objects; None if one of them has no number.
 fn known_label(
     names: &IndexSet<String>,
-    guesses: &Guesses,
     name: &str,
     args: &[&str],
 ) -> Result<Option<Label>, AllocError>
@@ -124,35 +94,29 @@ fn known_label(
         ≡ name.now ∷ map (λ a. a.now) args.now)
         × AreNamed (length (map string_bytes names.now.keys)) l.items)) }
 {
-    let Some(first) = known_number(names, guesses, name) else {
+    let Some(first) = known_number(names, name) else {
         return Ok(None);
     };
     let mut label = SmallVec::new(*names.allocator());
-    label.push(short(first)?)?;
+    label.push(first)?;
     for arg in args {
-        let Some(number) = known_number(names, guesses, *arg) else {
+        let Some(number) = known_number(names, *arg) else {
             return Ok(None);
         };
-        label.push(short(number)?)?;
+        label.push(number)?;
     }
     Ok(Some(label))
 }
 
 /// Where the first label of these words stands: a name and its objects.
-pub fn find(
-    names: &IndexSet<String>,
-    guesses: &Guesses,
-    labels: &Labels,
-    name: &str,
-    args: &[&str],
-) -> Option<usize>
+pub fn find(names: &IndexSet<String>, labels: &Labels, name: &str, args: &[&str]) -> Option<usize>
     requires distinct { IsDistinct bytes_eq (map string_bytes names.now.keys) }
     requires named { AllByRecursion
         (AreNamed (length (map string_bytes names.now.keys))) labels.now }
     ensures { result ≡ position_from (same_words (name.now ∷ map (λ a. a.now) args.now)) 0
         (map (named (map string_bytes names.now.keys)) labels.now) }
 {
-    match known_label(names, guesses, name, args) {
+    match known_label(names, name, args) {
         Ok(Some(label)) => labels.position(&label),
         Ok(None) => None,
         // No memory for the numbers of so many words: the labels are looked at one after another.
@@ -160,19 +124,8 @@ pub fn find(
     }
 }
 
-/// Whether there is a label at a number, with exactly these words.
-pub fn has_words_at(names: &IndexSet<String>, labels: &[Label], number: u32, words: &[&str]) -> bool
-    ensures { result ≡ true → slice_get (map (named (map string_bytes names.now.keys))
-        (map (λ l. l.items) labels.now)) number ≡ Some (map (λ w. w.now) words.now) }
-{
-    match labels.get(number as usize) {
-        Some(label) => are_names(names, label.as_slice(), words),
-        None => false,
-    }
-}
-
 /// The words of a label as text, with one space between.
-pub fn text_of(names: &IndexSet<String>, label: &[u32]) -> Result<String, AllocError>
+pub fn text_of(names: &IndexSet<String>, label: &[usize]) -> Result<String, AllocError>
     ensures { IfOk result
         (λ s. string_bytes s ≡ text_of_words (named (map string_bytes names.now.keys) label.now)) }
 {
@@ -189,18 +142,18 @@ pub fn text_of(names: &IndexSet<String>, label: &[u32]) -> Result<String, AllocE
 }
 
 // The name of a number, after what stands there.
-fn push_name(text: &mut String, names: &IndexSet<String>, number: u32) -> Result<(), AllocError>
+fn push_name(text: &mut String, names: &IndexSet<String>, number: usize) -> Result<(), AllocError>
     ensures { OnOk result (string_bytes text.new
         ≡ string_bytes text.old ++ slice_index_or (map string_bytes names.now.keys) number []) }
 {
-    match names.get_index(number as usize) {
+    match names.get_index(number) {
         Some(name) => text.push_str(name.as_str()),
         None => Ok(()),
     }
 }
 
 /// A word of a label.
-pub fn word_of<'a>(names: &'a IndexSet<String>, label: &[u32], place: usize) -> Option<&'a str>
+pub fn word_of<'a>(names: &'a IndexSet<String>, label: &[usize], place: usize) -> Option<&'a str>
     requires { AreNamed (length (map string_bytes names.now.keys)) label.now }
     ensures few { IfSome result (λ _. place + 1 < 2 ^ 64) }
     ensures word { option_map (λ w. w.now) result
@@ -209,7 +162,7 @@ pub fn word_of<'a>(names: &'a IndexSet<String>, label: &[u32], place: usize) -> 
     // No slice has 2^64 elements.
     let _count = label.len();
     match label.get(place) {
-        Some(number) => match names.get_index(*number as usize) {
+        Some(number) => match names.get_index(*number) {
             Some(name) => Some(name.as_str()),
             None => None,
         },

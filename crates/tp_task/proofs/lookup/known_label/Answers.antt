@@ -11,7 +11,7 @@ pub loop-arg-init : goal.loop-arg-init
 loop-arg-init c =
     let N = map string_bytes c.args.names.now.keys in
     let at = c.in-Some.ensures.index in
-    let n = numbered_on N N [] c.push.new.self.items [] _ _ refl tt ([], sym (append-nil N)) at (c.in_ok-push.ensures.ok ∙ ap (λ ns. ns ++ c.in_ok-short.field-0 ∷ []) c.new-label.ensures.items ∙ ap (λ k. k ∷ []) c.in_ok-short.ensures) in
+    let n = numbered_on N N [] c.push.new.self.items [] _ _ refl tt ([], sym (append-nil N)) at (c.in_ok-push.ensures.ok ∙ ap (λ ns. ns ++ c.in-Some.first ∷ []) c.new-label.ensures.items) in
     record {
       named_so_far = n.0;
       in_range = n.1;
@@ -29,7 +29,7 @@ pub loop-arg-preserved : goal.loop-arg-preserved
 loop-arg-preserved c =
     let N = map string_bytes c.args.names.now.keys in
     let at = c.in-Some-known_number.ensures.index in
-    let n = numbered_on N N _ _ _ _ _ c.loop-arg.invariant.named_so_far c.loop-arg.invariant.in_range ([], sym (append-nil N)) at (c.in_ok-push-2.ensures.ok ∙ ap (λ k. c.loop-arg.label.items ++ k ∷ []) c.in_ok-short-2.ensures) in
+    let n = numbered_on N N _ _ _ _ _ c.loop-arg.invariant.named_so_far c.loop-arg.invariant.in_range ([], sym (append-nil N)) at c.in_ok-push-2.ensures.ok in
     record {
       named_so_far = n.0 ∙ ap (λ ws. c.args.name.now ∷ ws) (taken_on (λ w. w.now) c.args.args.now c.loop-arg.arg-index _ c.loop-arg-test.true);
       in_range = n.1;
