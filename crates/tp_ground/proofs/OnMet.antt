@@ -1,12 +1,11 @@
 -- What a set of words meets, and what the set of their numbers meets.
 use Rattle.std.proofs.Common.{◌≡◌, ℕ, Bool, true, false, not, ◌&&◌, ◌||◌, List, [], ◌∷◌, map, Vec, Box, Global, refl, sym, ap, ap₂, subst, ◌∙◌}
-use Rattle.std.specs.declared.rc.Rc.{Rc}
 use Rattle.std.specs.List.{list_all, list_any}
 use Rattle.std.proofs.lemmas.Bool.{and_parts}
 use Rattle.tp_task.specs.declared.events.Cond as conds
 use Rattle.tp_task.specs.declared.events.Cond.{Cond, ind-Cond, roll-Cond, map-Cond}
 use Rattle.tp_task.specs.declared.events.Cond.TheOpen.{Cond-F}
-use Rattle.tp_task.specs.declared.events.Cond.TheVariants.{rolls-Atom, rolls-Compare, rolls-Not, rolls-And, rolls-Or, rolls-Shared}
+use Rattle.tp_task.specs.declared.events.Cond.TheVariants.{rolls-Atom, rolls-Compare, rolls-Not, rolls-And, rolls-Or}
 use Rattle.tp_task.specs.declared.events.Comparison.{Comparison}
 use Rattle.tp_task.specs.declared.events.Expr.{Expr}
 use Rattle.tp_task.specs.Tables.{Tables, words_at}
@@ -15,7 +14,7 @@ use Rattle.tp_task.specs.Words.{Words}
 use Rattle.tp_lower.specs.ReadBack.{named_condition}
 use Rattle.tp_lower.specs.Written.{GroundCondition, GroundConditions, atom, compared, negation, all_of, any_of, no_conditions, condition, conditions_from}
 use Rattle.tp_ground_parts.proofs.OnFits.{are_words}
-use Rattle.tp_lower.proofs.OnConditions.{named_And, named_Or, named_Not, named_Atom, named_Compare, named_Shared}
+use Rattle.tp_lower.proofs.OnConditions.{named_And, named_Or, named_Not, named_Atom, named_Compare}
 use Rattle.tp_reach.specs.Rounds.{over}
 use Rattle.tp_reach.proofs.Rows.{met_And, met_Or}
 use Rattle.tp_ground.specs.Reached.{met, each_met, some_met}
@@ -62,13 +61,6 @@ module _ (t : Tables) (r : ℕ → Bool) (R : Words → Bool) (same : (i : ℕ) 
       by true w = h false w
       by false w = h true w
 
-  shared_same : (c : Rc Cond Global) → IsSame c.value → IsSame (conds.Shared c)
-  shared_same c h = as_named (conds.Shared c) (named_condition t c.value) (named_Shared t c) (λ b w. by b w)
-    where
-      by : (b : Bool) → worded (named_condition t c.value) ≡ true → met R b (named_condition t c.value) ≡ numbers.met r b (conds.Shared c)
-      by true w = h true w
-      by false w = h false w
-
   module _ {A : Type 0} (f : A → Cond) (each : (a : A) → IsSame (f a)) where
     abbrev parts : List A → GroundConditions
     parts xs = conditions_from (map (named_condition t) (map f xs))
@@ -101,7 +93,6 @@ module _ (t : Tables) (r : ℕ → Bool) (R : Words → Bool) (same : (i : ℕ) 
     layer_same (Cond-F.Not c) = subst IsSame (sym (rolls-Not _)) (not_same _ (each c.value))
     layer_same (Cond-F.And v) = subst IsSame (sym (rolls-And _)) (and_same _ v.items refl)
     layer_same (Cond-F.Or v) = subst IsSame (sym (rolls-Or _)) (or_same _ v.items refl)
-    layer_same (Cond-F.Shared c) = subst IsSame (sym (rolls-Shared _)) (shared_same _ (each c.value))
 
   pub met_same : (c : Cond) → IsSame c
   met_same = ind-Cond IsSame (λ x y is. subst (λ z. IsSame (roll-Cond z)) is (layer_same (λ e. e.0) (λ e. e.1) y))

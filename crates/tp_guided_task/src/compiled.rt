@@ -94,7 +94,7 @@ fn add_actions(writer: &mut Writer, task: &tp_task::Task, kept: &[bool]) -> Resu
 
 impl Task {
     /// A ground task with those of its actions that are kept, in their order, in which no step ends behind the horizon. It
-    /// takes the time and memory of their conditions and effects, in which a condition that others share counts each time.
+    /// takes the time and memory of their conditions and effects.
     pub fn new(
         alloc: Global,
         task: &tp_task::Task,

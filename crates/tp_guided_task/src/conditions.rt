@@ -49,7 +49,6 @@ impl Writer {
             Cond::And(cs) if positive => self.conjuncts_of(cs, positive),
             Cond::Or(cs) if !positive => self.conjuncts_of(cs, positive),
             Cond::And(cs) | Cond::Or(cs) => self.disjunction(cs, positive),
-            Cond::Shared(c) => self.conjuncts(c, positive),
         }
     }
 
@@ -101,7 +100,6 @@ impl Writer {
             Cond::Not(c) => self.tree(c, !positive),
             Cond::And(cs) => self.group(cs, positive, positive),
             Cond::Or(cs) => self.group(cs, positive, !positive),
-            Cond::Shared(c) => self.tree(c, positive),
         }
     }
 

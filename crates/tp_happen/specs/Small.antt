@@ -3,7 +3,7 @@ use Rattle.std.specs.Prelude.{Bool, true, ◌&&◌, Option, Some, None, ℤ, uns
 use Rattle.tp_task.specs.declared.events.Expr.{Expr}
 use Rattle.tp_task.specs.declared.events.Expr.TheVariants.{Number, Fluent, Duration, Negated', Sum', Difference', Product'}
 use Rattle.tp_task.specs.declared.events.Cond.{Cond, Row_of-Cond, end_of-Cond, more_of-Cond}
-use Rattle.tp_task.specs.declared.events.Cond.TheVariants.{Atom, Compare, Not', And', Or', Shared'}
+use Rattle.tp_task.specs.declared.events.Cond.TheVariants.{Atom, Compare, Not', And', Or'}
 use Rattle.tp_task.specs.State.{State, value}
 
 abbrev pub is_small : Option ℤ → Bool
@@ -31,7 +31,6 @@ abbrev mutual
   all_small s (Not' p c) = all_small s c
   all_small s (And' shape cs) = rows_small s cs
   all_small s (Or' shape cs) = rows_small s cs
-  all_small s (Shared' p c) = all_small s c
 
   pub rows_small : {m : _} → State → Row_of-Cond m → Bool
   rows_small s end_of-Cond = true

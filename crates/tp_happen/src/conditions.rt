@@ -127,6 +127,5 @@ fn found(state: &State, cond: &Cond) -> Finding
             }
             any
         }
-        Cond::Shared(c) => found(state, c),
     }
 }

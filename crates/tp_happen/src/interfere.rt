@@ -22,7 +22,6 @@ fn mentions_atom(cond: &Cond, atom: u32) -> bool
         Cond::Not(c) => mentions_atom(c, atom),
         Cond::And(cs) => some_mentions_atom(cs, atom),
         Cond::Or(cs) => some_mentions_atom(cs, atom),
-        Cond::Shared(c) => mentions_atom(c, atom),
     }
 }
 
@@ -64,7 +63,6 @@ fn mentions_fluent(cond: &Cond, fluent: u32) -> bool
         Cond::Not(c) => mentions_fluent(c, fluent),
         Cond::And(cs) => some_mentions_fluent(cs, fluent),
         Cond::Or(cs) => some_mentions_fluent(cs, fluent),
-        Cond::Shared(c) => mentions_fluent(c, fluent),
     }
 }
 

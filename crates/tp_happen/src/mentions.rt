@@ -25,7 +25,6 @@ pub(crate) fn push_atoms(cond: &Cond, into: &mut Vec<u32>) -> Result<(), AllocEr
         Cond::Not(c) => push_atoms(c, into),
         Cond::And(cs) => push_atoms_of_each(cs, into),
         Cond::Or(cs) => push_atoms_of_each(cs, into),
-        Cond::Shared(c) => push_atoms(c, into),
     }
 }
 
@@ -76,7 +75,6 @@ fn push_fluents_in(cond: &Cond, into: &mut Vec<u32>) -> Result<(), AllocError>
         Cond::Not(c) => push_fluents_in(c, into),
         Cond::And(cs) => push_fluents_in_each(cs, into),
         Cond::Or(cs) => push_fluents_in_each(cs, into),
-        Cond::Shared(c) => push_fluents_in(c, into),
     }
 }
 

@@ -11,7 +11,6 @@ use Rattle.tp_ast.specs.declared.expr.Expr.{Expr}
 use Rattle.tp_ast.specs.declared.symbols.Typed.{Typed}
 use Rattle.tp_ast.specs.declared.cond.Cond as syntax
 use Rattle.std.specs.Str.{bytes_eq}
-use Rattle.std.specs.declared.rc.Rc.{Rc}
 use Rattle.tp_ast.specs.Terms.{Argument}
 use Rattle.tp_bindings.specs.Bindings.{Universe, Env, object_for}
 use Rattle.tp_task.specs.Tables.{Tables, words_at}
@@ -84,9 +83,6 @@ module _ (t : Tables) where
 
   pub named_Not : (b : Box Cond Global) → named_condition t (conds.Not b) ≡ negation (named_condition t b.value)
   named_Not b = search (rules, conds.the_lemmas)
-
-  pub named_Shared : (r : Rc Cond Global) → named_condition t (conds.Shared r) ≡ named_condition t r.value
-  named_Shared r = search (rules, conds.the_lemmas)
 
   pub named_Atom : (a : ℕ) → named_condition t (conds.Atom a) ≡ atom (words_at t.atoms a)
   named_Atom a = search (rules, conds.the_lemmas)

@@ -31,7 +31,6 @@ named_condition_step t (Cond-F.Compare how x y) =
 named_condition_step t (Cond-F.Not c) = negation c.value
 named_condition_step t (Cond-F.And cs) = all_of (conditions_from cs.items)
 named_condition_step t (Cond-F.Or cs) = any_of (conditions_from cs.items)
-named_condition_step t (Cond-F.Shared c) = c.value
 
 abbrev pub named_condition : Tables → Cond → GroundCondition
 named_condition t = fold-Cond GroundCondition (named_condition_step t)

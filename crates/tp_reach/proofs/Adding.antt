@@ -5,7 +5,7 @@ use Rattle.std.proofs.lemmas.Bool.{and_parts, and_from, or_cases, or_left, or_ri
 use Rattle.std.proofs.lemmas.List.Recursion.{is_count_by}
 use Rattle.std.proofs.Math.Seq.{take-append_seam}
 use Rattle.tp_task.specs.declared.events.Cond.{Cond, Row_of-Cond, end_of-Cond, more_of-Cond}
-use Rattle.tp_task.specs.declared.events.Cond.TheVariants.{Atom, Compare, Not', And', Or', Shared'}
+use Rattle.tp_task.specs.declared.events.Cond.TheVariants.{Atom, Compare, Not', And', Or'}
 use Rattle.tp_task.specs.declared.events.GroundEvent.{GroundEvent}
 use Rattle.tp_task.specs.declared.events.Body.{Body}
 use Rattle.tp_task.specs.declared.events.Body.TheVariants.{Instant, Durative}
@@ -147,7 +147,6 @@ module _ (r o : ℕ → Bool) (sub : (a : ℕ) → r a ≡ true → o a ≡ true
     met_more false (And' shape cs) h = some_more false cs h
     met_more true (Or' shape cs) h = some_more true cs h
     met_more false (Or' shape cs) h = each_more false cs h
-    met_more b (Shared' p c) h = met_more b c h
 
     each_more : {m : _} (b : Bool) (cs : Row_of-Cond m) → each_met r b cs ≡ true → each_met o b cs ≡ true
     each_more b end_of-Cond h = refl

@@ -95,7 +95,6 @@ impl Counters {
             Cond::Not(c) => self.add_condition(c, !positive, above),
             Cond::And(cs) => self.add_parts(cs, positive, positive, above),
             Cond::Or(cs) => self.add_parts(cs, positive, !positive, above),
-            Cond::Shared(c) => self.add_condition(c, positive, above),
         }
     }
 

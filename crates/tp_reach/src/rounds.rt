@@ -1,8 +1,7 @@
 //! What events add: first the actions that counters find, then rounds over all actions until one adds nothing.
 
 ghost use Rattle.std.specs.Prelude.{◌≡◌, length, nat_lt, true, count_by, IfOk, OnOk};
-ghost use Rattle.std.specs.List.{All, list_all};
-ghost use Rattle.tp_task.specs.Fits.{body_fits, event_fits};
+ghost use Rattle.std.specs.List.{list_all};
 ghost use Rattle.tp_task.specs.Reach as spec;
 ghost use Rattle.tp_task.specs.Reach.{IsReach};
 ghost use Rattle.tp_reach.specs.Rounds.{set_of, over, marked, after_event, after_body, after_round, adds_in, adds_fit, acts_of_bodies};
@@ -32,7 +31,6 @@ pub fn met(reach: &[bool], positive: bool, cond: &Cond) -> bool
         Cond::Not(c) => met(reach, !positive, c),
         Cond::And(cs) => are_met(reach, positive, positive, cs),
         Cond::Or(cs) => are_met(reach, positive, !positive, cs),
-        Cond::Shared(c) => met(reach, positive, c),
     }
 }
 

@@ -6,7 +6,7 @@ use Rattle.tp_task.specs.declared.events.Expr.TheVariants.{Number, Fluent, Durat
 use Rattle.tp_task.specs.declared.events.Cond as conds
 use Rattle.tp_task.specs.declared.events.Cond.TheOpen as opened
 use Rattle.tp_task.specs.declared.events.Cond.{Cond, Row_of-Cond, end_of-Cond, more_of-Cond, items-the_row-Cond, items_hidden-the_row-Cond-0}
-use Rattle.tp_task.specs.declared.events.Cond.TheVariants.{Atom, Compare, Not', And', Or', Shared', rolls-And, rolls-Or, rolls-Atom, rolls-Compare, rolls-Not, rolls-Shared}
+use Rattle.tp_task.specs.declared.events.Cond.TheVariants.{Atom, Compare, Not', And', Or', rolls-And, rolls-Or, rolls-Atom, rolls-Compare, rolls-Not}
 use Rattle.tp_task.specs.State.{State, both, negated, value, compares_values, truth, all_true, some_true, has_values, have_values, holds, fluents_of, atoms_in, atoms_in_row, fluents_in, fluents_in_row}
 use Rattle.tp_task.specs.Reach as by_number
 use Rattle.tp_task.specs.Words.{Words}
@@ -42,7 +42,6 @@ as_and (opened.Cond-F.Or v) c e k = absurd (other_kind 2 1 (ap kind (sym (rolls-
 as_and (opened.Cond-F.Atom a) c e k = absurd (other_kind 0 1 (ap kind (sym (rolls-Atom a) ∙ e) ∙ k) refl)
 as_and (opened.Cond-F.Compare how x y) c e k = absurd (other_kind 0 1 (ap kind (sym (rolls-Compare how x y) ∙ e) ∙ k) refl)
 as_and (opened.Cond-F.Not b) c e k = absurd (other_kind 0 1 (ap kind (sym (rolls-Not b) ∙ e) ∙ k) refl)
-as_and (opened.Cond-F.Shared r) c e k = absurd (other_kind 0 1 (ap kind (sym (rolls-Shared r) ∙ e) ∙ k) refl)
 
 as_or : (x : opened.Cond-F Cond) (c : Cond) → conds.roll-Cond x ≡ c → kind c ≡ 2 → (v : Vec Cond Global) × (c ≡ conds.Or v)
 as_or (opened.Cond-F.Or v) c e k = (v, sym e ∙ rolls-Or v)
@@ -50,7 +49,6 @@ as_or (opened.Cond-F.And v) c e k = absurd (other_kind 1 2 (ap kind (sym (rolls-
 as_or (opened.Cond-F.Atom a) c e k = absurd (other_kind 0 2 (ap kind (sym (rolls-Atom a) ∙ e) ∙ k) refl)
 as_or (opened.Cond-F.Compare how x y) c e k = absurd (other_kind 0 2 (ap kind (sym (rolls-Compare how x y) ∙ e) ∙ k) refl)
 as_or (opened.Cond-F.Not b) c e k = absurd (other_kind 0 2 (ap kind (sym (rolls-Not b) ∙ e) ∙ k) refl)
-as_or (opened.Cond-F.Shared r) c e k = absurd (other_kind 0 2 (ap kind (sym (rolls-Shared r) ∙ e) ∙ k) refl)
 
 abbrev IsNamed : Tables → Cond → Type 0
 IsNamed t (And' shape cs) = named_condition t (And' shape cs) ≡ all_of (conditions_from (map (named_condition t) (items-the_row-Cond _ cs)))
@@ -69,7 +67,6 @@ is_named t (Or' shape cs) =
 is_named t (Atom a) = tt
 is_named t (Compare how x y) = tt
 is_named t (Not' p c) = tt
-is_named t (Shared' p c) = tt
 
 module _ (t : Tables) where
   pub is_negative : (p : _) (x : Expr) → named_expression t (Negated' p x) ≡ negative (named_expression t x)
@@ -87,9 +84,6 @@ module _ (t : Tables) where
   is_negation : (p : _) (c : Cond) → named_condition t (Not' p c) ≡ negation (named_condition t c)
   is_negation p c = search (rules, conds.the_lemmas)
 
-  is_shared : (p : _) (c : Cond) → named_condition t (Shared' p c) ≡ named_condition t c
-  is_shared p c = search (rules, conds.the_lemmas)
-
   pub fluents_named : (x : Expr) → map (words_at t.fluents) (fluents_of x) ≡ fluents_from (named_expression t x)
   fluents_named (Number n) = ap fluents_from (sym (named_Number t n))
   fluents_named (Fluent f) = ap fluents_from (sym (named_Fluent t f))
@@ -106,7 +100,6 @@ module _ (t : Tables) where
     atoms_named (Not' p c) = atoms_named c ∙ ap atoms_among (sym (is_negation p c))
     atoms_named (And' shape cs) = all_atoms_named cs ∙ ap atoms_among (sym (is_named t (And' shape cs)))
     atoms_named (Or' shape cs) = all_atoms_named cs ∙ ap atoms_among (sym (is_named t (Or' shape cs)))
-    atoms_named (Shared' p c) = atoms_named c ∙ ap atoms_among (sym (is_shared p c))
 
     all_atoms_named : {m : _} (cs : Row_of-Cond m) → map (words_at t.atoms) (atoms_in_row cs) ≡ atoms_among_all (conditions_from (map (named_condition t) (items-the_row-Cond m cs)))
     all_atoms_named end_of-Cond = refl
@@ -119,7 +112,6 @@ module _ (t : Tables) where
     fluents_in_named (Not' p c) = fluents_in_named c ∙ ap fluents_among (sym (is_negation p c))
     fluents_in_named (And' shape cs) = all_fluents_named cs ∙ ap fluents_among (sym (is_named t (And' shape cs)))
     fluents_in_named (Or' shape cs) = all_fluents_named cs ∙ ap fluents_among (sym (is_named t (Or' shape cs)))
-    fluents_in_named (Shared' p c) = fluents_in_named c ∙ ap fluents_among (sym (is_shared p c))
 
     all_fluents_named : {m : _} (cs : Row_of-Cond m) → map (words_at t.fluents) (fluents_in_row cs) ≡ fluents_among_all (conditions_from (map (named_condition t) (items-the_row-Cond m cs)))
     all_fluents_named end_of-Cond = refl
@@ -139,7 +131,6 @@ module _ (t : Tables) where
       met_named false (And' shape cs) = some_met_named false cs ∙ ap (met reach false) (sym (is_named t (And' shape cs)))
       met_named true (Or' shape cs) = some_met_named true cs ∙ ap (met reach true) (sym (is_named t (Or' shape cs)))
       met_named false (Or' shape cs) = each_met_named false cs ∙ ap (met reach false) (sym (is_named t (Or' shape cs)))
-      met_named b (Shared' p c) = met_named b c ∙ ap (met reach b) (sym (is_shared p c))
 
       each_met_named : {m : _} (b : Bool) (cs : Row_of-Cond m) → by_number.each_met there b cs ≡ each_met reach b (conditions_from (map (named_condition t) (items-the_row-Cond m cs)))
       each_met_named b end_of-Cond = refl
@@ -170,7 +161,6 @@ module _ (t : Tables) (s : WordState) where
     truth_named (Not' p c) = ap not (truth_named c) ∙ ap (truth_in s) (sym (is_negation t p c))
     truth_named (And' shape cs) = all_truths_named cs ∙ ap (truth_in s) (sym (is_named t (And' shape cs)))
     truth_named (Or' shape cs) = some_truths_named cs ∙ ap (truth_in s) (sym (is_named t (Or' shape cs)))
-    truth_named (Shared' p c) = truth_named c ∙ ap (truth_in s) (sym (is_shared t p c))
 
     all_truths_named : {m : _} (cs : Row_of-Cond m) → all_true (seen t s) cs ≡ all_true_in s (conditions_from (map (named_condition t) (items-the_row-Cond m cs)))
     all_truths_named end_of-Cond = refl
@@ -187,7 +177,6 @@ module _ (t : Tables) (s : WordState) where
     has_values_named (Not' p c) = has_values_named c ∙ ap (has_values_in s) (sym (is_negation t p c))
     has_values_named (And' shape cs) = have_values_named cs ∙ ap (has_values_in s) (sym (is_named t (And' shape cs)))
     has_values_named (Or' shape cs) = have_values_named cs ∙ ap (has_values_in s) (sym (is_named t (Or' shape cs)))
-    has_values_named (Shared' p c) = has_values_named c ∙ ap (has_values_in s) (sym (is_shared t p c))
 
     have_values_named : {m : _} (cs : Row_of-Cond m) → have_values (seen t s) cs ≡ have_values_in s (conditions_from (map (named_condition t) (items-the_row-Cond m cs)))
     have_values_named end_of-Cond = refl

@@ -3,7 +3,7 @@ use Rattle.std.proofs.Common.{◌≡◌, ℕ, suc, zero, ◌+◌, ◌<◌, Bool,
 use Rattle.std.specs.List.{list_any}
 use Rattle.std.proofs.lemmas.Bool.{and_parts, and_from, and_cases, or_cases, or_parts, or_left, or_right, not-true, not-false}
 use Rattle.tp_task.specs.declared.events.Cond.{Cond, Row_of-Cond, end_of-Cond, more_of-Cond}
-use Rattle.tp_task.specs.declared.events.Cond.TheVariants.{Atom, Compare, Not', And', Or', Shared'}
+use Rattle.tp_task.specs.declared.events.Cond.TheVariants.{Atom, Compare, Not', And', Or'}
 use Rattle.tp_task.specs.declared.events.GroundEvent.{GroundEvent}
 use Rattle.tp_task.specs.State.{State, truth, all_true, some_true, has_values, holds}
 use Rattle.tp_task.specs.Event.{has}
@@ -23,7 +23,6 @@ module _ (s : State) (reach : ℕ → Bool) (sub : (a : ℕ) → s.atom a ≡ tr
     when_true (Not' p c) h = when_false c (not-true _ h)
     when_true (And' shape cs) h = each_true cs h
     when_true (Or' shape cs) h = some_true_met cs h
-    when_true (Shared' p c) h = when_true c h
 
     when_false : (c : Cond) → truth s c ≡ false → met reach false c ≡ true
     when_false (Atom a) h = refl
@@ -31,7 +30,6 @@ module _ (s : State) (reach : ℕ → Bool) (sub : (a : ℕ) → s.atom a ≡ tr
     when_false (Not' p c) h = when_true c (not-false _ h)
     when_false (And' shape cs) h = some_false cs h
     when_false (Or' shape cs) h = each_false cs h
-    when_false (Shared' p c) h = when_false c h
 
     each_true : {m : _} (cs : Row_of-Cond m) → all_true s cs ≡ true → each_met reach true cs ≡ true
     each_true end_of-Cond h = refl

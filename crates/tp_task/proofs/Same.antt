@@ -4,7 +4,7 @@ use Rattle.std.proofs.lemmas.Bool.{or_parts, or_cases, or_left, or_right}
 use Rattle.tp_task.specs.declared.events.Expr.{Expr}
 use Rattle.tp_task.specs.declared.events.Expr.TheVariants.{Number, Fluent, Duration, Negated', Sum', Difference', Product'}
 use Rattle.tp_task.specs.declared.events.Cond.{Cond, Row_of-Cond, end_of-Cond, more_of-Cond}
-use Rattle.tp_task.specs.declared.events.Cond.TheVariants.{Atom, Compare, Not', And', Or', Shared'}
+use Rattle.tp_task.specs.declared.events.Cond.TheVariants.{Atom, Compare, Not', And', Or'}
 use Rattle.tp_task.specs.State.{State, value, both, negated, compares_values, fluents_of, atoms_in, atoms_in_row, fluents_in, fluents_in_row, truth, all_true, some_true, has_values, have_values, holds, mentions_duration}
 use Rattle.tp_task.specs.Event.{has, meets}
 
@@ -59,7 +59,6 @@ module _ (s s' : State) where
     truth_same (Not' p c) h k = ap not (truth_same c h k)
     truth_same (And' shape cs) h k = all_same cs h k
     truth_same (Or' shape cs) h k = some_same cs h k
-    truth_same (Shared' p c) h k = truth_same c h k
 
     all_same : {m : _} (cs : Row_of-Cond m) → SameAtoms s s' (atoms_in_row cs) → SameNumbers s s' (fluents_in_row cs) → all_true s cs ≡ all_true s' cs
     all_same end_of-Cond h k = refl
@@ -76,7 +75,6 @@ module _ (s s' : State) where
     has_values_same (Not' p c) k = has_values_same c k
     has_values_same (And' shape cs) k = have_values_same cs k
     has_values_same (Or' shape cs) k = have_values_same cs k
-    has_values_same (Shared' p c) k = has_values_same c k
 
     have_values_same : {m : _} (cs : Row_of-Cond m) → SameNumbers s s' (fluents_in_row cs) → have_values s cs ≡ have_values s' cs
     have_values_same end_of-Cond k = refl

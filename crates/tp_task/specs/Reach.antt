@@ -1,7 +1,7 @@
 -- The relaxed reach: what can be added if negated atoms and comparisons count as met.
 use Rattle.std.specs.Prelude.{◌≡◌, ℕ, Bool, true, false, not, ◌&&◌, ◌||◌, List}
 use Rattle.tp_task.specs.declared.events.Cond.{Cond, Row_of-Cond, end_of-Cond, more_of-Cond}
-use Rattle.tp_task.specs.declared.events.Cond.TheVariants.{Atom, Compare, Not', And', Or', Shared'}
+use Rattle.tp_task.specs.declared.events.Cond.TheVariants.{Atom, Compare, Not', And', Or'}
 use Rattle.tp_task.specs.declared.events.GroundEvent.{GroundEvent}
 use Rattle.tp_task.specs.State.{State}
 use Rattle.tp_task.specs.Event.{has}
@@ -18,7 +18,6 @@ abbrev mutual
   met reach false (And' shape cs) = some_met reach false cs
   met reach true (Or' shape cs) = some_met reach true cs
   met reach false (Or' shape cs) = each_met reach false cs
-  met reach b (Shared' p c) = met reach b c
 
   pub each_met : {m : _} → (ℕ → Bool) → Bool → Row_of-Cond m → Bool
   each_met reach b end_of-Cond = true

@@ -6,7 +6,7 @@ use Rattle.tp_task.specs.declared.events.Comparison.TheVariants.{Less, AtMost, E
 use Rattle.tp_task.specs.declared.events.Expr.{Expr}
 use Rattle.tp_task.specs.declared.events.Expr.TheVariants.{Number, Fluent, Duration, Negated', Sum', Difference', Product'}
 use Rattle.tp_task.specs.declared.events.Cond.{Cond, Row_of-Cond, end_of-Cond, more_of-Cond}
-use Rattle.tp_task.specs.declared.events.Cond.TheVariants.{Atom, Compare, Not', And', Or', Shared'}
+use Rattle.tp_task.specs.declared.events.Cond.TheVariants.{Atom, Compare, Not', And', Or'}
 
 -- Which atoms are true, and the number of each fluent that has one.
 pub record State : Type 0 where
@@ -78,7 +78,6 @@ abbrev mutual
   atoms_in (Not' p c) = atoms_in c
   atoms_in (And' shape cs) = atoms_in_row cs
   atoms_in (Or' shape cs) = atoms_in_row cs
-  atoms_in (Shared' p c) = atoms_in c
 
   pub atoms_in_row : {m : _} → Row_of-Cond m → List ℕ
   atoms_in_row end_of-Cond = []
@@ -91,7 +90,6 @@ abbrev mutual
   fluents_in (Not' p c) = fluents_in c
   fluents_in (And' shape cs) = fluents_in_row cs
   fluents_in (Or' shape cs) = fluents_in_row cs
-  fluents_in (Shared' p c) = fluents_in c
 
   pub fluents_in_row : {m : _} → Row_of-Cond m → List ℕ
   fluents_in_row end_of-Cond = []
@@ -105,7 +103,6 @@ abbrev mutual
   truth s (Not' p c) = not (truth s c)
   truth s (And' shape cs) = all_true s cs
   truth s (Or' shape cs) = some_true s cs
-  truth s (Shared' p c) = truth s c
 
   pub all_true : {m : _} → State → Row_of-Cond m → Bool
   all_true s end_of-Cond = true
@@ -123,7 +120,6 @@ abbrev mutual
   has_values s (Not' p c) = has_values s c
   has_values s (And' shape cs) = have_values s cs
   has_values s (Or' shape cs) = have_values s cs
-  has_values s (Shared' p c) = has_values s c
 
   pub have_values : {m : _} → State → Row_of-Cond m → Bool
   have_values s end_of-Cond = true

@@ -1,7 +1,5 @@
 //! Conditions, expressions, effects and events as data.
 
-use std::rc::Rc;
-
 /// The greatest magnitude of a number, 10^15.
 pub const GREATEST_NUMBER: u64 = 1_000_000_000_000_000;
 
@@ -35,8 +33,6 @@ pub enum Cond {
     Not(Box<Cond>),
     And(Vec<Cond>),
     Or(Vec<Cond>),
-    /// A condition that others may share.
-    Shared(Rc<Cond>),
 }
 
 /// The assignment operator of a numeric effect.
