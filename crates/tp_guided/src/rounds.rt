@@ -21,7 +21,13 @@ pub struct Round {
 #[derive(Clone, Copy)]
 pub struct Rounds {
     number: u32,
+    /// How many nodes the next round of a search for a better plan expands at most.
     length: u32,
+    /// The place in the sequence of Luby, Sinclair and Zuckerman, 1 1 2 1 1 2 4 1 .., by which the
+    /// rounds of a search for any plan are as many times as long as the first: its factor there,
+    /// and how many factors of 1 there were up to it.
+    factor: u32,
+    ones: u32,
     empty: u32,
 }
 
@@ -39,14 +45,21 @@ impl Rounds {
         Rounds {
             number: 0,
             length: FIRST_LENGTH,
+            factor: 1,
+            ones: 1,
             empty: 0,
         }
     }
 
     /// The next round of a search for any plan, or for one that is better than one that was found.
     pub fn next(&self, left: u32, bound: u32, better: bool) -> Round {
+        let length = if better {
+            self.length
+        } else {
+            self.factor.saturating_mul(FIRST_LENGTH)
+        };
         Round {
-            budget: self.length.min(left),
+            budget: length.min(left),
             bound,
             seed: u64::from(self.number),
             vary: self.number % 4 >= 2,
@@ -65,12 +78,21 @@ impl Rounds {
         self.empty = 0;
     }
 
-    // How many nodes the round after one that found no plan expands at most.
-    fn next_length(&self, better: bool) -> u32 {
-        if !better || self.number % 4 == 3 {
-            self.length.saturating_mul(2)
+    // A round for a better plan found none: each fourth time the next ones are twice as long.
+    fn lengthen(&mut self) {
+        if self.number % 4 == 3 {
+            self.length = self.length.saturating_mul(2);
+        }
+    }
+
+    // A round for any plan found none: the next factor is twice the last one, or 1 again once it is
+    // the greatest power of 2 that divides the count of ones.
+    fn step(&mut self) {
+        if self.ones & self.ones.wrapping_neg() == self.factor {
+            self.ones = self.ones.saturating_add(1);
+            self.factor = 1;
         } else {
-            self.length
+            self.factor = self.factor.saturating_mul(2);
         }
     }
 
@@ -87,7 +109,11 @@ impl Rounds {
         } else {
             empty && self.number >= FIRST_TO_END
         };
-        self.length = self.next_length(better);
+        if better {
+            self.lengthen();
+        } else {
+            self.step();
+        }
         self.number = self.number.saturating_add(1);
         ends
     }
