@@ -56,7 +56,7 @@ shows held w task (Valid plan) before now valid judged told =
       steps = judged.0;
       net = net;
       named = judged.1;
-      is_net = subst (λ (l : RunLimits). IsPlanNetOf task judged.0 l net) judged.1.of_task.task_of.same_limits
+      is_net = subst (λ (l : RunLimits). IsPlanNetOf task judged.0 l net) judged.1.task_of.same_limits
           (subst (λ (s : List Step). IsPlanNetOf task s task.limits net) judged.2.1 (subst (λ (t : Task). IsPlanNetOf t plan.steps task.limits net) judged.2.0 told.1.1));
       written = told.1.2;
     })
@@ -72,7 +72,7 @@ stops_shown held w task (Valid plan) before now (Network fault) judged told = (
   judged.1,
   (
     judged.2.2,
-    subst (λ (l : RunLimits). OnTooMany fault (PassesLimits l task judged.0)) judged.1.of_task.task_of.same_limits
+    subst (λ (l : RunLimits). OnTooMany fault (PassesLimits l task judged.0)) judged.1.task_of.same_limits
         (subst (λ (s : List Step). OnTooMany fault (PassesLimits task.limits task s)) judged.2.1
         (subst (λ (t : Task). OnTooMany fault (PassesLimits task.limits t plan.steps)) judged.2.0 told.0)),
   ),
@@ -83,7 +83,7 @@ stops_shown held w task (Valid plan) before now Write judged told = (
   judged.0,
   told.0,
   judged.1,
-  inl (subst (λ (l : RunLimits). TellsNetwork task judged.0 l told.0) judged.1.of_task.task_of.same_limits
+  inl (subst (λ (l : RunLimits). TellsNetwork task judged.0 l told.0) judged.1.task_of.same_limits
       (subst (λ (s : List Step). TellsNetwork task s task.limits told.0) judged.2.1 (subst (λ (t : Task). TellsNetwork t plan.steps task.limits told.0) judged.2.0 told.1))),
   told.2,
 )
