@@ -364,7 +364,7 @@ def accidents(program):
     wide = f"{head} (:action a :parameters ({each('?x#', 20_000)}) :precondition (and {each('(p ?x#)', 20_000)}) :effect (g)))"
     long = f"(define (domain d) (:predicates {each('(q#)', 30_000)} (g)) (:action a :precondition (and {each('(q#)', 30_000)} {each('(q#)', 30_000)}) :effect (g)))"
     climb = " ".join(f"t{k} - t{k + 1}" for k in range(2_000))
-    climbed = f"(define (domain d) (:types {climb} - object) (:constants c - t0) (:predicates (p ?x - t2000)) (:action a :precondition (and {'(p c) ' * 2_000}) :effect ()))"
+    climbed = f"(define (domain d) (:types {climb} t2000 - object) (:constants c - t0) (:predicates (p ?x - t2000)) (:action a :precondition (and {'(p c) ' * 2_000}) :effect ()))"
     facts = f"(define (problem q) (:domain d) (:objects {each('o#', 59_000)}) (:init {each('(p o#)', 59_000)}) (:goal ()))"
     cases = (
         ("a type list of 45,000", (types, none, "")),
