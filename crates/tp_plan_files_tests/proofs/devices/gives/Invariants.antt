@@ -1,4 +1,4 @@
-use Rattle.tp_plan_search_tests.proofs.devices.gives.Given as goal
+use Rattle.tp_plan_files_tests.proofs.devices.gives.Given as goal
 
 abbrev pub ghosts-status-O-Ledger : goal.ghosts-status-O-Ledger
 ghosts-status-O-Ledger a = record { name = a.writes.name; parts = a.writes.parts }
