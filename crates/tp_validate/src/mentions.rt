@@ -19,7 +19,8 @@ fn atom_set(alloc: Global, invariant: &Cond) -> Result<NumberSet, AllocError>
 }
 
 fn fluent_set(alloc: Global, invariant: &Cond) -> Result<NumberSet, AllocError>
-    ensures { IfOk result (λ s. (x : ℕ) → has_number s x ≡ has (fluents_in invariant.now) x) }
+    ensures { IfOk result (λ s. (x : ℕ) →
+        has_number s x ≡ has (fluents_in invariant.now) x) }
 {
     let fluents = fluents_of(alloc, invariant)?;
     NumberSet::of(alloc, &fluents)
@@ -27,7 +28,8 @@ fn fluent_set(alloc: Global, invariant: &Cond) -> Result<NumberSet, AllocError>
 
 /// The atoms that it mentions, none of an instantaneous action.
 pub fn invariant_atoms(alloc: Global, body: &Body) -> Result<NumberSet, AllocError>
-    ensures { IfOk result (λ s. (x : ℕ) → has_number s x ≡ has (invariant_atoms body.now) x) }
+    ensures { IfOk result (λ s. (x : ℕ) →
+        has_number s x ≡ has (invariant_atoms body.now) x) }
 {
     match body {
         Body::Instant(_) => Ok(NumberSet::new(alloc)),
@@ -37,7 +39,8 @@ pub fn invariant_atoms(alloc: Global, body: &Body) -> Result<NumberSet, AllocErr
 
 /// The fluents that it mentions.
 pub fn invariant_fluents(alloc: Global, body: &Body) -> Result<NumberSet, AllocError>
-    ensures { IfOk result (λ s. (x : ℕ) → has_number s x ≡ has (invariant_fluents body.now) x) }
+    ensures { IfOk result (λ s. (x : ℕ) →
+        has_number s x ≡ has (invariant_fluents body.now) x) }
 {
     match body {
         Body::Instant(_) => Ok(NumberSet::new(alloc)),
