@@ -20,7 +20,6 @@ use Rattle.tp_plan_checks.specs.declared.judgements.Judgement.TheVariants as jud
 use Rattle.tp_plan_files.specs.Named.{IsNamedPlan}
 use Rattle.tp_plan_files.specs.VerdictLines.{invalid_line}
 use Rattle.tp_plan_files.specs.declared.plan_words.PlanWords.{PlanWords}
-use Rattle.tp_plan_files.proofs.NamedLemmas.{Same, explains_over, plan_over}
 use Rattle.tp_plan_runs.proofs.StatusLemmas.{IsStatus, judge_is, network_is, three}
 use Rattle.tp_program.specs.Checks.{IsVerdictLine, Says, StopsCheck, StopsLine, TellsJudgement}
 use Rattle.tp_program.specs.Networks.{Shows, ShowsVerdict, StopsNet, StopsShown, TellsNetwork}
@@ -90,43 +89,6 @@ stops_shown held w task (Valid plan) before now Write judged told = (
 stops_shown held w task (Invalid plan tick why) before now stop judged told =
     subst (StopsNet held w before now) (sym told.0)
     (task, judged.0, invalid_line tick why, judged.1, inr (tick, why, judged.2.1, judged.2.2, refl), told.1)
-
--- ---- the same of files that hold the same
-
-pub says_over : (a b : List ℕ → Option (List ℕ)) (w : PlanWords) (before now : Option (List ℕ)) (valid : Bool) → Same a b → Says a w before now valid → Says b w before now valid
-says_over a b w before now true same h =
-    record { task = h.task; steps = h.steps; named = plan_over a b w h.task h.steps same h.named; valid = h.valid; written = h.written }
-says_over a b w before now false same h =
-    record {
-      task = h.task;
-      steps = h.steps;
-      tick = h.tick;
-      why = h.why;
-      named = plan_over a b w h.task h.steps same h.named;
-      first = h.first;
-      invalid = h.invalid;
-      written = h.written;
-    }
-
-pub shows_over : (a b : List ℕ → Option (List ℕ)) (w : PlanWords) (before now : Option (List ℕ)) (valid : Bool) → Same a b → Shows a w before now valid → Shows b w before now valid
-shows_over a b w before now true same h =
-    record { task = h.task; steps = h.steps; net = h.net; named = plan_over a b w h.task h.steps same h.named; is_net = h.is_net; written = h.written }
-shows_over a b w before now false same h =
-    record {
-      task = h.task;
-      steps = h.steps;
-      tick = h.tick;
-      why = h.why;
-      named = plan_over a b w h.task h.steps same h.named;
-      first = h.first;
-      invalid = h.invalid;
-      written = h.written;
-    }
-
-pub stops_over : (tells : Task → List Step → List ℕ → Type 0) (passes : Task → List Step → DeorderFault → Type 0) (a b : List ℕ → Option (List ℕ)) (w : PlanWords) (before now : Option (List ℕ)) (stop : PlanStop) → Same a b → StopsOn tells passes a w before now stop → StopsOn tells passes b w before now stop
-stops_over tells passes a b w before now (Judging fault) same h = (explains_over a b w fault same h.0, h.1)
-stops_over tells passes a b w before now (Network fault) same h = (h.0, h.1, plan_over a b w h.0 h.1 same h.2, h.3, h.4)
-stops_over tells passes a b w before now Write same h = (h.0, h.1, h.2, plan_over a b w h.0 h.1 same h.3, h.4, h.5)
 
 -- ---- what was written by then
 
