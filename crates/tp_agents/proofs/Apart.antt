@@ -1,11 +1,11 @@
 -- Executives that share nothing.
 use Rattle.std.proofs.Common.{◌≡◌, ℕ, Bool, true, false, cond, nat_eq, List, [], ◌∷◌, refl, sym, subst}
 use Rattle.std.proofs.lemmas.Bool.{eqb-true}
-use Rattle.tp_machine.specs.declared.command.Command.{Command}
-use Rattle.tp_machine.specs.declared.command.Answer.{Answer}
-use Rattle.tp_machine.specs.Machine.{Machine}
-use Rattle.tp_machine.specs.Step.{Step}
-use Rattle.tp_machine.specs.Run.{Run}
+use Rattle.tp_exec_machine.specs.declared.command.Command.{Command}
+use Rattle.tp_exec_machine.specs.declared.command.Answer.{Answer}
+use Rattle.tp_exec_machine.specs.Machine.{Machine}
+use Rattle.tp_exec_machine.specs.Step.{Step}
+use Rattle.tp_exec_machine.specs.Run.{Run}
 use Rattle.tp_agents.specs.Interleaved.{with_state, JointRun, commands_of, answers_of}
 
 -- a step of one executive is the next of its own run, and none of another's

@@ -18,7 +18,7 @@ use Rattle.tp_bounds.specs.Setting.{Setting, event_count, HasPoint, IsInRange}
 use Rattle.tp_bounds.specs.Lawful.{IsLawful}
 use Rattle.tp_bounds.specs.Changes.{fresh, with_bound}
 use Rattle.tp_net.proofs.Laws.{get_inserted, get_insert_other}
-use Rattle.tp_machine.specs.Partly.{IsPartly, Joins}
+use Rattle.tp_exec_machine.specs.Partly.{IsPartly, Joins}
 use Rattle.tp_agents.specs.declared.fault.SplitFault.{SplitFault}
 use Rattle.tp_agents.specs.declared.fault.SplitFault.TheVariants.{Memory, Owner, Conflict}
 use Rattle.tp_agents.specs.Splits.{IsUnbegun}

@@ -1,6 +1,6 @@
 -- Whether runs are joined.
 use Rattle.std.proofs.Common.{◌≡◌, ℕ, ◌<◌, ◌≤◌, List, length, get_or, arith}
-use Rattle.tp_machine.specs.declared.command.Report.{Report}
+use Rattle.tp_exec_machine.specs.declared.command.Report.{Report}
 use Rattle.tp_agents.specs.Owners.{agent_count}
 use Rattle.tp_agents.specs.Joined.{IsComplete, AreComplete}
 

@@ -13,7 +13,7 @@ use Rattle.tp_bounds.specs.Lawful.{IsLawful}
 use Rattle.tp_bounds.specs.OwnBounds.{MeetsEach, IsWithin}
 use Rattle.tp_bounds.specs.Certificates.{moments_of, IsListedSchedule}
 use Rattle.tp_bounds.proofs.Schedules.{is_schedule, schedule_is}
-use Rattle.tp_machine.specs.declared.command.Report.{Report}
+use Rattle.tp_exec_machine.specs.declared.command.Report.{Report}
 use Rattle.tp_agents.specs.declared.crosses.CrossBound.{CrossBound}
 use Rattle.tp_agents.specs.Owners.{owner_of, agent_count, events_of, place_of}
 use Rattle.tp_agents.specs.Crosses.{cross_between, cross_of}

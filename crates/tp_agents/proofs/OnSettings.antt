@@ -16,7 +16,7 @@ use Rattle.tp_bounds.specs.Lawful.{Suits, IsLawful}
 use Rattle.tp_bounds.specs.Changes.{with_bound, proposing}
 use Rattle.tp_bounds.specs.Certificates.{moments_of}
 use Rattle.tp_bounds.specs.Reasons.{at_most, at_least, is_open, bound_of, AreBounds}
-use Rattle.tp_machine.proofs.Least.{IsLeastBelow}
+use Rattle.tp_exec_machine.proofs.Least.{IsLeastBelow}
 use Rattle.tp_net.specs.Faults.{Refutes, IsNew}
 use Rattle.tp_net.proofs.Laws.{get_inserted, get_insert_other}
 use Rattle.tp_agents.specs.Splits.{IsUnbegun, AreLeast}

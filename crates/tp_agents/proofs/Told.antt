@@ -2,7 +2,7 @@
 use Rattle.std.proofs.Common.{◌≡◌, ℕ, ◌+◌, ◌<◌, inl, inr, Bool, List, [], ◌∷◌, ◌++◌, length, get_or, slice_get, Some, option_map, refl, sym, ap, ◌∙◌, arith}
 use Rattle.std.proofs.lemmas.Bool.{cases_eq}
 use Rattle.std.proofs.lemmas.Option.{slice_get-map, slice_get_read}
-use Rattle.tp_machine.specs.declared.command.Report.{Report}
+use Rattle.tp_exec_machine.specs.declared.command.Report.{Report}
 use Rattle.tp_agents.specs.Owners.{owner_of, place_of}
 use Rattle.tp_agents.specs.Joined.{moments_told, told_at}
 use Rattle.tp_agents.proofs.Lists.{slice_get_last, slice_get_front}

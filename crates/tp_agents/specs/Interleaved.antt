@@ -1,10 +1,10 @@
 -- Executives that share nothing, and take commands in whatever order these come in.
 use Rattle.std.specs.Prelude.{◌≡◌, ℕ, nat_eq, if◌then◌else◌, List, [], ◌∷◌}
-use Rattle.tp_machine.specs.declared.command.Command.{Command}
-use Rattle.tp_machine.specs.declared.command.Answer.{Answer}
-use Rattle.tp_machine.specs.Machine.{Machine}
-use Rattle.tp_machine.specs.Step.{Step}
-use Rattle.tp_machine.specs.Run.{Run}
+use Rattle.tp_exec_machine.specs.declared.command.Command.{Command}
+use Rattle.tp_exec_machine.specs.declared.command.Answer.{Answer}
+use Rattle.tp_exec_machine.specs.Machine.{Machine}
+use Rattle.tp_exec_machine.specs.Step.{Step}
+use Rattle.tp_exec_machine.specs.Run.{Run}
 
 -- the states of all agents' executives after that of one has changed
 abbrev pub with_state : (ℕ → Machine) → ℕ → Machine → ℕ → Machine

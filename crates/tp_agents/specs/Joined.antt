@@ -1,8 +1,8 @@
 -- The runs of all agents, joined.
 use Rattle.std.specs.Prelude.{◌≡◌, ℕ, ◌<◌, List, length, map, slice_get, Option, Some, None, IsTrue}
 use Rattle.std.specs.List.{All}
-use Rattle.tp_machine.specs.declared.command.Kind.TheVariants.{Kept}
-use Rattle.tp_machine.specs.declared.command.Report.{Report}
+use Rattle.tp_exec_machine.specs.declared.command.Kind.TheVariants.{Kept}
+use Rattle.tp_exec_machine.specs.declared.command.Report.{Report}
 use Rattle.tp_bounds.specs.Setting.{Setting}
 use Rattle.tp_agents.specs.Owners.{owner_of, place_of, agent_count, events_of}
 use Rattle.tp_agents.specs.Parts.{IsPartSchedule}

@@ -2,7 +2,7 @@
 use Rattle.std.specs.Prelude.{◌≡◌, ℕ, List, length, Option, None}
 use Rattle.tp_bounds.specs.Setting.{Setting, event_count, fixed_at}
 use Rattle.tp_bounds.specs.Certificates.{moments_of}
-use Rattle.tp_machine.specs.Step.{IsLeastSchedule}
+use Rattle.tp_exec_machine.specs.Step.{IsLeastSchedule}
 use Rattle.tp_agents.specs.Owners.{AreOwners}
 use Rattle.tp_agents.specs.Crosses.{crosses_of}
 use Rattle.tp_agents.specs.Intervals.{AreIntervals}

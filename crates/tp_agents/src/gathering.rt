@@ -5,14 +5,14 @@ ghost use Rattle.std.specs.FinMap as finite;
 ghost use Rattle.tp_bounds.specs.Setting.{event_count, HasPoint, IsInRange};
 ghost use Rattle.tp_bounds.specs.Schedule.{HasSchedule};
 ghost use Rattle.tp_bounds.specs.Changes.{fresh, with_bound};
-ghost use Rattle.tp_machine.specs.Partly.{IsPartly, Joins};
+ghost use Rattle.tp_exec_machine.specs.Partly.{IsPartly, Joins};
 ghost use Rattle.tp_agents.specs.Splits.{IsUnbegun, AreLeast};
 ghost use Rattle.tp_agents.specs.Answers.{as_own, IsContradicted};
 
 use crate::fault::SplitFault;
 use std::alloc::{AllocError, Global};
 use tp_bounds::{Bound, BoundId, Edge, Reason, Setting};
-use tp_machine::foremost;
+use tp_exec_machine::foremost;
 use tp_net::{Net, NetFault};
 use tp_repair::RepairNet;
 

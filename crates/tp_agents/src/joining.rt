@@ -2,14 +2,14 @@
 
 ghost use Rattle.std.specs.Prelude.{◌≡◌, ◌↔◌, ℕ, ◌<◌, length, IsTrue, IfOk, IfSome, option_map};
 ghost use Rattle.tp_bounds.specs.Certificates.{IsListedSchedule};
-ghost use Rattle.tp_machine.specs.declared.command.Report.{Report};
+ghost use Rattle.tp_exec_machine.specs.declared.command.Report.{Report};
 ghost use Rattle.tp_agents.specs.Owners.{agent_count, events_of, AreOwners};
 ghost use Rattle.tp_agents.specs.Joined.{IsComplete, AreComplete, FitParts, AreJoined, Joins, KeepParts};
 
 use crate::divided::Split;
 use crate::owners::place;
 use std::alloc::{AllocError, Global};
-use tp_machine::{Kind, Report};
+use tp_exec_machine::{Kind, Report};
 
 /// Whether every event of a part is dispatched and all its own bounds are in force.
 fn is_complete(report: &Report) -> bool

@@ -9,8 +9,8 @@ use std::alloc::{AllocError, Global};
 use std::test::Fail;
 use tp_agents::{Split, join_runs, part};
 use tp_bounds::{BoundId, Limits, MOST_BOUNDS, PlanNet, check_schedule};
-use tp_machine::Command::{Advance, Dispatch, Withdraw};
-use tp_machine::{Answer, Command, Executive, Refusal, Report, perform};
+use tp_exec_machine::Command::{Advance, Dispatch, Withdraw};
+use tp_exec_machine::{Answer, Command, Executive, Refusal, Report, perform};
 use tp_net::Net;
 use tp_repair::RepairNet;
 

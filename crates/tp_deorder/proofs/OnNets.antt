@@ -14,7 +14,7 @@ use Rattle.tp_task.specs.Bounds.{In, MeetsBounds}
 use Rattle.tp_task.proofs.Sound.{without_fault}
 use Rattle.tp_task.proofs.Retimed.{retimed_run}
 use Rattle.tp_task.proofs.Own.{own_bounds}
-use Rattle.tp_happen.specs.tp_plan_texts.declared.plans.Step.{Step}
+use Rattle.tp_happen.specs.tp_plan_text.declared.plans.Step.{Step}
 use Rattle.tp_validate.specs.OfTask.{scale_of, begin, plan_of, state_at}
 use Rattle.tp_validate.specs.Verdict.{IsSound}
 use Rattle.tp_validate.proofs.Numbers.{IsNumbered, numbered}

@@ -12,7 +12,7 @@ use Rattle.tp_task.specs.declared.task.Task.{Task}
 use Rattle.tp_task.specs.Words.{Words}
 use Rattle.tp_task.specs.Tables.{words_at}
 use Rattle.tp_task.specs.Valid.{Planned, count_of}
-use Rattle.tp_happen.specs.tp_plan_texts.declared.plans.Step.{Step}
+use Rattle.tp_happen.specs.tp_plan_text.declared.plans.Step.{Step}
 use Rattle.tp_validate.specs.OfTask.{step_of, planned, plan_of}
 use Rattle.tp_validate.proofs.Planning.{planned_few}
 use Rattle.tp_deorder.specs.Answers.{IsNetOf, IsPlanNetOf, own_ticks, bounds_in}

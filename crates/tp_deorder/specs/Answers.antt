@@ -4,7 +4,7 @@ use Rattle.tp_bounds.specs.declared.Bound.{Bound}
 use Rattle.tp_bounds.specs.Schedule.{IsSchedule}
 use Rattle.tp_task.specs.declared.task.Task.{Task}
 use Rattle.tp_task.specs.Bounds.{MeetsBounds}
-use Rattle.tp_happen.specs.tp_plan_texts.declared.plans.Step.{Step}
+use Rattle.tp_happen.specs.tp_plan_text.declared.plans.Step.{Step}
 use Rattle.tp_validate.specs.OfTask.{scale_of, plan_of, state_at, IsValidPlan}
 use Rattle.tp_deorder.specs.RunPlans.{run_steps}
 use Rattle.std.specs.List.{All}

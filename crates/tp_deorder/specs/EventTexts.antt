@@ -5,7 +5,7 @@ use Rattle.tp_task.specs.declared.events.Body.TheVariants.{Instant, Durative}
 use Rattle.tp_task.specs.declared.task.Task.{Task}
 use Rattle.tp_task.specs.Words.{Words, text_of_words}
 use Rattle.tp_task.specs.Tables.{words_at}
-use Rattle.tp_happen.specs.tp_plan_texts.declared.plans.Step.{Step}
+use Rattle.tp_happen.specs.tp_plan_text.declared.plans.Step.{Step}
 
 -- a word, the number of the step, and its action
 abbrev pub event_line : List ℕ → ℕ → Words → List ℕ

@@ -6,7 +6,7 @@ ghost use Rattle.tp_task.specs.Fits.{body_fits};
 ghost use Rattle.tp_task.specs.Valid.{events, at};
 ghost use Rattle.tp_task.specs.Verdict.{states, fault_at, last_moment};
 ghost use Rattle.tp_happen.specs.Bounded.{StaysSmall};
-ghost use Rattle.tp_happen.specs.tp_plan_texts.Steps.{IsPlan};
+ghost use Rattle.tp_happen.specs.tp_plan_text.Steps.{IsPlan};
 ghost use Rattle.tp_validate.specs.Verdict.{IsSound};
 ghost use Rattle.tp_validate.specs.OfTask.{scale_of, begin, plan_of};
 ghost use Rattle.tp_deorder.specs.Spans.{plan_ticks};

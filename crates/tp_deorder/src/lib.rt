@@ -16,7 +16,7 @@ ghost use Rattle.tp_task.specs.State.{State};
 ghost use Rattle.tp_task.specs.Valid.{Planned};
 ghost use Rattle.tp_task.specs.Bounds.{MeetsBounds, retimed};
 ghost use Rattle.tp_task.specs.declared.task.Task.{Task};
-ghost use Rattle.tp_happen.specs.tp_plan_texts.declared.plans.Step.{Step};
+ghost use Rattle.tp_happen.specs.tp_plan_text.declared.plans.Step.{Step};
 ghost use Rattle.tp_validate.specs.OfTask.{plan_of};
 ghost use Rattle.tp_deorder.specs.RunPlans.{run_steps};
 ghost use Rattle.tp_bounds.specs.Schedule.{IsSchedule};

@@ -16,9 +16,9 @@ use Rattle.tp_deorder.specs.tp_task.Valid.{Planned, IsValid, IsValidRun}
 use Rattle.tp_deorder.specs.tp_task.Bounds.{MeetsBounds}
 use Rattle.tp_deorder.proofs.Sound.{without_fault}
 use Rattle.tp_deorder.proofs.Retimed.{retimed_run}
-use Rattle.tp_deorder.specs.tp_happen.tp_plan_texts.declared.plans.Step.{Step}
-use Rattle.tp_deorder.specs.tp_happen.tp_plan_texts.Steps.{IsPlan, ends_in_time}
-use Rattle.tp_deorder.specs.tp_happen.tp_plan_texts.TaskWords.{is_durative}
+use Rattle.tp_deorder.specs.tp_happen.tp_plan_text.declared.plans.Step.{Step}
+use Rattle.tp_deorder.specs.tp_happen.tp_plan_text.Steps.{IsPlan, ends_in_time}
+use Rattle.tp_deorder.specs.tp_happen.tp_plan_text.TaskWords.{is_durative}
 use Rattle.tp_deorder.specs.tp_validate.OfTask.{IsOfTask, is_step_of, step_of, planned, scale_of, begin, plan_of, state_at, IsValidPlan}
 use Rattle.tp_deorder.specs.tp_validate.Verdict.{IsSound}
 use Rattle.tp_deorder.specs.Answers.{IsPlanNetOf, own_ticks}
@@ -26,15 +26,15 @@ use Rattle.tp_deorder.specs.Inequalities.{event_count_of}
 use Rattle.tp_deorder.specs.EventTexts.{has_two}
 use Rattle.tp_deorder.specs.RunPlans.{moved_step, count_or_none, moved_from, run_steps}
 use Rattle.tp_deorder.proofs.OnRunPlans.{moved_is}
-use Rattle.tp_machine.specs.declared.command.Kind.TheVariants.{Kept}
-use Rattle.tp_machine.specs.declared.command.Command.{Command}
-use Rattle.tp_machine.specs.declared.command.Answer.{Answer}
-use Rattle.tp_machine.specs.Machine.{Machine, IsFresh, plan_machine}
-use Rattle.tp_machine.specs.Run.{Run}
-use Rattle.tp_machine.specs.OwnBounds.{IsDone, moment_or_zero, dispatched_at, AreDispatched}
+use Rattle.tp_exec_machine.specs.declared.command.Kind.TheVariants.{Kept}
+use Rattle.tp_exec_machine.specs.declared.command.Command.{Command}
+use Rattle.tp_exec_machine.specs.declared.command.Answer.{Answer}
+use Rattle.tp_exec_machine.specs.Machine.{Machine, IsFresh, plan_machine}
+use Rattle.tp_exec_machine.specs.Run.{Run}
+use Rattle.tp_exec_machine.specs.OwnBounds.{IsDone, moment_or_zero, dispatched_at, AreDispatched}
 use Rattle.tp_bounds.specs.Lawful.{IsLawful}
 use Rattle.tp_exec.specs.FromPlan.{CameFrom, TellsSteps, TellsPlan}
-use Rattle.tp_machine.proofs.Keeping.{IsUnderWay, done_as_wanted, run_keeps, run_under_way}
+use Rattle.tp_exec_machine.proofs.Keeping.{IsUnderWay, done_as_wanted, run_keeps, run_under_way}
 use Rattle.tp_exec.proofs.OwnSchedules.{start_keeps, start_under_way}
 
 -- ---- the steps of a run

@@ -10,14 +10,14 @@ use Rattle.tp_bounds.specs.Schedule.{IsSchedule, HasSchedule}
 use Rattle.tp_bounds.specs.OwnBounds.{with_bounds, setting_of, IsWithin, MeetsEach}
 use Rattle.tp_bounds.proofs.Numbering.{in_force_each, others_stay}
 use Rattle.tp_bounds.proofs.Schedules.{is_schedule, schedule_is}
-use Rattle.tp_machine.specs.declared.command.Kind.TheVariants.{Kept}
-use Rattle.tp_machine.specs.declared.command.Command.{Command}
-use Rattle.tp_machine.specs.declared.command.Answer.{Answer}
-use Rattle.tp_machine.specs.Machine.{Machine, IsFresh, plan_machine}
-use Rattle.tp_machine.specs.Run.{Run}
-use Rattle.tp_machine.specs.OwnBounds.{KeepsTo, MeetsOwn}
-use Rattle.tp_machine.proofs.OwnBounds.{unused_behind, same_events, schedule_with}
-use Rattle.tp_machine.proofs.Keeping.{IsUnderWay, run_keeps, run_under_way}
+use Rattle.tp_exec_machine.specs.declared.command.Kind.TheVariants.{Kept}
+use Rattle.tp_exec_machine.specs.declared.command.Command.{Command}
+use Rattle.tp_exec_machine.specs.declared.command.Answer.{Answer}
+use Rattle.tp_exec_machine.specs.Machine.{Machine, IsFresh, plan_machine}
+use Rattle.tp_exec_machine.specs.Run.{Run}
+use Rattle.tp_exec_machine.specs.OwnBounds.{KeepsTo, MeetsOwn}
+use Rattle.tp_exec_machine.proofs.OwnBounds.{unused_behind, same_events, schedule_with}
+use Rattle.tp_exec_machine.proofs.Keeping.{IsUnderWay, run_keeps, run_under_way}
 
 -- the events of a schedule happen by the horizon, where the past does
 pub in_time : (s : Setting) (t : ℕ → ℕ) → ((e m : ℕ) → fixed_at s e ≡ Some m → m ≤ s.horizon) → IsSchedule s t → IsWithin (event_count s) s.horizon t

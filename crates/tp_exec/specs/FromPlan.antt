@@ -3,13 +3,13 @@ use Rattle.std.specs.Prelude.{◌≡◌, List, Option, Some, None}
 use Rattle.tp_bounds.specs.Setting.{Setting}
 use Rattle.tp_deorder.specs.tp_task.declared.task.Task.{Task}
 use Rattle.tp_deorder.specs.tp_task.Bounds.{MeetsBounds}
-use Rattle.tp_deorder.specs.tp_happen.tp_plan_texts.declared.plans.Step.{Step}
+use Rattle.tp_deorder.specs.tp_happen.tp_plan_text.declared.plans.Step.{Step}
 use Rattle.tp_deorder.specs.tp_validate.OfTask.{IsOfTask, IsValidPlan, scale_of, plan_of, state_at}
 use Rattle.tp_deorder.specs.Inequalities.{event_count_of}
 use Rattle.tp_deorder.specs.RunPlans.{run_steps}
-use Rattle.tp_machine.specs.declared.command.Kind.TheVariants.{Kept}
-use Rattle.tp_machine.specs.Machine.{Machine}
-use Rattle.tp_machine.specs.OwnBounds.{KeepsTo, IsDone, dispatched_at}
+use Rattle.tp_exec_machine.specs.declared.command.Kind.TheVariants.{Kept}
+use Rattle.tp_exec_machine.specs.Machine.{Machine}
+use Rattle.tp_exec_machine.specs.OwnBounds.{KeepsTo, IsDone, dispatched_at}
 
 -- The machine has the plan's events, and while it is kept, each assignment of moments from 0 to the horizon that meets its own bounds
 -- meets the bounds of the plan.

@@ -8,18 +8,18 @@ ghost use Rattle.tp_bounds.specs.Schedule.{HasSchedule};
 ghost use Rattle.tp_bounds.specs.Lawful.{IsLawful};
 ghost use Rattle.tp_bounds.specs.declared.plan_nets.PlanNet.{PlanNet};
 ghost use Rattle.tp_deorder.specs.tp_task.declared.task.Task.{Task};
-ghost use Rattle.tp_deorder.specs.tp_happen.tp_plan_texts.declared.plans.Step.{Step};
+ghost use Rattle.tp_deorder.specs.tp_happen.tp_plan_text.declared.plans.Step.{Step};
 ghost use Rattle.tp_deorder.specs.tp_validate.OfTask.{IsValidPlan};
 ghost use Rattle.tp_deorder.specs.tp_validate.Verdict.{IsSound};
 ghost use Rattle.tp_deorder.specs.Answers.{IsPlanNetOf};
 ghost use Rattle.tp_deorder.specs.RunPlans.{moved_step, count_or_none, run_steps};
-ghost use Rattle.tp_machine.specs.declared.command.Answer.{Answer};
-ghost use Rattle.tp_machine.specs.declared.command.Command.{Command};
-ghost use Rattle.tp_machine.specs.declared.command.Kind.TheVariants.{Kept};
-ghost use Rattle.tp_machine.specs.Machine.{Machine, IsFresh, plan_machine};
-ghost use Rattle.tp_machine.specs.Step as machine;
-ghost use Rattle.tp_machine.specs.Run.{Run};
-ghost use Rattle.tp_machine.specs.OwnBounds.{IsDone, dispatched_at, TellsMoments};
+ghost use Rattle.tp_exec_machine.specs.declared.command.Answer.{Answer};
+ghost use Rattle.tp_exec_machine.specs.declared.command.Command.{Command};
+ghost use Rattle.tp_exec_machine.specs.declared.command.Kind.TheVariants.{Kept};
+ghost use Rattle.tp_exec_machine.specs.Machine.{Machine, IsFresh, plan_machine};
+ghost use Rattle.tp_exec_machine.specs.Step as machine;
+ghost use Rattle.tp_exec_machine.specs.Run.{Run};
+ghost use Rattle.tp_exec_machine.specs.OwnBounds.{IsDone, dispatched_at, TellsMoments};
 ghost use Rattle.tp_exec.specs.FromPlan.{CameFrom, TellsSteps, TellsPlan};
 
 use std::alloc::{AllocError, Global};
@@ -27,7 +27,7 @@ use tp_deorder::has_two;
 use tp_deorder::tp_happen::{Plan, Step};
 use tp_deorder::tp_task::Task;
 use tp_deorder::tp_validate::ValidPlan;
-use tp_machine::{Executive, Kind};
+use tp_exec_machine::{Executive, Kind};
 use tp_net::Net;
 
 /// The moments at which the events were dispatched, if all were.

@@ -2,10 +2,10 @@
 use Rattle.std.proofs.Common.{◌≡◌, ℕ, ◌≤◌, List, [], ◌∷◌, ◌++◌, length, map, Result, Ok, Err, IfOk, IfErr, OnOk, refl, sym, ap, ap₂, subst, ◌∙◌}
 use Rattle.std.proofs.lemmas.List.{map-append, length-map}
 use Rattle.std.proofs.lemmas.Simd.{map-map}
-use Rattle.tp_ast.specs.Symbols.{Name}
-use Rattle.tp_ast.specs.Actions as actions
-use Rattle.tp_ast.specs.Domains.{Domain}
-use Rattle.tp_ast.specs.Problems.{Problem}
+use Rattle.tp_syntax_ast.specs.Symbols.{Name}
+use Rattle.tp_syntax_ast.specs.Actions as actions
+use Rattle.tp_syntax_ast.specs.Domains.{Domain}
+use Rattle.tp_syntax_ast.specs.Problems.{Problem}
 use Rattle.tp_bounds.specs.RunLimits.{RunLimits}
 use Rattle.tp_text.specs.declared.number.Scale.{Scale}
 use Rattle.tp_task.specs.Words.{Words, firsts}
@@ -14,12 +14,12 @@ use Rattle.tp_task.specs.declared.task.Task.{Task}
 use Rattle.tp_task.specs.declared.fault.GroundFault.{GroundFault}
 use Rattle.tp_task.specs.declared.fault.GroundFault.TheVariants as faults
 use Rattle.tp_task.specs.declared.fault.TooManyKind.TheVariants as kinds
-use Rattle.tp_bindings.specs.Bindings.{Universe, bindings, universe_of}
-use Rattle.tp_lower.specs.Written.{GroundAction, condition_in}
-use Rattle.tp_lower.specs.Mentions.{Mentions, ◌then◌, of_condition, of_each}
-use Rattle.tp_lower.proofs.OnLowered.{of_each-append}
-use Rattle.tp_ground_parts.specs.Initially.{initial_in, of_initial}
-use Rattle.tp_ground_parts.specs.Grounding.{ground_action, ground_actions, of_action, mentioned, IsTask, HasNoTask}
+use Rattle.tp_ground_bindings.specs.Bindings.{Universe, bindings, universe_of}
+use Rattle.tp_ground_effects.specs.Written.{GroundAction, condition_in}
+use Rattle.tp_ground_effects.specs.Mentions.{Mentions, ◌then◌, of_condition, of_each}
+use Rattle.tp_ground_effects.proofs.OnLowered.{of_each-append}
+use Rattle.tp_ground_actions.specs.Initially.{initial_in, of_initial}
+use Rattle.tp_ground_actions.specs.Grounding.{ground_action, ground_actions, of_action, mentioned, IsTask, HasNoTask}
 use Rattle.tp_ground.specs.Reached.{Instance, instances, action_of, of_instance, mentioned_of, IsTaskOf}
 use Rattle.tp_ground.proofs.OnInstances.{bound_to, each_view}
 

@@ -5,14 +5,14 @@ use Rattle.std.proofs.lemmas.Simd.{map-map}
 use Rattle.std.proofs.lemmas.List.{map-append, get_or-map}
 use Rattle.std.proofs.lemmas.List.Folds.{flat_map-map}
 use Rattle.std.proofs.lemmas.List.Elements.{filter-append}
-use Rattle.tp_ast.specs.Symbols.{Name}
-use Rattle.tp_ast.specs.Actions as actions
-use Rattle.tp_bindings.specs.Bindings.{Universe, bindings}
+use Rattle.tp_syntax_ast.specs.Symbols.{Name}
+use Rattle.tp_syntax_ast.specs.Actions as actions
+use Rattle.tp_ground_bindings.specs.Bindings.{Universe, bindings}
 use Rattle.tp_ground.specs.Reached.{Instance, instances}
-use Rattle.tp_ast.specs.DomainViews.{action_view}
-use Rattle.tp_lower.specs.Mentions.{Mentions, ◌then◌, of_each}
-use Rattle.tp_ast.specs.declared.action.Action.{Action}
-use Rattle.tp_bindings.proofs.Along.{map_next}
+use Rattle.tp_syntax_ast.specs.DomainViews.{action_view}
+use Rattle.tp_ground_effects.specs.Mentions.{Mentions, ◌then◌, of_each}
+use Rattle.tp_syntax_ast.specs.declared.action.Action.{Action}
+use Rattle.tp_ground_bindings.proofs.Along.{map_next}
 
 -- the instances of an action
 abbrev pub bound_to : actions.Action → List Name → Instance

@@ -3,8 +3,8 @@ use Rattle.std.proofs.Common.{◌≡◌, ℕ, zero, suc, ◌<◌, Bool, true, fa
 use Rattle.std.specs.List.{list_all, list_any, flat_map, IsDistinct}
 use Rattle.std.proofs.lemmas.Bool.{and_parts, and_from, or_cases, or_left, or_right, lt-ltb}
 use Rattle.std.proofs.lemmas.List.{map-append}
-use Rattle.tp_ast.specs.Problems.{Initial}
-use Rattle.tp_ast.specs.Problems as problems
+use Rattle.tp_syntax_ast.specs.Problems.{Initial}
+use Rattle.tp_syntax_ast.specs.Problems as problems
 use Rattle.tp_task.specs.Words.{Words, same_words, has_words}
 use Rattle.tp_task.specs.Tables.{Tables, words_at}
 use Rattle.tp_task.specs.Bounds.{In}
@@ -13,17 +13,17 @@ use Rattle.tp_task.specs.Reach as numbers
 use Rattle.tp_task.specs.declared.events.GroundEvent.{GroundEvent}
 use Rattle.tp_task.specs.declared.events.Body.{Body}
 use Rattle.tp_task.specs.declared.events.Body.TheVariants.{Instant, Durative}
-use Rattle.tp_bindings.specs.Bindings.{Universe}
-use Rattle.tp_lower.specs.Written.{GroundHappening, GroundBody}
-use Rattle.tp_lower.specs.ReadBack.{named_event, named_body}
-use Rattle.tp_ground_parts.specs.Initially.{initial_in, is_initially_true, named_initial, true_at}
-use Rattle.tp_ground_parts.specs.declared.beginning.NumberedInitial.{NumberedInitial}
-use Rattle.tp_ground_parts.specs.declared.beginning.NumberedInitial.TheVariants as numbered
+use Rattle.tp_ground_bindings.specs.Bindings.{Universe}
+use Rattle.tp_ground_effects.specs.Written.{GroundHappening, GroundBody}
+use Rattle.tp_ground_effects.specs.ReadBack.{named_event, named_body}
+use Rattle.tp_ground_actions.specs.Initially.{initial_in, is_initially_true, named_initial, true_at}
+use Rattle.tp_ground_actions.specs.declared.beginning.NumberedInitial.{NumberedInitial}
+use Rattle.tp_ground_actions.specs.declared.beginning.NumberedInitial.TheVariants as numbered
 use Rattle.tp_ground.proofs.OnInitially.{true_there, same_words-Decides, apart}
-use Rattle.tp_reach.specs.Rounds.{set_of, acts_in, acts_of_bodies, adds_in, adds_fit}
-use Rattle.tp_reach.specs.Adding.{HasAdded, Adds, IsSettled}
+use Rattle.tp_task_reachability.specs.Rounds.{set_of, acts_in, acts_of_bodies, adds_in, adds_fit}
+use Rattle.tp_task_reachability.specs.Adding.{HasAdded, Adds, IsSettled}
 use Rattle.tp_ground.specs.Reached.{met, is_kept, happenings_of, Instance, action_of, IsClosed, IsReach}
-use Rattle.tp_ground_parts.proofs.OnFits.{are_words, in_range}
+use Rattle.tp_ground_actions.proofs.OnFits.{are_words, in_range}
 use Rattle.tp_ground.proofs.OnMet.{worded, met_same}
 use Rattle.tp_ground.proofs.OnWorded.{asks_words, instance_asks, instances_ask}
 

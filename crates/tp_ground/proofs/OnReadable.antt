@@ -5,12 +5,12 @@ use Rattle.std.proofs.lemmas.Bool.{and_from}
 use Rattle.std.proofs.lemmas.Slice.Eq.{bytes_eq-Decides}
 use Rattle.std.specs.List.{flat_map, list_any, list_all, AllByRecursion, position_from}
 use Rattle.std.specs.Str.{bytes_eq}
-use Rattle.tp_ast.specs.Words.{IsLower}
-use Rattle.tp_ast.specs.Terms.{is_name}
-use Rattle.tp_ast.specs.Symbols.{Name, Declared, types_fit}
-use Rattle.tp_ast.specs.TypedLists.{has_twice}
+use Rattle.tp_syntax_ast.specs.Words.{IsLower}
+use Rattle.tp_syntax_ast.specs.Terms.{is_name}
+use Rattle.tp_syntax_ast.specs.Symbols.{Name, Declared, types_fit}
+use Rattle.tp_syntax_ast.specs.TypedLists.{has_twice}
 use Rattle.tp_task.specs.Words.{Words, same_words}
-use Rattle.tp_bindings.specs.Bindings.{Universe, choices, bindings}
+use Rattle.tp_ground_bindings.specs.Bindings.{Universe, choices, bindings}
 use Rattle.tp_ground.specs.OwnNames.{IsOwnName}
 use Rattle.tp_task.specs.Readable.{are_names, AreReadable}
 

@@ -7,22 +7,22 @@ use Rattle.std.proofs.lemmas.Bool.Decides.{nat_tests}
 use Rattle.std.proofs.lemmas.List.{map-append}
 use Rattle.std.proofs.lemmas.Str.Ascii.{lowercase-lowercase}
 use Rattle.tp_text.specs.Shapes.{Shape, leaf, node, Shapes, no_shapes, shape}
-use Rattle.tp_ast.specs.Gives.{◌>>=◌, provided}
-use Rattle.tp_ast.specs.Lists.{first_of}
-use Rattle.tp_ast.specs.Words.{lower, is_word}
-use Rattle.tp_ast.specs.Terms.{is_name, is_inner, name_of}
-use Rattle.tp_ast.specs.Symbols.{Name, Declared, Parent, SignatureView, Symbols}
-use Rattle.tp_ast.specs.TypedLists.{is_dash, begins_dash, item_at, type_at, Typing, joined, unless, typing_of, after_dash, run_of, typed_list, are_declared, has_twice, parameters_at}
-use Rattle.tp_ast.specs.Actions.{Action, Body, field, fields_of, each_once, is_field_of, or_missing, body_of, action_of}
-use Rattle.tp_ast.specs.Domains as domains
-use Rattle.tp_ast.specs.Domains.{Domain, requirements_in, types_in, objects_in, signatures_of, named_once, numeric_signatures, action_at, actions_in, section, domain_with, domain_of, named, sections_of, defined}
-use Rattle.tp_ast.specs.Problems as problems
-use Rattle.tp_ast.specs.Problems.{Problem, problem_from, new_objects, stated, symbols_with, problem_with, problem_of, own_name, once_each}
-use Rattle.tp_ast.specs.declared.words.Key.TheVariants.{Parameters}
-use Rattle.tp_ast.specs.declared.words.Items.TheVariants.{Names}
-use Rattle.tp_ast.specs.declared.words.Section.{Section}
-use Rattle.tp_ast.specs.declared.words.Section.TheVariants as sections
-use Rattle.tp_ast.specs.declared.words.ProblemSection.TheVariants as problem_sections
+use Rattle.tp_syntax_ast.specs.Gives.{◌>>=◌, provided}
+use Rattle.tp_syntax_ast.specs.Lists.{first_of}
+use Rattle.tp_syntax_ast.specs.Words.{lower, is_word}
+use Rattle.tp_syntax_ast.specs.Terms.{is_name, is_inner, name_of}
+use Rattle.tp_syntax_ast.specs.Symbols.{Name, Declared, Parent, SignatureView, Symbols}
+use Rattle.tp_syntax_ast.specs.TypedLists.{is_dash, begins_dash, item_at, type_at, Typing, joined, unless, typing_of, after_dash, run_of, typed_list, are_declared, has_twice, parameters_at}
+use Rattle.tp_syntax_ast.specs.Actions.{Action, Body, field, fields_of, each_once, is_field_of, or_missing, body_of, action_of}
+use Rattle.tp_syntax_ast.specs.Domains as domains
+use Rattle.tp_syntax_ast.specs.Domains.{Domain, requirements_in, types_in, objects_in, signatures_of, named_once, numeric_signatures, action_at, actions_in, section, domain_with, domain_of, named, sections_of, defined}
+use Rattle.tp_syntax_ast.specs.Problems as problems
+use Rattle.tp_syntax_ast.specs.Problems.{Problem, problem_from, new_objects, stated, symbols_with, problem_with, problem_of, own_name, once_each}
+use Rattle.tp_syntax_ast.specs.declared.words.Key.TheVariants.{Parameters}
+use Rattle.tp_syntax_ast.specs.declared.words.Items.TheVariants.{Names}
+use Rattle.tp_syntax_ast.specs.declared.words.Section.{Section}
+use Rattle.tp_syntax_ast.specs.declared.words.Section.TheVariants as sections
+use Rattle.tp_syntax_ast.specs.declared.words.ProblemSection.TheVariants as problem_sections
 use Rattle.tp_ground.specs.OwnNames.{IsOwnName, HasOwnNames}
 
 -- ---- what a reading that went well says of its steps

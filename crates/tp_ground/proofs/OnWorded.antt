@@ -4,16 +4,16 @@ use Rattle.std.specs.List.{list_all, flat_map}
 use Rattle.std.specs.Str.{bytes_eq}
 use Rattle.std.proofs.lemmas.Bool.{and_from}
 use Rattle.std.proofs.lemmas.List.Folds.{list_all-append}
-use Rattle.tp_ast.specs.Conditions as conditions
-use Rattle.tp_ast.specs.Conditions.{Condition, Conditions}
-use Rattle.tp_ast.specs.Parts.{Joined}
-use Rattle.tp_ast.specs.Effects.{Timed}
-use Rattle.tp_ast.specs.Actions as actions
-use Rattle.tp_ast.specs.declared.words.TimeSpecifier.{TimeSpecifier}
-use Rattle.tp_ast.specs.declared.words.TimeSpecifier.TheVariants.{AtStart, AtEnd}
-use Rattle.tp_bindings.specs.Bindings.{Universe, Env, bound, object_for}
-use Rattle.tp_lower.specs.Written.{GroundCondition, GroundHappening, conditions_from, inner, always, never, condition_in, conditions_in, condition_part, conjuncts_at, condition_at, is_specifier, body_in}
-use Rattle.tp_ground_parts.proofs.OnFits.{parts_ok}
+use Rattle.tp_syntax_ast.specs.Conditions as conditions
+use Rattle.tp_syntax_ast.specs.Conditions.{Condition, Conditions}
+use Rattle.tp_syntax_ast.specs.Parts.{Joined}
+use Rattle.tp_syntax_ast.specs.Effects.{Timed}
+use Rattle.tp_syntax_ast.specs.Actions as actions
+use Rattle.tp_syntax_ast.specs.declared.words.TimeSpecifier.{TimeSpecifier}
+use Rattle.tp_syntax_ast.specs.declared.words.TimeSpecifier.TheVariants.{AtStart, AtEnd}
+use Rattle.tp_ground_bindings.specs.Bindings.{Universe, Env, bound, object_for}
+use Rattle.tp_ground_effects.specs.Written.{GroundCondition, GroundHappening, conditions_from, inner, always, never, condition_in, conditions_in, condition_part, conjuncts_at, condition_at, is_specifier, body_in}
+use Rattle.tp_ground_actions.proofs.OnFits.{parts_ok}
 use Rattle.tp_ground.specs.Reached.{Instance, action_of, happenings_of}
 use Rattle.tp_ground.proofs.OnMet.{worded, all_worded}
 

@@ -1,20 +1,20 @@
 -- The match domain's 'light-match' with the match m1, written out by computation; and quantifiers over its objects.
 use Rattle.std.proofs.Common.{◌≡◌, List, [], ◌∷◌, pos, refl}
 use Rattle.std.specs.Prelude.{codes}
-use Rattle.tp_ast.specs.Terms.{Argument, object, variable, Fact}
-use Rattle.tp_ast.specs.Symbols.{Name, Declared}
-use Rattle.tp_ast.specs.Expressions as expressions
-use Rattle.tp_ast.specs.Conditions as conditions
-use Rattle.tp_ast.specs.Parts.{all_parts, part, no_parts, one}
-use Rattle.tp_ast.specs.Effects as effects
-use Rattle.tp_ast.specs.Actions as actions
-use Rattle.tp_ast.specs.declared.words.Comparison.TheVariants as comparisons
-use Rattle.tp_ast.specs.declared.words.TimeSpecifier.TheVariants.{AtStart, AtEnd}
+use Rattle.tp_syntax_ast.specs.Terms.{Argument, object, variable, Fact}
+use Rattle.tp_syntax_ast.specs.Symbols.{Name, Declared}
+use Rattle.tp_syntax_ast.specs.Expressions as expressions
+use Rattle.tp_syntax_ast.specs.Conditions as conditions
+use Rattle.tp_syntax_ast.specs.Parts.{all_parts, part, no_parts, one}
+use Rattle.tp_syntax_ast.specs.Effects as effects
+use Rattle.tp_syntax_ast.specs.Actions as actions
+use Rattle.tp_syntax_ast.specs.declared.words.Comparison.TheVariants as comparisons
+use Rattle.tp_syntax_ast.specs.declared.words.TimeSpecifier.TheVariants.{AtStart, AtEnd}
 use Rattle.tp_task.specs.declared.events.Comparison.TheVariants.{Equal}
 use Rattle.tp_task.specs.Words.{firsts}
-use Rattle.tp_bindings.specs.Bindings.{Universe, Env, bindings, bound}
-use Rattle.tp_lower.specs.Written.{number, atom, negation, all_of, any_of, no_conditions, condition, always, never, durative, condition_in, body_in}
-use Rattle.tp_lower.specs.Mentions.{of_body}
+use Rattle.tp_ground_bindings.specs.Bindings.{Universe, Env, bindings, bound}
+use Rattle.tp_ground_effects.specs.Written.{number, atom, negation, all_of, any_of, no_conditions, condition, always, never, durative, condition_in, body_in}
+use Rattle.tp_ground_effects.specs.Mentions.{of_body}
 
 -- (:types match fuse), (:objects m1 - match f1 - fuse)
 abbrev universe : Universe

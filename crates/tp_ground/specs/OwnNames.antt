@@ -1,11 +1,11 @@
 -- Names as the grammar has them, and each given once.
 use Rattle.std.specs.Prelude.{◌≡◌, ℕ, List, ◌++◌, map, true, false}
 use Rattle.std.specs.List.{AllByRecursion}
-use Rattle.tp_ast.specs.Words.{IsLower}
-use Rattle.tp_ast.specs.Terms.{is_name}
-use Rattle.tp_ast.specs.TypedLists.{has_twice}
-use Rattle.tp_ast.specs.Domains.{Domain}
-use Rattle.tp_ast.specs.Problems.{Problem}
+use Rattle.tp_syntax_ast.specs.Words.{IsLower}
+use Rattle.tp_syntax_ast.specs.Terms.{is_name}
+use Rattle.tp_syntax_ast.specs.TypedLists.{has_twice}
+use Rattle.tp_syntax_ast.specs.Domains.{Domain}
+use Rattle.tp_syntax_ast.specs.Problems.{Problem}
 
 -- a name in lower case
 pub record IsOwnName (n : List ℕ) : Type 0 where

@@ -1,21 +1,21 @@
 -- The relaxed reach of a problem, and the task of the actions that it keeps.
 use Rattle.std.specs.Prelude.{◌≡◌, ◌<◌, Bool, true, false, not, ◌&&◌, ◌||◌, List, [], ◌∷◌, ◌++◌, map, length, filter}
 use Rattle.std.specs.List.{flat_map, list_any}
-use Rattle.tp_ast.specs.Symbols.{Name}
-use Rattle.tp_ast.specs.Actions.{Action}
-use Rattle.tp_ast.specs.Domains.{Domain}
-use Rattle.tp_ast.specs.Problems.{Problem}
+use Rattle.tp_syntax_ast.specs.Symbols.{Name}
+use Rattle.tp_syntax_ast.specs.Actions.{Action}
+use Rattle.tp_syntax_ast.specs.Domains.{Domain}
+use Rattle.tp_syntax_ast.specs.Problems.{Problem}
 use Rattle.tp_bounds.specs.RunLimits.{RunLimits}
 use Rattle.tp_text.specs.declared.number.Scale.{Scale}
 use Rattle.tp_task.specs.Words.{Words, has_words, firsts}
 use Rattle.tp_task.specs.Bounds.{In}
-use Rattle.tp_bindings.specs.Bindings.{Universe, bound, bindings, universe_of}
-use Rattle.tp_lower.specs.Written.{GroundCondition, GroundConditions, atom, compared, negation, all_of, any_of, no_conditions, condition, GroundHappening, GroundBody, instant, durative, GroundAction, condition_in}
-use Rattle.tp_lower.specs.Mentions.{Mentions, ◌then◌, of_condition, of_body, of_each}
-use Rattle.tp_ground_parts.specs.Great.{has_great_number}
-use Rattle.tp_lower.specs.ReadBack.{named_condition, named_body}
-use Rattle.tp_ground_parts.specs.Initially.{GroundInitial, initial_in, of_initial, is_initially_true, initial_value}
-use Rattle.tp_ground_parts.specs.Grounding.{ground_action}
+use Rattle.tp_ground_bindings.specs.Bindings.{Universe, bound, bindings, universe_of}
+use Rattle.tp_ground_effects.specs.Written.{GroundCondition, GroundConditions, atom, compared, negation, all_of, any_of, no_conditions, condition, GroundHappening, GroundBody, instant, durative, GroundAction, condition_in}
+use Rattle.tp_ground_effects.specs.Mentions.{Mentions, ◌then◌, of_condition, of_body, of_each}
+use Rattle.tp_ground_actions.specs.Great.{has_great_number}
+use Rattle.tp_ground_effects.specs.ReadBack.{named_condition, named_body}
+use Rattle.tp_ground_actions.specs.Initially.{GroundInitial, initial_in, of_initial, is_initially_true, initial_value}
+use Rattle.tp_ground_actions.specs.Grounding.{ground_action}
 use Rattle.tp_task.specs.declared.fault.GroundFault.{GroundFault}
 use Rattle.tp_task.specs.declared.fault.GroundFault.TheVariants as faults
 use Rattle.tp_task.specs.declared.fault.TooManyKind.TheVariants as kinds

@@ -1,26 +1,26 @@
 //! The task of a problem.
 
 ghost use Rattle.std.specs.Prelude.{◌≡◌, ◌≤◌, ◌++◌, map, length, nat_lt, false, IfOk, IfErr, OnOk};
-ghost use Rattle.tp_ast.specs.Symbols.{typed_view};
-ghost use Rattle.tp_ast.specs.DomainViews.{domain_view, problem_view};
+ghost use Rattle.tp_syntax_ast.specs.Symbols.{typed_view};
+ghost use Rattle.tp_syntax_ast.specs.DomainViews.{domain_view, problem_view};
 ghost use Rattle.tp_bounds.specs.RunLimits.{RunLimits};
 ghost use Rattle.tp_task.specs.Words.{firsts};
-ghost use Rattle.tp_bindings.specs.Bindings.{universe_of};
-ghost use Rattle.tp_bindings.specs.Views.{universe_view};
-ghost use Rattle.tp_ground_parts.specs.Great.{has_great_number};
-ghost use Rattle.tp_ground_parts.specs.Grounding.{ground_actions, mentioned, IsTask, HasNoTask};
+ghost use Rattle.tp_ground_bindings.specs.Bindings.{universe_of};
+ghost use Rattle.tp_ground_bindings.specs.Views.{universe_view};
+ghost use Rattle.tp_ground_actions.specs.Great.{has_great_number};
+ghost use Rattle.tp_ground_actions.specs.Grounding.{ground_actions, mentioned, IsTask, HasNoTask};
 
 use crate::instances::all_instances;
 use crate::tasks::task_with;
 use std::alloc::Global;
-use tp_ast::domain::Domain;
-use tp_ast::problem::Problem;
-use tp_ast::symbols::Typed;
-use tp_bindings::noting::universe_of;
-use tp_bindings::universe::Universe;
 use tp_bounds::Limits;
-use tp_ground_parts::grounding::actions_fit;
-use tp_ground_parts::numbers::has_great_number;
+use tp_ground_actions::grounding::actions_fit;
+use tp_ground_actions::numbers::has_great_number;
+use tp_ground_bindings::noting::universe_of;
+use tp_ground_bindings::universe::Universe;
+use tp_syntax_ast::domain::Domain;
+use tp_syntax_ast::problem::Problem;
+use tp_syntax_ast::symbols::Typed;
 use tp_task::{GroundFault, Task, TooManyKind};
 use tp_text::Scale;
 

@@ -1,21 +1,21 @@
 //! Actions with the objects that their parameters stand for: all of them, some of them, and what is written out of them.
 
 ghost use Rattle.std.specs.Prelude.{◌≡◌, ◌++◌, ◌∷◌, Bool, map, filter, length, IfOk, OnOk};
-ghost use Rattle.tp_ast.specs.DomainViews.{action_view};
-ghost use Rattle.tp_bindings.specs.Left.{rows_left};
-ghost use Rattle.tp_bindings.specs.Views.{universe_view};
-ghost use Rattle.tp_lower.specs.Mentions.{of_each};
-ghost use Rattle.tp_lower.specs.ReadBack.{named_body};
-ghost use Rattle.tp_lower.specs.Lowered.{Lowers};
+ghost use Rattle.tp_syntax_ast.specs.DomainViews.{action_view};
+ghost use Rattle.tp_ground_bindings.specs.Left.{rows_left};
+ghost use Rattle.tp_ground_bindings.specs.Views.{universe_view};
+ghost use Rattle.tp_ground_effects.specs.Mentions.{of_each};
+ghost use Rattle.tp_ground_effects.specs.ReadBack.{named_body};
+ghost use Rattle.tp_ground_effects.specs.Lowered.{Lowers};
 ghost use Rattle.tp_ground.specs.Reached as reached;
 ghost use Rattle.tp_ground.specs.Reached.{instances, action_of, of_instance};
 ghost use Rattle.tp_ground.specs.Instances.{instance_view};
 
 use std::alloc::{AllocError, Global};
-use tp_ast::action::Action;
-use tp_bindings::rows::{Rows, rows_of};
-use tp_bindings::universe::{Universe, copied, refill};
-use tp_ground_parts::grounding::lower_under;
+use tp_ground_actions::grounding::lower_under;
+use tp_ground_bindings::rows::{Rows, rows_of};
+use tp_ground_bindings::universe::{Universe, copied, refill};
+use tp_syntax_ast::action::Action;
 use tp_task::{Body, GroundFault, Numbering};
 
 /// An action, and the objects that its parameters stand for.

@@ -1,11 +1,11 @@
 //! What is proved of the tasks that are made.
 
 ghost use Rattle.std.specs.Prelude.{ℕ, List};
-ghost use Rattle.tp_ast.specs.Domains.{Domain, SpellsDomain};
-ghost use Rattle.tp_ast.specs.Problems.{Problem, SpellsProblem};
+ghost use Rattle.tp_syntax_ast.specs.Domains.{Domain, SpellsDomain};
+ghost use Rattle.tp_syntax_ast.specs.Problems.{Problem, SpellsProblem};
 ghost use Rattle.tp_bounds.specs.RunLimits.{RunLimits};
 ghost use Rattle.tp_text.specs.declared.number.Scale.{Scale};
-ghost use Rattle.tp_ground_parts.specs.Grounding.{IsTask};
+ghost use Rattle.tp_ground_actions.specs.Grounding.{IsTask};
 ghost use Rattle.tp_ground.specs.Reached.{IsReachedTask};
 ghost use Rattle.tp_task.specs.Readable.{AreReadable};
 ghost use Rattle.tp_task.specs.declared.task.Task.{Task};

@@ -17,5 +17,5 @@ pub use instances::{Instance, lower_instances, name_instances};
 pub use laws::{actions_are_readable, reached_actions_are_readable};
 pub use reached::ground_reached;
 pub use tasks::{LoweredTask, task_of};
-pub use tp_ground_parts::numbers::has_great_number;
+pub use tp_ground_actions::numbers::has_great_number;
 pub use tp_task::{GroundFault, Task, TooManyKind};

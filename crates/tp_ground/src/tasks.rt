@@ -2,27 +2,27 @@
 
 ghost use Rattle.std.specs.Prelude.{◌≡◌, ◌≤◌, ◌<◌, ◌++◌, ◌∷◌, ℕ, true, false, None, map, length, slice_index_or, IfOk, IfErr, OnOk};
 ghost use Rattle.std.specs.List.{list_all};
-ghost use Rattle.tp_ast.specs.CondViews.{cond_view};
-ghost use Rattle.tp_ast.specs.DomainViews.{initial_view, domain_view, problem_view};
+ghost use Rattle.tp_syntax_ast.specs.CondViews.{cond_view};
+ghost use Rattle.tp_syntax_ast.specs.DomainViews.{initial_view, domain_view, problem_view};
 ghost use Rattle.tp_task.specs.Fits.{body_fits};
 ghost use Rattle.tp_task.specs.Tables.{CannotNumber, with_actions};
 ghost use Rattle.tp_task.specs.Words.{firsts};
-ghost use Rattle.tp_bindings.specs.Bindings.{universe_of};
-ghost use Rattle.tp_bindings.specs.Views.{universe_view};
-ghost use Rattle.tp_lower.specs.Lowered.{Lowers};
-ghost use Rattle.tp_ground_parts.specs.Initially.{true_at, value_at};
+ghost use Rattle.tp_ground_bindings.specs.Bindings.{universe_of};
+ghost use Rattle.tp_ground_bindings.specs.Views.{universe_view};
+ghost use Rattle.tp_ground_effects.specs.Lowered.{Lowers};
+ghost use Rattle.tp_ground_actions.specs.Initially.{true_at, value_at};
 ghost use Rattle.tp_ground.specs.WrittenTasks.{named_task, IsMade};
 ghost use Rattle.tp_ground.specs.Reached.{IsTaskOf, mentioned_of};
 ghost use Rattle.tp_ground.specs.Instances.{instance_view, written_with, of_task_with};
 
 use crate::instances::{Instance, lower_instances, name_instances};
 use std::alloc::{AllocError, Global};
-use tp_ast::domain::Domain;
-use tp_ast::problem::{Initial, Problem};
-use tp_bindings::universe::Universe;
 use tp_bounds::Limits;
-use tp_ground_parts::beginning::{NumberedInitial, entries, numbers, truths};
-use tp_lower::closed_condition;
+use tp_ground_actions::beginning::{NumberedInitial, entries, numbers, truths};
+use tp_ground_bindings::universe::Universe;
+use tp_ground_effects::closed_condition;
+use tp_syntax_ast::domain::Domain;
+use tp_syntax_ast::problem::{Initial, Problem};
 use tp_task::{Body, Cond, GroundFault, Numbering, Task};
 use tp_text::Scale;
 
@@ -46,7 +46,7 @@ fn lower_with<'a>(
     universe: &Universe<'a>,
     numbering: &mut Numbering,
     initial: &'a [Initial],
-    goal: &'a tp_ast::cond::Cond,
+    goal: &'a tp_syntax_ast::cond::Cond,
     some: &[Instance<'a>],
 ) -> Result<LoweredTask, GroundFault>
     ensures { Lowers named_task numbering.old result numbering.new

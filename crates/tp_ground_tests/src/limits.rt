@@ -6,9 +6,9 @@ use crate::support::{domain, task_within};
 use std::alloc::Global;
 use std::test::Fail;
 use tp_bounds::Limits;
-use tp_small_worlds::{MATCH, MATCHES, TANK};
 use tp_syntax::Domain;
 use tp_task::{GroundFault, TooManyKind};
+use tp_testkit_domains::{MATCH, MATCHES, TANK};
 
 // Whether match has no task for this reason, or has one, under limits of so many atoms and actions.
 fn is_refused(

@@ -6,9 +6,9 @@ use crate::support::{NOTHING, Told, are_kept, are_told, domain, reached_within, 
 use std::alloc::Global;
 use std::test::Fail;
 use tp_bounds::Limits;
-use tp_small_worlds::{MATCH, TOGGLE};
 use tp_syntax::Domain;
 use tp_task::{GroundFault, TooManyKind};
+use tp_testkit_domains::{MATCH, TOGGLE};
 
 const NO_SWITCH: &str = "(define (problem p) (:domain toggle) (:init) (:goal (done)))";
 

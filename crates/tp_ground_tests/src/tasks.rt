@@ -3,8 +3,8 @@
 use crate::examples::ROADS;
 use crate::support::{NOTHING, Told, are_told};
 use std::test::Fail;
-use tp_small_worlds::{CHARGE, MATCH, MATCHES, TANK, TOGGLE, TOGGLED};
 use tp_task::ActionId;
+use tp_testkit_domains::{CHARGE, MATCH, MATCHES, TANK, TOGGLE, TOGGLED};
 
 #[test]
 fn what_match_mentions_is_numbered(rt: HostRuntime) -> Result<(), Fail> {

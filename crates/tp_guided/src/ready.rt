@@ -3,9 +3,9 @@
 use std::alloc::{AllocError, Global};
 use tp_guided_costs::Heuristic;
 use tp_guided_relaxed::{Relaxed, build};
-use tp_guided_task::{State, Task, Watched, small};
-use tp_reach::{met, reach};
+use tp_search_compiled::{State, Task, Watched, small};
 use tp_task::Body;
+use tp_task_reachability::{met, reach};
 
 /// A task, its relaxed task, and the actions that wait for atoms.
 #[derive(Drop)]

@@ -2,7 +2,7 @@
 
 use std::alloc::{AllocError, Global};
 use tp_guided_relaxed::Relaxed;
-use tp_guided_task::NONE;
+use tp_search_compiled::NONE;
 
 /// The operators of a relaxed plan.
 #[derive(Drop)]

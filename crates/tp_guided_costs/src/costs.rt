@@ -2,7 +2,7 @@
 
 use std::alloc::{AllocError, Global};
 use tp_guided_relaxed::{Compared, Interval, Relaxed, may_hold, value};
-use tp_guided_task::{Buckets, NONE, Running, State, Task, small};
+use tp_search_compiled::{Buckets, NONE, Running, State, Task, small};
 
 /// The cost of what is never reached.
 pub const DEAD: u32 = u32::MAX;

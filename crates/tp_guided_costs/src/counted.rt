@@ -4,7 +4,7 @@ use crate::chosen::Chosen;
 use crate::costs::{Costs, DEAD};
 use crate::wanted::Wants;
 use std::alloc::{AllocError, Global};
-use tp_guided_task::{NONE, Running, Task};
+use tp_search_compiled::{NONE, Running, Task};
 
 /// A start of a relaxed plan: its cost, the cost of the cheapest start or helper that wants what its action brings, its action,
 /// and how often it is to start.

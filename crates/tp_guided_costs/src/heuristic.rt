@@ -7,7 +7,7 @@ use crate::standing::Standing;
 use crate::wanted::{Wants, extract};
 use std::alloc::{AllocError, Global};
 use tp_guided_relaxed::Relaxed;
-use tp_guided_task::{NONE, Running, State, Task};
+use tp_search_compiled::{NONE, Running, State, Task};
 
 /// The value of the state that was evaluated last, and its relaxed plan. All room is kept from one state to the next.
 #[derive(Drop)]

@@ -3,7 +3,7 @@
 use crate::costs::{CAP, Costs};
 use std::alloc::AllocError;
 use tp_guided_relaxed::{INF, Interval, gap, may_hold, value};
-use tp_guided_task::{Compare, NONE, Op, Rule, Write, WriteTo};
+use tp_search_compiled::{Compare, NONE, Op, Rule, Write, WriteTo};
 
 /// The most uses of one action for one number.
 const REPEATS: i64 = 1_000;

@@ -4,7 +4,7 @@ use crate::chosen::Chosen;
 use crate::costs::{CAP, Costs, DEAD};
 use std::alloc::{AllocError, Global};
 use tp_guided_relaxed::Relaxed;
-use tp_guided_task::{Buckets, NONE, Running, Task};
+use tp_search_compiled::{Buckets, NONE, Running, Task};
 
 /// Who wants a proposition: the cheapest operator that does, and the cheapest that is no end.
 #[derive(Clone, Copy)]

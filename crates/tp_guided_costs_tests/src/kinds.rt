@@ -5,8 +5,8 @@ use std::process::Abort;
 use std::test::Fail;
 use tp_guided_costs::{DEAD, Heuristic};
 use tp_guided_relaxed::build;
-use tp_guided_task::{State, Task};
-use tp_small_tasks::{World, kept_of};
+use tp_search_compiled::{State, Task};
+use tp_testkit_tasks::{World, kept_of};
 use tp_text::Scale;
 
 /// A lock, lamps that can be switched on while it is closed, and some numbers.

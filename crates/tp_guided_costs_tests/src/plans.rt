@@ -6,7 +6,7 @@ use std::process::Abort;
 use std::test::Fail;
 use tp_guided_costs::Heuristic;
 use tp_guided_relaxed::{Relaxed, build};
-use tp_guided_task::{Running, State, Task};
+use tp_search_compiled::{Running, State, Task};
 
 // Of the actions, in their order: open, switch l1, switch l2, fill, drain, set, pay, burn l1, burn l2.
 const SWITCH: u32 = 1;

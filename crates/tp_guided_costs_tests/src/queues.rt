@@ -3,7 +3,7 @@
 use std::alloc::{AllocError, Global};
 use std::process::Abort;
 use std::test::Fail;
-use tp_guided_task::Buckets;
+use tp_search_compiled::Buckets;
 
 fn filled(alloc: Global) -> Result<Buckets, AllocError> {
     let mut queue = Buckets::new(alloc, 4)?;

@@ -2,7 +2,7 @@
 
 use crate::interval::{Interval, value};
 use std::alloc::AllocError;
-use tp_guided_task::{Compare, Ins, Op, Task, Value, part};
+use tp_search_compiled::{Compare, Ins, Op, Task, Value, part};
 
 /// A side of a comparison, as a key.
 #[derive(Clone, Copy, PartialEq, Eq, PartialOrd, Ord)]

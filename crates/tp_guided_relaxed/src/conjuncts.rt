@@ -5,7 +5,7 @@ use crate::interval::{Interval, may_hold};
 use crate::relaxed::{Compared, at};
 use std::alloc::{AllocError, Global};
 use std::collections::BTreeMap;
-use tp_guided_task::{
+use tp_search_compiled::{
     Compare, Form, Lists, NONE, Span, State, Task, UNDEFINED, Value, Word, Write, small,
 };
 

@@ -3,7 +3,7 @@
 use crate::comparing::mention_of;
 use crate::conjuncts::Builder;
 use std::alloc::AllocError;
-use tp_guided_task::{Action, Compare, Event, Form, NONE, Span};
+use tp_search_compiled::{Action, Compare, Event, Form, NONE, Span};
 
 /// The operators of an action, and its proposition "it runs".
 #[derive(Clone, Copy)]

@@ -1,6 +1,6 @@
 //! Ranges of numbers. A bound past 10^15 stands for "without limit"; an empty range, whose bounds are crossed, for "undefined".
 
-use tp_guided_task::{GREATEST, Ins, Op, Task, UNDEFINED, Value, part};
+use tp_search_compiled::{GREATEST, Ins, Op, Task, UNDEFINED, Value, part};
 
 /// What stands for "without limit".
 pub const INF: i64 = GREATEST + 1;

@@ -5,7 +5,7 @@ use crate::conjuncts::Builder;
 use crate::making::ActionOps;
 use crate::relaxed::{Compared, Relaxed};
 use std::alloc::{AllocError, Global};
-use tp_guided_task::{Lists, NONE, Task, lists_of, small};
+use tp_search_compiled::{Lists, NONE, Task, lists_of, small};
 
 // The operators that need each proposition.
 fn users_of(alloc: Global, pre: &Lists, props: u32) -> Result<Lists, AllocError> {

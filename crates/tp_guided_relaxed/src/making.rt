@@ -5,7 +5,7 @@ use crate::events::{NO_OPS, Ops};
 use crate::linking::finish;
 use crate::relaxed::Relaxed;
 use std::alloc::{AllocError, Global};
-use tp_guided_task::{Action, State, Task};
+use tp_search_compiled::{Action, State, Task};
 
 /// The operators of each action.
 #[derive(Drop)]

@@ -1,6 +1,6 @@
 //! Propositions and operators.
 
-use tp_guided_task::{Compare, Lists, NONE};
+use tp_search_compiled::{Compare, Lists, NONE};
 
 /// A comparison and its proposition.
 #[derive(Clone, Copy)]

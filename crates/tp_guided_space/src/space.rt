@@ -3,7 +3,7 @@
 use crate::starts::{Frame, find_choices, least_duration};
 use crate::store::{Choice, Chosen, Moment, Node, Store};
 use std::alloc::{AllocError, Global};
-use tp_guided_task::{Form, Marks, NONE, Running, Span, State, Task, Watched, units};
+use tp_search_compiled::{Form, Marks, NONE, Running, Span, State, Task, Watched, units};
 use tp_task::MOST_STEPS;
 
 /// A node, and whether it was made just now.

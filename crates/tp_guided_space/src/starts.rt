@@ -2,7 +2,7 @@
 
 use crate::store::Choice;
 use std::alloc::AllocError;
-use tp_guided_task::{Action, GREATEST, NONE, Op, State, Task, UNDEFINED, Watched, units};
+use tp_search_compiled::{Action, GREATEST, NONE, Op, State, Task, UNDEFINED, Watched, units};
 
 /// The tick of a start, and the tick that no step ends past.
 #[derive(Clone, Copy)]

@@ -1,7 +1,7 @@
 //! All moments and nodes of a search, by number.
 
 use std::alloc::{AllocError, Global};
-use tp_guided_task::{Mixer, NONE, Running, Span, State, mix_pair, part, small};
+use tp_search_compiled::{Mixer, NONE, Running, Span, State, mix_pair, part, small};
 use tp_task::MOST_STEPS;
 
 /// A start that is possible: an action, and its duration in ticks, 0 for an instantaneous one.

@@ -6,8 +6,8 @@ use std::alloc::{AllocError, Global};
 use std::process::Abort;
 use std::test::Fail;
 use tp_guided::{Guided, Proposal};
-use tp_small_tasks::{CHARGES, FUSES, LINES, SWITCHES, TANKS, World, kept_of};
 use tp_task::Task;
+use tp_testkit_tasks::{CHARGES, FUSES, LINES, SWITCHES, TANKS, World, kept_of};
 use tp_text::Scale;
 
 /// A lamp that burns for 2 to 20 ticks, and a repair of 10 for which it has to.

@@ -1,7 +1,7 @@
 //! The steps that run, by the ticks that they have left.
 
 use std::alloc::AllocError;
-use tp_guided_task::Running;
+use tp_search_compiled::Running;
 
 /// A step that runs: the ticks that it has left, its action and its duration.
 #[derive(Clone, Copy, PartialEq, Eq, PartialOrd, Ord)]

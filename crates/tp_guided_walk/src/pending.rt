@@ -2,7 +2,7 @@
 
 use std::alloc::{AllocError, Global};
 use tp_guided_costs::{Heuristic, Wanted};
-use tp_guided_task::{Event, NONE, Span, State, Task, part, small};
+use tp_search_compiled::{Event, NONE, Span, State, Task, part, small};
 
 /// A start of the relaxed plan, which has still to be done so many times. Literals are numbered as
 /// the relaxed task does: an atom's number twice, and one more where the atom is to be false.

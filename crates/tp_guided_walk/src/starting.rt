@@ -6,7 +6,7 @@ use crate::walk::Walk;
 use std::alloc::AllocError;
 use tp_guided_costs::Heuristic;
 use tp_guided_space::{Choice, Space};
-use tp_guided_task::{Event, NONE, Task};
+use tp_search_compiled::{Event, NONE, Task};
 
 // Whether an action can start in the state before the tick's happening.
 fn has_choices(space: &Space<'_>, action: u32) -> bool {

@@ -5,7 +5,7 @@ use crate::pending::{Pending, holds, is_true, lacks};
 use std::alloc::{AllocError, Global};
 use tp_guided_costs::Heuristic;
 use tp_guided_space::{Child, Space};
-use tp_guided_task::{Event, Marks, Task};
+use tp_search_compiled::{Event, Marks, Task};
 
 /// What is ahead in the states in which the running steps run out.
 #[derive(Clone, Copy)]

@@ -10,4 +10,4 @@ pub mod Lent
 pub mod OnClashes
 pub mod Compared
 pub mod Mentioned
-pub use Rattle.tp_plan_texts.proofs.OnTaskPlans
+pub use Rattle.tp_plan_text.proofs.OnTaskPlans

@@ -8,4 +8,4 @@ pub mod Fault
 pub mod Parts
 pub mod Meetings
 pub mod Sides
-pub use Rattle.tp_plan_texts.specs as tp_plan_texts
+pub use Rattle.tp_plan_text.specs as tp_plan_text

@@ -11,7 +11,7 @@
 //! - `writes`: the effects of events, written one after another
 //! - `happening`: all of it together, `apply`
 //!
-//! Offers plans and their texts (`tp_plan_texts`) again.
+//! Offers plans and their texts (`tp_plan_text`) again.
 #![tactic(auto)]
 
 mod clashes;
@@ -40,7 +40,7 @@ pub use lending::event;
 pub use meetings::Meeting;
 pub use mentions::{atoms_of, fluents_of};
 pub use states::State;
-pub use tp_plan_texts::{
+pub use tp_plan_text::{
     Plan, PlanFault, Step, forms_are_written, plans_are_read, print_plan, read_plan,
 };
 pub use tp_task::truth::compares;

@@ -4,7 +4,7 @@ use crate::rows::Named::Only;
 use crate::rows::{Named, Row, Then, are_rows};
 use std::test::Fail;
 use tp_happen::Why;
-use tp_small_tasks::{TANKS, World};
+use tp_testkit_tasks::{TANKS, World};
 use tp_text::Scale;
 
 const COUNTER: &str = "(define (domain counter)

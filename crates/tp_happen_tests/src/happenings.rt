@@ -8,8 +8,8 @@ use std::alloc::Global;
 use std::process::Abort;
 use std::test::Fail;
 use tp_happen::{Part, State, Why, event, interferes, uses_duration};
-use tp_small_tasks::{CHARGES, FUSES, SWITCHES, TANKS, World, task_of};
 use tp_task::{ActionId, AtomId, FluentId, Task};
+use tp_testkit_tasks::{CHARGES, FUSES, SWITCHES, TANKS, World, task_of};
 use tp_text::Scale;
 
 /// Whether a state of the match domain is that of its problem at first, in thousandths.

@@ -6,8 +6,8 @@ use std::alloc::{AllocError, Global};
 use std::process::Abort;
 use std::test::Fail;
 use tp_happen::{PlanFault, Step, read_plan};
-use tp_small_tasks::{CHARGES, FUSES, SWITCHES, World, task_of};
 use tp_task::{ActionId, Task};
+use tp_testkit_tasks::{CHARGES, FUSES, SWITCHES, World, task_of};
 use tp_text::Scale;
 
 /// A text and what it is read as: the ticks, actions and durations of steps, or a fault.

@@ -10,8 +10,8 @@ use std::sync::ledger::{Blank, Ledger};
 use std::test::Fail;
 use tp_device::{Failed, ToWrite};
 use tp_happen::{Plan, Step, print_plan, read_plan};
-use tp_small_tasks::{CHARGES, FUSES, SWITCHES, World, task_of};
 use tp_task::Task;
+use tp_testkit_tasks::{CHARGES, FUSES, SWITCHES, World, task_of};
 use tp_text::Scale;
 
 fn print_to<L: Ledger, W: Write + Drop>(

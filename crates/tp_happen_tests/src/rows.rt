@@ -9,8 +9,8 @@ use std::alloc::Global;
 use std::process::Abort;
 use std::test::Fail;
 use tp_happen::{ApplyFault, Event, EventRef, Outcome, Part, State, Why, apply, event};
-use tp_small_tasks::{World, task_of};
 use tp_task::{AtomId, FluentId, Task};
+use tp_testkit_tasks::{World, task_of};
 
 /// An event of an action by its name: its only one, or its start or end with these objects in a step of so many ticks.
 #[derive(Clone, Copy)]

@@ -9,8 +9,8 @@ use std::str::from_utf8;
 use std::sync::ledger::{Blank, Ledger};
 use std::test::Fail;
 use tp_device::{Failed, ToWrite};
-use tp_small_tasks::{CHARGES, FUSES, SWITCHES, TANKS, World};
 use tp_syntax::{Domain, SyntaxFault, print_domain, read_domain, read_problem};
+use tp_testkit_tasks::{CHARGES, FUSES, SWITCHES, TANKS, World};
 use tp_text::TextFault;
 
 fn print_to<L: Ledger, W: Write + Drop>(

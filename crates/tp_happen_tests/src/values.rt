@@ -5,8 +5,8 @@ use std::alloc::{AllocError, Global};
 use std::process::Abort;
 use std::test::Fail;
 use tp_happen::{Range, State, compares, constraint_defined, holds, value};
-use tp_small_tasks::{TANKS, task_of};
 use tp_task::{Body, Comparison, Cond, Expr, Limit, Task};
+use tp_testkit_tasks::{TANKS, task_of};
 
 /// A condition on the fluent without a value.
 fn undefined(alloc: Global) -> Result<Cond, AllocError> {

@@ -1,6 +1,4 @@
-pub mod Sound
-pub mod Edges
-pub mod Allowed
-pub mod Reasons
-pub mod Journal
-pub mod Writing
+pub mod Form
+pub mod Auditing
+pub mod Telling
+pub mod Laws

@@ -1,26 +1,24 @@
-//! Journals of executives: how they are written, and whether an answer is one that may stand there.
+//! The audit of journals, and the reading of their heads.
 //!
-//! - `writing`: lines of commands answered, with their journal.
-//! - `gathered`: a text that is gathered before it is written.
-//! - `faults`: what ends that early.
-//! - `refusals`: the first refusal that applies to a command, without the command.
-//! - `edges`: the edges of a reason, read from its words.
-//! - `reasons`: whether edges are a reason against a command, in three walks.
-//! - `page`: bytes that are written to be compared.
-//! - `judging`: whether an answer is one that the machine allows.
+//! - `form`: which lines may stand where in a journal, whatever executive it is of.
+//! - `telling`: the head of a journal, as its lines tell it.
+//! - `auditing`: the audit of a whole journal.
+//! - `faults`: what audits answer.
+//! - `laws`: what holds of what a journal writes.
 #![tactic(auto)]
 
-mod edges;
+mod auditing;
 mod faults;
-mod gathered;
-mod judging;
-mod page;
-mod reasons;
-mod refusals;
-mod writing;
+mod form;
+mod laws;
+mod telling;
 
-pub use edges::{begins_with, read_edge};
-pub use faults::JournalFault;
-pub use judging::{Finding, judge};
-pub use page::{head_text, is_text_of_command};
-pub use writing::journal;
+pub use auditing::audit;
+pub use faults::{AuditFault, Audited, JournalHead};
+pub use laws::{
+    answers_have_the_form, heads_are_read, journals_are_accepted, journals_are_never_wrong,
+    journals_break_nowhere, journals_have_short_lines, journals_have_the_form,
+    journals_have_their_head, pairs_have_the_form, questions_are_read, texts_lead_to_one_state,
+    written_journals_are_accepted, written_journals_have_short_lines,
+};
+pub use telling::journal_head;

@@ -3,7 +3,7 @@ ghost use Rattle.std.specs.Prelude.{ℕ, ◌<◌};
 
 use tp_bounds::{Bound, BoundId, Edge, Point};
 use tp_net::{BoxNet, Net, ScratchNet};
-use tp_net_trials::{Answer, Change, ask, window};
+use tp_testkit_nets::{Answer, Change, ask, window};
 
 /// A network as the tests keep it: at most three events, a horizon of at most 6, identifiers below 4.
 #[derive(Clone, Copy, Debug)]

@@ -5,7 +5,7 @@ use std::alloc::{AllocError, Global};
 use std::test::Fail;
 use tp_bounds::{Bound, BoundId, Edge, Point};
 use tp_net::{BoxNet, Net, ScratchNet};
-use tp_net_trials::{Answer, Change, ask, window};
+use tp_testkit_nets::{Answer, Change, ask, window};
 
 const ORIGIN: Point = Point::Origin;
 

@@ -14,13 +14,13 @@ use Rattle.tp_bounds.specs.Setting.{Setting, HasPoint}
 use Rattle.tp_bounds.specs.Schedule.{moment_of}
 use Rattle.tp_net.specs.Arcs.{number_of, arc_of}
 use Rattle.tp_net.proofs.KeptMoments.{kept_least, kept_greatest}
-use Rattle.tp_moments.specs.declared.engine.Engine.{Engine}
-use Rattle.tp_moments.specs.declared.store.Node.{Node}
-use Rattle.tp_moments.specs.Engine.{IsRepaired, IsLoose}
-use Rattle.tp_moments.specs.Costs.{AreWindows, HoldsNoMoment}
-use Rattle.tp_moments.proofs.Repaired.{kept}
+use Rattle.tp_repair_engine.specs.declared.engine.Engine.{Engine}
+use Rattle.tp_repair_engine.specs.declared.store.Node.{Node}
+use Rattle.tp_repair_engine.specs.Engine.{IsRepaired, IsLoose}
+use Rattle.tp_repair_engine.specs.Costs.{AreWindows, HoldsNoMoment}
+use Rattle.tp_repair_engine.proofs.Repaired.{kept}
 use Rattle.tp_repair.proofs.Renewed.{own_there, own_arc}
-use Rattle.tp_moments.proofs.Cheap.{one_least, one_greatest}
+use Rattle.tp_repair_engine.proofs.Cheap.{one_least, one_greatest}
 
 module _ (s : Setting) (count : ℕ) (keys : BTreeMap ℕ ℕ) (floors ends : List ℕ) (g : Engine) (r : IsRepaired s count keys floors ends g)
     (low high : ℕ → ℕ)

@@ -22,22 +22,22 @@ use Rattle.tp_net.proofs.Listings.{now_edge, end_edge}
 use Rattle.tp_net.proofs.Raises.{raised_bound, raised_arc, moved, there_was, fit_raised}
 use Rattle.tp_net.proofs.Fixes.{past_bound, past_arc_is, moved_past, was, fit_fixed}
 use Rattle.tp_net.proofs.Removals.{still_there, was_there, none_left, get_remove_other, fit_removed, start_removed}
-use Rattle.tp_moments.specs.declared.store.Node.{Node}
-use Rattle.tp_moments.specs.declared.engine.Engine.{Engine}
+use Rattle.tp_repair_engine.specs.declared.store.Node.{Node}
+use Rattle.tp_repair_engine.specs.declared.engine.Engine.{Engine}
 use Rattle.tp_net.specs.Moments.{IsStart}
-use Rattle.tp_moments.specs.Store.{names_of, kept_arcs, KeepsOthers, keys_of, near, one_at}
-use Rattle.tp_moments.proofs.Degrees.{counted_same, counted_left}
-use Rattle.tp_moments.specs.Kept.{IsUnder, AreNodes}
-use Rattle.tp_moments.specs.Engine.{IsWired, IsRepaired, AreMapped, IsChanged, IsLeft, IsUntouched}
-use Rattle.tp_moments.specs.Slots.{raised_node, past_node, past_slots, left_slots, IsOpenFloor}
-use Rattle.tp_moments.specs.Bringing.{IsUnbrought}
-use Rattle.tp_moments.specs.Asked.{IsFromEvent}
+use Rattle.tp_repair_engine.specs.Store.{names_of, kept_arcs, KeepsOthers, keys_of, near, one_at}
+use Rattle.tp_repair_engine.proofs.Degrees.{counted_same, counted_left}
+use Rattle.tp_repair_engine.specs.Kept.{IsUnder, AreNodes}
+use Rattle.tp_repair_engine.specs.Engine.{IsWired, IsRepaired, AreMapped, IsChanged, IsLeft, IsUntouched}
+use Rattle.tp_repair_engine.specs.Slots.{raised_node, past_node, past_slots, left_slots, IsOpenFloor}
+use Rattle.tp_repair_engine.specs.Bringing.{IsUnbrought}
+use Rattle.tp_repair_engine.specs.Asked.{IsFromEvent}
 use Rattle.tp_net.specs.Graph.{HasNoSolution}
 use Rattle.tp_net.specs.Arcs.{NamesCycle}
 use Rattle.tp_net.proofs.Additions.{with_new, without_new}
-use Rattle.tp_moments.specs.Store.{arcs_of}
-use Rattle.tp_moments.proofs.Nodes.{nodes_listed, solution_kept}
-use Rattle.tp_moments.proofs.Changes.{left_here, left_other}
+use Rattle.tp_repair_engine.specs.Store.{arcs_of}
+use Rattle.tp_repair_engine.proofs.Nodes.{nodes_listed, solution_kept}
+use Rattle.tp_repair_engine.proofs.Changes.{left_here, left_other}
 use Rattle.std.proofs.lemmas.Int.{ints}
 use Rattle.tp_net.specs.Kept.{IsKept}
 use Rattle.tp_net.specs.Sizes.{IsSmallWeight}
@@ -46,8 +46,8 @@ use Rattle.tp_net.proofs.KeptMoments.{kept_low_fits, kept_high_fits, high_schedu
 use Rattle.tp_net.proofs.Starts.{start}
 use Rattle.tp_net.proofs.Laws.{withdrawn}
 use Rattle.tp_net.proofs.Listings.{events_of}
-use Rattle.tp_moments.proofs.Stores.{arc_has}
-use Rattle.tp_moments.proofs.Repaired.{kept, among, weights, wired_here, under_kept, repaired_unbrought}
+use Rattle.tp_repair_engine.proofs.Stores.{arc_has}
+use Rattle.tp_repair_engine.proofs.Repaired.{kept, among, weights, wired_here, under_kept, repaired_unbrought}
 
 -- ---- nothing changed
 

@@ -5,26 +5,26 @@ ghost use Rattle.tp_bounds.specs.Setting.{event_count, fixed_at, floor_of, HasPo
 ghost use Rattle.tp_bounds.specs.Schedule.{HasSchedule};
 ghost use Rattle.tp_bounds.specs.Changes.{with_bound, without_bound, proposing, at_moment, with_fixed, with_lag};
 ghost use Rattle.tp_net.specs.Faults.{RefusesBy, IsNew, IsNow, IsPastOf, SaysBetween, IsBetween};
-ghost use Rattle.tp_moments.specs.Told.{edge_count};
-ghost use Rattle.tp_moments.specs.Costs.{IsCheap, AreWindows, HoldsNoMoment, SeesConflict};
+ghost use Rattle.tp_repair_engine.specs.Told.{edge_count};
+ghost use Rattle.tp_repair_engine.specs.Costs.{IsCheap, AreWindows, HoldsNoMoment, SeesConflict};
 ghost use Rattle.tp_bounds.specs.declared.Bound.{Bound};
 ghost use Rattle.std.specs.Ordering.{nat_cmp};
 ghost use Rattle.std.specs.BTreeMap.{BTreeMap, get};
 ghost use Rattle.tp_net.specs.NewNet.{new_setting};
 ghost use Rattle.tp_net.specs.Arcs.{past_name};
-ghost use Rattle.tp_moments.specs.Work.{IsIdle};
+ghost use Rattle.tp_repair_engine.specs.Work.{IsIdle};
 
 use std::alloc::{AllocError, Global};
 use std::collections::BTreeMap;
 use std::marker::Model;
 use tp_bounds::{Bound, BoundId, Edge, MOST_LAG, Reason};
-use tp_moments::change::{leave, raise, settle};
-use tp_moments::engine::{Engine, bring, refute};
-use tp_moments::flow::Work;
-use tp_moments::star::star;
-use tp_moments::store::named;
 use tp_net::edges::{floor, name_past, start_arc, stop_arc};
 use tp_net::{Net, NetFault, late, tops};
+use tp_repair_engine::change::{leave, raise, settle};
+use tp_repair_engine::engine::{Engine, bring, refute};
+use tp_repair_engine::flow::Work;
+use tp_repair_engine::star::star;
+use tp_repair_engine::store::named;
 
 /// A network for bounds between any two points. It keeps the least and the greatest moment of each, and a change costs
 /// what it changes.
@@ -45,8 +45,8 @@ pub struct RepairNet {
 
 impl Model for RepairNet {
     ghost use Rattle.std.specs.Prelude.{length};
-    ghost use Rattle.tp_moments.specs.Told.{Told, coded_told, settled};
-    ghost use Rattle.tp_moments.specs.Engine.{IsRepaired};
+    ghost use Rattle.tp_repair_engine.specs.Told.{Told, coded_told, settled};
+    ghost use Rattle.tp_repair_engine.specs.Engine.{IsRepaired};
 
     ghost Value = { Told };
 

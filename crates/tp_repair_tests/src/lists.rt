@@ -3,8 +3,8 @@ use std::alloc::{AllocError, Global};
 use std::test::Fail;
 use tp_bounds::{Bound, Point};
 use tp_net::{Net, ScratchNet};
-use tp_net_trials::{Answer, Change, ask, window};
 use tp_repair::RepairNet;
+use tp_testkit_nets::{Answer, Change, ask, window};
 
 const EVENTS: u16 = 6;
 

@@ -8,10 +8,10 @@ use crate::lists::{next, pick, point};
 use std::alloc::{AllocError, Global};
 use std::test::Fail;
 use tp_bounds::{Bound, BoundId, Edge, Limits, Setting, check_reason};
-use tp_machine::{Answer, Command, Executive, Refusal, perform};
+use tp_exec_machine::{Answer, Command, Executive, Refusal, perform};
 use tp_net::{Net, ScratchNet};
-use tp_net_trials::{has_point, is_in_range, window};
 use tp_repair::RepairNet;
+use tp_testkit_nets::{has_point, is_in_range, window};
 
 const LISTS: u64 = 1_000;
 

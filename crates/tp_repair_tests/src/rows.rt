@@ -5,8 +5,8 @@ use std::alloc::{AllocError, Global};
 use std::test::Fail;
 use tp_bounds::{Bound, BoundId, Edge, Point};
 use tp_net::Net;
-use tp_net_trials::{Answer, Change, ask, window};
 use tp_repair::RepairNet;
+use tp_testkit_nets::{Answer, Change, ask, window};
 
 const ORIGIN: Point = Point::Origin;
 

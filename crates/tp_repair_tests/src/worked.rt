@@ -6,8 +6,8 @@ use std::alloc::{AllocError, Global};
 use std::test::Fail;
 use tp_bounds::{Bound, BoundId, Edge, Point};
 use tp_net::NetFault;
-use tp_net_trials::{Change, outcome, window};
 use tp_repair::RepairNet;
+use tp_testkit_nets::{Change, outcome, window};
 
 const ORIGIN: Point = Point::Origin;
 

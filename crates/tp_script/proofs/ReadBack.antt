@@ -13,8 +13,8 @@ use Rattle.std.proofs.Math.Nat.{pow-succ', pow-le-pow_right, mul-le-mul_right}
 use Rattle.tp_bounds.specs.declared.Point.{Point}
 use Rattle.tp_bounds.specs.declared.Point.TheVariants.{Origin, Event}
 use Rattle.tp_bounds.specs.declared.Bound.{Bound}
-use Rattle.tp_machine.specs.declared.command.Command.{Command}
-use Rattle.tp_machine.specs.declared.command.Command.TheVariants.{Advance, Add, Withdraw, Window, Dispatch, Happened, Report}
+use Rattle.tp_exec_machine.specs.declared.command.Command.{Command}
+use Rattle.tp_exec_machine.specs.declared.command.Command.TheVariants.{Advance, Add, Withdraw, Window, Dispatch, Happened, Report}
 use Rattle.tp_script.specs.Words.{words_of, number_of, is_digit, value_from}
 use Rattle.tp_script.specs.Commands.{up_to, event_of, moment_of, point_of, weight_of, the_only, bound_spelled, pair_spelled, list_is_empty, command_from, command_of}
 use Rattle.tp_script.specs.Written.{point_text, bound_text, command_text, IsSpelled}

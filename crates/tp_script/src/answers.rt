@@ -2,15 +2,14 @@
 
 ghost use Rattle.std.specs.Prelude.{◌≡◌, ◌≤◌, ◌++◌, ◌∷◌, length, codes, decimal, flat_map};
 ghost use Rattle.tp_device.specs.Bytes.{Writes, failures_after};
-ghost use Rattle.tp_machine.specs.declared.command.Answer.TheVariants.{Refused, Reported};
-ghost use Rattle.tp_machine.specs.declared.refusal.Refusal.TheVariants.{Conflict};
+ghost use Rattle.tp_exec_machine.specs.declared.command.Answer.TheVariants.{Refused, Reported};
+ghost use Rattle.tp_exec_machine.specs.declared.refusal.Refusal.TheVariants.{Conflict};
 ghost use Rattle.tp_script.specs.Transcript.{edge_text, kind_text, moment_text, line_of};
 
 use crate::numbered::{write_numbered, write_two_numbers};
 use tp_bounds::{Edge, Reason};
-use tp_device::{Failed, Sink, push_all};
-use tp_machine::{Answer, Kind, Refusal, Report};
-use tp_short_text::Text;
+use tp_device::{Failed, Sink, Text, push_all};
+use tp_exec_machine::{Answer, Kind, Refusal, Report};
 
 /// The word of a kind.
 fn kind_word(kind: Kind) -> &'static [u8]

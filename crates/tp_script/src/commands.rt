@@ -7,7 +7,7 @@ ghost use Rattle.tp_script.specs.Commands.{event_of, moment_of, point_of, weight
 
 use crate::words::{next_word, read_number};
 use tp_bounds::{Bound, BoundId, Point};
-use tp_machine::Command;
+use tp_exec_machine::Command;
 
 /// An event number of at most 65,535, of one to ten digits.
 pub fn read_event(word: &[u8]) -> Option<u16>

@@ -2,7 +2,7 @@
 
 ghost use Rattle.std.specs.Prelude.{◌≡◌, ◌↔◌, IsTrue};
 ghost use Rattle.tp_bounds.specs.Setting.{event_count};
-ghost use Rattle.tp_machine.specs.Machine.{IsFresh};
+ghost use Rattle.tp_exec_machine.specs.Machine.{IsFresh};
 ghost use Rattle.tp_script.specs.Lags.{lag_spelled, MaySet, ReadsLags};
 ghost use Rattle.tp_script.specs.Serving.{read_failures};
 

@@ -3,8 +3,7 @@
 ghost use Rattle.std.specs.Prelude.{◌≡◌, ◌≤◌, ◌++◌, length, codes, decimal};
 ghost use Rattle.tp_device.specs.Bytes.{Writes, failures_after};
 
-use tp_device::{Failed, Sink, push_all};
-use tp_short_text::Text;
+use tp_device::{Failed, Sink, Text, push_all};
 
 /// Writes a line of a word, with the space behind it, and a number. It takes no memory. Where the writer fails, it has taken
 /// some first part of the line.

@@ -9,7 +9,7 @@ use std::sync::ledger::{Blank, Ledger};
 use std::test::Fail;
 use tp_bounds::{BoundId, Edge, Reason};
 use tp_device::{Failed, ToWrite};
-use tp_machine::{Kind, Refusal, Report};
+use tp_exec_machine::{Kind, Refusal, Report};
 use tp_script::{Answer, write_answer};
 
 /// Writes the lines of answers.

@@ -9,7 +9,7 @@ use std::marker::Brand;
 use std::sync::ledger::{Blank, Ledger};
 use tp_bounds::Limits;
 use tp_device::{FromRead, ToWrite};
-use tp_machine::Executive;
+use tp_exec_machine::Executive;
 use tp_net::ScratchNet;
 use tp_script::{Lines, ServeFault, Served, read_head, read_lags, serve};
 

@@ -1,2 +1,2 @@
-pub use Rattle.tp_frontier.specs as tp_frontier
-pub use Rattle.tp_at_once.specs as tp_at_once
+pub use Rattle.tp_search_frontier.specs as tp_search_frontier
+pub use Rattle.tp_search_instant.specs as tp_search_instant

@@ -2,14 +2,14 @@
 
 ghost use Rattle.std.specs.Prelude.{◌≡◌, ◌≤◌, ◌&&◌, true, nat_le, length, IfOk, IfSome};
 ghost use Rattle.std.specs.List.{list_all};
-ghost use Rattle.tp_happen.specs.tp_plan_texts.Steps.{IsPlan, ends_in_time};
-ghost use Rattle.tp_happen.specs.tp_plan_texts.TaskWords.{is_durative};
+ghost use Rattle.tp_happen.specs.tp_plan_text.Steps.{IsPlan, ends_in_time};
+ghost use Rattle.tp_happen.specs.tp_plan_text.TaskWords.{is_durative};
 ghost use Rattle.tp_validate.specs.OfTask.{IsOfTask, IsValidPlan, is_step_of};
-ghost use Rattle.tp_at_once.specs.Plans.{ends_by, is_step_within, EndsBy, is_plan_within};
+ghost use Rattle.tp_search_instant.specs.Plans.{ends_by, is_step_within, EndsBy, is_plan_within};
 
 use std::alloc::Global;
-use tp_frontier::SearchFault;
 use tp_happen::{Plan, Step};
+use tp_search_frontier::SearchFault;
 use tp_task::{Body, MOST_STEPS, Task};
 use tp_validate::{ValidPlan, ValidateFault, Verdict, validate};
 

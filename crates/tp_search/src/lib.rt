@@ -4,7 +4,7 @@
 //! - `certify`: what is found is judged by the validator
 //! - `laws`: what is known of plans, whatever the search does
 //!
-//! Where no node is left, plans of instantaneous steps at tick 0 are looked at (`tp_at_once`).
+//! Where no node is left, plans of instantaneous steps at tick 0 are looked at (`tp_search_instant`).
 #![tactic(auto)]
 
 mod certify;
@@ -14,5 +14,5 @@ mod seeking;
 pub use certify::certified;
 pub use laws::{plans_at_once_are_met, unreachable_has_no_plan};
 pub use seeking::search;
-pub use tp_at_once::found::Found;
-pub use tp_frontier::SearchFault;
+pub use tp_search_frontier::SearchFault;
+pub use tp_search_instant::found::Found;

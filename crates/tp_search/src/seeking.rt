@@ -3,18 +3,18 @@
 ghost use Rattle.std.specs.Prelude.{◌≡◌, ◌≤◌, [], true, IfOk, IfSome};
 ghost use Rattle.tp_task.specs.Reach as spec;
 ghost use Rattle.tp_validate.specs.OfTask.{IsValidPlan};
-ghost use Rattle.tp_reach.specs.TaskReach.{GoalIs};
-ghost use Rattle.tp_at_once.specs.Plans.{EndsBy};
-ghost use Rattle.tp_at_once.specs.Answers.{IsAnswer};
+ghost use Rattle.tp_task_reachability.specs.TaskReach.{GoalIs};
+ghost use Rattle.tp_search_instant.specs.Plans.{EndsBy};
+ghost use Rattle.tp_search_instant.specs.Answers.{IsAnswer};
 
 use crate::certify::certified;
 use std::alloc::{AllocError, Global};
-use tp_at_once::at_once::{judge, plan_at_once};
-use tp_at_once::found::Found;
-use tp_frontier::{Chosen, Frontier, SearchFault};
 use tp_happen::Step;
-use tp_reach::{met, reach};
+use tp_search_frontier::{Chosen, Frontier, SearchFault};
+use tp_search_instant::at_once::{judge, plan_at_once};
+use tp_search_instant::found::Found;
 use tp_task::Task;
+use tp_task_reachability::{met, reach};
 use tp_validate::ValidPlan;
 
 fn step_of(chosen: &Chosen) -> Step {

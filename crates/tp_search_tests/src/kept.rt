@@ -6,9 +6,9 @@ use crate::seeking::answer;
 use std::alloc::Global;
 use std::process::Abort;
 use std::test::Fail;
-use tp_small_tasks::{World, kept_of, task_of};
-use tp_small_worlds::{MATCH, MATCHES, TOGGLE, TOGGLED};
 use tp_task::Task;
+use tp_testkit_domains::{MATCH, MATCHES, TOGGLE, TOGGLED};
+use tp_testkit_tasks::{World, kept_of, task_of};
 use tp_text::Scale;
 
 // One more than the greatest budget.

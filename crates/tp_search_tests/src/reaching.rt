@@ -5,10 +5,10 @@ ghost use Rattle.std.specs.Prelude.{◌≤◌};
 use std::alloc::{AllocError, Global};
 use std::process::Abort;
 use std::test::Fail;
-use tp_reach::{goal_in_reach, met, reach};
-use tp_small_tasks::{World, task_of};
-use tp_small_worlds::{EMPTY_TANK, MATCH, MATCHES, TANK, TOGGLE};
 use tp_task::Task;
+use tp_task_reachability::{goal_in_reach, met, reach};
+use tp_testkit_domains::{EMPTY_TANK, MATCH, MATCHES, TANK, TOGGLE};
+use tp_testkit_tasks::{World, task_of};
 use tp_text::Scale;
 
 const FUSES: World<'static> = World {

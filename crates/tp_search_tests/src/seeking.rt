@@ -7,8 +7,8 @@ use std::process::Abort;
 use std::test::Fail;
 use tp_happen::{Step, read_plan};
 use tp_search::{Found, search};
-use tp_small_tasks::{World, task_of};
 use tp_task::Task;
+use tp_testkit_tasks::{World, task_of};
 use tp_validate::{ValidPlan, Verdict, validate};
 
 /// A budget, and the answer wanted with it: the text of a plan, or a word and a number.

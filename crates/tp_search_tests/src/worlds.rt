@@ -2,8 +2,8 @@
 
 use crate::seeking::{Row, are_answered};
 use std::test::Fail;
-use tp_small_tasks::World;
-use tp_small_worlds::{CHARGE, EMPTY_TANK, MATCH, MATCHES, TANK, TOGGLE, TOGGLED, UNCHARGED};
+use tp_testkit_domains::{CHARGE, EMPTY_TANK, MATCH, MATCHES, TANK, TOGGLE, TOGGLED, UNCHARGED};
+use tp_testkit_tasks::World;
 use tp_text::Scale;
 
 const FUSES: World<'static> = World {

@@ -1,8 +1,8 @@
 //! A plan of a task, or why there is none: the guided search first, then the search by the count of unmet goal conjuncts.
 
 ghost use Rattle.std.specs.Prelude.{◌≡◌, true, false, IfOk, IfSome};
-ghost use Rattle.tp_reach.specs.TaskReach.{GoalIs};
-ghost use Rattle.tp_search.specs.tp_at_once.Answers.{IsAnswer};
+ghost use Rattle.tp_task_reachability.specs.TaskReach.{GoalIs};
+ghost use Rattle.tp_search.specs.tp_search_instant.Answers.{IsAnswer};
 ghost use Rattle.tp_solve.specs.Sought.{IsSought};
 
 use crate::board::tell;
@@ -10,11 +10,11 @@ use crate::least::{makespan, tightened};
 use crate::seeking::{Aim, Outcome, bettered, sought};
 use std::alloc::Global;
 use std::io::{Write, sink};
-use tp_at_once::at_once::judge;
 use tp_guided::Guided;
-use tp_reach::goal_in_reach;
 use tp_search::{Found, SearchFault, search, unreachable_has_no_plan};
+use tp_search_instant::at_once::judge;
 use tp_task::Task;
+use tp_task_reachability::goal_in_reach;
 
 /// What is wished for beside a plan: better ones, until the budget is spent; and that the makespan of each is told as it is found.
 #[derive(Clone, Copy, Debug, PartialEq, Eq)]

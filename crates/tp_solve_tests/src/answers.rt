@@ -2,9 +2,9 @@
 
 use std::alloc::Global;
 use std::test::Fail;
-use tp_small_tasks::{FUSES, SWITCHES, World, task_of};
 use tp_solve::{Found, SearchFault, Wishes, makespan, solve, solve_with};
 use tp_task::Task;
+use tp_testkit_tasks::{FUSES, SWITCHES, World, task_of};
 
 /// The kind of an answer, with when its plan ends or how much it spent.
 #[derive(Clone, Copy, PartialEq, Eq)]

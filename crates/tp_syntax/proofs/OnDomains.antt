@@ -3,23 +3,23 @@ use Rattle.std.proofs.Common.{◌≡◌, ℕ, List, [], ◌∷◌, ◌++◌, len
 use Rattle.tp_text.specs.Shapes.{Shape, leaf, node, Shapes, no_shapes, shape}
 use Rattle.std.proofs.Common.{◌+◌, ◌<◌, ◌≤◌, cond, codes}
 use Rattle.std.proofs.lemmas.List.{at_drop_more, at_drop_all}
-use Rattle.tp_ast.specs.Lists.{first_of}
-use Rattle.tp_ast.specs.Words.{is_word}
-use Rattle.tp_ast.specs.Terms.{shapes}
-use Rattle.tp_ast.specs.Actions.{action_of}
-use Rattle.tp_parts.specs.KeyedParts.{SectionItem}
-use Rattle.tp_ast.specs.declared.fault.SyntaxFault.{SyntaxFault}
-use Rattle.tp_ast.proofs.OnFaults.{fails_from}
-use Rattle.tp_ast.proofs.OnGives.{bind_bind}
-use Rattle.tp_ast.specs.Gives.{◌>>=◌, provided, with_front, Fails}
-use Rattle.tp_ast.specs.Symbols.{Name, Parent, Declared, SignatureView, Symbols}
-use Rattle.tp_ast.specs.TypedLists.{has_twice}
-use Rattle.tp_ast.specs.Actions.{Action}
-use Rattle.tp_ast.specs.Domains.{Domain, SectionBody, requirements_in, types_in, objects_in, section, action_at, actions_in, sections_of, each_once, named, defined, domain_with, domain_of}
-use Rattle.tp_declarations.specs.SignatureViews.{predicates_in, functions_in}
-use Rattle.tp_parts.specs.SectionViews.{section_body_view, action_kind, actions_once, checked_sections, domain_symbols}
-use Rattle.tp_ast.specs.declared.words.Section.{Section}
-use Rattle.tp_ast.specs.declared.words.Section.TheVariants as sections
+use Rattle.tp_syntax_ast.specs.Lists.{first_of}
+use Rattle.tp_syntax_ast.specs.Words.{is_word}
+use Rattle.tp_syntax_ast.specs.Terms.{shapes}
+use Rattle.tp_syntax_ast.specs.Actions.{action_of}
+use Rattle.tp_syntax_sections.specs.KeyedParts.{SectionItem}
+use Rattle.tp_syntax_ast.specs.declared.fault.SyntaxFault.{SyntaxFault}
+use Rattle.tp_syntax_ast.proofs.OnFaults.{fails_from}
+use Rattle.tp_syntax_ast.proofs.OnGives.{bind_bind}
+use Rattle.tp_syntax_ast.specs.Gives.{◌>>=◌, provided, with_front, Fails}
+use Rattle.tp_syntax_ast.specs.Symbols.{Name, Parent, Declared, SignatureView, Symbols}
+use Rattle.tp_syntax_ast.specs.TypedLists.{has_twice}
+use Rattle.tp_syntax_ast.specs.Actions.{Action}
+use Rattle.tp_syntax_ast.specs.Domains.{Domain, SectionBody, requirements_in, types_in, objects_in, section, action_at, actions_in, sections_of, each_once, named, defined, domain_with, domain_of}
+use Rattle.tp_syntax_scope.specs.SignatureViews.{predicates_in, functions_in}
+use Rattle.tp_syntax_sections.specs.SectionViews.{section_body_view, action_kind, actions_once, checked_sections, domain_symbols}
+use Rattle.tp_syntax_ast.specs.declared.words.Section.{Section}
+use Rattle.tp_syntax_ast.specs.declared.words.Section.TheVariants as sections
 
 module _ (n : Name) (parts : List SectionBody) where
   abbrev pub made : List Name → List Parent → List Declared → List SignatureView → List SignatureView → List Action → Domain

@@ -6,15 +6,15 @@ use Rattle.std.proofs.lemmas.List.{nil_from_length}
 use Rattle.tp_text.specs.Shapes.{leaf, node, Shapes, no_shapes, shape}
 use Rattle.tp_text.specs.Trees.{shape_of}
 use Rattle.tp_text.specs.declared.tree.Tree.{Tree}
-use Rattle.tp_ast.specs.Terms.{shapes}
-use Rattle.tp_ast.specs.Gives.{◌>>=◌, provided}
-use Rattle.tp_ast.specs.Symbols.{Name, Declared, Parent, Symbols, typed_view}
-use Rattle.tp_ast.specs.TypedLists.{typed_list, is_type, has_twice, are_declared}
-use Rattle.tp_ast.specs.Domains.{Domain, objects_in}
-use Rattle.tp_ast.specs.Problems.{initial_list, initial_at, initial_of, new_objects}
-use Rattle.tp_ast.specs.declared.symbols.Typed.{Typed}
-use Rattle.tp_ast.specs.declared.words.Items.TheVariants.{Names}
-use Rattle.tp_ast.proofs.Loops.{IsEach}
+use Rattle.tp_syntax_ast.specs.Terms.{shapes}
+use Rattle.tp_syntax_ast.specs.Gives.{◌>>=◌, provided}
+use Rattle.tp_syntax_ast.specs.Symbols.{Name, Declared, Parent, Symbols, typed_view}
+use Rattle.tp_syntax_ast.specs.TypedLists.{typed_list, is_type, has_twice, are_declared}
+use Rattle.tp_syntax_ast.specs.Domains.{Domain, objects_in}
+use Rattle.tp_syntax_ast.specs.Problems.{initial_list, initial_at, initial_of, new_objects}
+use Rattle.tp_syntax_ast.specs.declared.symbols.Typed.{Typed}
+use Rattle.tp_syntax_ast.specs.declared.words.Items.TheVariants.{Names}
+use Rattle.tp_syntax_ast.proofs.Loops.{IsEach}
 
 module _ (σ : Symbols) where
   pub each_initial : IsEach (λ (t : Tree). initial_at σ (shape_of t)) (λ ts. initial_of σ (shapes ts))

@@ -2,11 +2,11 @@
 use Rattle.std.proofs.Common.{◌≡◌, ℕ, ◌≤◌, List, Option, Some, None, sym, ap, ◌∙◌, subst}
 use Rattle.tp_text.specs.Shapes.{Shape, Spells, nesting}
 use Rattle.tp_text.proofs.OnTrees.{spells_one_tree}
-use Rattle.tp_ast.specs.Gives.{Fails}
+use Rattle.tp_syntax_ast.specs.Gives.{Fails}
 use Rattle.tp_syntax.specs.Limits.{NestsUpTo}
-use Rattle.tp_ast.specs.Readings.{SpellsNone, IsRefusedAs, of_tree}
-use Rattle.tp_ast.specs.declared.fault.SyntaxFault.{SyntaxFault}
-use Rattle.tp_ast.specs.declared.fault.SyntaxFault.TheVariants as faults
+use Rattle.tp_syntax_ast.specs.Readings.{SpellsNone, IsRefusedAs, of_tree}
+use Rattle.tp_syntax_ast.specs.declared.fault.SyntaxFault.{SyntaxFault}
+use Rattle.tp_syntax_ast.specs.declared.fault.SyntaxFault.TheVariants as faults
 
 module _ {Y : Type 0} (meaning : Shape → Option Y) (text : List ℕ) where
   no_meaning : (s : Shape) → Spells text s → meaning s ≡ None → SpellsNone meaning text

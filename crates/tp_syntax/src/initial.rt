@@ -3,23 +3,23 @@
 ghost use Rattle.std.specs.Prelude.{◌≡◌, map, option_map, false, [], IfOk, not};
 ghost use Rattle.std.specs.Option.{is_some};
 ghost use Rattle.tp_text.specs.Trees.{shape_of};
-ghost use Rattle.tp_ast.specs.Terms.{shapes, atom_view};
-ghost use Rattle.tp_names.specs.SymbolViews.{symbols_view};
-ghost use Rattle.tp_ast.specs.Symbols.{atom_in};
-ghost use Rattle.tp_ast.specs.Problems.{holds, initial_number, denied, valued, initial_list, initial_at, initial_of, no_clash};
-ghost use Rattle.tp_ast.specs.DomainViews.{initial_view};
-ghost use Rattle.tp_ast.specs.Gives.{Gives, IsKept};
+ghost use Rattle.tp_syntax_ast.specs.Terms.{shapes, atom_view};
+ghost use Rattle.tp_syntax_scope.specs.SymbolViews.{symbols_view};
+ghost use Rattle.tp_syntax_ast.specs.Symbols.{atom_in};
+ghost use Rattle.tp_syntax_ast.specs.Problems.{holds, initial_number, denied, valued, initial_list, initial_at, initial_of, no_clash};
+ghost use Rattle.tp_syntax_ast.specs.DomainViews.{initial_view};
+ghost use Rattle.tp_syntax_ast.specs.Gives.{Gives, IsKept};
 
 use std::alloc::Global;
-use tp_ast::fault::{LeftOutPart, SyntaxFault};
-use tp_ast::problem::Initial;
-use tp_ast::term::Atom;
-use tp_ast::words::is_word;
-use tp_declarations::lists::{both, only};
-use tp_names::scope::{Scope, atom_in};
-use tp_names::symbols::{Kind, Symbols};
-use tp_read::expr::{begins_number, number_fault, outside_conditions};
-use tp_read_effects::effect::atom_at;
+use tp_syntax_ast::fault::{LeftOutPart, SyntaxFault};
+use tp_syntax_ast::problem::Initial;
+use tp_syntax_ast::term::Atom;
+use tp_syntax_ast::words::is_word;
+use tp_syntax_conditions::expr::{begins_number, number_fault, outside_conditions};
+use tp_syntax_effects::effect::atom_at;
+use tp_syntax_scope::lists::{both, only};
+use tp_syntax_scope::scope::{Scope, atom_in};
+use tp_syntax_scope::symbols::{Kind, Symbols};
 use tp_text::{Token, Tree, read_whole};
 
 fn initial_number(fact: Atom, tree: &Tree, at: u32) -> Result<Initial, SyntaxFault>
@@ -35,7 +35,7 @@ fn initial_number(fact: Atom, tree: &Tree, at: u32) -> Result<Initial, SyntaxFau
 }
 
 // `(not (NAME TERM ..))`
-#[tactic(auto, unfolding(tp_ast::specs::Problems::denied))]
+#[tactic(auto, unfolding(tp_syntax_ast::specs::Problems::denied))]
 fn denied(alloc: Global, symbols: &Symbols, args: &[Tree], at: u32) -> Result<Initial, SyntaxFault>
     ensures { Gives initial_view result (denied (symbols_view symbols.now) (shapes args.now)) }
 {
@@ -48,7 +48,7 @@ fn denied(alloc: Global, symbols: &Symbols, args: &[Tree], at: u32) -> Result<In
 }
 
 // `(= F NUMBER)`
-#[tactic(auto, unfolding(tp_ast::specs::Problems::valued))]
+#[tactic(auto, unfolding(tp_syntax_ast::specs::Problems::valued))]
 fn valued(alloc: Global, symbols: &Symbols, args: &[Tree], at: u32) -> Result<Initial, SyntaxFault>
     ensures { Gives initial_view result (valued (symbols_view symbols.now) (shapes args.now)) }
 {
@@ -105,7 +105,7 @@ fn held(
     }
 }
 
-#[tactic(auto, unfolding(tp_ast::specs::Problems::initial_list))]
+#[tactic(auto, unfolding(tp_syntax_ast::specs::Problems::initial_list))]
 fn initial_list(
     alloc: Global,
     symbols: &Symbols,

@@ -1,16 +1,16 @@
 //! What the actions of a domain and a problem may name.
 
 ghost use Rattle.std.specs.Prelude.{◌≡◌, ◌++◌, map, IfOk};
-ghost use Rattle.tp_ast.specs.Symbols.{typed_view, signature_view};
-ghost use Rattle.tp_types.specs.TypeViews.{types_view};
-ghost use Rattle.tp_names.specs.SymbolViews.{symbols_view};
-ghost use Rattle.tp_parts.specs.SectionViews.{domain_symbols};
+ghost use Rattle.tp_syntax_ast.specs.Symbols.{typed_view, signature_view};
+ghost use Rattle.tp_syntax_types.specs.TypeViews.{types_view};
+ghost use Rattle.tp_syntax_scope.specs.SymbolViews.{symbols_view};
+ghost use Rattle.tp_syntax_sections.specs.SectionViews.{domain_symbols};
 
 use std::alloc::{AllocError, Global};
-use tp_ast::symbols::{Signature, Typed};
-use tp_names::symbols::Symbols;
-use tp_types::lookup::Lookup;
-use tp_types::types::Types;
+use tp_syntax_ast::symbols::{Signature, Typed};
+use tp_syntax_scope::symbols::Symbols;
+use tp_syntax_types::lookup::Lookup;
+use tp_syntax_types::types::Types;
 
 /// Types and objects that are found, beside predicates and functions.
 pub fn with_signatures<'d>(

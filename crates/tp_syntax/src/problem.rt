@@ -2,46 +2,46 @@
 
 ghost use Rattle.std.specs.Prelude.{◌≡◌, ◌++◌, map, string_bytes, length, ◌≤◌, IfOk, IfErr, OnOk};
 ghost use Rattle.std.specs.Option.{is_some};
-ghost use Rattle.tp_ast.specs.TypedLists.{has_twice};
+ghost use Rattle.tp_syntax_ast.specs.TypedLists.{has_twice};
 ghost use Rattle.tp_text.specs.Tokens.{max_text};
 ghost use Rattle.tp_text.specs.Trees.{shape_of};
 ghost use Rattle.tp_syntax.specs.Limits.{NestsUpTo};
-ghost use Rattle.tp_ast.specs.Terms.{shapes};
-ghost use Rattle.tp_ast.specs.Symbols.{typed_view};
-ghost use Rattle.tp_names.specs.SymbolViews.{symbols_view};
-ghost use Rattle.tp_types.specs.TypeViews.{types_view};
-ghost use Rattle.tp_ast.specs.Problems.{initial_of, section, goal_in, new_objects, stated, symbols_with, problem_with, own_name, problem_of, SpellsProblem, IsRefusedProblem};
-ghost use Rattle.tp_ast.specs.CondViews.{cond_view};
-ghost use Rattle.tp_ast.specs.DomainViews.{initial_view, domain_view, problem_view};
-ghost use Rattle.tp_parts.specs.ProblemViews.{section_body_view};
-ghost use Rattle.tp_ast.specs.Gives.{Gives};
-ghost use Rattle.tp_ast.specs.declared.words.ProblemSection.TheVariants as sections;
+ghost use Rattle.tp_syntax_ast.specs.Terms.{shapes};
+ghost use Rattle.tp_syntax_ast.specs.Symbols.{typed_view};
+ghost use Rattle.tp_syntax_scope.specs.SymbolViews.{symbols_view};
+ghost use Rattle.tp_syntax_types.specs.TypeViews.{types_view};
+ghost use Rattle.tp_syntax_ast.specs.Problems.{initial_of, section, goal_in, new_objects, stated, symbols_with, problem_with, own_name, problem_of, SpellsProblem, IsRefusedProblem};
+ghost use Rattle.tp_syntax_ast.specs.CondViews.{cond_view};
+ghost use Rattle.tp_syntax_ast.specs.DomainViews.{initial_view, domain_view, problem_view};
+ghost use Rattle.tp_syntax_sections.specs.ProblemViews.{section_body_view};
+ghost use Rattle.tp_syntax_ast.specs.Gives.{Gives};
+ghost use Rattle.tp_syntax_ast.specs.declared.words.ProblemSection.TheVariants as sections;
 
 use crate::initial::initial_of;
 use crate::known::with_signatures;
 use std::alloc::{AllocError, Global};
-use tp_ast::cond::Cond;
-use tp_ast::domain::Domain;
-use tp_ast::fault::{SyntaxFault, text_fault, tree_fault};
-use tp_ast::problem::{Initial, Problem};
-use tp_ast::symbols::Typed;
-use tp_ast::term::Atom;
-use tp_ast::words::ProblemSection;
-use tp_declarations::head::{defined, name_place, named, requirements_in};
-use tp_declarations::lists::{first_of, only};
-use tp_declarations::typed::{item_place, objects_in, place};
-use tp_names::scope::Scope;
-use tp_names::symbols::Symbols;
-use tp_parts::clash::first_clash;
-use tp_parts::keyed::SectionItem;
-use tp_parts::problem_sections::{find_section, once_each};
-use tp_read::cond::read_cond;
+use tp_syntax_ast::cond::Cond;
+use tp_syntax_ast::domain::Domain;
+use tp_syntax_ast::fault::{SyntaxFault, text_fault, tree_fault};
+use tp_syntax_ast::problem::{Initial, Problem};
+use tp_syntax_ast::symbols::Typed;
+use tp_syntax_ast::term::Atom;
+use tp_syntax_ast::words::ProblemSection;
+use tp_syntax_conditions::cond::read_cond;
+use tp_syntax_scope::head::{defined, name_place, named, requirements_in};
+use tp_syntax_scope::lists::{first_of, only};
+use tp_syntax_scope::scope::Scope;
+use tp_syntax_scope::symbols::Symbols;
+use tp_syntax_scope::typed::{item_place, objects_in, place};
+use tp_syntax_sections::clash::first_clash;
+use tp_syntax_sections::keyed::SectionItem;
+use tp_syntax_sections::problem_sections::{find_section, once_each};
+use tp_syntax_types::lookup::Lookup;
+use tp_syntax_types::once::second_mention;
+use tp_syntax_types::types::Types;
 use tp_text::{Tree, read_tree};
-use tp_types::lookup::Lookup;
-use tp_types::once::second_mention;
-use tp_types::types::Types;
 
-#[tactic(auto, unfolding(tp_ast::specs::Problems::goal_in))]
+#[tactic(auto, unfolding(tp_syntax_ast::specs::Problems::goal_in))]
 fn goal_in(alloc: Global, symbols: &Symbols, trees: &[Tree], at: u32) -> Result<Cond, SyntaxFault>
     ensures { Gives cond_view result (goal_in (symbols_view symbols.now) (shapes trees.now)) }
 {
@@ -72,7 +72,7 @@ fn named_again(
 }
 
 // The objects that the section at `at` declares, none of them a constant.
-#[tactic(auto, unfolding(tp_ast::specs::Problems::new_objects))]
+#[tactic(auto, unfolding(tp_syntax_ast::specs::Problems::new_objects))]
 fn new_objects(
     alloc: Global,
     types: &Types,
@@ -143,7 +143,7 @@ fn goal_of(
 }
 
 // What holds at first, and what is to hold. The problem is at `at`.
-#[tactic(auto, unfolding(tp_ast::specs::Problems::stated))]
+#[tactic(auto, unfolding(tp_syntax_ast::specs::Problems::stated))]
 fn stated(
     alloc: Global,
     symbols: &Symbols,
@@ -201,7 +201,7 @@ fn stated_of<'d>(
     stated(alloc, &symbols, parts, at)
 }
 
-#[tactic(auto, unfolding(tp_ast::specs::Problems::problem_with))]
+#[tactic(auto, unfolding(tp_syntax_ast::specs::Problems::problem_with))]
 fn problem_with(
     alloc: Global,
     domain: &Domain,
@@ -228,7 +228,7 @@ fn problem_with(
 }
 
 // The problem's name, beside that of its domain.
-#[tactic(auto, unfolding(tp_ast::specs::Problems::own_name))]
+#[tactic(auto, unfolding(tp_syntax_ast::specs::Problems::own_name))]
 fn own_name(
     alloc: Global,
     domain: &Domain,
@@ -247,7 +247,7 @@ fn own_name(
     Ok(name)
 }
 
-#[tactic(auto, unfolding(tp_ast::specs::Problems::problem_of))]
+#[tactic(auto, unfolding(tp_syntax_ast::specs::Problems::problem_of))]
 fn problem_of(alloc: Global, domain: &Domain, tree: &Tree) -> Result<Problem, SyntaxFault>
     ensures { Gives problem_view result (problem_of (domain_view domain.now) (shape_of tree.now)) }
 {

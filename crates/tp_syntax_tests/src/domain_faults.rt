@@ -5,8 +5,8 @@ use crate::texts::{fault_of, refusal};
 use std::alloc::{AllocError, Global};
 use std::str::from_utf8;
 use std::test::Fail;
-use tp_small_worlds::MATCH;
 use tp_syntax::{LeftOutPart, SyntaxFault};
+use tp_testkit_domains::MATCH;
 use tp_text::TextFault;
 
 // Each fault at the byte that is marked.

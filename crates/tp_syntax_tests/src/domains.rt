@@ -3,10 +3,10 @@
 use crate::texts::fault_of;
 use std::alloc::{AllocError, Global};
 use std::test::Fail;
-use tp_small_worlds::{CHARGE, MATCH, TANK, TOGGLE};
 use tp_syntax::{
     Body, Cond, Domain, Expr, Joined, Signature, SyntaxFault, TypeName, Typed, read_domain,
 };
+use tp_testkit_domains::{CHARGE, MATCH, TANK, TOGGLE};
 
 // Whether a domain has this name and so many actions.
 fn has_actions(domain: &Domain, name: &str, actions: usize) -> bool {

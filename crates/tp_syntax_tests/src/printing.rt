@@ -9,8 +9,8 @@ use std::marker::Brand;
 use std::sync::ledger::{Blank, Ledger};
 use std::test::Fail;
 use tp_device::{Failed, ToWrite};
-use tp_small_worlds::{MATCH, TOGGLE};
 use tp_syntax::{Domain, print_domain, read_domain};
+use tp_testkit_domains::{MATCH, TOGGLE};
 
 /// What printing to a writer answers.
 fn print_to<L: Ledger, W: Write + Drop>(

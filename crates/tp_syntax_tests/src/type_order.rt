@@ -4,7 +4,7 @@ use std::alloc::{AllocError, Global};
 use std::rc::Rc;
 use std::test::Fail;
 use tp_syntax::{TypeName, Types, types_fit};
-use tp_types::types::lists_fit;
+use tp_syntax_types::types::lists_fit;
 
 fn below(alloc: Global, name: &str, parent: &str) -> Result<TypeName, AllocError> {
     Ok(TypeName {

@@ -1,8 +1,8 @@
 -- Ground actions that are told by their words: names in lower case, by which each is found again.
 use Rattle.std.specs.Prelude.{◌≡◌, ℕ, ◌<◌, Bool, true, false, List, [], ◌∷◌, length, Some}
 use Rattle.std.specs.List.{AllByRecursion, list_all, position_from}
-use Rattle.tp_ast.specs.Words.{IsLower}
-use Rattle.tp_ast.specs.Terms.{is_name}
+use Rattle.tp_syntax_ast.specs.Words.{IsLower}
+use Rattle.tp_syntax_ast.specs.Terms.{is_name}
 use Rattle.tp_task.specs.Words.{Words, same_words}
 use Rattle.tp_task.specs.Tables.{words_at}
 

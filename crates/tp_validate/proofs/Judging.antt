@@ -4,7 +4,7 @@ use Rattle.tp_task.specs.declared.task.Task.{Task}
 use Rattle.tp_task.specs.State.{holds}
 use Rattle.tp_task.specs.Valid.{Placed}
 use Rattle.tp_task.specs.Verdict.{states, at_moment, at_goal, last_moment}
-use Rattle.tp_happen.specs.tp_plan_texts.declared.plans.Step.{Step}
+use Rattle.tp_happen.specs.tp_plan_text.declared.plans.Step.{Step}
 use Rattle.tp_happen.specs.Stored.{Stored, state_of}
 use Rattle.tp_happen.specs.Small.{all_small}
 use Rattle.tp_validate.specs.declared.ticks.Fault.{Fault}

@@ -9,8 +9,8 @@ use Rattle.tp_task.specs.Fits.{body_fits, event_fits}
 use Rattle.tp_task.specs.Happens.{EventOfStep}
 use Rattle.tp_task.specs.Valid.{Planned, Placed, events_of, events_from, count_of, at}
 use Rattle.tp_task.specs.Verdict.{last_moment}
-use Rattle.tp_happen.specs.tp_plan_texts.declared.plans.Step.{Step}
-use Rattle.tp_happen.specs.tp_plan_texts.Steps.{ends_in_time}
+use Rattle.tp_happen.specs.tp_plan_text.declared.plans.Step.{Step}
+use Rattle.tp_happen.specs.tp_plan_text.Steps.{ends_in_time}
 use Rattle.tp_validate.specs.OfTask.{step_of, planned}
 
 few_more : (s : Step) (o : Option Body) (ps : List Planned) (n : ℕ) → length ps ≤ n → length (option_to_list (option_map (step_of s) o) ++ ps) ≤ suc n

@@ -2,7 +2,7 @@
 use Rattle.std.specs.Prelude.{◌≡◌, ℕ, List}
 use Rattle.tp_task.specs.declared.task.Task.{Task}
 use Rattle.tp_task.specs.Verdict.{IsFirstFault}
-use Rattle.tp_happen.specs.tp_plan_texts.declared.plans.Step.{Step}
+use Rattle.tp_happen.specs.tp_plan_text.declared.plans.Step.{Step}
 use Rattle.tp_validate.specs.OfTask.{scale_of, begin, plan_of, IsValidPlan}
 use Rattle.tp_validate.specs.Verdict.{PassesIn}
 use Rattle.tp_validate.specs.Found.{told}

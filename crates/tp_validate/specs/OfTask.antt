@@ -8,9 +8,9 @@ use Rattle.tp_task.specs.declared.task.Task.{Task}
 use Rattle.tp_task.specs.State.{State}
 use Rattle.tp_task.specs.Valid.{Planned, Placed, events, IsValid}
 use Rattle.tp_task.specs.Verdict.{Fault, states, fault_at, last_moment}
-use Rattle.tp_happen.specs.tp_plan_texts.declared.plans.Step.{Step}
+use Rattle.tp_happen.specs.tp_plan_text.declared.plans.Step.{Step}
 use Rattle.tp_happen.specs.Stored.{state_of, first_of}
-use Rattle.tp_happen.specs.tp_plan_texts.TaskWords.{is_durative}
+use Rattle.tp_happen.specs.tp_plan_text.TaskWords.{is_durative}
 
 -- a step's action is the task's, and if it is instantaneous the step lasts no tick
 abbrev pub is_step_of : Task → Step → Bool

@@ -3,7 +3,7 @@ use Rattle.std.specs.Prelude.{◌≡◌, ℕ, ◌<◌, true, false, List, None, 
 use Rattle.tp_task.specs.declared.task.Task.{Task}
 use Rattle.tp_task.specs.State.{holds}
 use Rattle.tp_task.specs.Valid.{at}
-use Rattle.tp_happen.specs.tp_plan_texts.declared.plans.Step.{Step}
+use Rattle.tp_happen.specs.tp_plan_text.declared.plans.Step.{Step}
 use Rattle.tp_happen.specs.Small.{all_small}
 use Rattle.tp_happen.specs.Bounded.{StaysSmall}
 use Rattle.tp_validate.specs.OfTask.{IsOfTask, scale_of, plan_of, events_of, state_at, last_state, fault_in}

@@ -6,7 +6,7 @@ ghost use Rattle.tp_task.specs.Fits.{body_fits};
 ghost use Rattle.tp_task.specs.Valid.{events};
 ghost use Rattle.tp_task.specs.Verdict.{last_moment};
 ghost use Rattle.tp_happen.specs.Fault.{OnRange};
-ghost use Rattle.tp_happen.specs.tp_plan_texts.Steps.{IsPlan};
+ghost use Rattle.tp_happen.specs.tp_plan_text.Steps.{IsPlan};
 ghost use Rattle.tp_validate.specs.OfTask.{IsOfTask, plan_of, IsValidPlan};
 ghost use Rattle.tp_validate.specs.Verdict.{IsSound, PassesIn};
 ghost use Rattle.tp_validate.specs.Agenda.{IsAgenda};
@@ -31,7 +31,7 @@ pub struct ValidPlan<'t> {
 
 impl<'t> Model for ValidPlan<'t> {
     ghost use Rattle.tp_task.specs.contracts.task.Task as a_task;
-    ghost use Rattle.tp_happen.specs.tp_plan_texts.contracts.plans.Step as a_step;
+    ghost use Rattle.tp_happen.specs.tp_plan_text.contracts.plans.Step as a_step;
     ghost use Rattle.std.specs.Coded.{codes};
     ghost use Rattle.tp_validate.specs.Validated.{Validated};
 

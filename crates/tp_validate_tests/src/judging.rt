@@ -6,8 +6,8 @@ use std::alloc::Global;
 use std::process::Abort;
 use std::test::Fail;
 use tp_happen::{Step, read_plan};
-use tp_small_tasks::{World, task_of};
 use tp_task::Task;
+use tp_testkit_tasks::{World, task_of};
 use tp_validate::{Fault, Verdict, validate};
 
 /// A text that spells a plan, and the plan's first fault, None for a valid one.

@@ -8,8 +8,8 @@ use std::test::Fail;
 use tp_bounds::Limits;
 use tp_deorder::{DeorderFault, deorder};
 use tp_happen::read_plan;
-use tp_small_tasks::{FUSES, LINES, SWITCHES, World};
 use tp_task::Task;
+use tp_testkit_tasks::{FUSES, LINES, SWITCHES, World};
 use tp_validate::{Verdict, validate};
 
 /// A world, a plan of it, the most events, bounds and ticks, and what keeps the plan from having a network, if anything does.

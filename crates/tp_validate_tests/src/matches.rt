@@ -2,8 +2,8 @@
 
 use crate::judging::{Row, are_judged};
 use std::test::Fail;
-use tp_small_tasks::World;
-use tp_small_worlds::{MATCH, MATCHES, TOGGLE, TOGGLED};
+use tp_testkit_domains::{MATCH, MATCHES, TOGGLE, TOGGLED};
+use tp_testkit_tasks::World;
 use tp_text::Scale;
 use tp_validate::Fault;
 

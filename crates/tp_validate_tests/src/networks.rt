@@ -5,9 +5,9 @@ use std::alloc::{AllocError, Global};
 use std::process::Abort;
 use std::test::Fail;
 use tp_bounds::PlanNet;
-use tp_net_lines::network_text;
-use tp_small_tasks::{CHARGES, FUSES, LINES, SWITCHES, TANKS, World};
+use tp_script::network_text;
 use tp_task::Task;
+use tp_testkit_tasks::{CHARGES, FUSES, LINES, SWITCHES, TANKS, World};
 
 /// A plan of a world, and the lines of its network.
 type Row<'a> = (World<'a>, &'a str, &'a str);

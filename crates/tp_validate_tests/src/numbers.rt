@@ -7,9 +7,9 @@ use std::alloc::{AllocError, Global};
 use std::process::Abort;
 use std::test::Fail;
 use tp_happen::{Plan, read_plan};
-use tp_small_tasks::{TANKS, World, task_of};
-use tp_small_worlds::{CHARGE, TANK, UNCHARGED};
 use tp_task::Task;
+use tp_testkit_domains::{CHARGE, TANK, UNCHARGED};
+use tp_testkit_tasks::{TANKS, World, task_of};
 use tp_text::Scale;
 use tp_validate::{Fault, ValidateFault, validate};
 

@@ -7,8 +7,8 @@ use std::process::Abort;
 use std::test::Fail;
 use tp_bounds::{Bound, PlanNet, Point};
 use tp_happen::read_plan;
-use tp_small_tasks::{CHARGES, FUSES, LINES, SWITCHES, TANKS, World};
 use tp_task::Task;
+use tp_testkit_tasks::{CHARGES, FUSES, LINES, SWITCHES, TANKS, World};
 use tp_validate::{Verdict, validate};
 
 /// The moment of an event, 0 for what is none.

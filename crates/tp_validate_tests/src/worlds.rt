@@ -7,15 +7,15 @@ use std::test::Fail;
 use tp_bounds::{Limits, PlanNet};
 use tp_deorder::deorder;
 use tp_happen::read_plan;
-use tp_small_tasks::World;
 use tp_task::Task;
+use tp_testkit_tasks::World;
 use tp_validate::{Verdict, validate};
 
 /// The task of a world under another horizon.
 pub(crate) fn task_until(alloc: Global, world: World<'_>, horizon: u32) -> Result<Task, Fail>
     requires { horizon ≤ 1000000000 }
 {
-    tp_small_tasks::task_of(alloc, World { horizon, ..world })
+    tp_testkit_tasks::task_of(alloc, World { horizon, ..world })
 }
 
 /// The same under a horizon of 100 ticks.

@@ -4,8 +4,8 @@ use Rattle.std.specs.Map.Iter.{deref_pair}
 use Rattle.std.proofs.lemmas.List.{map_push}
 use Rattle.tp_bounds.specs.Setting.{Setting, event_count}
 use Rattle.tp_bounds.specs.Changes.{fresh}
-use Rattle.tp_machine.specs.Partly.{IsPartly}
-use Rattle.tp_machine.proofs.InTurn.{joined, none_partly}
+use Rattle.tp_exec_machine.specs.Partly.{IsPartly}
+use Rattle.tp_exec_machine.proofs.InTurn.{joined, none_partly}
 use Rattle.tp_agents.proofs.Gathered.{AreThere, ahead_is, all_are, more_there, all_of, none_fresh}
 use Rattle.tp_agents.proofs.gathering.gather.Goals as goal
 

@@ -3,7 +3,7 @@ use Rattle.std.specs.FinMap.{get}
 use Rattle.std.specs.Map.Iter.{deref_pair}
 use Rattle.tp_bounds.specs.Setting.{event_count}
 use Rattle.tp_bounds.specs.Changes.{fresh}
-use Rattle.tp_machine.specs.Partly.{IsPartly}
+use Rattle.tp_exec_machine.specs.Partly.{IsPartly}
 use Rattle.tp_agents.proofs.Gathered.{AreThere}
 use Rattle.tp_agents.proofs.gathering.gather.Given as goal
 

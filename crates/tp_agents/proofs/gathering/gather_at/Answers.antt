@@ -2,7 +2,7 @@ use Rattle.std.proofs.Common.{◌≡◌, Some, sym, ap, ◌∙◌}
 use Rattle.std.specs.FinMap.{get}
 use Rattle.std.proofs.lemmas.Result.{on_ok_weaker, IfErr-weaker}
 use Rattle.tp_bounds.proofs.HeldMaps.{get_held}
-use Rattle.tp_machine.proofs.InTurn.{joins_with}
+use Rattle.tp_exec_machine.proofs.InTurn.{joins_with}
 use Rattle.tp_agents.proofs.Gathered.{joins_none, next_from, next_to, next_weight, next_contradicted}
 use Rattle.tp_agents.proofs.gathering.gather_at.Goals as goal
 

@@ -1,5 +1,5 @@
 use Rattle.std.proofs.Common.{arith}
-use Rattle.tp_machine.proofs.Least.{least_more}
+use Rattle.tp_exec_machine.proofs.Least.{least_more}
 use Rattle.tp_agents.proofs.Lists.{listed_more, count_more}
 use Rattle.tp_agents.proofs.OnSettings.{least_listed}
 use Rattle.tp_agents.proofs.gathering.lows.Goals as goal

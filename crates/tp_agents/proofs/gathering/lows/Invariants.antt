@@ -1,6 +1,6 @@
 use Rattle.std.proofs.Common.{◌≡◌, ℕ, ◌<◌, length}
 use Rattle.tp_bounds.specs.Certificates.{moments_of}
-use Rattle.tp_machine.proofs.Least.{IsLeastBelow}
+use Rattle.tp_exec_machine.proofs.Least.{IsLeastBelow}
 use Rattle.tp_agents.proofs.gathering.lows.Given as goal
 
 abbrev pub invariant-loop-e : goal.invariant-loop-e

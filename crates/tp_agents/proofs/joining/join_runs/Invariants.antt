@@ -1,5 +1,5 @@
 use Rattle.std.proofs.Common.{ℕ, ◌<◌, slice_index_or}
-use Rattle.tp_machine.specs.declared.command.Report.{Report}
+use Rattle.tp_exec_machine.specs.declared.command.Report.{Report}
 use Rattle.tp_agents.specs.Joined.{IsComplete}
 use Rattle.tp_agents.proofs.joining.join_runs.Given as goal
 

@@ -1,6 +1,6 @@
 use Rattle.std.proofs.Common.{◌≡◌, ℕ, ◌<◌, length, slice_get, Some, arith}
 use Rattle.std.proofs.lemmas.Option.{slice_get_read}
-use Rattle.tp_machine.specs.declared.command.Report.{Report}
+use Rattle.tp_exec_machine.specs.declared.command.Report.{Report}
 use Rattle.tp_agents.specs.Owners.{owner_of, events_of, place_of}
 use Rattle.tp_agents.proofs.Places.{owner_counted, stands_at_place}
 use Rattle.tp_agents.proofs.Lists.{count_more}

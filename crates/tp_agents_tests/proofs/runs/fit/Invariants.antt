@@ -1,5 +1,5 @@
 use Rattle.std.proofs.Common.{◌≡◌, ℕ, length, ◌<◌, slice_get, Some}
-use Rattle.tp_machine.specs.declared.command.Report.{Report}
+use Rattle.tp_exec_machine.specs.declared.command.Report.{Report}
 use Rattle.tp_agents.specs.Owners.{events_of}
 use Rattle.tp_agents_tests.proofs.runs.fit.Given as goal
 

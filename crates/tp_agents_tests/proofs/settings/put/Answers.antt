@@ -1,7 +1,7 @@
 use Rattle.std.proofs.Common.{ap, ◌∙◌}
 use Rattle.std.specs.FinMap.{get}
 use Rattle.tp_bounds.specs.Setting.{Setting}
-use Rattle.tp_machine.proofs.Ready.{unused_added}
+use Rattle.tp_exec_machine.proofs.Ready.{unused_added}
 use Rattle.tp_agents_tests.proofs.settings.put.Goals as goal
 
 pub returns-clause-free : goal.returns-clause-free

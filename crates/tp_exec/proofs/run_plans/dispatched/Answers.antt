@@ -1,7 +1,7 @@
 use Rattle.std.proofs.Common.{◌≡◌, length, Some, sym, ap, ◌∙◌, arith}
 use Rattle.std.proofs.lemmas.List.{length_push}
 use Rattle.tp_bounds.specs.Setting.{fixed_at}
-use Rattle.tp_machine.proofs.Keeping.{dispatched_more}
+use Rattle.tp_exec_machine.proofs.Keeping.{dispatched_more}
 use Rattle.tp_exec.proofs.run_plans.dispatched.Goals as goal
 
 pub loop-e-preserved : goal.loop-e-preserved

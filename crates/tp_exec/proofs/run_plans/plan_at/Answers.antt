@@ -1,8 +1,8 @@
 use Rattle.std.proofs.Common.{◌≡◌, ◌≤◌, length, subst, ◌∙◌}
 use Rattle.tp_deorder.specs.RunPlans.{run_steps}
-use Rattle.tp_machine.specs.OwnBounds.{dispatched_at, AreDispatched}
+use Rattle.tp_exec_machine.specs.OwnBounds.{dispatched_at, AreDispatched}
 use Rattle.tp_exec.proofs.FromPlans.{steps_are, run_is_plan}
-use Rattle.tp_machine.proofs.Keeping.{are_done}
+use Rattle.tp_exec_machine.proofs.Keeping.{are_done}
 use Rattle.tp_exec.proofs.run_plans.plan_at.Goals as goal
 
 pub new-requires : goal.new-requires

@@ -1,6 +1,6 @@
 use Rattle.std.proofs.Common.{◌≡◌, sym, ◌∙◌}
 use Rattle.tp_deorder.proofs.OnNets.{ok_weaker}
-use Rattle.tp_machine.specs.declared.command.Kind.TheVariants.{Kept}
+use Rattle.tp_exec_machine.specs.declared.command.Kind.TheVariants.{Kept}
 use Rattle.tp_exec.specs.FromPlan.{TellsSteps, TellsPlan}
 use Rattle.tp_exec.proofs.FromPlans.{plan_told}
 use Rattle.tp_exec.proofs.run_plans.run_plan.Goals as goal

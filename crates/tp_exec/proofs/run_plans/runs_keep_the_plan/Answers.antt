@@ -1,4 +1,4 @@
-use Rattle.tp_machine.proofs.Keeping.{run_keeps}
+use Rattle.tp_exec_machine.proofs.Keeping.{run_keeps}
 use Rattle.tp_exec.proofs.run_plans.runs_keep_the_plan.Goals as goal
 
 pub returns : goal.returns

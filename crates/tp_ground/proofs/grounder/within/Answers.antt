@@ -1,7 +1,7 @@
 use Rattle.std.proofs.Common.{length, map, ap, ◌∙◌, arith}
 use Rattle.std.proofs.lemmas.List.{length-map}
 use Rattle.std.proofs.lemmas.Result.{IfOk-weaker}
-use Rattle.tp_ast.specs.DomainViews.{action_view, domain_view, problem_view}
+use Rattle.tp_syntax_ast.specs.DomainViews.{action_view, domain_view, problem_view}
 use Rattle.tp_ground.specs.Instances.{instance_view}
 use Rattle.tp_ground.proofs.OnAll.{as_many, is_task, few_atoms, few_fluents, no_task, all_of_problem, both_ok, weaker_err}
 use Rattle.tp_ground.proofs.grounder.within.Goals as goal

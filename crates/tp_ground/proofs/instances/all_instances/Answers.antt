@@ -1,13 +1,13 @@
 use Rattle.std.proofs.Common.{List, map, take, sym, ap, ◌++◌, ◌∙◌}
 use Rattle.std.specs.List.{flat_map}
 use Rattle.std.proofs.lemmas.List.{take_all}
-use Rattle.tp_ast.specs.Symbols.{Name, typed_view}
-use Rattle.tp_ast.specs.DomainViews.{action_view}
-use Rattle.tp_ast.specs.declared.symbols.Typed.{Typed}
-use Rattle.tp_bindings.specs.Bindings.{bindings}
-use Rattle.tp_bindings.specs.Left.{rows_left}
-use Rattle.tp_bindings.specs.Views.{universe_view}
-use Rattle.tp_bindings.proofs.Along.{next}
+use Rattle.tp_syntax_ast.specs.Symbols.{Name, typed_view}
+use Rattle.tp_syntax_ast.specs.DomainViews.{action_view}
+use Rattle.tp_syntax_ast.specs.declared.symbols.Typed.{Typed}
+use Rattle.tp_ground_bindings.specs.Bindings.{bindings}
+use Rattle.tp_ground_bindings.specs.Left.{rows_left}
+use Rattle.tp_ground_bindings.specs.Views.{universe_view}
+use Rattle.tp_ground_bindings.proofs.Along.{next}
 use Rattle.tp_ground.specs.Reached.{Instance}
 use Rattle.tp_ground.proofs.OnInstances.{bound_to, instances_of, all_of}
 use Rattle.tp_ground.proofs.instances.all_instances.Goals as goal

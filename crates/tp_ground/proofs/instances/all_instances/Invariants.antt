@@ -1,6 +1,6 @@
 use Rattle.std.proofs.Common.{◌≡◌, map, take}
 use Rattle.std.specs.List.{flat_map}
-use Rattle.tp_bindings.specs.Views.{universe_view}
+use Rattle.tp_ground_bindings.specs.Views.{universe_view}
 use Rattle.tp_ground.specs.Instances.{instance_view}
 use Rattle.tp_ground.proofs.OnInstances.{instances_of}
 use Rattle.tp_ground.proofs.instances.all_instances.Given as goal

@@ -1,12 +1,12 @@
 use Rattle.std.proofs.Common.{List, Bor, map, subst}
-use Rattle.tp_ast.specs.Symbols.{Name}
-use Rattle.tp_ast.specs.DomainViews.{action_view}
-use Rattle.tp_bindings.specs.Bindings.{bound}
-use Rattle.tp_bindings.specs.Views.{universe_view}
-use Rattle.tp_lower.specs.Written.{body_in}
-use Rattle.tp_lower.specs.Mentions.{of_body}
-use Rattle.tp_lower.specs.ReadBack.{named_body}
-use Rattle.tp_lower.specs.Lowered.{Lowers}
+use Rattle.tp_syntax_ast.specs.Symbols.{Name}
+use Rattle.tp_syntax_ast.specs.DomainViews.{action_view}
+use Rattle.tp_ground_bindings.specs.Bindings.{bound}
+use Rattle.tp_ground_bindings.specs.Views.{universe_view}
+use Rattle.tp_ground_effects.specs.Written.{body_in}
+use Rattle.tp_ground_effects.specs.Mentions.{of_body}
+use Rattle.tp_ground_effects.specs.ReadBack.{named_body}
+use Rattle.tp_ground_effects.specs.Lowered.{Lowers}
 use Rattle.tp_ground.proofs.instances.lower_one.Goals as goal
 
 pub returns : goal.returns

@@ -1,12 +1,12 @@
 use Rattle.std.proofs.Common.{List, Bor, [], ◌∷◌, ◌++◌, map, sym, ap, ap₂, ◌∙◌, append_assoc}
 use Rattle.std.proofs.lemmas.List.{take_all}
 use Rattle.std.proofs.lemmas.Simd.{map-map}
-use Rattle.tp_ast.specs.Symbols.{Name}
+use Rattle.tp_syntax_ast.specs.Symbols.{Name}
 use Rattle.tp_task.specs.Words.{Words}
 use Rattle.tp_ground.specs.Reached as reached
 use Rattle.tp_ground.specs.Instances.{instance_view}
 use Rattle.tp_ground.specs.declared.instances.Instance.{Instance}
-use Rattle.tp_bindings.proofs.Along.{map_next}
+use Rattle.tp_ground_bindings.proofs.Along.{map_next}
 use Rattle.tp_ground.proofs.instances.name_instances.Goals as goal
 
 abbrev words_of : Instance → Words

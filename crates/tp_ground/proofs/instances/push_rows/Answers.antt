@@ -1,8 +1,8 @@
 use Rattle.std.proofs.Common.{◌≡◌, List, [], ◌∷◌, ◌++◌, Bor, map, sym, ap, ◌∙◌, append_assoc, append-nil}
 use Rattle.std.proofs.lemmas.List.{map-append}
-use Rattle.tp_ast.specs.Symbols.{Name}
-use Rattle.tp_ast.specs.DomainViews.{action_view}
-use Rattle.tp_bindings.specs.Left.{rows_left}
+use Rattle.tp_syntax_ast.specs.Symbols.{Name}
+use Rattle.tp_syntax_ast.specs.DomainViews.{action_view}
+use Rattle.tp_ground_bindings.specs.Left.{rows_left}
 use Rattle.tp_ground.specs.Reached.{Instance}
 use Rattle.tp_ground.specs.Instances.{instance_view}
 use Rattle.tp_ground.proofs.OnInstances.{bound_to}

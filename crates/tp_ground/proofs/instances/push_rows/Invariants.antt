@@ -1,6 +1,6 @@
 use Rattle.std.proofs.Common.{◌≡◌, ◌++◌, length, map}
-use Rattle.tp_ast.specs.DomainViews.{action_view}
-use Rattle.tp_bindings.specs.Left.{rows_left}
+use Rattle.tp_syntax_ast.specs.DomainViews.{action_view}
+use Rattle.tp_ground_bindings.specs.Left.{rows_left}
 use Rattle.tp_ground.specs.Instances.{instance_view}
 use Rattle.tp_ground.proofs.OnInstances.{bound_to}
 use Rattle.tp_ground.proofs.instances.push_rows.Given as goal

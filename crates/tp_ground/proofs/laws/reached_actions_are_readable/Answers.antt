@@ -1,10 +1,10 @@
 use Rattle.std.proofs.Common.{◌≡◌, List, [], ◌∷◌, ◌++◌, map, refl, sym, ap, ap₂, ◌∙◌, subst}
 use Rattle.std.specs.List.{flat_map}
 use Rattle.std.proofs.lemmas.List.{map-append}
-use Rattle.tp_ast.specs.Symbols.{Name}
-use Rattle.tp_ast.specs.Actions.{Action}
+use Rattle.tp_syntax_ast.specs.Symbols.{Name}
+use Rattle.tp_syntax_ast.specs.Actions.{Action}
 use Rattle.tp_task.specs.Words.{Words}
-use Rattle.tp_bindings.specs.Bindings.{Universe, bindings, universe_of}
+use Rattle.tp_ground_bindings.specs.Bindings.{Universe, bindings, universe_of}
 use Rattle.tp_ground.specs.Reached.{Instance, instances, action_of, is_kept}
 use Rattle.tp_task.specs.Readable.{AreReadable}
 use Rattle.tp_ground.proofs.OnSpelled.{spelled_names}

@@ -1,4 +1,4 @@
-use Rattle.tp_ast.specs.DomainViews.{domain_view, problem_view}
+use Rattle.tp_syntax_ast.specs.DomainViews.{domain_view, problem_view}
 use Rattle.tp_ground.specs.Reached.{HasNoReachedTask}
 use Rattle.tp_ground.proofs.OnTasks.{not_made}
 use Rattle.tp_ground.proofs.OnFlags.{whatever_the_limits}

@@ -1,5 +1,5 @@
 use Rattle.std.proofs.Common.{List, map, sym, subst}
-use Rattle.tp_ast.specs.DomainViews.{domain_view, problem_view}
+use Rattle.tp_syntax_ast.specs.DomainViews.{domain_view, problem_view}
 use Rattle.tp_ground.specs.Reached.{AreKept}
 use Rattle.tp_ground.specs.Instances.{instance_view}
 use Rattle.tp_ground.specs.declared.instances.Instance.{Instance}

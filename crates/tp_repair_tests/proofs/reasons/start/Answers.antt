@@ -1,7 +1,7 @@
 use Rattle.std.proofs.Common.{sym, subst, ap, ◌∙◌}
 use Rattle.tp_bounds.specs.Changes.{with_lag}
-use Rattle.tp_machine.specs.Machine.{IsFresh}
-use Rattle.tp_machine.proofs.Ready.{fresh_new, fresh_lagged}
+use Rattle.tp_exec_machine.specs.Machine.{IsFresh}
+use Rattle.tp_exec_machine.proofs.Ready.{fresh_new, fresh_lagged}
 use Rattle.tp_repair_tests.proofs.reasons.start.Goals as goal
 
 pub bare-requires-clause-fresh : goal.bare-requires-clause-fresh

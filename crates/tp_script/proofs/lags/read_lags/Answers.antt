@@ -1,7 +1,7 @@
 use Rattle.std.proofs.Common.{[], ◌∷◌, ◌++◌, refl, sym, subst, ap, ◌∙◌, rules, IsTrue}
 use Rattle.tp_bounds.specs.Setting.{Setting, event_count}
-use Rattle.tp_machine.specs.Machine.{IsFresh}
-use Rattle.tp_machine.proofs.Ready.{fresh_lagged}
+use Rattle.tp_exec_machine.specs.Machine.{IsFresh}
+use Rattle.tp_exec_machine.proofs.Ready.{fresh_lagged}
 use Rattle.tp_script.specs.Lags.{MaySet}
 use Rattle.tp_script.proofs.LagLemmas.{lags_none, lags_keep, lags_more}
 use Rattle.tp_script.proofs.lags.read_lags.Goals as goal

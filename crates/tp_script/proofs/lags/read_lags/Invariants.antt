@@ -1,6 +1,6 @@
 use Rattle.std.proofs.Common.{◌≡◌, ◌-◌, ℕ, List}
 use Rattle.tp_bounds.specs.Setting.{event_count}
-use Rattle.tp_machine.specs.Machine.{IsFresh}
+use Rattle.tp_exec_machine.specs.Machine.{IsFresh}
 use Rattle.tp_script.specs.Lags.{TakesLags}
 use Rattle.tp_script.proofs.lags.read_lags.Given as goal
 

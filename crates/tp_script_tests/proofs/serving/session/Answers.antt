@@ -1,6 +1,6 @@
 use Rattle.std.proofs.Common.{sym, subst}
-use Rattle.tp_machine.specs.Machine.{IsFresh}
-use Rattle.tp_machine.proofs.Ready.{fresh_new}
+use Rattle.tp_exec_machine.specs.Machine.{IsFresh}
+use Rattle.tp_exec_machine.proofs.Ready.{fresh_new}
 use Rattle.tp_script_tests.proofs.serving.session.Goals as goal
 
 pub bare-executive-requires-clause-fresh : goal.bare-executive-requires-clause-fresh

@@ -1,6 +1,6 @@
 use Rattle.std.proofs.Common.{subst, sym}
-use Rattle.tp_machine.specs.Machine.{IsFresh}
-use Rattle.tp_machine.proofs.Ready.{fresh_new}
+use Rattle.tp_exec_machine.specs.Machine.{IsFresh}
+use Rattle.tp_exec_machine.proofs.Ready.{fresh_new}
 use Rattle.tp_solve.proofs.least.least_moments.Goals as goal
 
 pub from_plan-requires-clause-fresh : goal.from_plan-requires-clause-fresh

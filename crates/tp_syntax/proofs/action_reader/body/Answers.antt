@@ -1,10 +1,10 @@
 use Rattle.std.proofs.Common.{List, Bool, map, ap, sym, true, false, ◌∙◌, ◌++◌, append-nil}
-use Rattle.tp_ast.specs.Actions.{body_of}
-use Rattle.tp_parts.specs.Fields.{field_view}
-use Rattle.tp_ast.specs.Symbols.{Declared, Symbols, typed_view}
-use Rattle.tp_names.specs.ScopeViews.{symbols_of}
-use Rattle.tp_ast.specs.DomainViews.{body_view}
-use Rattle.tp_ast.proofs.OnGives.{gives_same}
+use Rattle.tp_syntax_ast.specs.Actions.{body_of}
+use Rattle.tp_syntax_sections.specs.Fields.{field_view}
+use Rattle.tp_syntax_ast.specs.Symbols.{Declared, Symbols, typed_view}
+use Rattle.tp_syntax_scope.specs.ScopeViews.{symbols_of}
+use Rattle.tp_syntax_ast.specs.DomainViews.{body_view}
+use Rattle.tp_syntax_ast.proofs.OnGives.{gives_same}
 use Rattle.tp_syntax.proofs.action_reader.body.Goals as goal
 
 pub returns-then-lasts : goal.returns-then-lasts

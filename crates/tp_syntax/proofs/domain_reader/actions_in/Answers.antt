@@ -1,5 +1,5 @@
 use Rattle.std.proofs.lemmas.Result.{err_from_is_err_and}
-use Rattle.tp_names.specs.SymbolViews.{symbols_view}
+use Rattle.tp_syntax_scope.specs.SymbolViews.{symbols_view}
 use Rattle.tp_syntax.proofs.OnDomains.{actions_go_on, actions_fail, actions_end}
 use Rattle.tp_syntax.proofs.domain_reader.actions_in.Goals as goal
 

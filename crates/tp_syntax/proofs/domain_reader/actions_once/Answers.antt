@@ -1,12 +1,12 @@
 use Rattle.std.proofs.Common.{List, Option, map, not, string_bytes, ap, ◌∙◌}
 use Rattle.std.proofs.lemmas.Result.{err_from_is_err_and}
-use Rattle.tp_ast.specs.Gives.{◌>>=◌, provided}
-use Rattle.tp_ast.specs.Actions as actions
-use Rattle.tp_ast.specs.TypedLists.{has_twice}
-use Rattle.tp_ast.specs.DomainViews.{action_view}
-use Rattle.tp_ast.specs.declared.action.Action.{Action}
-use Rattle.tp_ast.proofs.OnGives.{fails_bind}
-use Rattle.tp_types.proofs.OnTables.{map_twice, some_twice, none_twice}
+use Rattle.tp_syntax_ast.specs.Gives.{◌>>=◌, provided}
+use Rattle.tp_syntax_ast.specs.Actions as actions
+use Rattle.tp_syntax_ast.specs.TypedLists.{has_twice}
+use Rattle.tp_syntax_ast.specs.DomainViews.{action_view}
+use Rattle.tp_syntax_ast.specs.declared.action.Action.{Action}
+use Rattle.tp_syntax_ast.proofs.OnGives.{fails_bind}
+use Rattle.tp_syntax_types.proofs.OnTables.{map_twice, some_twice, none_twice}
 use Rattle.tp_syntax.proofs.domain_reader.actions_once.Goals as goal
 
 pub returns-in_err-actions : goal.returns-in_err-actions

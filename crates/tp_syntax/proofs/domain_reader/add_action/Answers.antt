@@ -1,11 +1,11 @@
 use Rattle.std.proofs.Common.{Some, map, option_map, [], ◌∷◌, ap, sym, ◌∙◌}
 use Rattle.std.proofs.lemmas.List.{map-append}
 use Rattle.std.proofs.lemmas.Result.{err_from_is_err_and}
-use Rattle.tp_ast.specs.Gives.{with_front}
-use Rattle.tp_names.specs.SymbolViews.{symbols_view}
-use Rattle.tp_ast.specs.Actions.{Action}
-use Rattle.tp_ast.specs.DomainViews.{action_view}
-use Rattle.tp_ast.proofs.OnGives.{fails_same, fails_map}
+use Rattle.tp_syntax_ast.specs.Gives.{with_front}
+use Rattle.tp_syntax_scope.specs.SymbolViews.{symbols_view}
+use Rattle.tp_syntax_ast.specs.Actions.{Action}
+use Rattle.tp_syntax_ast.specs.DomainViews.{action_view}
+use Rattle.tp_syntax_ast.proofs.OnGives.{fails_same, fails_map}
 use Rattle.tp_syntax.proofs.OnDomains.{no_action_at, one_action_at}
 use Rattle.tp_syntax.proofs.domain_reader.add_action.Goals as goal
 

@@ -2,13 +2,13 @@ use Rattle.std.proofs.Common.{List, Option, map, string_bytes, ap, sym, ◌∙�
 use Rattle.std.proofs.lemmas.Result.{err_from_is_err_and}
 use Rattle.tp_text.specs.Shapes.{Shape, Shapes}
 use Rattle.tp_text.specs.Trees.{shape_of}
-use Rattle.tp_ast.specs.Gives.{◌>>=◌}
-use Rattle.tp_ast.specs.Symbols.{Name}
-use Rattle.tp_ast.specs.Terms.{shapes}
-use Rattle.tp_ast.specs.Domains.{SectionBody, domain_with}
-use Rattle.tp_ast.specs.DomainViews.{domain_view}
-use Rattle.tp_parts.specs.SectionViews.{section_body_view}
-use Rattle.tp_ast.proofs.OnGives.{fails_same, fails_bind, gives_same}
+use Rattle.tp_syntax_ast.specs.Gives.{◌>>=◌}
+use Rattle.tp_syntax_ast.specs.Symbols.{Name}
+use Rattle.tp_syntax_ast.specs.Terms.{shapes}
+use Rattle.tp_syntax_ast.specs.Domains.{SectionBody, domain_with}
+use Rattle.tp_syntax_ast.specs.DomainViews.{domain_view}
+use Rattle.tp_syntax_sections.specs.SectionViews.{section_body_view}
+use Rattle.tp_syntax_ast.proofs.OnGives.{fails_same, fails_bind, gives_same}
 use Rattle.tp_syntax.proofs.OnDomains.{by_define, after_define, after_head}
 use Rattle.tp_syntax.proofs.domain_reader.domain_of.Goals as goal
 

@@ -1,8 +1,8 @@
 use Rattle.std.proofs.Common.{sym, subst}
 use Rattle.tp_text.specs.Trees.{shape_of}
-use Rattle.tp_ast.specs.Domains.{domain_of}
+use Rattle.tp_syntax_ast.specs.Domains.{domain_of}
 use Rattle.tp_syntax.specs.Refusals.{IsRefusedDomain}
-use Rattle.tp_ast.specs.declared.fault.SyntaxFault.{SyntaxFault}
+use Rattle.tp_syntax_ast.specs.declared.fault.SyntaxFault.{SyntaxFault}
 use Rattle.tp_syntax.proofs.OnReadings.{refused_tree, nests}
 use Rattle.tp_syntax.proofs.domain_reader.read_domain.Goals as goal
 

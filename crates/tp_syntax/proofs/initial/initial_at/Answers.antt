@@ -1,10 +1,10 @@
 use Rattle.std.proofs.Common.{◌∙◌}
 use Rattle.tp_text.specs.Shapes.{Shape}
-use Rattle.tp_names.specs.SymbolViews.{symbols_view}
-use Rattle.tp_ast.specs.DomainViews.{initial_view}
-use Rattle.tp_ast.specs.Problems.{initial_at}
-use Rattle.tp_ast.proofs.OnGives.{gives_same}
-use Rattle.tp_ast.proofs.OnLists.{a_word, empty_list, list_first, word_first}
+use Rattle.tp_syntax_scope.specs.SymbolViews.{symbols_view}
+use Rattle.tp_syntax_ast.specs.DomainViews.{initial_view}
+use Rattle.tp_syntax_ast.specs.Problems.{initial_at}
+use Rattle.tp_syntax_ast.proofs.OnGives.{gives_same}
+use Rattle.tp_syntax_ast.proofs.OnLists.{a_word, empty_list, list_first, word_first}
 use Rattle.tp_syntax.proofs.OnProblems.{initial_word, initial_nothing, initial_lists, initial_name}
 use Rattle.tp_syntax.proofs.initial.initial_at.Goals as goal
 

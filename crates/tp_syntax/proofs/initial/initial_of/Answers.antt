@@ -1,10 +1,10 @@
 use Rattle.std.proofs.Common.{map, List, ap, ◌∙◌}
 use Rattle.std.proofs.lemmas.List.{map-append}
 use Rattle.std.proofs.lemmas.Result.{err_from_is_err_and}
-use Rattle.tp_names.specs.SymbolViews.{symbols_view}
-use Rattle.tp_ast.specs.DomainViews.{initial_view}
-use Rattle.tp_ast.specs.declared.problem.Initial.{Initial}
-use Rattle.tp_ast.proofs.Loops.{goes_on, fails, ends}
+use Rattle.tp_syntax_scope.specs.SymbolViews.{symbols_view}
+use Rattle.tp_syntax_ast.specs.DomainViews.{initial_view}
+use Rattle.tp_syntax_ast.specs.declared.problem.Initial.{Initial}
+use Rattle.tp_syntax_ast.proofs.Loops.{goes_on, fails, ends}
 use Rattle.tp_syntax.proofs.OnProblems.{each_initial}
 use Rattle.tp_syntax.proofs.initial.initial_of.Goals as goal
 

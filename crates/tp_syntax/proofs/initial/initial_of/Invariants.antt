@@ -1,9 +1,9 @@
 use Rattle.std.proofs.Common.{◌≡◌, map, drop}
-use Rattle.tp_ast.specs.Gives.{with_front}
-use Rattle.tp_ast.specs.Terms.{shapes}
-use Rattle.tp_ast.specs.Problems.{initial_of}
-use Rattle.tp_names.specs.SymbolViews.{symbols_view}
-use Rattle.tp_ast.specs.DomainViews.{initial_view}
+use Rattle.tp_syntax_ast.specs.Gives.{with_front}
+use Rattle.tp_syntax_ast.specs.Terms.{shapes}
+use Rattle.tp_syntax_ast.specs.Problems.{initial_of}
+use Rattle.tp_syntax_scope.specs.SymbolViews.{symbols_view}
+use Rattle.tp_syntax_ast.specs.DomainViews.{initial_view}
 use Rattle.tp_syntax.proofs.initial.initial_of.Given as goal
 
 abbrev pub invariant-loop-tree : goal.invariant-loop-tree

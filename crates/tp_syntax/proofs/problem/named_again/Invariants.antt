@@ -1,5 +1,5 @@
 use Rattle.std.proofs.Common.{◌≡◌, ◌++◌, map, take}
-use Rattle.tp_ast.specs.Symbols.{typed_view}
+use Rattle.tp_syntax_ast.specs.Symbols.{typed_view}
 use Rattle.tp_syntax.proofs.problem.named_again.Given as goal
 
 abbrev pub invariant-loop-constant : goal.invariant-loop-constant

@@ -1,7 +1,7 @@
 use Rattle.std.proofs.Common.{◌≡◌, length, nat_eq, true, rules, refl, sym, ap, ◌∙◌}
-use Rattle.tp_ast.specs.Terms.{shapes}
-use Rattle.tp_ast.specs.DomainViews.{domain_view}
-use Rattle.tp_ast.specs.Domains.{objects_in}
+use Rattle.tp_syntax_ast.specs.Terms.{shapes}
+use Rattle.tp_syntax_ast.specs.DomainViews.{domain_view}
+use Rattle.tp_syntax_ast.specs.Domains.{objects_in}
 use Rattle.tp_syntax.proofs.OnProblems.{beside_no_constants}
 use Rattle.tp_syntax.proofs.problem.new_objects.Goals as goal
 

@@ -1,8 +1,8 @@
 use Rattle.std.proofs.Common.{sym, subst}
 use Rattle.tp_text.specs.Trees.{shape_of}
-use Rattle.tp_ast.specs.DomainViews.{domain_view}
-use Rattle.tp_ast.specs.Problems.{problem_of, IsRefusedProblem}
-use Rattle.tp_ast.specs.declared.fault.SyntaxFault.{SyntaxFault}
+use Rattle.tp_syntax_ast.specs.DomainViews.{domain_view}
+use Rattle.tp_syntax_ast.specs.Problems.{problem_of, IsRefusedProblem}
+use Rattle.tp_syntax_ast.specs.declared.fault.SyntaxFault.{SyntaxFault}
 use Rattle.tp_syntax.proofs.OnReadings.{refused_tree, nests}
 use Rattle.tp_syntax.proofs.problem.read_problem.Goals as goal
 

@@ -1,6 +1,6 @@
 use Rattle.std.proofs.Common.{◌+◌, ◌++◌, drop, get_or, Vec, Global, ap, ◌∙◌}
 use Rattle.tp_task.specs.Valid.{Planned}
-use Rattle.tp_happen.specs.tp_plan_texts.declared.plans.Step.{Step}
+use Rattle.tp_happen.specs.tp_plan_text.declared.plans.Step.{Step}
 use Rattle.tp_validate.specs.OfTask.{planned}
 use Rattle.tp_validate.proofs.AtPlace.{with_one, with_none, found_body, no_body}
 use Rattle.tp_validate.proofs.placing.planned_steps.Goals as goal

@@ -1,7 +1,7 @@
 use Rattle.std.proofs.Common.{◌≡◌, ℕ, None, rules}
 use Rattle.std.specs.Ordering.{nat_cmp}
 use Rattle.std.specs.BTreeMap.{get}
-use Rattle.tp_moments.proofs.Stars.{begun}
+use Rattle.tp_repair_engine.proofs.Stars.{begun}
 use Rattle.tp_repair.proofs.net.RepairNet.new.Goals as goal
 
 pub invariant_of-result : goal.invariant_of-result

@@ -11,15 +11,15 @@ use Rattle.tp_net.specs.Faults.{Refutes, IsNew}
 use Rattle.tp_net.proofs.HeldLemmas.{held_len}
 use Rattle.tp_bounds.proofs.HeldMaps.{get_held}
 use Rattle.tp_net.proofs.KeptMoments.{refused_add, kept_possible}
-use Rattle.tp_moments.specs.Told.{Told, settled, edge_count}
-use Rattle.tp_moments.specs.declared.engine.Engine.{Engine}
-use Rattle.tp_moments.specs.Store.{names_of, kept_arcs}
-use Rattle.tp_moments.specs.Engine.{IsRepaired}
-use Rattle.tp_moments.specs.Work.{AreCounted}
-use Rattle.tp_moments.specs.Bringing.{IsBrought, IsBroughtIn, IsUnbrought}
-use Rattle.tp_moments.specs.Costs.{IsCheap}
-use Rattle.tp_moments.proofs.Cheap.{cheap}
-use Rattle.tp_moments.proofs.Repaired.{wired_here, small_low, small_high, weights, among, kept, with_looks, relooked, repaired_brought, repaired_unbrought}
+use Rattle.tp_repair_engine.specs.Told.{Told, settled, edge_count}
+use Rattle.tp_repair_engine.specs.declared.engine.Engine.{Engine}
+use Rattle.tp_repair_engine.specs.Store.{names_of, kept_arcs}
+use Rattle.tp_repair_engine.specs.Engine.{IsRepaired}
+use Rattle.tp_repair_engine.specs.Work.{AreCounted}
+use Rattle.tp_repair_engine.specs.Bringing.{IsBrought, IsBroughtIn, IsUnbrought}
+use Rattle.tp_repair_engine.specs.Costs.{IsCheap}
+use Rattle.tp_repair_engine.proofs.Cheap.{cheap}
+use Rattle.tp_repair_engine.proofs.Repaired.{wired_here, small_low, small_high, weights, among, kept, with_looks, relooked, repaired_brought, repaired_unbrought}
 use Rattle.tp_repair.proofs.net.RepairNetNet.add.Goals as goal
 
 pub bring-requires-clause-small_low : goal.bring-requires-clause-small_low

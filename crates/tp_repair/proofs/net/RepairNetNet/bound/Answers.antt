@@ -1,7 +1,7 @@
 use Rattle.std.proofs.Common.{sym, ap, ◌∙◌}
 use Rattle.std.specs.FinMap.{get}
 use Rattle.tp_bounds.proofs.HeldMaps.{get_held}
-use Rattle.tp_moments.specs.Told.{Told}
+use Rattle.tp_repair_engine.specs.Told.{Told}
 use Rattle.tp_repair.proofs.net.RepairNetNet.bound.Goals as goal
 
 pub returns : goal.returns

@@ -4,8 +4,8 @@ use Rattle.tp_bounds.specs.Schedule.{HasSchedule}
 use Rattle.tp_bounds.specs.Lawful.{IsLawful}
 use Rattle.tp_net.specs.Kept.{IsFit}
 use Rattle.tp_net.proofs.KeptMoments.{kept_possible}
-use Rattle.tp_moments.specs.Told.{Told}
-use Rattle.tp_moments.proofs.Repaired.{kept}
+use Rattle.tp_repair_engine.specs.Told.{Told}
+use Rattle.tp_repair_engine.proofs.Repaired.{kept}
 use Rattle.tp_repair.proofs.net.RepairNetNet.events.Goals as goal
 
 pub returns-clause-possible : goal.returns-clause-possible

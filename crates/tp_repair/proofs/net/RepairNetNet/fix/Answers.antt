@@ -11,18 +11,18 @@ use Rattle.tp_net.specs.Kept.{IsKept}
 use Rattle.tp_net.proofs.Additions.{read_at}
 use Rattle.tp_net.proofs.KeptMoments.{kept_possible, contrary_after, contrary_before}
 use Rattle.tp_net.proofs.Fixes.{refused_fix, past_low, past_high}
-use Rattle.tp_moments.specs.Told.{Told, settled}
-use Rattle.tp_moments.specs.declared.engine.Engine.{Engine}
-use Rattle.tp_moments.specs.Store.{names_of, kept_arcs}
-use Rattle.tp_moments.specs.Kept.{IsUnder}
-use Rattle.tp_moments.specs.Slots.{past_slots}
-use Rattle.tp_moments.specs.Engine.{IsRepaired}
-use Rattle.tp_moments.specs.Costs.{IsCheap}
-use Rattle.tp_moments.proofs.Cheap.{cheap, edges_are}
+use Rattle.tp_repair_engine.specs.Told.{Told, settled}
+use Rattle.tp_repair_engine.specs.declared.engine.Engine.{Engine}
+use Rattle.tp_repair_engine.specs.Store.{names_of, kept_arcs}
+use Rattle.tp_repair_engine.specs.Kept.{IsUnder}
+use Rattle.tp_repair_engine.specs.Slots.{past_slots}
+use Rattle.tp_repair_engine.specs.Engine.{IsRepaired}
+use Rattle.tp_repair_engine.specs.Costs.{IsCheap}
+use Rattle.tp_repair_engine.proofs.Cheap.{cheap, edges_are}
 use Rattle.std.proofs.Common.{length-set}
 use Rattle.std.specs.Prelude.{Some}
-use Rattle.tp_moments.specs.Told.{edge_count}
-use Rattle.tp_moments.proofs.Repaired.{kept, holds_least, small_high, wired_here, with_looks, relooked}
+use Rattle.tp_repair_engine.specs.Told.{edge_count}
+use Rattle.tp_repair_engine.proofs.Repaired.{kept, holds_least, small_high, wired_here, with_looks, relooked}
 use Rattle.tp_repair.proofs.Renewed.{are_names_past, floor_is, end_is, none_arcs, past_reason, repaired_fixed, repaired_untouched}
 use Rattle.tp_repair.proofs.net.RepairNetNet.fix.Goals as goal
 

@@ -2,7 +2,7 @@ use Rattle.std.proofs.Common.{rules, ◌≡◌, suc, ◌+◌, ◌<◌, ◌^◌, 
 use Rattle.tp_bounds.specs.Schedule.{IsGreatestMoment}
 use Rattle.tp_net.proofs.Additions.{read_at}
 use Rattle.tp_net.proofs.KeptMoments.{kept_high_fits, kept_greatest}
-use Rattle.tp_moments.proofs.Repaired.{kept}
+use Rattle.tp_repair_engine.proofs.Repaired.{kept}
 use Rattle.tp_repair.proofs.net.RepairNetNet.high.Goals as goal
 
 pub overflow_cast-result : goal.overflow_cast-result

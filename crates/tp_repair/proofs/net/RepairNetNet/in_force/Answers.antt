@@ -1,7 +1,7 @@
 use Rattle.std.proofs.Common.{sym, ap, ◌∙◌}
 use Rattle.std.specs.FinMap.{len}
 use Rattle.tp_net.proofs.HeldLemmas.{held_len}
-use Rattle.tp_moments.specs.Told.{Told}
+use Rattle.tp_repair_engine.specs.Told.{Told}
 use Rattle.tp_repair.proofs.net.RepairNetNet.in_force.Goals as goal
 
 pub returns : goal.returns

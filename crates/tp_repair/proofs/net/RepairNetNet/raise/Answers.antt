@@ -9,16 +9,16 @@ use Rattle.tp_net.specs.Faults.{Refutes, IsNow}
 use Rattle.tp_net.specs.Kept.{IsKept}
 use Rattle.tp_net.proofs.KeptMoments.{kept_possible}
 use Rattle.tp_net.proofs.Raises.{at_same, contrary_raise, refused_raise}
-use Rattle.tp_moments.specs.Told.{Told, settled}
-use Rattle.tp_moments.specs.declared.engine.Engine.{Engine}
-use Rattle.tp_moments.specs.Store.{names_of, kept_arcs}
-use Rattle.tp_moments.specs.Slots.{raised_node}
-use Rattle.tp_moments.specs.Engine.{IsRepaired, IsChanged}
-use Rattle.tp_moments.specs.Costs.{IsCheap}
-use Rattle.tp_moments.proofs.Cheap.{cheap_up, cheap_still, edges_are}
+use Rattle.tp_repair_engine.specs.Told.{Told, settled}
+use Rattle.tp_repair_engine.specs.declared.engine.Engine.{Engine}
+use Rattle.tp_repair_engine.specs.Store.{names_of, kept_arcs}
+use Rattle.tp_repair_engine.specs.Slots.{raised_node}
+use Rattle.tp_repair_engine.specs.Engine.{IsRepaired, IsChanged}
+use Rattle.tp_repair_engine.specs.Costs.{IsCheap}
+use Rattle.tp_repair_engine.proofs.Cheap.{cheap_up, cheap_still, edges_are}
 use Rattle.std.proofs.Common.{refl}
-use Rattle.tp_moments.specs.Told.{edge_count}
-use Rattle.tp_moments.proofs.Repaired.{kept, holds_least, small_high, wired_here, with_looks, relooked}
+use Rattle.tp_repair_engine.specs.Told.{edge_count}
+use Rattle.tp_repair_engine.proofs.Repaired.{kept, holds_least, small_high, wired_here, with_looks, relooked}
 use Rattle.tp_repair.proofs.Renewed.{floor_there, floors_only, floors_before, from_event, none_arcs, repaired_raised, repaired_untouched}
 use Rattle.tp_repair.proofs.net.RepairNetNet.raise.Goals as goal
 

@@ -9,12 +9,12 @@ use Rattle.tp_bounds.specs.Changes.{without_bound}
 use Rattle.tp_bounds.specs.Schedule.{HasSchedule}
 use Rattle.tp_bounds.proofs.HeldMaps.{get_held, held_removed}
 use Rattle.tp_net.proofs.KeptMoments.{kept_possible}
-use Rattle.tp_moments.specs.Told.{Told, settled}
-use Rattle.tp_moments.specs.declared.engine.Engine.{Engine}
-use Rattle.tp_moments.specs.Engine.{IsRepaired}
-use Rattle.tp_moments.specs.Costs.{AreWindows}
+use Rattle.tp_repair_engine.specs.Told.{Told, settled}
+use Rattle.tp_repair_engine.specs.declared.engine.Engine.{Engine}
+use Rattle.tp_repair_engine.specs.Engine.{IsRepaired}
+use Rattle.tp_repair_engine.specs.Costs.{AreWindows}
 use Rattle.tp_repair.proofs.Loose.{loose_node}
-use Rattle.tp_moments.proofs.Repaired.{kept, holds_least, small_high, with_looks, relooked}
+use Rattle.tp_repair_engine.proofs.Repaired.{kept, holds_least, small_high, with_looks, relooked}
 use Rattle.tp_repair.proofs.Renewed.{some_of, low_fits, high_fits, has_own_key, own_node, start_left, start_left_high, repaired_left, repaired_untouched}
 use Rattle.tp_repair.proofs.net.RepairNetNet.remove.Goals as goal
 

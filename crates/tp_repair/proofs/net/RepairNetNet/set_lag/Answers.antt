@@ -1,7 +1,7 @@
 use Rattle.std.proofs.Common.{◌≡◌, ◌<◌, sym, subst}
 use Rattle.tp_bounds.specs.Setting.{event_count}
-use Rattle.tp_moments.specs.Told.{Told}
-use Rattle.tp_moments.proofs.Repaired.{repaired_lagged}
+use Rattle.tp_repair_engine.specs.Told.{Told}
+use Rattle.tp_repair_engine.proofs.Repaired.{repaired_lagged}
 use Rattle.tp_repair.proofs.net.RepairNetNet.set_lag.Goals as goal
 
 pub invariant_of-self : goal.invariant_of-self

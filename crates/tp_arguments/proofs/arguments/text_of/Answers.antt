@@ -1,5 +1,0 @@
-use Rattle.std.proofs.Common.{refl}
-use Rattle.tp_arguments.proofs.arguments.text_of.Goals as goal
-
-pub returns : goal.returns
-returns c = (c.in_ok-format.field-0, refl)

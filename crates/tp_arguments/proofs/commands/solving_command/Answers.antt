@@ -1,7 +1,0 @@
-use Rattle.std.proofs.lemmas.Result.{IfOk-weaker}
-use Rattle.tp_arguments.proofs.CommandLemmas.{command_app}
-use Rattle.tp_arguments.proofs.commands.solving_command.Goals as goal
-
-pub returns : goal.returns
-returns c =
-    IfOk-weaker c.subcommand.result _ _ (λ r h. command_app _ _ r _ _ h c.in_ok-solve.ensures.local c.in_ok-planning_command.ensures c.in_ok-solve.ensures.app) c.subcommand.ensures

@@ -1,7 +1,0 @@
-use Rattle.tp_ast.proofs.OnWords.{same_word}
-use Rattle.tp_ast.specs.Words.{is_word}
-use Rattle.tp_ast.proofs.words.is_word.Goals as goal
-
-pub returns : goal.returns
-unfolding is_word
-returns c = same_word _ c.args.word.now c.args.name.now c.requires c.eq_ignore_ascii_case.ensures.test

@@ -1,5 +1,0 @@
-use Rattle.tp_script.proofs.WordLemmas.{tail_is}
-use Rattle.tp_audit.proofs.auditing.behind.Goals as goal
-
-pub returns : goal.returns
-returns c = tail_is c.args.count c.args.bytes.now

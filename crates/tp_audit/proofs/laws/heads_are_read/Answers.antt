@@ -1,5 +1,0 @@
-use Rattle.tp_audit.proofs.HeadForms.{head_read}
-use Rattle.tp_audit.proofs.laws.heads_are_read.Goals as goal
-
-pub returns : goal.returns
-returns c = head_read

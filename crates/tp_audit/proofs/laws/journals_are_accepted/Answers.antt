@@ -1,5 +1,0 @@
-use Rattle.tp_audit.proofs.Accepted.{run_accepted}
-use Rattle.tp_audit.proofs.laws.journals_are_accepted.Goals as goal
-
-pub returns : goal.returns
-returns c = run_accepted

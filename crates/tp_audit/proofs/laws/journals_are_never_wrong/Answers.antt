@@ -1,5 +1,0 @@
-use Rattle.tp_audit.proofs.OneRuns.{never_wrong}
-use Rattle.tp_audit.proofs.laws.journals_are_never_wrong.Goals as goal
-
-pub returns : goal.returns
-returns c = never_wrong

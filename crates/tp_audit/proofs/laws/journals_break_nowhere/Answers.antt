@@ -1,5 +1,0 @@
-use Rattle.tp_audit.proofs.WholeLines.{never_breaks}
-use Rattle.tp_audit.proofs.laws.journals_break_nowhere.Goals as goal
-
-pub returns : goal.returns
-returns c = never_breaks

@@ -1,5 +1,0 @@
-use Rattle.tp_audit.proofs.LineSizes.{journal_short}
-use Rattle.tp_audit.proofs.laws.journals_have_short_lines.Goals as goal
-
-pub returns : goal.returns
-returns c = journal_short

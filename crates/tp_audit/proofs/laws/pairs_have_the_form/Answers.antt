@@ -1,5 +1,0 @@
-use Rattle.tp_audit.proofs.PairForms.{pairs_form}
-use Rattle.tp_audit.proofs.laws.pairs_have_the_form.Goals as goal
-
-pub returns : goal.returns
-returns c = pairs_form

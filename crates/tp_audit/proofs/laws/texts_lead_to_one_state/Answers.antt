@@ -1,5 +1,0 @@
-use Rattle.tp_audit.proofs.OneRuns.{one_state}
-use Rattle.tp_audit.proofs.laws.texts_lead_to_one_state.Goals as goal
-
-pub returns : goal.returns
-returns c = one_state

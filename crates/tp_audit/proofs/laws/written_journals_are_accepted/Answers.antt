@@ -1,5 +1,0 @@
-use Rattle.tp_audit.proofs.Accepted.{written_accepted}
-use Rattle.tp_audit.proofs.laws.written_journals_are_accepted.Goals as goal
-
-pub returns : goal.returns
-returns c = written_accepted

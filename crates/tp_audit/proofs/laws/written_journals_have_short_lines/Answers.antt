@@ -1,5 +1,0 @@
-use Rattle.tp_audit.proofs.Accepted.{written_short}
-use Rattle.tp_audit.proofs.laws.written_journals_have_short_lines.Goals as goal
-
-pub returns : goal.returns
-returns c = written_short

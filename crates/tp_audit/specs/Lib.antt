@@ -1,4 +1,0 @@
-pub mod Form
-pub mod Auditing
-pub mod Telling
-pub mod Laws

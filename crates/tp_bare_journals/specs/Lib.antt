@@ -1,2 +1,0 @@
-pub mod JournalLines
-pub mod Logged

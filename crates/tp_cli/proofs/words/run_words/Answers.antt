@@ -1,0 +1,131 @@
+use Rattle.std.proofs.Common.{◌∙◌, List, ℕ, arith, inl, inr, refl, subst}
+use Rattle.std.proofs.KnownBytes.{Appends-nil}
+use Rattle.tp_cli_files.specs.FaultLines.{Tells}
+use Rattle.tp_cli_args.specs.declared.requests.Request.TheVariants.{Bare, BareLog, Check, Net, Run, RunLog, Plan, Audit, PlanAudit, Split, Help}
+use Rattle.tp_cli.specs.CallFiles.{call_files}
+use Rattle.tp_cli.specs.Endings.{StopsHelp}
+use Rattle.tp_cli.proofs.StreamLemmas.{logs_part}
+use Rattle.tp_cli.proofs.words.run_words.Goals as goal
+
+pub returns-clause-stopped : goal.returns-clause-stopped
+returns-clause-stopped g c =
+    λ two.
+    inr (inl (record {
+      three = c.complain.ensures.status ∙ c.out_of_order.ensures.status;
+      kept = refl;
+      same = refl;
+      told = subst (λ (t : List ℕ). Tells t (g.F.Sink.failures c.args.faults.now) (g.F.Sink.held c.args.faults.now) (g.F.Sink.failures c.complain.new.faults) (g.F.Sink.held c.complain.new.faults)) c.out_of_order.ensures.text c.complain.ensures.told;
+    }))
+
+pub returns-clause-bare : goal.returns-clause-bare
+returns-clause-bare g c =
+    λ asks no.
+    inr (record {
+      three = c.complain.ensures.status ∙ c.out_of_order.ensures.status;
+      kept = refl;
+      same = refl;
+      told = subst (λ (t : List ℕ). Tells t (g.F.Sink.failures c.args.faults.now) (g.F.Sink.held c.args.faults.now) (g.F.Sink.failures c.complain.new.faults) (g.F.Sink.held c.complain.new.faults)) c.out_of_order.ensures.text c.complain.ensures.told;
+    })
+
+pub returns-clause-broken : goal.returns-clause-broken
+returns-clause-broken g c = λ three. inl (Appends-nil (g.O.Sink.held c.args.output.now))
+
+pub returns-in-Ok-Bare-clause-stopped : goal.returns-in-Ok-Bare-clause-stopped
+returns-in-Ok-Bare-clause-stopped g c =
+    λ two.
+    inr (inr (Bare, rw c.in-Ok-Bare.field-0-is at c.in-Ok-Bare.ensures.asked, c.run_bare.ensures.ends (λ none. omega (arith, two, none))))
+
+pub returns-in-Ok-BareLog-clause-stopped : goal.returns-in-Ok-BareLog-clause-stopped
+returns-in-Ok-BareLog-clause-stopped g c =
+    λ two.
+    inr (inr (BareLog c.in-Ok-BareLog.log, rw c.in-Ok-BareLog.field-0-is at c.in-Ok-BareLog.ensures.asked, (c.run_bare_journal.ensures.ends (λ none. omega (arith, two, none)), c.run_bare_journal.ensures.asked)))
+
+pub returns-in-Ok-BareLog-clause-broken : goal.returns-in-Ok-BareLog-clause-broken
+returns-in-Ok-BareLog-clause-broken g c =
+    λ three.
+    let files = call_files (g.N.Files.held c.args.files.now.shelf) (g.L.Logs.asked c.args.files.now.logs) (g.L.Logs.asked c.run_bare_journal.new.files) g.L.Logs.blank (g.L.Logs.named c.run_bare_journal.new.files) (g.L.Logs.kept c.run_bare_journal.new.files) in
+    inr (BareLog c.in-Ok-BareLog.log, rw c.in-Ok-BareLog.field-0-is at c.in-Ok-BareLog.ensures.asked, logs_part files (g.I.Source.left c.args.input) (g.O.Sink.held c.args.output.now) (g.O.Sink.held c.run_bare_journal.new.output) (c.run_bare_journal.ensures.part (λ none. omega (arith, three, none))))
+
+pub returns-in-Ok-BareLog-clause-kept : goal.returns-in-Ok-BareLog-clause-kept
+returns-in-Ok-BareLog-clause-kept g c =
+    λ none two.
+    absurd (none.no_log c.in-Ok-BareLog.log (rw c.in-Ok-BareLog.field-0-is at c.in-Ok-BareLog.ensures.asked))
+
+pub returns-in-Ok-BareLog-clause-unlogged : goal.returns-in-Ok-BareLog-clause-unlogged
+returns-in-Ok-BareLog-clause-unlogged g c =
+    λ none.
+    absurd (none.no_log c.in-Ok-BareLog.log (rw c.in-Ok-BareLog.field-0-is at c.in-Ok-BareLog.ensures.asked))
+
+pub returns-in-Ok-Check-clause-stopped : goal.returns-in-Ok-Check-clause-stopped
+returns-in-Ok-Check-clause-stopped g c =
+    λ two.
+    inr (inr (Check c.in-Ok-Check.plan, rw c.in-Ok-Check.field-0-is at c.in-Ok-Check.ensures.asked, c.run_check.ensures.stopped two))
+
+pub returns-in-Ok-Net-clause-stopped : goal.returns-in-Ok-Net-clause-stopped
+returns-in-Ok-Net-clause-stopped g c =
+    λ two.
+    inr (inr (Net c.in-Ok-Net.plan, rw c.in-Ok-Net.field-0-is at c.in-Ok-Net.ensures.asked, c.run_net.ensures.stopped two))
+
+pub returns-in-Ok-Run-clause-stopped : goal.returns-in-Ok-Run-clause-stopped
+returns-in-Ok-Run-clause-stopped g c =
+    λ two.
+    inr (inr (Run c.in-Ok-Run.plan, rw c.in-Ok-Run.field-0-is at c.in-Ok-Run.ensures.asked, c.run_run.ensures.stopped two))
+
+pub returns-in-Ok-Run-clause-kept : goal.returns-in-Ok-Run-clause-kept
+returns-in-Ok-Run-clause-kept g c =
+    λ none two.
+    absurd (none.no_run c.in-Ok-Run.plan (rw c.in-Ok-Run.field-0-is at c.in-Ok-Run.ensures.asked))
+
+pub returns-in-Ok-RunLog-clause-stopped : goal.returns-in-Ok-RunLog-clause-stopped
+returns-in-Ok-RunLog-clause-stopped g c =
+    λ two.
+    inr (inr (RunLog c.in-Ok-RunLog.plan c.in-Ok-RunLog.log, rw c.in-Ok-RunLog.field-0-is at c.in-Ok-RunLog.ensures.asked, c.run_run_journal.ensures.stopped two))
+
+pub returns-in-Ok-RunLog-clause-kept : goal.returns-in-Ok-RunLog-clause-kept
+returns-in-Ok-RunLog-clause-kept g c =
+    λ none two.
+    absurd (none.no_run_log c.in-Ok-RunLog.plan c.in-Ok-RunLog.log (rw c.in-Ok-RunLog.field-0-is at c.in-Ok-RunLog.ensures.asked))
+
+pub returns-in-Ok-RunLog-clause-unlogged : goal.returns-in-Ok-RunLog-clause-unlogged
+returns-in-Ok-RunLog-clause-unlogged g c =
+    λ none.
+    absurd (none.no_run_log c.in-Ok-RunLog.plan c.in-Ok-RunLog.log (rw c.in-Ok-RunLog.field-0-is at c.in-Ok-RunLog.ensures.asked))
+
+pub returns-in-Ok-Plan-clause-stopped : goal.returns-in-Ok-Plan-clause-stopped
+returns-in-Ok-Plan-clause-stopped g c =
+    λ two.
+    inr (inr (Plan c.in-Ok-Plan.search, rw c.in-Ok-Plan.field-0-is at c.in-Ok-Plan.ensures.asked, c.run_plan.ensures.stopped two))
+
+pub returns-in-Ok-Plan-clause-quiet : goal.returns-in-Ok-Plan-clause-quiet
+returns-in-Ok-Plan-clause-quiet g c =
+    λ none. c.run_plan.ensures.quiet (none c.in-Ok-Plan.search (rw c.in-Ok-Plan.field-0-is at c.in-Ok-Plan.ensures.asked))
+
+pub returns-in-Ok-Audit-clause-stopped : goal.returns-in-Ok-Audit-clause-stopped
+returns-in-Ok-Audit-clause-stopped g c =
+    λ two.
+    inr (inr (Audit c.in-Ok-Audit.log, rw c.in-Ok-Audit.field-0-is at c.in-Ok-Audit.ensures.asked, c.run_bare_audit.ensures.stopped two))
+
+pub returns-in-Ok-PlanAudit-clause-stopped : goal.returns-in-Ok-PlanAudit-clause-stopped
+returns-in-Ok-PlanAudit-clause-stopped g c =
+    λ two.
+    inr (inr (PlanAudit c.in-Ok-PlanAudit.log c.in-Ok-PlanAudit.plan, rw c.in-Ok-PlanAudit.field-0-is at c.in-Ok-PlanAudit.ensures.asked, c.run_plan_audit.ensures.stopped two))
+
+pub returns-in-Ok-Split-clause-stopped : goal.returns-in-Ok-Split-clause-stopped
+returns-in-Ok-Split-clause-stopped g c =
+    λ two.
+    inr (inr (Split c.in-Ok-Split.plan c.in-Ok-Split.owners, rw c.in-Ok-Split.field-0-is at c.in-Ok-Split.ensures.asked, c.run_split.ensures.stopped two))
+
+pub returns-in-Ok-Help-clause-stopped : goal.returns-in-Ok-Help-clause-stopped
+returns-in-Ok-Help-clause-stopped g c =
+    λ two.
+    let ended = c.show.ensures.stopped (λ none. omega (arith, two, none)) in
+    inr (inr (
+      Help c.in-Ok-Help.text,
+      rw c.in-Ok-Help.field-0-is at c.in-Ok-Help.ensures.asked,
+      subst (λ (t : List ℕ). StopsHelp t c.show.result (g.O.Sink.held c.args.output.now) (g.O.Sink.held c.show.new.output) (g.F.Sink.failures c.args.faults.now) (g.F.Sink.held c.args.faults.now) (g.F.Sink.failures c.show.new.faults) (g.F.Sink.held c.show.new.faults)) c.as_str.ensures.value ended,
+    ))
+
+pub returns-in-Err-Words-clause-stopped : goal.returns-in-Err-Words-clause-stopped
+returns-in-Err-Words-clause-stopped g c =
+    λ two.
+    inl (c.refuse_words.ensures.refused (g.O.Sink.held c.args.output.now) (g.O.Sink.failures c.args.output.now))

@@ -1,0 +1,103 @@
+-- How a call ends with another status than 0 and 1: what stopped it was told, and it is as it is told.
+use Rattle.std.specs.Prelude.{◌≡◌, ℕ, List, ◌++◌, Option, ◌⊎◌, codes}
+use Rattle.std.specs.String.{string_bytes}
+use Rattle.tp_device.specs.Bytes.{AppendsPart}
+use Rattle.tp_cli_files.specs.FaultLines.{Tells, fault_line}
+use Rattle.tp_cli_bare.specs.Bare.{StopsBare}
+use Rattle.tp_cli_bare.specs.Logged.{EndsJournaled}
+use Rattle.tp_cli_audit.specs.Bare.{EndsBareAudit}
+use Rattle.tp_cli_audit.specs.PlanAudits.{EndsPlanAudit}
+use Rattle.tp_cli_run.specs.Runs.{EndsRun}
+use Rattle.tp_cli_plan.specs.SearchStops.{EndsSearch}
+use Rattle.tp_cli_split.specs.Splits.{EndsSplit}
+use Rattle.tp_cli_run.specs.RunJournals.{EndsRunLog}
+use Rattle.tp_cli.specs.CallFiles.{CallFiles, journal_file}
+use Rattle.tp_cli_run.specs.LogFile.{AskedOnce}
+use Rattle.tp_cli.specs.Checks.{EndsCheck}
+use Rattle.tp_cli.specs.Networks.{EndsNet}
+use Rattle.tp_cli_args.specs.Requests.{AsksFor}
+use Rattle.tp_cli_args.specs.declared.requests.Request.{Request}
+use Rattle.tp_cli_args.specs.declared.requests.Request.TheVariants.{Bare, BareLog, Check, Net, Run, RunLog, Plan, Audit, PlanAudit, Split, Help}
+
+-- there was no memory for the words
+pub record LacksMemory (status : ℕ) (held held-now : Option (List ℕ)) (output output-now : ℕ)
+    (failures : ℕ) (before : Option (List ℕ)) (failures-now : ℕ)
+    (now : Option (List ℕ)) : Type 0 where
+  pub three : status ≡ 3
+  pub kept : held-now ≡ held
+  pub same : output-now ≡ output
+  pub told : Tells (fault_line (codes "arguments") (codes "2 memory"))
+      failures before failures-now now
+
+-- the words are refused
+pub record RefusesWords (status : ℕ) (held held-now : Option (List ℕ)) (output output-now : ℕ)
+    (failures : ℕ) (before : Option (List ℕ)) (failures-now : ℕ)
+    (now : Option (List ℕ)) : Type 0 where
+  pub two : status ≡ 2
+  pub kept : held-now ≡ held
+  pub same : output-now ≡ output
+  pub more : List ℕ
+  pub told : Tells (fault_line (codes "arguments") (codes "1 words") ++ more)
+      failures before failures-now now
+
+-- help was not written whole
+pub record StopsHelp (text : List ℕ) (status : ℕ) (held held-now : Option (List ℕ)) (failures : ℕ)
+    (before : Option (List ℕ)) (failures-now : ℕ) (now : Option (List ℕ)) : Type 0 where
+  pub three : status ≡ 3
+  pub part : AppendsPart held held-now text
+  pub told : Tells (fault_line (codes "script") (codes "2 write")) failures before failures-now now
+
+-- how what is asked for ends
+abbrev pub EndsRequest : Request → CallFiles → Option (List ℕ) → ℕ
+    → Option (List ℕ) → Option (List ℕ) → ℕ → ℕ → ℕ → Option (List ℕ) → ℕ → Option (List ℕ) → Type 0
+EndsRequest Bare files input status held held-now output output-now failures before failures-now now
+    = StopsBare status input held held-now output output-now failures before failures-now now
+EndsRequest (BareLog log) files input status held held-now output output-now failures before
+    failures-now now
+    = EndsJournaled status input held held-now files.blank files.kept log.now files.named output
+    output-now failures before failures-now now × AskedOnce (journal_file log.now files)
+EndsRequest
+    (Check w) files input status held held-now output output-now failures before failures-now now
+    = EndsCheck files.held w status held held-now output output-now failures before failures-now now
+EndsRequest
+    (Net w) files input status held held-now output output-now failures before failures-now now
+    = EndsNet files.held w status held held-now output output-now failures before failures-now now
+EndsRequest (Run w) files input status held held-now output output-now failures before failures-now
+    now = EndsRun files.held w status input held held-now output output-now failures before
+    failures-now now
+EndsRequest (RunLog w log) files input status held held-now output output-now failures before
+    failures-now now
+    = EndsRunLog files.held w status input held held-now (journal_file log.now files) output
+    output-now failures before failures-now now
+EndsRequest
+    (Plan w) files input status held held-now output output-now failures before failures-now now =
+    EndsSearch files.held w status held held-now output output-now failures before failures-now now
+EndsRequest (Audit log) files input status held held-now output output-now failures before
+    failures-now now = EndsBareAudit (files.held log.now) log.now status held held-now output
+    output-now failures before failures-now now
+EndsRequest (PlanAudit log w) files input status held held-now output output-now failures before
+    failures-now now
+    = EndsPlanAudit files.held w log.now status (files.held log.now) held held-now output output-now
+    failures before failures-now now
+EndsRequest (Split w owners) files input status held held-now output output-now failures before
+    failures-now now
+    = EndsSplit files.held w owners.now status held held-now output output-now failures before
+    failures-now now
+EndsRequest
+    (Help text) files input status held held-now output output-now failures before failures-now now
+    = StopsHelp (string_bytes text) status held held-now failures before failures-now now
+
+abbrev pub EndsCall : List (List ℕ) → CallFiles → Option (List ℕ) → ℕ
+    → Option (List ℕ) → Option (List ℕ) → ℕ → ℕ → ℕ → Option (List ℕ) → ℕ → Option (List ℕ) → Type 0
+EndsCall words files input status held held-now output output-now failures before failures-now now =
+    RefusesWords status held held-now output output-now failures before failures-now now
+    ⊎ (LacksMemory status held held-now output output-now failures before failures-now now
+    ⊎ ((request : Request) × AsksFor words request × EndsRequest request files input status held
+    held-now output output-now failures before failures-now now))
+
+-- the same of commands on a network of bounds alone, whose words are never refused
+abbrev pub EndsBare : Option (List ℕ) → ℕ → Option (List ℕ) → Option (List ℕ) → ℕ → ℕ → ℕ
+    → Option (List ℕ) → ℕ → Option (List ℕ) → Type 0
+EndsBare input status held held-now output output-now failures before failures-now now =
+    StopsBare status input held held-now output output-now failures before failures-now now
+    ⊎ LacksMemory status held held-now output output-now failures before failures-now now

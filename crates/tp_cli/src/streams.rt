@@ -1,0 +1,246 @@
+//! A run over readers and writers of std.
+
+ghost use Rattle.std.specs.Prelude.{◌≡◌, ◌≤◌, ◌<◌, [], IfSome, None, map};
+ghost use Rattle.std.specs.Io.Buffered.{line_writer_contents};
+ghost use Rattle.std.specs.Io.KnownBytes.{Keeps};
+ghost use Rattle.std.specs.String.{string_bytes};
+ghost use Rattle.tp_cli_files.specs.Calls.{call_status, call_text};
+ghost use Rattle.tp_cli_files.specs.FaultLines.{TellsFault};
+ghost use Rattle.tp_device.specs.Bytes.{AppendsPart};
+ghost use Rattle.tp_cli_args.specs.Requests.{AsksForNoProgress};
+ghost use Rattle.tp_cli.specs.CallFiles.{call_files};
+ghost use Rattle.tp_cli.specs.Streams.{Ends, HandsOn, TellsSome};
+
+use crate::desk::Desk;
+use crate::words::run_words;
+use std::alloc::Global;
+use std::io::{LineWriter, Read, Write};
+use std::marker::Brand;
+use std::sync::ledger::{Blank, Ledger};
+use tp_cli_files::{
+    CallFault, FaultLine, Files, Logs, OUT_OF_ORDER, Outlet, complain, refuse_call,
+};
+use tp_device::{FromRead, Sink};
+
+/// What a run came to: its exit status, and the writers. The output is gone where the last of it could not be handed on.
+#[derive(Drop)]
+pub struct Ended<W, V> {
+    pub status: u8,
+    pub output: Option<W>,
+    pub faults: V,
+}
+
+/// A reader or writer, and the blank ledger that its failures will be counted in.
+#[derive(Drop)]
+struct Counted<T> {
+    stream: T,
+    blank: Blank,
+}
+
+impl<T> Counted<T> {
+    /// A stream whose failures are counted from now on.
+    fn new(stream: T) -> Self
+        ensures stream { result.stream ≡ stream }
+        ensures parts { result.blank.parts ≡ 1 }
+    {
+        Counted {
+            stream,
+            blank: Blank::new(1),
+        }
+    }
+}
+
+/// An exit status, and the output where all of it could be handed on.
+#[derive(Drop)]
+struct HandedOn<W> {
+    status: u8,
+    output: Option<W>,
+}
+
+/// The writer, once all that was written was handed on to it.
+fn writer_of<W: Write + Drop>(output: LineWriter<W>) -> Option<W>
+    ensures { IfSome result (λ w. Keeps (line_writer_contents W.contents output) (W.contents w)) }
+{
+    let mut output = output;
+    match output.flush() {
+        Ok(()) => output.into_inner().ok(),
+        Err(_) => None,
+    }
+}
+
+/// Tells that the output could not be handed on, if no other fault was told.
+fn tell_lost<F: Sink>(status: u8, faults: &mut F)
+    ensures told { status ≤ 1 → TellsFault [] (F.failures faults.old) (F.held faults.old)
+        (F.failures faults.new) (F.held faults.new) }
+    ensures same { 2 ≤ status → F.held faults.new ≡ F.held faults.old }
+{
+    if status <= 1 {
+        complain(faults, FaultLine::out_of_order("script", "2 write"));
+    }
+}
+
+/// Hands on what was written, and answers the exit status. What can't be handed on is a write that failed.
+fn hand_on<W: Write + Drop, F: Sink>(
+    status: u8,
+    output: LineWriter<W>,
+    faults: &mut F,
+) -> HandedOn<W>
+    ensures { HandsOn W.contents status (line_writer_contents W.contents output)
+        (F.failures faults.old) (F.held faults.old) (F.failures faults.new)
+        (F.held faults.new) result.status result.output }
+{
+    match writer_of(output) {
+        Some(output) => HandedOn {
+            status,
+            output: Some(output),
+        },
+        None => {
+            tell_lost(status, faults);
+            HandedOn {
+                status: OUT_OF_ORDER,
+                output: None,
+            }
+        }
+    }
+}
+
+/// Does what the words ask for, and counts the failures of each stream in a ledger of its own.
+fn run_counted<
+    I: Ledger,
+    O: Ledger,
+    F: Ledger,
+    N: Files,
+    L: Logs,
+    B: Write,
+    R: Read + Drop,
+    W: Write + Drop,
+    V: Write + Drop,
+>(
+    alloc: Global,
+    words: &[String],
+    files: &mut Desk<N, L, B>,
+    input: Counted<R>,
+    output: Counted<LineWriter<W>>,
+    faults: Counted<V>,
+) -> Ended<W, V>
+    requires i { input.blank.name ≡ I.name }
+    requires i_parts { input.blank.parts ≡ I.parts }
+    requires i_some { 0 < input.blank.parts }
+    requires o { output.blank.name ≡ O.name }
+    requires o_parts { output.blank.parts ≡ O.parts }
+    requires o_some { 0 < output.blank.parts }
+    requires f { faults.blank.name ≡ F.name }
+    requires f_parts { faults.blank.parts ≡ F.parts }
+    requires f_some { 0 < faults.blank.parts }
+    ensures ends { Ends (map string_bytes words.now) (call_files (N.held files.old.shelf)
+        (L.asked files.old.logs) (L.asked files.new.logs) L.blank
+        (L.named files.new.logs) (L.kept files.new.logs))
+        (R.remaining input.stream)
+        (line_writer_contents W.contents output.stream) (V.contents faults.stream) W.contents
+        result.status result.output (V.contents result.faults) }
+    ensures quiet { AsksForNoProgress (map string_bytes words.now)
+        → files.new.board ≡ files.old.board }
+{
+    let input = FromRead::<R, I>::new(input.stream, input.blank);
+    let mut output = Outlet::<LineWriter<W>, O>::new(output.stream, output.blank);
+    let mut faults = Outlet::<V, F>::new(faults.stream, faults.blank);
+    let status = run_words(alloc, words, files, input, &mut output, &mut faults);
+    let handed_on = hand_on(status, output.into_writer(), &mut faults);
+    Ended {
+        status: handed_on.status,
+        output: handed_on.output,
+        faults: faults.into_writer(),
+    }
+}
+
+/// Tells that there is no memory for the buffer of the output. Answers the exit status.
+fn refuse_memory<F: Sink>(faults: &mut F) -> u8
+    ensures status { result ≡ OUT_OF_ORDER }
+    ensures fault { TellsFault [] (F.failures faults.old) (F.held faults.old)
+        (F.failures faults.new) (F.held faults.new) }
+{
+    complain(faults, FaultLine::out_of_order("script", "3 memory"))
+}
+
+/// Ends a run that has no memory for the buffer of the output. Nothing is done.
+fn end_lost<F: Ledger, W, V: Write + Drop>(faults: Counted<V>) -> Ended<W, V>
+    requires f { faults.blank.name ≡ F.name }
+    requires f_parts { faults.blank.parts ≡ F.parts }
+    requires f_some { 0 < faults.blank.parts }
+    ensures status { result.status ≡ OUT_OF_ORDER }
+    ensures output { result.output ≡ None }
+    ensures fault { TellsSome (V.contents faults.stream) (V.contents result.faults) }
+{
+    let mut faults = Outlet::<V, F>::new(faults.stream, faults.blank);
+    let status = refuse_memory(&mut faults);
+    Ended {
+        status,
+        output: None,
+        faults: faults.into_writer(),
+    }
+}
+
+/// Does what the words ask for, over a reader and writers of std.
+///
+/// Each answer is handed to `output` as soon as its line is whole. What could not be written to `output` in the end is told
+/// as a failed write.
+pub fn run_streams<N: Files, L: Logs, B: Write, R: Read + Drop, W: Write + Drop, V: Write + Drop>(
+    alloc: Global,
+    words: &[String],
+    files: &mut Desk<N, L, B>,
+    input: R,
+    output: W,
+    faults: V,
+) -> Ended<W, V>
+    ensures ends { Ends (map string_bytes words.now) (call_files (N.held files.old.shelf)
+        (L.asked files.old.logs) (L.asked files.new.logs) L.blank
+        (L.named files.new.logs) (L.kept files.new.logs))
+        (R.remaining input) (W.contents output) (V.contents faults) W.contents result.status
+        result.output (V.contents result.faults) }
+    ensures quiet { AsksForNoProgress (map string_bytes words.now)
+        → files.new.board ≡ files.old.board }
+{
+    let input = Counted::new(input);
+    let faults = Counted::new(faults);
+    match LineWriter::new(alloc, output) {
+        Ok(writer) => {
+            let output = Counted::new(writer);
+            run_counted::<Brand, Brand, Brand, _, _, _, _, _, _>(
+                alloc, words, files, input, output, faults,
+            )
+        }
+        Err(_) => end_lost::<Brand, _, _>(faults),
+    }
+}
+
+/// Why a call was refused was told, and this is its exit status and the writer.
+#[derive(Drop)]
+pub struct Refused<V> {
+    pub status: u8,
+    pub faults: V,
+}
+
+/// Tells why the words of a call were not taken, and counts the failures of the writer.
+fn refuse_counted<F: Ledger, V: Write + Drop>(why: CallFault, faults: Counted<V>) -> Refused<V>
+    requires f { faults.blank.name ≡ F.name }
+    requires f_parts { faults.blank.parts ≡ F.parts }
+    requires f_some { 0 < faults.blank.parts }
+    ensures status { result.status ≡ call_status why }
+    ensures told { AppendsPart (V.contents faults.stream) (V.contents result.faults)
+        (call_text why) }
+{
+    let mut faults = Outlet::<V, F>::new(faults.stream, faults.blank);
+    let status = refuse_call(why, &mut faults);
+    Refused {
+        status,
+        faults: faults.into_writer(),
+    }
+}
+
+/// Tells a writer of std why the words of a call were not taken: the whole line, or where the writer fails a first part of it.
+pub fn refuse_streams<V: Write + Drop>(why: CallFault, faults: V) -> Refused<V>
+    ensures status { result.status ≡ call_status why }
+    ensures told { AppendsPart (V.contents faults) (V.contents result.faults) (call_text why) }
+{
+    refuse_counted::<Brand, _>(why, Counted::new(faults))
+}

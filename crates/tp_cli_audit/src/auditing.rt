@@ -1,0 +1,114 @@
+//! The head of a journal in a file, and its audit against an executive.
+
+ghost use Rattle.std.specs.Prelude.{◌≡◌, ℕ, List, IfOk, IfErr, IfSome};
+ghost use Rattle.tp_journal_pairs.specs.Writing.{IsNewExecutive};
+ghost use Rattle.tp_journal.specs.Telling.{IsHeadTold};
+ghost use Rattle.tp_cli_audit.specs.Audits.{Hinders, HindersHead, IsFound};
+
+use crate::audit_lines::AuditStop;
+use std::alloc::Global;
+use tp_cli_files::Files;
+use tp_device::Source;
+use tp_exec_machine::Executive;
+use tp_journal::{AuditFault, JournalHead, audit, journal_head};
+use tp_repair::RepairNet;
+use tp_script::Lines;
+
+/// The most bytes of a line of a journal.
+const LONGEST: usize = 16_384;
+
+/// What an audit found.
+#[derive(Clone, Copy)]
+pub enum Found {
+    /// A journal of so many pairs.
+    Journal(u64),
+    /// An answer, on this line, that is not allowed. The first line is 1.
+    Wrong(u64),
+}
+
+/// The head of the journal that a source has left.
+fn head_of<S: Source + Drop>(alloc: Global, source: S) -> Result<JournalHead, AuditStop>
+    ensures head { IfOk result (λ head. IfSome (S.left source) (λ bytes. IsHeadTold bytes head)) }
+    ensures cause { IfErr result (HindersHead (S.left source)) }
+{
+    match Lines::new(alloc, source, LONGEST) {
+        Ok(lines) => {
+            let mut lines = lines;
+            match journal_head(alloc, &mut lines) {
+                Ok(head) => Ok(head),
+                Err(AuditFault::Memory) => Err(AuditStop::Memory),
+                Err(AuditFault::Read) => Err(AuditStop::Read),
+                Err(AuditFault::Line(n)) => Err(AuditStop::Line(n)),
+                Err(_) => Err(AuditStop::Head),
+            }
+        }
+        Err(_) => Err(AuditStop::Memory),
+    }
+}
+
+/// The head of the journal in the file of a name. It takes memory for a line and for the lags that the head tells.
+///
+/// # Errors
+/// `Open` where the file can't be opened, `Read` where a read fails, `Memory`; `Line(n)` where line n breaks the format.
+pub fn head_in<N: Files>(alloc: Global, files: &mut N, log: &str) -> Result<JournalHead, AuditStop>
+    ensures head { IfOk result (λ head.
+        IfSome (N.held files.old log.now) (λ bytes. IsHeadTold bytes head)) }
+    ensures cause { IfErr result (HindersHead (N.held files.old log.now)) }
+    ensures same { (other : List ℕ) → N.held files.new other ≡ N.held files.old other }
+{
+    match files.open(log) {
+        Ok(source) => head_of(alloc, source),
+        Err(_) => Err(AuditStop::Open),
+    }
+}
+
+/// Audits the journal that a source has left against an executive, which is new. Each line is read once and each command that was
+/// accepted carried out, so that it costs little more than the run did.
+///
+/// # Errors
+/// `Read` where a read fails, `Memory`; `Line(n)` where line n breaks the format; `Head` for the head of another executive.
+pub fn audit_of<S: Source + Drop>(
+    alloc: Global,
+    source: S,
+    executive: Executive<RepairNet>,
+) -> Result<Found, AuditStop>
+    requires { IsNewExecutive executive }
+    ensures found { IfOk result (IsFound executive (S.left source)) }
+    ensures cause { IfErr result (Hinders executive (S.left source)) }
+{
+    match Lines::new(alloc, source, LONGEST) {
+        Ok(lines) => {
+            let mut lines = lines;
+            match audit(alloc, executive, &mut lines) {
+                Ok(audited) => Ok(Found::Journal(audited.pairs)),
+                Err(AuditFault::Wrong(n)) => Ok(Found::Wrong(n)),
+                Err(AuditFault::Memory) => Err(AuditStop::Memory),
+                Err(AuditFault::Read) => Err(AuditStop::Read),
+                Err(AuditFault::Line(n)) => Err(AuditStop::Line(n)),
+                Err(AuditFault::Head) => Err(AuditStop::Head),
+            }
+        }
+        Err(_) => Err(AuditStop::Memory),
+    }
+}
+
+/// The same of the journal in the file of a name.
+///
+/// # Errors
+/// `Open` where the file can't be opened; those of `audit_of`.
+pub fn audit_in<N: Files>(
+    alloc: Global,
+    files: &mut N,
+    log: &str,
+    executive: Executive<RepairNet>,
+) -> Result<Found, AuditStop>
+    requires { IsNewExecutive executive }
+    ensures found { IfOk result (IsFound executive (N.held files.old log.now)) }
+    ensures cause { IfErr result (Hinders executive (N.held files.old log.now)) }
+    ensures same { (other : List ℕ) → N.held files.new other ≡ N.held files.old other }
+{
+    match files.open(log) {
+        Ok(source) => audit_of(alloc, source, executive),
+        Err(_) => Err(AuditStop::Open),
+    }
+}

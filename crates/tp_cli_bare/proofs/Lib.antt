@@ -1,0 +1,2 @@
+pub mod BareLemmas
+pub mod LoggedLemmas

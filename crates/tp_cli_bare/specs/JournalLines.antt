@@ -1,0 +1,30 @@
+-- The lines of what ends commands early whose journal is kept, and their exit statuses.
+use Rattle.std.specs.Prelude.{ℕ, List, codes}
+use Rattle.tp_cli_files.specs.FaultLines.{fault_line}
+use Rattle.tp_journal_pairs.specs.declared.faults.JournalFault.{JournalFault}
+use Rattle.tp_journal_pairs.specs.declared.faults.JournalFault.TheVariants.{Read, Write, Log, TooLong}
+use Rattle.tp_cli_bare.specs.ServeLines.{bare_status, bare_text}
+use Rattle.tp_cli_bare.specs.declared.journal_lines.JournalStop.{JournalStop}
+use Rattle.tp_cli_bare.specs.declared.journal_lines.JournalStop.TheVariants.{Making, Beginning, Journaling}
+
+abbrev pub journal_status : JournalFault → ℕ
+journal_status Read = 3
+journal_status Write = 3
+journal_status Log = 3
+journal_status TooLong = 2
+
+abbrev pub journal_text : JournalFault → List ℕ
+journal_text Read = fault_line (codes "script") (codes "1 read")
+journal_text Write = fault_line (codes "script") (codes "2 write")
+journal_text Log = fault_line (codes "script") (codes "6 log")
+journal_text TooLong = fault_line (codes "script") (codes "4 too-long")
+
+abbrev pub stop_status : JournalStop → ℕ
+stop_status Making = 3
+stop_status (Beginning fault) = bare_status fault
+stop_status (Journaling fault) = journal_status fault
+
+abbrev pub stop_text : JournalStop → List ℕ
+stop_text Making = fault_line (codes "script") (codes "6 log")
+stop_text (Beginning fault) = bare_text fault
+stop_text (Journaling fault) = journal_text fault

@@ -1,0 +1,4 @@
+pub mod Bare
+pub mod ServeLines
+pub mod JournalLines
+pub mod Logged

@@ -1,0 +1,73 @@
+-- What goes to the faults.
+use Rattle.std.specs.Prelude.{◌≡◌, ℕ, List, [], ◌++◌, Option, ◌≤◌, ◌⊎◌, codes, decimal}
+use Rattle.std.specs.Io.KnownBytes.{Appends}
+use Rattle.tp_device.specs.Bytes.{AppendsPart}
+use Rattle.tp_cli_files.specs.declared.fault_lines.Detail.{Detail}
+use Rattle.tp_cli_files.specs.declared.fault_lines.Detail.TheVariants.{Nothing, Number, Line, Construct, Name}
+use Rattle.tp_cli_files.specs.declared.fault_lines.FaultLine.{FaultLine}
+
+-- what stands behind the number and the word of a fault
+abbrev pub detail_text : Detail → List ℕ
+detail_text Nothing = []
+detail_text (Number n) = codes " " ++ decimal n
+detail_text (Line n) = codes " " ++ decimal n
+detail_text (Construct at what) = (codes " " ++ decimal at) ++ (codes " " ++ what.now)
+detail_text (Name name) = codes " " ++ name.now
+
+-- the line of a fault of that part, with that number and word, and with this behind
+abbrev pub fault_line_with : List ℕ → List ℕ → List ℕ → List ℕ
+fault_line_with part words behind = ((codes "fault " ++ part) ++ (codes " " ++ words))
+    ++ (behind ++ codes "\n")
+
+-- the same with nothing behind
+abbrev pub fault_line : List ℕ → List ℕ → List ℕ
+fault_line part words = fault_line_with part words []
+
+-- with a place behind, or the number of a line
+abbrev pub placed_line : List ℕ → List ℕ → ℕ → List ℕ
+placed_line part words at = fault_line_with part words (codes " " ++ decimal at)
+
+-- with a place and what stands there
+abbrev pub construct_line : List ℕ → List ℕ → ℕ → List ℕ → List ℕ
+construct_line part words at what =
+    fault_line_with part words ((codes " " ++ decimal at) ++ (codes " " ++ what))
+
+-- with a name
+abbrev pub named_line : List ℕ → List ℕ → List ℕ → List ℕ
+named_line part words name = fault_line_with part words (codes " " ++ name)
+
+abbrev pub head_text : FaultLine → List ℕ
+head_text line = (codes "fault " ++ line.part.now) ++ (codes " " ++ line.words.now)
+
+-- the line `fault PART NUMBER WORD ..`
+abbrev pub fault_text : FaultLine → List ℕ
+fault_text line = head_text line ++ (detail_text line.detail ++ codes "\n")
+
+-- its status is that of a fault: refused input, or memory or a device that is wanting
+abbrev pub IsFault : FaultLine → Type 0
+IsFault line = (2 ≤ line.status) × (line.status ≤ 3)
+
+-- a text was written whole where the writer did not fail, and else a first part of it
+pub record Tells (text : List ℕ) (failures : ℕ) (before : Option (List ℕ)) (failures-now : ℕ)
+    (now : Option (List ℕ)) : Type 0 where
+  pub part : AppendsPart before now text
+  pub whole : failures-now ≡ failures → Appends before now text
+
+-- a text is a line that begins with `fault`
+abbrev pub IsFaultText : List ℕ → Type 0
+IsFaultText text = (words : List ℕ) × (text ≡ codes "fault " ++ (words ++ codes "\n"))
+
+-- a fault line was told, and behind it this
+pub record TellsFault (more : List ℕ) (failures : ℕ) (before : Option (List ℕ)) (failures-now : ℕ)
+    (now : Option (List ℕ)) : Type 0 where
+  pub text : List ℕ
+  pub is : IsFaultText text
+  pub told : Tells (text ++ more) failures before failures-now now
+
+-- the same; only behind the line of words that are refused may something stand
+abbrev pub TellsRefusal : ℕ → ℕ → Option (List ℕ) → ℕ → Option (List ℕ) → Type 0
+TellsRefusal status failures before failures-now now =
+    TellsFault [] failures before failures-now now
+    ⊎ ((status ≡ 2) × ((more : List ℕ)
+    × Tells (fault_line (codes "arguments") (codes "1 words") ++ more)
+    failures before failures-now now))

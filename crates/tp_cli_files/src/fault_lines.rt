@@ -1,0 +1,242 @@
+//! The lines of faults, and the exit statuses that go with them.
+
+ghost use Rattle.std.specs.Prelude.{◌≡◌, [], ◌++◌, codes, decimal};
+ghost use Rattle.tp_device.specs.Bytes.{Writes, failures_after};
+ghost use Rattle.tp_cli_files.specs.FaultLines.{Tells, TellsFault, construct_line, detail_text, fault_line, fault_line_with, fault_text, head_text, named_line, placed_line};
+ghost use Rattle.tp_cli_files.specs.FileFaults.{file_status, file_text};
+
+use crate::files::FileFault;
+use itoa::Buffer;
+use tp_device::{Failed, Sink, push_all};
+
+/// The input is refused.
+pub const REFUSED: u8 = 2;
+
+/// Memory or a device is wanting.
+pub const OUT_OF_ORDER: u8 = 3;
+
+/// What stands behind the number and the word of a fault.
+#[derive(Clone, Copy)]
+pub enum Detail<'w> {
+    Nothing,
+    Number(u32),
+    Line(usize),
+    Construct(u32, &'static str),
+    Name(&'w str),
+}
+
+/// The line `fault PART NUMBER WORD ..`, and the exit status that goes with it.
+#[derive(Clone, Copy)]
+pub struct FaultLine<'w> {
+    pub part: &'static str,
+    pub words: &'static str,
+    pub detail: Detail<'w>,
+    pub status: u8,
+}
+
+impl<'w> FaultLine<'w> {
+    /// The line of input that is refused.
+    pub fn refused(part: &'static str, words: &'static str) -> Self
+        ensures status { result.status ≡ REFUSED }
+        ensures text { fault_text result ≡ fault_line part.entry.now words.entry.now }
+    {
+        FaultLine {
+            part,
+            words,
+            detail: Detail::Nothing,
+            status: REFUSED,
+        }
+    }
+
+    /// The line of memory or a device that is wanting.
+    pub fn out_of_order(part: &'static str, words: &'static str) -> Self
+        ensures status { result.status ≡ OUT_OF_ORDER }
+        ensures text { fault_text result ≡ fault_line part.entry.now words.entry.now }
+    {
+        FaultLine {
+            status: OUT_OF_ORDER,
+            ..FaultLine::refused(part, words)
+        }
+    }
+
+    /// The line of input that is refused, with something behind.
+    fn refused_with(part: &'static str, words: &'static str, detail: Detail<'w>) -> Self
+        ensures status { result.status ≡ REFUSED }
+        ensures text { fault_text result
+            ≡ fault_line_with part.entry.now words.entry.now (detail_text detail.entry) }
+    {
+        FaultLine {
+            part,
+            words,
+            detail,
+            status: REFUSED,
+        }
+    }
+
+    /// The line of what is refused at a place.
+    pub fn placed(part: &'static str, words: &'static str, at: u32) -> Self
+        ensures status { result.status ≡ REFUSED }
+        ensures text { fault_text result ≡ placed_line part.entry.now words.entry.now at }
+    {
+        FaultLine::refused_with(part, words, Detail::Number(at))
+    }
+
+    /// The line of a construct that is refused at a place.
+    pub fn of_construct(
+        part: &'static str,
+        words: &'static str,
+        at: u32,
+        what: &'static str,
+    ) -> Self
+        ensures status { result.status ≡ REFUSED }
+        ensures text { fault_text result
+            ≡ construct_line part.entry.now words.entry.now at what.entry.now }
+    {
+        FaultLine::refused_with(part, words, Detail::Construct(at, what))
+    }
+
+    /// The line of what is refused on a line of a text.
+    pub fn on_line(part: &'static str, words: &'static str, line: usize) -> Self
+        ensures status { result.status ≡ REFUSED }
+        ensures text { fault_text result ≡ placed_line part.entry.now words.entry.now line }
+    {
+        FaultLine::refused_with(part, words, Detail::Line(line))
+    }
+
+    /// The line of what is refused by its name.
+    pub fn named(part: &'static str, words: &'static str, name: &'w str) -> Self
+        ensures status { result.status ≡ REFUSED }
+        ensures text { fault_text result
+            ≡ named_line part.entry.now words.entry.now name.entry.now }
+    {
+        FaultLine::refused_with(part, words, Detail::Name(name))
+    }
+
+    /// The line of a file of that name that can't be read.
+    fn unread(name: &'w str) -> Self
+        ensures status { result.status ≡ OUT_OF_ORDER }
+        ensures text { fault_text result
+            ≡ named_line (codes "file") (codes "1 read") name.entry.now }
+    {
+        FaultLine {
+            status: OUT_OF_ORDER,
+            ..FaultLine::named("file", "1 read", name)
+        }
+    }
+
+    /// The line of a file of that name that gave no text for a part of the input.
+    pub fn of_file(part: &'static str, fault: FileFault, name: &'w str) -> Self
+        ensures status { result.status ≡ file_status fault }
+        ensures text { fault_text result ≡ file_text part.entry.now fault name.entry.now }
+    {
+        match fault {
+            FileFault::Memory => FaultLine::out_of_order(part, "1 memory"),
+            FileFault::Read => FaultLine::unread(name),
+            FileFault::Utf8 => FaultLine::named("file", "2 utf8", name),
+            FileFault::TooLong => FaultLine::named("file", "3 too-long", name),
+        }
+    }
+
+    /// Writes the part, the number and the word.
+    fn write_head<F: Sink>(&self, faults: &mut F) -> Result<(), Failed>
+        ensures bytes { Writes (F.held faults.old) (F.held faults.new) (head_text self.now) result }
+        ensures cause { F.failures faults.new ≡ failures_after (F.failures faults.old) result }
+    {
+        push_both(faults, b"fault ", self.part)?;
+        push_both(faults, b" ", self.words)
+    }
+
+    /// Writes what stands behind them.
+    fn write_detail<F: Sink>(&self, faults: &mut F) -> Result<(), Failed>
+        ensures bytes { Writes (F.held faults.old) (F.held faults.new)
+            (detail_text self.now.detail) result }
+        ensures cause { F.failures faults.new ≡ failures_after (F.failures faults.old) result }
+    {
+        match self.detail {
+            Detail::Nothing => Ok(()),
+            Detail::Number(n) => push_number(faults, n),
+            Detail::Line(n) => push_both(faults, b" ", Buffer::new().format(n)),
+            Detail::Construct(at, what) => push_construct(faults, at, what),
+            Detail::Name(name) => push_both(faults, b" ", name),
+        }
+    }
+
+    /// Writes what stands behind them, and ends the line.
+    fn write_rest<F: Sink>(&self, faults: &mut F) -> Result<(), Failed>
+        ensures bytes { Writes (F.held faults.old) (F.held faults.new)
+            (detail_text self.now.detail ++ codes "\n") result }
+        ensures cause { F.failures faults.new ≡ failures_after (F.failures faults.old) result }
+    {
+        self.write_detail(faults)?;
+        push_all(faults, b"\n")
+    }
+
+    /// Writes the line.
+    fn write<F: Sink>(&self, faults: &mut F) -> Result<(), Failed>
+        ensures bytes { Writes (F.held faults.old) (F.held faults.new)
+            (fault_text self.now) result }
+        ensures cause { F.failures faults.new ≡ failures_after (F.failures faults.old) result }
+    {
+        self.write_head(faults)?;
+        self.write_rest(faults)
+    }
+
+    /// Writes the line and a text behind it.
+    fn write_more<F: Sink>(&self, faults: &mut F, more: &str) -> Result<(), Failed>
+        ensures bytes { Writes (F.held faults.old) (F.held faults.new)
+            (fault_text self.now ++ more.now) result }
+        ensures cause { F.failures faults.new ≡ failures_after (F.failures faults.old) result }
+    {
+        self.write(faults)?;
+        push_all(faults, more.as_bytes())
+    }
+}
+
+/// Writes a text, and what stands before it.
+fn push_both<F: Sink>(faults: &mut F, before: &[u8], text: &str) -> Result<(), Failed>
+    ensures bytes { Writes (F.held faults.old) (F.held faults.new) (before.now ++ text.now) result }
+    ensures cause { F.failures faults.new ≡ failures_after (F.failures faults.old) result }
+{
+    push_all(faults, before)?;
+    push_all(faults, text.as_bytes())
+}
+
+/// Writes a number after a space.
+fn push_number<F: Sink>(faults: &mut F, n: u32) -> Result<(), Failed>
+    ensures bytes { Writes (F.held faults.old) (F.held faults.new) (codes " " ++ decimal n) result }
+    ensures cause { F.failures faults.new ≡ failures_after (F.failures faults.old) result }
+{
+    push_both(faults, b" ", Buffer::new().format(n))
+}
+
+/// Writes a place and a word, each after a space.
+fn push_construct<F: Sink>(faults: &mut F, at: u32, what: &str) -> Result<(), Failed>
+    ensures bytes { Writes (F.held faults.old) (F.held faults.new)
+        ((codes " " ++ decimal at) ++ (codes " " ++ what.now)) result }
+    ensures cause { F.failures faults.new ≡ failures_after (F.failures faults.old) result }
+{
+    push_number(faults, at)?;
+    push_both(faults, b" ", what)
+}
+
+/// Writes the line of a fault, and answers the exit status. If the line can't be written, the status alone tells.
+pub fn complain<F: Sink>(faults: &mut F, line: FaultLine<'_>) -> u8
+    ensures status { result ≡ line.entry.status }
+    ensures told { Tells (fault_text line.entry) (F.failures faults.old) (F.held faults.old)
+        (F.failures faults.new) (F.held faults.new) }
+    ensures fault { TellsFault [] (F.failures faults.old) (F.held faults.old)
+        (F.failures faults.new) (F.held faults.new) }
+{
+    let _ = line.write(faults);
+    line.status
+}
+
+/// Writes the line of a fault and a text behind it, and answers the exit status. If they can't be written, the status alone tells.
+pub fn complain_more<F: Sink>(faults: &mut F, line: FaultLine<'_>, more: &str) -> u8
+    ensures status { result ≡ line.entry.status }
+    ensures told { Tells (fault_text line.entry ++ more.now) (F.failures faults.old)
+        (F.held faults.old) (F.failures faults.new) (F.held faults.new) }
+{
+    let _ = line.write_more(faults, more);
+    line.status
+}

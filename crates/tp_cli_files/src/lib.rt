@@ -1,0 +1,23 @@
+//! Files and streams of the host, journal files, and fault lines.
+//!
+//! - `files`: files under names, and the texts that they hold
+//! - `fault_lines`: fault lines, with their exit statuses
+//! - `outlets`: a writer of std as a sink that returns the writer
+//! - `host`: the files of the host, and the arguments of its call
+//! - `logs`: the trait of what creates and keeps journal files
+//! - `host_logs`: the journal files of the host
+#![tactic(auto)]
+
+mod fault_lines;
+mod files;
+mod host;
+mod host_logs;
+mod logs;
+mod outlets;
+
+pub use fault_lines::{Detail, FaultLine, OUT_OF_ORDER, REFUSED, complain, complain_more};
+pub use files::{FileFault, Files, open_text, read_text};
+pub use host::{CallFault, HostFile, HostFiles, refuse_call, words_of_call};
+pub use host_logs::{HostLog, HostLogs};
+pub use logs::Logs;
+pub use outlets::Outlet;

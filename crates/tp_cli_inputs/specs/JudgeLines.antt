@@ -1,0 +1,128 @@
+-- The lines of faults of texts, tasks and plans, and their exit statuses: 3 where memory or a device is wanting, and
+-- else 2.
+use Rattle.std.specs.Prelude.{ℕ, List, codes}
+use Rattle.tp_text.specs.declared.fault.TextFault.{TextFault}
+use Rattle.tp_text.specs.declared.fault.TextFault.TheVariants as text_fault
+use Rattle.tp_syntax_ast.specs.declared.fault.LeftOutPart.{LeftOutPart}
+use Rattle.tp_syntax_ast.specs.declared.fault.LeftOutPart.TheVariants as left_out
+use Rattle.tp_syntax_ast.specs.declared.fault.SyntaxFault.{SyntaxFault}
+use Rattle.tp_syntax_ast.specs.declared.fault.SyntaxFault.TheVariants as syntax_fault
+use Rattle.tp_task.specs.declared.fault.TooManyKind.{TooManyKind}
+use Rattle.tp_task.specs.declared.fault.TooManyKind.TheVariants as kinds
+use Rattle.tp_task.specs.declared.fault.GroundFault.{GroundFault}
+use Rattle.tp_task.specs.declared.fault.GroundFault.TheVariants as ground_fault
+use Rattle.tp_happen.specs.tp_plan_text.declared.reading.PlanFault.{PlanFault}
+use Rattle.tp_happen.specs.tp_plan_text.declared.reading.PlanFault.TheVariants as plan_fault
+use Rattle.tp_cli_files.specs.FaultLines.{construct_line, fault_line, named_line, placed_line}
+use Rattle.tp_cli_files.specs.FileFaults.{file_status, file_text}
+use Rattle.tp_cli_files.specs.declared.files.FileFault.{FileFault}
+use Rattle.tp_cli_files.specs.declared.files.FileFault.TheVariants as file_fault
+use Rattle.tp_cli_inputs.specs.declared.judging.JudgeFault.{JudgeFault}
+use Rattle.tp_cli_inputs.specs.declared.judging.JudgeFault.TheVariants.{DomainFile, Domain, ProblemFile, Problem, Task, PlanFile, Plan, Memory, Range}
+use Rattle.tp_cli_inputs.specs.declared.plan_words.PlanWords.{PlanWords}
+
+abbrev pub kind_text : TooManyKind → List ℕ
+kind_text kinds.Objects = codes "objects"
+kind_text kinds.Atoms = codes "atoms"
+kind_text kinds.Fluents = codes "fluents"
+kind_text kinds.Actions = codes "actions"
+
+abbrev pub left_out_text : LeftOutPart → List ℕ
+left_out_text left_out.When = codes "when"
+left_out_text left_out.Division = codes "division"
+left_out_text left_out.ScaleDown = codes "scale-down"
+left_out_text left_out.Number = codes "number"
+left_out_text left_out.AtEndDuration = codes "at-end-duration"
+left_out_text left_out.DurationInCondition = codes "duration-in-condition"
+left_out_text left_out.Continuous = codes "continuous"
+left_out_text left_out.TimedLiteral = codes "timed-literal"
+left_out_text left_out.Derived = codes "derived"
+left_out_text left_out.Preference = codes "preference"
+left_out_text left_out.Constraint = codes "constraint"
+left_out_text left_out.ObjectFluent = codes "object-fluent"
+left_out_text left_out.Either = codes "either"
+left_out_text left_out.Operands = codes "operands"
+
+abbrev pub text_status : TextFault → ℕ
+text_status text_fault.Memory = 3
+text_status _ = 2
+
+-- a text that is no tree, by the part of the input that it is
+abbrev pub text_text : List ℕ → TextFault → List ℕ
+text_text part text_fault.Memory = fault_line part (codes "2 text 1 memory")
+text_text part text_fault.TooLong = fault_line part (codes "2 text 2 too-long")
+text_text part (text_fault.BadByte at) = placed_line part (codes "2 text 3 bad-byte") at
+text_text part (text_fault.Unclosed at) = placed_line part (codes "2 text 4 unclosed") at
+text_text part (text_fault.Extra at) = placed_line part (codes "2 text 5 extra") at
+text_text part (text_fault.Depth at) = placed_line part (codes "2 text 6 depth") at
+text_text part text_fault.Empty = fault_line part (codes "2 text 7 empty")
+
+abbrev pub syntax_status : SyntaxFault → ℕ
+syntax_status syntax_fault.Memory = 3
+syntax_status (syntax_fault.Text fault) = text_status fault
+syntax_status _ = 2
+
+abbrev pub syntax_text : List ℕ → SyntaxFault → List ℕ
+syntax_text part syntax_fault.Memory = fault_line part (codes "1 memory")
+syntax_text part (syntax_fault.Text fault) = text_text part fault
+syntax_text part (syntax_fault.Shape at) = placed_line part (codes "3 shape") at
+syntax_text part (syntax_fault.Unknown at) = placed_line part (codes "4 unknown") at
+syntax_text part (syntax_fault.Twice at) = placed_line part (codes "5 twice") at
+syntax_text part (syntax_fault.Types at) = placed_line part (codes "6 types") at
+syntax_text part (syntax_fault.LeftOut at what) = construct_line part (codes "7 left-out") at
+    (left_out_text what)
+
+-- the file of a domain or a problem: one that is too long is a text that is
+abbrev pub source_status : FileFault → ℕ
+source_status fault = file_status fault
+
+abbrev pub source_text : List ℕ → FileFault → List ℕ → List ℕ
+source_text part file_fault.Memory name = file_text part file_fault.Memory name
+source_text part file_fault.Read name = file_text part file_fault.Read name
+source_text part file_fault.Utf8 name = file_text part file_fault.Utf8 name
+source_text part file_fault.TooLong name = fault_line part (codes "2 text 2 too-long")
+
+abbrev pub ground_status : GroundFault → ℕ
+ground_status ground_fault.Memory = 3
+ground_status _ = 2
+
+abbrev pub ground_text : GroundFault → List ℕ
+ground_text ground_fault.Memory = fault_line (codes "ground") (codes "1 memory")
+ground_text (ground_fault.TooMany kind) = named_line (codes "ground") (codes "2 too-many")
+    (kind_text kind)
+ground_text ground_fault.Range = fault_line (codes "ground") (codes "3 range")
+
+abbrev pub plan_status : PlanFault → ℕ
+plan_status plan_fault.Memory = 3
+plan_status _ = 2
+
+abbrev pub plan_text : PlanFault → List ℕ
+plan_text plan_fault.Memory = fault_line (codes "plan") (codes "1 memory")
+plan_text (plan_fault.Line line) = placed_line (codes "plan") (codes "2 line") line
+plan_text (plan_fault.NoAction line) = placed_line (codes "plan") (codes "3 no-action") line
+plan_text (plan_fault.NotTicks line) = placed_line (codes "plan") (codes "4 not-ticks") line
+plan_text plan_fault.TooMany = fault_line (codes "plan") (codes "5 too-many")
+plan_text (plan_fault.NoDuration line) = placed_line (codes "plan") (codes "6 no-duration") line
+plan_text (plan_fault.Horizon line) = placed_line (codes "plan") (codes "7 horizon") line
+
+abbrev pub judge_status : JudgeFault → ℕ
+judge_status (DomainFile fault) = source_status fault
+judge_status (Domain fault) = syntax_status fault
+judge_status (ProblemFile fault) = source_status fault
+judge_status (Problem fault) = syntax_status fault
+judge_status (Task fault) = ground_status fault
+judge_status (PlanFile fault) = file_status fault
+judge_status (Plan fault) = plan_status fault
+judge_status Memory = 3
+judge_status Range = 2
+
+abbrev pub judge_text : PlanWords → JudgeFault → List ℕ
+judge_text w (DomainFile fault) = source_text (codes "domain") fault w.domain.now
+judge_text w (Domain fault) = syntax_text (codes "domain") fault
+judge_text w (ProblemFile fault) = source_text (codes "problem") fault w.problem.now
+judge_text w (Problem fault) = syntax_text (codes "problem") fault
+judge_text w (Task fault) = ground_text fault
+judge_text w (PlanFile fault) = file_text (codes "plan") fault w.plan.now
+judge_text w (Plan fault) = plan_text fault
+judge_text w Memory = fault_line (codes "check") (codes "1 memory")
+judge_text w Range = fault_line (codes "check") (codes "2 range")

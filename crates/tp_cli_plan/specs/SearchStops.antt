@@ -1,0 +1,57 @@
+-- What is told where a search stops without an answer, and why it stops.
+use Rattle.std.specs.Prelude.{◌≡◌, ℕ, ◌+◌, List, Option, Result, Ok, Err, codes}
+use Rattle.tp_task.specs.declared.task.Task.{Task}
+use Rattle.tp_search.specs.tp_search_frontier.declared.fault.SearchFault.{SearchFault}
+use Rattle.tp_search.specs.tp_search_frontier.declared.fault.SearchFault.TheVariants as search
+use Rattle.tp_cli_files.specs.FaultLines.{Tells, fault_line}
+use Rattle.tp_cli_inputs.specs.JudgeLines.{judge_status, judge_text}
+use Rattle.tp_cli_plan.specs.SearchTasks.{ExplainsTask, IsSearchTask}
+use Rattle.tp_cli_plan.specs.Searches.{SearchesSome, task_words}
+use Rattle.tp_cli_plan.specs.declared.search_words.SearchWords.{SearchWords}
+use Rattle.tp_cli_plan.specs.declared.stops.SearchStop.{SearchStop}
+use Rattle.tp_cli_plan.specs.declared.stops.SearchStop.TheVariants.{Files, Searching, Write}
+
+abbrev pub search_status : SearchFault → ℕ
+search_status search.Memory = 3
+search_status search.Range = 2
+
+abbrev pub search_text : SearchFault → List ℕ
+search_text search.Memory = fault_line (codes "search") (codes "1 memory")
+search_text search.Range = fault_line (codes "search") (codes "2 range")
+
+abbrev pub stop_status : SearchStop → ℕ
+stop_status (Files fault) = judge_status fault
+stop_status (Searching fault) = search_status fault
+stop_status Write = 3
+
+abbrev pub stop_text : SearchWords → SearchStop → List ℕ
+stop_text w (Files fault) = judge_text (task_words w) fault
+stop_text w (Searching fault) = search_text fault
+stop_text w Write = fault_line (codes "script") (codes "2 write")
+
+-- a write that failed is counted
+abbrev pub stop_failures : {T : Type 0} → ℕ → Result T SearchStop → ℕ
+stop_failures n (Ok x) = n
+stop_failures n (Err (Files fault)) = n
+stop_failures n (Err (Searching fault)) = n
+stop_failures n (Err Write) = n + 1
+
+-- Why a search stopped: the files gave no task, or the search of their task no answer, and nothing was written; or a first part of the answer
+-- was.
+abbrev pub StopsSearch : (List ℕ → Option (List ℕ)) → SearchWords → Option (List ℕ)
+    → Option (List ℕ) → SearchStop → Type 0
+StopsSearch held w before now (Files fault) =
+    ExplainsTask held (task_words w) fault × (now ≡ before)
+StopsSearch held w before now (Searching fault) =
+    ((task : Task) × IsSearchTask held (task_words w) task) × (now ≡ before)
+StopsSearch held w before now Write = SearchesSome held w before now
+
+-- It stopped so with that status, and that was told. A failed write is one that the count of failures tells of.
+pub record EndsSearch (held : List ℕ → Option (List ℕ)) (w : SearchWords) (status : ℕ)
+    (before now : Option (List ℕ)) (output output-now : ℕ) (failures : ℕ) (said : Option (List ℕ))
+    (failures-now : ℕ) (said-now : Option (List ℕ)) : Type 0 where
+  pub stop : SearchStop
+  pub is : stop_status stop ≡ status
+  pub cause : StopsSearch held w before now stop
+  pub write : output-now ≡ stop_failures {T = Unit {0}} output (Err stop)
+  pub told : Tells (stop_text w stop) failures said failures-now said-now

@@ -1,0 +1,81 @@
+-- The search for a plan of the problem in a file.
+use Rattle.std.specs.Prelude.{ℕ, List, [], Option, Bool, true, false, ◌⊎◌}
+use Rattle.std.specs.Io.KnownBytes.{Appends}
+use Rattle.tp_device.specs.Bytes.{AppendsPart}
+use Rattle.tp_bounds.specs.RunLimits.{greatest_limits}
+use Rattle.tp_ground.specs.Grounding.{IsTask}
+use Rattle.tp_task.specs.declared.task.Task.{Task}
+use Rattle.tp_cli_inputs.specs.declared.plan_words.PlanWords.{PlanWords}
+use Rattle.tp_cli_plan.specs.SearchTasks.{IsSearchTask}
+use Rattle.tp_cli_plan.specs.FoundText.{IsNoPlanLine, IsPlanText}
+use Rattle.tp_cli_plan.specs.declared.search_words.Order.{Order}
+use Rattle.tp_cli_plan.specs.declared.search_words.Order.TheVariants.{Lacking, Guided}
+use Rattle.tp_cli_plan.specs.declared.search_words.SearchWords.{SearchWords}
+
+-- plans are told of as they are found
+abbrev pub tells_progress : Order → Bool
+tells_progress Lacking = false
+tells_progress (Guided wishes) = wishes.progress
+
+-- the same words as those of a plan in a file, though no file of a plan is opened
+abbrev pub task_words : SearchWords → PlanWords
+task_words w =
+    record {
+      domain = w.domain;
+      problem = w.problem;
+      plan = w.problem;
+      scale = w.scale;
+      horizon = w.horizon;
+    }
+
+-- a valid plan of the task of the domain and the problem that the words name was written, which ends by their horizon
+pub record WritesPlan (held : List ℕ → Option (List ℕ)) (w : SearchWords)
+    (before now : Option (List ℕ)) : Type 0 where
+  pub task : Task
+  pub text : List ℕ
+  pub named : IsSearchTask held (task_words w) task
+  pub plan : IsPlanText task w.horizon text
+  -- and it is one of the task of all ground actions, where there is that task within the limits
+  pub of_all :
+      (all : Task)
+      → IsTask (greatest_limits w.horizon) w.scale named.domain named.problem all
+      → IsPlanText all w.horizon text
+  pub written : Appends before now text
+
+-- no plan was found within the budget, and it was written why
+pub record SaysNoPlan (held : List ℕ → Option (List ℕ)) (w : SearchWords)
+    (before now : Option (List ℕ)) : Type 0 where
+  pub task : Task
+  pub line : List ℕ
+  pub named : IsSearchTask held (task_words w) task
+  pub why : IsNoPlanLine task w.budget line
+  -- and it is so of the task of all ground actions, where there is that task within the limits
+  pub of_all :
+      (all : Task)
+      → IsTask (greatest_limits w.horizon) w.scale named.domain named.problem all
+      → IsNoPlanLine all w.budget line
+  pub written : Appends before now line
+
+-- the answer is whether a plan was written
+abbrev pub Searches : (List ℕ → Option (List ℕ)) → SearchWords → Option (List ℕ) → Option (List ℕ)
+    → Bool → Type 0
+Searches held w before now true = WritesPlan held w before now
+Searches held w before now false = SaysNoPlan held w before now
+
+-- what is to be written of a task: a plan of it, or why none was found
+abbrev pub IsSearchText : Task → ℕ → ℕ → List ℕ → Type 0
+IsSearchText task budget horizon text = IsPlanText task horizon text ⊎ IsNoPlanLine task budget text
+
+-- a first part of that was written
+pub record SearchesSome (held : List ℕ → Option (List ℕ)) (w : SearchWords)
+    (before now : Option (List ℕ)) : Type 0 where
+  pub task : Task
+  pub text : List ℕ
+  pub named : IsSearchTask held (task_words w) task
+  pub is : IsSearchText task w.budget w.horizon text
+  pub part : AppendsPart before now text
+
+-- nothing was written, or a first part of the plan or of why there is none
+abbrev pub SearchesPart : (List ℕ → Option (List ℕ)) → SearchWords → Option (List ℕ)
+    → Option (List ℕ) → Type 0
+SearchesPart held w before now = Appends before now [] ⊎ SearchesSome held w before now

@@ -1,0 +1,5 @@
+pub mod AnswerLemmas
+pub mod RunLemmas
+pub mod StatusLemmas
+pub mod LoggedLemmas
+pub mod JournaledLemmas

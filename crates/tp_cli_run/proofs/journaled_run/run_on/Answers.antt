@@ -1,0 +1,20 @@
+use Rattle.std.proofs.Common.{◌∙◌, ap}
+use Rattle.tp_cli_run.specs.RunLines.{run_failures}
+use Rattle.tp_cli_run.proofs.JournaledLemmas.{counted_telling, said_steps, unsaid_steps}
+use Rattle.tp_cli_run.proofs.journaled_run.run_on.Goals as goal
+
+pub returns-in-Ok-clause-said : goal.returns-in-Ok-clause-said
+returns-in-Ok-clause-said g c =
+    said_steps c.args.plan.now.task c.args.plan.now.steps c.args.network.now.horizon c.args.network.now c.requires _ _ _ _ _ c.in-Ok.executive c.in-Ok.ensures.whole (c.journaled.ensures.asked, c.in-Ok.ensures.named) c.tell_run.result c.of_telling.result c.of_telling.ensures c.tell_run.ensures.said
+
+pub returns-in-Ok-clause-cause : goal.returns-in-Ok-clause-cause
+returns-in-Ok-clause-cause g c =
+    unsaid_steps c.args.plan.now.task c.args.plan.now.steps c.args.network.now.horizon c.args.network.now c.requires _ _ _ _ _ c.in-Ok.executive c.in-Ok.ensures.whole (c.journaled.ensures.asked, c.in-Ok.ensures.named) c.tell_run.result c.of_telling.result c.of_telling.ensures c.tell_run.ensures.cause
+
+pub returns-in-Err-clause-cause : goal.returns-in-Err-clause-cause
+returns-in-Err-clause-cause g c = record { net = c.args.network.now; is_net = c.requires; stops = c.in-Err.ensures.cause }
+
+pub returns-in-Ok-clause-failures : goal.returns-in-Ok-clause-failures
+returns-in-Ok-clause-failures g c =
+    counted_telling c.args.plan.now.task c.args.plan.now.steps c.in-Ok.executive _ _ c.tell_run.result c.of_telling.result (g.O.Sink.failures c.args.output.now) _ c.of_telling.ensures c.tell_run.ensures.cause
+    (c.tell_run.ensures.failures ∙ ap (λ n. run_failures n c.tell_run.result) c.in-Ok.ensures.told)

@@ -1,0 +1,14 @@
+use Rattle.std.proofs.lemmas.Result.{IfErr-weaker, IfOk-weaker}
+use Rattle.tp_cli_run.proofs.RunLemmas.{ran_steps, stopped_steps}
+use Rattle.tp_cli_run.proofs.run.run_on.Goals as goal
+
+pub returns-in-Ok-clause-said : goal.returns-in-Ok-clause-said
+returns-in-Ok-clause-said g c =
+    IfOk-weaker c.tell_run.result _ _ (λ done h. ran_steps c.args.plan.now.task c.args.plan.now.steps c.args.network.now.horizon c.args.network.now c.requires _ _ _ _ c.in-Ok.executive c.in-Ok.ensures.whole done h) c.tell_run.ensures.said
+
+pub returns-in-Ok-clause-cause : goal.returns-in-Ok-clause-cause
+returns-in-Ok-clause-cause g c =
+    IfErr-weaker c.tell_run.result _ _ (λ stop h. stopped_steps c.args.plan.now.task c.args.plan.now.steps c.args.network.now.horizon c.args.network.now c.requires _ _ _ _ c.in-Ok.executive c.in-Ok.ensures.whole stop h) c.tell_run.ensures.cause
+
+pub returns-in-Err-clause-cause : goal.returns-in-Err-clause-cause
+returns-in-Err-clause-cause g c = record { net = c.args.network.now; is_net = c.requires; stops = c.in-Err.ensures.cause }

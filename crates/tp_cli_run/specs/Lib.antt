@@ -1,0 +1,11 @@
+pub mod Answered
+pub mod Ends
+pub mod Invalid
+pub mod RunLines
+pub mod Runs
+pub mod Starts
+pub mod JournaledEnds
+pub mod LogFile
+pub mod Logged
+pub mod RunJournals
+pub mod StopLines

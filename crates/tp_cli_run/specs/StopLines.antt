@@ -1,0 +1,33 @@
+-- The lines of what stops the run of a plan whose journal is kept, and their exit statuses.
+use Rattle.std.specs.Prelude.{ℕ, ◌+◌, List, Result, Ok, Err, codes}
+use Rattle.tp_cli_files.specs.FaultLines.{fault_line}
+use Rattle.tp_cli_bare.specs.JournalLines.{stop_status, stop_text}
+use Rattle.tp_cli_bare.specs.Logged.{output_failures}
+use Rattle.tp_cli_inputs.specs.JudgeLines.{judge_status, judge_text}
+use Rattle.tp_cli_inputs.specs.declared.plan_words.PlanWords.{PlanWords}
+use Rattle.tp_cli_run.specs.RunLines.{network_status, network_text}
+use Rattle.tp_cli_run.specs.declared.stop_lines.RunJournalStop.{RunJournalStop}
+use Rattle.tp_cli_run.specs.declared.stop_lines.RunJournalStop.TheVariants.{Judging, Network, Journal, Telling, Write}
+
+abbrev pub run_stop_status : RunJournalStop → ℕ
+run_stop_status (Judging fault) = judge_status fault
+run_stop_status (Network fault) = network_status fault
+run_stop_status (Journal stop) = stop_status stop
+run_stop_status Telling = 3
+run_stop_status Write = 3
+
+abbrev pub run_stop_text : PlanWords → RunJournalStop → List ℕ
+run_stop_text w (Judging fault) = judge_text w fault
+run_stop_text w (Network fault) = network_text fault
+run_stop_text w (Journal stop) = stop_text stop
+run_stop_text w Telling = fault_line (codes "run") (codes "1 memory")
+run_stop_text w Write = fault_line (codes "script") (codes "2 write")
+
+-- a write of the output that failed is counted
+abbrev pub run_stop_failures : {T : Type 0} → ℕ → Result T RunJournalStop → ℕ
+run_stop_failures n (Ok x) = n
+run_stop_failures n (Err (Judging fault)) = n
+run_stop_failures n (Err (Network fault)) = n
+run_stop_failures n (Err (Journal stop)) = output_failures {T = Unit {0}} n (Err stop)
+run_stop_failures n (Err Telling) = n
+run_stop_failures n (Err Write) = n + 1

@@ -1,0 +1,71 @@
+//! The answers to all commands of a reader on the network of a plan, with their journal.
+
+ghost use Rattle.std.specs.Prelude.{◌≡◌, ◌≤◌, List, length, IfOk, IfErr};
+ghost use Rattle.tp_bounds.specs.RunLimits.{greatest_limits};
+ghost use Rattle.tp_task.specs.declared.task.Task.{Task};
+ghost use Rattle.tp_happen.specs.tp_plan_text.declared.plans.Step.{Step};
+ghost use Rattle.tp_deorder.specs.Answers.{IsPlanNetOf};
+ghost use Rattle.tp_exec.specs.FromPlan.{CameFrom};
+ghost use Rattle.tp_cli_bare.specs.Logged.{output_failures};
+ghost use Rattle.tp_cli_run.specs.Logged.{LogsRun, LogsWhole, StopsLogged};
+
+use crate::start;
+use std::alloc::Global;
+use tp_bounds::PlanNet;
+use tp_cli_bare::JournalStop;
+use tp_device::{Sink, Source};
+use tp_exec_machine::Executive;
+use tp_journal_pairs::journal;
+use tp_repair::RepairNet;
+use tp_script::{LONGEST_LINE, Lines};
+
+/// Answers the commands of the lines behind the lags, writes their journal to the log, and hands the executive on.
+fn log_lines<I: Source, O: Sink, L: Sink>(
+    alloc: Global,
+    lines: &mut Lines<I>,
+    network: &PlanNet,
+    output: &mut O,
+    log: &mut L,
+) -> Result<Executive<RepairNet>, JournalStop>
+    requires longest { lines.old.longest ≡ 256 }
+    requires bounds { length network.now.bounds.items ≤ 65535 }
+    ensures logs { LogsRun network.now lines.old lines.new (O.held output.old)
+        (O.held output.new) (L.held log.old) (L.held log.new) result }
+    ensures came { IfOk result (λ e. (t : Task) (steps : List Step) → IsPlanNetOf t steps
+        (greatest_limits network.now.horizon) network.now → CameFrom t steps e) }
+    ensures most { lines.new.most ≡ lines.old.most }
+    ensures told { O.failures output.new ≡ output_failures (O.failures output.old) result }
+{
+    match start(alloc, lines, network) {
+        Ok(executive) => {
+            let mut executive = executive;
+            match journal(&mut executive, lines, output, log) {
+                Ok(_) => Ok(executive),
+                Err(fault) => Err(JournalStop::Journaling(fault)),
+            }
+        }
+        Err(fault) => Err(JournalStop::Beginning(fault)),
+    }
+}
+
+/// Reads the lags at the beginning of the input, answers the commands behind them on the network of a plan, writes their journal to
+/// the log, and hands the executive on.
+pub(crate) fn log_run<I: Source + Drop, O: Sink, L: Sink>(
+    alloc: Global,
+    input: I,
+    network: &PlanNet,
+    output: &mut O,
+    log: &mut L,
+) -> Result<Executive<RepairNet>, JournalStop>
+    requires { length network.now.bounds.items ≤ 65535 }
+    ensures whole { IfOk result (LogsWhole network.now (I.left input) (O.held output.old)
+        (O.held output.new) (L.held log.old) (L.held log.new)) }
+    ensures cause { IfErr result (StopsLogged network.now (I.left input) (O.held output.old)
+        (O.held output.new) (L.held log.old) (L.held log.new)) }
+    ensures came { IfOk result (λ e. (t : Task) (steps : List Step) → IsPlanNetOf t steps
+        (greatest_limits network.now.horizon) network.now → CameFrom t steps e) }
+    ensures told { O.failures output.new ≡ output_failures (O.failures output.old) result }
+{
+    let mut lines = Lines::new(alloc, input, LONGEST_LINE)?;
+    log_lines(alloc, &mut lines, network, output, log)
+}

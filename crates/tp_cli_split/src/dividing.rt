@@ -1,0 +1,117 @@
+//! The intervals of the events of a plan's network.
+
+ghost use Rattle.std.specs.Prelude.{◌≤◌, length, IfOk, IfErr};
+ghost use Rattle.std.specs.String.{string_bytes};
+ghost use Rattle.tp_agents.specs.Splits.{IsUnbegun};
+ghost use Rattle.tp_agents.specs.Texts.{AreNumbers, words_of};
+ghost use Rattle.tp_cli_inputs.specs.Named.{IsIn};
+ghost use Rattle.tp_cli_split.specs.Divides.{Divides, DividesPlan, IsMisread, SplitsInto, StopsAmong, StopsAs, StopsDividing, StopsPlan, net_setting};
+
+use crate::interval_lines::intervals_text;
+use crate::plan_settings::plan_setting;
+use crate::stops::SplitStop;
+use std::alloc::Global;
+use tp_agents::{Owners, SplitFault, read_owners, split};
+use tp_bounds::{Limits, PlanNet, Setting};
+use tp_cli_files::{Files, open_text};
+use tp_deorder::deorder;
+use tp_validate::ValidPlan;
+
+/// Why a split stopped, without its reason.
+fn stop_of(fault: SplitFault) -> SplitStop
+    ensures { StopsAs fault result }
+{
+    match fault {
+        SplitFault::Memory => SplitStop::Memory,
+        SplitFault::Owner(e) => SplitStop::Owner(e),
+        SplitFault::Conflict(_) => SplitStop::Conflict,
+    }
+}
+
+/// The agents that the file of a name tells.
+fn owners_in<N: Files>(alloc: Global, files: &mut N, owners: &str) -> Result<Owners, SplitStop>
+    ensures spelled { IfOk result (λ numbers. IsIn (N.held files.old owners.now) (λ text.
+        AreNumbers (words_of text) numbers)) }
+    ensures cause { IfErr result (IsMisread (N.held files.old owners.now)) }
+{
+    match open_text(alloc, files, owners) {
+        Ok(text) => match read_owners(alloc, text.as_str()) {
+            Ok(numbers) => Ok(numbers),
+            Err(fault) => Err(stop_of(fault)),
+        },
+        Err(fault) => Err(SplitStop::OwnersFile(fault)),
+    }
+}
+
+/// The lines of the intervals of a setting that is split among agents.
+fn lines_among(alloc: Global, setting: &Setting, owners: &Owners) -> Result<String, SplitStop>
+    requires { IsUnbegun setting.now }
+    ensures lines { IfOk result (λ text. SplitsInto setting.now owners.now (string_bytes text)) }
+    ensures cause { IfErr result (StopsAmong setting.now owners.now) }
+{
+    match split(alloc, setting, owners) {
+        Ok(split) => match intervals_text(alloc, &split.intervals) {
+            Ok(text) => Ok(text),
+            Err(_) => Err(SplitStop::Memory),
+        },
+        Err(fault) => Err(stop_of(fault)),
+    }
+}
+
+/// The lines of the intervals of a setting that is split among the agents that the file of a name tells.
+fn lines_of<N: Files>(
+    alloc: Global,
+    files: &mut N,
+    owners: &str,
+    setting: &Setting,
+) -> Result<String, SplitStop>
+    requires { IsUnbegun setting.now }
+    ensures lines { IfOk result (λ text.
+        Divides setting.now (N.held files.old owners.now) (string_bytes text)) }
+    ensures cause { IfErr result (StopsDividing setting.now (N.held files.old owners.now)) }
+{
+    match owners_in(alloc, files, owners) {
+        Ok(numbers) => lines_among(alloc, setting, &numbers),
+        Err(stop) => Err(stop),
+    }
+}
+
+/// The same of the setting of a plan's network.
+fn lines_of_net<N: Files>(
+    alloc: Global,
+    files: &mut N,
+    owners: &str,
+    network: &PlanNet,
+) -> Result<String, SplitStop>
+    requires { length network.now.bounds.items ≤ 65535 }
+    ensures lines { IfOk result (λ text.
+        Divides (net_setting network.now) (N.held files.old owners.now) (string_bytes text)) }
+    ensures cause { IfErr result
+        (StopsDividing (net_setting network.now) (N.held files.old owners.now)) }
+{
+    match plan_setting(alloc, network) {
+        Ok(setting) => lines_of(alloc, files, owners, &setting),
+        Err(_) => Err(SplitStop::Setting),
+    }
+}
+
+/// The lines of the intervals of a valid plan's events, split among the agents that the file of a name tells. The file is opened
+/// only once the network is there.
+pub(crate) fn lines_of_plan<N: Files>(
+    alloc: Global,
+    files: &mut N,
+    owners: &str,
+    plan: &ValidPlan<'_>,
+    horizon: u32,
+) -> Result<String, SplitStop>
+    requires { horizon ≤ 1000000000 }
+    ensures lines { IfOk result (λ text. DividesPlan plan.now.task plan.now.steps horizon
+        (N.held files.old owners.now) (string_bytes text)) }
+    ensures cause { IfErr result
+        (StopsPlan plan.now.task plan.now.steps horizon (N.held files.old owners.now)) }
+{
+    match deorder(alloc, plan, &Limits::greatest(horizon)) {
+        Ok(network) => lines_of_net(alloc, files, owners, &network),
+        Err(fault) => Err(SplitStop::Network(fault)),
+    }
+}

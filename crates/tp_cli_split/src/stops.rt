@@ -1,0 +1,49 @@
+//! Why a split stopped, and the line of it.
+
+ghost use Rattle.std.specs.Prelude.{◌≡◌};
+ghost use Rattle.tp_cli_files.specs.FaultLines.{fault_text};
+ghost use Rattle.tp_cli_split.specs.Stops.{split_status, split_text};
+
+use tp_cli_files::{FaultLine, FileFault};
+use tp_cli_inputs::{JudgeFault, PlanWords, judge_line};
+use tp_cli_run::network_line;
+use tp_deorder::DeorderFault;
+
+/// Why the network of a plan was not split among agents.
+#[derive(Clone, Copy, Debug, PartialEq, Eq)]
+pub enum SplitStop {
+    /// The files gave no verdict.
+    Judging(JudgeFault),
+    /// The plan has no network.
+    Network(DeorderFault),
+    /// There is no memory for the setting of the network.
+    Setting,
+    /// The file of the agents' numbers gave no text.
+    OwnersFile(FileFault),
+    /// The word, counted from 0, is no number; or the event has no agent, or one whose number is over 1,023, or there is no such
+    /// event and a number for it.
+    Owner(u32),
+    /// There is no memory for the split, or for its lines.
+    Memory,
+    /// No schedule remains.
+    Conflict,
+    /// The output can't be written.
+    Write,
+}
+
+/// The line of a split that stopped.
+pub fn split_line<'w>(stop: SplitStop, words: PlanWords<'w>, owners: &'w str) -> FaultLine<'w>
+    ensures status { result.status ≡ split_status stop }
+    ensures text { fault_text result ≡ split_text words.entry owners.entry.now stop }
+{
+    match stop {
+        SplitStop::Judging(fault) => judge_line(fault, words),
+        SplitStop::Network(fault) => network_line(fault),
+        SplitStop::Setting => FaultLine::out_of_order("run", "1 memory"),
+        SplitStop::OwnersFile(fault) => FaultLine::of_file("split", fault, owners),
+        SplitStop::Owner(e) => FaultLine::placed("split", "2 owner", e),
+        SplitStop::Memory => FaultLine::out_of_order("split", "1 memory"),
+        SplitStop::Conflict => FaultLine::refused("split", "3 conflict"),
+        SplitStop::Write => FaultLine::out_of_order("script", "2 write"),
+    }
+}

@@ -1,5 +1,0 @@
-use Rattle.tp_declarations.proofs.OnRowViews.{Kept}
-use Rattle.tp_declarations.proofs.type_reader.without_object.Given as goal
-
-abbrev pub invariant-loop-place : goal.invariant-loop-place
-invariant-loop-place l = Kept l.listed l.place l.rows l.passed

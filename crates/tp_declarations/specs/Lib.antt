@@ -1,2 +1,0 @@
-pub mod RowViews
-pub mod SignatureViews

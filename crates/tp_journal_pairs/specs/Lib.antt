@@ -1,0 +1,6 @@
+pub mod Sound
+pub mod Edges
+pub mod Allowed
+pub mod Reasons
+pub mod Journal
+pub mod Writing

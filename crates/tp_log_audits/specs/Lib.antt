@@ -1,3 +1,0 @@
-pub mod AuditLines
-pub mod Audits
-pub mod Bare

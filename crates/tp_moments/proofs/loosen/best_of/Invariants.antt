@@ -1,9 +1,0 @@
-use Rattle.std.proofs.Common.{◌≡◌, get_or}
-use Rattle.tp_moments.proofs.Frees.{IsBestUpto}
-use Rattle.tp_moments.proofs.loosen.best_of.Given as goal
-
-abbrev pub invariant-loop-half : goal.invariant-loop-half
-invariant-loop-half l = record {
-  looks : l.looks ≡ l.half-index;
-  best : IsBestUpto l.direction (λ x. get_or l.moments x 0) (λ x. get_or l.marks x 0) l.amount l.point l.list l.half-index l.best;
-}

@@ -1,9 +1,0 @@
-use Rattle.std.proofs.Common.{◌≡◌, ℕ, length, []}
-use Rattle.tp_moments.specs.Store.{halves_at}
-use Rattle.tp_moments.proofs.store.empty_lists.Given as goal
-
-abbrev pub invariant-loop : goal.invariant-loop
-invariant-loop l = record {
-  len : length l.lists.items ≡ l.counter;
-  empty : (y : ℕ) → halves_at l.lists.items y ≡ [];
-}

@@ -1,9 +1,0 @@
-use Rattle.std.proofs.Common.{◌≡◌, ◌-◌, ◌<◌, ◌≤◌, ℕ, length, get_or}
-use Rattle.tp_moments.proofs.tighten.move_down.Given as goal
-
-abbrev pub invariant-loop-point : goal.invariant-loop-point
-invariant-loop-point l = record {
-  len : length l.high.items ≡ length l.fn.high.items;
-  done : (x : ℕ) → x < length l.high.items → get_or l.work.ranks.items x 0 ≤ l.point-index → get_or l.high.items x 0 ≡ get_or l.fn.high.items x 0 - get_or l.work.amounts.items x 0;
-  left : (x : ℕ) → x < length l.high.items → l.point-index < get_or l.work.ranks.items x 0 → get_or l.high.items x 0 ≡ get_or l.fn.high.items x 0;
-}

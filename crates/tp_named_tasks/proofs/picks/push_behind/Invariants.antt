@@ -1,6 +1,0 @@
-use Rattle.std.proofs.Common.{◌≡◌, ◌++◌, ◌∷◌, map, take}
-use Rattle.tp_bindings.specs.Rows.{names_of}
-use Rattle.tp_named_tasks.proofs.picks.push_behind.Given as goal
-
-abbrev pub invariant-loop-row : goal.invariant-loop-row
-invariant-loop-row l = map names_of l.into.items ≡ map names_of l.initial.into.items ++ map (λ rest. l.name ∷ rest) (map names_of (take l.row-index l.rows))

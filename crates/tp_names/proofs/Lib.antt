@@ -1,3 +1,0 @@
-pub mod OnSymbols
-pub mod OnScope
-pub mod OnArguments

@@ -1,6 +1,0 @@
-use Rattle.tp_names.specs.ScopeViews.{symbols_of}
-use Rattle.tp_names.proofs.OnScope.{over_inside}
-use Rattle.tp_names.proofs.levels.Scope.inside.Goals as goal
-
-pub invariant_of-result : goal.invariant_of-result
-invariant_of-result c = record { over = over_inside (symbols_of c.args.self.now) c.args.variables _ c.requires c.args.self.now.over }

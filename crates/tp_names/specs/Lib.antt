@@ -1,5 +1,0 @@
-pub mod SymbolViews
-pub mod Bound
-pub mod Fits
-pub mod LevelViews
-pub mod ScopeViews

@@ -1,3 +1,0 @@
-pub mod AuditStops
-pub mod Ends
-pub mod PlanAudits

@@ -1,7 +1,0 @@
-use Rattle.std.proofs.Common.{subst, sym}
-use Rattle.tp_agents.specs.Splits.{IsUnbegun}
-use Rattle.tp_plan_splits.proofs.SplitLemmas.{net_unbegun}
-use Rattle.tp_plan_splits.proofs.dividing.lines_of_net.Goals as goal
-
-pub lines_of-requires : goal.lines_of-requires
-lines_of-requires g c = subst IsUnbegun (sym c.in-Ok.ensures) (net_unbegun c.args.network.now)

@@ -1,5 +1,0 @@
-use Rattle.tp_plan_texts.proofs.OnForms.{names_seen}
-use Rattle.tp_plan_texts.proofs.forms.are_names.Goals as goal
-
-pub returns-in-len1-up : goal.returns-in-len1-up
-returns-in-len1-up c = names_seen _ _ c.in-len1-up.len_at_least c.all_names.ensures

@@ -1,5 +1,0 @@
-use Rattle.tp_plan_texts.proofs.OnPrinted.{plans_read}
-use Rattle.tp_plan_texts.proofs.printing.plans_are_read.Goals as goal
-
-pub returns : goal.returns
-returns c = plans_read

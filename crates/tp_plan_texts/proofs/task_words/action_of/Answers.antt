@@ -1,5 +1,0 @@
-use Rattle.tp_plan_texts.proofs.OnTaskWords.{found_within}
-use Rattle.tp_plan_texts.proofs.task_words.action_of.Goals as goal
-
-pub returns-clause-known : goal.returns-clause-known
-returns-clause-known c = found_within _ _ _ _ c.args.task.now.all_named c.action.ensures

@@ -1,6 +1,0 @@
-use Rattle.std.proofs.Common.{◌≡◌, drop}
-use Rattle.tp_plan_texts.specs.PlanLexemes.{lexemes}
-use Rattle.tp_plan_texts.proofs.tokens.after_blanks.Given as goal
-
-abbrev pub invariant-loop-n : goal.invariant-loop-n
-invariant-loop-n l = lexemes (drop l.n l.line) ≡ lexemes l.line

@@ -1,7 +1,0 @@
-use Rattle.std.proofs.Common.{◌≡◌, take, All}
-use Rattle.tp_plan_texts.specs.PlanLexemes.{kind}
-use Rattle.tp_plan_texts.specs.declared.tokens.ByteKind.TheVariants.{Letter}
-use Rattle.tp_plan_texts.proofs.tokens.letter_len.Given as goal
-
-abbrev pub invariant-loop-n : goal.invariant-loop-n
-invariant-loop-n l = All (λ b. kind b ≡ Letter) (take l.n l.line)

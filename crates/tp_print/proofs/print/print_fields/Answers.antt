@@ -1,6 +1,0 @@
-use Rattle.tp_printer.proofs.OnPrinters.{prints_more}
-use Rattle.tp_print.proofs.print.print_fields.Goals as goal
-
-pub returns : goal.returns
-returns g c =
-    prints_more c.put.ensures (prints_more c.print_variables.ensures c.print_body.ensures)

@@ -1,9 +1,0 @@
-use Rattle.tp_ast.specs.EffectViews.{effect_view}
-use Rattle.tp_print.specs.Printing.{effect_shape}
-use Rattle.tp_printer.proofs.OnPrinters.{prints_more, prints_as}
-use Rattle.tp_print.proofs.OnPrintingForms.{specified_text}
-use Rattle.tp_print.proofs.print_parts.TimedEffectPrinted.print.Goals as goal
-
-pub returns : goal.returns
-returns g c =
-    prints_as (prints_more (rw c.specifier_words.ensures at c.put.ensures) (prints_more c.print_joined.ensures c.put-2.ensures)) (specified_text c.args.self.now.specifier (effect_shape (effect_view c.args.self.now.what)))

@@ -1,8 +1,0 @@
-use Rattle.std.proofs.Common.{arith}
-use Rattle.std.proofs.lemmas.Grind.{common_steps}
-use Rattle.tp_printer.proofs.OnPrinters.{prints_more, prints_as}
-use Rattle.tp_print.proofs.print_parts.print_same.Goals as goal
-
-pub returns : goal.returns
-returns g c =
-    prints_as (prints_more c.put.ensures (prints_more c.print_term.ensures (prints_more c.put-2.ensures (prints_more c.print_term-2.ensures c.put-3.ensures)))) (grind (arith, common_steps))

@@ -1,2 +1,0 @@
-pub mod Printers
-pub mod Words

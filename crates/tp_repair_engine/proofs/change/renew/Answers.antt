@@ -1,0 +1,129 @@
+use Rattle.std.proofs.Common.{◌≡◌, ◌≢◌, ℕ, ◌+◌, length, refl, sym, ap, subst, ◌∙◌, rules, w64}
+use Rattle.std.proofs.lemmas.Int.{to_z-of_z}
+use mir.Val.{SFits}
+use Rattle.std.specs.Prelude.{Some, None, slice_index_or, pos}
+use Rattle.tp_net.specs.Graph.{moment}
+use Rattle.tp_net.specs.Slacks.{JoinsPoints}
+use Rattle.tp_repair_engine.specs.declared.engine.Engine.{Engine}
+use Rattle.tp_repair_engine.specs.declared.store.Node.{Node}
+use Rattle.tp_repair_engine.specs.declared.store.Store.{Store}
+use Rattle.tp_repair_engine.specs.declared.store.Direction.{Direction}
+use Rattle.tp_repair_engine.specs.declared.store.Direction.TheVariants.{Up, Down}
+use Rattle.tp_repair_engine.specs.Store.{weighed, KeepsOthers, keys_of, near, one_at}
+use Rattle.tp_repair_engine.proofs.Nodes.{key_met}
+use Rattle.tp_repair_engine.proofs.Wires.{wired_store, wired_removed}
+use Rattle.tp_repair_engine.proofs.Settled.{put_back}
+use Rattle.tp_repair_engine.proofs.Changes.{heavy_start, heavy_exact}
+use Rattle.tp_repair_engine.proofs.Held.{renewed_exact}
+use Rattle.tp_repair_engine.proofs.change.renew.Goals as goal
+
+pub solve-requires-clause-wired : goal.solve-requires-clause-wired
+solve-requires-clause-wired c =
+    let g : Engine = c.args.engine.now in
+    let e = c.set_edge.ensures in
+    (c.requires.wired.0, wired_store (length g.low.items) c.requires.wired.0 g c.set_edge.new.store c.requires.wired.1 e.points e.halves_in e.halves_out e.degrees)
+
+pub solve-requires-clause-start_low : goal.solve-requires-clause-start_low
+solve-requires-clause-start_low c =
+    let g : Engine = c.args.engine.now in
+    let old = g.store.nodes.slots in
+    let mid = c.set_edge.new.store.nodes.slots in
+    let n : Node = c.index-node.result.now in
+    let m : Node = weighed n.name (pos 1_000_000_000_000) n in
+    let both : Some c.requires.node.0 ≡ Some n = sym c.requires.node.1 ∙ c.index-node.ensures in
+    let it : c.requires.node.0 ≡ n = cc in
+    let joins : JoinsPoints (length g.low.items) n.arc = subst (λ (x : Node). JoinsPoints (length g.low.items) x.arc) it c.requires.node.2 in
+    heavy_start old mid mid c.args.key m g.low.items c.args.amount (c.set_edge.ensures.here n c.index-node.ensures) c.set_edge.ensures.others joins refl c.requires.low c.requires.positive c.requires.amount c.requires.start
+
+pub solve-requires-clause-start_high : goal.solve-requires-clause-start_high
+solve-requires-clause-start_high c =
+    let g : Engine = c.args.engine.now in
+    let old = g.store.nodes.slots in
+    let mid = c.set_edge.new.store.nodes.slots in
+    let n : Node = c.index-node.result.now in
+    let m : Node = weighed n.name (pos 1_000_000_000_000) n in
+    let both : Some c.requires.node.0 ≡ Some n = sym c.requires.node.1 ∙ c.index-node.ensures in
+    let it : c.requires.node.0 ≡ n = cc in
+    let joins : JoinsPoints (length g.high.items) n.arc = subst (λ k. JoinsPoints k n.arc) c.requires.exact.len (subst (λ (x : Node). JoinsPoints (length g.low.items) x.arc) it c.requires.node.2) in
+    heavy_start old mid mid c.args.key m g.high.items c.args.amount (c.set_edge.ensures.here n c.index-node.ensures) c.set_edge.ensures.others joins refl c.requires.high c.requires.positive c.requires.amount c.requires.start_high
+
+pub solve-requires-clause-met_low : goal.solve-requires-clause-met_low
+solve-requires-clause-met_low c =
+    let g : Engine = c.args.engine.now in
+    key_met g.store.nodes.slots (moment g.low.items) c.args.key c.index-node.result.now c.index-node.ensures c.requires.exact.least.solution
+
+pub solve-requires-clause-met_high : goal.solve-requires-clause-met_high
+solve-requires-clause-met_high c =
+    let g : Engine = c.args.engine.now in
+    key_met g.store.nodes.slots (moment g.high.items) c.args.key c.index-node.result.now c.index-node.ensures c.requires.exact.greatest.solution
+
+pub returns-in-Err-clause-err : goal.returns-in-Err-clause-err
+returns-in-Err-clause-err c =
+    let g : Engine = c.args.engine.now in
+    let h : Engine = c.solve.new.engine in
+    let e = c.set_edge.ensures in
+    let f = c.set_edge-in-Err.ensures in
+    let p = length g.low.items in
+    let n : Node = c.index-node.result.now in
+    let m : Node = weighed n.name (pos 1_000_000_000_000) n in
+    let there : slice_index_or h.store.nodes.slots c.args.key None ≡ Some m = ap (λ (s : Store). slice_index_or s.nodes.slots c.args.key None) c.solve.ensures.store ∙ e.here n c.index-node.ensures in
+    let stay : (k : ℕ) → k ≢ c.args.key → slice_index_or h.store.nodes.slots k None ≡ slice_index_or g.store.nodes.slots k None = λ k ne. (ap (λ (s : Store). slice_index_or s.nodes.slots k None) c.solve.ensures.store ∙ e.others k ne) in
+    let fits : SFits w64 n.arc.weight = search rules in
+    let again : slice_index_or c.set_edge-in-Err.new.store.nodes.slots c.args.key None ≡ Some (weighed n.name n.arc.weight m) = simp to_z-of_z at (f.here m there) in
+    record {
+      wired = λ edges w.
+          (let w1 = wired_store p edges g c.set_edge.new.store w e.points e.halves_in e.halves_out e.degrees in
+          wired_store p edges h c.set_edge-in-Err.new.store (c.solve.ensures.wired edges w1) f.points f.halves_in f.halves_out f.degrees);
+      degrees = λ d y. f.degrees d y ∙ (ap (λ (s : Store). length (keys_of d s y)) c.solve.ensures.store ∙ e.degrees d y);
+      edges = put_back c.args.key c.args.key g.store.nodes.slots c.set_edge-in-Err.new.store.nodes.slots n n (weighed n.name n.arc.weight m) (weighed n.name n.arc.weight m) c.index-node.ensures c.index-node.ensures again again refl refl refl refl
+          (λ k ne _. f.others k ne ∙ stay k ne);
+      low = c.in-Err.ensures.err_low;
+      high = c.in-Err.ensures.err_high;
+    }
+
+weighed_near : (d : Direction) (n : Node) → near d (weighed n.name (pos 1_000_000_000_000) n).arc ≡ near d n.arc
+weighed_near Up n = refl
+weighed_near Down n = refl
+
+pub returns-clause-ok : goal.returns-clause-ok
+returns-clause-ok c =
+    let g : Engine = c.args.engine.now in
+    let h : Engine = c.solve.new.engine in
+    let e = c.set_edge.ensures in
+    let f = c.remove.ensures in
+    let p = length g.low.items in
+    let old = g.store.nodes.slots in
+    let mid = c.set_edge.new.store.nodes.slots in
+    let new = c.remove.new.store.nodes.slots in
+    let n : Node = c.index-node.result.now in
+    let m : Node = weighed n.name (pos 1_000_000_000_000) n in
+    let both : Some c.requires.node.0 ≡ Some n = sym c.requires.node.1 ∙ c.index-node.ensures in
+    let it : c.requires.node.0 ≡ n = cc in
+    let joins : JoinsPoints p n.arc = subst (λ (x : Node). JoinsPoints p x.arc) it c.requires.node.2 in
+    let here = e.here n c.index-node.ensures in
+    let there : slice_index_or h.store.nodes.slots c.args.key None ≡ Some m = ap (λ (s : Store). slice_index_or s.nodes.slots c.args.key None) c.solve.ensures.store ∙ here in
+    let stay : (k : ℕ) → k ≢ c.args.key → slice_index_or h.store.nodes.slots k None ≡ slice_index_or old k None = λ k ne. (ap (λ (s : Store). slice_index_or s.nodes.slots k None) c.solve.ensures.store ∙ e.others k ne) in
+    let keeps : KeepsOthers c.args.key mid new = subst (λ (s : Store). KeepsOthers c.args.key s.nodes.slots new) c.solve.ensures.store f.others in
+    record {
+      wired = λ edges w.
+          (let w1 = wired_store p (edges + 1) g c.set_edge.new.store w e.points e.halves_in e.halves_out e.degrees in
+          wired_removed p edges h c.remove.new.store m.arc joins (c.solve.ensures.wired (edges + 1) w1) f.points f.halves_in f.halves_out (f.degrees m there));
+      gone = f.gone;
+      fewer = λ x x_is d y.
+          (let it : Some x ≡ Some n = sym x_is ∙ c.index-node.ensures in
+          let x_n : x ≡ n = cc in
+          subst (λ (z : Node). length (keys_of d c.remove.new.store y) + one_at (near d z.arc) y ≡ length (keys_of d g.store y)) (sym x_n)
+          (subst (λ q. length (keys_of d c.remove.new.store y) + one_at q y ≡ length (keys_of d h.store y)) (weighed_near d n) (f.degrees m there d y) ∙ (ap (λ (s : Store). length (keys_of d s y)) c.solve.ensures.store ∙ e.degrees d y)));
+      keeps = record {
+        forth = λ k x ne is. f.others.forth k x ne (stay k ne ∙ is);
+        back = λ k x ne is. (let y = f.others.back k x ne is in (y.0, sym (stay k ne) ∙ y.1, y.2, y.3));
+      };
+      exact = heavy_exact old mid new c.args.key m g.low.items c.args.amount here e.others joins refl c.requires.low c.requires.positive c.requires.amount c.requires.start keeps f.gone h.low.items h.high.items
+          (renewed_exact old mid c.args.key n g.low.items g.high.items h.low.items h.high.items c.requires.exact c.index-node.ensures e.others c.in_default.ensures.lowered c.in_default.ensures.heightened);
+    }
+
+pub returns-clause-looks : goal.returns-clause-looks
+returns-clause-looks c = λ edges w.
+    let g : Engine = c.args.engine.now in
+    let e = c.set_edge.ensures in
+    c.in_default.ensures.looks edges (wired_store (length g.low.items) edges g c.set_edge.new.store w e.points e.halves_in e.halves_out e.degrees)

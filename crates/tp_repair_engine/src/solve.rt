@@ -1,0 +1,300 @@
+//! The least and the greatest moments when an edge leaves: those that it may have held are worked out anew from the others.
+ghost use Rattle.std.specs.Prelude.{◌≡◌, ◌≢◌, ◌⊎◌, ℕ, ◌+◌, ◌*◌, ◌-◌, ◌<◌, ◌≤◌, ◌^◌, ◌+ℤ◌, ◌<ℤ◌, All, length, IfOk, OnOk, OnErr, slice_index, true, false};
+ghost use Rattle.tp_net.specs.Graph.{MeetsArc, moment, arc_at};
+ghost use Rattle.tp_net.specs.Links.{MeetsLink};
+ghost use Rattle.tp_net.specs.Sizes.{IsSmall, IsSmallWeight};
+ghost use Rattle.tp_net.specs.Slacks.{JoinsPoints};
+ghost use Rattle.tp_net.specs.Moments.{IsStart};
+ghost use Rattle.tp_repair_engine.specs.Flow.{link_of, sum_to};
+ghost use Rattle.tp_repair_engine.specs.Store.{arcs_of, lists_of, keys_of, AreHalves};
+ghost use Rattle.tp_repair_engine.specs.Work.{IsIdle};
+ghost use Rattle.tp_repair_engine.specs.Engine.{IsWired};
+ghost use Rattle.tp_repair_engine.specs.Loosened.{IsFreed, IsLowered, IsHeightened};
+ghost use Rattle.tp_repair_engine.specs.declared.store.Direction.TheVariants.{Up, Down};
+
+use crate::engine::Engine;
+use crate::flow::Work;
+use crate::loosen::free;
+use crate::store::{Direction, Store};
+use crate::tighten::spread_from;
+use std::alloc::{AllocError, Global};
+use tp_net::slacks::{Arc, slack};
+
+/// The least moments: where each point is above the known one less the amount.
+fn lowest(low: &mut Vec<u64>, known: &[u64], amounts: &[u64], amount: u64)
+    requires len { length low.old.items ≡ length known.now }
+    requires amounts { length amounts.now ≡ length known.now }
+    requires fits { (x : ℕ) → x < length known.now
+        → slice_index known.now x + slice_index amounts.now x < 2 ^ 64 }
+    ensures len { length low.new.items ≡ length known.now }
+    ensures each { (x : ℕ) → x < length known.now → slice_index low.new.items x
+        ≡ (slice_index known.now x + slice_index amounts.now x) - amount }
+{
+    for x in 0..known.len() {
+        low[x] = (known[x] + amounts[x]).saturating_sub(amount);
+    }
+}
+
+/// The greatest moments: where each point is below the known one and the amount more.
+fn highest(high: &mut Vec<u64>, known: &[u64], amounts: &[u64], amount: u64)
+    requires len { length high.old.items ≡ length known.now }
+    requires amounts { length amounts.now ≡ length known.now }
+    requires fits { (x : ℕ) → x < length known.now → slice_index known.now x + amount < 2 ^ 64 }
+    ensures len { length high.new.items ≡ length known.now }
+    ensures each { (x : ℕ) → x < length known.now → slice_index high.new.items x
+        ≡ (slice_index known.now x + amount) - slice_index amounts.now x }
+{
+    for x in 0..known.len() {
+        high[x] = (known[x] + amount).saturating_sub(amounts[x]);
+    }
+}
+
+/// Whether an edge may hold the least moment of the point where it begins: it is tight there.
+pub fn holds_low(low: &[u64], arc: Arc) -> bool
+    requires small { All IsSmall low.now }
+    requires among { JoinsPoints (length low.now) arc }
+    requires weight { IsSmallWeight arc.weight }
+    requires met { MeetsArc (moment low.now) arc }
+    ensures held { result ≡ true → (arc.from ≢ 0)
+        × (moment low.now arc.to ≡ (moment low.now arc.from +ℤ arc.weight)) }
+    ensures loose { result ≡ false → (arc.from ≡ 0)
+        ⊎ (moment low.now arc.to <ℤ (moment low.now arc.from +ℤ arc.weight)) }
+{
+    if arc.from == 0 {
+        return false;
+    }
+    slack(low[arc.from], low[arc.to], arc.weight) == 0
+}
+
+/// Whether an edge may hold the greatest moment of the point where it ends: it is tight there.
+pub fn holds_high(high: &[u64], arc: Arc) -> bool
+    requires small { All IsSmall high.now }
+    requires among { JoinsPoints (length high.now) arc }
+    requires weight { IsSmallWeight arc.weight }
+    requires met { MeetsArc (moment high.now) arc }
+    ensures held { result ≡ true → (arc.to ≢ 0)
+        × (moment high.now arc.to ≡ (moment high.now arc.from +ℤ arc.weight)) }
+    ensures loose { result ≡ false → (arc.to ≡ 0)
+        ⊎ (moment high.now arc.to <ℤ (moment high.now arc.from +ℤ arc.weight)) }
+{
+    if arc.to == 0 {
+        return false;
+    }
+    slack(high[arc.from], high[arc.to], arc.weight) == 0
+}
+
+/// The amounts that meet the edges, where points that are not marked have the amount. Where the origin is marked, it alone
+/// has.
+fn free_marked(
+    store: &Store,
+    moments: &[u64],
+    direction: Direction,
+    marks: &[u64],
+    work: &mut Work,
+    amount: u64,
+) -> Result<u64, AllocError>
+    requires small { All IsSmall moments.now }
+    requires arcs { All (λ e. JoinsPoints (length moments.now) e × IsSmallWeight e.weight
+        × MeetsArc (moment moments.now) e) (arcs_of store.now.nodes.slots) }
+    requires lists_up { length (lists_of Up store.now) ≡ length moments.now }
+    requires lists_down { length (lists_of Down store.now) ≡ length moments.now }
+    requires halves_up { AreHalves Up store.now.nodes.slots (lists_of Up store.now) }
+    requires halves_down { AreHalves Down store.now.nodes.slots (lists_of Down store.now) }
+    requires looks_up { sum_to (λ y. length (keys_of Up store.now y)) (length moments.now)
+        < 2 ^ 61 }
+    requires looks_down { sum_to (λ y. length (keys_of Down store.now y)) (length moments.now)
+        < 2 ^ 61 }
+    requires marks { length marks.now ≡ length moments.now }
+    requires some { 0 < length moments.now }
+    requires positive { 0 < amount }
+    requires idle { IsIdle (length moments.now) work.old }
+    ensures idle { IsIdle (length moments.now) work.new }
+    ensures freed { OnOk result (IsFreed direction (arcs_of store.now.nodes.slots)
+        (length moments.now) (λ x. slice_index moments.now x) (λ x.
+        slice_index marks.now x) amount (λ x. slice_index work.new.amounts.items x)) }
+    ensures looks { IfOk result (λ looks.
+        looks ≤ sum_to (λ y. length (keys_of Up store.now y)) (length moments.now)
+        + sum_to (λ y. length (keys_of Down store.now y)) (length moments.now)) }
+{
+    if marks[0] == 0 {
+        return Ok(free(store, moments, direction, marks, work, amount)?);
+    }
+    Ok(spread_from(store, moments, direction, work, 0, amount)?)
+}
+
+/// Marks what follows a point by tight edges, and works out the amounts that marked points have by the others.
+fn held_back(
+    store: &Store,
+    moments: &[u64],
+    direction: Direction,
+    marks: &mut Work,
+    work: &mut Work,
+    seed: usize,
+    amount: u64,
+) -> Result<u64, AllocError>
+    requires small { All IsSmall moments.now }
+    requires arcs { All (λ e. JoinsPoints (length moments.now) e × IsSmallWeight e.weight
+        × MeetsArc (moment moments.now) e) (arcs_of store.now.nodes.slots) }
+    requires lists_up { length (lists_of Up store.now) ≡ length moments.now }
+    requires lists_down { length (lists_of Down store.now) ≡ length moments.now }
+    requires halves_up { AreHalves Up store.now.nodes.slots (lists_of Up store.now) }
+    requires halves_down { AreHalves Down store.now.nodes.slots (lists_of Down store.now) }
+    requires looks_up { sum_to (λ y. length (keys_of Up store.now y)) (length moments.now)
+        < 2 ^ 61 }
+    requires looks_down { sum_to (λ y. length (keys_of Down store.now y)) (length moments.now)
+        < 2 ^ 61 }
+    requires seed { seed < length moments.now }
+    requires positive { 0 < amount }
+    requires idle_marks { IsIdle (length moments.now) marks.old }
+    requires idle { IsIdle (length moments.now) work.old }
+    ensures idle_marks { IsIdle (length moments.now) marks.new }
+    ensures idle { IsIdle (length moments.now) work.new }
+    ensures seeded { OnOk result (0 < slice_index marks.new.amounts.items seed) }
+    ensures follows { OnOk result ((k : ℕ) → k < length (arcs_of store.now.nodes.slots)
+        → MeetsLink (λ x. slice_index marks.new.amounts.items x) (link_of direction (λ x.
+        slice_index moments.now x) (arc_at (arcs_of store.now.nodes.slots) k))) }
+    ensures freed { OnOk result (IsFreed direction (arcs_of store.now.nodes.slots)
+        (length moments.now) (λ x. slice_index moments.now x) (λ x.
+        slice_index marks.new.amounts.items x) amount (λ x. slice_index work.new.amounts.items x)) }
+    ensures looks { IfOk result (λ looks.
+        looks ≤ 2 * (sum_to (λ y. length (keys_of Up store.now y)) (length moments.now)
+        + sum_to (λ y. length (keys_of Down store.now y)) (length moments.now))) }
+{
+    let marked = spread_from(store, moments, direction, marks, seed, 1)?;
+    let freed = free_marked(store, moments, direction, &marks.amounts, work, amount)?;
+    Ok(marked + freed)
+}
+
+/// The least moments without an edge that left, where it is known that they meet the others.
+fn low_without(
+    alloc: Global,
+    store: &Store,
+    low: &[u64],
+    up: &mut Work,
+    down: &mut Work,
+    arc: Arc,
+    amount: u64,
+) -> Result<(Vec<u64>, u64), AllocError>
+    requires start { IsStart (arcs_of store.now.nodes.slots) low.now amount }
+    requires positive { 0 < amount }
+    requires fits { amount < 2 ^ 41 }
+    requires among { JoinsPoints (length low.now) arc }
+    requires weight { IsSmallWeight arc.weight }
+    requires met { MeetsArc (moment low.now) arc }
+    requires lists_up { length (lists_of Up store.now) ≡ length low.now }
+    requires lists_down { length (lists_of Down store.now) ≡ length low.now }
+    requires halves_up { AreHalves Up store.now.nodes.slots (lists_of Up store.now) }
+    requires halves_down { AreHalves Down store.now.nodes.slots (lists_of Down store.now) }
+    requires looks_up { sum_to (λ y. length (keys_of Up store.now y)) (length low.now) < 2 ^ 61 }
+    requires looks_down { sum_to (λ y. length (keys_of Down store.now y)) (length low.now)
+        < 2 ^ 61 }
+    requires idle_up { IsIdle (length low.now) up.old }
+    requires idle_down { IsIdle (length low.now) down.old }
+    ensures idle_up { IsIdle (length low.now) up.new }
+    ensures idle_down { IsIdle (length low.now) down.new }
+    ensures lowered { IfOk result (λ r.
+        IsLowered (arcs_of store.now.nodes.slots) low.now arc r.0.items) }
+    ensures looks { IfOk result (λ r. r.1 ≤ 2 * (sum_to (λ y. length (keys_of Up store.now y))
+        (length low.now) + sum_to (λ y. length (keys_of Down store.now y)) (length low.now))) }
+{
+    if !holds_low(low, arc) {
+        return Ok((Vec::from_slice(alloc, low)?, 0));
+    }
+    let looks = held_back(store, low, Direction::Up, up, down, arc.from, amount)?;
+    let mut lowered = Vec::from_slice(alloc, low)?;
+    lowest(&mut lowered, low, &down.amounts, amount);
+    Ok((lowered, looks))
+}
+
+/// The greatest moments without an edge that left, where it is known that they meet the others.
+fn high_without(
+    alloc: Global,
+    store: &Store,
+    high: &[u64],
+    up: &mut Work,
+    down: &mut Work,
+    arc: Arc,
+    amount: u64,
+) -> Result<(Vec<u64>, u64), AllocError>
+    requires start { IsStart (arcs_of store.now.nodes.slots) high.now amount }
+    requires positive { 0 < amount }
+    requires fits { amount < 2 ^ 41 }
+    requires among { JoinsPoints (length high.now) arc }
+    requires weight { IsSmallWeight arc.weight }
+    requires met { MeetsArc (moment high.now) arc }
+    requires lists_up { length (lists_of Up store.now) ≡ length high.now }
+    requires lists_down { length (lists_of Down store.now) ≡ length high.now }
+    requires halves_up { AreHalves Up store.now.nodes.slots (lists_of Up store.now) }
+    requires halves_down { AreHalves Down store.now.nodes.slots (lists_of Down store.now) }
+    requires looks_up { sum_to (λ y. length (keys_of Up store.now y)) (length high.now) < 2 ^ 61 }
+    requires looks_down { sum_to (λ y. length (keys_of Down store.now y)) (length high.now)
+        < 2 ^ 61 }
+    requires idle_up { IsIdle (length high.now) up.old }
+    requires idle_down { IsIdle (length high.now) down.old }
+    ensures idle_up { IsIdle (length high.now) up.new }
+    ensures idle_down { IsIdle (length high.now) down.new }
+    ensures heightened { IfOk result (λ r.
+        IsHeightened (arcs_of store.now.nodes.slots) high.now arc r.0.items) }
+    ensures looks { IfOk result (λ r. r.1 ≤ 2 * (sum_to (λ y. length (keys_of Up store.now y))
+        (length high.now) + sum_to (λ y. length (keys_of Down store.now y)) (length high.now))) }
+{
+    if !holds_high(high, arc) {
+        return Ok((Vec::from_slice(alloc, high)?, 0));
+    }
+    let looks = held_back(store, high, Direction::Down, down, up, arc.to, amount)?;
+    let mut heightened = Vec::from_slice(alloc, high)?;
+    highest(&mut heightened, high, &up.amounts, amount);
+    Ok((heightened, looks))
+}
+
+/// Works the moments out anew that an edge held, which no solution has to meet any more. Where a growth is refused, they
+/// stay.
+pub fn solve(alloc: Global, engine: &mut Engine, arc: Arc, amount: u64) -> Result<(), AllocError>
+    requires wired { (edges : ℕ) × IsWired (length engine.old.low.items) edges engine.old }
+    requires start_low { IsStart
+        (arcs_of engine.old.store.nodes.slots) engine.old.low.items amount }
+    requires start_high { IsStart
+        (arcs_of engine.old.store.nodes.slots) engine.old.high.items amount }
+    requires positive { 0 < amount }
+    requires amount { amount < 2 ^ 41 }
+    requires among { JoinsPoints (length engine.old.low.items) arc }
+    requires weight { IsSmallWeight arc.weight }
+    requires met_low { MeetsArc (moment engine.old.low.items) arc }
+    requires met_high { MeetsArc (moment engine.old.high.items) arc }
+    ensures wired { (edges : ℕ) → IsWired (length engine.old.low.items) edges engine.old
+        → IsWired (length engine.old.low.items) edges engine.new }
+    ensures store { engine.new.store ≡ engine.old.store }
+    ensures lowered { OnOk result (IsLowered
+        (arcs_of engine.old.store.nodes.slots) engine.old.low.items arc engine.new.low.items) }
+    ensures heightened { OnOk result (IsHeightened
+        (arcs_of engine.old.store.nodes.slots) engine.old.high.items arc engine.new.high.items) }
+    ensures err_low { OnErr result (engine.new.low.items ≡ engine.old.low.items) }
+    ensures err_high { OnErr result (engine.new.high.items ≡ engine.old.high.items) }
+    ensures looks { (edges : ℕ) → IsWired (length engine.old.low.items) edges engine.old
+        → OnOk result (engine.new.looks ≤ 8 * edges + 1) }
+    ensures some { OnOk result (1 ≤ engine.new.looks) }
+    ensures err_looks { OnErr result (engine.new.looks ≡ engine.old.looks) }
+{
+    let (low, more) = low_without(
+        alloc,
+        &engine.store,
+        &engine.low,
+        &mut engine.up,
+        &mut engine.down,
+        arc,
+        amount,
+    )?;
+    let (high, rest) = high_without(
+        alloc,
+        &engine.store,
+        &engine.high,
+        &mut engine.up,
+        &mut engine.down,
+        arc,
+        amount,
+    )?;
+    engine.low = low;
+    engine.high = high;
+    engine.looks = 1 + more + rest;
+    Ok(())
+}

@@ -1,2 +1,0 @@
-pub mod LoggedLemmas
-pub mod RunLemmas

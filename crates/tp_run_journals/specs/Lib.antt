@@ -1,5 +1,0 @@
-pub mod Ends
-pub mod LogFile
-pub mod Logged
-pub mod RunJournals
-pub mod StopLines

@@ -1,0 +1,16 @@
+pub mod OnPrinters
+pub mod OnPrinting
+pub mod OnPrintingForms
+pub mod OnPrintingWords
+pub mod OnPrintingLists
+pub mod OnPrintingNumbers
+pub mod OnPrintingExprs
+pub mod OnPrintingConds
+pub mod OnPrintingParts
+pub mod OnPrintingEffects
+pub mod OnPrintingConstraints
+pub mod OnPrintingActions
+pub mod OnPrintingTypes
+pub mod OnPrintingSignatures
+pub mod OnPrintingDomains
+pub mod OnPrintingTexts

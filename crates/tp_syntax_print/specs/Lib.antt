@@ -1,0 +1,4 @@
+pub mod Printers
+pub mod Words
+pub mod Printing
+pub mod DomainTexts

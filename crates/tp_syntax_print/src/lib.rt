@@ -1,0 +1,12 @@
+//! Prints domains.
+//!
+//! - `printer`: a writer that is given nothing more once it has failed
+//! - `words`: the words of comparisons and of writes
+//! - `print_parts`: names, terms, expressions, conditions, effects, duration constraints
+//! - `print`: domains
+#![tactic(auto)]
+
+pub mod print;
+pub mod print_parts;
+pub mod printer;
+pub mod words;

@@ -1,0 +1,10 @@
+pub mod OnTerms
+pub mod OnNames
+pub mod OnTypedLists
+pub mod OnSignatures
+pub mod OnTypes
+pub mod OnDeclared
+pub mod OnRowViews
+pub mod OnSymbols
+pub mod OnScope
+pub mod OnArguments
