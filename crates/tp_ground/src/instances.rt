@@ -13,9 +13,8 @@ ghost use Rattle.tp_ground.specs.Instances.{instance_view};
 
 use std::alloc::{AllocError, Global};
 use tp_ground_actions::grounding::lower_under;
-use tp_ground_bindings::rows::{Rows, rows_of};
-use tp_ground_bindings::universe::{Universe, copied, refill};
-use tp_syntax_ast::action::Action;
+use tp_ground_bindings::{Rows, Universe, copied, refill, rows_of};
+use tp_syntax_ast::Action;
 use tp_task::{Body, GroundFault, Numbering};
 
 /// An action, and the objects that its parameters stand for.

@@ -5,9 +5,14 @@
 //! - `environment`: what variables stand for under a binding
 #![tactic(auto)]
 
-pub mod environment;
-pub mod noting;
-pub mod objects;
-pub mod odometer;
-pub mod rows;
-pub mod universe;
+mod environment;
+mod noting;
+mod objects;
+mod odometer;
+mod rows;
+mod universe;
+
+pub use environment::{Env, object_for, words_in};
+pub use noting::universe_of;
+pub use rows::{Rows, lists_of, rows_of};
+pub use universe::{Universe, copied, refill};

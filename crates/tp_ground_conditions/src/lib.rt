@@ -4,6 +4,10 @@
 //! - `expressions`, `conditions`: what is written out under a binding
 #![tactic(auto)]
 
-pub mod conditions;
-pub mod expressions;
-pub mod numbers;
+mod conditions;
+mod expressions;
+mod numbers;
+
+pub use conditions::{closed_condition, condition};
+pub use expressions::{comparison_of, expression};
+pub use numbers::{atom, fluent};

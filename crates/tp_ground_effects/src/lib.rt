@@ -4,11 +4,11 @@
 //! - `changes`, `parts`, `effects`, `constraints`, `bodies`: what is written out under a binding
 #![tactic(auto)]
 
-pub mod bodies;
-pub mod changes;
-pub mod constraints;
-pub mod effects;
-pub mod parts;
+mod bodies;
+mod changes;
+mod constraints;
+mod effects;
+mod parts;
 
-pub use tp_ground_conditions::conditions::closed_condition;
-pub use tp_ground_conditions::numbers::{atom, fluent};
+pub use bodies::body;
+pub use tp_ground_conditions::{atom, closed_condition, fluent};

@@ -20,11 +20,9 @@ use std::alloc::Global;
 use tp_bounds::Limits;
 use tp_ground::{Instance, LoweredTask, check, lower_instances, name_instances, task_of};
 use tp_ground_actions::beginning::{NumberedInitial, entries};
-use tp_ground_bindings::noting::universe_of;
-use tp_ground_bindings::universe::Universe;
+use tp_ground_bindings::{Universe, universe_of};
 use tp_ground_effects::closed_condition;
-use tp_syntax_ast::domain::Domain;
-use tp_syntax_ast::problem::{Initial, Problem};
+use tp_syntax_ast::{Domain, Initial, Problem};
 use tp_task::{Body, Cond, GroundFault, Numbering, Task, TooManyKind};
 use tp_text::Scale;
 
@@ -49,7 +47,7 @@ fn lower_ends<'a>(
     universe: &Universe<'a>,
     numbering: &mut Numbering,
     initial: &'a [Initial],
-    goal: &'a tp_syntax_ast::cond::Cond,
+    goal: &'a tp_syntax_ast::Cond,
 ) -> Result<Ends, GroundFault>
     ensures { Lowers named_ends numbering.old result numbering.new
         (written_ends (universe_view universe.now) (map initial_view initial.now)

@@ -7,7 +7,7 @@ ghost use Rattle.tp_ground_named.specs.Picks.{tails, tail_after, row_words};
 
 use std::alloc::{AllocError, Global};
 use std::borrow::CowSlice;
-use tp_ground_bindings::universe::refill;
+use tp_ground_bindings::refill;
 
 // What follows a name in a row that begins with it.
 fn tail_after<'r, 'n>(row: &'r [&'n str], name: &str) -> Option<&'r [&'n str]>

@@ -15,4 +15,4 @@ pub use certify::certified;
 pub use laws::{plans_at_once_are_met, unreachable_has_no_plan};
 pub use seeking::search;
 pub use tp_search_frontier::SearchFault;
-pub use tp_search_instant::found::Found;
+pub use tp_search_instant::Found;

@@ -12,7 +12,7 @@ use std::alloc::Global;
 use std::io::{Write, sink};
 use tp_guided::Guided;
 use tp_search::{Found, SearchFault, search, unreachable_has_no_plan};
-use tp_search_instant::at_once::judge;
+use tp_search_instant::judge;
 use tp_task::Task;
 use tp_task_reachability::goal_in_reach;
 

@@ -15,11 +15,7 @@ use crate::print_parts::{
 };
 use crate::printer::Printer;
 use tp_device::{Failed, Sink};
-use tp_syntax_ast::action::{Action, Body};
-use tp_syntax_ast::domain::Domain;
-use tp_syntax_ast::symbols::{Signature, Typed};
-use tp_syntax_ast::timed::{TimedCond, TimedEffect};
-use tp_syntax_ast::types::TypeName;
+use tp_syntax_ast::{Action, Body, Domain, Signature, TimedCond, TimedEffect, TypeName, Typed};
 
 // Conditions and effects at their time specifiers, each behind its word.
 fn print_timed<W: Sink>(out: &mut Printer<W>, condition: &TimedCond, effect: &TimedEffect)

@@ -8,8 +8,7 @@ ghost use Rattle.tp_syntax_ast.specs.DomainViews.{initial_view};
 
 use indexmap::IndexSet;
 use std::alloc::{AllocError, Global};
-use tp_syntax_ast::problem::Initial;
-use tp_syntax_ast::term::Atom;
+use tp_syntax_ast::{Atom, Initial};
 
 // What was said so far.
 #[derive(Drop)]

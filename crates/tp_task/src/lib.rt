@@ -23,3 +23,4 @@ pub use laws::{schedules_are_valid, unreachable_has_no_plan, valid_without_fault
 pub use numbering::Numbering;
 pub use task::{ActionId, AtomId, FluentId, Task};
 pub use tp_bounds::MOST_STEPS;
+pub use truth::{compared, compares};
