@@ -1,5 +1,6 @@
-//! Tests of `tp_agents_laws`, which is laws alone: calls whose contracts meet what the laws ask, made on a split by hand. Where a
-//! growth is refused, the call is made once more, so that each test passes whichever request for memory fails.
+//! Tests of `tp_agents_laws`, which is laws alone: calls whose contracts meet what the laws ask,
+//! made on a split by hand. Where a growth is refused, the call is made once more, so that each
+//! test passes whichever request for memory fails.
 #![tactic(auto)]
 
 /// The answer of a call; where it is an error, that of the same call once more.

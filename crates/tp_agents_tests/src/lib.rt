@@ -1,5 +1,5 @@
-//! Tests of `tp_agents`, apart from it so that the gate proves it once. Where a growth is refused, the call is made once more,
-//! so that each test passes whichever request for memory fails.
+//! Tests of `tp_agents`, apart from it so that the gate proves it once. Where a growth is refused,
+//! the call is made once more, so that each test passes whichever request for memory fails.
 //!
 //! - `settings`: settings by hand, and how they are split.
 //! - `reading`: texts, and the agents that they spell.

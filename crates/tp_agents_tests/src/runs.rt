@@ -168,7 +168,8 @@ fn are(moments: &[u32], wanted: Option<&[u32]>) -> bool {
     }
 }
 
-/// Whether the runs make these moments, which are a schedule of the whole, or none, whether memory was refused or not.
+/// Whether the runs make these moments, which are a schedule of the whole, or none, whether memory
+/// was refused or not.
 fn join_to(
     alloc: Global,
     split: &Split,
@@ -229,7 +230,8 @@ fn runs_apart_make_one_of_the_whole(rt: HostRuntime) -> Result<(), Fail> {
 /// The orders of one command of agent 0 and two of agent 1.
 const PAIR_ORDERS: [&str; 3] = ["011", "101", "110"];
 
-/// Whether two agents of an event each, which the first dispatches at once and the second at 7, in this order, make a run.
+/// Whether two agents of an event each, which the first dispatches at once and the second at 7, in
+/// this order, make a run.
 fn pair_is_so(alloc: Global, split: &Split, order: &str) -> Result<bool, AllocError> {
     let (Some(mut first), Some(mut second)) = (start(alloc, split, 0)?, start(alloc, split, 1)?)
     else {

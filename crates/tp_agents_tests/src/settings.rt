@@ -22,7 +22,8 @@ pub const E3: Point = Point::Event(3);
 /// A bound: the second point comes no later than so many ticks after the first.
 pub type Triple = (Point, Point, i64);
 
-/// How many events there are, up to which moment, and the bounds between them, under identifiers from 0 on.
+/// How many events there are, up to which moment, and the bounds between them, under identifiers
+/// from 0 on.
 #[derive(Clone, Copy)]
 pub struct World {
     pub events: u16,
@@ -30,8 +31,8 @@ pub struct World {
     pub bounds: &'static [Triple],
 }
 
-/// A fuse is mended in 5 ticks by the light of a match, which burns 8: event 0 lights it and event 1 puts it out, event 2
-/// begins to mend and event 3 ends.
+/// A fuse is mended in 5 ticks by the light of a match, which burns 8: event 0 lights it and event
+/// 1 puts it out, event 2 begins to mend and event 3 ends.
 pub const MENDED_BY_LIGHT: &[Triple] = &[
     (E1, E0, -1),
     (E1, E0, -8),
@@ -48,7 +49,8 @@ pub const MATCH: World = World {
     bounds: MENDED_BY_LIGHT,
 };
 
-/// A lamp burns for 4 to 9 ticks, and by its light work of 2 to 6 is done, which ends a tick before it is put out, or earlier.
+/// A lamp burns for 4 to 9 ticks, and by its light work of 2 to 6 is done, which ends a tick before
+/// it is put out, or earlier.
 pub const LAMP: World = World {
     events: 4,
     horizon: 20,
@@ -104,8 +106,8 @@ fn is_in_range(weight: i64) -> bool
     -2_000_000_000 <= weight && weight <= 2_000_000_000
 }
 
-/// Puts a bound in force under an identifier from which on all are free, if the bound suits the setting, and tells from which
-/// identifier on all are free then.
+/// Puts a bound in force under an identifier from which on all are free, if the bound suits the
+/// setting, and tells from which identifier on all are free then.
 pub fn put(setting: &mut Setting, next: u32, bound: Bound) -> Result<u32, AllocError>
     requires unbegun { IsUnbegun setting.old }
     requires free { (id : ℕ) → next ≤ id → map.get setting.old.bounds id ≡ None }

@@ -39,7 +39,8 @@ const ROWS: [(World, &[u16], u16, Intervals); 7] = [
     (EMPTY, &[], 0, &[]),
 ];
 
-/// Agents of the match's four events, and the first event that has none, or one over 1,023, or that there is not.
+/// Agents of the match's four events, and the first event that has none, or one over 1,023, or that
+/// there is not.
 const MISOWNED: [(&[u16], u32); 4] = [
     (&[0, 0, 1], 3),
     (&[0, 0, 1, 1, 1], 4),

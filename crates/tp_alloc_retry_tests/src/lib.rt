@@ -1,6 +1,6 @@
-//! Tests of the calls that may want memory: where a growth is refused, the same call is made once more, and answers as one that
-//! nothing preceded. `scripts/refused-memory` lets each request of a test fail in turn; with ample memory the tests show that
-//! each call has an answer.
+//! Tests of the calls that may want memory: where a growth is refused, the same call is made once
+//! more, and answers as one that nothing preceded. `scripts/refused-memory` lets each request of a
+//! test fail in turn; with ample memory the tests show that each call has an answer.
 //!
 //! - `worlds`: the small domains and problems, and their tasks
 //! - `texts`: words, trees, domains and problems

@@ -12,7 +12,8 @@ use tp_exec_machine::{Answer, Command, Executive, Refusal, perform};
 use tp_net::{Net, ScratchNet};
 use tp_repair::RepairNet;
 
-/// Puts a bound in force. Where memory is refused, the setting is as before, and it is put once more.
+/// Puts a bound in force. Where memory is refused, the setting is as before, and it is put once
+/// more.
 fn put_again(setting: &mut Setting, id: BoundId, bound: Bound) -> Result<(), AllocError>
     requires from { HasPoint setting.old bound.from }
     requires to { HasPoint setting.old bound.to }
@@ -42,7 +43,8 @@ fn a_setting_of_two_events(rt: HostRuntime) -> Result<(), Fail> {
     Ok(())
 }
 
-/// What an executive answers. Where memory is refused, nothing has changed, and it is asked once more.
+/// What an executive answers. Where memory is refused, nothing has changed, and it is asked once
+/// more.
 pub(crate) fn answer<N: Net>(executive: &mut Executive<N>, command: Command) -> Answer {
     match perform(executive, command) {
         Answer::Refused(Refusal::Memory) => perform(executive, command),
@@ -60,7 +62,8 @@ pub(crate) fn carries_out<N: Net>(executive: &mut Executive<N>, commands: &[Comm
     true
 }
 
-/// An executive over a new network of two events up to 100, the first of which may be reported late.
+/// An executive over a new network of two events up to 100, the first of which may be reported
+/// late.
 fn start<N: Net>(alloc: Global, mut net: N) -> Executive<N>
     requires between { N.takes_between ≡ true }
     requires new { N.seen net ≡ new_setting 2 100 }

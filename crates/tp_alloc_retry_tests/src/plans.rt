@@ -62,7 +62,8 @@ fn frees(
     Ok(named && (network.events.len(), network.bounds.len()) == sizes)
 }
 
-/// A plan of a world, how many events and bounds its network has, and what its first event is called.
+/// A plan of a world, how many events and bounds its network has, and what its first event is
+/// called.
 type Row = (World<'static>, &'static str, (usize, usize), &'static str);
 
 const PLANS: [Row; 4] = [

@@ -52,7 +52,8 @@ fn carry_out(
     Ok(())
 }
 
-/// The plan of the run of these commands; where memory is refused to that call, it is made once more.
+/// The plan of the run of these commands; where memory is refused to that call, it is made once
+/// more.
 fn plan_of(
     alloc: Global,
     plan: &ValidPlan<'_>,
@@ -82,8 +83,8 @@ fn plan_over(
     }
 }
 
-/// A plan, commands of a run over its network, and the steps of the plan of that run, if there is one: the tick, the number of
-/// the action and the duration of each.
+/// A plan, commands of a run over its network, and the steps of the plan of that run, if there is
+/// one: the tick, the number of the action and the duration of each.
 #[derive(Clone, Copy)]
 struct Run {
     world: World<'static>,

@@ -37,7 +37,8 @@ fn is_read_again(alloc: Global, domain: &Domain, text: &str, objects: usize) -> 
     Ok(first == second && first.objects.len() == objects)
 }
 
-/// Whether a domain that is read again is the same, has so many actions, and its problem is read so.
+/// Whether a domain that is read again is the same, has so many actions, and its problem is read
+/// so.
 fn are_read_again(
     alloc: Global,
     world: World<'_>,

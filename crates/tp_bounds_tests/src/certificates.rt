@@ -25,7 +25,8 @@ fn two_apart(alloc: Global) -> Result<Setting, AllocError>
     Ok(setting)
 }
 
-/// Two events under the greatest horizon, the second at least 1 tick before the first, which is asked not to come after it.
+/// Two events under the greatest horizon, the second at least 1 tick before the first, which is
+/// asked not to come after it.
 fn before_each_other(alloc: Global) -> Result<Setting, AllocError> {
     let mut setting = Setting::new(alloc, 2, 1_000_000_000)?;
     let bound = Bound {

@@ -90,7 +90,8 @@ fn plan_words<'w>(matches: &ArgMatches<'w>) -> Option<PlanWords<'w>>
     })
 }
 
-/// The files of a problem, how time is measured, and the budget of a search of an order, up to the greatest one.
+/// The files of a problem, how time is measured, and the budget of a search of an order, up to the
+/// greatest one.
 fn search_words<'w>(
     matches: &ArgMatches<'w>,
     greatest: u32,
@@ -256,7 +257,8 @@ fn text_of<'w>(alloc: Global, error: &Error) -> Result<Request<'w>, NoRequest>
     Ok(Request::Help(format!(in alloc; "{error}")?))
 }
 
-/// What is left where a parse gave no matches: help or the version that was called for, or a refusal.
+/// What is left where a parse gave no matches: help or the version that was called for, or a
+/// refusal.
 fn without_matches<'w>(alloc: Global, error: &Error) -> Result<Request<'w>, NoRequest>
     ensures help { IfOk result (λ r.
         ((text : _) × (r ≡ Request.Help text)) × TellsText (kind_of error.now)) }
@@ -295,7 +297,8 @@ pub fn bare_log_calls()
         → AsksFor (codes "bare" ∷ codes "--journal" ∷ codes "l" ∷ []) (Request.BareLog w.plan) }
 {}
 
-/// Files and options of `check`, in the order in which they may stand, with a horizon of 1000000 where none is given.
+/// Files and options of `check`, in the order in which they may stand, with a horizon of 1000000
+/// where none is given.
 pub fn check_calls()
     ensures { (w : PlanWords) → w.domain.now ≡ codes "d" → w.problem.now ≡ codes "p"
         → w.plan.now ≡ codes "l"
@@ -373,8 +376,8 @@ pub fn split_calls()
         ∷ codes "l" ∷ codes "o" ∷ []) (Request.Split w v.domain) }
 {}
 
-/// Words ask for one kind of thing at most: for one command, with one file for a journal or none, one of a domain or none, and one of
-/// agents or none, or for help.
+/// Words ask for one kind of thing at most: for one command, with one file for a journal or none,
+/// one of a domain or none, and one of agents or none, or for help.
 pub fn requests_are_distinct()
     ensures { (words : List (List ℕ)) → AskForOneThing words }
 {}

@@ -8,8 +8,8 @@ ghost use Rattle.tp_cli_args.specs.Commands.{audit_app, auditing_app, bare_app, 
 use clap::{Arg, ArgAction, Command, value_parser};
 use std::alloc::{AllocError, Global};
 
-/// The version of the program, and the logic that it is proved in, as `rt version` prints it after the kit's name: kits that differ
-/// in nothing that a proof depends on have one logic.
+/// The version of the program, and the logic that it is proved in, as `rt version` prints it after
+/// the kit's name: kits that differ in nothing that a proof depends on have one logic.
 const VERSION: &str = "0.3.0 (rattle logic dac8208d650f15bf)";
 
 const ABOUT: &str =

@@ -4,7 +4,8 @@
 //! - `requests`: what a call may ask for
 //! - `arguments`: what the words of a call ask for, `read_words`, and laws about it
 //!
-//! No file is opened here: words name files, as `PlanWords` of `tp_cli_inputs` and `SearchWords` of `tp_cli_plan` hold them.
+//! No file is opened here: words name files, as `PlanWords` of `tp_cli_inputs` and `SearchWords` of
+//! `tp_cli_plan` hold them.
 #![tactic(auto)]
 
 mod arguments;

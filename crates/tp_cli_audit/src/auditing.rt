@@ -46,10 +46,11 @@ fn head_of<S: Source + Drop>(alloc: Global, source: S) -> Result<JournalHead, Au
     }
 }
 
-/// The head of the journal in the file of a name. It takes memory for a line and for the lags that the head tells.
+/// The head of the journal in the file of a name. It takes memory for a line and for the lags that
+/// the head tells.
 ///
-/// # Errors
-/// `Open` where the file can't be opened, `Read` where a read fails, `Memory`; `Line(n)` where line n breaks the format.
+/// # Errors `Open` where the file can't be opened, `Read` where a read fails, `Memory`; `Line(n)`
+/// where line n breaks the format.
 pub fn head_in<N: Files>(alloc: Global, files: &mut N, log: &str) -> Result<JournalHead, AuditStop>
     ensures head { IfOk result (λ head.
         IfSome (N.held files.old log.now) (λ bytes. IsHeadTold bytes head)) }
@@ -62,11 +63,12 @@ pub fn head_in<N: Files>(alloc: Global, files: &mut N, log: &str) -> Result<Jour
     }
 }
 
-/// Audits the journal that a source has left against an executive, which is new. Each line is read once and each command that was
-/// accepted carried out, so that it costs little more than the run did.
+/// Audits the journal that a source has left against an executive, which is new. Each line is read
+/// once and each command that was accepted carried out, so that it costs little more than the run
+/// did.
 ///
-/// # Errors
-/// `Read` where a read fails, `Memory`; `Line(n)` where line n breaks the format; `Head` for the head of another executive.
+/// # Errors `Read` where a read fails, `Memory`; `Line(n)` where line n breaks the format; `Head`
+/// for the head of another executive.
 pub fn audit_of<S: Source + Drop>(
     alloc: Global,
     source: S,

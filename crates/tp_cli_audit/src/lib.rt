@@ -1,4 +1,5 @@
-//! `audit`: a journal in a file, judged against the executive of its head, or against that of a plan's network.
+//! `audit`: a journal in a file, judged against the executive of its head, or against that of a
+//! plan's network.
 //!
 //! - `audit_lines`: what hinders an audit, and its lines
 //! - `auditing`: the head of a journal in a file, and its audit against an executive

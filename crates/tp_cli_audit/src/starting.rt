@@ -11,15 +11,16 @@ use tp_exec_machine::Executive;
 use tp_journal::JournalHead;
 use tp_repair::RepairNet;
 
-/// Whether the lags that the head of a journal tells are of events of a plan's network, and in range.
+/// Whether the lags that the head of a journal tells are of events of a plan's network, and in
+/// range.
 pub(crate) fn lags_suit(network: &PlanNet, head: &JournalHead) -> bool
     ensures { IsTrue result ↔ LagsFit network.now head.now }
 {
     lags_fit(network.events.len() as u16, head.lags.as_slice())
 }
 
-/// The executive over the network of a plan, with the lags that the head of a journal tells, under the greatest limits. It is new. It
-/// costs one addition to the network for each bound of the plan.
+/// The executive over the network of a plan, with the lags that the head of a journal tells, under
+/// the greatest limits. It is new. It costs one addition to the network for each bound of the plan.
 pub(crate) fn plan_start(
     alloc: Global,
     network: &PlanNet,

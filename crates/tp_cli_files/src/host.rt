@@ -124,7 +124,8 @@ fn call_fault(kind: ErrorKind) -> CallFault {
     }
 }
 
-/// The words after the program's name. What the host's call holds is not told. The cost grows with the bytes of the words.
+/// The words after the program's name. What the host's call holds is not told. The cost grows with
+/// the bytes of the words.
 pub fn words_of_call<R: Env + AllocGlobal>(rt: &R) -> Result<Vec<String>, CallFault> {
     let mut words = Vec::new(rt.alloc());
     match env::args(rt) {
@@ -149,7 +150,8 @@ fn line_of_call(why: CallFault) -> FaultLine<'static>
     }
 }
 
-/// Writes why the words were not taken. Answers the exit status: 2 where one of them is no text, and 3 where memory was refused.
+/// Writes why the words were not taken. Answers the exit status: 2 where one of them is no text,
+/// and 3 where memory was refused.
 pub fn refuse_call<F: Sink>(why: CallFault, faults: &mut F) -> u8
     ensures status { result ≡ call_status why }
     ensures told { Tells (call_text why) (F.failures faults.old) (F.held faults.old)

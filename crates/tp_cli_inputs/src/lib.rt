@@ -1,5 +1,5 @@
-//! The plan in a file: the task of the domain and the problem in two other files, its verdict, and the lines of what is at fault
-//! in the three.
+//! The plan in a file: the task of the domain and the problem in two other files, its verdict, and
+//! the lines of what is at fault in the three.
 //!
 //! - `plan_words`: the names of the files, and how the plan's time is measured
 //! - `judging`: the task, and the verdict on the plan

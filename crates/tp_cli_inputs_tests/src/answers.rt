@@ -38,8 +38,8 @@ fn answered(alloc: Global, domain: &str, scale: Scale, rows: &[Row<'_>]) -> bool
     })
 }
 
-/// One instantaneous action reaches the goal, if the budget lets the first node be expanded. A goal that is met at first has a
-/// plan without steps, whatever the budget.
+/// One instantaneous action reaches the goal, if the budget lets the first node be expanded. A goal
+/// that is met at first has a plan without steps, whatever the budget.
 #[test]
 fn toggle_within_budgets(rt: HostRuntime) {
     let rows = [

@@ -22,7 +22,8 @@ fn spells(alloc: Global, line: FaultLine<'_>, text: &[u8], status: u8) -> bool {
     is_spelled(alloc, line, text, status) || is_spelled(alloc, line, text, status)
 }
 
-/// Whether the lines of a file's fault for a domain, a problem and a plan are spelled so, and go with that status.
+/// Whether the lines of a file's fault for a domain, a problem and a plan are spelled so, and go
+/// with that status.
 fn spell(alloc: Global, fault: FileFault, texts: [&[u8]; 3], status: u8) -> bool {
     spells(alloc, file_line("domain", fault, "x y"), texts[0], status)
         && spells(alloc, file_line("problem", fault, "x y"), texts[1], status)

@@ -1,6 +1,6 @@
 //! Tests of commands on files in memory: texts that are read, the line and the exit status of each
-//! fault of a file, a domain, a problem, a task, a plan or commands, and what is written of a search
-//! for a plan.
+//! fault of a file, a domain, a problem, a task, a plan or commands, and what is written of a
+//! search for a plan.
 //!
 //! - `files`: texts that are read of files
 //! - `fault_lines`: the line of each fault, and its exit status

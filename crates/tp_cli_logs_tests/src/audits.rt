@@ -110,7 +110,8 @@ fn journals_in_files_are_audited(rt: HostRuntime) {
     }
 }
 
-/// Reasons for one refusal, and what is found of each: two bounds do as well, a chain has to begin with the new one.
+/// Reasons for one refusal, and what is found of each: two bounds do as well, a chain has to begin
+/// with the new one.
 const REASONS: [(&'static [u8], &'static [u8], u8); 4] = [
     (
         b"journal 2\nnetwork 1 5\nbare\n> add o 0 3\n< bound 0\n> add o 0 3\n< bound 1\n> add 0 o -4\n< refused conflict new b1\n",

@@ -9,7 +9,8 @@ use std::sync::ledger::{Blank, Book, Ledger, Share};
 use tp_cli_files::{Files, Logs};
 use tp_device::{Failed, Sink, Source};
 
-/// A text with room for so many bytes. A push takes as many as there is room for; where there is none, it fails.
+/// A text with room for so many bytes. A push takes as many as there is room for; where there is
+/// none, it fails.
 #[derive(Drop)]
 pub(crate) struct Sheet<L: Ledger> {
     text: Vec<u8>,
@@ -58,8 +59,8 @@ impl<L: Ledger> Sink for Sheet<L> {
     }
 }
 
-/// Room for one file that is made and written. It is made of the sheet that lies there, if there is one. How many files were asked for
-/// is counted.
+/// Room for one file that is made and written. It is made of the sheet that lies there, if there is
+/// one. How many files were asked for is counted.
 #[derive(Drop)]
 pub(crate) struct CountedLogs<L: Ledger, A: Ledger> {
     alloc: Global,
@@ -72,7 +73,8 @@ pub(crate) struct CountedLogs<L: Ledger, A: Ledger> {
 }
 
 impl<L: Ledger, A: Ledger> CountedLogs<L, A> {
-    /// A place for that sheet, if there is one. The files that are asked for are counted in the blank ledger.
+    /// A place for that sheet, if there is one. The files that are asked for are counted in the
+    /// blank ledger.
     pub(crate) fn new(alloc: Global, sheet: Option<Sheet<L>>, blank: Blank) -> Self
         requires name { blank.name ≡ A.name }
         requires parts { blank.parts ≡ A.parts }

@@ -65,7 +65,8 @@ fn a_journal_that_cannot_be_made(rt: HostRuntime) {
     assert!(rt; outcome.journal.is_none());
 }
 
-/// What is told of an input without a head, or with a lag that does not fit; the file was made, and nothing is in it.
+/// What is told of an input without a head, or with a lag that does not fit; the file was made, and
+/// nothing is in it.
 const NO_HEAD: Told<'static> = Told {
     answers: b"",
     faults: b"fault script 5 head\n",
@@ -98,7 +99,8 @@ fn pairs_in(log: &[u8]) -> usize {
     lines_in(log).saturating_sub(3) / 2
 }
 
-/// Whether a run ended with status 3 and this fault, and wrote first parts of the answers and of the journal.
+/// Whether a run ended with status 3 and this fault, and wrote first parts of the answers and of
+/// the journal.
 fn ends(outcome: &Outcome, faults: &[u8]) -> bool {
     outcome.status == 3
         && outcome.faults.as_slice() == faults
@@ -112,7 +114,8 @@ fn agrees(outcome: &Outcome) -> bool {
     lines_in(answers) == pairs_in(outcome.log()) && (answers.is_empty() || answers.ends_with(b"\n"))
 }
 
-/// A log that has room for so many bytes holds just these, and an answer went out for each pair that is whole in it.
+/// A log that has room for so many bytes holds just these, and an answer went out for each pair
+/// that is whole in it.
 #[test]
 fn a_log_without_room_at_each_byte(rt: HostRuntime) {
     for room in 0..JOURNAL.len() {
@@ -126,7 +129,8 @@ fn a_log_without_room_at_each_byte(rt: HostRuntime) {
     }
 }
 
-/// An output that has room for so many bytes holds just these; the pair of the answer that did not go out is in the log.
+/// An output that has room for so many bytes holds just these; the pair of the answer that did not
+/// go out is in the log.
 #[test]
 fn an_output_without_room_at_each_byte(rt: HostRuntime) {
     for room in 0..ANSWERS.len() {
@@ -143,7 +147,8 @@ fn an_output_without_room_at_each_byte(rt: HostRuntime) {
     }
 }
 
-/// A reader that fails behind so many bytes: the lines that were read whole are answered, and have their pairs.
+/// A reader that fails behind so many bytes: the lines that were read whole are answered, and have
+/// their pairs.
 #[test]
 fn a_reader_that_fails_at_each_byte(rt: HostRuntime) {
     for length in 0..=NIGHT.len() {

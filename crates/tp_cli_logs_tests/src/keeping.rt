@@ -54,7 +54,8 @@ pub(crate) struct Outcome {
     pub(crate) journal: Option<Vec<u8>>,
 }
 
-/// The ledgers of the failures of a reader, of two writers and of a journal file, and that of the files that are asked for.
+/// The ledgers of the failures of a reader, of two writers and of a journal file, and that of the
+/// files that are asked for.
 #[derive(Drop)]
 struct Blanks {
     reads: Blank,

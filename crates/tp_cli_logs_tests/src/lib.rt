@@ -1,4 +1,5 @@
-//! Tests of journals in files and of their audits: files, readers and writers in memory, all of which tell their bytes.
+//! Tests of journals in files and of their audits: files, readers and writers in memory, all of
+//! which tell their bytes.
 //!
 //! - `devices`: the files and streams
 //! - `keeping`: commands whose journal is kept, over them

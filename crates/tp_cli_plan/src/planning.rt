@@ -56,7 +56,8 @@ fn found_in<'t, B: Write>(
     }
 }
 
-/// Searches for a plan of a task, and writes it, or why there is none. Answers whether there is one.
+/// Searches for a plan of a task, and writes it, or why there is none. Answers whether there is
+/// one.
 fn search_of<B: Write, O: Sink>(
     alloc: Global,
     words: SearchWords<'_>,
@@ -97,7 +98,8 @@ fn task_of<N: Files>(
     task_in(alloc, files, words.task_words())
 }
 
-/// Searches for a plan of the task that the words name, and writes it, or why there is none. Answers whether there is one.
+/// Searches for a plan of the task that the words name, and writes it, or why there is none.
+/// Answers whether there is one.
 fn plan<N: Files, B: Write, O: Sink>(
     alloc: Global,
     files: &mut N,
@@ -119,13 +121,14 @@ fn plan<N: Files, B: Write, O: Sink>(
     }
 }
 
-/// Searches for a plan of the problem that the words name, with at most so many expansions as their budget, and writes it in the plan
-/// format; or the line `unreachable`, `exhausted` or `spent N` where none was found. Answers the exit status: 0 for a plan, 1 where
-/// none was found, and for another writes one fault line.
+/// Searches for a plan of the problem that the words name, with at most so many expansions as their
+/// budget, and writes it in the plan format; or the line `unreachable`, `exhausted` or `spent N`
+/// where none was found. Answers the exit status: 0 for a plan, 1 where none was found, and for
+/// another writes one fault line.
 ///
-/// The search is of the task that `ground_reached` makes: no more actions than its relaxed reach keeps. The cost is that of reading
-/// both texts, of that grounding and of the search. What a guided search tells of plans as it finds them goes to `board`, if the words
-/// wish for it.
+/// The search is of the task that `ground_reached` makes: no more actions than its relaxed reach
+/// keeps. The cost is that of reading both texts, of that grounding and of the search. What a
+/// guided search tells of plans as it finds them goes to `board`, if the words wish for it.
 pub fn run_plan<N: Files, B: Write, O: Sink, F: Sink>(
     alloc: Global,
     files: &mut N,
@@ -145,8 +148,8 @@ pub fn run_plan<N: Files, B: Write, O: Sink, F: Sink>(
         (O.held output.old) (O.held output.new) (O.failures output.old) (O.failures output.new)
         (F.failures faults.old) (F.held faults.old) (F.failures faults.new) (F.held faults.new) }
 
-    // Nothing is written for input that is refused, and of a true answer at most a first part where memory or a device is
-    // wanting; a write that failed is always told.
+    // Nothing is written for input that is refused, and of a true answer at most a first part where
+    // memory or a device is wanting; a write that failed is always told.
     ensures kept { result ≡ REFUSED → O.held output.new ≡ O.held output.old }
     ensures part { result ≡ OUT_OF_ORDER
         → SearchesPart (N.held files.old) words.entry (O.held output.old) (O.held output.new) }

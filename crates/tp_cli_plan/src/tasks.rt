@@ -1,4 +1,5 @@
-//! The task of the domain and the problem in two files, with the actions that the relaxed reach keeps.
+//! The task of the domain and the problem in two files, with the actions that the relaxed reach
+//! keeps.
 
 ghost use Rattle.std.specs.Prelude.{◌≤◌, IfOk, IfErr};
 ghost use Rattle.tp_syntax.specs.DomainViews.{domain_view};
@@ -40,8 +41,9 @@ fn task_with<N: Files>(
     }
 }
 
-/// The task of the domain and the problem that the words name. A file is opened only when what stands before it is done. What both
-/// texts spell is never freed: a call is made once in a run of the program, whose end frees all at once.
+/// The task of the domain and the problem that the words name. A file is opened only when what
+/// stands before it is done. What both texts spell is never freed: a call is made once in a run of
+/// the program, whose end frees all at once.
 pub(crate) fn task_in<N: Files>(
     alloc: Global,
     files: &mut N,

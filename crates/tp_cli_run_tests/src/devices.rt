@@ -54,7 +54,8 @@ impl Outcome {
     }
 }
 
-/// What comes of the commands to the plan in the files, with that much room in the output. The journal is kept in the log.
+/// What comes of the commands to the plan in the files, with that much room in the output. The
+/// journal is kept in the log.
 fn run(
     alloc: Global,
     shelf: &mut Shelf<'_>,
@@ -93,7 +94,8 @@ fn kept(logs: &OneLog<'_>, journal: Option<&str>) -> bool {
     }
 }
 
-/// Whether commands to the plan of a world come to that, and leave that journal, with so much room in the output and in the file.
+/// Whether commands to the plan of a world come to that, and leave that journal, with so much room
+/// in the output and in the file.
 pub fn logs(
     alloc: Global,
     world: World,
@@ -154,8 +156,8 @@ fn audits_bare(alloc: Global, log: &[u8], told: Told) -> bool {
     outcome.is(told)
 }
 
-/// Whether the journal that the commands to the plan of a world leave comes to that in an audit with the files of that world, and to the
-/// other without them.
+/// Whether the journal that the commands to the plan of a world leave comes to that in an audit
+/// with the files of that world, and to the other without them.
 pub fn audits_its_own(
     alloc: Global,
     world: World,

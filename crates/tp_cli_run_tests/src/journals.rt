@@ -17,7 +17,8 @@ const TOO_LONG: World = World {
 
 const NIGHT: &str = "dispatch 0\n\n  window   01 \nwindo 0\nadvance 4\ndispatch 1\n";
 
-/// A world, commands, the room of the output and of the journal file, what the file holds, and what is told.
+/// A world, commands, the room of the output and of the journal file, what the file holds, and what
+/// is told.
 type Row = (
     World,
     &'static str,

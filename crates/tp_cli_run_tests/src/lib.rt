@@ -1,6 +1,8 @@
-//! Tests of runs of plans whose journal is kept in a file, and of their audits: over files, a reader and writers in memory.
+//! Tests of runs of plans whose journal is kept in a file, and of their audits: over files, a
+//! reader and writers in memory.
 //!
-//! - `devices`: the files, the reader and the writers, and what a run and an audit over them come to
+//! - `devices`: the files, the reader and the writers, and what a run and an audit over them come
+//!   to
 //! - `journals`: journals of runs, worked by hand, and what ends them early
 //! - `audits`: audits of journals of runs
 #![tactic(auto)]

@@ -58,7 +58,8 @@ fn lines_among(alloc: Global, setting: &Setting, owners: &Owners) -> Result<Stri
     }
 }
 
-/// The lines of the intervals of a setting that is split among the agents that the file of a name tells.
+/// The lines of the intervals of a setting that is split among the agents that the file of a name
+/// tells.
 fn lines_of<N: Files>(
     alloc: Global,
     files: &mut N,
@@ -95,8 +96,8 @@ fn lines_of_net<N: Files>(
     }
 }
 
-/// The lines of the intervals of a valid plan's events, split among the agents that the file of a name tells. The file is opened
-/// only once the network is there.
+/// The lines of the intervals of a valid plan's events, split among the agents that the file of a
+/// name tells. The file is opened only once the network is there.
 pub(crate) fn lines_of_plan<N: Files>(
     alloc: Global,
     files: &mut N,

@@ -1,5 +1,5 @@
-//! The split of the network of the plan in a file among the agents in another: the intervals of the events that bounds join with
-//! events of other agents.
+//! The split of the network of the plan in a file among the agents in another: the intervals of the
+//! events that bounds join with events of other agents.
 //!
 //! - `interval_lines`: the lines of intervals
 //! - `plan_settings`: the setting of a plan's network

@@ -43,7 +43,8 @@ fn write_lines<N: Files, O: Sink>(
     }
 }
 
-/// Writes the lines of the intervals of a plan's events, or its first fault. Answers whether the plan is valid.
+/// Writes the lines of the intervals of a plan's events, or its first fault. Answers whether the
+/// plan is valid.
 fn tell<N: Files, O: Sink>(
     alloc: Global,
     files: &mut N,
@@ -123,13 +124,14 @@ fn split_named<N: Files, O: Sink>(
     }
 }
 
-/// Splits the network of the plan that the words name among the agents that the file of a name tells: whole numbers of one to
-/// four digits between blanks, the agent of each event. Writes the line `interval E LO HI` for each event that a bound joins with
-/// an event of another agent. Answers the exit status: 0 where they were written; 1 for a plan that is not valid, whose first
+/// Splits the network of the plan that the words name among the agents that the file of a name
+/// tells: whole numbers of one to four digits between blanks, the agent of each event. Writes the
+/// line `interval E LO HI` for each event that a bound joins with an event of another agent.
+/// Answers the exit status: 0 where they were written; 1 for a plan that is not valid, whose first
 /// fault was written; and for another writes one fault line.
 ///
-/// The cost is that of `check` and of the network, two additions to a network for each of its bounds, and three passes over the
-/// bounds between agents for each event.
+/// The cost is that of `check` and of the network, two additions to a network for each of its
+/// bounds, and three passes over the bounds between agents for each event.
 pub fn run_split<N: Files, O: Sink, F: Sink>(
     alloc: Global,
     files: &mut N,
@@ -149,8 +151,8 @@ pub fn run_split<N: Files, O: Sink, F: Sink>(
         (O.held output.old) (O.held output.new) (O.failures output.old) (O.failures output.new)
         (F.failures faults.old) (F.held faults.old) (F.failures faults.new) (F.held faults.new) }
 
-    // Nothing is written for input that is refused, and of the true text at most a first part where memory or a device is
-    // wanting; a write that failed is always told.
+    // Nothing is written for input that is refused, and of the true text at most a first part where
+    // memory or a device is wanting; a write that failed is always told.
     ensures kept { result ≡ REFUSED → O.held output.new ≡ O.held output.old }
     ensures part { result ≡ OUT_OF_ORDER → SplitsPart
         (N.held files.old) words.entry owners.now (O.held output.old) (O.held output.new) }

@@ -20,8 +20,8 @@ pub enum SplitStop {
     Setting,
     /// The file of the agents' numbers gave no text.
     OwnersFile(FileFault),
-    /// The word, counted from 0, is no number; or the event has no agent, or one whose number is over 1,023, or there is no such
-    /// event and a number for it.
+    /// The word, counted from 0, is no number; or the event has no agent, or one whose number is
+    /// over 1,023, or there is no such event and a number for it.
     Owner(u32),
     /// There is no memory for the split, or for its lines.
     Memory,

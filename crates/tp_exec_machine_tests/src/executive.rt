@@ -54,7 +54,8 @@ fn take_one_bound(answers: &[Answer]) -> bool {
         && matches!(&answers[2], Answer::Accepted)
 }
 
-/// Whether the next answers are those to a second bound, its withdrawal, and one past the identifiers.
+/// Whether the next answers are those to a second bound, its withdrawal, and one past the
+/// identifiers.
 fn take_a_second_bound(answers: &[Answer]) -> bool {
     answers.len() == 6
         && names(&answers[3], 1)
@@ -209,7 +210,8 @@ fn start_late(alloc: Global) -> Result<Executive<ScratchNet>, AllocError> {
     Ok(Executive::bare(alloc, Limits::greatest(10), net))
 }
 
-/// Whether it goes on to 4 with the second event at most five ticks after the first, which may have happened at 1.
+/// Whether it goes on to 4 with the second event at most five ticks after the first, which may have
+/// happened at 1.
 fn goes_on_before_the_report(executive: &mut Executive<ScratchNet>) -> bool {
     executive.net().events() == 2
         && executive.lag(0) == 3
@@ -220,7 +222,8 @@ fn goes_on_before_the_report(executive: &mut Executive<ScratchNet>) -> bool {
         && has_window(executive, 1, 4, 10)
 }
 
-/// Whether the first event is taken to have happened at 2, and at no moment that is too early or too late.
+/// Whether the first event is taken to have happened at 2, and at no moment that is too early or
+/// too late.
 fn takes_the_report(executive: &mut Executive<ScratchNet>) -> bool {
     matches!(executive.happened(2, 2), Err(Refusal::NoEvent))
         && matches!(executive.happened(0, 0), Err(Refusal::Back))

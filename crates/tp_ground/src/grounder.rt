@@ -118,9 +118,10 @@ fn within<'a>(
     task_with(alloc, &universe, domain, problem, &all, limits, scale)
 }
 
-/// The task of a problem of a domain: its actions written out over its objects, atoms and fluents numbered in the order in
-/// which `:init`, the goal and the ground actions mention them. Takes time and memory in what is written out: a step for each
-/// variable of each binding and for each part of what stands under it.
+/// The task of a problem of a domain: its actions written out over its objects, atoms and fluents
+/// numbered in the order in which `:init`, the goal and the ground actions mention them. Takes time
+/// and memory in what is written out: a step for each variable of each binding and for each part of
+/// what stands under it.
 pub fn ground(
     alloc: Global,
     domain: &Domain,

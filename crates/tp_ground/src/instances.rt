@@ -1,4 +1,5 @@
-//! Actions with the objects that their parameters stand for: all of them, some of them, and what is written out of them.
+//! Actions with the objects that their parameters stand for: all of them, some of them, and what is
+//! written out of them.
 
 ghost use Rattle.std.specs.Prelude.{◌≡◌, ◌++◌, ◌∷◌, Bool, map, filter, length, IfOk, OnOk};
 ghost use Rattle.tp_syntax_ast.specs.DomainViews.{action_view};

@@ -1,6 +1,7 @@
 //! What variables may stand for, and their bindings, one after another.
 //!
-//! - `objects`, `universe`, `noting`: the types and objects of a problem, and the objects that fit lists of types
+//! - `objects`, `universe`, `noting`: the types and objects of a problem, and the objects that fit
+//!   lists of types
 //! - `odometer`, `rows`: the bindings of variables
 //! - `environment`: what variables stand for under a binding
 #![tactic(auto)]

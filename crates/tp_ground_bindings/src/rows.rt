@@ -29,7 +29,8 @@ impl<'u, 'a> Rows<'u, 'a> {
         true
     }
 
-    /// How many bindings there are before the first, for the capacity of a list of them. Nothing is promised.
+    /// How many bindings there are before the first, for the capacity of a list of them. Nothing is
+    /// promised.
     pub fn count(&self) -> usize {
         if !self.is_fresh {
             return 0;

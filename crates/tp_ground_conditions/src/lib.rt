@@ -1,4 +1,5 @@
-//! The grounding of conditions and expressions: quantifiers expanded over the objects, atoms and fluents by number.
+//! The grounding of conditions and expressions: quantifiers expanded over the objects, atoms and
+//! fluents by number.
 //!
 //! - `numbers`: the numbers of atoms and fluents by their words
 //! - `expressions`, `conditions`: what is written out under a binding

@@ -99,10 +99,11 @@ fn begun_over<'a>(
     })
 }
 
-/// Begins the tasks of a problem: numbers what `:init` and the goal mention. Takes time and memory in what they write out.
+/// Begins the tasks of a problem: numbers what `:init` and the goal mention. Takes time and memory
+/// in what they write out.
 ///
-/// # Errors
-/// A number past 10^15, too many objects, or too many atoms or fluents for the limits; or out of memory.
+/// # Errors A number past 10^15, too many objects, or too many atoms or fluents for the limits; or
+/// out of memory.
 pub fn begin<'a>(
     alloc: Global,
     domain: &'a Domain,
@@ -198,10 +199,12 @@ fn task_within<'a>(
     task_of_some(alloc, domain, problem, begun, some, limits, scale)
 }
 
-/// The task of a problem of a domain with the ground actions that lists of names ask for, each by the name of an action and its objects.
-/// A list that is no type-correct binding asks for nothing. Actions stand in the order of all bindings; atoms and fluents are those that
-/// `:init`, the goal or one of these actions mention. Takes time and memory in the actions of the domain, in what is asked for with
-/// the objects of its parameters, and in what the chosen actions write out: no other binding is looked at, however many there are.
+/// The task of a problem of a domain with the ground actions that lists of names ask for, each by
+/// the name of an action and its objects. A list that is no type-correct binding asks for nothing.
+/// Actions stand in the order of all bindings; atoms and fluents are those that `:init`, the goal
+/// or one of these actions mention. Takes time and memory in the actions of the domain, in what is
+/// asked for with the objects of its parameters, and in what the chosen actions write out: no other
+/// binding is looked at, however many there are.
 ///
 /// # Errors
 /// Too many atoms, fluents or chosen actions for the limits; or out of memory.

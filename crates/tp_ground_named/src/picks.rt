@@ -87,8 +87,8 @@ fn push_behind<'a>(
     Ok(())
 }
 
-/// The rows of one name out of each list that are asked for, in order. Takes time in the rows that are asked for, with the names of
-/// the lists for each of them.
+/// The rows of one name out of each list that are asked for, in order. Takes time in the rows that
+/// are asked for, with the names of the lists for each of them.
 pub(crate) fn pick<'a>(
     alloc: Global,
     lists: &[CowSlice<'_, &'a str>],

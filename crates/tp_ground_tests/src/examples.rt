@@ -13,7 +13,8 @@ pub const ROADS: &str = "(define (domain roads)
   :precondition (forall (?p - place) (not (at ?p)))
   :effect (sealed)))";
 
-/// Pairs of a car and any object, where a van is a car; under the action's variables, and under those of a quantifier.
+/// Pairs of a car and any object, where a van is a car; under the action's variables, and under
+/// those of a quantifier.
 pub const PAIRS: &str = "(define (domain pairs)
  (:types van - car car place - object)
  (:constants v - van)

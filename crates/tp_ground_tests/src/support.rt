@@ -39,8 +39,9 @@ pub fn reached_within(
     Ok(ground_reached(alloc, domain, &problem, limits, Scale::One))
 }
 
-/// What a task tells: how many actions, atoms and fluents it has, some of its actions and atoms as text, which atoms are true
-/// at first and which values its fluents have then, actions found by their words, and words of its second action.
+/// What a task tells: how many actions, atoms and fluents it has, some of its actions and atoms as
+/// text, which atoms are true at first and which values its fluents have then, actions found by
+/// their words, and words of its second action.
 #[derive(Clone, Copy)]
 pub struct Told<'a> {
     pub counts: (usize, usize, usize),

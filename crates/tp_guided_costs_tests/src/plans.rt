@@ -8,7 +8,8 @@ use tp_guided_costs::Heuristic;
 use tp_guided_relaxed::{Relaxed, build};
 use tp_search_compiled::{Running, State, Task};
 
-// Of the actions, in their order: open, switch l1, switch l2, fill, drain, set, pay, burn l1, burn l2.
+// Of the actions, in their order: open, switch l1, switch l2, fill, drain, set, pay, burn l1, burn
+// l2.
 const SWITCH: u32 = 1;
 
 const BURN: u32 = 7;

@@ -1,4 +1,5 @@
-//! Worked examples of happenings, and plans as texts: what happens to states of small tasks, and what is read and written.
+//! Worked examples of happenings, and plans as texts: what happens to states of small tasks, and
+//! what is read and written.
 //!
 //! - `rows`: happenings written as rows of a table, and whether a task carries them out so
 //! - `happenings`, `counters`: rows of the small domains, and of one that counts

@@ -131,7 +131,8 @@ fn texts_that_are_refused(rt: HostRuntime) -> Result<(), Fail> {
     are_read(&rt, rt.alloc(), world, &REFUSED)
 }
 
-// Within a line its form is looked at first, then its action, then its brackets, then its ticks, and at last the horizon.
+// Within a line its form is looked at first, then its action, then its brackets, then its ticks,
+// and at last the horizon.
 const IN_ORDER: [Row<'static>; 7] = [
     ("0.0005: (dash) x", Err(PlanFault::Line(1))),
     ("0.0005: (dash)", Err(PlanFault::NoAction(1))),

@@ -66,7 +66,8 @@ fn are_read_again_in(
     Ok(())
 }
 
-/// The plan of each text of a table is written as the text beside it for the task of a world, and read again.
+/// The plan of each text of a table is written as the text beside it for the task of a world, and
+/// read again.
 fn are_read_again(
     rt: &impl Abort,
     alloc: Global,

@@ -12,7 +12,8 @@ use tp_happen::{ApplyFault, Event, EventRef, Outcome, Part, State, Why, apply, e
 use tp_task::{AtomId, FluentId, Task};
 use tp_testkit_tasks::{World, task_of};
 
-/// An event of an action by its name: its only one, or its start or end with these objects in a step of so many ticks.
+/// An event of an action by its name: its only one, or its start or end with these objects in a
+/// step of so many ticks.
 #[derive(Clone, Copy)]
 pub(crate) enum Named<'a> {
     Only(&'a str),
@@ -20,7 +21,8 @@ pub(crate) enum Named<'a> {
     End(&'a str, &'a [&'a str], u32),
 }
 
-/// What a happening comes to: the atoms that are true then, fluents and their values, the first fault, or a number past the limit.
+/// What a happening comes to: the atoms that are true then, fluents and their values, the first
+/// fault, or a number past the limit.
 #[derive(Clone, Copy)]
 pub(crate) enum Then<'a> {
     Atoms(&'a str),
@@ -29,7 +31,8 @@ pub(crate) enum Then<'a> {
     Range,
 }
 
-/// Happenings from the initial state on, each in the state after the one before it, and what the last of them comes to.
+/// Happenings from the initial state on, each in the state after the one before it, and what the
+/// last of them comes to.
 #[derive(Clone, Copy)]
 pub(crate) struct Row<'a>(pub(crate) &'a [&'a [Named<'a>]], pub(crate) Then<'a>);
 

@@ -17,7 +17,8 @@ use tp_testkit_failing::{Stop, StopSource};
 const SEVEN: &[u8] =
     b"journal 1\nnetwork 2 100\nbare\n> add o 0 10\n< bound 0\n> add 0 o -3\n< bound 1\n> window 0\n< window 3 10\n> window 1\n< window 0 100\n> add 0 o -11\n< refused conflict new b0\n> window 0\n< window 3 10\n> add o 1 7\n< bound 2\n";
 
-/// What the audit finds of a journal that comes in pieces of seven bytes, of which at most so many bytes are read.
+/// What the audit finds of a journal that comes in pieces of seven bytes, of which at most so many
+/// bytes are read.
 fn audit_over<I: Ledger>(
     alloc: Global,
     text: &[u8],
@@ -43,8 +44,9 @@ fn finds(alloc: Global, text: &[u8], most: u64, wanted: Result<u64, AuditFault>)
     }
 }
 
-/// What is to be found of the first so many bytes: as many pairs as lines behind the head are whole, if nothing else is there;
-/// else the format breaks at the line that is not whole, or where an answer is missing.
+/// What is to be found of the first so many bytes: as many pairs as lines behind the head are
+/// whole, if nothing else is there; else the format breaks at the line that is not whole, or where
+/// an answer is missing.
 fn found_of(count: usize) -> Result<u64, AuditFault> {
     let text = front(SEVEN, count);
     let lines = lines_in(text);
@@ -72,7 +74,8 @@ fn journals_that_are_cut(rt: HostRuntime) {
     }
 }
 
-/// Whether the line in which so many bytes end, or that comes behind them, is found too long where no more may be read.
+/// Whether the line in which so many bytes end, or that comes behind them, is found too long where
+/// no more may be read.
 fn is_past(alloc: Global, most: usize) -> bool {
     let line = broken_line(lines_in(front(SEVEN, most)));
     finds(alloc, SEVEN, most as u64, Err(AuditFault::Line(line)))

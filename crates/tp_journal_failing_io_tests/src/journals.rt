@@ -78,8 +78,8 @@ fn record(alloc: Global, most: u64, log: Device) -> Result<Left, ServeFault> {
     recorded::<Brand, Brand, Brand>(alloc, most, log, blanks)
 }
 
-/// How many answers stand for the first so many bytes of the journal, one for each pair that is whole; and how many commands
-/// were done, one more once the head is whole.
+/// How many answers stand for the first so many bytes of the journal, one for each pair that is
+/// whole; and how many commands were done, one more once the head is whole.
 fn pairs_in(log: &[u8]) -> (usize, usize) {
     let lines = lines_in(log);
     let pairs = lines.saturating_sub(3) / 2;
@@ -93,7 +93,8 @@ fn pairs_in(log: &[u8]) -> (usize, usize) {
     )
 }
 
-/// Whether a session left these answers and that log, for that reason, and its executive as behind so many commands.
+/// Whether a session left these answers and that log, for that reason, and its executive as behind
+/// so many commands.
 fn is_left(alloc: Global, left: &Left, fault: JournalFault, count: usize, done: usize) -> bool {
     let Ok(wanted) = run(alloc, whole(front_lines(COMMANDS, done.saturating_add(1)))) else {
         return false;
@@ -103,8 +104,9 @@ fn is_left(alloc: Global, left: &Left, fault: JournalFault, count: usize, done: 
         && left.seen == wanted.seen
 }
 
-/// Whether a log that fails at the call for that byte, and takes more behind it, holds the bytes before it and no others. The
-/// answer of the pair that is not whole did not go out, and the executive is as behind its command.
+/// Whether a log that fails at the call for that byte, and takes more behind it, holds the bytes
+/// before it and no others. The answer of the pair that is not whole did not go out, and the
+/// executive is as behind its command.
 fn tears_at(alloc: Global, call: usize) -> bool {
     let log = Device {
         pace: 1,
@@ -126,7 +128,8 @@ fn logs_that_fail(rt: HostRuntime) {
     }
 }
 
-/// Whether the pairs of the lines that are whole in so many bytes, which are all that may be read, are kept and answered.
+/// Whether the pairs of the lines that are whole in so many bytes, which are all that may be read,
+/// are kept and answered.
 fn keeps_at_most(alloc: Global, most: usize) -> bool {
     let Ok(left) = record(alloc, most as u64, SOUND) else {
         return lines_in(front(COMMANDS, most)) == 0;

@@ -1,4 +1,5 @@
-//! Tests of what stops a session, a journal and an audit, over devices that stop at each byte and at each call.
+//! Tests of what stops a session, a journal and an audit, over devices that stop at each byte and
+//! at each call.
 //!
 //! - `devices`: where the devices themselves stop
 //! - `sessions`: the session that is stopped, and what is left behind it

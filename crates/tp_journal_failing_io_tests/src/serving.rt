@@ -53,8 +53,8 @@ fn readers_that_fail(rt: HostRuntime) {
     }
 }
 
-/// Whether a writer that fails at that call has taken a first part of the answers, and the executive is as behind the command whose
-/// answer it did not take whole.
+/// Whether a writer that fails at that call has taken a first part of the answers, and the
+/// executive is as behind the command whose answer it did not take whole.
 fn jams_at(alloc: Global, pace: usize, call: usize) -> bool {
     let writer = Device {
         pace,
@@ -98,7 +98,8 @@ fn writers_that_fail(rt: HostRuntime) {
 const WINDOWS: &[u8] =
     b"network 1 5\nwindow 0\nwindow 0\nwindow 0\nwindow 0\nwindow 0\nwindow 0\nwindow 0\nwindow 0\nwindow 0\n";
 
-/// Whether at most so many bytes of them are read, and the lines that are whole in these are answered.
+/// Whether at most so many bytes of them are read, and the lines that are whole in these are
+/// answered.
 fn reads_at_most(alloc: Global, most: usize) -> bool {
     let session = Session {
         most: most as u64,
@@ -119,7 +120,8 @@ fn texts_that_do_not_end(rt: HostRuntime) {
     }
 }
 
-/// 25 bytes of them have no fault, the last line being no command; of more than 25 the whole line alone is answered.
+/// 25 bytes of them have no fault, the last line being no command; of more than 25 the whole line
+/// alone is answered.
 #[test]
 fn at_most_25_bytes(rt: HostRuntime) {
     let alloc = rt.alloc();

@@ -13,7 +13,8 @@ use tp_script::{Lines, ServeFault, Served, read_head, serve};
 use tp_testkit_failing::{Stop, StopSink, StopSource};
 use tp_testkit_nets::window;
 
-/// What an executive is seen as: now, how many bounds are in force, the next identifier, and the windows of the first two events.
+/// What an executive is seen as: now, how many bounds are in force, the next identifier, and the
+/// windows of the first two events.
 #[derive(Clone, Copy, Debug, PartialEq, Eq)]
 pub(crate) struct Seen {
     now: u32,
@@ -169,7 +170,8 @@ pub(crate) fn front_lines(text: &[u8], count: usize) -> &[u8] {
     front(text, end)
 }
 
-/// Whether a session was stopped so, and left just what the whole lines of some text leave: answers and executive.
+/// Whether a session was stopped so, and left just what the whole lines of some text leave: answers
+/// and executive.
 pub(crate) fn is_left_of(
     alloc: Global,
     found: &Result<Left, ServeFault>,

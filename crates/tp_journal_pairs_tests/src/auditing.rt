@@ -82,8 +82,8 @@ fn cut(alloc: Global, length: usize, wanted: Found) -> bool {
     audited(alloc, SEVEN.get(..length).unwrap_or(b""), 2, 100, 0) == wanted
 }
 
-/// A journal that is cut: behind a pair it is one of fewer pairs; behind a question, within a line or before a line's end it
-/// breaks the format there.
+/// A journal that is cut: behind a pair it is one of fewer pairs; behind a question, within a line
+/// or before a line's end it breaks the format there.
 #[test]
 fn journals_that_are_cut(rt: HostRuntime) {
     let alloc = rt.alloc();
@@ -112,8 +112,8 @@ fn paired(alloc: Global, pairs: &[u8], wanted: Found) -> bool {
     audited(alloc, text.as_slice(), 1, 5, 0) == wanted
 }
 
-/// Answers that the machine does not give are wrong, other reasons that qualify are right, and what no answer is spelled
-/// like breaks the format.
+/// Answers that the machine does not give are wrong, other reasons that qualify are right, and what
+/// no answer is spelled like breaks the format.
 #[test]
 fn answers_right_and_wrong(rt: HostRuntime) {
     let tables: [(&'static [u8], Found); 13] = [
@@ -240,7 +240,8 @@ fn head_fault(alloc: Global, text: &[u8]) -> Option<AuditFault> {
     }
 }
 
-/// Whether the head of a network of one event and 5 ticks ends before these bytes, or has that fault.
+/// Whether the head of a network of one event and 5 ticks ends before these bytes, or has that
+/// fault.
 fn behind_head(alloc: Global, rest: &[u8], wanted: Option<AuditFault>) -> bool {
     let mut text = Vec::new(alloc);
     if text
@@ -258,7 +259,8 @@ fn behind_head(alloc: Global, rest: &[u8], wanted: Option<AuditFault>) -> bool {
     }
 }
 
-/// A line that begins as one of a pair does ends a head, whatever else it holds; one that begins otherwise is one of the head.
+/// A line that begins as one of a pair does ends a head, whatever else it holds; one that begins
+/// otherwise is one of the head.
 #[test]
 fn what_stands_behind_a_head(rt: HostRuntime) {
     let broken = Some(AuditFault::Line(4));
@@ -304,7 +306,8 @@ fn cut_head(alloc: Global, text: &[u8], most: u64, wanted: Option<AuditFault>) -
     }
 }
 
-/// Where no more bytes may be taken, the first byte of a line behind a head of 27 bytes tells it all the same, if it was taken.
+/// Where no more bytes may be taken, the first byte of a line behind a head of 27 bytes tells it
+/// all the same, if it was taken.
 #[test]
 fn what_is_not_taken_whole_behind_a_head(rt: HostRuntime) {
     let broken = Some(AuditFault::Line(4));

@@ -49,7 +49,8 @@ fn judged(
     true
 }
 
-/// Any reason that qualifies is right, in its one spelling; other chains are not, nor is another refusal.
+/// Any reason that qualifies is right, in its one spelling; other chains are not, nor is another
+/// refusal.
 #[test]
 fn reasons_that_qualify_and_others(rt: HostRuntime) {
     let pairs: [(&'static [u8], &'static [u8], bool); 12] = [
@@ -69,7 +70,8 @@ fn reasons_that_qualify_and_others(rt: HostRuntime) {
     assert!(rt; judged(rt.alloc(), 1, 5, &pairs));
 }
 
-/// That memory ran out is right after a command that may want some and is refused for nothing else; it changes nothing.
+/// That memory ran out is right after a command that may want some and is refused for nothing else;
+/// it changes nothing.
 #[test]
 fn memory_that_ran_out(rt: HostRuntime) {
     let pairs: [(&'static [u8], &'static [u8], bool); 8] = [

@@ -86,8 +86,8 @@ fn bounds_with_the_origin_and_a_refused_one(rt: HostRuntime) {
     assert!(rt; recorded(rt.alloc(), input, text, log, Ok(7)));
 }
 
-/// A journal has one spelling, whatever the spelling of the commands: no blanks, no leading zeros. Lines without words have
-/// no pair, and a line that is no command has one.
+/// A journal has one spelling, whatever the spelling of the commands: no blanks, no leading zeros.
+/// Lines without words have no pair, and a line that is no command has one.
 #[test]
 fn lines_of_many_spellings(rt: HostRuntime) {
     let input = b"network 1 5\n\n  window\t 00 \r\n\t\nwindo 0\nreport";
@@ -108,7 +108,8 @@ fn events_that_are_reported_late(rt: HostRuntime) {
     assert!(rt; recorded(rt.alloc(), input, text, log, Ok(4)));
 }
 
-/// Whether a session stops with that fault, and leaves these answers and that log, which have no more room.
+/// Whether a session stops with that fault, and leaves these answers and that log, which have no
+/// more room.
 fn stops(
     alloc: Global,
     input: &[u8],
@@ -128,7 +129,8 @@ fn stops(
     served == Ok(Err(wanted))
 }
 
-/// A log that has room for the head and half of the second pair: the first answer went out, and the second did not.
+/// A log that has room for the head and half of the second pair: the first answer went out, and the
+/// second did not.
 #[test]
 fn a_log_that_fails(rt: HostRuntime) {
     let input = b"network 1 5\nwindow 0\nwindow 0\n";

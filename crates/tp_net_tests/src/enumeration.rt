@@ -1,11 +1,13 @@
-//! Small networks are compared with a plain enumeration of all assignments of moments to their events.
+//! Small networks are compared with a plain enumeration of all assignments of moments to their
+//! events.
 ghost use Rattle.std.specs.Prelude.{ℕ, ◌<◌};
 
 use tp_bounds::{Bound, BoundId, Edge, Point};
 use tp_net::{BoxNet, Net, ScratchNet};
 use tp_testkit_nets::{Answer, Change, ask, window};
 
-/// A network as the tests keep it: at most three events, a horizon of at most 6, identifiers below 4.
+/// A network as the tests keep it: at most three events, a horizon of at most 6, identifiers below
+/// 4.
 #[derive(Clone, Copy, Debug)]
 struct Sketch {
     events: u16,
@@ -73,7 +75,8 @@ impl Sketch {
         self.is_timely(t)
     }
 
-    /// The least and the greatest moment of each event over all assignments that are allowed, if there is one.
+    /// The least and the greatest moment of each event over all assignments that are allowed, if
+    /// there is one.
     fn windows(&self) -> Option<[(u32, u32); 3]> {
         let mut found = false;
         let mut low = [6u32; 3];
@@ -138,7 +141,8 @@ impl Sketch {
         Some(next)
     }
 
-    /// Whether a network tells all this: its bounds, its lags, its dispatched moments and its windows.
+    /// Whether a network tells all this: its bounds, its lags, its dispatched moments and its
+    /// windows.
     fn is_told_by<N: Net>(&self, net: &N) -> bool {
         let Some(windows) = self.windows() else {
             return false;
@@ -161,7 +165,8 @@ impl Sketch {
         net.events() == self.events && net.now() == self.now && net.horizon() == self.horizon
     }
 
-    /// Whether this is the answer to a change, of a network that takes bounds between events or doesn't.
+    /// Whether this is the answer to a change, of a network that takes bounds between events or
+    /// doesn't.
     fn expects(&self, change: Change, between: bool, answer: Answer) -> bool {
         let Some(would) = self.after(change) else {
             return answer == Answer::Unasked;

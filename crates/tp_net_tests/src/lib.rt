@@ -1,5 +1,5 @@
-//! Tests of `tp_net`, apart from it so that the gate proves it once. `examples`: networks by hand; `enumeration`: small networks
-//! against all assignments.
+//! Tests of `tp_net`, apart from it so that the gate proves it once. `examples`: networks by hand;
+//! `enumeration`: small networks against all assignments.
 #![tactic(auto)]
 
 #[cfg(test)]

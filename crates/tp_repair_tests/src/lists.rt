@@ -1,4 +1,5 @@
-//! The same changes on the network that is repaired and on the plain one: the same are made, and the windows are the same.
+//! The same changes on the network that is repaired and on the plain one: the same are made, and
+//! the windows are the same.
 use std::alloc::{AllocError, Global};
 use std::test::Fail;
 use tp_bounds::{Bound, Point};

@@ -1,6 +1,6 @@
-//! The same commands on executives over the network that is repaired and over the plain one. The same are carried out, the
-//! windows are the same, and each conflict has a reason in the setting that was asked for. That setting is a copy of the
-//! other executive's, with the change.
+//! The same commands on executives over the network that is repaired and over the plain one. The
+//! same are carried out, the windows are the same, and each conflict has a reason in the setting
+//! that was asked for. That setting is a copy of the other executive's, with the change.
 ghost use Rattle.std.specs.Prelude.{◌≡◌, true};
 ghost use Rattle.tp_net.specs.NewNet.{new_setting};
 
@@ -20,8 +20,8 @@ const COMMANDS: u64 = 100;
 /// How many conflicts the lists have at least, so that there is something to look at.
 const CONFLICTS: u64 = 10_000;
 
-/// What an executive answers, but for the report and for which refusal it is that is no conflict. Of a reason the first
-/// edge is kept.
+/// What an executive answers, but for the report and for which refusal it is that is no conflict.
+/// Of a reason the first edge is kept.
 #[derive(Clone, Copy, Debug, PartialEq, Eq)]
 enum Outcome {
     Accepted,
@@ -82,7 +82,8 @@ fn plain(alloc: Global) -> Result<Executive<ScratchNet>, AllocError> {
     Ok(start(alloc, net))
 }
 
-/// What an executive answers. Where a growth is refused nothing has changed, and it is asked once more.
+/// What an executive answers. Where a growth is refused nothing has changed, and it is asked once
+/// more.
 fn answer<N: Net>(executive: &mut Executive<N>, command: Command) -> Answer {
     match perform(executive, command) {
         Answer::Refused(Refusal::Memory) => perform(executive, command),
@@ -139,7 +140,8 @@ fn ask_for<N: Net>(net: &N, setting: &mut Setting, command: Command) -> bool
     }
 }
 
-/// Whether the reason of an answer, if it has one, is a reason in the setting that the command asked for.
+/// Whether the reason of an answer, if it has one, is a reason in the setting that the command
+/// asked for.
 fn is_founded<N: Net>(
     executive: &Executive<N>,
     command: Command,

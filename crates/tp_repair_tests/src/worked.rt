@@ -1,5 +1,5 @@
-//! Worked examples, line by line: what a network is asked, and what it answers. The limits of a run are no matter of a
-//! network, so that a bound that is one too many is in none of them.
+//! Worked examples, line by line: what a network is asked, and what it answers. The limits of a run
+//! are no matter of a network, so that a bound that is one too many is in none of them.
 ghost use Rattle.std.specs.Prelude.{◌≤◌};
 
 use std::alloc::{AllocError, Global};

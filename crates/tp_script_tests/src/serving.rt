@@ -131,7 +131,8 @@ fn answers(
         && rest.iter().all(|b| *b == 0)
 }
 
-/// Events that are reported late: between which moments they may have happened, at which they did, and why not at others.
+/// Events that are reported late: between which moments they may have happened, at which they did,
+/// and why not at others.
 #[test]
 fn sessions_with_events_that_are_reported_late(rt: HostRuntime) {
     let sessions: [(&'static [u8], &[u8], u64); 3] = [

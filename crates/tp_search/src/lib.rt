@@ -1,10 +1,12 @@
-//! Search for plans, by rising number of goal conjuncts that are missing, up to a budget of expanded nodes.
+//! Search for plans, by rising number of goal conjuncts that are missing, up to a budget of
+//! expanded nodes.
 //!
 //! - `seeking`: nodes taken from a frontier and expanded, `search`
 //! - `certify`: what is found is judged by the validator
 //! - `laws`: what is known of plans, whatever the search does
 //!
-//! Where no node is left, plans of instantaneous steps at tick 0 are looked at (`tp_search_instant`).
+//! Where no node is left, plans of instantaneous steps at tick 0 are looked at
+//! (`tp_search_instant`).
 #![tactic(auto)]
 
 mod certify;

@@ -93,11 +93,12 @@ fn seek_in<'t>(
     seek(alloc, task, &mut frontier, budget, horizon)
 }
 
-/// Searches for a plan that ends by a horizon, with at most so many expansions. Nodes are taken by the least number of
-/// goal conjuncts that they lack, and then in the order in which they were made. It takes the time of the children
-/// looked at, the memory of those that the budget could reach when they were made and of what can start at the waits of
-/// which a child starts something, and what the relaxed reach takes; where no node is left, also a look at all sets of
-/// actions that can happen at once at tick 0, at most as many as the budget.
+/// Searches for a plan that ends by a horizon, with at most so many expansions. Nodes are taken by
+/// the least number of goal conjuncts that they lack, and then in the order in which they were
+/// made. It takes the time of the children looked at, the memory of those that the budget could
+/// reach when they were made and of what can start at the waits of which a child starts something,
+/// and what the relaxed reach takes; where no node is left, also a look at all sets of actions that
+/// can happen at once at tick 0, at most as many as the budget.
 #[tactic(auto, using(crate::proofs::Unreachable::unreachable))]
 pub fn search<'t>(
     alloc: Global,

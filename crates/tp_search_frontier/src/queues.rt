@@ -69,7 +69,8 @@ impl Queue {
     }
 }
 
-/// A queue for each number of conjuncts, seen as the nodes that wait in each. Those below the lowest are empty.
+/// A queue for each number of conjuncts, seen as the nodes that wait in each. Those below the
+/// lowest are empty.
 #[derive(Drop)]
 pub struct Queues {
     queues: Vec<Queue>,
@@ -131,7 +132,8 @@ impl Queues {
         Ok(())
     }
 
-    /// The node that lacks the fewest conjuncts, of these the one made first, and how many it lacks.
+    /// The node that lacks the fewest conjuncts, of these the one made first, and how many it
+    /// lacks.
     #[tactic(auto, using(crate::proofs::Waiting::all_empty))]
     pub fn take(&mut self) -> Option<(u32, usize)>
         ensures { MatchOption result (AreEmpty self.old × (self.new ≡ self.old))

@@ -1,4 +1,5 @@
-//! The same answers of a task with all its actions, and with those alone that the relaxed reach keeps.
+//! The same answers of a task with all its actions, and with those alone that the relaxed reach
+//! keeps.
 
 ghost use Rattle.std.specs.Prelude.{◌≤◌};
 
@@ -73,7 +74,8 @@ fn a_switch_that_is_needed(rt: HostRuntime) -> Result<(), Fail> {
     both_are_searched(&rt, rt.alloc(), SWITCHES, (4, 4))
 }
 
-// What needs a switch can't be reached before one is given, and no action gives it to what needs it.
+// What needs a switch can't be reached before one is given, and no action gives it to what needs
+// it.
 #[test]
 fn a_switch_that_is_not_there(rt: HostRuntime) -> Result<(), Fail> {
     let world = World {

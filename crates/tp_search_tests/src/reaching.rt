@@ -48,7 +48,8 @@ fn is_reached_in(
     is_reached(rt, alloc, &task, want)
 }
 
-// The match is unused, then there is light, and the fuse is mended. That the goal fails counts as met as well.
+// The match is unused, then there is light, and the fuse is mended. That the goal fails counts as
+// met as well.
 #[test]
 fn a_fuse_that_can_be_mended_is_in_reach(rt: HostRuntime) -> Result<(), Fail> {
     is_reached_in(&rt, rt.alloc(), FUSES, (3, true, true))

@@ -1,4 +1,5 @@
-//! A plan of a task, or why there is none: the guided search first, then the search by the count of unmet goal conjuncts.
+//! A plan of a task, or why there is none: the guided search first, then the search by the count of
+//! unmet goal conjuncts.
 
 ghost use Rattle.std.specs.Prelude.{◌≡◌, true, false, IfOk, IfSome};
 ghost use Rattle.tp_task_reachability.specs.TaskReach.{GoalIs};
@@ -16,15 +17,16 @@ use tp_search_instant::judge;
 use tp_task::Task;
 use tp_task_reachability::goal_in_reach;
 
-/// What is wished for beside a plan: better ones, until the budget is spent; and that the makespan of each is told as it is found.
+/// What is wished for beside a plan: better ones, until the budget is spent; and that the makespan
+/// of each is told as it is found.
 #[derive(Clone, Copy, Debug, PartialEq, Eq)]
 pub struct Wishes {
     pub improve: bool,
     pub progress: bool,
 }
 
-/// The search by the count of unmet goal conjuncts, with what is left of a budget, as far as the task's limits let it go. Where that is
-/// spent, the whole budget is.
+/// The search by the count of unmet goal conjuncts, with what is left of a budget, as far as the
+/// task's limits let it go. Where that is spent, the whole budget is.
 fn searched<'t>(aim: Aim<'t>, budget: u32, spent: u32) -> Result<Found<'t>, SearchFault>
     ensures { IfOk result (IsAnswer aim.entry.task.now budget aim.entry.horizon) }
 {
@@ -39,8 +41,8 @@ fn searched<'t>(aim: Aim<'t>, budget: u32, spent: u32) -> Result<Found<'t>, Sear
     }
 }
 
-/// The plan that the guided search proposes within three quarters of a budget, and with it, where that is wished for, the best that it
-/// proposes within all of it.
+/// The plan that the guided search proposes within three quarters of a budget, and with it, where
+/// that is wished for, the best that it proposes within all of it.
 fn guided_plan<'t, B: Write>(
     aim: Aim<'t>,
     budget: u32,
@@ -108,8 +110,9 @@ fn solve_in<'t, B: Write>(
     }
 }
 
-/// The same as `solve`, with what is wished for beside: that better plans are sought until the budget is spent, so that the best one is
-/// the answer, and that the makespan of each plan of the guided search goes to `board` as it is found.
+/// The same as `solve`, with what is wished for beside: that better plans are sought until the
+/// budget is spent, so that the best one is the answer, and that the makespan of each plan of the
+/// guided search goes to `board` as it is found.
 pub fn solve_with<'t, B: Write>(
     alloc: Global,
     task: &'t Task,
@@ -134,9 +137,10 @@ pub fn solve_with<'t, B: Write>(
     }
 }
 
-/// A plan of a task that ends by a horizon, at its least schedule, or why there is none. The guided search has three quarters of the
-/// budget; where it proposes no valid plan, the search by the count of unmet goal conjuncts answers with what is left, up to as many
-/// expansions as the task's limits allow.
+/// A plan of a task that ends by a horizon, at its least schedule, or why there is none. The guided
+/// search has three quarters of the budget; where it proposes no valid plan, the search by the
+/// count of unmet goal conjuncts answers with what is left, up to as many expansions as the task's
+/// limits allow.
 pub fn solve<'t>(
     alloc: Global,
     task: &'t Task,

@@ -81,7 +81,8 @@ fn why_there_is_no_plan(rt: HostRuntime) -> Result<(), Fail> {
     Ok(())
 }
 
-/// What is wished for: the makespan of the plan is told, and the search goes on until the budget is spent.
+/// What is wished for: the makespan of the plan is told, and the search goes on until the budget is
+/// spent.
 #[test]
 fn a_plan_is_told_as_it_is_found(rt: HostRuntime) -> Result<(), Fail> {
     let task = task_of(rt.alloc(), FUSES)?;

@@ -3,8 +3,10 @@
 //! - `words`: the words that forms begin with
 //! - `marks`: items that are as the ones before them
 //! - `term`, `types`, `symbols`: terms and atoms; types; what a domain declares
-//! - `typed_list`, `type_list`: items with their types, and types, with what those share that were given together
-//! - `expr`, `cond`, `joined`, `effect`, `timed`, `constraint`: expressions, conditions, effects and duration constraints
+//! - `typed_list`, `type_list`: items with their types, and types, with what those share that were
+//!   given together
+//! - `expr`, `cond`, `joined`, `effect`, `timed`, `constraint`: expressions, conditions, effects
+//!   and duration constraints
 //! - `action`, `domain`, `problem`: what they are parts of
 //! - `fault`: why a text is none
 #![tactic(auto)]

@@ -1,5 +1,5 @@
-//! The spellings of what stands in a domain: names, terms, expressions, conditions, effects, duration constraints.
-//! Nothing here takes memory.
+//! The spellings of what stands in a domain: names, terms, expressions, conditions, effects,
+//! duration constraints. Nothing here takes memory.
 
 ghost use Rattle.std.specs.Prelude.{◌≡◌, [], ◌∷◌, ◌++◌, map, string_bytes};
 ghost use Rattle.std.specs.Fmt.{signed_decimal};

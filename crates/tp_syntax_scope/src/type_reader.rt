@@ -66,7 +66,8 @@ fn type_below(item: &Typed, parent: &Rc<String>) -> Result<TypeName, AllocError>
     Ok(TypeName { name, parent })
 }
 
-// The types that these items declare. Those that are marked share the parent of the one before them.
+// The types that these items declare. Those that are marked share the parent of the one before
+// them.
 fn types_below(alloc: Global, items: &[Typed], rows: &[bool]) -> Result<Vec<TypeName>, AllocError>
     requires { AreParentRows rows.now (map type_below (map typed_view items.now)) }
     ensures { IfOk result
@@ -258,7 +259,8 @@ fn types_from(
     Ok(TypeList { types, marks })
 }
 
-/// The types of the section at `at`, all but `object`. What types that were given one parent together share is looked at once.
+/// The types of the section at `at`, all but `object`. What types that were given one parent
+/// together share is looked at once.
 #[tactic(auto, unfolding(tp_syntax_ast::specs::Domains::types_in))]
 pub fn types_in(alloc: Global, trees: &[Tree], at: u32) -> Result<TypeList, SyntaxFault>
     ensures { Gives (λ v. map parent_view v.items) result (types_in (shapes trees.now)) }

@@ -177,7 +177,8 @@ fn give(
     Ok(())
 }
 
-// Gives names behind which no type stands the type of all objects. Where there are none, as in most lists, nothing is made.
+// Gives names behind which no type stands the type of all objects. Where there are none, as in most
+// lists, nothing is made.
 fn give_object(
     alloc: Global,
     done: &mut Vec<Typed>,
@@ -314,8 +315,8 @@ fn undeclared(types: &Types, item: Option<&Typed>, tree: &Tree) -> Option<u32> {
     None
 }
 
-// What is wrong with items of which one has a type that is not declared. The types of a run are those
-// of its last item.
+// What is wrong with items of which one has a type that is not declared. The types of a run are
+// those of its last item.
 fn undeclared_type(types: &Types, items: &[Typed], trees: &[Tree], at: u32) -> SyntaxFault {
     let mut last = None;
     let mut left = items.iter();

@@ -132,7 +132,8 @@ fn long_lists_of_types_fit(rt: HostRuntime) -> Result<(), Fail> {
     Ok(())
 }
 
-// What an action of two variables of a long list of types makes of atoms whose parameters have such lists.
+// What an action of two variables of a long list of types makes of atoms whose parameters have such
+// lists.
 fn asked_fault(alloc: Global, action: &str) -> Result<(Option<SyntaxFault>, u32), Fail> {
     let mut text = String::from_str(
         alloc,

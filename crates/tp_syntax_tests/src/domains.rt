@@ -212,7 +212,8 @@ fn ten_parameters(alloc: Global, effect: &str) -> Result<String, AllocError> {
     Ok(text)
 }
 
-/// Why an effect of an action of ten parameters is refused, if it is, and where the effect is marked.
+/// Why an effect of an action of ten parameters is refused, if it is, and where the effect is
+/// marked.
 pub fn effect_fault(alloc: Global, effect: &str) -> Result<(Option<SyntaxFault>, u32), Fail> {
     let text = ten_parameters(alloc, effect)?;
     fault_of(alloc, text.as_str())

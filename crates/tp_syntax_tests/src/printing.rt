@@ -231,7 +231,8 @@ fn a_failure_of_the_writer_is_answered(rt: HostRuntime) -> Result<(), Fail> {
     Ok(())
 }
 
-/// Whether a room of so many bytes makes printing fail, and is left with the first bytes of the text.
+/// Whether a room of so many bytes makes printing fail, and is left with the first bytes of the
+/// text.
 fn is_cut_off(alloc: Global, domain: &Domain, text: &[u8], length: usize) -> Result<bool, Fail> {
     let mut room = vec![in alloc; 0u8; length]?;
     let printed = print_to::<Brand, _>(domain, room.as_mut_slice(), Blank::new(1));

@@ -45,7 +45,8 @@ pub fn fault_of(alloc: Global, marked: &str) -> Result<(Option<SyntaxFault>, u32
     Ok((refusal(alloc, text), place))
 }
 
-/// The number of the first of these texts that is not refused for its fault as a problem of the domain.
+/// The number of the first of these texts that is not refused for its fault as a problem of the
+/// domain.
 pub fn first_other(alloc: Global, domain: &Domain, rows: &[(&str, SyntaxFault)]) -> Option<usize> {
     for (number, (text, fault)) in rows.iter().enumerate() {
         if read_problem(alloc, *text, domain).err() != Some(*fault) {

@@ -67,7 +67,8 @@ fn texts(alloc: Global, names: &[&str]) -> Result<Vec<String>, AllocError> {
     Ok(texts)
 }
 
-// Whether lists too long for pairs fit where each type is below one of the other list, and not where one is not.
+// Whether lists too long for pairs fit where each type is below one of the other list, and not
+// where one is not.
 fn long_lists(alloc: Global, types: &Types) -> Result<bool, AllocError> {
     let below = texts(alloc, &["h", "g", "f", "e", "d"])?;
     let above = texts(alloc, &["other", "another", "c", "d"])?;

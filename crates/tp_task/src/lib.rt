@@ -1,7 +1,9 @@
 //! Ground tasks of the planner, and what plans of them are.
 //!
-//! - `events`, `task`: conditions, expressions, effects, events and tasks as data; `laws`: what holds of their plans
-//! - `truth`: whether parts of a condition hold, where they have a truth; whether effects mention the duration
+//! - `events`, `task`: conditions, expressions, effects, events and tasks as data; `laws`: what
+//!   holds of their plans
+//! - `truth`: whether parts of a condition hold, where they have a truth; whether effects mention
+//!   the duration
 //! - `labels`, `lookup`, `numbering`: names, atoms, fluents and actions by number
 //! - `fault`: why a problem has no task
 #![tactic(auto)]

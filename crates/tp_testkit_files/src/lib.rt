@@ -66,7 +66,8 @@ impl<'a> Files for Shelf<'a> {
     }
 }
 
-/// A text with room for so many bytes. It fails at the piece that does not fit, and then takes no more. It does not tell its bytes.
+/// A text with room for so many bytes. It fails at the piece that does not fit, and then takes no
+/// more. It does not tell its bytes.
 #[derive(Drop)]
 pub struct Note {
     text: Vec<u8>,

@@ -1,4 +1,5 @@
-//! Changes that tests ask of a network, each only where the network's conditions allow it, and what it answers.
+//! Changes that tests ask of a network, each only where the network's conditions allow it, and what
+//! it answers.
 #![tactic(auto)]
 
 ghost use Rattle.std.specs.Prelude.{◌↔◌, ◌<◌, IsSome, IfSome, IsTrue};
@@ -8,8 +9,8 @@ ghost use Rattle.tp_bounds.specs.Setting.{HasPoint, IsInRange, event_count};
 use tp_bounds::{Bound, BoundId, Edge, Point};
 use tp_net::{Net, NetFault};
 
-/// A change of a network: a bound under an identifier, no bound there, a later moment, an event at a moment, or how late one may be
-/// reported.
+/// A change of a network: a bound under an identifier, no bound there, a later moment, an event at
+/// a moment, or how late one may be reported.
 #[derive(Clone, Copy, Debug)]
 pub enum Change {
     Add(u32, Bound),
@@ -19,7 +20,8 @@ pub enum Change {
     Lag(u16, u32),
 }
 
-/// What a network answers. Of the reason of a conflict the first edge is kept, and how many there are.
+/// What a network answers. Of the reason of a conflict the first edge is kept, and how many there
+/// are.
 #[derive(Clone, Copy, Debug, PartialEq, Eq)]
 pub enum Answer {
     Unasked,
@@ -149,8 +151,8 @@ fn is_memory(outcome: &Option<Result<(), NetFault>>) -> bool {
     matches!(outcome, Some(Err(NetFault::Memory)))
 }
 
-/// Asks for a change, where the network's conditions allow it. Where a growth is refused and the network is as before, it
-/// is asked for once more.
+/// Asks for a change, where the network's conditions allow it. Where a growth is refused and the
+/// network is as before, it is asked for once more.
 pub fn outcome<N: Net>(net: &mut N, change: Change) -> Option<Result<(), NetFault>> {
     let before = read(net);
     let outcome = ask_once(net, change);

@@ -2,7 +2,8 @@
 //!
 //! - `judging`: whether a task's plans have the first faults of a table
 //! - `matches`: conditions, invariants, interference, durations and goals of matches and switches
-//! - `numbers`: tanks, batteries and a counter: durations, missing values, clashes and numbers out of range
+//! - `numbers`: tanks, batteries and a counter: durations, missing values, clashes and numbers out
+//!   of range
 //! - `worlds`: a plan of a small world, and its network
 //! - `networks`: which bounds the plans of the small worlds have
 //! - `schedules`: each schedule of a network in a box of moments, made a plan and judged

@@ -12,7 +12,8 @@ use tp_task::Task;
 use tp_testkit_tasks::{FUSES, LINES, SWITCHES, World};
 use tp_validate::{Verdict, validate};
 
-/// A world, a plan of it, the most events, bounds and ticks, and what keeps the plan from having a network, if anything does.
+/// A world, a plan of it, the most events, bounds and ticks, and what keeps the plan from having a
+/// network, if anything does.
 type Row<'a> = (World<'a>, &'a str, (u16, u32, u32), Option<DeorderFault>);
 
 /// Limits of so many events, bounds and ticks.
@@ -55,7 +56,8 @@ fn are_rows(rt: &impl Abort, alloc: Global, rows: &[Row<'_>]) -> Result<(), Fail
     Ok(())
 }
 
-// Four events, the last at 8; two bounds for each step, one for the match's own two events, two about the light.
+// Four events, the last at 8; two bounds for each step, one for the match's own two events, two
+// about the light.
 const LIGHT: &str = "0: (light-match m1) [8]\n0: (mend-fuse f1) [5]";
 
 // All three interfere: the order of the first and the last follows from two others.

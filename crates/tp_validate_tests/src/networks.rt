@@ -45,7 +45,8 @@ const ROWS: [Row<'static>; 10] = [
          bound 0 1 0 -1\nbound 1 1 0 -8\nbound 2 0 1 8\nbound 3 3 2 -5\nbound 4 2 3 5\n\
          bound 5 2 0 0\nbound 6 1 3 0\n",
     ),
-    // What is given and dropped while it is watched keeps its order, and stays between start and end.
+    // What is given and dropped while it is watched keeps its order, and stays between start and
+    // end.
     (
         SWITCHES,
         "0: (watch) [5]\n2: (give)\n3: (drop)",
@@ -59,7 +60,8 @@ const ROWS: [Row<'static>; 10] = [
         "1: (fill-a)\n1: (fill-b)",
         "event 0 at 0 (fill-a)\nevent 1 at 1 (fill-b)\n",
     ),
-    // Where the level is watched, what fills it at one moment stays at one moment; the horizon is no bound.
+    // Where the level is watched, what fills it at one moment stays at one moment; the horizon is
+    // no bound.
     (
         TANKS,
         "0: (hold) [4]\n1: (fill-a)\n1: (fill-b)",
@@ -67,7 +69,8 @@ const ROWS: [Row<'static>; 10] = [
          bound 0 1 0 -1\nbound 1 2 0 0\nbound 2 1 2 0\nbound 3 3 0 0\nbound 4 1 3 0\n\
          bound 5 3 2 0\nbound 6 2 3 0\n",
     ),
-    // An effect that mentions the duration keeps it; another leaves what the duration constraint allows.
+    // An effect that mentions the duration keeps it; another leaves what the duration constraint
+    // allows.
     (
         CHARGES,
         "0: (charge) [4]",
@@ -78,7 +81,8 @@ const ROWS: [Row<'static>; 10] = [
         "0: (rest) [4]",
         "event 0 start 0 (rest)\nevent 1 end 0 (rest)\nbound 0 1 0 -2\nbound 1 0 1 6\n",
     ),
-    // The order of the first and the last follows from those of each with the one between, however they are numbered.
+    // The order of the first and the last follows from those of each with the one between, however
+    // they are numbered.
     (
         LINES,
         "0: (set)\n1: (set)\n2: (set)",

@@ -1,4 +1,5 @@
-//! Verdicts on tanks, batteries and a counter: durations, values that are missing, clashes and numbers out of range.
+//! Verdicts on tanks, batteries and a counter: durations, values that are missing, clashes and
+//! numbers out of range.
 
 ghost use Rattle.tp_validate.specs.OfTask.{IsOfTask};
 
@@ -190,7 +191,8 @@ const COUNTERS: World<'static> = World {
     horizon: 1000,
 };
 
-// At one tick durations are looked at first, then values, conditions, clashes, interference, and at last invariants.
+// At one tick durations are looked at first, then values, conditions, clashes, interference, and at
+// last invariants.
 const COUNTED: [Row<'static>; 14] = [
     ("1: (wait) [3]", Some((1, Fault::Undefined(0)))),
     ("1: (look)", Some((1, Fault::Condition(0)))),

@@ -33,7 +33,8 @@ fn meets_all(moments: &[u32], net: &PlanNet) -> bool {
     net.bounds.iter().all(|bound| meets(moments, *bound))
 }
 
-/// Goes on to the next list of moments from 0 to the last, as a counter does; false where all have been.
+/// Goes on to the next list of moments from 0 to the last, as a counter does; false where all have
+/// been.
 fn next_moments(moments: &mut [u32], last: u32) -> bool {
     for moment in moments.iter_mut() {
         if *moment < last {
@@ -84,7 +85,8 @@ fn is_valid(alloc: Global, task: &Task, text: &str) -> Result<bool, Fail> {
     Ok(matches!(&verdict, Verdict::Valid(_)))
 }
 
-/// A world, a plan of it, the events of its steps, the last moment of the box, and how many schedules lie in it.
+/// A world, a plan of it, the events of its steps, the last moment of the box, and how many
+/// schedules lie in it.
 type Row<'a> = (World<'a>, &'a str, &'a [StepEvents<'a>], u32, usize);
 
 /// The plan of a schedule is valid.
@@ -101,7 +103,8 @@ fn makes_valid(
     Ok(())
 }
 
-/// How many lists of moments up to the last one are schedules of a network. The plan of each is valid.
+/// How many lists of moments up to the last one are schedules of a network. The plan of each is
+/// valid.
 fn count_from(
     rt: &impl Abort,
     alloc: Global,
