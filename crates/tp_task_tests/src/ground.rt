@@ -1,0 +1,9 @@
+//! Worked examples of ground tasks.
+
+mod bindings;
+mod examples;
+mod limits;
+mod numbering;
+mod reach;
+mod support;
+mod tasks;
