@@ -3,23 +3,21 @@
 use crate::memory::Note;
 use std::alloc::Global;
 use tp_cli_bare::{BareFault, bare_line, serve_line};
-use tp_cli_files::{FaultLine, FileFault, complain};
-use tp_cli_inputs::{file_line, plan_line, syntax_line, task_line};
+use tp_cli_files::{CallFault, FaultLine, FileFault, complain, refuse_call};
+use tp_cli_inputs::{
+    JudgeFault, PlanWords, file_line, judge_line, plan_line, syntax_line, task_line,
+};
+use tp_cli_split::{SplitStop, split_line};
 use tp_happen::PlanFault;
 use tp_script::ServeFault;
 use tp_syntax::{LeftOutPart, SyntaxFault};
 use tp_task::{GroundFault, TooManyKind};
-use tp_text::TextFault;
+use tp_text::{Scale, TextFault};
 
 /// Whether the line is written so, and goes with that status.
-fn is_spelled(alloc: Global, line: FaultLine<'_>, text: &[u8], status: u8) -> bool {
+fn spells(alloc: Global, line: FaultLine<'_>, text: &[u8], status: u8) -> bool {
     let mut note = Note::new(alloc, usize::MAX);
     complain(&mut note, line) == status && note.text() == text
-}
-
-/// The same. Where memory was refused, it is written once more.
-fn spells(alloc: Global, line: FaultLine<'_>, text: &[u8], status: u8) -> bool {
-    is_spelled(alloc, line, text, status) || is_spelled(alloc, line, text, status)
 }
 
 /// Whether the lines of a file's fault for a domain, a problem and a plan are spelled so, and go
@@ -317,4 +315,48 @@ fn first_other_network(alloc: Global, rows: &[Row<BareFault>]) -> Option<usize> 
 #[test]
 fn faults_of_networks(rt: HostRuntime) {
     assert_eq!(rt; first_other_network(rt.alloc(), &NETWORKS), None);
+}
+
+const WORDS: PlanWords<'static> = PlanWords {
+    domain: "d",
+    problem: "p",
+    plan: "x",
+    scale: Scale::One,
+    horizon: 100,
+};
+
+#[test]
+fn faults_of_commands_on_plans(rt: HostRuntime) {
+    let rows: [Row<FaultLine<'static>>; 4] = [
+        (
+            judge_line(JudgeFault::Memory, WORDS),
+            b"fault check 1 memory\n",
+            3,
+        ),
+        (
+            split_line(SplitStop::Memory, WORDS, "o"),
+            b"fault split 1 memory\n",
+            3,
+        ),
+        (
+            split_line(SplitStop::Conflict, WORDS, "o"),
+            b"fault split 3 conflict\n",
+            2,
+        ),
+        (
+            split_line(SplitStop::Setting, WORDS, "o"),
+            b"fault run 1 memory\n",
+            3,
+        ),
+    ];
+    for (line, text, status) in rows {
+        assert!(rt; spells(rt.alloc(), line, text, status));
+    }
+}
+
+#[test]
+fn words_that_memory_cannot_hold(rt: HostRuntime) {
+    let mut note = Note::new(rt.alloc(), usize::MAX);
+    let status = refuse_call(CallFault::Memory, &mut note);
+    assert!(rt; status == 3 && note.text() == b"fault arguments 2 memory\n".as_slice());
 }
