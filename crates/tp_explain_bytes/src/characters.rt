@@ -4,14 +4,26 @@ use std::str::from_utf8;
 use tp_explain_grammar::{end_headline, put_error_at};
 use tp_explain_text::{Page, Source, first_char};
 
+/// Puts a hexadecimal digit.
+fn put_digit(page: &mut Page, digit: u32) {
+    if let Some(byte) = b"0123456789ABCDEF".get(digit as usize) {
+        page.put_byte(*byte);
+    }
+}
+
 /// Puts a number by at least four hexadecimal digits.
 fn put_code_point(page: &mut Page, code: u32) {
     page.put("U+");
-    for place in [20, 16, 12, 8, 4, 0] {
-        let digit = code >> place & 15;
-        if place < 16 || code >> place > 0 {
-            page.put_byte(b"0123456789ABCDEF"[digit as usize]);
+    let mut unit = 0x10_0000u32;
+    for place in 0..6 {
+        if unit == 0 {
+            break;
         }
+        let digit = code / unit % 16;
+        if place > 1 || code >= unit {
+            put_digit(page, digit);
+        }
+        unit /= 16;
     }
 }
 

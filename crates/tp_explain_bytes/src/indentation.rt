@@ -1,5 +1,5 @@
-//! Which list of a text is not closed, by its indentation: a line that begins with a list or with a field of an action tells that a list
-//! before it should have ended.
+//! Which list of a text is not closed, by its indentation: a line that begins with a list or with a
+//! field of an action tells that a list before it should have ended.
 
 use std::alloc::{AllocError, Global};
 use tp_syntax_ast::key_of;

@@ -5,7 +5,8 @@ use std::alloc::{AllocError, Global};
 use tp_explain_grammar::{end_headline, put_error_at};
 use tp_explain_text::{Page, Source, put_file, put_place};
 
-/// The first list that should have ended before something behind it, if the text is one list with it closed.
+/// The first list that should have ended before something behind it, if the text is one list with
+/// it closed.
 fn suspect_of(reading: Reading) -> Option<Suspect> {
     if reading.is_one { reading.first } else { None }
 }

@@ -9,7 +9,8 @@ use tp_script::next_word;
 /// The most bytes of a line of a journal.
 const LONGEST: usize = 16_384;
 
-/// A line that was kept: its number, its first bytes, and whether it ends within as many as it may have.
+/// A line that was kept: its number, its first bytes, and whether it ends within as many as it may
+/// have.
 #[derive(Drop)]
 pub struct KeptLine {
     pub number: u64,
@@ -33,6 +34,12 @@ fn is_wanted(number: u64, wanted: u64) -> bool {
 }
 
 impl Keeper {
+    /// The lines that were kept.
+    fn into_kept(self) -> Vec<KeptLine> {
+        let Keeper { kept, .. } = self;
+        kept
+    }
+
     /// Begins the next line with its first byte.
     fn begin(&mut self, wanted: u64) -> Result<(), AllocError> {
         self.number = self.number.saturating_add(1);
@@ -81,7 +88,8 @@ impl Keeper {
     }
 }
 
-/// The first three lines of the file of a name, the one of a number and the one before it, as far as they are there.
+/// The first three lines of the file of a name, the one of a number and the one before it, as far
+/// as they are there.
 pub fn keep_lines<N: Files>(
     alloc: Global,
     files: &mut N,
@@ -95,7 +103,7 @@ pub fn keep_lines<N: Files>(
         is_kept: false,
     };
     let Ok(source) = files.open(name) else {
-        return Ok(keeper.kept);
+        return Ok(keeper.into_kept());
     };
     let mut source = source;
     let mut chunk = [0; 4096];
@@ -112,7 +120,7 @@ pub fn keep_lines<N: Files>(
         }
         inside = keeper.take_all(chunk.get(..count).unwrap_or(&[]), wanted, inside)?;
     }
-    Ok(keeper.kept)
+    Ok(keeper.into_kept())
 }
 
 /// A line that was kept, by its number.
@@ -151,7 +159,8 @@ fn wanted_form(lines: &[KeptLine], number: u64) -> &'static str {
     }
 }
 
-/// Puts what was found on a line: its first word, or all of it where that is a sign of what is wanted.
+/// Puts what was found on a line: its first word, or all of it where that is a sign of what is
+/// wanted.
 fn put_found(page: &mut Page, line: Option<&KeptLine>) {
     let Some(line) = line else {
         page.put("the end of the file");

@@ -32,7 +32,10 @@ fn word_at(text: &[u8], wanted: u64) -> (Option<Word<'_>>, u64) {
             }
             (true, Some(from)) => {
                 if count.checked_sub(1) == Some(wanted) {
-                    found = text.get(from..at).map(|word| Word { text: word, at: from });
+                    found = text.get(from..at).map(|word| Word {
+                        text: word,
+                        at: from,
+                    });
                 }
                 begin = None;
             }
@@ -41,7 +44,10 @@ fn word_at(text: &[u8], wanted: u64) -> (Option<Word<'_>>, u64) {
     }
     if let Some(from) = begin {
         if count.checked_sub(1) == Some(wanted) {
-            found = text.get(from..).map(|word| Word { text: word, at: from });
+            found = text.get(from..).map(|word| Word {
+                text: word,
+                at: from,
+            });
         }
     }
     (found, count)
@@ -96,8 +102,8 @@ fn put_number(page: &mut Page, source: Source<'_>, word: &Word<'_>, event: Optio
     }
 }
 
-/// Puts what is wrong with the word of a number of the file of the agents: `event` is the event that it is for, if there is one, and
-/// `events` tells how many there are.
+/// Puts what is wrong with the word of a number of the file of the agents: `event` is the event
+/// that it is for, if there is one, and `events` tells how many there are.
 pub fn put_owner(
     page: &mut Page,
     source: Source<'_>,

@@ -12,8 +12,11 @@ const STDIN: &str = "stdin";
 
 /// The most bytes of a line, events, ticks of the horizon, and ticks of a lag.
 const LONGEST: usize = 256;
+
 const MOST_EVENTS: u64 = 1024;
+
 const GREATEST_HORIZON: u64 = 1_000_000_000;
+
 const GREATEST_LAG: u64 = 1_000_000_000;
 
 /// A word of a line, and where it stands in the input.
@@ -31,14 +34,17 @@ struct Words<'i> {
 }
 
 fn words_of(line: &[u8], begin: usize) -> Words<'_> {
-    let mut first = [None; 4];
+    let mut first: [Option<Word<'_>>; 4] = [None; 4];
     let mut rest = line;
     for slot in first.iter_mut() {
         let (word, behind) = next_word(rest);
         if word.is_empty() {
             break;
         }
-        let before = line.len().saturating_sub(behind.len()).saturating_sub(word.len());
+        let before = line
+            .len()
+            .saturating_sub(behind.len())
+            .saturating_sub(word.len());
         *slot = Some(Word {
             text: from_utf8(word).unwrap_or("?"),
             at: begin.saturating_add(before),

@@ -1,9 +1,10 @@
 //! What stands behind a fault line.
 
 use crate::calls::{Call, call_of};
+use crate::contents::bytes_of;
 use crate::fault_lines::{Line, line_of, number_of};
 use crate::texts::put_text_fault;
-use crate::worlds::{bytes_of, put_with_world};
+use crate::worlds::put_with_world;
 use std::alloc::{AllocError, Global};
 use tp_cli_files::Files;
 use tp_explain_bytes::{put_no_utf8, put_text_too_long};
@@ -128,13 +129,14 @@ fn put_fault<N: Files>(
     }
 }
 
-/// Puts what explains a fault line, which is given without its end; nothing for a fault of memory or of a device but that a file
-/// can't be opened or a journal not be made, nor where more stands behind the line. `words` are those of the call, and `input` is
-/// what was read of standard input, at least its first lines. The files are read again by their names.
+/// Puts what explains a fault line, which is given without its end; nothing for a fault of memory
+/// or of a device but that a file can't be opened or a journal not be made, nor where more stands
+/// behind the line. `words` are those of the call, and `input` is what was read of standard input,
+/// at least its first lines. The files are read again by their names.
 ///
-/// The cost is a few passes over the text at fault and those that it names things of; for too large a task, its objects times its
-/// parameters; for a journal, its bytes up to the line at fault.
-pub fn explain_fault<N: Files>(
+/// The cost is a few passes over the text at fault and those that it names things of; for too large
+/// a task, its objects times its parameters; for a journal, its bytes up to the line at fault.
+pub fn put_fault_line<N: Files>(
     alloc: Global,
     words: &[String],
     files: &mut N,

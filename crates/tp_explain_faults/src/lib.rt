@@ -1,6 +1,7 @@
 //! What stands behind a fault line with `--explain`.
 //!
 //! - `calls`: the command of a call, its files, and how its time is measured
+//! - `contents`: what the files of a call hold
 //! - `fault_lines`: the parts of a fault line
 //! - `worlds`: the domain and the problem of a call, as far as they can be read
 //! - `texts`: faults of domains and problems
@@ -9,6 +10,7 @@
 #![tactic(auto)]
 
 mod calls;
+mod contents;
 mod explain;
 mod fault_lines;
 mod plans;
@@ -16,5 +18,5 @@ mod texts;
 mod worlds;
 
 pub use calls::{Call, call_of};
-pub use explain::explain_fault;
-pub use worlds::{bytes_of, put_with_world, text_in};
+pub use contents::{bytes_of, text_in};
+pub use explain::put_fault_line;

@@ -1,8 +1,8 @@
 //! Faults of tasks, plans, lags and the agents of events.
 
 use crate::calls::Call;
+use crate::contents::bytes_of;
 use crate::fault_lines::{Line, number_of};
-use crate::worlds::bytes_of;
 use std::alloc::{AllocError, Global};
 use tp_cli_files::Files;
 use tp_explain_calls::{put_lags, put_owner};

@@ -1,15 +1,16 @@
 //! Faults of domains and problems.
 
 use crate::calls::Call;
+use crate::contents::{bytes_of, text_in};
 use crate::fault_lines::{Line, cut_fault, cut_word, place_of};
-use crate::worlds::{bytes_of, text_in};
 use std::alloc::{AllocError, Global};
 use tp_cli_files::Files;
 use tp_explain_bytes::{
     put_bad_byte, put_depth, put_empty, put_extra, put_text_too_long, put_unclosed,
 };
-use tp_explain_grammar::{Text, items_of, put_left_out, put_shape, word_of};
+use tp_explain_grammar::{Text, items_of, word_of};
 use tp_explain_names::{World, put_twice, put_types, put_unknown};
+use tp_explain_shapes::{put_left_out, put_shape};
 use tp_explain_text::{Page, Source};
 
 /// The name of a domain.
@@ -70,7 +71,11 @@ pub fn put_text_fault<N: Files>(
     line: &Line<'_>,
 ) -> Result<(), AllocError> {
     let in_problem = line.part == "problem";
-    let name = if in_problem { call.problem } else { call.domain };
+    let name = if in_problem {
+        call.problem
+    } else {
+        call.domain
+    };
     let (fault, place) = cut_fault(line.rest);
     match fault.as_bytes() {
         b"too-long" => {

@@ -1,50 +1,16 @@
 //! The domain and the problem of a call, as far as they can be read.
 
 use crate::calls::Call;
+use crate::contents::text_in;
 use crate::fault_lines::Line;
 use crate::plans::put_planned;
 use crate::texts::put_tree_fault;
 use std::alloc::{AllocError, Global};
-use tp_cli_files::{Files, open_text};
-use tp_device::Source as Reader;
+use tp_cli_files::Files;
 use tp_explain_grammar::Text;
 use tp_explain_names::World;
 use tp_explain_text::{Page, Source};
 use tp_text::read_tree;
-
-/// The most bytes of a text.
-const LONGEST: usize = 1_048_577;
-
-/// The bytes of the file of a name, as many as a text may have and one more. What can't be read is not there.
-pub fn bytes_of<N: Files>(
-    alloc: Global,
-    files: &mut N,
-    name: &str,
-) -> Result<Vec<u8>, AllocError> {
-    let mut bytes = Vec::new(alloc);
-    let Ok(source) = files.open(name) else {
-        return Ok(bytes);
-    };
-    let mut source = source;
-    let mut chunk = [0; 4096];
-    for _ in 0..LONGEST {
-        if bytes.len() >= LONGEST {
-            break;
-        }
-        match source.pull(&mut chunk) {
-            Ok(count) if count > 0 => {
-                bytes.extend_from_slice(chunk.get(..count).unwrap_or(&[]))?;
-            }
-            _ => break,
-        }
-    }
-    Ok(bytes)
-}
-
-/// The text of the file of a name, if it has one.
-pub fn text_in<N: Files>(alloc: Global, files: &mut N, name: &str) -> Option<String> {
-    open_text(alloc, files, name).ok()
-}
 
 /// Puts what a fault line says of a domain or a problem, or of what stands on both.
 fn put_in_world<'t, N: Files>(

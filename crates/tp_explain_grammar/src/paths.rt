@@ -4,8 +4,8 @@ use crate::roles::{Role, role_in};
 use std::alloc::{AllocError, Global};
 use tp_text::Tree;
 
-/// A list around a place: its role, its members, where it begins, and the number of the member that the place is in. In the list that
-/// begins at the place it is how many members there are.
+/// A list around a place: its role, its members, where it begins, and the number of the member that
+/// the place is in. In the list that begins at the place it is how many members there are.
 #[derive(Clone, Copy)]
 pub struct Step<'t> {
     pub role: Role,
@@ -31,7 +31,8 @@ fn member_at(items: &[Tree<'_>], place: usize) -> usize {
 /// The most lists that are in one another.
 const DEEPEST: usize = 65;
 
-/// The lists around a place of a text, the outermost first: the last of them begins there, or has a word that does.
+/// The lists around a place of a text, the outermost first: the last of them begins there, or has a
+/// word that does.
 pub fn path_to<'t>(
     alloc: Global,
     tree: &'t Tree<'t>,

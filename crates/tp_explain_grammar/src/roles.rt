@@ -1,6 +1,6 @@
 //! What a list is, by the lists around it.
 
-use crate::trees::{head_word, word_of};
+use crate::trees::head_word;
 use tp_syntax_ast::{
     CondWord, EffectWord, Joint, Key, Operator, ProblemSection, Section, cond_word_of,
     effect_word_of, joint_of, key_of, operator_of, problem_section_of, section_of,
@@ -225,9 +225,4 @@ pub fn role_in(role: Role, items: &[Tree<'_>], number: usize) -> Role {
         Role::Initial => in_initial(items, number),
         _ => Role::Nothing,
     }
-}
-
-/// The name of an action, behind its first word.
-pub fn action_name<'t>(items: &'t [Tree<'t>]) -> Option<&'t str> {
-    word_of(items.get(1)?)
 }

@@ -1,6 +1,6 @@
 //! The nearest of the declared names to one that is not declared, or a list of them.
 
-use crate::declared::{Declared, Kind, World, declared, find_named};
+use crate::declarations::{Declared, Kind, World, declared, find_named};
 use std::alloc::{AllocError, Global};
 use tp_explain_text::{Nearest, Page, put_place};
 
@@ -35,7 +35,10 @@ fn is_near_object(word: &str) -> bool {
 
 /// Whether a name stands before a number among names.
 fn stands_before(names: &[Declared<'_>], number: usize, word: &str) -> bool {
-    names.iter().take(number).any(|name| name.name.eq_ignore_ascii_case(word))
+    names
+        .iter()
+        .take(number)
+        .any(|name| name.name.eq_ignore_ascii_case(word))
 }
 
 /// Puts which names are declared, or in scope.
@@ -66,7 +69,8 @@ fn put_names(page: &mut Page, kind: Kind, names: &[Declared<'_>]) {
     page.end_line();
 }
 
-/// Puts the nearest of some names that are declared as a kind; or, where there is none and it is wished for, a list of them.
+/// Puts the nearest of some names that are declared as a kind; or, where there is none and it is
+/// wished for, a list of them.
 pub fn put_near<'t>(
     page: &mut Page,
     world: &World<'t>,

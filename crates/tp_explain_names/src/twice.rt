@@ -1,6 +1,6 @@
 //! What is wrong with what stands a second time.
 
-use crate::declared::{Declared, Kind, World, declared, find_named, typed_items};
+use crate::declarations::{Declared, Kind, World, declared, find_named, typed_items};
 use std::alloc::{AllocError, Global};
 use tp_explain_grammar::{
     Role, Step, Symbol, Text, end_headline, head_word, is_the_word, items_of, path_to, place_of,
@@ -47,7 +47,12 @@ fn put_field(page: &mut Page, source: Source<'_>, step: &Step<'_>, word: &str, a
     page.put("the field ");
     page.put_code(word);
     page.put(" of ");
-    page.put_code(step.items.get(1).and_then(|name| word_of(name)).unwrap_or(""));
+    page.put_code(
+        step.items
+            .get(1)
+            .and_then(|name| word_of(name))
+            .unwrap_or(""),
+    );
     page.put(" stands twice");
     end_headline(page, source, at);
     if let Some(first) = step.items.iter().find(|tree| is_the_word(*tree, word)) {
@@ -120,7 +125,11 @@ fn put_word<'t>(
     let Some((step, outer)) = path.split_last() else {
         return Ok(());
     };
-    let word = step.items.get(step.child).and_then(|tree| word_of(tree)).unwrap_or("");
+    let word = step
+        .items
+        .get(step.child)
+        .and_then(|tree| word_of(tree))
+        .unwrap_or("");
     let is_action = kind_in(step) == Kind::Action;
     match (step.role, outer.last()) {
         (Role::Section(_) | Role::ProblemSection(_), Some(outer)) if step.child == 0 => {
@@ -241,7 +250,11 @@ pub fn put_twice<'t>(
     in_problem: bool,
     at: usize,
 ) -> Result<(), AllocError> {
-    let role = if in_problem { Role::Problem } else { Role::Domain };
+    let role = if in_problem {
+        Role::Problem
+    } else {
+        Role::Domain
+    };
     let path = path_to(alloc, text.tree, role, at)?;
     let entries = path.as_slice().iter().find(|step| {
         step.role == Role::ProblemSection(ProblemSection::Init) && step.child > 0

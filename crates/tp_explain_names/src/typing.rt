@@ -1,8 +1,8 @@
 //! Types of terms, and which of them fit.
 
-use crate::declared::{Declared, Kind, World, declared, find_named};
+use crate::declarations::{Declared, Kind, World, declared, find_named};
 use std::alloc::{AllocError, Global};
-use tp_explain_grammar::{head_word, items_of, word_of};
+use tp_explain_grammar::{head_word, word_of};
 use tp_explain_text::Page;
 use tp_text::Tree;
 
@@ -61,10 +61,13 @@ fn is_below_one(types: &Types<'_>, below: &str, above: Option<&Tree<'_>>) -> boo
     if several.is_empty() {
         return types.is_below(below, first_type(above));
     }
-    several.iter().any(|tree| types.is_below(below, word_of(tree).unwrap_or("")))
+    several
+        .iter()
+        .any(|tree| types.is_below(below, word_of(tree).unwrap_or("")))
 }
 
-/// Whether something of some types may stand for a parameter of others: each of its types is one of those, or below one.
+/// Whether something of some types may stand for a parameter of others: each of its types is one of
+/// those, or below one.
 pub fn fits(types: &Types<'_>, argument: Option<&Tree<'_>>, parameter: Option<&Tree<'_>>) -> bool {
     let several = type_trees(argument);
     if several.is_empty() {
@@ -80,7 +83,7 @@ pub fn put_type(page: &mut Page, types: Option<&Tree<'_>>) {
         Some(Tree::List { items, .. }) => {
             page.put("(");
             page.put(head_word(items.as_slice()).unwrap_or(""));
-            for tree in items_of_behind(items.as_slice()) {
+            for tree in items.as_slice().get(1..).unwrap_or(&[]) {
                 page.put(" ");
                 page.put(word_of(tree).unwrap_or(""));
             }
@@ -89,13 +92,4 @@ pub fn put_type(page: &mut Page, types: Option<&Tree<'_>>) {
         _ => page.put(first_type(types)),
     }
     page.put("`");
-}
-
-fn items_of_behind<'t>(items: &'t [Tree<'t>]) -> &'t [Tree<'t>] {
-    items.get(1..).unwrap_or(&[])
-}
-
-/// The members of a list that a tree is.
-pub fn members<'t>(tree: &'t Tree<'t>) -> &'t [Tree<'t>] {
-    items_of_behind(items_of(tree))
 }

@@ -1,6 +1,6 @@
 //! What is wrong with a name that is not declared.
 
-use crate::declared::{Declared, Kind, World, declared, variables_at};
+use crate::declarations::{Declared, Kind, World, declared, variables_at};
 use crate::near::{other_kind, put_near, put_other_kind};
 use std::alloc::{AllocError, Global};
 use tp_explain_grammar::{
@@ -43,7 +43,9 @@ fn names_for<'t>(
 
 /// Puts that a problem is one of another domain.
 fn put_other_domain(page: &mut Page, world: &World<'_>, source: Source<'_>, word: &str, at: usize) {
-    let name = items_of(world.domain.tree).get(1).map_or(&[][..], |head| items_of(head));
+    let name = items_of(world.domain.tree)
+        .get(1)
+        .map_or(&[][..], |head| items_of(head));
     let own = name.get(1).and_then(|tree| word_of(tree)).unwrap_or("");
     put_error_at(page, source, at);
     page.put("the problem is one of the domain ");
@@ -98,7 +100,11 @@ pub fn put_unknown<'t>(
     in_problem: bool,
     at: usize,
 ) -> Result<(), AllocError> {
-    let role = if in_problem { Role::Problem } else { Role::Domain };
+    let role = if in_problem {
+        Role::Problem
+    } else {
+        Role::Domain
+    };
     let path = path_to(alloc, text.tree, role, at)?;
     let Some(step) = path.as_slice().last() else {
         return Ok(());

@@ -2,7 +2,7 @@
 
 use crate::steps::{StepLine, Word};
 use std::alloc::{AllocError, Global};
-use tp_explain_grammar::{end_headline, is_the_word, items_of, put_error_at, word_of};
+use tp_explain_grammar::{end_headline, is_the_word, items_of, put_error_at};
 use tp_explain_names::{
     Declared, Kind, Types, World, declared, find_named, fits, other_kind, put_cannot_fit, put_near,
     put_other_kind, put_takes, typed_items,
@@ -85,7 +85,14 @@ fn put_no_name<'t>(
     page.put(" is named ");
     page.put_code(word.text);
     end_headline(page, plan, word.at);
-    put_near(page, world, kind, names.as_slice(), word.text, kind == Kind::Action);
+    put_near(
+        page,
+        world,
+        kind,
+        names.as_slice(),
+        word.text,
+        kind == Kind::Action,
+    );
     Ok(())
 }
 
@@ -109,7 +116,15 @@ fn put_arguments<'t>(
         put_action_here(page, world, action);
         return Ok(());
     }
-    put_objects(alloc, page, world, plan, action, parameters.as_slice(), words)
+    put_objects(
+        alloc,
+        page,
+        world,
+        plan,
+        action,
+        parameters.as_slice(),
+        words,
+    )
 }
 
 /// Puts the first object that there is none of, or that is of the wrong type.
@@ -129,7 +144,16 @@ fn put_objects<'t>(
         }
     }
     let types = Types::new(alloc, world)?;
-    put_misfit(page, world, plan, action, &types, objects.as_slice(), parameters, words);
+    put_misfit(
+        page,
+        world,
+        plan,
+        action,
+        &types,
+        objects.as_slice(),
+        parameters,
+        words,
+    );
     Ok(())
 }
 
@@ -159,8 +183,8 @@ fn put_misfit<'t>(
     }
 }
 
-/// Puts what is wrong with the words of a step, which are those of no action: in this order the name, the number of the arguments, each
-/// object's name, each object's type.
+/// Puts what is wrong with the words of a step, which are those of no action: in this order the
+/// name, the number of the arguments, each object's name, each object's type.
 pub fn put_no_action<'t>(
     alloc: Global,
     page: &mut Page,
@@ -176,9 +200,4 @@ pub fn put_no_action<'t>(
         Some(action) => put_arguments(alloc, page, world, plan, action, words),
         None => put_no_name(alloc, page, world, plan, Kind::Action, name),
     }
-}
-
-/// The own name of an action.
-pub fn own_name<'t>(action: &'t [Tree<'t>]) -> &'t str {
-    action.get(1).and_then(|name| word_of(name)).unwrap_or("")
 }

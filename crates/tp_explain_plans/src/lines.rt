@@ -71,7 +71,9 @@ impl Wanted {
     }
 }
 
-/// The first thing in a line that does not fit, and what was wanted there. At the end of the line there is no piece.
+/// The first thing in a line that does not fit, and what was wanted there. At the end of the line
+/// there is no piece.
+#[derive(Clone, Copy)]
 struct Misfit<'l> {
     wanted: Wanted,
     at: usize,
@@ -104,7 +106,8 @@ fn first_misfit(line: &[u8]) -> Misfit<'_> {
     }
 }
 
-/// How many bytes of the word at the front are shown: up to a blank, a parenthesis, a bracket or a comment.
+/// How many bytes of the word at the front are shown: up to a blank, a parenthesis, a bracket or a
+/// comment.
 fn shown_len(bytes: &[u8]) -> usize {
     for (count, byte) in bytes.iter().enumerate() {
         match *byte {
@@ -193,7 +196,11 @@ pub fn put_line(page: &mut Page, plan: Source<'_>, number: u64) {
     let at = begin.saturating_add(misfit.at);
     put_error_at(page, plan, at);
     page.put("expected ");
-    page.put(misfit.wanted.words(misfit.piece.map_or(false, |piece| piece.is_word)));
+    page.put(
+        misfit
+            .wanted
+            .words(misfit.piece.map_or(false, |piece| piece.is_word)),
+    );
     page.put(", found ");
     match misfit.piece {
         Some(piece) => put_found(page, line, &piece),

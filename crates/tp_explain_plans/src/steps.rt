@@ -81,7 +81,8 @@ pub struct Word<'l> {
     pub at: usize,
 }
 
-/// A line of a plan that has the form of a step: the time, the words in parentheses, and the duration.
+/// A line of a plan that has the form of a step: the time, the words in parentheses, and the
+/// duration.
 #[derive(Drop)]
 pub struct StepLine<'l> {
     pub time: Word<'l>,
@@ -117,11 +118,7 @@ fn word_at<'l>(piece: &Piece<'l>, begin: usize) -> Word<'l> {
 }
 
 /// The words of a line that begins at a place of its file.
-fn words_of<'l>(
-    alloc: Global,
-    line: &'l [u8],
-    begin: usize,
-) -> Result<Vec<Word<'l>>, AllocError> {
+fn words_of<'l>(alloc: Global, line: &'l [u8], begin: usize) -> Result<Vec<Word<'l>>, AllocError> {
     let mut words = Vec::new(alloc);
     let mut from = 0usize;
     for _ in 0..line.len() {

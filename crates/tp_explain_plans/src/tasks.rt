@@ -2,8 +2,12 @@
 
 use crate::actions::parameters_of;
 use std::alloc::{AllocError, Global};
-use tp_explain_grammar::{Text, end_headline, is_the_word, items_of, place_of, put_error_at, word_of};
-use tp_explain_names::{Declared, Kind, Types, World, declared, fits, is_action, section_of, typed_items};
+use tp_explain_grammar::{
+    Text, end_headline, is_the_word, items_of, place_of, put_error_at, word_of,
+};
+use tp_explain_names::{
+    Declared, Kind, Types, World, declared, fits, is_action, section_of, typed_items,
+};
 use tp_explain_text::{Page, Source};
 use tp_text::{Token, Tree, read_whole};
 
@@ -199,7 +203,8 @@ fn first_great<'t>(tree: &'t Tree<'t>) -> Option<Token<'t>> {
     }
 }
 
-/// The first number that is too great in the sections of a text; `:metric` and `:length` are read over.
+/// The first number that is too great in the sections of a text; `:metric` and `:length` are read
+/// over.
 fn first_in<'t>(text: &Text<'t>) -> Option<Token<'t>> {
     for section in items_of(text.tree) {
         let is_read_over = match items_of(section).first() {

@@ -11,7 +11,11 @@ use tp_text::{Scale, read_ticks};
 fn duration_of<'l>(world: &World<'_>, step: &StepLine<'l>) -> Option<Word<'l>> {
     let name = step.words.first()?;
     let action = action_named(world, name.text)?;
-    if is_durative(action) { step.duration } else { None }
+    if is_durative(action) {
+        step.duration
+    } else {
+        None
+    }
 }
 
 /// Puts that a step of a durative action has no duration.
@@ -113,7 +117,9 @@ pub fn put_horizon(
     horizon: u32,
 ) {
     let duration = duration_of(world, step);
-    let lasts = duration.and_then(|word| read_ticks(word.text, scale)).unwrap_or(0);
+    let lasts = duration
+        .and_then(|word| read_ticks(word.text, scale))
+        .unwrap_or(0);
     let begins = read_ticks(step.time.text, scale).unwrap_or(0);
     let end = u64::from(begins).saturating_add(u64::from(lasts));
     let at = duration.map_or(step.time.at, |word| word.at);
@@ -139,7 +145,11 @@ pub fn put_horizon(
     if end <= GREATEST_HORIZON {
         page.put("help: `--horizon ");
         page.put_number(end);
-        page.put(if end < GREATEST_HORIZON { "`, or a greater one" } else { "`" });
+        page.put(if end < GREATEST_HORIZON {
+            "`, or a greater one"
+        } else {
+            "`"
+        });
     } else {
         page.put("note: 1000000000 is the greatest horizon");
     }

@@ -26,7 +26,8 @@ fn only_char(bytes: &[u8]) -> Option<char> {
     from_utf8(bytes).ok()?.chars().next()
 }
 
-/// What stands first among bytes, if there are any: a character (a Unicode scalar value), or a byte that begins none.
+/// What stands first among bytes, if there are any: a character (a Unicode scalar value), or a byte
+/// that begins none.
 pub fn first_char(bytes: &[u8]) -> Option<FirstChar<'_>> {
     let [first, others @ ..] = bytes else {
         return None;

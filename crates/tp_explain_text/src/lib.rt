@@ -1,5 +1,5 @@
-//! What explanations are put together from: their lines, places in files with the source line and the caret under it, names that
-//! are near to a wanted one, and ticks beside units of time.
+//! What explanations are put together from: their lines, places in files with the source line and
+//! the caret under it, names that are near to a wanted one, and ticks beside units of time.
 //!
 //! - `page`: the lines
 //! - `places`: lines and columns, and what stands before a headline or a note
@@ -8,7 +8,8 @@
 //! - `nearest`: names that are near to a wanted one
 //! - `moments`: ticks and units of time
 //!
-//! Nothing here returns an error: where memory is refused, a page takes no more, and the line in hand is dropped.
+//! Nothing here returns an error: where memory is refused, a page takes no more, and the line in
+//! hand is dropped.
 #![tactic(auto)]
 
 mod chars;

@@ -4,8 +4,10 @@ use crate::chars::{after_chars, count_chars, first_char};
 use crate::page::Page;
 use crate::places::{Source, line_at};
 
-/// The most characters of a source line that are shown, and how many of them stand before the caret.
+/// The most characters of a source line that are shown, and how many of them stand before the
+/// caret.
 const WIDEST: usize = 100;
+
 const BEFORE: usize = 60;
 
 /// Whether a word of a text may have a byte.
@@ -26,8 +28,8 @@ fn word_len(bytes: &[u8]) -> usize {
     bytes.len()
 }
 
-/// How many characters are marked of what begins at a place: those of the word there, or the word right behind a parenthesis; one,
-/// if there is none.
+/// How many characters are marked of what begins at a place: those of the word there, or the word
+/// right behind a parenthesis; one, if there is none.
 fn marked(bytes: &[u8]) -> usize {
     match bytes {
         [b'(', rest @ ..] => word_len(rest).saturating_add(1),
@@ -70,7 +72,11 @@ fn part_around(line: &[u8], caret: usize) -> Shown<'_> {
 
 /// Puts the characters that are shown.
 fn put_source(page: &mut Page, part: &Shown<'_>) {
-    page.put(if part.is_cut_before { "    ..." } else { "    " });
+    page.put(if part.is_cut_before {
+        "    ..."
+    } else {
+        "    "
+    });
     let mut rest = part.bytes;
     for _ in 0..part.count {
         let Some(first) = first_char(rest) else {
@@ -88,7 +94,11 @@ fn put_source(page: &mut Page, part: &Shown<'_>) {
 
 /// Puts the caret under its character, and tildes as far as the mark goes on.
 fn put_caret(page: &mut Page, part: &Shown<'_>, length: usize) {
-    page.put(if part.is_cut_before { "       " } else { "    " });
+    page.put(if part.is_cut_before {
+        "       "
+    } else {
+        "    "
+    });
     let mut rest = part.bytes;
     for _ in 0..part.caret {
         let blank = match rest {
@@ -106,16 +116,29 @@ fn put_caret(page: &mut Page, part: &Shown<'_>, length: usize) {
     page.end_line();
 }
 
-/// Puts a line without its end, and the caret under a place in it.
+/// A line without the blanks at its end.
+fn without_blanks(line: &[u8]) -> &[u8] {
+    let mut end = 0;
+    for (at, byte) in line.iter().enumerate() {
+        if *byte != b' ' && *byte != b'\t' {
+            end = at.saturating_add(1);
+        }
+    }
+    line.get(..end).unwrap_or(line)
+}
+
+/// Puts a line without its end, and the caret under a place in it. Blanks at the end of the line are
+/// left out.
 pub fn put_mark_of_line(page: &mut Page, line: &[u8], at: usize) {
     let before = line.get(..at).unwrap_or(line);
     let behind = line.get(at..).unwrap_or(&[]);
-    let part = part_around(line, count_chars(before));
+    let part = part_around(without_blanks(line), count_chars(before));
     put_source(page, &part);
     put_caret(page, &part, marked(behind));
 }
 
-/// Puts the line of a place in a file, and the caret under the place. There is no line where the file ends behind an end of a line.
+/// Puts the line of a place in a file, and the caret under the place. There is no line where the
+/// file ends behind an end of a line.
 pub fn put_mark(page: &mut Page, source: Source<'_>, place: usize) {
     let line = line_at(source.text, place);
     if place >= source.text.len() && line.bytes.is_empty() {

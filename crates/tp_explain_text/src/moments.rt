@@ -2,7 +2,8 @@
 
 use crate::page::Page;
 
-/// Puts the units that ticks make, with the decimals of the scale: 1, 10, 100 or 1000 ticks to a unit.
+/// Puts the units that ticks make, with the decimals of the scale: 1, 10, 100 or 1000 ticks to a
+/// unit.
 pub fn put_units(page: &mut Page, scale: u32, ticks: u64) {
     let scale = u64::from(scale.max(1));
     page.put_number(ticks / scale);

@@ -4,7 +4,8 @@ use crate::chars::first_char;
 use itoa::Buffer;
 use std::alloc::Global;
 
-/// The lines of explanations. Where memory is refused, it takes no more, and only whole lines count.
+/// The lines of explanations. Where memory is refused, it takes no more, and only whole lines
+/// count.
 #[derive(Drop)]
 pub struct Page {
     bytes: Vec<u8>,

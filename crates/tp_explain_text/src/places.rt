@@ -57,7 +57,8 @@ pub(crate) fn column(line: &[u8], at: usize) -> u64 {
     u64::try_from(count).unwrap_or(u64::MAX).saturating_add(1)
 }
 
-/// The line and the column of a place in a text, both from 1. Columns count characters, and bytes that are none.
+/// The line and the column of a place in a text, both from 1. Columns count characters, and bytes
+/// that are none.
 pub fn line_and_column(text: &[u8], place: usize) -> (u64, u64) {
     let line = line_at(text, place);
     (line.number, column(line.bytes, line.at))
