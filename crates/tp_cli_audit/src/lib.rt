@@ -24,5 +24,6 @@ pub use audit_lines::{AuditStop, audit_stop_line};
 pub use auditing::{Found, audit_in, audit_of, head_in};
 pub use bare::{lags_fit, run_bare_audit, set_lags};
 pub use run::run_plan_audit;
+pub use starting::{lags_suit, plan_start};
 pub use stop_lines::{PlanAuditStop, plan_stop_line};
 pub use verdicts::say;

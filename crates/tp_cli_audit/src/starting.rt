@@ -13,7 +13,7 @@ use tp_repair::RepairNet;
 
 /// Whether the lags that the head of a journal tells are of events of a plan's network, and in
 /// range.
-pub(crate) fn lags_suit(network: &PlanNet, head: &JournalHead) -> bool
+pub fn lags_suit(network: &PlanNet, head: &JournalHead) -> bool
     ensures { IsTrue result ↔ LagsFit network.now head.now }
 {
     lags_fit(network.events.len() as u16, head.lags.as_slice())
@@ -21,7 +21,7 @@ pub(crate) fn lags_suit(network: &PlanNet, head: &JournalHead) -> bool
 
 /// The executive over the network of a plan, with the lags that the head of a journal tells, under
 /// the greatest limits. It is new. It costs one addition to the network for each bound of the plan.
-pub(crate) fn plan_start(
+pub fn plan_start(
     alloc: Global,
     network: &PlanNet,
     head: &JournalHead,
