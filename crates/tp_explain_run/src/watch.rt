@@ -27,6 +27,7 @@ pub struct RunPlan {
 #[derive(Clone, Copy)]
 enum Told<'t> {
     Refusal(&'t InputLine, &'t str),
+    Report(&'t InputLine),
     End,
 }
 
@@ -61,6 +62,7 @@ fn tell(
 ) -> Result<(), AllocError> {
     match told {
         Told::Refusal(line, answer) => tell_refusal(page, picture, reasons, line, answer),
+        Told::Report(line) => tell_report(page, picture, reasons, line),
         Told::End => tell_end(page, picture, reasons),
     }
 }
@@ -195,16 +197,13 @@ impl Watch {
         if answer.starts_with("refused ") {
             return self.refused(page, &line, answer);
         }
-        let Some(picture) = &mut self.picture else {
-            return Ok(());
-        };
         if answer.starts_with("report ") {
-            let reasons = plain_reasons(self.plan.as_ref());
-            return tell_report(page, picture, &reasons, &line);
+            return self.tell(page, Told::Report(&line), false);
         }
-        match read_command(line.words()) {
-            Some(command) => picture.follow(command, line),
-            None => Ok(()),
+        let command = read_command(line.words());
+        match (&mut self.picture, command) {
+            (Some(picture), Some(command)) => picture.follow(command, line),
+            _ => Ok(()),
         }
     }
 
