@@ -110,10 +110,14 @@ fn draw_headed<N: Files>(
     head: &JournalHead,
 ) -> Result<Drawn, DrawStop>
     requires { NamesLog words.entry log.now }
-    ensures drawn { IfSome (N.held files.old log.now) (λ bytes. IsHeadTold bytes head.now)
-        → IfOk result (IsDrawn (N.held files.old) words.entry) }
-    ensures cause { IfSome (N.held files.old log.now) (λ bytes. IsHeadTold bytes head.now)
-        → IfErr result (IsStopped (N.held files.old) words.entry) }
+    ensures drawn { (held : List ℕ → Option (List ℕ))
+        → ((other : List ℕ) → N.held files.old other ≡ held other)
+        → IfSome (held log.now) (λ bytes. IsHeadTold bytes head.now)
+        → IfOk result (IsDrawn held words.entry) }
+    ensures cause { (held : List ℕ → Option (List ℕ))
+        → ((other : List ℕ) → N.held files.old other ≡ held other)
+        → IfSome (held log.now) (λ bytes. IsHeadTold bytes head.now)
+        → IfErr result (IsStopped held words.entry) }
 {
     let horizon = horizon_or(words, head.horizon);
     match titled_in(alloc, files, plan_words(words, horizon)) {
