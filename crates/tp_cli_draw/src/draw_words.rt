@@ -23,7 +23,8 @@ const GREATEST_HORIZON: u32 = 1_000_000_000;
 
 /// The plan that the words name, read with a horizon.
 pub(crate) fn plan_words(words: DrawWords<'_>, horizon: u32) -> PlanWords<'_>
-    ensures { result.entry ≡ plan_of words.entry horizon }
+    ensures is { result ≡ plan_of words.entry horizon }
+    ensures horizon { result.horizon ≡ horizon }
 {
     PlanWords {
         domain: words.domain,
