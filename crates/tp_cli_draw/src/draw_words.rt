@@ -6,8 +6,8 @@ ghost use Rattle.tp_cli_draw.specs.Words.{plan_of};
 use tp_cli_inputs::PlanWords;
 use tp_text::Scale;
 
-/// The files of a plan, the ticks of a unit of its time, the end of the windows where it is given, and the file of a journal, if
-/// a run is to be drawn.
+/// The files of a plan, the ticks of a unit of its time, the end of the windows where it is given,
+/// and the file of a journal, if a run is to be drawn.
 #[derive(Clone, Copy)]
 pub struct DrawWords<'w> {
     pub domain: &'w str,
