@@ -51,7 +51,7 @@ fn status<W: Write + Drop, V: Write + Drop, O: Ledger, F: Ledger>(
         scale: asked.scale,
         horizon: asked.horizon,
         budget: asked.budget,
-        order: Order::Lacking,
+        order: Order::Lacking { progress: false },
     };
     let mut files = files;
     let mut output = ToWrite::<W, O>::new(output, writes);
