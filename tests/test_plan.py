@@ -23,6 +23,19 @@ UNSWITCHED = "(define (problem p) (:domain toggle) (:init) (:goal (done)))"
 
 HELD = "(define (problem p) (:domain toggle) (:init (p)) (:goal (p)))"
 
+TANK, EMPTY = world("TANK"), world("EMPTY_TANK")
+
+CHARGE, UNCHARGED = world("CHARGE"), world("UNCHARGED")
+
+BOTH = "(define (problem p) (:domain charge) (:init (= (e) 0)) (:goal (and (>= (e) 8) (full))))"
+
+LAMP = """(define (domain lamp)
+ (:predicates (on))
+ (:action light :parameters () :precondition (not (on)) :effect (on))
+ (:action quench :parameters () :precondition (on) :effect (not (on))))"""
+
+NEVER = "(define (problem p) (:domain lamp) (:init) (:goal (and (on) (not (on)))))"
+
 # a domain, a problem of it, the words of the call, what it writes, and its exit status
 ROWS = (
     (TOGGLE, TOGGLED, CALL, "0: (need)\n", 0),
@@ -37,6 +50,21 @@ ROWS = (
     (MATCH, SPARE, CALL, "unreachable\n", 1),
     (MATCH, UNLIT, CALL, "exhausted\n", 1),
     (MATCH, UNLIT, "plan domain problem --horizon 1000000000 --budget 1000000", "exhausted\n", 1),
+    (MATCH, SPARE, "plan domain problem --budget 0", "unreachable\n", 1),
+    (TOGGLE, TOGGLED, "plan domain problem --budget 1", "0: (need)\n", 0),
+    (TOGGLE, UNSWITCHED, "plan domain problem --budget 8", "0: (give)\n0: (watch) [5]\n", 0),
+    (TANK, EMPTY, "plan domain problem --budget 1", "spent 1\n", 1),
+    (TANK, EMPTY, "plan domain problem --budget 2", "0: (fill-a)\n0: (fill-b)\n", 0),
+    (CHARGE, UNCHARGED, "plan domain problem --budget 2", "spent 2\n", 1),
+    (CHARGE, UNCHARGED, "plan domain problem --budget 3", "0: (rest) [2]\n", 0),
+    # no step ends by a near horizon
+    (CHARGE, UNCHARGED, "plan domain problem --budget 3 --horizon 1", "exhausted\n", 1),
+    # each charge of two ticks gives four
+    (CHARGE, BOTH, "plan domain problem --budget 10", "spent 10\n", 1),
+    (CHARGE, BOTH, "plan domain problem --budget 100", "0: (rest) [2]\n2: (charge) [2]\n4: (charge) [2]\n", 0),
+    # waits that lead to a state seen before are dropped, so no node is left in the end
+    (LAMP, NEVER, "plan domain problem --budget 5", "spent 5\n", 1),
+    (LAMP, NEVER, "plan domain problem --budget 6", "exhausted\n", 1),
 )
 
 
@@ -111,6 +139,13 @@ class Plan(Case):
         for domain, problem, words, text, status in ROWS:
             with self.subTest(f"{problem!r} {words}"):
                 self.comes_to(told_by(text, status), words, {"domain": domain, "problem": problem})
+
+    def test_plans_that_are_found_are_valid(self):
+        for domain, problem, _, text, status in ROWS:
+            if status == 0 and "." not in text:
+                with self.subTest(text):
+                    files = {"domain": domain, "problem": problem, "plan": text}
+                    self.comes_to(told("valid\n"), "check domain problem plan", files)
 
     def test_conditions_that_actions_share(self):
         for lit, goal, text in SHARED:

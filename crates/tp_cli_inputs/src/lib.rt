@@ -15,7 +15,7 @@ mod plan_words;
 mod verdict_lines;
 
 pub use judge_lines::{file_line, judge_line, plan_line, syntax_line, task_line};
-pub use judging::{JudgeFault, NamedPlan, domain_in, plan_in, problem_in, verdict_of};
+pub use judging::{JudgeFault, NamedPlan, domain_in, plan_in, plan_with, problem_in, verdict_of};
 pub use laws::task_plans_are_read;
 pub use plan_words::PlanWords;
 pub use verdict_lines::write_invalid;

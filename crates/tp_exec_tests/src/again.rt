@@ -2,7 +2,7 @@
 //! more, and answers as one that nothing preceded. `scripts/refused-memory` lets each request of a
 //! test fail in turn; with ample memory the tests show that each call has an answer.
 //!
-//! - `worlds`: the small domains and problems, and their tasks
+//! - `worlds`: the tasks of the small domains
 //! - `texts`: words, trees, domains and problems
 //! - `tasks`: what is told of a task, and happenings
 //! - `plans`: plans that are read, judged, looked for, and freed from their order

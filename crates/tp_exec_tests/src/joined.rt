@@ -14,6 +14,7 @@ ghost use Rattle.tp_agents.specs.Parts.{IsPart};
 ghost use Rattle.tp_agents_laws.specs.PartRuns.{BeginsPart, IsPartReport, ArePartReports};
 ghost use Rattle.tp_agents_laws.specs.NetsInForce.{HasInForce, MakesValidPlan};
 
+use crate::wanting::had_memory;
 use std::alloc::{AllocError, Global};
 use std::test::Fail;
 use tp_agents::{Owners, Split, SplitFault, join_runs, part, split};
@@ -70,7 +71,8 @@ fn report_of(executive: &Executive<RepairNet>) -> Result<Report, AllocError>
     }
 }
 
-/// What an executive reports after these commands.
+/// What an executive reports after these commands. A run in which a command wanted memory counts as
+/// one that was refused.
 fn run_of(
     alloc: Global,
     executive: &mut Executive<RepairNet>,
@@ -79,7 +81,10 @@ fn run_of(
     ensures { IfOk result (λ r. (answers : List Answer)
         × Run executive.old commands.now answers executive.new × IsReport executive.new r) }
 {
-    let _answers = perform_all(alloc, executive, commands)?;
+    let answers = perform_all(alloc, executive, commands)?;
+    if !had_memory(&answers) {
+        return Err(AllocError);
+    }
     report_of(executive)
 }
 
@@ -162,22 +167,12 @@ fn come_to(
     }
 }
 
-/// The same; where a command wanted memory, in another run.
-fn do_come_to(
-    alloc: Global,
-    split: &Split,
-    second: &[Command],
-    wanted: Option<&[u32]>,
-) -> Result<bool, AllocError> {
-    Ok(come_to(alloc, split, second, wanted)? || come_to(alloc, split, second, wanted)?)
-}
-
 #[test]
 fn runs_of_two_parts_are_joined(rt: HostRuntime) -> Result<(), Fail> {
     let split = again!(split_by_hand(rt.alloc()))?;
     let late = [Advance(5), Dispatch(0)];
-    assert!(rt; do_come_to(rt.alloc(), &split, &late, Some(&[0, 5]))?);
+    assert!(rt; come_to(rt.alloc(), &split, &late, Some(&[0, 5]))?);
     // one is not done
-    assert!(rt; do_come_to(rt.alloc(), &split, &late[..1], None)?);
+    assert!(rt; come_to(rt.alloc(), &split, &late[..1], None)?);
     Ok(())
 }

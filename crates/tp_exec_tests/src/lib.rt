@@ -5,14 +5,15 @@
 //! - `agents`: splits among agents, and parts carried out apart and joined
 //! - `joined`: calls that meet what the laws of joined runs ask, on a split by hand
 //! - `again`: each call that may want memory
+//! - `wanting`: the faults that tell of want of memory
 #![tactic(auto)]
 
-/// The answer of a call; where it is an error, that of the same call once more.
+/// The answer of a call; where it wants memory, that of the same call once more.
 #[cfg(test)]
 macro_rules! again {
     ($call:expr) => {
         match $call {
-            Err(_) => $call,
+            Err(fault) if crate::wanting::Wanting::is_memory(&fault) => $call,
             first => first,
         }
     };
@@ -26,3 +27,5 @@ mod agents;
 mod joined;
 #[cfg(test)]
 mod machine;
+#[cfg(test)]
+mod wanting;

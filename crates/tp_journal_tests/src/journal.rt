@@ -1,7 +1,6 @@
-//! Tests of `tp_journal_pairs` and `tp_journal`. `writing`: sessions with their journals, over
-//! readers and writers in memory; `judging`: answers that the machine allows, and others;
-//! `auditing`: journals that are audited, and their heads.
+//! Tests of `tp_journal_pairs` and `tp_journal`. `judging`: answers that the machine allows, and
+//! others; `auditing`: journals that are audited, and their heads. Journals that are written are
+//! tests of `failing`, of the program in `tp_cli_tests`, and of the built program.
 
 mod auditing;
 mod judging;
-mod writing;

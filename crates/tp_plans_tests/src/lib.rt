@@ -4,14 +4,11 @@
 //! - `validate`: verdicts on plans, and the networks of the valid ones
 //! - `search`: the relaxed reach, and plans that best-first search finds
 //! - `guided`: relaxed plans, and plans that the guided search finds
-//! - `solve`: what `solve` answers
 #![tactic(auto)]
 
 #[cfg(test)]
 mod guided;
 #[cfg(test)]
 mod search;
-#[cfg(test)]
-mod solve;
 #[cfg(test)]
 mod validate;

@@ -3,9 +3,7 @@
 //! - `kept`: tasks with the actions alone that the relaxed reach keeps
 //! - `reaching`: what is in relaxed reach
 //! - `seeking`: what a search answers, as a text
-//! - `worlds`: matches, switches, tanks and charges
 
 mod kept;
 mod reaching;
 mod seeking;
-mod worlds;

@@ -35,7 +35,8 @@ fn head_of<L: Ledger>(
 fn head(alloc: Global, text: &[u8]) -> Result<JournalHead, AuditFault> {
     match head_of::<Brand>(alloc, text, Blank::new(1)) {
         Ok(head) => head,
-        Err(_) => Err(AuditFault::Memory),
+        Err(ServeFault::Memory) => Err(AuditFault::Memory),
+        Err(_) => Err(AuditFault::Read),
     }
 }
 
@@ -72,7 +73,8 @@ fn audit_of<L: Ledger>(
 fn audited(alloc: Global, text: &[u8]) -> Result<Audited, AuditFault> {
     match audit_of::<Brand>(alloc, text, Blank::new(1)) {
         Ok(found) => found,
-        Err(_) => Err(AuditFault::Memory),
+        Err(ServeFault::Memory) => Err(AuditFault::Memory),
+        Err(_) => Err(AuditFault::Read),
     }
 }
 

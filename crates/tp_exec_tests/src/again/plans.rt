@@ -2,7 +2,7 @@
 
 ghost use Rattle.tp_validate.specs.OfTask.{IsOfTask};
 
-use crate::again::worlds::{CHARGES, FUSES, SWITCHES, TANKS, World, task_of};
+use crate::again::worlds::task_of;
 use std::alloc::Global;
 use std::test::Fail;
 use tp_bounds::PlanNet;
@@ -10,6 +10,7 @@ use tp_deorder::deorder;
 use tp_happen::{Plan, read_plan};
 use tp_search::{Found, search};
 use tp_task::Task;
+use tp_testkit_tasks::{CHARGES, FUSES, SWITCHES, TANKS, World};
 use tp_validate::{ValidPlan, ValidateFault, Verdict, validate};
 
 /// The verdict on a plan; where memory is refused, that on the plan that was handed back.

@@ -5,7 +5,8 @@ ghost use Rattle.tp_deorder.specs.Answers.{IsPlanNetOf};
 ghost use Rattle.tp_exec.specs.FromPlan.{CameFrom, TellsPlan};
 
 use crate::again::plans::valid_plan;
-use crate::again::worlds::{CHARGES, FUSES, World, task_of};
+use crate::again::worlds::task_of;
+use crate::wanting::had_memory;
 use std::alloc::{AllocError, Global};
 use std::test::Fail;
 use tp_bounds::{BoundId, Limits, MOST_BOUNDS, PlanNet};
@@ -15,6 +16,7 @@ use tp_exec_machine::{Command, Executive, perform_all};
 use tp_happen::{Plan, Step};
 use tp_repair::RepairNet;
 use tp_task::Task;
+use tp_testkit_tasks::{CHARGES, FUSES, World};
 use tp_validate::ValidPlan;
 
 /// An executive over the network of a plan, under the greatest limits.
@@ -36,24 +38,24 @@ fn over(
     Ok(Some(Executive::from_plan(alloc, network, most, net)?))
 }
 
-/// Carries these commands out.
+/// Carries these commands out, and tells whether none of them wanted memory.
 fn carry_out(
     alloc: Global,
     plan: &ValidPlan<'_>,
     executive: &mut Executive<RepairNet>,
     commands: &[Command],
-) -> Result<(), AllocError>
+) -> Result<bool, AllocError>
     requires { CameFrom plan.now.task plan.now.steps executive.old }
     ensures { OnOk result (CameFrom plan.now.task plan.now.steps executive.new) }
 {
     let _ = plan;
     runs_keep_the_plan();
-    let _answers = perform_all(alloc, executive, commands)?;
-    Ok(())
+    let answers = perform_all(alloc, executive, commands)?;
+    Ok(had_memory(&answers))
 }
 
 /// The plan of the run of these commands; where memory is refused to that call, it is made once
-/// more.
+/// more. A run in which a command wanted memory counts as one that was refused.
 fn plan_of(
     alloc: Global,
     plan: &ValidPlan<'_>,
@@ -63,7 +65,9 @@ fn plan_of(
     requires { CameFrom plan.now.task plan.now.steps executive.old }
     ensures { IfOk result (TellsPlan plan.now.task plan.now.steps executive.new) }
 {
-    carry_out(alloc, plan, executive, commands)?;
+    if !carry_out(alloc, plan, executive, commands)? {
+        return Err(AllocError);
+    }
     again!(run_plan(executive, plan))
 }
 
@@ -129,8 +133,7 @@ fn comes_to(alloc: Global, task: &Task, run: Run) -> Result<bool, Fail> {
 
 fn comes_of(alloc: Global, run: Run) -> Result<bool, Fail> {
     let task = task_of(alloc, run.world)?;
-    // where a command wanted memory, the run is another
-    Ok(comes_to(alloc, &task, run)? || comes_to(alloc, &task, run)?)
+    comes_to(alloc, &task, run)
 }
 
 const MENDED: &str = "0: (light-match m1) [8]\n0: (mend-fuse f1) [5]";

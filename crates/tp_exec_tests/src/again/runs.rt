@@ -2,7 +2,7 @@
 
 use crate::again::networks::{answer, carries_out};
 use crate::again::plans::network_of;
-use crate::again::worlds::{CHARGES, FUSES, SWITCHES, TANKS, World, task_of};
+use crate::again::worlds::task_of;
 use std::alloc::{AllocError, Global};
 use std::test::Fail;
 use tp_bounds::{BoundId, Limits, MOST_BOUNDS, PlanNet, check_schedule};
@@ -10,6 +10,7 @@ use tp_exec_machine::{Answer, Command, Executive};
 use tp_net::Net;
 use tp_repair::RepairNet;
 use tp_task::Task;
+use tp_testkit_tasks::{CHARGES, FUSES, SWITCHES, TANKS, World};
 
 /// An executive over the network of a plan, under the greatest limits.
 fn over(alloc: Global, network: &PlanNet) -> Result<Option<Executive<RepairNet>>, AllocError> {

@@ -5,11 +5,12 @@ ghost use Rattle.std.specs.List.{list_all};
 ghost use Rattle.tp_happen.specs.Stored.{fits_in};
 ghost use Rattle.tp_exec_tests.specs.OfTask.{has_event};
 
-use crate::again::worlds::{CHARGES, FUSES, SWITCHES, TANKS, World, kept_of, task_of};
+use crate::again::worlds::{kept_of, task_of};
 use std::alloc::Global;
 use std::test::Fail;
 use tp_happen::{ApplyFault, EventRef, Outcome, Part, State, apply, event};
 use tp_task::{ActionId, AtomId, FluentId, Task};
+use tp_testkit_tasks::{CHARGES, FUSES, SWITCHES, TANKS, World};
 
 /// Whether the first action and the first atom of a task have these texts.
 fn tells(task: &Task, action: &str, atom: &str) -> Result<bool, Fail> {

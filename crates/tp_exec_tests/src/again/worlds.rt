@@ -1,4 +1,4 @@
-//! The small domains and problems, and their tasks.
+//! The tasks of the small domains.
 
 use std::alloc::Global;
 use std::test::Fail;
@@ -6,35 +6,8 @@ use tp_bounds::Limits;
 use tp_ground::{ground, ground_reached};
 use tp_syntax::{Domain, read_domain, read_problem};
 use tp_task::Task;
-use tp_testkit_domains::{CHARGE, EMPTY_TANK, MATCH, MATCHES, TANK, TOGGLE, TOGGLED, UNCHARGED};
+use tp_testkit_tasks::World;
 use tp_text::Scale;
-
-/// A domain and a problem.
-#[derive(Clone, Copy)]
-pub(crate) struct World<'a> {
-    pub(crate) domain: &'a str,
-    pub(crate) problem: &'a str,
-}
-
-pub(crate) const FUSES: World<'static> = World {
-    domain: MATCH,
-    problem: MATCHES,
-};
-
-pub(crate) const SWITCHES: World<'static> = World {
-    domain: TOGGLE,
-    problem: TOGGLED,
-};
-
-pub(crate) const TANKS: World<'static> = World {
-    domain: TANK,
-    problem: EMPTY_TANK,
-};
-
-pub(crate) const CHARGES: World<'static> = World {
-    domain: CHARGE,
-    problem: UNCHARGED,
-};
 
 fn task_in(alloc: Global, domain: &Domain, problem: &str) -> Result<Task, Fail> {
     let problem = again!(read_problem(alloc, problem, domain))?;

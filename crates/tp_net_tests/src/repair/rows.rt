@@ -36,10 +36,16 @@ fn tightens(net: &mut RepairNet) -> bool {
     takes(net, add(0, ORIGIN, ZERO, 10))
         && takes(net, add(1, ZERO, ONE, 5))
         && 1 <= net.looks()
+        && net.looks() <= 12
         && has_window(net, 1, 0, 15)
         && takes(net, add(2, ZERO, ONE, 90))
         && net.looks() <= 2
         && has_window(net, 1, 0, 15)
+}
+
+/// A bound that narrows no window is looked at alone.
+fn looks_at_one_bound(net: &mut RepairNet) -> bool {
+    takes(net, add(0, ZERO, ONE, 5)) && net.looks() == 2
 }
 
 fn lets_go(net: &mut RepairNet) -> bool {
@@ -67,6 +73,7 @@ fn goes_on(net: &mut RepairNet) -> bool {
 /// A loop that no schedule goes round is refused after few looks, however far the horizon is.
 fn refuses_a_loop(net: &mut RepairNet) -> bool {
     takes(net, add(0, ZERO, ONE, -1))
+        && 2 <= net.looks()
         && net.looks() <= 32
         && ask(net, add(1, ONE, ZERO, 0)) == Answer::Conflict(Some(Edge::New), 2)
         && 1 <= net.looks()
@@ -112,6 +119,8 @@ fn looks_are_few(rt: HostRuntime) -> Result<(), Fail> {
     assert!(rt; refuses_a_loop(&mut far));
     let mut near = network(rt.alloc(), 2)?;
     assert!(rt; looks_at_little(&mut near));
+    let mut free = network(rt.alloc(), 2)?;
+    assert!(rt; looks_at_one_bound(&mut free));
     Ok(())
 }
 

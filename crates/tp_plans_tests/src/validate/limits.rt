@@ -1,8 +1,7 @@
 //! Where a plan has too many events, bounds or ticks for the limits.
 
-use crate::validate::worlds::{network, task_of, task_until};
-use std::alloc::{AllocError, Global};
-use std::fmt::Write;
+use crate::validate::worlds::task_of;
+use std::alloc::Global;
 use std::process::Abort;
 use std::test::Fail;
 use tp_bounds::Limits;
@@ -83,26 +82,4 @@ const ROWS: [Row<'static>; 9] = [
 #[test]
 fn plans_within_limits(rt: HostRuntime) -> Result<(), Fail> {
     are_rows(&rt, rt.alloc(), &ROWS)
-}
-
-/// A plan of so many steps, a tick apart, that all interfere.
-fn chain_of(alloc: Global, count: u32) -> Result<String, AllocError> {
-    let mut text = String::new(alloc);
-    for tick in 0..count {
-        writeln!(text, "{tick}: (set)")?;
-    }
-    Ok(text)
-}
-
-fn has_orders(rt: &impl Abort, alloc: Global, task: &Task, plan: &str) -> Result<(), Fail> {
-    let net = network(alloc, task, plan, &task.limits)?;
-    assert_eq!(rt; net.bounds.len(), 511);
-    Ok(())
-}
-
-#[test]
-fn as_many_steps_as_a_plan_has_keep_511_orders(rt: HostRuntime) -> Result<(), Fail> {
-    let task = task_until(rt.alloc(), LINES, 1_000)?;
-    let plan = chain_of(rt.alloc(), 512)?;
-    has_orders(&rt, rt.alloc(), &task, plan.as_str())
 }

@@ -7,6 +7,7 @@ use tp_syntax::{
     Body, Cond, Domain, Expr, Joined, Signature, SyntaxFault, TypeName, Typed, read_domain,
 };
 use tp_testkit_domains::{CHARGE, MATCH, TANK, TOGGLE};
+use tp_text::TextFault;
 
 // Whether a domain has this name and so many actions.
 fn has_actions(domain: &Domain, name: &str, actions: usize) -> bool {
@@ -228,6 +229,30 @@ fn many_variables_are_found(rt: HostRuntime) -> Result<(), Fail> {
     ] {
         let (fault, _) = effect_fault(rt.alloc(), effect)?;
         assert!(rt; fault.is_none(), "in {effect}");
+    }
+    Ok(())
+}
+
+// Each fault at the byte that is marked.
+#[test]
+fn faults_are_at_their_places(rt: HostRuntime) -> Result<(), Fail> {
+    for (marked, wanted) in [
+        (
+            "^(define (domain d)",
+            SyntaxFault::Text(TextFault::Unclosed(0)),
+        ),
+        (
+            "(define (domain d)) ^x",
+            SyntaxFault::Text(TextFault::Extra(20)),
+        ),
+        ("", SyntaxFault::Text(TextFault::Empty)),
+        ("^define", SyntaxFault::Shape(0)),
+        ("^(defined (domain d))", SyntaxFault::Shape(0)),
+        ("(define ^(problem d))", SyntaxFault::Shape(8)),
+        ("(define ^(domain 1))", SyntaxFault::Shape(8)),
+    ] {
+        let (fault, _) = fault_of(rt.alloc(), marked)?;
+        assert!(rt; fault == Some(wanted), "in {marked}");
     }
     Ok(())
 }

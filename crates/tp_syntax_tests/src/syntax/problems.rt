@@ -1,10 +1,12 @@
 //! Tests of problems that are read.
 
-use crate::syntax::texts::FUSES;
+use crate::syntax::texts::{FUSES, first_other};
 use std::test::Fail;
 use tp_syntax::{
-    Atom, Comparison, Cond, Expr, Initial, Problem, Term, Typed, read_domain, read_problem,
+    Atom, Comparison, Cond, Expr, Initial, Problem, SyntaxFault, Term, Typed, read_domain,
+    read_problem,
 };
+use tp_text::TextFault;
 
 /// What an entry of `:init` says of a name with objects.
 #[derive(Drop)]
@@ -134,5 +136,25 @@ fn each_part_of_a_problem_is_read(rt: HostRuntime) -> Result<(), Fail> {
     let domain = read_domain(rt.alloc(), FUSES)?;
     let problem = read_problem(rt.alloc(), text, &domain)?;
     assert!(rt; is_night(&problem));
+    Ok(())
+}
+
+#[test]
+fn texts_that_are_no_list_are_refused(rt: HostRuntime) -> Result<(), Fail> {
+    let rows = [
+        ("", SyntaxFault::Text(TextFault::Empty)),
+        ("; nothing", SyntaxFault::Text(TextFault::Empty)),
+        (
+            "(define (problem p)",
+            SyntaxFault::Text(TextFault::Unclosed(0)),
+        ),
+        (
+            "(define (problem p)) x",
+            SyntaxFault::Text(TextFault::Extra(21)),
+        ),
+        ("(define \u{7f})", SyntaxFault::Text(TextFault::BadByte(8))),
+    ];
+    let domain = read_domain(rt.alloc(), FUSES)?;
+    assert_eq!(rt; first_other(rt.alloc(), &domain, &rows), None);
     Ok(())
 }

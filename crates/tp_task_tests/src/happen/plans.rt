@@ -103,25 +103,16 @@ fn brackets_of_an_instantaneous_action_are_ignored(rt: HostRuntime) -> Result<()
     are_read(&rt, rt.alloc(), SWITCHES, &BRACKETS)
 }
 
-const REFUSED: [Row<'static>; 13] = [
+const REFUSED: [Row<'static>; 3] = [
     ("0: (charge)", Err(PlanFault::NoDuration(1))),
-    ("x: (rest) [2]", Err(PlanFault::Line(1))),
-    ("0: (dash) [1]", Err(PlanFault::NoAction(1))),
-    ("4: (rest) [2]", Err(PlanFault::Horizon(1))),
-    ("1.: (rest) [2]", Err(PlanFault::Line(1))),
-    ("0: rest [2]", Err(PlanFault::Line(1))),
-    ("0: () [2]", Err(PlanFault::Line(1))),
-    ("0: (2rest) [2]", Err(PlanFault::Line(1))),
-    ("0: (rest) [2] x", Err(PlanFault::Line(1))),
-    ("0: (rest) [x]", Err(PlanFault::Line(1))),
     ("\n;\n0: (rest) [2", Err(PlanFault::Line(3))),
-    ("0: (r\u{e9}st) [2]", Err(PlanFault::Line(1))),
     (
         "0: (rest) [2]\n3: (rest) [3]\nx",
         Err(PlanFault::Horizon(2)),
     ),
 ];
 
+// Tables of such texts are tests of the built program.
 #[test]
 fn texts_that_are_refused(rt: HostRuntime) -> Result<(), Fail> {
     let world = World {
@@ -131,35 +122,12 @@ fn texts_that_are_refused(rt: HostRuntime) -> Result<(), Fail> {
     are_read(&rt, rt.alloc(), world, &REFUSED)
 }
 
-// Within a line its form is looked at first, then its action, then its brackets, then its ticks,
-// and at last the horizon.
-const IN_ORDER: [Row<'static>; 7] = [
-    ("0.0005: (dash) x", Err(PlanFault::Line(1))),
-    ("0.0005: (dash)", Err(PlanFault::NoAction(1))),
-    ("0.0005: (charge)", Err(PlanFault::NoDuration(1))),
-    ("0.0005: (charge) [9]", Err(PlanFault::NotTicks(1))),
-    ("9: (charge) [0.0005]", Err(PlanFault::NotTicks(1))),
-    ("0: (charge) [5000000]", Err(PlanFault::NotTicks(1))),
-    ("0: (charge) [5.001]", Err(PlanFault::Horizon(1))),
-];
-
-#[test]
-fn the_order_of_faults_within_a_line(rt: HostRuntime) -> Result<(), Fail> {
-    let world = World {
-        scale: Scale::Thousand,
-        horizon: 5000,
-        ..CHARGES
-    };
-    are_read(&rt, rt.alloc(), world, &IN_ORDER)
-}
-
-/// A text's front, so many times the same line with a comment after each, and its rest.
-fn text_of(alloc: Global, front: &str, count: usize, rest: &str) -> Result<String, AllocError> {
-    let mut text = String::from_str(alloc, front)?;
+/// So many times the same line with a comment after each.
+fn text_of(alloc: Global, count: usize) -> Result<String, AllocError> {
+    let mut text = String::new(alloc);
     for _ in 0..count {
         text.push_str("0: (rest) [2]\n;\n")?;
     }
-    text.push_str(rest)?;
     Ok(text)
 }
 
@@ -168,32 +136,12 @@ fn count_of(alloc: Global, task: &Task, text: &str) -> Result<usize, PlanFault> 
     Ok(plan.steps().len())
 }
 
-/// A text's front, how many good lines follow, its rest, and how many steps it has or its fault.
-type Long<'a> = (&'a str, usize, &'a str, Result<usize, PlanFault>);
-
-fn is_counted(alloc: Global, task: &Task, row: Long<'_>) -> Result<bool, Fail> {
-    let text = text_of(alloc, row.0, row.1, row.2)?;
-    Ok(count_of(alloc, task, text.as_str()) == row.3)
-}
-
-fn are_counted(rt: &impl Abort, alloc: Global, task: &Task, rows: &[Long<'_>]) -> Result<(), Fail> {
-    for (number, row) in rows.iter().enumerate() {
-        let counted = is_counted(alloc, task, *row)?;
-        assert!(rt; counted, "row {number}");
-    }
-    Ok(())
-}
-
-const LONG: [Long<'static>; 5] = [
-    ("", 512, "", Ok(512)),
-    ("", 512, "x", Err(PlanFault::TooMany)),
-    (";\nx\n", 513, "", Err(PlanFault::Line(2))),
-    ("", 511, "x", Err(PlanFault::Line(1023))),
-    ("", 600, "x", Err(PlanFault::TooMany)),
-];
-
 #[test]
 fn a_plan_has_at_most_512_steps(rt: HostRuntime) -> Result<(), Fail> {
     let task = task_of(rt.alloc(), CHARGES)?;
-    are_counted(&rt, rt.alloc(), &task, &LONG)
+    let full = text_of(rt.alloc(), 512)?;
+    assert!(rt; count_of(rt.alloc(), &task, full.as_str()) == Ok(512));
+    let more = text_of(rt.alloc(), 513)?;
+    assert!(rt; count_of(rt.alloc(), &task, more.as_str()) == Err(PlanFault::TooMany));
+    Ok(())
 }
