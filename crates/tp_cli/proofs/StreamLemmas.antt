@@ -28,6 +28,8 @@ use Rattle.tp_cli_run.specs.RunJournals.{LogsInNone, LogsInPlan, LogsToNone, Log
 use Rattle.tp_cli_plan.specs.Searches.{SaysNoPlan, SearchesPart, WritesPlan}
 use Rattle.tp_cli_split.specs.Splits.{SplitsPart, WritesPlan as WritesIntervals, WritesSome, WritesSplit}
 use Rattle.tp_cli_plan.specs.declared.search_words.SearchWords.{SearchWords}
+use Rattle.tp_cli_draw.specs.Draws.{DrawsPart, WritesDrawn}
+use Rattle.tp_cli_draw.specs.declared.draw_words.DrawWords.{DrawWords}
 use Rattle.tp_cli_resume.specs.Bare.{ResumesBare, ResumesPart, SaysWrongOld}
 use Rattle.tp_cli_resume.specs.Run.{GoesOfPlan, ResumesRun}
 use Rattle.tp_cli.specs.CallFiles.{CallFiles, journal_file}
@@ -41,7 +43,7 @@ use Rattle.tp_cli.specs.Endings.{EndsCall}
 use Rattle.tp_cli.specs.Streams.{Ends, HandsOn, IsStopped, Runs, TellsSome}
 use Rattle.tp_cli_inputs.specs.declared.plan_words.PlanWords.{PlanWords}
 use Rattle.tp_cli_args.specs.declared.requests.Request.{Request}
-use Rattle.tp_cli_args.specs.declared.requests.Request.TheVariants.{Bare, BareLog, BareResume, Check, Net, Run, RunLog, RunResume, Plan, Audit, PlanAudit, Split, Part, Help}
+use Rattle.tp_cli_args.specs.declared.requests.Request.TheVariants.{Bare, BareLog, BareResume, Check, Net, Run, RunLog, RunResume, Plan, Audit, PlanAudit, Split, Part, Draw, Help}
 
 -- what was appended there was appended here
 abbrev pub Shift : Option (List ℕ) → Option (List ℕ) → Option (List ℕ) → Option (List ℕ) → Type 0
@@ -444,6 +446,13 @@ goes_over held w kept input a b c d file false over (inr h) =
 resumes_run_over : (held : List ℕ → Option (List ℕ)) (w : PlanWords) (old : List ℕ) (input a b c d : Option (List ℕ)) (file : LogFile) (done : Bool) → Shift a b c d → ResumesRun held w old input a b file done → ResumesRun held w old input c d file done
 resumes_run_over held w old input a b c d file done over h = (h.0, h.1, goes_over held w h.0 input a b c d file done over h.2)
 
+drawn_over : (held : List ℕ → Option (List ℕ)) (w : DrawWords) (a b c d : Option (List ℕ)) (yes : Bool) → Shift a b c d → WritesDrawn held w a b yes → WritesDrawn held w c d yes
+drawn_over held w a b c d yes over h = (h.0, h.1, h.2, over _ h.3)
+
+draws_part_over : (held : List ℕ → Option (List ℕ)) (w : DrawWords) (a b c d : Option (List ℕ)) → Shift a b c d → DrawsPart held w a b → DrawsPart held w c d
+draws_part_over held w a b c d over (inl none) = inl (over _ none)
+draws_part_over held w a b c d over (inr h) = inr (h.0, h.1, part_over a b c d _ over h.2)
+
 done_over : (request : Request) (files : CallFiles) (input a b c d : Option (List ℕ)) → Shift a b c d → IsDone request files input a b → IsDone request files input c d
 done_over Bare files input a b c d over h = all_over input a b c d over h
 done_over (BareLog log) files input a b c d over h = (logs_over input a b c d files.blank files.kept over h.0, h.1, h.2)
@@ -458,6 +467,7 @@ done_over (Audit log) files input a b c d over h = journal_over (files.held log.
 done_over (PlanAudit log w) files input a b c d over h = plan_journal_over files.held w (files.held log.now) a b c d over h
 done_over (Split w owners) files input a b c d over h = split_over None files.held w owners.now a b c d over h
 done_over (Part w owners agent) files input a b c d over h = split_over (Some agent) files.held w owners.now a b c d over h
+done_over (Draw w) files input a b c d over h = drawn_over files.held w a b c d true over h
 done_over (Help text) files input a b c d over h = over _ h
 
 part_done_over : (request : Request) (files : CallFiles) (input a b c d : Option (List ℕ)) → Shift a b c d → IsPartDone request files input a b → IsPartDone request files input c d
@@ -474,6 +484,7 @@ part_done_over (Audit log) files input a b c d over h = audit_part_over (files.h
 part_done_over (PlanAudit log w) files input a b c d over h = plan_audit_part_over files.held w (files.held log.now) a b c d over h
 part_done_over (Split w owners) files input a b c d over h = split_part_over None files.held w owners.now a b c d over h
 part_done_over (Part w owners agent) files input a b c d over h = split_part_over (Some agent) files.held w owners.now a b c d over h
+part_done_over (Draw w) files input a b c d over h = draws_part_over files.held w a b c d over h
 part_done_over (Help text) files input a b c d over h = part_over a b c d _ over h
 
 pub does_over : (words : List (List ℕ)) (files : CallFiles) (input a b c d : Option (List ℕ)) → Shift a b c d → DoesWhatIsAsked words files input a b → DoesWhatIsAsked words files input c d
@@ -494,6 +505,7 @@ said_over (Audit log) files input a b c d over h = wrong_over (files.held log.no
 said_over (PlanAudit log w) files input a b c d over h = plan_no_over files.held w (files.held log.now) a b c d over h
 said_over (Split w owners) files input a b c d over h = invalid_over files.held w a b c d over h
 said_over (Part w owners agent) files input a b c d over h = invalid_over files.held w a b c d over h
+said_over (Draw w) files input a b c d over h = drawn_over files.held w a b c d false over h
 said_over (Help text) files input a b c d over h = absurd h
 
 pub no_over : (words : List (List ℕ)) (files : CallFiles) (input a b c d : Option (List ℕ)) → Shift a b c d → AnswersNo words files input a b → AnswersNo words files input c d

@@ -11,6 +11,7 @@ use Rattle.tp_cli_run.specs.Runs.{RunsPart, RunsToNone, RunsToPlan}
 use Rattle.tp_cli_plan.specs.Searches.{SaysNoPlan, SearchesPart, WritesPlan}
 use Rattle.tp_cli_split.specs.Splits.{SplitsPart, WritesSplit}
 use Rattle.tp_cli_run.specs.RunJournals.{LogsToNone, LogsToPlan}
+use Rattle.tp_cli_draw.specs.Draws.{Draws, DrawsNo, DrawsPart}
 use Rattle.tp_cli_resume.specs.Bare.{ResumesBare, ResumesPart, SaysWrongOld}
 use Rattle.tp_cli_resume.specs.Run.{ResumesRun, StopsEarly}
 use Rattle.tp_cli.specs.CallFiles.{CallFiles, journal_file}
@@ -19,7 +20,7 @@ use Rattle.tp_cli.specs.Journaled.{LogsSome, LogsTo}
 use Rattle.tp_cli.specs.Networks.{ShowsNetwork, ShowsPart}
 use Rattle.tp_cli_args.specs.Requests.{AsksFor}
 use Rattle.tp_cli_args.specs.declared.requests.Request.{Request}
-use Rattle.tp_cli_args.specs.declared.requests.Request.TheVariants.{Bare, BareLog, BareResume, Check, Net, Run, RunLog, RunResume, Plan, Audit, PlanAudit, Split, Part, Help}
+use Rattle.tp_cli_args.specs.declared.requests.Request.TheVariants.{Bare, BareLog, BareResume, Check, Net, Run, RunLog, RunResume, Plan, Audit, PlanAudit, Split, Part, Draw, Help}
 
 -- all commands of the input were answered; the same, and their journal is in the file that was named for it; the same behind an earlier
 -- journal, with all of it; the plan is valid and that was
@@ -46,6 +47,7 @@ IsDone (PlanAudit log w) files input held now =
 IsDone (Split w owners) files input held now = WritesSplit None files.held w owners.now held now
 IsDone (Part w owners agent) files input held now =
     WritesSplit (Some agent) files.held w owners.now held now
+IsDone (Draw w) files input held now = Draws files.held w held now
 IsDone (Help text) files input held now = Appends held now (string_bytes text)
 
 -- the words ask for something, and it was done
@@ -76,6 +78,7 @@ IsAnsweredNo (PlanAudit log w) files input held now =
     SaysPlanNo files.held w (files.held log.now) held now
 IsAnsweredNo (Split w owners) files input held now = SaysInvalid files.held w held now
 IsAnsweredNo (Part w owners agent) files input held now = SaysInvalid files.held w held now
+IsAnsweredNo (Draw w) files input held now = DrawsNo files.held w held now
 IsAnsweredNo (Help text) files input held now = ⊥
 
 -- the words ask for the verdict on a plan, for its network, for its run, for its split, for a plan or for an audit, and the answer is no
@@ -105,6 +108,7 @@ IsPartDone (Split w owners) files input held now =
     SplitsPart None files.held w owners.now held now
 IsPartDone (Part w owners agent) files input held now =
     SplitsPart (Some agent) files.held w owners.now held now
+IsPartDone (Draw w) files input held now = DrawsPart files.held w held now
 IsPartDone (Help text) files input held now = AppendsPart held now (string_bytes text)
 
 -- nothing was written, or the words ask for something, and some first part of it was written

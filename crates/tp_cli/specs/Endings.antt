@@ -11,6 +11,7 @@ use Rattle.tp_cli_run.specs.Runs.{EndsRun}
 use Rattle.tp_cli_plan.specs.SearchStops.{EndsSearch}
 use Rattle.tp_cli_split.specs.Splits.{EndsSplit}
 use Rattle.tp_cli_run.specs.RunJournals.{EndsRunLog}
+use Rattle.tp_cli_draw.specs.Draws.{EndsDraw}
 use Rattle.tp_cli_resume.specs.Bare.{EndsResumed}
 use Rattle.tp_cli_resume.specs.Run.{EndsRunResumed}
 use Rattle.tp_cli.specs.CallFiles.{CallFiles, journal_file}
@@ -19,7 +20,7 @@ use Rattle.tp_cli.specs.Checks.{EndsCheck}
 use Rattle.tp_cli.specs.Networks.{EndsNet}
 use Rattle.tp_cli_args.specs.Requests.{AsksFor}
 use Rattle.tp_cli_args.specs.declared.requests.Request.{Request}
-use Rattle.tp_cli_args.specs.declared.requests.Request.TheVariants.{Bare, BareLog, BareResume, Check, Net, Run, RunLog, RunResume, Plan, Audit, PlanAudit, Split, Part, Help}
+use Rattle.tp_cli_args.specs.declared.requests.Request.TheVariants.{Bare, BareLog, BareResume, Check, Net, Run, RunLog, RunResume, Plan, Audit, PlanAudit, Split, Part, Draw, Help}
 
 -- there was no memory for the words
 pub record LacksMemory (status : ℕ) (held held-now : Option (List ℕ)) (output output-now : ℕ)
@@ -97,6 +98,9 @@ EndsRequest (Part w owners agent) files input status held held-now output output
     failures-now now
     = EndsSplit (Some agent) files.held w owners.now status held held-now output output-now failures
     before failures-now now
+EndsRequest
+    (Draw w) files input status held held-now output output-now failures before failures-now now =
+    EndsDraw files.held w status held held-now output output-now failures before failures-now now
 EndsRequest
     (Help text) files input status held held-now output output-now failures before failures-now now
     = StopsHelp (string_bytes text) status held held-now failures before failures-now now

@@ -11,16 +11,18 @@ use Rattle.clap.proofs.WalkLemmas.{one_text-rows}
 use Rattle.std.specs.Str.Parse.{digits_value, without_leading_plus}
 use Rattle.clap.specs.declared.parser.matches.Found.{Found}
 use Rattle.tp_cli_args.specs.Commands.{tempo_app}
-use Rattle.tp_cli_args.specs.Requests.{AskForOneThing, AsksBy, AsksFor, AsksSearch, IsFlag, IsSearchWords, NamesBare, Spells, TellsText, command_name, domain_name, journal_name, order_command, owners_name, resume_name}
+use Rattle.tp_cli_args.specs.Requests.{AskForOneThing, AsksBy, AsksFor, AsksSearch, IsFlag, IsSearchWords, IsUntil, NamesBare, Spells, TellsText, command_name, domain_name, journal_name, order_command, owners_name, resume_name}
 use Rattle.tp_text.specs.Scales.{scale_ticks}
 use Rattle.tp_text.specs.declared.number.Scale.TheVariants.{One}
+use Rattle.std.specs.Option.{option_map}
+use Rattle.tp_cli_draw.specs.declared.draw_words.DrawWords.{DrawWords}
 use Rattle.tp_cli_inputs.specs.declared.plan_words.PlanWords.{PlanWords}
 use Rattle.tp_cli_plan.specs.declared.search_words.Order.{Order}
 use Rattle.tp_cli_plan.specs.declared.search_words.Order.TheVariants.{Lacking, Guided}
 use Rattle.tp_cli_plan.specs.declared.search_words.SearchWords.{SearchWords}
 use Rattle.tp_solve.specs.declared.solving.Wishes.{Wishes}
 use Rattle.tp_cli_args.specs.declared.requests.Request.{Request}
-use Rattle.tp_cli_args.specs.declared.requests.Request.TheVariants.{Bare, BareLog, BareResume, Check, Net, Run, RunLog, RunResume, Plan, Audit, PlanAudit, Split, Part, Help}
+use Rattle.tp_cli_args.specs.declared.requests.Request.TheVariants.{Bare, BareLog, BareResume, Check, Net, Run, RunLog, RunResume, Plan, Audit, PlanAudit, Split, Part, Draw, Help}
 
 abbrev first_letter : Text → ℕ
 first_letter [] = 0
@@ -57,6 +59,7 @@ asks_by words named (Audit log) free is h = (free, subst (λ n. AsksBy n (Audit 
 asks_by words named (PlanAudit log w) free is h = (free, subst (λ n. AsksBy n (PlanAudit log w)) is h)
 asks_by words named (Split w owners) free is h = (free, subst (λ n. AsksBy n (Split w owners)) is h)
 asks_by words named (Part w owners agent) free is h = (free, subst (λ n. AsksBy n (Part w owners agent)) is h)
+asks_by words named (Draw w) free is h = (free, subst (λ n. AsksBy n (Draw w)) is h)
 asks_by words named (Help text) free is h = absurd h
 
 -- an error that is a call for help or for the version
@@ -336,6 +339,25 @@ pub audit_words : (w : PlanWords) → w.plan.now ≡ codes "l" → AsksFor (code
 unfolding clap_on_literals
 audit_words w log = (refl, (_, refl, ap Some (sym log), refl, (One, (codes "1", refl, refl))))
 
+-- the files of a plan, up to where it is drawn, and a journal
+pub draw_words : (w : DrawWords) (v : PlanWords) → w.domain.now ≡ codes "d" → w.problem.now ≡ codes "p" → w.plan.now ≡ codes "l" → scale_ticks w.scale ≡ 1 → w.horizon ≡ Some 9 → w.journal ≡ Some v.plan → v.plan.now ≡ codes "j" → AsksFor (codes "draw" ∷ codes "d" ∷ codes "p" ∷ codes "l" ∷ codes "--horizon" ∷ codes "9" ∷ codes "--journal" ∷ codes "j" ∷ []) (Draw w)
+unfolding clap_on_literals
+draw_words w v domain problem plan scale horizon journal log = (
+  refl,
+  (
+    _,
+    refl,
+    record {
+      domain = ap Some (sym domain);
+      problem = ap Some (sym problem);
+      plan = ap Some (sym plan);
+      scale = (codes "1", refl, sym scale);
+      until = subst (IsUntil _) (sym horizon) ((codes "9", refl, refl), omega arith);
+      journal = ap (option_map (λ s. s.now)) journal ∙ ap Some log;
+    },
+  ),
+)
+
 -- the command that a parse names; a call without words is one of `bare`
 abbrev named_command : Option (Text × List Row) → Text
 named_command None = codes "bare"
@@ -432,6 +454,7 @@ asks_command words (Audit log) h = free_is _ _ _ h.0 (command_is _ (codes "audit
 asks_command words (PlanAudit log w) h = free_is _ _ _ h.0 (command_is _ (codes "audit") h.1.0 h.1.1)
 asks_command words (Split w owners) h = free_is _ _ _ h.0 (command_is _ (codes "split") h.1.0 h.1.1)
 asks_command words (Part w owners agent) h = free_is _ _ _ h.0 (command_is _ (codes "split") h.1.0 h.1.1)
+asks_command words (Draw w) h = free_is _ _ _ h.0 (command_is _ (codes "draw") h.1.0 h.1.1)
 asks_command words (Help text) h = help_is _ _ h
 
 -- and its journal goes to the file that they name
@@ -449,6 +472,7 @@ asks_journal words (Audit log) h = free_is _ _ _ h.0 (journal_is _ (codes "audit
 asks_journal words (PlanAudit log w) h = free_is _ _ _ h.0 (journal_is _ (codes "audit") h.1.0 None h.1.1 refl)
 asks_journal words (Split w owners) h = free_is _ _ _ h.0 (journal_is _ (codes "split") h.1.0 None h.1.1 refl)
 asks_journal words (Part w owners agent) h = free_is _ _ _ h.0 (journal_is _ (codes "split") h.1.0 None h.1.1 refl)
+asks_journal words (Draw w) h = free_is _ _ _ h.0 (journal_is _ (codes "draw") h.1.0 None h.1.1 refl)
 asks_journal words (Help text) h = help_is _ _ h
 
 domain_is : (named : Option (Text × List Row)) (name : Text) (rows : List Row) (t : Option Text) → named ≡ Some (name, rows) → t ≡ named_domain (Some (name, rows)) → t ≡ named_domain named
@@ -473,6 +497,7 @@ asks_domain words (Audit log) h = free_is _ _ _ h.0 (domain_is _ (codes "audit")
 asks_domain words (PlanAudit log w) h = free_is _ _ _ h.0 (domain_is _ (codes "audit") h.1.0 _ h.1.1 (sym h.1.3.domain))
 asks_domain words (Split w owners) h = free_is _ _ _ h.0 (domain_is _ (codes "split") h.1.0 _ h.1.1 (sym h.1.4.domain))
 asks_domain words (Part w owners agent) h = free_is _ _ _ h.0 (domain_is _ (codes "split") h.1.0 _ h.1.1 (sym h.1.4.domain))
+asks_domain words (Draw w) h = free_is _ _ _ h.0 (domain_is _ (codes "draw") h.1.0 _ h.1.1 (sym h.1.2.domain))
 asks_domain words (Help text) h = help_is _ _ h
 
 owners_is : (named : Option (Text × List Row)) (name : Text) (rows : List Row) (t : Option Text) → named ≡ Some (name, rows) → t ≡ named_owners (Some (name, rows)) → t ≡ named_owners named
@@ -497,6 +522,7 @@ asks_owners words (Audit log) h = free_is _ _ _ h.0 (owners_is _ (codes "audit")
 asks_owners words (PlanAudit log w) h = free_is _ _ _ h.0 (owners_is _ (codes "audit") h.1.0 None h.1.1 refl)
 asks_owners words (Split w owners) h = free_is _ _ _ h.0 (owners_is _ (codes "split") h.1.0 _ h.1.1 (sym h.1.2))
 asks_owners words (Part w owners agent) h = free_is _ _ _ h.0 (owners_is _ (codes "split") h.1.0 _ h.1.1 (sym h.1.2))
+asks_owners words (Draw w) h = free_is _ _ _ h.0 (owners_is _ (codes "draw") h.1.0 None h.1.1 refl)
 asks_owners words (Help text) h = help_is _ _ h
 
 abbrev named_resume : Option (Text × List Row) → Option Text
@@ -529,6 +555,7 @@ asks_resume words (Audit log) h = free_is _ _ _ h.0 (resume_is _ (codes "audit")
 asks_resume words (PlanAudit log w) h = free_is _ _ _ h.0 (resume_is _ (codes "audit") h.1.0 None h.1.1 refl)
 asks_resume words (Split w owners) h = free_is _ _ _ h.0 (resume_is _ (codes "split") h.1.0 None h.1.1 refl)
 asks_resume words (Part w owners agent) h = free_is _ _ _ h.0 (resume_is _ (codes "split") h.1.0 None h.1.1 refl)
+asks_resume words (Draw w) h = free_is _ _ _ h.0 (resume_is _ (codes "draw") h.1.0 None h.1.1 refl)
 asks_resume words (Help text) h = help_is _ _ h
 
 -- no words ask for two kinds of things

@@ -32,6 +32,15 @@ horizon_rule = record (new_rule (codes "horizon")) {
   parser = Some (vp.Signed (pos 0) (pos 1000000000));
 }
 
+-- `--horizon`, from 0 to 1000000000, by default none
+abbrev pub until_rule : Rule
+until_rule = record (new_rule (codes "horizon")) {
+  long = Some (codes "horizon");
+  action = Some Set;
+  value_names = 1;
+  parser = Some (vp.Signed (pos 0) (pos 1000000000));
+}
+
 -- `--budget`, from 0 to 1000000, by default 100000
 abbrev pub budget_rule : Rule
 budget_rule = record (new_rule (codes "budget")) {
@@ -152,6 +161,20 @@ abbrev pub split_app : App
 split_app =
     with_rule (with_rule (plan_app (new_app (codes "split"))) (file_rule (codes "OWNERS"))) part_rule
 
+-- how time is measured, up to which tick, the file of a journal, and whether it explains
+abbrev pub drawing_app : App → App
+drawing_app files =
+    with_rule (with_rule (with_rule (with_rule files scale_rule) until_rule) journal_rule)
+    explain_rule
+
+-- the files of a plan, and perhaps that of a journal
+abbrev pub draw_app : App
+draw_app =
+    let files = with_rule
+    (with_rule (with_rule (new_app (codes "draw")) (file_rule (codes "DOMAIN")))
+    (file_rule (codes "PROBLEM"))) (file_rule (codes "PLAN")) in
+    drawing_app files
+
 -- the program's words begin after its name, and it tells its version
 abbrev pub start_app : App
 start_app =
@@ -182,5 +205,10 @@ solving_app = with_subcommand planning_app solve_app.top
 abbrev pub auditing_app : App
 auditing_app = with_subcommand solving_app audit_app.top
 
+-- and with the one that splits networks among agents
+abbrev pub splitting_app : App
+splitting_app = with_subcommand auditing_app split_app.top
+
+-- and with the one that draws plans
 abbrev pub tempo_app : App
-tempo_app = with_subcommand auditing_app split_app.top
+tempo_app = with_subcommand splitting_app draw_app.top

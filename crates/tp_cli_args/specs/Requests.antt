@@ -1,5 +1,5 @@
 -- What the words of a call ask for.
-use Rattle.std.specs.Prelude.{◌≡◌, ◌≤◌, ◌⊎◌, ℕ, Bool, true, false, List, [], Option, Some, None, codes}
+use Rattle.std.specs.Prelude.{◌≡◌, ◌≤◌, ◌⊎◌, ℕ, Bool, true, false, List, [], Option, Some, None, option_map, codes}
 use Rattle.std.specs.Str.Parse.{digits_value, without_leading_plus}
 use Rattle.clap.specs.Words.{IsAmong, Row, Text, fault_of, first_of, one_of, subcommand_of}
 use Rattle.clap.specs.declared.error.kind.ErrorKind.{ErrorKind}
@@ -7,13 +7,14 @@ use Rattle.clap.specs.declared.error.kind.ErrorKind.TheVariants.{DisplayHelp, Di
 use Rattle.tp_text.specs.Scales.{scale_ticks}
 use Rattle.tp_text.specs.declared.number.Scale.{Scale}
 use Rattle.tp_cli_args.specs.Commands.{tempo_app}
+use Rattle.tp_cli_draw.specs.declared.draw_words.DrawWords.{DrawWords}
 use Rattle.tp_cli_inputs.specs.declared.plan_words.PlanWords.{PlanWords}
 use Rattle.tp_cli_plan.specs.Searches.{tells_progress}
 use Rattle.tp_cli_plan.specs.declared.search_words.Order.{Order}
 use Rattle.tp_cli_plan.specs.declared.search_words.Order.TheVariants.{Lacking, Guided}
 use Rattle.tp_cli_plan.specs.declared.search_words.SearchWords.{SearchWords}
 use Rattle.tp_cli_args.specs.declared.requests.Request.{Request}
-use Rattle.tp_cli_args.specs.declared.requests.Request.TheVariants.{Bare, BareLog, BareResume, Check, Net, Run, RunLog, RunResume, Plan, Audit, PlanAudit, Split, Part, Help}
+use Rattle.tp_cli_args.specs.declared.requests.Request.TheVariants.{Bare, BareLog, BareResume, Check, Net, Run, RunLog, RunResume, Plan, Audit, PlanAudit, Split, Part, Draw, Help}
 
 -- the text is there, and its digits make the number
 abbrev pub Spells : Option Text → ℕ → Type 0
@@ -41,6 +42,21 @@ pub record IsSearchWords (greatest : ℕ) (rows : List Row) (w : SearchWords) : 
   pub within : w.horizon ≤ 1000000000
   pub budget : Spells (one_of (codes "budget") rows) w.budget
   pub most : w.budget ≤ greatest
+
+-- the tick that `--horizon` gives, where that has no default
+abbrev pub IsUntil : List Row → Option ℕ → Type 0
+IsUntil rows None = first_of (codes "horizon") rows ≡ None
+IsUntil rows (Some horizon) =
+    Spells (one_of (codes "horizon") rows) horizon × (horizon ≤ 1000000000)
+
+-- the values of `draw`
+pub record IsDrawWords (rows : List Row) (w : DrawWords) : Type 0 where
+  pub domain : first_of (codes "DOMAIN") rows ≡ Some w.domain.now
+  pub problem : first_of (codes "PROBLEM") rows ≡ Some w.problem.now
+  pub plan : first_of (codes "PLAN") rows ≡ Some w.plan.now
+  pub scale : Spells (one_of (codes "scale") rows) (scale_ticks w.scale)
+  pub until : IsUntil rows w.horizon
+  pub journal : option_map (λ s. s.now) w.journal ≡ first_of (codes "journal") rows
 
 -- whether an option is given that has no value
 abbrev pub IsFlag : Option Text → Bool → Type 0
@@ -110,6 +126,8 @@ AsksBy named (Part w owners agent) =
     (rows : List Row) × (named ≡ Some (codes "split", rows))
     × (first_of (codes "OWNERS") rows ≡ Some owners.now)
     × Spells (one_of (codes "part") rows) agent × IsPlanWords rows w
+AsksBy named (Draw w) = (rows : List Row) × (named ≡ Some (codes "draw", rows))
+    × IsDrawWords rows w
 AsksBy named (Help text) = ⊥
 
 -- a parse that ends so gives a text that was called for
@@ -148,6 +166,8 @@ AsksFor words (Split w owners) =
 AsksFor words (Part w owners agent) =
     (fault_of tempo_app words ≡ [])
     × AsksBy (subcommand_of tempo_app words) (Part w owners agent)
+AsksFor words (Draw w) =
+    (fault_of tempo_app words ≡ []) × AsksBy (subcommand_of tempo_app words) (Draw w)
 
 -- the words ask for no answers to commands: for something else, or for nothing
 pub record AsksForNoCommands (words : List Text) : Type 0 where
@@ -179,6 +199,7 @@ command_name (Audit log) = Some (codes "audit")
 command_name (PlanAudit log w) = Some (codes "audit")
 command_name (Split w owners) = Some (codes "split")
 command_name (Part w owners agent) = Some (codes "split")
+command_name (Draw w) = Some (codes "draw")
 command_name (Help text) = None
 
 -- the file for a journal
@@ -196,6 +217,7 @@ journal_name (Audit log) = None
 journal_name (PlanAudit log w) = None
 journal_name (Split w owners) = None
 journal_name (Part w owners agent) = None
+journal_name (Draw w) = None
 journal_name (Help text) = None
 
 -- the file of a domain
@@ -213,6 +235,7 @@ domain_name (Audit log) = None
 domain_name (PlanAudit log w) = Some w.domain.now
 domain_name (Split w owners) = Some w.domain.now
 domain_name (Part w owners agent) = Some w.domain.now
+domain_name (Draw w) = Some w.domain.now
 domain_name (Help text) = None
 
 -- the file of the agents
@@ -230,6 +253,7 @@ owners_name (Audit log) = None
 owners_name (PlanAudit log w) = None
 owners_name (Split w owners) = Some owners.now
 owners_name (Part w owners agent) = Some owners.now
+owners_name (Draw w) = None
 owners_name (Help text) = None
 
 -- the file of the journal that a run goes on from
@@ -247,6 +271,7 @@ resume_name (Audit log) = None
 resume_name (PlanAudit log w) = None
 resume_name (Split w owners) = None
 resume_name (Part w owners agent) = None
+resume_name (Draw w) = None
 resume_name (Help text) = None
 
 -- words ask for one kind of thing at most: for one command, with one file for a journal or none, one to go on from or none, one of

@@ -6,15 +6,17 @@ ghost use Rattle.clap.specs.Words.{Text, Row, first_of, found_of, kind_of, one_o
 ghost use Rattle.clap.specs.declared.error.kind.ErrorKind.TheVariants as kinds;
 ghost use Rattle.tp_text.specs.Scales.{scale_ticks};
 ghost use Rattle.tp_cli_inputs.specs.declared.plan_words.PlanWords.{PlanWords};
+ghost use Rattle.tp_cli_draw.specs.declared.draw_words.DrawWords.{DrawWords};
 ghost use Rattle.tp_cli_plan.specs.declared.search_words.SearchWords.{SearchWords};
 ghost use Rattle.tp_solve.specs.declared.solving.Wishes.{Wishes};
-ghost use Rattle.tp_cli_args.specs.Requests.{AskForOneThing, AsksBy, AsksFor, IsFlag, IsPlanWords, IsSearchWords, NamesBare, Spells, TellsText};
+ghost use Rattle.tp_cli_args.specs.Requests.{AskForOneThing, AsksBy, AsksFor, IsDrawWords, IsFlag, IsPlanWords, IsSearchWords, IsUntil, NamesBare, Spells, TellsText};
 
 use crate::commands::tempo_command;
 use crate::requests::Request;
 use clap::error::ErrorKind;
 use clap::{ArgMatches, Error};
 use std::alloc::{AllocError, Global};
+use tp_cli_draw::DrawWords;
 use tp_cli_files::STANDARD_INPUT;
 use tp_cli_inputs::PlanWords;
 use tp_cli_plan::{Order, SearchWords, Wishes};
@@ -299,6 +301,54 @@ fn split_asked<'w>(matches: &ArgMatches<'w>) -> Option<Request<'w>>
     }
 }
 
+/// The files of a plan that is drawn, and how.
+fn draw_words<'w>(matches: &ArgMatches<'w>) -> Option<DrawWords<'w>>
+    ensures { IfSome result (IsDrawWords (rows_of (found_of matches.now))) }
+{
+    let domain = word(matches, "DOMAIN")?;
+    let problem = word(matches, "PROBLEM")?;
+    let plan = word(matches, "PLAN")?;
+    let scale = scale(matches)?;
+    let horizon = until(matches)?;
+    let journal = word(matches, "journal");
+    Some(DrawWords {
+        domain,
+        problem,
+        plan,
+        scale,
+        horizon,
+        journal,
+    })
+}
+
+/// The tick that `--horizon` gives, if it is there.
+fn until(matches: &ArgMatches<'_>) -> Option<Option<u32>>
+    ensures { IfSome result (IsUntil (rows_of (found_of matches.now))) }
+{
+    match word(matches, "horizon") {
+        None => Some(None),
+        Some(_) => {
+            let horizon = number(matches, "horizon")?;
+            if horizon > GREATEST_HORIZON {
+                return None;
+            }
+            Some(Some(horizon))
+        }
+    }
+}
+
+/// What `draw` asks for.
+fn draw_asked<'w>(matches: &ArgMatches<'w>) -> Option<Request<'w>>
+    ensures { IfSome result (AsksBy (Some (codes "draw", rows_of (found_of matches.now)))) }
+{
+    let words = draw_words(matches)?;
+    let log = words.journal.unwrap_or("");
+    if !reads_at_most(1, &[words.domain, words.problem, words.plan, log]) {
+        return None;
+    }
+    Some(Request::Draw(words))
+}
+
 /// What a command with its values asks for.
 fn asked_by<'w>(name: &str, matches: &ArgMatches<'w>) -> Result<Request<'w>, NoRequest>
     ensures asked { IfOk result (AsksBy (Some (name.now, rows_of (found_of matches.now)))) }
@@ -342,6 +392,11 @@ fn asked_by<'w>(name: &str, matches: &ArgMatches<'w>) -> Result<Request<'w>, NoR
     }
     if name == "split" {
         if let Some(request) = split_asked(matches) {
+            return Ok(request);
+        }
+    }
+    if name == "draw" {
+        if let Some(request) = draw_asked(matches) {
             return Ok(request);
         }
     }
@@ -510,6 +565,15 @@ pub fn part_calls()
         → scale_ticks w.scale ≡ 1 → w.horizon ≡ 1000000 → v.domain.now ≡ codes "o"
         → AsksFor (codes "split" ∷ codes "d" ∷ codes "p" ∷ codes "l" ∷ codes "o" ∷ codes "--part"
         ∷ codes "2" ∷ []) (Request.Part w v.domain 2) }
+{}
+
+/// The files of a plan behind `draw`, and its options.
+pub fn draw_calls()
+    ensures { (w : DrawWords) → (v : PlanWords) → w.domain.now ≡ codes "d"
+        → w.problem.now ≡ codes "p" → w.plan.now ≡ codes "l" → scale_ticks w.scale ≡ 1
+        → w.horizon ≡ Some 9 → w.journal ≡ Some v.plan → v.plan.now ≡ codes "j"
+        → AsksFor (codes "draw" ∷ codes "d" ∷ codes "p" ∷ codes "l" ∷ codes "--horizon"
+        ∷ codes "9" ∷ codes "--journal" ∷ codes "j" ∷ []) (Request.Draw w) }
 {}
 
 /// Words ask for one kind of thing at most: for one command, with one file for a journal or none,

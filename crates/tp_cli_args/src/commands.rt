@@ -3,7 +3,7 @@
 ghost use Rattle.std.specs.Prelude.{◌≡◌, false, IfOk, codes};
 ghost use Rattle.clap.specs.Words.{app_of, new_app, rule_of, with_subcommand};
 ghost use Rattle.clap.specs.declared.builder.command.Command.TheViews.{out-Command as fields_of};
-ghost use Rattle.tp_cli_args.specs.Commands.{audit_app, auditing_app, bare_app, budget_rule, check_app, explain_rule, file_rule, flag_rule, horizon_rule, journal_app, journal_rule, judging_app, net_app, network_app, options_app, other_rule, part_rule, plan_app, planning_app, resume_rule, run_app, scale_rule, search_app, solve_app, solve_budget_rule, solve_files, solving_app, split_app, start_app, tempo_app, timed_app, with_others};
+ghost use Rattle.tp_cli_args.specs.Commands.{audit_app, auditing_app, bare_app, budget_rule, check_app, draw_app, drawing_app, explain_rule, file_rule, flag_rule, horizon_rule, journal_app, journal_rule, judging_app, net_app, network_app, options_app, other_rule, part_rule, plan_app, planning_app, resume_rule, run_app, scale_rule, search_app, solve_app, solve_budget_rule, solve_files, solving_app, split_app, splitting_app, start_app, tempo_app, timed_app, until_rule, with_others};
 
 use clap::{Arg, ArgAction, Command, value_parser};
 use std::alloc::{AllocError, Global};
@@ -33,6 +33,7 @@ Examples:
   printf 'dispatch 0\\n' | tempo run domain.pddl problem.pddl plan.txt --journal run.log
   tempo audit run.log domain.pddl problem.pddl plan.txt
   tempo split domain.pddl problem.pddl plan.txt owners.txt
+  tempo draw domain.pddl problem.pddl plan.txt > plan.svg
   tempo solve domain.pddl problem.pddl | tempo check domain.pddl problem.pddl - --explain";
 
 const BARE_ABOUT: &str = "Answers commands on a network of events and bounds";
@@ -216,6 +217,20 @@ prints
   interval 0 0 0
   interval 1 2 6";
 
+const DRAW_ABOUT: &str = "Draws a valid plan, or a run of it, as a picture";
+
+const DRAW_HELP: &str =
+    "Reads a domain and a problem of PDDL 2.1 and a plan, as `check` does. For a valid plan it writes a picture in SVG: a bar for each
+step, in lanes by the first object, the window of each start and end as a whisker, and arrows for the bounds that hold them.
+The horizon is that of the windows; it is the plan's own end if --horizon is not given. For a plan that is not valid it prints
+the line that `check` prints.
+
+With `--journal LOG` it draws the run of that journal up to its end: what happened, now, and the windows that remain. LOG is
+judged first, as `audit` does. The horizon is then that of its head if --horizon is not given.
+
+Example:
+  tempo draw domain.pddl problem.pddl plan.txt > plan.svg";
+
 /// A file that has to be named.
 fn file_argument<'a>(alloc: Global, id: &'a str, help: &'a str) -> Arg<'a>
     ensures rule { rule_of result ≡ file_rule id.entry.now }
@@ -253,6 +268,19 @@ fn horizon_option<'a>(alloc: Global) -> Arg<'a>
         .value_parser(value_parser!(u32).range(0..=1000000000))
         .default_value("1000000")
         .help("The tick that no step may end past, from 0 to 1000000000")
+}
+
+/// The same without a tick where none is given.
+fn until_option<'a>(alloc: Global) -> Arg<'a>
+    ensures rule { rule_of result ≡ until_rule }
+    ensures local { result.global ≡ false }
+{
+    Arg::new(alloc, "horizon")
+        .long("horizon")
+        .value_name("H")
+        .action(ArgAction::Set)
+        .value_parser(value_parser!(u32).range(0..=1000000000))
+        .help("The tick up to which windows are drawn, from 0 to 1000000000")
 }
 
 /// How many nodes a search may expand.
@@ -316,6 +344,18 @@ fn journal_option<'a>(alloc: Global) -> Arg<'a>
         .value_name("FILE")
         .action(ArgAction::Set)
         .help("A file to write the journal to; what it held is lost")
+}
+
+/// The file of a journal that is read.
+fn log_option<'a>(alloc: Global) -> Arg<'a>
+    ensures rule { rule_of result ≡ journal_rule }
+    ensures local { result.global ≡ false }
+{
+    Arg::new(alloc, "journal")
+        .long("journal")
+        .value_name("LOG")
+        .action(ArgAction::Set)
+        .help("The journal of a run of the plan, which is drawn up to its end")
 }
 
 /// The file of a journal that a run goes on from.
@@ -532,6 +572,31 @@ fn split_command<'a>(alloc: Global) -> Result<Command<'a>, AllocError>
         .arg(part_option(alloc))
 }
 
+/// The options of `draw`.
+fn draw_options<'a>(alloc: Global, start: Command<'a>) -> Result<Command<'a>, AllocError>
+    requires { (fields_of start).has_globals ≡ false }
+    ensures app { IfOk result (λ c. app_of c ≡ drawing_app (app_of start.entry)) }
+    ensures local { IfOk result (λ c. (fields_of c).has_globals ≡ false) }
+{
+    start
+        .arg(scale_option(alloc))?
+        .arg(until_option(alloc))?
+        .arg(log_option(alloc))?
+        .arg(explain_option(alloc))
+}
+
+/// The command `draw`.
+fn draw_command<'a>(alloc: Global) -> Result<Command<'a>, AllocError>
+    ensures app { IfOk result (λ c. app_of c ≡ draw_app) }
+    ensures local { IfOk result (λ c. (fields_of c).has_globals ≡ false) }
+{
+    let files = plan_start(alloc, "draw", DRAW_ABOUT, DRAW_HELP)
+        .arg(file_argument(alloc, "DOMAIN", "The file of the domain"))?
+        .arg(file_argument(alloc, "PROBLEM", "The file of the problem"))?
+        .arg(file_argument(alloc, "PLAN", "The file of the plan"))?;
+    draw_options(alloc, files)
+}
+
 /// The program before it has commands. Its words begin after its name.
 fn tempo_start<'a>(alloc: Global) -> Result<Command<'a>, AllocError>
     ensures { IfOk result (λ c. app_of c ≡ start_app) }
@@ -600,10 +665,18 @@ fn auditing_command<'a>(alloc: Global) -> Result<Command<'a>, AllocError>
     solving_command(alloc)?.subcommand(audit)
 }
 
+/// The same with the command that splits networks among agents.
+fn splitting_command<'a>(alloc: Global) -> Result<Command<'a>, AllocError>
+    ensures { IfOk result (λ c. app_of c ≡ splitting_app) }
+{
+    let split = split_command(alloc)?;
+    auditing_command(alloc)?.subcommand(split)
+}
+
 /// The program with all its commands.
 pub fn tempo_command<'a>(alloc: Global) -> Result<Command<'a>, AllocError>
     ensures { IfOk result (λ c. app_of c ≡ tempo_app) }
 {
-    let split = split_command(alloc)?;
-    auditing_command(alloc)?.subcommand(split)
+    let draw = draw_command(alloc)?;
+    splitting_command(alloc)?.subcommand(draw)
 }

@@ -1,5 +1,6 @@
 //! What a call may ask for.
 
+use tp_cli_draw::DrawWords;
 use tp_cli_inputs::PlanWords;
 use tp_cli_plan::SearchWords;
 
@@ -34,6 +35,8 @@ pub enum Request<'w> {
     Split(PlanWords<'w>, &'w str),
     /// The network of one of these agents alone.
     Part(PlanWords<'w>, &'w str, u32),
+    /// The picture of a plan, or of a run of it.
+    Draw(DrawWords<'w>),
     /// A text of help, or the version.
     Help(String),
 }

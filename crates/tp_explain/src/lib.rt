@@ -11,7 +11,6 @@ mod asked;
 mod explained;
 mod heard;
 mod session;
-mod stories;
 
 pub use asked::explains;
 pub use explained::{Streams, run_explained};

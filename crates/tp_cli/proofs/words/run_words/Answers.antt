@@ -1,7 +1,7 @@
 use Rattle.std.proofs.Common.{◌∙◌, List, ℕ, arith, inl, inr, refl, subst}
 use Rattle.std.proofs.KnownBytes.{Appends-nil}
 use Rattle.tp_cli_files.specs.FaultLines.{Tells}
-use Rattle.tp_cli_args.specs.declared.requests.Request.TheVariants.{Bare, BareLog, BareResume, Check, Net, Run, RunLog, RunResume, Plan, Audit, PlanAudit, Split, Part, Help}
+use Rattle.tp_cli_args.specs.declared.requests.Request.TheVariants.{Bare, BareLog, BareResume, Check, Net, Run, RunLog, RunResume, Plan, Audit, PlanAudit, Split, Part, Draw, Help}
 use Rattle.tp_cli.specs.CallFiles.{call_files}
 use Rattle.tp_cli.specs.Endings.{StopsHelp}
 use Rattle.tp_cli.proofs.StreamLemmas.{logs_part}
@@ -149,6 +149,11 @@ pub returns-in-Ok-Part-clause-stopped : goal.returns-in-Ok-Part-clause-stopped
 returns-in-Ok-Part-clause-stopped g c =
     λ two.
     inr (inr (Part c.in-Ok-Part.plan c.in-Ok-Part.owners c.in-Ok-Part.agent, rw c.in-Ok-Part.field-0-is at c.in-Ok-Part.ensures.asked, c.run_split.ensures.stopped two))
+
+pub returns-in-Ok-Draw-clause-stopped : goal.returns-in-Ok-Draw-clause-stopped
+returns-in-Ok-Draw-clause-stopped g c =
+    λ two.
+    inr (inr (Draw c.in-Ok-Draw.words, rw c.in-Ok-Draw.field-0-is at c.in-Ok-Draw.ensures.asked, c.run_draw.ensures.stopped two))
 
 pub returns-in-Ok-Help-clause-stopped : goal.returns-in-Ok-Help-clause-stopped
 returns-in-Ok-Help-clause-stopped g c =
