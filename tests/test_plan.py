@@ -1,5 +1,5 @@
 """Plans that are found of problems in files, and why none is, worked by hand."""
-from program import Case, told, told_by, world
+from program import Case, call, told, told_by, world
 
 CALL = "plan domain problem"
 
@@ -124,6 +124,16 @@ CROWDED = f"""(define (problem p) (:domain crowd) (:objects {" ".join(f"x{i}" fo
 LAST = 1 + 21 + 230 + 1
 
 
+# a goal that is met where nothing is deleted, and never else
+LAMPS = """(define (domain lamps) (:requirements :typing) (:types lamp)
+ (:predicates (lit ?l - lamp) (done))
+ (:action switch :parameters (?l - lamp) :precondition (not (lit ?l)) :effect (lit ?l))
+ (:action dim :parameters (?l - lamp) :precondition (lit ?l) :effect (not (lit ?l)))
+ (:action end :parameters (?l - lamp) :precondition (and (lit ?l) (not (lit ?l))) :effect (done)))"""
+
+LIT = "(define (problem p) (:domain lamps) (:objects a b c d e f g h i j - lamp) (:init) (:goal (done)))"
+
+
 class Plan(Case):
     def test_plans_and_why_there_is_none(self):
         for domain, problem, words, text, status in ROWS:
@@ -158,3 +168,13 @@ class Plan(Case):
         for budget, text, status in ((LAST, "0: (prepare)\n1: (finish)\n", 0), (LAST - 1, f"spent {LAST - 1}\n", 1)):
             with self.subTest(f"{budget} nodes"):
                 self.comes_to(told_by(text, status), f"{CALL} --budget {budget}", files)
+
+    def test_how_far_a_search_is_is_told(self):
+        files = {"domain": LAMPS, "problem": LIT}
+        found = call(f"{CALL} --budget 250000 --progress", files)
+        self.assertEqual((found.answers, found.status), (b"spent 250000\n", 1))
+        lines = [f"expanded {count} waiting \\d+ lacking 1\n" for count in (100_000, 200_000)]
+        self.assertRegex(found.faults.decode(), f"\\A{''.join(lines)}\\Z")
+        for words in (f"{CALL} --budget 250000", f"{CALL} --budget 99999 --progress"):
+            with self.subTest(words):
+                self.assertEqual(call(words, files).faults, b"")

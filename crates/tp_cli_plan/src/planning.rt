@@ -21,7 +21,7 @@ use tp_device::Sink;
 use tp_ground::{actions_are_readable, reached_actions_are_readable};
 use tp_ground_laws::{same_goal_is_in_reach, same_plans_are_valid};
 use tp_happen::plans_are_read;
-use tp_search::{Found, SearchFault, search};
+use tp_search::{Found, SearchFault, search_with};
 use tp_solve::solve_with;
 use tp_task::Task;
 
@@ -49,7 +49,14 @@ fn found_in<'t, B: Write>(
     ensures quiet { tells_progress words.entry.order ≡ false → board.new ≡ board.old }
 {
     match words.order {
-        Order::Lacking => search(alloc, task, words.budget, words.horizon),
+        Order::Lacking { progress } => search_with(
+            alloc,
+            task,
+            words.budget,
+            words.horizon,
+            progress,
+            board,
+        ),
         Order::Guided(wishes) => {
             solve_with(alloc, task, words.budget, words.horizon, wishes, board)
         }

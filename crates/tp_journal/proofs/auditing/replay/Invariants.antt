@@ -1,7 +1,7 @@
 use Rattle.std.proofs.Common.{◌≡◌, ◌+◌, ◌-◌, ◌≤◌}
 use Rattle.tp_journal_pairs.specs.Sound.{IsSound}
 use Rattle.tp_journal.proofs.Pairs.{JournalSoFar}
-use Rattle.tp_journal.proofs.auditing.audit.Given as goal
+use Rattle.tp_journal.proofs.auditing.replay.Given as goal
 
 abbrev pub invariant-pairs : goal.invariant-pairs
 invariant-pairs g l =
