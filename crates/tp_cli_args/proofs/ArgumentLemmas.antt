@@ -15,7 +15,7 @@ use Rattle.tp_cli_args.specs.Requests.{AskForOneThing, AsksBy, AsksFor, AsksSear
 use Rattle.tp_text.specs.Scales.{scale_ticks}
 use Rattle.tp_text.specs.declared.number.Scale.TheVariants.{One}
 use Rattle.std.specs.Option.{option_map}
-use Rattle.tp_cli_draw.specs.declared.draw_words.DrawWords.{DrawWords}
+use Rattle.tp_cli_inputs.specs.declared.draw_words.DrawWords.{DrawWords}
 use Rattle.tp_cli_inputs.specs.declared.plan_words.PlanWords.{PlanWords}
 use Rattle.tp_cli_plan.specs.declared.search_words.Order.{Order}
 use Rattle.tp_cli_plan.specs.declared.search_words.Order.TheVariants.{Lacking, Guided}

@@ -7,7 +7,7 @@ use Rattle.clap.specs.declared.error.kind.ErrorKind.TheVariants.{DisplayHelp, Di
 use Rattle.tp_text.specs.Scales.{scale_ticks}
 use Rattle.tp_text.specs.declared.number.Scale.{Scale}
 use Rattle.tp_cli_args.specs.Commands.{tempo_app}
-use Rattle.tp_cli_draw.specs.declared.draw_words.DrawWords.{DrawWords}
+use Rattle.tp_cli_inputs.specs.declared.draw_words.DrawWords.{DrawWords}
 use Rattle.tp_cli_inputs.specs.declared.plan_words.PlanWords.{PlanWords}
 use Rattle.tp_cli_plan.specs.Searches.{tells_progress}
 use Rattle.tp_cli_plan.specs.declared.search_words.Order.{Order}

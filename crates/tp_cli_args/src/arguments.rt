@@ -6,7 +6,7 @@ ghost use Rattle.clap.specs.Words.{Text, Row, first_of, found_of, kind_of, one_o
 ghost use Rattle.clap.specs.declared.error.kind.ErrorKind.TheVariants as kinds;
 ghost use Rattle.tp_text.specs.Scales.{scale_ticks};
 ghost use Rattle.tp_cli_inputs.specs.declared.plan_words.PlanWords.{PlanWords};
-ghost use Rattle.tp_cli_draw.specs.declared.draw_words.DrawWords.{DrawWords};
+ghost use Rattle.tp_cli_inputs.specs.declared.draw_words.DrawWords.{DrawWords};
 ghost use Rattle.tp_cli_plan.specs.declared.search_words.SearchWords.{SearchWords};
 ghost use Rattle.tp_solve.specs.declared.solving.Wishes.{Wishes};
 ghost use Rattle.tp_cli_args.specs.Requests.{AskForOneThing, AsksBy, AsksFor, IsDrawWords, IsFlag, IsPlanWords, IsSearchWords, IsUntil, NamesBare, Spells, TellsText};
@@ -16,9 +16,8 @@ use crate::requests::Request;
 use clap::error::ErrorKind;
 use clap::{ArgMatches, Error};
 use std::alloc::{AllocError, Global};
-use tp_cli_draw::DrawWords;
 use tp_cli_files::STANDARD_INPUT;
-use tp_cli_inputs::PlanWords;
+use tp_cli_inputs::{DrawWords, PlanWords};
 use tp_cli_plan::{Order, SearchWords, Wishes};
 use tp_text::Scale;
 
