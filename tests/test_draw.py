@@ -38,12 +38,13 @@ RUNS = (
     ("test-bench", "one-sensor.pddl", "one-sensor.plan", 1000, 120000),
 )
 
-# pictures of docs/pictures, and the words of the calls that draw them, in the folders of the examples
+# pictures of docs/pictures, the folders of their examples, the words of the calls that draw them, and how many lines of the journal
+# of the valid plan are drawn
 PAGES = (
-    ("observatory.svg", "observatory", "draw domain.pddl problem.pddl plan-valid.plan"),
-    ("rover.svg", "rover", "draw domain.pddl problem.pddl plan-valid.plan"),
-    ("test-bench.svg", "test-bench", "draw domain.pddl problem.pddl plan-valid.plan --scale 1000"),
-    ("rover-run.svg", "rover", "draw domain.pddl problem.pddl plan-valid.plan --journal plan-valid.log"),
+    ("observatory.svg", "observatory", DRAW, 0),
+    ("rover.svg", "rover", DRAW, 0),
+    ("test-bench.svg", "test-bench", f"{DRAW} --scale 1000", 0),
+    ("rover-run.svg", "rover", f"{DRAW} --journal log", 476),
 )
 
 SVG = "{http://www.w3.org/2000/svg}"
@@ -231,12 +232,12 @@ class Drawn(Case):
                 self.comes_to(wanted, DRAW, files_of(MATCH, LIT), room=room)
 
     def test_pictures_of_the_pages(self):
-        for name, folder, words in () if is_refusing() else PAGES:
+        for name, folder, words, count in () if is_refusing() else PAGES:
             with self.subTest(name):
-                files = {path.name: path.read_bytes() for path in (TOP / "examples" / folder).iterdir() if path.is_file()}
-                found = call(words, files)
-                self.assertEqual((found.faults, found.status), (b"", 0))
-                self.assertEqual(found.answers, (TOP / "docs/pictures" / name).read_bytes())
+                domain, problem, plan = example(folder, "problem.pddl", "plan-valid.plan")
+                lines = (TOP / "examples" / folder / "plan-valid.log").read_text().splitlines(keepends=True)
+                wanted = told((TOP / "docs/pictures" / name).read_bytes())
+                self.comes_to(wanted, words, files_of((domain, problem), plan, "".join(lines[:count])))
 
 
 def drawn_commands(drawn, count, horizon):
