@@ -11,7 +11,7 @@ use crate::named::Names;
 use crate::replaying::{ReplayStop, Told, replay};
 use crate::scenes::scene_of;
 use crate::stops::DrawStop;
-use std::alloc::{AllocError, Global};
+use std::alloc::Global;
 use tp_bounds::{Limits, PlanNet};
 use tp_cli_audit::{AuditStop, Found, audit_in, lags_suit, plan_start};
 use tp_cli_files::Files;
@@ -37,14 +37,14 @@ fn end_of(steps: &[Step]) -> u32 {
 /// run.
 fn picture(
     alloc: Global,
-    names: Result<Names, AllocError>,
+    names: Option<Names>,
     plan: &ValidPlan<'_>,
     executive: &Executive<RepairNet>,
     told: Option<Told>,
 ) -> Result<String, DrawStop>
     ensures { IfErr result (λ stop. stop ≡ DrawStop.Memory) }
 {
-    let Ok(names) = names else {
+    let Some(names) = names else {
         return Err(DrawStop::Memory);
     };
     match scene_of(
@@ -68,7 +68,7 @@ fn net_picture(
     alloc: Global,
     network: &PlanNet,
     plan: &ValidPlan<'_>,
-    names: Result<Names, AllocError>,
+    names: Option<Names>,
 ) -> Result<String, DrawStop>
     requires { length network.now.bounds.items ≤ 65535 }
     ensures { IfErr result (StopsSteps plan.now.task plan.now.steps) }
@@ -85,7 +85,7 @@ fn plan_picture(
     alloc: Global,
     words: DrawWords<'_>,
     plan: &ValidPlan<'_>,
-    names: Result<Names, AllocError>,
+    names: Option<Names>,
 ) -> Result<String, DrawStop>
     ensures { IfErr result (StopsSteps plan.now.task plan.now.steps) }
 {
@@ -101,7 +101,7 @@ pub(crate) fn draw_verdict(
     alloc: Global,
     words: DrawWords<'_>,
     verdict: &Verdict<'_>,
-    names: Result<Names, AllocError>,
+    names: Option<Names>,
 ) -> Result<Drawn, DrawStop>
     ensures drawn { IfOk result (DrawsVerdict verdict.now) }
     ensures cause { IfErr result (StopsVerdict verdict.now) }
@@ -146,7 +146,7 @@ fn replayed_picture<S: Source + Drop>(
     source: S,
     mut executive: Executive<RepairNet>,
     plan: &ValidPlan<'_>,
-    names: Result<Names, AllocError>,
+    names: Option<Names>,
 ) -> Result<String, DrawStop>
     ensures { IfErr result StopsReplay }
 {
@@ -165,7 +165,7 @@ fn log_picture<N: Files>(
     head: &JournalHead,
     network: &PlanNet,
     plan: &ValidPlan<'_>,
-    names: Result<Names, AllocError>,
+    names: Option<Names>,
 ) -> Result<String, DrawStop>
     requires bounds { length network.now.bounds.items ≤ 65535 }
     requires lags { LagsFit network.now head.now }
@@ -188,7 +188,7 @@ fn draw_net<N: Files>(
     head: &JournalHead,
     network: &PlanNet,
     plan: &ValidPlan<'_>,
-    names: Result<Names, AllocError>,
+    names: Option<Names>,
 ) -> Result<Drawn, DrawStop>
     requires { length network.now.bounds.items ≤ 65535 }
     ensures drawn { IfOk result (DrawsNet network.now head.now (N.held files.old log.now)) }
@@ -212,7 +212,7 @@ fn draw_log<N: Files>(
     head: &JournalHead,
     horizon: u32,
     plan: &ValidPlan<'_>,
-    names: Result<Names, AllocError>,
+    names: Option<Names>,
 ) -> Result<Drawn, DrawStop>
     requires { horizon ≤ 1000000000 }
     ensures drawn { IfOk result (DrawsLog plan.now.task plan.now.steps horizon head.now
@@ -234,7 +234,7 @@ pub(crate) fn draw_judged<N: Files>(
     head: &JournalHead,
     horizon: u32,
     verdict: &Verdict<'_>,
-    names: Result<Names, AllocError>,
+    names: Option<Names>,
 ) -> Result<Drawn, DrawStop>
     requires { horizon ≤ 1000000000 }
     ensures drawn { IfOk result
