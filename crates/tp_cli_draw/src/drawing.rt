@@ -1,6 +1,6 @@
 //! The picture of a plan, and that of a journal's run.
 
-ghost use Rattle.std.specs.Prelude.{◌≡◌, ◌≤◌, length, IfErr, IfOk};
+ghost use Rattle.std.specs.Prelude.{◌≡◌, ◌≤◌, ℕ, List, Option, length, IfErr, IfOk};
 ghost use Rattle.tp_cli_audit.specs.PlanAudits.{IsNetFound, LagsFit};
 ghost use Rattle.tp_cli_draw.specs.Pictures.{DrawsJudged, DrawsLog, DrawsNet, DrawsVerdict, HindersJudged, HindersSteps, StopsNet, StopsReplay, StopsSteps, StopsVerdict};
 
@@ -180,7 +180,37 @@ fn log_picture<N: Files>(
     }
 }
 
-/// The picture of the run of a journal, or the line of its answer that is not allowed.
+/// The picture of the run of a journal that was found to be one, or else the line of its answer that
+/// is not allowed.
+fn draw_found<N: Files>(
+    alloc: Global,
+    files: &mut N,
+    log: &str,
+    head: &JournalHead,
+    network: &PlanNet,
+    found: Found,
+    plan: &ValidPlan<'_>,
+    names: Option<Names>,
+) -> Result<Drawn, DrawStop>
+    requires bounds { length network.now.bounds.items ≤ 65535 }
+    requires lags { LagsFit network.now head.now }
+    ensures drawn { (input : Option (List ℕ)) → IsNetFound network.now head.now input found
+        → IfOk result (DrawsNet network.now head.now input) }
+    ensures cause { IfErr result StopsReplay }
+{
+    match found {
+        Found::Journal(_) => {
+            match log_picture(alloc, files, log, head, network, plan, names) {
+                Ok(text) => Ok(Drawn::Picture(text)),
+                Err(stop) => Err(stop),
+            }
+        }
+        Found::Wrong(line) => Ok(Drawn::Wrong(line)),
+    }
+}
+
+/// What the file of a journal was found to be, and then the picture of its run, over a plan's
+/// network.
 fn draw_net<N: Files>(
     alloc: Global,
     files: &mut N,
@@ -195,11 +225,7 @@ fn draw_net<N: Files>(
     ensures cause { IfErr result (StopsNet network.now head.now (N.held files.old log.now)) }
 {
     match found_in(alloc, files, log, head, network) {
-        Ok(Found::Journal(_)) => match log_picture(alloc, files, log, head, network, plan, names) {
-            Ok(text) => Ok(Drawn::Picture(text)),
-            Err(stop) => Err(stop),
-        },
-        Ok(Found::Wrong(line)) => Ok(Drawn::Wrong(line)),
+        Ok(found) => draw_found(alloc, files, log, head, network, found, plan, names),
         Err(stop) => Err(stop),
     }
 }
