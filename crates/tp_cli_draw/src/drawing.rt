@@ -1,6 +1,6 @@
 //! The picture of a plan, and that of a journal's run.
 
-ghost use Rattle.std.specs.Prelude.{◌≡◌, ◌≤◌, length, IfErr, IfOk};
+ghost use Rattle.std.specs.Prelude.{◌≡◌, ◌≤◌, ℕ, List, Option, length, IfErr, IfOk};
 ghost use Rattle.tp_cli_audit.specs.PlanAudits.{IsNetFound, LagsFit};
 ghost use Rattle.tp_cli_draw.specs.Pictures.{DrawsJudged, DrawsLog, DrawsNet, DrawsVerdict, HindersJudged, HindersSteps, StopsNet, StopsReplay, StopsSteps, StopsVerdict};
 
@@ -11,7 +11,7 @@ use crate::named::Names;
 use crate::replaying::{ReplayStop, Told, replay};
 use crate::scenes::scene_of;
 use crate::stops::DrawStop;
-use std::alloc::{AllocError, Global};
+use std::alloc::Global;
 use tp_bounds::{Limits, PlanNet};
 use tp_cli_audit::{AuditStop, Found, audit_in, lags_suit, plan_start};
 use tp_cli_files::Files;
@@ -38,14 +38,14 @@ fn end_of(steps: &[Step]) -> u32 {
 /// run.
 fn picture(
     alloc: Global,
-    names: Result<Names, AllocError>,
+    names: Option<Names>,
     plan: &ValidPlan<'_>,
     executive: &Executive<RepairNet>,
     told: Option<Told>,
 ) -> Result<String, DrawStop>
     ensures { IfErr result (λ stop. stop ≡ DrawStop.Memory) }
 {
-    let Ok(names) = names else {
+    let Some(names) = names else {
         return Err(DrawStop::Memory);
     };
     match scene_of(
@@ -69,7 +69,7 @@ fn net_picture(
     alloc: Global,
     network: &PlanNet,
     plan: &ValidPlan<'_>,
-    names: Result<Names, AllocError>,
+    names: Option<Names>,
 ) -> Result<String, DrawStop>
     requires { length network.now.bounds.items ≤ 65535 }
     ensures { IfErr result (StopsSteps plan.now.task plan.now.steps) }
@@ -86,7 +86,7 @@ fn plan_picture(
     alloc: Global,
     words: DrawWords<'_>,
     plan: &ValidPlan<'_>,
-    names: Result<Names, AllocError>,
+    names: Option<Names>,
 ) -> Result<String, DrawStop>
     ensures { IfErr result (StopsSteps plan.now.task plan.now.steps) }
 {
@@ -102,7 +102,7 @@ pub(crate) fn draw_verdict(
     alloc: Global,
     words: DrawWords<'_>,
     verdict: &Verdict<'_>,
-    names: Result<Names, AllocError>,
+    names: Option<Names>,
 ) -> Result<Drawn, DrawStop>
     ensures drawn { IfOk result (DrawsVerdict verdict.now) }
     ensures cause { IfErr result (StopsVerdict verdict.now) }
@@ -147,7 +147,7 @@ fn replayed_picture<S: Source + Drop>(
     source: S,
     mut executive: Executive<RepairNet>,
     plan: &ValidPlan<'_>,
-    names: Result<Names, AllocError>,
+    names: Option<Names>,
 ) -> Result<String, DrawStop>
     ensures { IfErr result StopsReplay }
 {
@@ -166,7 +166,7 @@ fn log_picture<N: Files>(
     head: &JournalHead,
     network: &PlanNet,
     plan: &ValidPlan<'_>,
-    names: Result<Names, AllocError>,
+    names: Option<Names>,
 ) -> Result<String, DrawStop>
     requires bounds { length network.now.bounds.items ≤ 65535 }
     requires lags { LagsFit network.now head.now }
@@ -181,7 +181,37 @@ fn log_picture<N: Files>(
     }
 }
 
-/// The picture of the run of a journal, or the line of its answer that is not allowed.
+/// The picture of the run of a journal that was found to be one, or else the line of its answer that
+/// is not allowed.
+fn draw_found<N: Files>(
+    alloc: Global,
+    files: &mut N,
+    log: &str,
+    head: &JournalHead,
+    network: &PlanNet,
+    found: Found,
+    plan: &ValidPlan<'_>,
+    names: Option<Names>,
+) -> Result<Drawn, DrawStop>
+    requires bounds { length network.now.bounds.items ≤ 65535 }
+    requires lags { LagsFit network.now head.now }
+    ensures drawn { (input : Option (List ℕ)) → IsNetFound network.now head.now input found
+        → IfOk result (DrawsNet network.now head.now input) }
+    ensures cause { IfErr result StopsReplay }
+{
+    match found {
+        Found::Journal(_) => {
+            match log_picture(alloc, files, log, head, network, plan, names) {
+                Ok(text) => Ok(Drawn::Picture(text)),
+                Err(stop) => Err(stop),
+            }
+        }
+        Found::Wrong(line) => Ok(Drawn::Wrong(line)),
+    }
+}
+
+/// What the file of a journal was found to be, and then the picture of its run, over a plan's
+/// network.
 fn draw_net<N: Files>(
     alloc: Global,
     files: &mut N,
@@ -189,18 +219,14 @@ fn draw_net<N: Files>(
     head: &JournalHead,
     network: &PlanNet,
     plan: &ValidPlan<'_>,
-    names: Result<Names, AllocError>,
+    names: Option<Names>,
 ) -> Result<Drawn, DrawStop>
     requires { length network.now.bounds.items ≤ 65535 }
     ensures drawn { IfOk result (DrawsNet network.now head.now (N.held files.old log.now)) }
     ensures cause { IfErr result (StopsNet network.now head.now (N.held files.old log.now)) }
 {
     match found_in(alloc, files, log, head, network) {
-        Ok(Found::Journal(_)) => match log_picture(alloc, files, log, head, network, plan, names) {
-            Ok(text) => Ok(Drawn::Picture(text)),
-            Err(stop) => Err(stop),
-        },
-        Ok(Found::Wrong(line)) => Ok(Drawn::Wrong(line)),
+        Ok(found) => draw_found(alloc, files, log, head, network, found, plan, names),
         Err(stop) => Err(stop),
     }
 }
@@ -213,7 +239,7 @@ fn draw_log<N: Files>(
     head: &JournalHead,
     horizon: u32,
     plan: &ValidPlan<'_>,
-    names: Result<Names, AllocError>,
+    names: Option<Names>,
 ) -> Result<Drawn, DrawStop>
     requires { horizon ≤ 1000000000 }
     ensures drawn { IfOk result (DrawsLog plan.now.task plan.now.steps horizon head.now
@@ -235,7 +261,7 @@ pub(crate) fn draw_judged<N: Files>(
     head: &JournalHead,
     horizon: u32,
     verdict: &Verdict<'_>,
-    names: Result<Names, AllocError>,
+    names: Option<Names>,
 ) -> Result<Drawn, DrawStop>
     requires { horizon ≤ 1000000000 }
     ensures drawn { IfOk result

@@ -20,68 +20,64 @@ pub(crate) struct Names {
     pub(crate) problem: String,
 }
 
-/// A plan with its task, and the names of its domain and its problem, where there was memory for
-/// them.
-#[derive(Drop)]
-pub(crate) struct Titled {
-    pub(crate) named: NamedPlan,
-    pub(crate) names: Result<Names, AllocError>,
-}
-
 /// Copies of two names.
-fn names_of(domain: &String, problem: &String) -> Result<Names, AllocError> {
+fn copied(domain: &String, problem: &String) -> Result<Names, AllocError> {
     let domain = domain.clone()?;
     let problem = problem.clone()?;
     Ok(Names { domain, problem })
 }
 
-/// The plan that the words name, of a domain.
-fn titled_of<N: Files>(
+/// Copies of two names, where there is memory for them.
+fn names_of(domain: &String, problem: &String) -> Option<Names> {
+    copied(domain, problem).ok()
+}
+
+/// The plan that the words name, of a domain, and the names, where there is memory for them.
+fn plan_of_domain<N: Files>(
     alloc: Global,
     files: &mut N,
     words: PlanWords<'_>,
     domain: &Domain,
-) -> Result<Titled, JudgeFault>
+    names: &mut Option<Names>,
+) -> Result<NamedPlan, JudgeFault>
     requires { words.horizon ≤ 1000000000 }
     ensures named { IsIn (N.held files.old words.entry.domain.now) (λ text. SpellsDomain text
-        (domain_view domain.now)) → IfOk result (λ t.
-        IsNamedPlan (N.held files.old) words.entry t.named.task t.named.plan) }
-    ensures of_task { IfOk result (λ t. IsOfTask t.named.task t.named.plan) }
+        (domain_view domain.now)) → IfOk result (λ n.
+        IsNamedPlan (N.held files.old) words.entry n.task n.plan) }
+    ensures of_task { IfOk result (λ n. IsOfTask n.task n.plan) }
     ensures cause { IsIn (N.held files.old words.entry.domain.now) (λ text. SpellsDomain text
         (domain_view domain.now)) → IfErr result (Explains (N.held files.old) words.entry) }
     ensures same { (other : List ℕ) → N.held files.new other ≡ N.held files.old other }
 {
     let problem = problem_in(alloc, files, words, domain)?;
-    let names = names_of(&domain.name, &problem.name);
-    let named = plan_with(alloc, files, words, domain, &problem);
+    *names = names_of(&domain.name, &problem.name);
+    let plan = plan_with(alloc, files, words, domain, &problem);
     // To free it piece by piece takes long, and the end of the program does it at once.
     forget(problem);
-    match named {
-        Ok(named) => Ok(Titled { named, names }),
-        Err(fault) => Err(fault),
-    }
+    plan
 }
 
-/// The plan that the words name. A file is opened only when what stands before it is done, and read
-/// once.
+/// The plan that the words name, and the names of its domain and its problem, where there is memory
+/// for them. A file is opened only when what stands before it is done, and read once.
 ///
 /// # Errors
 /// The first fault of the domain, the problem, the task and the plan, and of their files.
-pub(crate) fn titled_in<N: Files>(
+pub(crate) fn plan_and_names<N: Files>(
     alloc: Global,
     files: &mut N,
     words: PlanWords<'_>,
-) -> Result<Titled, JudgeFault>
+    names: &mut Option<Names>,
+) -> Result<NamedPlan, JudgeFault>
     requires { words.horizon ≤ 1000000000 }
-    ensures named { IfOk result (λ t.
-        IsNamedPlan (N.held files.old) words.entry t.named.task t.named.plan) }
-    ensures of_task { IfOk result (λ t. IsOfTask t.named.task t.named.plan) }
+    ensures named { IfOk result (λ n.
+        IsNamedPlan (N.held files.old) words.entry n.task n.plan) }
+    ensures of_task { IfOk result (λ n. IsOfTask n.task n.plan) }
     ensures cause { IfErr result (Explains (N.held files.old) words.entry) }
     ensures same { (other : List ℕ) → N.held files.new other ≡ N.held files.old other }
 {
     let domain = domain_in(alloc, files, words)?;
-    let titled = titled_of(alloc, files, words, &domain);
-    // As the problem in `titled_of`.
+    let plan = plan_of_domain(alloc, files, words, &domain, names);
+    // As the problem in `plan_of_domain`.
     forget(domain);
-    titled
+    plan
 }

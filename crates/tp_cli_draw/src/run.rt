@@ -12,9 +12,9 @@ ghost use Rattle.tp_cli_draw.specs.Words.{plan_of};
 use crate::answers::{Drawn, write_drawn};
 use crate::draw_words::{horizon_or, plan_words};
 use crate::drawing::{draw_judged, draw_verdict};
-use crate::named::{Names, Titled, titled_in};
+use crate::named::{Names, plan_and_names};
 use crate::stops::{DrawStop, draw_line};
-use std::alloc::{AllocError, Global};
+use std::alloc::Global;
 use tp_cli_audit::head_in;
 use tp_cli_files::{Files, OUT_OF_ORDER, REFUSED, complain};
 use tp_cli_inputs::{DrawWords, NamedPlan, verdict_of};
@@ -29,7 +29,7 @@ fn draw_task(
     words: DrawWords<'_>,
     task: &Task,
     plan: Plan,
-    names: Result<Names, AllocError>,
+    names: Option<Names>,
 ) -> Result<Drawn, DrawStop>
     requires of_task { IsOfTask task.now plan }
     requires no_log { words.journal ≡ None }
@@ -57,9 +57,9 @@ fn draw_plan<N: Files>(
     ensures cause { IfErr result (IsStopped (N.held files.old) words.entry) }
 {
     let horizon = horizon_or(words, u32::MAX);
-    match titled_in(alloc, files, plan_words(words, horizon)) {
-        Ok(titled) => {
-            let Titled { named, names } = titled;
+    let mut names = None;
+    match plan_and_names(alloc, files, plan_words(words, horizon), &mut names) {
+        Ok(named) => {
             let NamedPlan { task, plan } = named;
             draw_task(alloc, words, &task, plan, names)
         }
@@ -77,7 +77,7 @@ fn draw_run_of<N: Files>(
     horizon: u32,
     task: &Task,
     plan: Plan,
-    names: Result<Names, AllocError>,
+    names: Option<Names>,
 ) -> Result<Drawn, DrawStop>
     requires limit { horizon ≤ 1000000000 }
     requires of_task { IsOfTask task.now plan }
@@ -120,9 +120,9 @@ fn draw_headed<N: Files>(
         → IfErr result (IsStopped held words.entry) }
 {
     let horizon = horizon_or(words, head.horizon);
-    match titled_in(alloc, files, plan_words(words, horizon)) {
-        Ok(titled) => {
-            let Titled { named, names } = titled;
+    let mut names = None;
+    match plan_and_names(alloc, files, plan_words(words, horizon), &mut names) {
+        Ok(named) => {
             let NamedPlan { task, plan } = named;
             draw_run_of(alloc, files, words, log, head, horizon, &task, plan, names)
         }

@@ -8,16 +8,16 @@ use Rattle.tp_cli_draw.proofs.run.draw_headed.Goals as goal
 pub returns-in-Ok-clause-drawn : goal.returns-in-Ok-clause-drawn
 returns-in-Ok-clause-drawn g c =
     λ held same told.
-    c.draw_run_of.ensures.drawn held (c.titled_in.ensures.same c.args.log.now ∙ same c.args.log.now)
-    (subst (λ (p : PlanWords). IsNamedPlan held p c.in-Ok.titled.named.task c.in-Ok.titled.named.plan) c.plan_words.ensures.is
-    (plan_over (g.N.Files.held c.args.files.now) held c.plan_words.result c.in-Ok.titled.named.task c.in-Ok.titled.named.plan same c.in-Ok.ensures.named)) told
+    c.draw_run_of.ensures.drawn held (c.plan_and_names.ensures.same c.args.log.now ∙ same c.args.log.now)
+    (subst (λ (p : PlanWords). IsNamedPlan held p c.in-Ok.named.task c.in-Ok.named.plan) c.plan_words.ensures.is
+    (plan_over (g.N.Files.held c.args.files.now) held c.plan_words.result c.in-Ok.named.task c.in-Ok.named.plan same c.in-Ok.ensures.named)) told
 
 pub returns-in-Ok-clause-cause : goal.returns-in-Ok-clause-cause
 returns-in-Ok-clause-cause g c =
     λ held same told.
-    c.draw_run_of.ensures.cause held (c.titled_in.ensures.same c.args.log.now ∙ same c.args.log.now)
-    (subst (λ (p : PlanWords). IsNamedPlan held p c.in-Ok.titled.named.task c.in-Ok.titled.named.plan) c.plan_words.ensures.is
-    (plan_over (g.N.Files.held c.args.files.now) held c.plan_words.result c.in-Ok.titled.named.task c.in-Ok.titled.named.plan same c.in-Ok.ensures.named)) told
+    c.draw_run_of.ensures.cause held (c.plan_and_names.ensures.same c.args.log.now ∙ same c.args.log.now)
+    (subst (λ (p : PlanWords). IsNamedPlan held p c.in-Ok.named.task c.in-Ok.named.plan) c.plan_words.ensures.is
+    (plan_over (g.N.Files.held c.args.files.now) held c.plan_words.result c.in-Ok.named.task c.in-Ok.named.plan same c.in-Ok.ensures.named)) told
 
 pub returns-in-Err-clause-cause : goal.returns-in-Err-clause-cause
 returns-in-Err-clause-cause g c =
