@@ -1,1 +1,2 @@
 pub mod ResumeLemmas
+pub mod BareLemmas
