@@ -225,7 +225,7 @@ fn bare_asked<'w>(matches: &ArgMatches<'w>) -> Option<Request<'w>>
 /// it.
 fn run_begun<'w>(matches: &ArgMatches<'w>, plan: PlanWords<'w>) -> Option<Request<'w>>
     requires resume { first_of (codes "resume") (rows_of (found_of matches.now)) ≡ None }
-    requires plan { IsPlanWords (rows_of (found_of matches.now)) plan.entry }
+    requires plan { IsPlanWords (rows_of (found_of matches.now)) plan }
     ensures { IfSome result (AsksBy (Some (codes "run", rows_of (found_of matches.now)))) }
 {
     match word(matches, "journal") {
@@ -244,7 +244,7 @@ fn run_resumed<'w>(
     old: &'w str,
 ) -> Option<Request<'w>>
     requires resume { first_of (codes "resume") (rows_of (found_of matches.now)) ≡ Some old.now }
-    requires plan { IsPlanWords (rows_of (found_of matches.now)) plan.entry }
+    requires plan { IsPlanWords (rows_of (found_of matches.now)) plan }
     ensures { IfSome result (AsksBy (Some (codes "run", rows_of (found_of matches.now)))) }
 {
     let log = word(matches, "journal")?;

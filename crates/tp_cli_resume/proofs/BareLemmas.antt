@@ -65,7 +65,7 @@ module _ (old input held now : Option (List ℕ)) (file : LogFile) (run : Run) (
   stopped_ran (Ok last) r is h = subst (λ q. IfErr q (StopsResumed old input held now file)) (sym is) tt
   stopped_ran (Err stop) r is h = subst (λ q. IfErr q (StopsResumed old input held now file)) (sym is) (stopped_on old input held now file run stop w h)
 
-machine_type : (n : ℕ) (stop : ResumeStop) → resume_failures {T = Machine} n (Err stop) ≡ resume_failures {T = Bool} n (Err stop)
+pub machine_type : (n : ℕ) (stop : ResumeStop) → resume_failures {T = Machine} n (Err stop) ≡ resume_failures {T = Bool} n (Err stop)
 machine_type n (Auditing stop) = refl
 machine_type n Lines = refl
 machine_type n Making = refl
@@ -99,7 +99,7 @@ appends_further None piece = tt
 appends_further (Some xs) piece = refl
 
 -- some lines were answered, and the last one in part
-EntersSome : Machine → Option (List ℕ) → Option (List ℕ) → Option (List ℕ) → Type 0
+abbrev pub EntersSome : Machine → Option (List ℕ) → Option (List ℕ) → Option (List ℕ) → Type 0
 EntersSome mid input held now =
     (left : Option (List ℕ)) × (lines : List (List ℕ)) × (entries : List Entry) × (text : List ℕ)
     × (last : Machine) × TakesLines input left lines × EntersAll mid lines entries text last
@@ -122,7 +122,7 @@ none_more : (old mid : Machine) (start before : Reading) (held said now log logg
 none_more old mid start before held said now log logged n f none =
     (before.rest, f.goes.lines, f.entries, f.goes.text, mid, f.goes.read, f.ran, part_after held said now f.goes.text [] [] f.goes.text (sym (append-nil f.goes.text)) f.goes.written (whole_part said now [] none))
 
-some_more : (mid last : Machine) (before after : Reading) (held now begun logged : Option (List ℕ)) (fault : JournalFault) → GoesOn mid last before after held now begun logged (Err fault) → EntersSome mid before.rest held now
+pub some_more : (mid last : Machine) (before after : Reading) (held now begun logged : Option (List ℕ)) (fault : JournalFault) → GoesOn mid last before after held now begun logged (Err fault) → EntersSome mid before.rest held now
 some_more mid last before after held now begun logged journal.Read g = none_more mid g.mid before g.behind held g.said now begun g.kept g.commands g.follows g.turn.2
 some_more mid last before after held now begun logged journal.TooLong g = none_more mid g.mid before g.behind held g.said now begun g.kept g.commands g.follows g.turn.2
 some_more mid last before after held now begun logged journal.Write g = one_part mid g.mid last before g.behind after held g.said now begun g.kept g.commands g.turn.0 g.turn.2 g.turn.1 g.follows g.turn.3 g.turn.4 g.turn.5
