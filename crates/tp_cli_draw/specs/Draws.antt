@@ -1,4 +1,5 @@
--- The picture of the plan in a file, or of its run up to the end of a journal. Of the picture itself nothing is said.
+-- The picture of the plan in a file, or of its run up to the end of a journal. Of the picture
+-- itself nothing is said.
 use Rattle.std.specs.Prelude.{◌≡◌, ℕ, List, [], Option, Some, Bool, true, false, Err, ◌⊎◌, option_map}
 use Rattle.std.specs.String.{string_bytes}
 use Rattle.std.specs.Io.KnownBytes.{Appends}
@@ -53,8 +54,8 @@ FoundNamed held w log f =
     WithHead (held log) (λ head. ValidNamed held w (λ h task steps.
     IsPlanFound task steps h head (held log) f))
 
--- the plan is valid, and a journal that is named is one of the run of its network; the plan is not valid; or an answer of the journal is
--- not allowed
+-- the plan is valid, and a journal that is named is one of the run of its network; the plan is not
+-- valid; or an answer of the journal is not allowed
 abbrev pub IsDrawn : (List ℕ → Option (List ℕ)) → DrawWords → Drawn → Type 0
 IsDrawn held w (Picture text) =
     ValidNamed held w (λ h task steps. Unit {0})
@@ -106,12 +107,14 @@ WritesDrawn held w before now yes =
     (drawn : Drawn) × IsDrawn held w drawn × (yes ≡ is_picture drawn)
     × Appends before now (drawn_text drawn)
 
--- The plan that the words name is valid, a journal that they name is one of a run of its network, and a text was written
+-- The plan that the words name is valid, a journal that they name is one of a run of its network,
+-- and a text was written
 abbrev pub Draws : (List ℕ → Option (List ℕ)) → DrawWords → Option (List ℕ) → Option (List ℕ)
     → Type 0
 Draws held w before now = WritesDrawn held w before now true
 
--- the plan is not valid, and its first fault was written; or an answer of the journal is not allowed, and the number of its line was
+-- the plan is not valid, and its first fault was written; or an answer of the journal is not
+-- allowed, and the number of its line was
 abbrev pub DrawsNo : (List ℕ → Option (List ℕ)) → DrawWords → Option (List ℕ) → Option (List ℕ)
     → Type 0
 DrawsNo held w before now = WritesDrawn held w before now false
@@ -137,7 +140,8 @@ StopsDraw held w before now (Journal stop) = IsStopped held w (Journal stop) × 
 StopsDraw held w before now Memory = IsStopped held w Memory × (now ≡ before)
 StopsDraw held w before now Write = WritesSome held w before now
 
--- It stopped so with that status, and that was told. A failed write is one that the count of failures tells of.
+-- It stopped so with that status, and that was told. A failed write is one that the count of
+-- failures tells of.
 pub record EndsDraw (held : List ℕ → Option (List ℕ)) (w : DrawWords) (status : ℕ)
     (before now : Option (List ℕ)) (output output-now : ℕ) (failures : ℕ)
     (said : Option (List ℕ)) (failures-now : ℕ) (said-now : Option (List ℕ)) : Type 0 where

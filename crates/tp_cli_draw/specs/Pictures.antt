@@ -59,7 +59,8 @@ StopsReplay (Journal audit.Write) = ⊥
 StopsReplay Memory = Unit {0}
 StopsReplay Write = ⊥
 
--- a picture where the file is a journal of the network's run, and else the line of the answer that is not allowed
+-- a picture where the file is a journal of the network's run, and else the line of the answer that
+-- is not allowed
 abbrev pub DrawsNet : PlanNet → JournalHead → Option (List ℕ) → Drawn → Type 0
 DrawsNet net head input (Picture text) =
     (pairs : ℕ) × IsNetFound net head input (found.Journal pairs)

@@ -7,7 +7,8 @@ use tp_bounds::{Limits, PlanNet};
 use tp_exec_machine::Executive;
 use tp_repair::RepairNet;
 
-/// The executive that `run` makes, over the network of a plan. It costs one addition to a network for each bound.
+/// The executive that `run` makes, over the network of a plan. It costs one addition to a network
+/// for each bound.
 pub(crate) fn begin(alloc: Global, network: &PlanNet) -> Result<Executive<RepairNet>, AllocError>
     requires { length network.now.bounds.items ≤ 65535 }
 {

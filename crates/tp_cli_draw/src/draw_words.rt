@@ -6,8 +6,8 @@ ghost use Rattle.tp_cli_draw.specs.Words.{plan_of};
 use tp_cli_inputs::PlanWords;
 use tp_text::Scale;
 
-/// The files of a plan, the ticks of a unit of its time, the end of the windows where it is given, and the file of a journal, if
-/// a run is to be drawn.
+/// The files of a plan, the ticks of a unit of its time, the end of the windows where it is given,
+/// and the file of a journal, if a run is to be drawn.
 #[derive(Clone, Copy)]
 pub struct DrawWords<'w> {
     pub domain: &'w str,
@@ -23,7 +23,8 @@ const GREATEST_HORIZON: u32 = 1_000_000_000;
 
 /// The plan that the words name, read with a horizon.
 pub(crate) fn plan_words(words: DrawWords<'_>, horizon: u32) -> PlanWords<'_>
-    ensures { result.entry ≡ plan_of words.entry horizon }
+    ensures is { result ≡ plan_of words.entry horizon }
+    ensures horizon { result.horizon ≡ horizon }
 {
     PlanWords {
         domain: words.domain,

@@ -33,7 +33,8 @@ fn end_of(steps: &[Step]) -> u32 {
     end
 }
 
-/// The picture of a plan, over an executive of its network; with what a journal says, that of the run.
+/// The picture of a plan, over an executive of its network; with what a journal says, that of the
+/// run.
 fn picture(
     alloc: Global,
     names: Result<Names, AllocError>,
@@ -46,7 +47,14 @@ fn picture(
     let Ok(names) = names else {
         return Err(DrawStop::Memory);
     };
-    match scene_of(alloc, names, plan.task(), plan.plan().steps(), executive, told) {
+    match scene_of(
+        alloc,
+        names,
+        plan.task(),
+        plan.plan().steps(),
+        executive,
+        told,
+    ) {
         Ok(scene) => match picture_text(alloc, &scene) {
             Ok(text) => Ok(text),
             Err(_) => Err(DrawStop::Memory),
@@ -71,7 +79,8 @@ fn net_picture(
     }
 }
 
-/// The picture of a valid plan. Its windows end at the horizon that the words give, or else at the plan's own end.
+/// The picture of a valid plan. Its windows end at the horizon that the words give, or else at the
+/// plan's own end.
 fn plan_picture(
     alloc: Global,
     words: DrawWords<'_>,
@@ -130,7 +139,8 @@ fn found_in<N: Files>(
     }
 }
 
-/// The picture of the run of the journal that a source has left, over an executive in which the run began.
+/// The picture of the run of the journal that a source has left, over an executive in which the run
+/// began.
 fn replayed_picture<S: Source + Drop>(
     alloc: Global,
     source: S,

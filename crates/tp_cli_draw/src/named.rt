@@ -20,7 +20,8 @@ pub(crate) struct Names {
     pub(crate) problem: String,
 }
 
-/// A plan with its task, and the names of its domain and its problem, where there was memory for them.
+/// A plan with its task, and the names of its domain and its problem, where there was memory for
+/// them.
 #[derive(Drop)]
 pub(crate) struct Titled {
     pub(crate) named: NamedPlan,
@@ -61,7 +62,8 @@ fn titled_of<N: Files>(
     }
 }
 
-/// The plan that the words name. A file is opened only when what stands before it is done, and read once.
+/// The plan that the words name. A file is opened only when what stands before it is done, and read
+/// once.
 ///
 /// # Errors
 /// The first fault of the domain, the problem, the task and the plan, and of their files.

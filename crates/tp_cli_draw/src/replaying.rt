@@ -135,7 +135,12 @@ fn take_answer(
 }
 
 /// Takes a question.
-fn take_question(alloc: Global, asked: &mut Asked, line: &[u8], number: u64) -> Result<(), ReplayStop> {
+fn take_question(
+    alloc: Global,
+    asked: &mut Asked,
+    line: &[u8],
+    number: u64,
+) -> Result<(), ReplayStop> {
     let mut command = String::new(alloc);
     match put_bytes(&mut command, behind_sign(line)) {
         Ok(()) => {
@@ -178,7 +183,8 @@ fn told_first(alloc: Global, events: u16) -> Result<Told, AllocError> {
     })
 }
 
-/// Carries out what the lines of a journal say that was carried out. Answers what they say beside that.
+/// Carries out what the lines of a journal say that was carried out. Answers what they say beside
+/// that.
 fn replay_lines<R: Source>(
     alloc: Global,
     executive: &mut Executive<RepairNet>,
@@ -195,7 +201,14 @@ fn replay_lines<R: Source>(
             // No journal is so long.
             Err(LineFault::TooLong) => return Ok(told),
             Ok(Next::End) => return Ok(told),
-            Ok(_) => take_line(alloc, executive, &mut told, &mut asked, lines.line(), number)?,
+            Ok(_) => take_line(
+                alloc,
+                executive,
+                &mut told,
+                &mut asked,
+                lines.line(),
+                number,
+            )?,
         }
     }
     Ok(told)
@@ -204,8 +217,8 @@ fn replay_lines<R: Source>(
 /// The longest line of a journal.
 const LONGEST: usize = 16_384;
 
-/// Carries out what the journal that a source has left says that was carried out, which was found to be one of the executive.
-/// Answers what it says beside that.
+/// Carries out what the journal that a source has left says that was carried out, which was found
+/// to be one of the executive. Answers what it says beside that.
 pub(crate) fn replay<R: Source + Drop>(
     alloc: Global,
     executive: &mut Executive<RepairNet>,

@@ -100,8 +100,8 @@ fn draw_run_of<N: Files>(
     }
 }
 
-/// The same of the plan that the words name, where the head of the journal is known: its horizon is that of the head where the
-/// words give none.
+/// The same of the plan that the words name, where the head of the journal is known: its horizon is
+/// that of the head where the words give none.
 fn draw_headed<N: Files>(
     alloc: Global,
     files: &mut N,
@@ -110,10 +110,14 @@ fn draw_headed<N: Files>(
     head: &JournalHead,
 ) -> Result<Drawn, DrawStop>
     requires { NamesLog words.entry log.now }
-    ensures drawn { IfSome (N.held files.old log.now) (λ bytes. IsHeadTold bytes head.now)
-        → IfOk result (IsDrawn (N.held files.old) words.entry) }
-    ensures cause { IfSome (N.held files.old log.now) (λ bytes. IsHeadTold bytes head.now)
-        → IfErr result (IsStopped (N.held files.old) words.entry) }
+    ensures drawn { (held : List ℕ → Option (List ℕ))
+        → ((other : List ℕ) → N.held files.old other ≡ held other)
+        → IfSome (held log.now) (λ bytes. IsHeadTold bytes head.now)
+        → IfOk result (IsDrawn held words.entry) }
+    ensures cause { (held : List ℕ → Option (List ℕ))
+        → ((other : List ℕ) → N.held files.old other ≡ held other)
+        → IfSome (held log.now) (λ bytes. IsHeadTold bytes head.now)
+        → IfErr result (IsStopped held words.entry) }
 {
     let horizon = horizon_or(words, head.horizon);
     match titled_in(alloc, files, plan_words(words, horizon)) {
@@ -173,13 +177,14 @@ fn draw_and_write<N: Files, O: Sink>(
     }
 }
 
-/// Draws the plan that the words name as an SVG picture; where they name a journal, its run up to the journal's end. Answers the
-/// exit status: 0 where the picture was written; 1 for a plan that is not valid, whose first fault was written, or a journal with
-/// an answer that is not allowed, the number of whose line was; and for another writes one fault line. The journal is judged first,
-/// as by `audit`. Of the picture itself nothing is promised.
+/// Draws the plan that the words name as an SVG picture; where they name a journal, its run up to
+/// the journal's end. Answers the exit status: 0 where the picture was written; 1 for a plan that
+/// is not valid, whose first fault was written, or a journal with an answer that is not allowed,
+/// the number of whose line was; and for another writes one fault line. The journal is judged
+/// first, as by `audit`. Of the picture itself nothing is promised.
 ///
-/// The cost is that of `check` and of the network, one addition to a network for each of its bounds, with a journal twice that of an
-/// audit, and the picture: a look at each two steps.
+/// The cost is that of `check` and of the network, one addition to a network for each of its
+/// bounds, with a journal twice that of an audit, and the picture: a look at each two steps.
 pub fn run_draw<N: Files, O: Sink, F: Sink>(
     alloc: Global,
     files: &mut N,
@@ -197,8 +202,8 @@ pub fn run_draw<N: Files, O: Sink, F: Sink>(
         (O.held output.old) (O.held output.new) (O.failures output.old) (O.failures output.new)
         (F.failures faults.old) (F.held faults.old) (F.failures faults.new) (F.held faults.new) }
 
-    // Nothing is written for input that is refused, and at most a first part where memory or a device is wanting; a write that
-    // failed is always told.
+    // Nothing is written for input that is refused, and at most a first part where memory or a
+    // device is wanting; a write that failed is always told.
     ensures kept { result ≡ REFUSED → O.held output.new ≡ O.held output.old }
     ensures part { result ≡ OUT_OF_ORDER
         → DrawsPart (N.held files.old) words.entry (O.held output.old) (O.held output.new) }

@@ -1,4 +1,5 @@
-//! What a picture is of: the steps and events of a plan, with the moments and windows that an executive tells.
+//! What a picture is of: the steps and events of a plan, with the moments and windows that an
+//! executive tells.
 
 use crate::named::Names;
 use crate::replaying::Told;
@@ -147,8 +148,8 @@ fn set_windows(scene: &mut Scene, executive: &Executive<RepairNet>) {
     }
 }
 
-/// Sets the moments of the events, and which of them happened, to what the executive reports. Answers now, and whether a bound of
-/// the plan was withdrawn.
+/// Sets the moments of the events, and which of them happened, to what the executive reports.
+/// Answers now, and whether a bound of the plan was withdrawn.
 fn set_moments(
     scene: &mut Scene,
     executive: &Executive<RepairNet>,
@@ -192,7 +193,8 @@ fn add_run(
     Ok(())
 }
 
-/// What the picture of a plan is of, over an executive of its network; with what a journal says, that of the run.
+/// What the picture of a plan is of, over an executive of its network; with what a journal says,
+/// that of the run.
 pub(crate) fn scene_of(
     alloc: Global,
     names: Names,

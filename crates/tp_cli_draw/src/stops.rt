@@ -30,7 +30,7 @@ pub enum DrawStop {
 
 /// The name of the file of the journal, empty where none is named.
 fn journal_of(words: DrawWords<'_>) -> &str
-    ensures { result.entry.now ≡ journal_name words.entry }
+    ensures { result.now ≡ journal_name words.entry }
 {
     match words.journal {
         Some(log) => log,

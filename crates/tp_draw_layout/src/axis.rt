@@ -5,6 +5,7 @@ use crate::scene::Scene;
 
 /// How wide the page is, and the room at its left and its right.
 pub const WIDTH: Length = Length(12_000);
+
 pub const MARGIN: Length = Length(160);
 
 /// The distance of round moments, at least.
@@ -49,7 +50,8 @@ fn edge_of(scene: &Scene) -> u32 {
     }
 }
 
-/// How many ticks lie between two round moments: the least of 1, 2 and 5 times a power of ten that is wide enough.
+/// How many ticks lie between two round moments: the least of 1, 2 and 5 times a power of ten that
+/// is wide enough.
 fn round_of(edge: u32, span: Length) -> u32 {
     let wanted = LEAST_DISTANCE * u64::from(edge);
     let span = u64::from(span.0.max(0).unsigned_abs());

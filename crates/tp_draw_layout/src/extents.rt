@@ -9,6 +9,7 @@ use std::alloc::{AllocError, Global};
 
 /// The least width of a bar, and half of that of an instantaneous step.
 const LEAST_BAR: Length = Length(30);
+
 const HALF_INSTANT: Length = Length(50);
 
 /// How far the tip of a whisker that is cut off lies behind its event.
@@ -16,6 +17,7 @@ const TIP: Length = Length(160);
 
 /// What is left over at both ends of a label in a bar, and between a bar and a label beside it.
 const INSIDE: Length = Length(40);
+
 const BESIDE: Length = Length(50);
 
 /// A whisker: from the least to the greatest moment of an event.
@@ -150,7 +152,8 @@ fn fits_inside(placed: &Placed, step: &Step, wide: Length) -> bool {
     !step.is_instant() && wide <= dark.max(white)
 }
 
-/// Puts the label into the first place where it fits: the bar, right of it, left of it; else as much of it as fits into the bar.
+/// Puts the label into the first place where it fits: the bar, right of it, left of it; else as
+/// much of it as fits into the bar.
 fn place_label(
     alloc: Global,
     axis: &Axis,

@@ -5,8 +5,10 @@ use crate::lengths::Length;
 use crate::scene::{Event, Order, Scene};
 use std::alloc::{AllocError, Global};
 
-/// With more steps than these there are fewer arrows: none of those that hold only a latest moment, and none over many rows.
+/// With more steps than these there are fewer arrows: none of those that hold only a latest moment,
+/// and none over many rows.
 const SOME_STEPS: usize = 20;
+
 const MANY_STEPS: usize = 60;
 
 /// How far an arrow goes up or down, at most, where there are many steps.
@@ -33,8 +35,8 @@ pub struct Held {
     pub latest: Option<Holder>,
 }
 
-/// An arrow between two events, and the bounds that it stands for: one that holds the earliest moment of the second event, one that
-/// holds the latest moment of the first.
+/// An arrow between two events, and the bounds that it stands for: one that holds the earliest
+/// moment of the second event, one that holds the latest moment of the first.
 #[derive(Clone, Copy, Debug, PartialEq, Eq, PartialOrd, Ord)]
 pub struct Arrow {
     pub from: u16,
@@ -78,7 +80,8 @@ fn holder_of(scene: &Scene, placed: &[Placed], order: &Order, other: Option<u16>
     }
 }
 
-/// Whether a bound keeps an order: between events of two steps, of which one comes first; or to tick 0.
+/// Whether a bound keeps an order: between events of two steps, of which one comes first; or to
+/// tick 0.
 fn is_order(scene: &Scene, order: &Order) -> bool {
     match (order.from, order.to) {
         (Some(from), Some(to)) => {
@@ -204,7 +207,8 @@ fn arrow_to(scene: &Scene, held: &[Held], event: u16) -> Option<Arrow> {
     })
 }
 
-/// The arrow from an event whose latest moment is held, if it is drawn and is no arrow of `arrow_to`.
+/// The arrow from an event whose latest moment is held, if it is drawn and is no arrow of
+/// `arrow_to`.
 fn arrow_from(scene: &Scene, held: &[Held], event: u16) -> Option<Arrow> {
     let to = held.get(usize::from(event))?.latest?.other;
     let latest = latest_drawn(scene, held, event, to)?;

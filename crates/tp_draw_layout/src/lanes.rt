@@ -7,6 +7,7 @@ use std::alloc::{AllocError, Global};
 
 /// The widest label of a step, and the widest name of a lane.
 const WIDEST_LABEL: Length = Length(3_200);
+
 const WIDEST_NAME: Length = Length(1_500);
 
 /// The room of names where there is none, less than nothing.
@@ -112,7 +113,8 @@ fn put_into(
     }
 }
 
-/// The lanes of the objects, in the order of their first steps, and behind them that of all other steps.
+/// The lanes of the objects, in the order of their first steps, and behind them that of all other
+/// steps.
 pub fn lanes_of(alloc: Global, scene: &Scene) -> Result<Vec<Lane>, AllocError> {
     let mut lanes = Vec::new(alloc);
     let order = in_order(alloc, scene)?;

@@ -3,7 +3,8 @@
 use std::fmt;
 use std::ops::{Add, Sub};
 
-/// A length on the page, in tenths of a pixel. Sums and differences stop at the ends of its range, which no page comes near.
+/// A length on the page, in tenths of a pixel. Sums and differences stop at the ends of its range,
+/// which no page comes near.
 #[derive(Clone, Copy, Debug, PartialEq, Eq, PartialOrd, Ord)]
 pub struct Length(pub i32);
 

@@ -5,6 +5,7 @@ use std::alloc::{AllocError, Global};
 
 /// The size of most letters, and of those of lanes and the axis, in pixels.
 pub const SMALL: u64 = 11;
+
 pub const PLAIN: u64 = 12;
 
 /// What stands where letters were taken off.
@@ -54,8 +55,8 @@ fn letters_before_dots(text: &str, room: Length) -> usize {
     count
 }
 
-/// As much of a text as there is room for in small letters: where not all of it is, it ends in two dots, and where not one letter
-/// is, it is empty.
+/// As much of a text as there is room for in small letters: where not all of it is, it ends in two
+/// dots, and where not one letter is, it is empty.
 pub fn cut(alloc: Global, text: &str, room: Length) -> Result<String, AllocError> {
     if width(text, SMALL) <= room {
         return String::from_str(alloc, text);

@@ -1,5 +1,5 @@
-//! Where everything of a picture of a plan, or of its run, stands on the page. All lengths are whole tenths of a pixel, so that the
-//! same scene has the same page everywhere.
+//! Where everything of a picture of a plan, or of its run, stands on the page. All lengths are
+//! whole tenths of a pixel, so that the same scene has the same page everywhere.
 //!
 //! - `scene`: what a picture is of
 //! - `lengths`: lengths on the page

@@ -11,6 +11,7 @@ use std::alloc::{AllocError, Global};
 
 /// Where the lanes begin, and how much farther down where commands were refused.
 const LANES: Length = Length(800);
+
 pub const REFUSALS: Length = Length(240);
 
 /// Higher lanes have the axis a second time below.
@@ -73,7 +74,8 @@ fn page_with(
     })
 }
 
-/// Where everything of a scene stands. The cost is that of comparing each two steps, and of a look at each bound.
+/// Where everything of a scene stands. The cost is that of comparing each two steps, and of a look
+/// at each bound.
 ///
 /// # Errors
 /// Where memory is wanting.

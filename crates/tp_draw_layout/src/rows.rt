@@ -9,7 +9,9 @@ use std::alloc::{AllocError, Global};
 
 /// The height of a bar and of a row, and the room above and below the rows of a lane.
 pub const BAR: Length = Length(140);
+
 pub const ROW: Length = Length(280);
+
 pub const PAD: Length = Length(30);
 
 /// How far the bar of a row lies below its top.
@@ -38,7 +40,8 @@ pub(crate) fn extents_of(
     Ok(placed)
 }
 
-/// The first row in which a step has room that takes up its row from a place on. The rows are told by their right ends.
+/// The first row in which a step has room that takes up its row from a place on. The rows are told
+/// by their right ends.
 fn free_row(rows: &[Length], from: Length) -> usize {
     for (row, right) in rows.iter().enumerate() {
         if *right + GAP <= from {

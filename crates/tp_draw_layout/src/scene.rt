@@ -44,7 +44,8 @@ pub struct Event {
     pub reported: Option<u32>,
 }
 
-/// A bound in force: `to` comes no later than `weight` ticks after `from`. Without an event it is that of tick 0.
+/// A bound in force: `to` comes no later than `weight` ticks after `from`. Without an event it is
+/// that of tick 0.
 #[derive(Clone, Copy, Debug, Drop)]
 pub struct Order {
     pub id: u32,
@@ -79,7 +80,8 @@ pub struct Run {
 pub struct Scene {
     pub domain: String,
     pub problem: String,
-    /// How many decimals a time has, at most three: a unit has ten ticks for one of them, a hundred for two.
+    /// How many decimals a time has, at most three: a unit has ten ticks for one of them, a hundred
+    /// for two.
     pub decimals: u8,
     /// The end of the windows.
     pub horizon: u32,

@@ -138,12 +138,7 @@ fn put_title(svg: &mut String, scene: &Scene, arrow: &Arrow) -> Result<(), Alloc
 }
 
 /// Puts an arrow along a path, and a broad line over it that is not seen.
-fn put_arrow(
-    svg: &mut String,
-    scene: &Scene,
-    arrow: &Arrow,
-    path: &str,
-) -> Result<(), AllocError> {
+fn put_arrow(svg: &mut String, scene: &Scene, arrow: &Arrow, path: &str) -> Result<(), AllocError> {
     begin_group(svg, "a")?;
     put_title(svg, scene, arrow)?;
     end_title(svg)?;

@@ -11,6 +11,7 @@ use tp_draw_layout::{
 
 /// How far a whisker lies off its bar, and how high its caps are above it.
 const OFF: Length = Length(30);
+
 const CAP: Length = Length(20);
 
 /// How far what is hovered over goes above and below a bar.
@@ -57,7 +58,8 @@ fn put_title(
     put_event_lines(svg, scene, &scene.event(step.last), &held)
 }
 
-/// The edge of the bar at which an event's whisker begins, and where that lies: below the bar for an end.
+/// The edge of the bar at which an event's whisker begins, and where that lies: below the bar for
+/// an end.
 fn heights(event: &Event, y: Length) -> (Length, Length) {
     match event.part {
         Part::End => (y + BAR, y + BAR + OFF),
@@ -122,7 +124,10 @@ fn put_bar(svg: &mut String, placed: &Placed) -> Result<(), AllocError> {
 fn put_diamond(svg: &mut String, placed: &Placed, happened: bool) -> Result<(), AllocError> {
     let class = if happened { "d" } else { "b" };
     let (x, y) = (placed.left + Length(50), placed.y);
-    writeln!(svg, "<path class=\"{class}\" d=\"M{x} {y}l5 7l-5 7l-5 -7z\"/>")
+    writeln!(
+        svg,
+        "<path class=\"{class}\" d=\"M{x} {y}l5 7l-5 7l-5 -7z\"/>"
+    )
 }
 
 /// Puts the label of a step.

@@ -100,7 +100,10 @@ pub(crate) fn put_fitted(
 ) -> Result<(), AllocError> {
     let wide = width(text, SMALL);
     begin_text(svg, class, x, y)?;
-    write!(svg, " textLength=\"{wide}\" lengthAdjust=\"spacingAndGlyphs\"")?;
+    write!(
+        svg,
+        " textLength=\"{wide}\" lengthAdjust=\"spacingAndGlyphs\""
+    )?;
     end_text(svg, text)
 }
 

@@ -1,4 +1,5 @@
-//! The picture of a plan, or of its run, as the text of an SVG file, without scripts or fonts of its own. Each element has a title.
+//! The picture of a plan, or of its run, as the text of an SVG file, without scripts or fonts of
+//! its own. Each element has a title.
 //!
 //! - `elements`: elements, each a line
 //! - `times`: times in units

@@ -1,6 +1,8 @@
 //! The lanes and their names, and the row of the refused commands.
 
-use crate::elements::{begin_group, end_group, end_title, put_path, put_rect, put_text, put_titled, put_words};
+use crate::elements::{
+    begin_group, end_group, end_title, put_path, put_rect, put_text, put_titled, put_words,
+};
 use crate::times::{put_time, time};
 use std::alloc::{AllocError, Global};
 use std::fmt::Write;
@@ -73,16 +75,18 @@ fn put_refused_title(
 }
 
 /// Puts the cross of a refusal.
-fn put_cross(
-    alloc: Global,
-    svg: &mut String,
-    x: Length,
-    y: Length,
-) -> Result<(), AllocError> {
+fn put_cross(alloc: Global, svg: &mut String, x: Length, y: Length) -> Result<(), AllocError> {
     let arm = Length(35);
     let around = Length(120);
     let path = format!(in alloc; "M{} {}l7 7m0 -7l-7 7", x - arm, y - arm)?;
-    put_rect(svg, "x", x - around.half(), y - around.half(), around, around)?;
+    put_rect(
+        svg,
+        "x",
+        x - around.half(),
+        y - around.half(),
+        around,
+        around,
+    )?;
     put_path(svg, "n", path.as_str())
 }
 
@@ -95,8 +99,8 @@ fn label_of(alloc: Global, scene: &Scene, refusals: &Refusals) -> Result<String,
     Ok(label)
 }
 
-/// Puts the crosses of commands that were refused at one tick. Their label is left out where it would begin before `free`. Answers
-/// where the next label may begin.
+/// Puts the crosses of commands that were refused at one tick. Their label is left out where it
+/// would begin before `free`. Answers where the next label may begin.
 fn put_refusals(
     alloc: Global,
     svg: &mut String,

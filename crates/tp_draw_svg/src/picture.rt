@@ -67,12 +67,7 @@ fn put_heading(alloc: Global, svg: &mut String, scene: &Scene) -> Result<(), All
 }
 
 /// Puts what stands on the page: what lies below comes first.
-fn put_body(
-    alloc: Global,
-    svg: &mut String,
-    scene: &Scene,
-    page: &Page,
-) -> Result<(), AllocError> {
+fn put_body(alloc: Global, svg: &mut String, scene: &Scene, page: &Page) -> Result<(), AllocError> {
     put_bands(svg, page)?;
     put_axis(alloc, svg, scene, page)?;
     put_refused(alloc, svg, scene, page)?;
@@ -81,8 +76,8 @@ fn put_body(
     put_steps(svg, scene, page)
 }
 
-/// The picture of a scene, as the text of an SVG file. The same scene has the same picture. The cost is that of placing everything
-/// (`page_of`), and of one text.
+/// The picture of a scene, as the text of an SVG file. The same scene has the same picture. The
+/// cost is that of placing everything (`page_of`), and of one text.
 ///
 /// # Errors
 /// Where memory is wanting.

@@ -1,7 +1,8 @@
 //! How the elements of a picture look.
 
 /// The style of a picture, and what its hatching and the heads of its arrows are.
-pub(crate) const STYLE: &str = "<style>text{font:11px Helvetica,Arial,'Liberation Sans',sans-serif;fill:#222}
+pub(crate) const STYLE: &str =
+    "<style>text{font:11px Helvetica,Arial,'Liberation Sans',sans-serif;fill:#222}
 .t{font-size:16px;font-weight:bold}.k{font-weight:bold}.g{fill:#666}.m{text-anchor:middle}.e{text-anchor:end}
 .o{stroke:#fff;stroke-width:3px;stroke-linejoin:round;paint-order:stroke}.w{fill:#fff}
 .l{fill:#f5f5f5}.c{stroke:#ddd}.z{stroke:#999}.b{fill:#fff;stroke:#222}.d{fill:#555;stroke:#222}.r{fill:none;stroke:#777;stroke-width:.9px}

@@ -168,7 +168,8 @@ fn put_lines(
     Ok(())
 }
 
-/// Puts the axis: the round moments, and above them now and the horizon, which get their labels first.
+/// Puts the axis: the round moments, and above them now and the horizon, which get their labels
+/// first.
 pub(crate) fn put_axis(
     alloc: Global,
     svg: &mut String,

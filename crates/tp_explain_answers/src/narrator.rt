@@ -118,7 +118,8 @@ impl<'w> Narrator<'w> {
         match self.topic {
             Topic::Bare => self.watch.begin_bare(),
             Topic::Run(words) if words.horizon <= MOST_HORIZON => {
-                begin_run(self.alloc, &mut self.watch, files, words)
+                begin_run(self.alloc, &mut self.watch, files, words)?;
+                self.watch.take_lags()
             }
             _ => Ok(()),
         }

@@ -75,7 +75,8 @@ fn begin(
     watch.begin_plan(plan, &bounds, horizon)
 }
 
-/// Begins to watch the run of the plan that the words name. Where its network can't be made once more, nothing begins.
+/// Begins to watch the run of the plan that the words name, before any lag. Where its network can't be made once more, nothing
+/// begins.
 pub(crate) fn begin_run<N: Files>(
     alloc: Global,
     watch: &mut Watch,

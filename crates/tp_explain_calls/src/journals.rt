@@ -1,10 +1,10 @@
 //! Lines that are no journal's.
 
+use crate::words::{next_word, number_in};
 use std::alloc::{AllocError, Global};
 use tp_cli_files::Files;
 use tp_device::Source as Reader;
 use tp_explain_text::{Page, put_line_place, put_mark_of_line};
-use tp_script::next_word;
 
 /// The most bytes of a line of a journal.
 const LONGEST: usize = 16_384;
@@ -137,7 +137,7 @@ fn own_bounds(lines: &[KeptLine]) -> u64 {
     if word != b"own".as_slice() {
         return 0;
     }
-    tp_script::read_number(next_word(behind).0).unwrap_or(0)
+    number_in(next_word(behind).0).unwrap_or(0)
 }
 
 /// What is wanted on a line.

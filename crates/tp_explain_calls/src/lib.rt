@@ -6,6 +6,7 @@
 //! - `journals`: lines that are no journal's
 //! - `owners`: the agents of events
 //! - `wholes`: what concerns a file as a whole
+//! - `words`: the words of a line of commands
 #![tactic(auto)]
 
 mod arguments;
@@ -14,6 +15,7 @@ mod journals;
 mod owners;
 mod scripts;
 mod wholes;
+mod words;
 
 pub use arguments::put_arguments;
 pub use files::{put_file_fault, put_log_fault};

@@ -1,11 +1,11 @@
 //! The head of commands: `network N H` and lags.
 
 use crate::wholes::put_whole;
+use crate::words::{next_word, number_in};
 use std::alloc::{AllocError, Global};
 use std::str::from_utf8;
 use tp_explain_grammar::{end_headline, put_error_at};
 use tp_explain_text::{Page, Source};
-use tp_script::next_word;
 
 /// The name of standard input.
 const STDIN: &str = "stdin";
@@ -57,13 +57,9 @@ fn words_of(line: &[u8], begin: usize) -> Words<'_> {
     }
 }
 
-/// The number that a word spells: one to ten digits.
+/// The number that a word spells.
 fn number_of(word: Option<Word<'_>>) -> Option<u64> {
-    let text = word?.text;
-    if text.len() > 10 || !text.as_bytes().iter().all(|byte| byte.is_ascii_digit()) {
-        return None;
-    }
-    text.parse::<u64>().ok()
+    number_in(word?.text.as_bytes())
 }
 
 fn put_note(page: &mut Page) {

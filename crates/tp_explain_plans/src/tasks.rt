@@ -11,12 +11,41 @@ use tp_explain_names::{
 use tp_explain_text::{Page, Source};
 use tp_text::{Token, Tree, read_whole};
 
-/// How many objects may stand for a parameter.
-fn count_for(types: &Types<'_>, objects: &[Declared<'_>], parameter: &Declared<'_>) -> u64 {
-    let mut count = 0u64;
+/// Objects that were declared together, as one of them is, and how many they are.
+#[derive(Clone, Copy)]
+struct Row<'t> {
+    first: Declared<'t>,
+    count: u64,
+}
+
+/// Where the types of an object stand.
+fn types_place(object: &Declared<'_>) -> Option<(bool, usize)> {
+    object.types.map(|tree| (object.in_problem, place_of(tree)))
+}
+
+/// The objects in rows of the same types.
+fn rows_of<'t>(alloc: Global, objects: &[Declared<'t>]) -> Result<Vec<Row<'t>>, AllocError> {
+    let mut rows: Vec<Row<'t>> = Vec::new(alloc);
     for object in objects {
-        if fits(types, object.types, parameter.types) {
-            count = count.saturating_add(1);
+        match rows.last_mut() {
+            Some(row) if types_place(&row.first) == types_place(object) => {
+                row.count = row.count.saturating_add(1);
+            }
+            _ => rows.push(Row {
+                first: *object,
+                count: 1,
+            })?,
+        }
+    }
+    Ok(rows)
+}
+
+/// How many objects may stand for a parameter.
+fn count_for(types: &Types<'_>, rows: &[Row<'_>], parameter: &Declared<'_>) -> u64 {
+    let mut count = 0u64;
+    for row in rows {
+        if fits(types, row.first.types, parameter.types) {
+            count = count.saturating_add(row.count);
         }
     }
     count
@@ -26,12 +55,12 @@ fn count_for(types: &Types<'_>, objects: &[Declared<'_>], parameter: &Declared<'
 fn counts_for(
     alloc: Global,
     types: &Types<'_>,
-    objects: &[Declared<'_>],
+    rows: &[Row<'_>],
     parameters: &[Declared<'_>],
 ) -> Result<Vec<u64>, AllocError> {
     let mut counts = Vec::new(alloc);
     for parameter in parameters {
-        counts.push(count_for(types, objects, parameter))?;
+        counts.push(count_for(types, rows, parameter))?;
     }
     Ok(counts)
 }
@@ -85,12 +114,12 @@ fn counted<'t>(
     kind: Kind,
     items: &'t [Tree<'t>],
     types: &Types<'t>,
-    objects: &[Declared<'t>],
+    rows: &[Row<'t>],
 ) -> Result<Option<Counted<'t>>, AllocError> {
     let Some((name, parameters)) = parameters_in(alloc, kind, items)? else {
         return Ok(None);
     };
-    let counts = counts_for(alloc, types, objects, parameters.as_slice())?;
+    let counts = counts_for(alloc, types, rows, parameters.as_slice())?;
     Ok(Some(Counted {
         name: word_of(name).unwrap_or(""),
         at: place_of(name),
@@ -106,10 +135,11 @@ fn most_of<'t>(
 ) -> Result<Option<Counted<'t>>, AllocError> {
     let types = Types::new(alloc, world)?;
     let objects = declared(alloc, world, Kind::Object)?;
+    let rows = rows_of(alloc, objects.as_slice())?;
     let mut most = None;
     let mut many = 0u64;
     for tree in lists_of(world, kind) {
-        let found = counted(alloc, kind, items_of(tree), &types, objects.as_slice())?;
+        let found = counted(alloc, kind, items_of(tree), &types, rows.as_slice())?;
         if let Some(found) = found {
             let count = product(found.counts.as_slice());
             if count > many {

@@ -3,6 +3,7 @@
 //! - `picture`: events, bounds, lags, and what happened
 //! - `watch`: a run that is watched, answer by answer
 //! - `windows`: the least and the greatest moments of the events
+//! - `journals`: the journal of a run that goes on
 //! - `lines`: the lines of a run that go in, with their places
 //! - `commands`: lines that are no command
 //! - `edges`: the edges of a conflict
@@ -12,6 +13,7 @@
 
 mod commands;
 mod edges;
+mod journals;
 mod lines;
 mod picture;
 mod refusals;
@@ -19,4 +21,5 @@ mod reports;
 mod watch;
 mod windows;
 
+pub use journals::tell_torn_pair;
 pub use watch::{RunPlan, Watch};

@@ -10,7 +10,7 @@ pub struct Input {
     line: u64,
 }
 
-/// A line of the input: its bytes, its number, and from where to where it has words.
+/// A line of the input: its bytes, its number, 0 of a line that is elsewhere, and from where to where it has words.
 #[derive(Drop)]
 pub struct InputLine {
     pub bytes: Vec<u8>,
@@ -20,6 +20,16 @@ pub struct InputLine {
 }
 
 impl InputLine {
+    /// A line that is not one of the input.
+    pub(crate) fn elsewhere(alloc: Global) -> InputLine {
+        InputLine {
+            bytes: Vec::new(alloc),
+            number: 0,
+            from: 0,
+            until: 0,
+        }
+    }
+
     /// Its bytes from its first word to its last.
     pub fn words(&self) -> &[u8] {
         self.bytes.get(self.from..self.until).unwrap_or(&[])

@@ -5,7 +5,7 @@ use std::alloc::{AllocError, Global};
 use tp_bounds::Bound;
 use tp_script::Command;
 
-/// A bound that was in force at some time, and the place of the command that added it: line 0 for one of a plan's own.
+/// A bound that was in force at some time, and the place of the command that added it: line 0 where that is none of the input.
 #[derive(Clone, Copy)]
 pub struct Held {
     pub bound: Bound,

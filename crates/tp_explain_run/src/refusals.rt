@@ -188,8 +188,23 @@ fn put_more(page: &mut Page, answer: &str, count: usize) {
     page.end_line();
 }
 
-/// Puts a line for each edge of a conflict, and what they ask for together.
-fn put_conflict(
+/// How many ticks more the edges of a conflict ask for than there is. None where the picture does not know one of them, or they ask
+/// for no more.
+fn excess(picture: &Picture, command: Command, answer: &str) -> Option<u64> {
+    let mut sum = 0i64;
+    for word in answer.split(' ').skip(2) {
+        let edge = edge_of(picture, command, word)?;
+        sum = sum.saturating_add(weight(picture, edge));
+    }
+    if sum < 0 {
+        Some(sum.unsigned_abs())
+    } else {
+        None
+    }
+}
+
+/// Puts a line for each edge of a conflict, or for the first of many.
+fn put_edges(
     page: &mut Page,
     picture: &Picture,
     reasons: &Reasons<'_, '_>,
@@ -202,21 +217,35 @@ fn put_conflict(
     } else {
         count
     };
-    let mut sum = 0i64;
-    for (at, word) in answer.split(' ').skip(2).enumerate() {
-        let Some(edge) = edge_of(picture, command, word) else {
-            return Ok(());
-        };
-        sum = sum.saturating_add(weight(picture, edge));
-        if at < shown {
+    for word in answer.split(' ').skip(2).take(shown) {
+        if let Some(edge) = edge_of(picture, command, word) {
             put_edge(page, picture, reasons, word, edge)?;
         }
     }
     if shown < count {
         put_more(page, answer, count.saturating_sub(shown));
     }
+    Ok(())
+}
+
+/// Puts that no schedule would remain, a line for each edge of the conflict, and what they ask for together.
+fn tell_conflict(
+    page: &mut Page,
+    picture: &Picture,
+    reasons: &Reasons<'_, '_>,
+    line: &InputLine,
+    command: Command,
+    answer: &str,
+) -> Result<(), AllocError> {
+    let Some(excess) = excess(picture, command, answer) else {
+        return Ok(());
+    };
+    put_head(page, line);
+    page.put("no schedule would remain");
+    page.end_line();
+    put_edges(page, picture, reasons, command, answer)?;
     page.put("note: together they ask for ");
-    put_ticks(page, reasons.scale, sum.unsigned_abs());
+    put_ticks(page, reasons.scale, excess);
     page.put(" more than there is");
     page.end_line();
     Ok(())
@@ -248,10 +277,7 @@ pub fn tell_refusal(
         return Ok(());
     };
     if word == "conflict" {
-        put_head(page, line);
-        page.put("no schedule would remain");
-        page.end_line();
-        return put_conflict(page, picture, reasons, command, answer);
+        return tell_conflict(page, picture, reasons, line, command, answer);
     }
     if word != "memory" {
         put_head(page, line);

@@ -6,7 +6,7 @@ use crate::refusals::Reasons;
 use crate::windows::Windows;
 use std::alloc::AllocError;
 use tp_explain_bounds::{put_bound, put_named_event, put_own_bound};
-use tp_explain_text::{Page, put_line_place, put_mark_of_line, put_moment, put_ticks};
+use tp_explain_text::{Page, put_file, put_line_place, put_mark_of_line, put_moment, put_ticks};
 
 /// The most events that are told one by one.
 const MOST_EVENTS: usize = 6;
@@ -184,6 +184,22 @@ fn put_own(
     }
 }
 
+/// Puts by which command a bound of the plan was withdrawn.
+fn put_withdrawal(page: &mut Page, line: &InputLine, id: u32) {
+    if line.number > 0 {
+        put_line_place(page, "stdin", line.number, line.column());
+    } else {
+        put_file(page, "stdin");
+    }
+    page.put("no plan: bound ");
+    page.put_number(u64::from(id));
+    page.put(" of the plan was withdrawn");
+    page.end_line();
+    if line.number > 0 {
+        put_mark_of_line(page, line.shown(), line.from);
+    }
+}
+
 /// Puts that a bound of the plan was withdrawn.
 fn tell_withdrawn(
     page: &mut Page,
@@ -192,12 +208,7 @@ fn tell_withdrawn(
     line: &InputLine,
     id: u32,
 ) -> Result<(), AllocError> {
-    put_line_place(page, "stdin", line.number, line.column());
-    page.put("no plan: bound ");
-    page.put_number(u64::from(id));
-    page.put(" of the plan was withdrawn");
-    page.end_line();
-    put_mark_of_line(page, line.shown(), line.from);
+    put_withdrawal(page, line, id);
     page.put("note: b");
     page.put_number(u64::from(id));
     page.put(": ");

@@ -1,6 +1,7 @@
 //! A run that is watched, answer by answer.
 
 use crate::edges::names_own_bound;
+use crate::journals::{follow_journal, head_of};
 use crate::lines::{Input, InputLine};
 use crate::picture::Picture;
 use crate::refusals::{Reasons, tell_refusal};
@@ -27,6 +28,7 @@ pub struct RunPlan {
 #[derive(Clone, Copy)]
 enum Told<'t> {
     Refusal(&'t InputLine, &'t str),
+    Report(&'t InputLine),
     End,
 }
 
@@ -61,6 +63,7 @@ fn tell(
 ) -> Result<(), AllocError> {
     match told {
         Told::Refusal(line, answer) => tell_refusal(page, picture, reasons, line, answer),
+        Told::Report(line) => tell_report(page, picture, reasons, line),
         Told::End => tell_end(page, picture, reasons),
     }
 }
@@ -120,18 +123,34 @@ impl Watch {
         self.input.take(bytes)
     }
 
-    /// Takes the lags at the beginning of the input.
-    fn take_lags(&mut self, picture: &mut Picture) -> Result<(), AllocError> {
-        for _ in 0..65_536 {
-            let Some(line) = self.input.look()? else {
-                return Ok(());
-            };
-            let Some((event, lag)) = lag_of(&line) else {
-                return Ok(());
-            };
-            picture.set_lag(event, lag);
+    /// The lag on the next line of the input, which is taken then.
+    fn next_lag(&mut self) -> Result<Option<(u16, u32)>, AllocError> {
+        let Some(line) = self.input.look()? else {
+            return Ok(None);
+        };
+        let lag = lag_of(&line);
+        if lag.is_some() {
             self.input.skip()?;
         }
+        Ok(lag)
+    }
+
+    /// Takes the lags at the beginning of the input.
+    pub fn take_lags(&mut self) -> Result<(), AllocError> {
+        for _ in 0..65_536 {
+            let Some((event, lag)) = self.next_lag()? else {
+                return Ok(());
+            };
+            if let Some(picture) = &mut self.picture {
+                picture.set_lag(event, lag);
+            }
+        }
+        Ok(())
+    }
+
+    /// Begins with a network that is given by hand.
+    fn begin(&mut self, events: u16, horizon: u32) -> Result<(), AllocError> {
+        self.picture = Some(Picture::new(self.alloc, events, horizon, &[])?);
         Ok(())
     }
 
@@ -144,10 +163,8 @@ impl Watch {
             return Ok(());
         };
         self.input.skip()?;
-        let mut picture = Picture::new(self.alloc, events, horizon, &[])?;
-        self.take_lags(&mut picture)?;
-        self.picture = Some(picture);
-        Ok(())
+        self.begin(events, horizon)?;
+        self.take_lags()
     }
 
     /// Begins with the network of a plan.
@@ -158,11 +175,24 @@ impl Watch {
         horizon: u32,
     ) -> Result<(), AllocError> {
         let events = u16::try_from(plan.events.len()).unwrap_or(u16::MAX);
-        let mut picture = Picture::new(self.alloc, events, horizon, bounds)?;
-        self.take_lags(&mut picture)?;
-        self.picture = Some(picture);
+        self.picture = Some(Picture::new(self.alloc, events, horizon, bounds)?);
         self.plan = Some(plan);
         Ok(())
+    }
+
+    /// Goes on from the end of a journal: that of the network of the plan that it has begun with, or else of the network of the
+    /// journal's head.
+    pub fn begin_journal(&mut self, journal: &[u8]) -> Result<(), AllocError> {
+        if self.picture.is_none() {
+            let Some((events, horizon)) = head_of(journal) else {
+                return Ok(());
+            };
+            self.begin(events, horizon)?;
+        }
+        match &mut self.picture {
+            Some(picture) => follow_journal(picture, journal),
+            None => Ok(()),
+        }
     }
 
     /// Explains what is told, with the texts of the plan where reasons need them.
@@ -195,16 +225,13 @@ impl Watch {
         if answer.starts_with("refused ") {
             return self.refused(page, &line, answer);
         }
-        let Some(picture) = &mut self.picture else {
-            return Ok(());
-        };
         if answer.starts_with("report ") {
-            let reasons = plain_reasons(self.plan.as_ref());
-            return tell_report(page, picture, &reasons, &line);
+            return self.tell(page, Told::Report(&line), false);
         }
-        match read_command(line.words()) {
-            Some(command) => picture.follow(command, line),
-            None => Ok(()),
+        let command = read_command(line.words());
+        match (&mut self.picture, command) {
+            (Some(picture), Some(command)) => picture.follow(command, line),
+            _ => Ok(()),
         }
     }
 

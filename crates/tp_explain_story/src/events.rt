@@ -1,6 +1,6 @@
 //! The events of steps: what each does, wants and reads.
 
-use crate::forms::{first_word, head_of, items_of, place_of, rest_of, Head};
+use crate::forms::{Head, first_word, head_of, items_of, place_of, rest_of};
 use crate::leaves::{Leaf, Moment, put_leaves};
 use crate::mentions::{Mention, Scope, Sort, put_mentions};
 use crate::plan::Step;
@@ -105,10 +105,7 @@ fn verb_of(head: Head) -> Verb {
 }
 
 /// What is written, and the right side.
-fn target_of<'a>(
-    leaf: &Leaf<'a>,
-    verb: Verb,
-) -> (Option<&'a Tree<'a>>, Option<&'a Tree<'a>>) {
+fn target_of<'a>(leaf: &Leaf<'a>, verb: Verb) -> (Option<&'a Tree<'a>>, Option<&'a Tree<'a>>) {
     if verb == Verb::Adds {
         return (Some(leaf.tree), None);
     }
@@ -171,7 +168,14 @@ fn put_reads<'a>(
     for doing in doings {
         if let Some(right) = doing.right {
             let bindings = &doing.leaf.bindings;
-            put_mentions(right, world, Sort::Expression, Scope::Bound, bindings, reads)?;
+            put_mentions(
+                right,
+                world,
+                Sort::Expression,
+                Scope::Bound,
+                bindings,
+                reads,
+            )?;
         }
     }
     Ok(())
@@ -191,7 +195,14 @@ pub(crate) fn part_of<'a>(
     if moment == Moment::Start {
         for leaf in &leaves_of(world, step, action.duration, moment)? {
             let bindings = &leaf.bindings;
-            put_mentions(leaf.tree, world, Sort::Condition, Scope::Bound, bindings, &mut reads)?;
+            put_mentions(
+                leaf.tree,
+                world,
+                Sort::Condition,
+                Scope::Bound,
+                bindings,
+                &mut reads,
+            )?;
         }
     }
     put_reads(world, &doings, &mut reads)?;

@@ -63,7 +63,7 @@ pub(crate) fn head_of_word(word: &str) -> Head {
 }
 
 /// What a list begins with. A word, and a list that begins with a list, begin with something else.
-pub(crate) fn head_of(tree: &Tree) -> Head {
+pub(crate) fn head_of<'a>(tree: &'a Tree<'a>) -> Head {
     head_of_word(first_word(tree))
 }
 
@@ -76,7 +76,7 @@ pub(crate) fn word_of<'a>(tree: &'a Tree<'a>) -> &'a str {
 }
 
 /// Whether a tree is an object or a variable.
-pub(crate) fn is_term(tree: &Tree) -> bool {
+pub(crate) fn is_term<'a>(tree: &'a Tree<'a>) -> bool {
     match word_of(tree).as_bytes() {
         [] => false,
         [first, ..] => first.is_ascii_alphabetic() || *first == b'?',
@@ -117,7 +117,12 @@ pub(crate) fn place_of(tree: &Tree) -> u32 {
 
 /// The first list of a list that begins with a word.
 pub(crate) fn section<'a>(tree: &'a Tree<'a>, word: &str) -> Option<&'a Tree<'a>> {
-    items_of(tree).iter().find(|item| first_word(*item) == word)
+    for item in items_of(tree) {
+        if first_word(item) == word {
+            return Some(item);
+        }
+    }
+    None
 }
 
 /// What stands behind a word of a list.

@@ -26,9 +26,8 @@ pub struct Interference {
 
 /// Where a name is mentioned.
 fn mentioned(mentions: &[Mention], name: &str, is_fluent: bool) -> Option<u32> {
-    let found = mentions
-        .iter()
-        .find(|mention| mention.is_fluent == is_fluent && mention.name.as_str() == name);
+    let found = mentions.iter().find(|mention| mention.is_fluent == is_fluent
+        && mention.name.as_str() == name);
     Some(found?.place)
 }
 
@@ -53,10 +52,8 @@ fn against(doing: &Doing, event: &Part) -> Option<(Other, u32)> {
             return Some((Other::Reads, place));
         }
     }
-    let found = event
-        .doings
-        .iter()
-        .find(|other| disagree(doing.verb, other.verb) && other.name.as_str() == name)?;
+    let found = event.doings.iter().find(|other| disagree(doing.verb, other.verb)
+        && other.name.as_str() == name)?;
     Some((Other::Does(found.verb), found.leaf.place()))
 }
 

@@ -43,8 +43,18 @@ enum Shape {
     Same,
 }
 
+/// Whether all are objects or variables.
+fn are_terms<'a>(items: &'a [Tree<'a>]) -> bool {
+    for item in items {
+        if !is_term(item) {
+            return false;
+        }
+    }
+    true
+}
+
 /// What a list is that begins with this word, and goes on like that.
-fn shape_of(sort: Sort, head: Head, rest: &[Tree]) -> Shape {
+fn shape_of<'a>(sort: Sort, head: Head, rest: &'a [Tree<'a>]) -> Shape {
     match (sort, head) {
         (Sort::Expression, Head::Plus | Head::Minus | Head::Times) => {
             Shape::Joined(Sort::Expression)
@@ -54,7 +64,7 @@ fn shape_of(sort: Sort, head: Head, rest: &[Tree]) -> Shape {
             Shape::Joined(Sort::Condition)
         }
         (Sort::Condition, Head::Forall | Head::Exists) => Shape::Quantifier,
-        (Sort::Condition, Head::Equal) if rest.iter().all(|item| is_term(item)) => Shape::Same,
+        (Sort::Condition, Head::Equal) if are_terms(rest) => Shape::Same,
         (
             Sort::Condition,
             Head::Equal | Head::Less | Head::AtMost | Head::AtLeast | Head::Greater,

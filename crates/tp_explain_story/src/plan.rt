@@ -36,7 +36,11 @@ fn is_blank(b: u8) -> bool {
 fn end_of(line: &[u8], start: usize) -> usize {
     for (at, b) in line.iter().enumerate().skip(start) {
         if is_sign(*b) {
-            return if at == start { at.saturating_add(1) } else { at };
+            return if at == start {
+                at.saturating_add(1)
+            } else {
+                at
+            };
         }
         if is_blank(*b) || *b == b';' {
             return at;
@@ -93,7 +97,10 @@ fn read_step<'a>(
     let [name, ..] = inside else {
         return Ok(None);
     };
-    let found = world.actions.iter().position(|action| action.name == name.text);
+    let found = world
+        .actions
+        .iter()
+        .position(|action| action.name == name.text);
     let (Some(action), true) = (found, has_time_form(time.text)) else {
         return Ok(None);
     };
@@ -101,18 +108,13 @@ fn read_step<'a>(
         Some(action) => action.lasts,
         None => false,
     };
+    let close = inside.iter().position(|lexeme| lexeme.text == ")");
+    let count = close.unwrap_or(inside.len());
     let mut words = Vec::new(world.alloc);
-    let mut rest = inside;
-    for lexeme in inside {
-        rest = match rest {
-            [] => &[],
-            [_, more @ ..] => more,
-        };
-        if lexeme.text == ")" {
-            break;
-        }
+    for lexeme in inside.iter().take(count) {
         words.push(lexeme.text)?;
     }
+    let rest = inside.get(count.saturating_add(1)..).unwrap_or(&[]);
     let (duration, place) = duration_of(rest, lasts, scale, name.place);
     Ok(Some(Step {
         action,

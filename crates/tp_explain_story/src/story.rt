@@ -180,7 +180,14 @@ impl<'a> Story<'a> {
         mentions: &mut Vec<Mention>,
     ) -> Result<(), AllocError> {
         let sort = Sort::Expression;
-        put_mentions(tree, &self.world, sort, Scope::Bound, &leaf.bindings, mentions)
+        put_mentions(
+            tree,
+            &self.world,
+            sort,
+            Scope::Bound,
+            &leaf.bindings,
+            mentions,
+        )
     }
 
     /// What an effect reads: its right side, and what it changes, unless it assigns.

@@ -70,7 +70,11 @@ pub(crate) fn is_below(types: &[Typed], kind: &str, wanted: &str) -> bool {
 }
 
 /// Whether an object has one of the types that a variable may have.
-pub(crate) fn fits(types: &[Typed], object: Typed, wanted: Option<&Tree>) -> bool {
+pub(crate) fn fits<'a>(
+    types: &[Typed<'a>],
+    object: Typed<'a>,
+    wanted: Option<&'a Tree<'a>>,
+) -> bool {
     let Some(wanted) = wanted else {
         return true;
     };
@@ -81,7 +85,10 @@ pub(crate) fn fits(types: &[Typed], object: Typed, wanted: Option<&Tree>) -> boo
     if items_of(wanted).is_empty() {
         return is_below(types, kind, word_of(wanted));
     }
-    rest_of(wanted)
-        .iter()
-        .any(|choice| is_below(types, kind, word_of(choice)))
+    for choice in rest_of(wanted) {
+        if is_below(types, kind, word_of(choice)) {
+            return true;
+        }
+    }
+    false
 }
