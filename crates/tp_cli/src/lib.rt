@@ -1,9 +1,9 @@
 //! The program `tempo`: a network of events and bounds, and commands on it, come in as lines, and
 //! the answers go out as lines; or the plan in a file is judged, and the verdict goes out, or the
-//! network of all its schedules, or a drawing of it, or commands on that network are answered, and the
-//! plan of the run goes out; or a plan is searched for; or the journal in a file is audited, or the
-//! run goes on where it ends; or the plan's network is split among agents, and their intervals go
-//! out, or the network of one.
+//! network of all its schedules, or a drawing of it, or commands on that network are answered, and
+//! the plan of the run goes out; or a plan is searched for; or the journal in a file is audited, or
+//! the run goes on where it ends; or the plan's network is split among agents, and their intervals
+//! go out, or the network of one.
 //!
 //! - `words`: the doing of what the words of a call ask for, over any files, reader and writers
 //! - `desk`: the files of a call
@@ -15,8 +15,9 @@
 //! The words of a call are read by `tp_cli_args`. Commands on a network of bounds alone are those
 //! of `tp_cli_bare`, files and fault lines those of `tp_cli_files`, the judging of a plan that of
 //! `tp_cli_check`, tasks and verdicts of files beside that those of `tp_cli_inputs`, runs of plans
-//! those of `tp_cli_run`, runs that go on those of `tp_cli_resume`, searches those of `tp_cli_plan`,
-//! audits those of `tp_cli_audit`, splits those of `tp_cli_split`, drawings those of `tp_cli_draw`.
+//! those of `tp_cli_run`, runs that go on those of `tp_cli_resume`, searches those of
+//! `tp_cli_plan`, audits those of `tp_cli_audit`, splits those of `tp_cli_split`, drawings those of
+//! `tp_cli_draw`.
 #![tactic(auto)]
 
 mod check;
