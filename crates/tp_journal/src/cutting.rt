@@ -5,7 +5,6 @@ ghost use Rattle.tp_script.specs.Reading.{Free};
 ghost use Rattle.tp_journal.specs.Replay.{IsTornPair};
 
 /// Where the last line begins: behind the last LF, if there is one.
-#[tactic(auto, using(crate::proofs::Cuts::drop_one, crate::proofs::Cuts::free_one))]
 fn last_line(bytes: &[u8]) -> usize
     ensures within { result ≤ length bytes.now }
     ensures free { Free (drop result bytes.now) }
@@ -25,7 +24,6 @@ fn last_line(bytes: &[u8]) -> usize
 /// How many bytes stand before the last pair of a journal where that was cut off; else how many
 /// there are. What is behind them begins with `>`, as a question does, and has at most one end of a
 /// line. It looks at the last two lines.
-#[tactic(auto, using(crate::proofs::Cuts::torn_none, crate::proofs::Cuts::torn_question, crate::proofs::Cuts::torn_reply))]
 pub fn whole_pairs(bytes: &[u8]) -> usize
     ensures within { result ≤ length bytes.now }
     ensures torn { IsTornPair (drop result bytes.now) }
