@@ -352,7 +352,7 @@ draw_words w v domain problem plan scale horizon journal log = (
       problem = ap Some (sym problem);
       plan = ap Some (sym plan);
       scale = (codes "1", refl, sym scale);
-      until = subst (IsUntil _) (sym horizon) ((codes "9", refl, refl), omega arith);
+      until = subst (IsUntil (Some (codes "9")) (Some (codes "9"))) (sym horizon) ((codes "9", refl, refl), omega arith);
       journal = ap (option_map (λ s. s.now)) journal ∙ ap Some log;
     },
   ),

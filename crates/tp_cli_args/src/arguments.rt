@@ -51,13 +51,13 @@ const GREATEST_GUIDED_BUDGET: u32 = 1_000_000_000;
 
 /// Whether just so many of these files, or fewer, are the standard input.
 fn reads_at_most(most: usize, files: &[&str]) -> bool {
-    let mut count = 0;
+    let mut left = most;
     for name in files {
         if *name == STANDARD_INPUT {
-            if count == most {
+            if left == 0 {
                 return false;
             }
-            count += 1;
+            left -= 1;
         }
     }
     true
@@ -224,7 +224,7 @@ fn bare_asked<'w>(matches: &ArgMatches<'w>) -> Option<Request<'w>>
 /// it.
 fn run_begun<'w>(matches: &ArgMatches<'w>, plan: PlanWords<'w>) -> Option<Request<'w>>
     requires resume { first_of (codes "resume") (rows_of (found_of matches.now)) ≡ None }
-    requires plan { IsPlanWords (rows_of (found_of matches.now)) plan.entry }
+    requires plan { IsPlanWords (rows_of (found_of matches.now)) plan }
     ensures { IfSome result (AsksBy (Some (codes "run", rows_of (found_of matches.now)))) }
 {
     match word(matches, "journal") {
@@ -243,7 +243,7 @@ fn run_resumed<'w>(
     old: &'w str,
 ) -> Option<Request<'w>>
     requires resume { first_of (codes "resume") (rows_of (found_of matches.now)) ≡ Some old.now }
-    requires plan { IsPlanWords (rows_of (found_of matches.now)) plan.entry }
+    requires plan { IsPlanWords (rows_of (found_of matches.now)) plan }
     ensures { IfSome result (AsksBy (Some (codes "run", rows_of (found_of matches.now)))) }
 {
     let log = word(matches, "journal")?;
@@ -322,7 +322,9 @@ fn draw_words<'w>(matches: &ArgMatches<'w>) -> Option<DrawWords<'w>>
 
 /// The tick that `--horizon` gives, if it is there.
 fn until(matches: &ArgMatches<'_>) -> Option<Option<u32>>
-    ensures { IfSome result (IsUntil (rows_of (found_of matches.now))) }
+    ensures { IfSome result (IsUntil
+        (first_of (codes "horizon") (rows_of (found_of matches.now)))
+        (one_of (codes "horizon") (rows_of (found_of matches.now)))) }
 {
     match word(matches, "horizon") {
         None => Some(None),
