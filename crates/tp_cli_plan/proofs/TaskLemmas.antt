@@ -8,17 +8,7 @@ use Rattle.tp_cli_inputs.specs.declared.judging.JudgeFault.{JudgeFault}
 use Rattle.tp_cli_inputs.specs.declared.judging.JudgeFault.TheVariants as judge
 use Rattle.tp_cli_inputs.specs.declared.plan_words.PlanWords.{PlanWords}
 use Rattle.tp_cli_inputs.proofs.NamedLemmas.{Same, explains_over, in_over}
-use Rattle.tp_cli_plan.specs.SearchTasks.{ExplainsTask, IsSearchTask, IsSearchTaskWith}
-
-pub search_task : (held later : List ℕ → Option (List ℕ)) (w : PlanWords) (domain : Domain) (task : Task) → IsIn (held w.domain.now) (λ text. SpellsDomain text domain) → Same later held → IsSearchTaskWith later w domain task → IsSearchTask held w task
-search_task held later w domain task spelled same is =
-    record {
-      domain = domain;
-      problem = is.problem;
-      domain_in = spelled;
-      problem_in = in_over later held w.problem.now (λ text. SpellsProblem domain text is.problem) same is.problem_in;
-      task_of = is.task_of;
-    }
+use Rattle.tp_cli_plan.specs.SearchTasks.{ExplainsTask}
 
 pub task_explained : (a b : List ℕ → Option (List ℕ)) (w : PlanWords) (fault : JudgeFault) → Same a b → ExplainsTask a w fault → ExplainsTask b w fault
 task_explained a b w (judge.DomainFile fault) same h = explains_over a b w (judge.DomainFile fault) same h

@@ -6,6 +6,8 @@ mod bindings;
 #[cfg(test)]
 mod examples;
 #[cfg(test)]
+mod joins;
+#[cfg(test)]
 mod limits;
 #[cfg(test)]
 mod numbering;
