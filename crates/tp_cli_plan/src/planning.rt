@@ -119,7 +119,7 @@ fn plan_reached<B: Write, O: Sink>(
 {
     match reached_task(alloc, words.task_words(), inputs) {
         Ok(task) => search_of(alloc, words, &task, spent, board, output),
-        Err(fault) => Err(SearchStop::Files(fault)),
+        Err(of_task) => Err(SearchStop::Files(of_task)),
     }
 }
 

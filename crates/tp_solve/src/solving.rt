@@ -164,7 +164,8 @@ pub fn propose_with<'t, B: Write>(
         task,
         horizon,
     };
-    if goal_in_reach(alloc, task)? {
+    let in_reach = goal_in_reach(alloc, task)?;
+    if in_reach {
         propose_in(aim, budget, wishes, board)
     } else {
         Ok(Proposed {
