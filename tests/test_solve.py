@@ -71,6 +71,17 @@ ROWS = (
     (BRIM, brim(1000000000000000, "(done)"), CALL, "0: (finish)\n", 0),
 )
 
+# 45 places, of whose 91,125 rides each has an end that nothing keeps from happening, and two a start
+RIDES = """(define (domain rides) (:predicates (at ?x) (road ?x ?y ?z))
+ (:durative-action ride :parameters (?x ?y ?z) :duration (= ?duration 3)
+  :condition (and (at start (at ?x)) (at start (road ?x ?y ?z)))
+  :effect (and (at start (not (at ?x))) (at end (at ?y)))))"""
+
+PLACES = f"""(define (problem p) (:domain rides) (:objects {" ".join(f"o{i}" for i in range(45))})
+ (:init (at o0) (road o0 o1 o0) (road o1 o2 o0)) (:goal (at o2)))"""
+
+RIDDEN = "0: (ride o0 o1 o0) [3]\n4: (ride o1 o2 o0) [3]\n"
+
 # a count of instantaneous steps, one a tick
 STEPS = """(define (domain steps) (:functions (x))
  (:action step :parameters () :effect (increase (x) 1)))"""
@@ -171,6 +182,14 @@ class Solve(Case):
         self.assertEqual(plan, "0: (step)\n" * 512)
         outcome = call(f"{CALL} --budget 1000", {"domain": STEPS, "problem": counted(513)})
         self.assertEqual(outcome.status, 1)
+
+    def test_more_actions_than_there_may_be(self):
+        files = {"domain": RIDES, "problem": PLACES}
+        self.comes_to(told_by(RIDDEN, 0), CALL, files)
+        self.comes_to(told("", "fault ground 2 too-many actions\n", 2), "plan domain problem", files)
+        # where the guided search finds nothing, all have to be looked at
+        apart = {**files, "problem": PLACES.replace("(:goal (at o2))", "(:goal (at o3))")}
+        self.comes_to(told("", "fault ground 2 too-many actions\n", 2), CALL, apart)
 
     def test_mending_by_the_light_of_few_matches(self):
         for fuses in (2, 3, 6):

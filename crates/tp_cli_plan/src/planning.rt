@@ -1,17 +1,14 @@
 //! The search for a plan of the problem in a file.
 
-ghost use Rattle.std.specs.Prelude.{◌≡◌, ◌≢◌, ◌≤◌, ℕ, List, [], Option, IfOk, IfErr, false};
+ghost use Rattle.std.specs.Prelude.{◌≡◌, ◌≢◌, ◌≤◌, ℕ, List, [], Option, IfOk, IfErr, IfSome, false};
 ghost use Rattle.tp_cli_files.specs.FaultLines.{TellsFault};
 ghost use Rattle.tp_search.specs.tp_search_instant.Answers.{IsAnswer};
 ghost use Rattle.tp_cli_plan.specs.FoundText.{IsFoundOfTask};
 ghost use Rattle.tp_cli_plan.specs.SearchStops.{EndsSearch, StopsSearch, stop_failures};
-ghost use Rattle.tp_bounds.specs.RunLimits.{greatest_limits};
 ghost use Rattle.tp_syntax.specs.DomainViews.{domain_view, problem_view};
-ghost use Rattle.tp_syntax.specs.Domains.{Domain};
-ghost use Rattle.tp_syntax.specs.Problems.{Problem};
-ghost use Rattle.tp_ground_joins.specs.Joined.{IsJoinedTask};
+ghost use Rattle.tp_solve.specs.Sought.{IsSought};
 ghost use Rattle.tp_cli_inputs.specs.Named.{AreNamed};
-ghost use Rattle.tp_cli_plan.specs.Parts.{IsPart};
+ghost use Rattle.tp_cli_plan.specs.Parts.{IsJoinedOf, IsPart};
 ghost use Rattle.tp_cli_plan.specs.SearchTasks.{IsSearchTask};
 ghost use Rattle.tp_cli_plan.specs.Searches.{SaysNoPlan, Searches, SearchesPart, WritesPlan, task_words, tells_progress};
 ghost use Rattle.tp_cli_plan.specs.Telling.{StopsTelling, TellsFound};
@@ -33,6 +30,7 @@ use tp_happen::plans_are_read;
 use tp_search::{Found, SearchFault, search};
 use tp_solve::{Proposed, Wishes, propose_with, search_rest, solve_with};
 use tp_task::Task;
+use tp_validate::ValidPlan;
 
 /// Writes what a search came to. Answers whether that is a plan.
 fn tell<O: Sink>(found: &Found<'_>, output: &mut O) -> Result<bool, SearchStop>
@@ -134,7 +132,61 @@ pub(crate) enum Part {
     NoTask,
 }
 
-/// Writes a plan that the guided search proposes of a task, if there is one.
+/// Writes a plan that was found of the task that joins leave.
+fn tell_plan<'t, O: Sink>(
+    words: SearchWords<'_>,
+    wishes: Wishes,
+    task: &'t Task,
+    plan: ValidPlan<'t>,
+    output: &mut O,
+) -> Result<Part, SearchStop>
+    requires limit { words.horizon ≤ 1000000000 }
+    requires order { words.order ≡ Guided wishes }
+    requires sought { IsSought task.now words.horizon plan }
+    ensures said { (held : List ℕ → Option (List ℕ)) → IsJoinedOf held words.entry task.now
+        → IfOk result (IsPart held words.entry (O.held output.old) (O.held output.new)) }
+    ensures cause { (held : List ℕ → Option (List ℕ)) → IsJoinedOf held words.entry task.now
+        → IfErr result (StopsSearch held words.entry (O.held output.old) (O.held output.new)) }
+    ensures failures { O.failures output.new ≡ stop_failures (O.failures output.old) result }
+{
+    let _ = words;
+    let _ = wishes;
+    let _ = task;
+    plans_are_read();
+    actions_are_readable();
+    chosen_actions_are_readable();
+    plans_of_some_are_plans();
+    match tell(&Found::Plan(plan), output) {
+        Ok(_) => Ok(Part::Planned),
+        Err(stop) => Err(stop),
+    }
+}
+
+/// Writes a plan of the task that joins leave, if one was proposed.
+fn tell_proposed<'t, O: Sink>(
+    words: SearchWords<'_>,
+    wishes: Wishes,
+    task: &'t Task,
+    proposed: Proposed<'t>,
+    output: &mut O,
+) -> Result<Part, SearchStop>
+    requires limit { words.horizon ≤ 1000000000 }
+    requires order { words.order ≡ Guided wishes }
+    requires sought { IfSome proposed.plan (IsSought task.now words.horizon) }
+    ensures said { (held : List ℕ → Option (List ℕ)) → IsJoinedOf held words.entry task.now
+        → IfOk result (IsPart held words.entry (O.held output.old) (O.held output.new)) }
+    ensures cause { (held : List ℕ → Option (List ℕ)) → IsJoinedOf held words.entry task.now
+        → IfErr result (StopsSearch held words.entry (O.held output.old) (O.held output.new)) }
+    ensures failures { O.failures output.new ≡ stop_failures (O.failures output.old) result }
+{
+    let Proposed { plan, spent } = proposed;
+    match plan {
+        Some(plan) => tell_plan(words, wishes, task, plan, output),
+        None => Ok(Part::Spent(spent)),
+    }
+}
+
+/// Writes a plan that the guided search proposes of the task that joins leave, if there is one.
 fn propose_of<B: Write, O: Sink>(
     alloc: Global,
     words: SearchWords<'_>,
@@ -145,32 +197,15 @@ fn propose_of<B: Write, O: Sink>(
 ) -> Result<Part, SearchStop>
     requires limit { words.horizon ≤ 1000000000 }
     requires order { words.order ≡ Guided wishes }
-    ensures said { (held : List ℕ → Option (List ℕ)) (d : Domain) (p : Problem)
-        → AreNamed held (task_words words.entry) d p → IsJoinedTask (greatest_limits
-        words.entry.horizon) words.entry.scale d p task.now → IfOk result
-        (IsPart held words.entry (O.held output.old) (O.held output.new)) }
-    ensures cause { (held : List ℕ → Option (List ℕ)) (d : Domain) (p : Problem)
-        → AreNamed held (task_words words.entry) d p → IsJoinedTask (greatest_limits
-        words.entry.horizon) words.entry.scale d p task.now → IfErr result
-        (StopsSearch held words.entry (O.held output.old) (O.held output.new)) }
+    ensures said { (held : List ℕ → Option (List ℕ)) → IsJoinedOf held words.entry task.now
+        → IfOk result (IsPart held words.entry (O.held output.old) (O.held output.new)) }
+    ensures cause { (held : List ℕ → Option (List ℕ)) → IsJoinedOf held words.entry task.now
+        → IfErr result (StopsSearch held words.entry (O.held output.old) (O.held output.new)) }
     ensures failures { O.failures output.new ≡ stop_failures (O.failures output.old) result }
     ensures quiet { wishes.progress ≡ false → board.new ≡ board.old }
 {
-    plans_are_read();
-    actions_are_readable();
-    chosen_actions_are_readable();
-    plans_of_some_are_plans();
     match propose_with(alloc, task, words.budget, words.horizon, wishes, board) {
-        Ok(
-            Proposed {
-                plan: Some(plan),
-                spent: _,
-            },
-        ) => match tell(&Found::Plan(plan), output) {
-            Ok(_) => Ok(Part::Planned),
-            Err(stop) => Err(stop),
-        },
-        Ok(Proposed { plan: None, spent }) => Ok(Part::Spent(spent)),
+        Ok(proposed) => tell_proposed(words, wishes, task, proposed, output),
         Err(_) => Ok(Part::Spent(0)),
     }
 }
@@ -201,6 +236,34 @@ fn plan_joined<B: Write, O: Sink>(
     }
 }
 
+/// Searches for a plan in the task of the relaxed reach, if none was found in that which joins leave.
+fn plan_rest<B: Write, O: Sink>(
+    alloc: Global,
+    words: SearchWords<'_>,
+    inputs: &Inputs,
+    part: Part,
+    board: &mut B,
+    output: &mut O,
+) -> Result<bool, SearchStop>
+    requires { words.horizon ≤ 1000000000 }
+    ensures said { (held : List ℕ → Option (List ℕ)) (before : Option (List ℕ)) → AreNamed held
+        (task_words words.entry) (domain_view inputs.now.domain) (problem_view inputs.now.problem)
+        → IsPart held words.entry before (O.held output.old) part.entry
+        → IfOk result (Searches held words.entry before (O.held output.new)) }
+    ensures cause { (held : List ℕ → Option (List ℕ)) (before : Option (List ℕ)) → AreNamed held
+        (task_words words.entry) (domain_view inputs.now.domain) (problem_view inputs.now.problem)
+        → IsPart held words.entry before (O.held output.old) part.entry
+        → IfErr result (StopsSearch held words.entry before (O.held output.new)) }
+    ensures failures { O.failures output.new ≡ stop_failures (O.failures output.old) result }
+    ensures quiet { tells_progress words.entry.order ≡ false → board.new ≡ board.old }
+{
+    match part {
+        Part::Planned => Ok(true),
+        Part::Spent(spent) => plan_reached(alloc, words, inputs, Some(spent), board, output),
+        Part::NoTask => plan_reached(alloc, words, inputs, None, board, output),
+    }
+}
+
 /// Searches for a plan, first by the guided search of the task that joins leave, and then in that of the relaxed reach.
 fn plan_guided<B: Write, O: Sink>(
     alloc: Global,
@@ -219,12 +282,10 @@ fn plan_guided<B: Write, O: Sink>(
         (domain_view inputs.now.domain) (problem_view inputs.now.problem)
         → IfErr result (StopsSearch held words.entry (O.held output.old) (O.held output.new)) }
     ensures failures { O.failures output.new ≡ stop_failures (O.failures output.old) result }
-    ensures quiet { tells_progress words.entry.order ≡ false → board.new ≡ board.old }
+    ensures quiet { wishes.progress ≡ false → board.new ≡ board.old }
 {
     match plan_joined(alloc, words, wishes, inputs, board, output) {
-        Ok(Part::Planned) => Ok(true),
-        Ok(Part::Spent(spent)) => plan_reached(alloc, words, inputs, Some(spent), board, output),
-        Ok(Part::NoTask) => plan_reached(alloc, words, inputs, None, board, output),
+        Ok(part) => plan_rest(alloc, words, inputs, part, board, output),
         Err(stop) => Err(stop),
     }
 }
