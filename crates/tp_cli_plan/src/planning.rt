@@ -128,7 +128,7 @@ pub(crate) enum Part {
     Planned,
     /// None was found with so many expansions.
     Spent(u32),
-    /// There is no such task.
+    /// There is no such task, or its search has no answer, as for want of memory.
     NoTask,
 }
 
@@ -206,7 +206,7 @@ fn propose_of<B: Write, O: Sink>(
 {
     match propose_with(alloc, task, words.budget, words.horizon, wishes, board) {
         Ok(proposed) => tell_proposed(words, wishes, task, proposed, output),
-        Err(_) => Ok(Part::Spent(0)),
+        Err(_) => Ok(Part::NoTask),
     }
 }
 
