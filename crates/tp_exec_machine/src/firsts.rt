@@ -169,11 +169,7 @@ fn holding(
 }
 
 // Puts a place at the end of a list, if it is one and does not stand there yet.
-fn put_once(
-    order: &mut Vec<usize>,
-    there: &mut Vec<bool>,
-    place: usize,
-) -> Result<(), AllocError>
+fn put_once(order: &mut Vec<usize>, there: &mut Vec<bool>, place: usize) -> Result<(), AllocError>
     requires { AreListed there.old.items order.old.items }
     ensures listed { OnOk result (AreListed there.new.items order.new.items) }
     ensures len { length there.new.items ≡ length there.old.items }

@@ -279,7 +279,9 @@ fn each_is_so(
         (u16::from(agents[2]), commands[2]),
     ];
     let answers = perform_each(alloc, &mut executives, &given)?;
-    let taken = answers.iter().all(|answer| matches!(answer, Answer::Accepted));
+    let taken = answers
+        .iter()
+        .all(|answer| matches!(answer, Answer::Accepted));
     let [first, second] = executives;
     Ok(taken && both_join_to(alloc, split, &first, &second, Some(&[0, 7]))?)
 }
