@@ -1,4 +1,4 @@
-//! What keeps a setting from being split, and a part from being made.
+//! What keeps a setting from being split.
 
 use std::alloc::{AllocError, AllocFailed};
 use thiserror::Error;
@@ -38,27 +38,5 @@ impl<T: Drop> From<AllocFailed<T>> for SplitFault {
 
     fn from(_error: AllocFailed<T>) -> SplitFault {
         SplitFault::Memory
-    }
-}
-
-/// Why an agent has no network of its part.
-#[derive(Clone, Copy, Debug, PartialEq, Eq, Error)]
-pub enum PartFault {
-    /// Out of memory.
-    #[error("out of memory")]
-    Memory,
-    /// Its bounds are more than 65,535, the most that an executive takes.
-    #[error("too many bounds")]
-    TooMany,
-}
-
-impl From<AllocError> for PartFault {
-    ghost use Rattle.std.specs.Prelude.{◌≡◌};
-    ghost use Rattle.tp_agents.specs.declared.fault.PartFault.TheVariants.{Memory};
-
-    ghost from_gives = { λ _ fault. fault ≡ Memory };
-
-    fn from(_error: AllocError) -> PartFault {
-        PartFault::Memory
     }
 }

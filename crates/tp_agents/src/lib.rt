@@ -4,7 +4,7 @@
 //! bounds between them are met, and their runs join into one of the whole.
 //!
 //! - `owners`: which agent each event is for; `reading`: the same from a text.
-//! - `fault`: what keeps a setting from being split, and a part from being made.
+//! - `fault`: what keeps a setting from being split.
 //! - `crosses`: bounds that join the events of two agents.
 //! - `gathering`: the least schedule of a setting.
 //! - `intervals`: the interval of each event, from the least schedule.
@@ -29,7 +29,7 @@ mod reading;
 mod splitting;
 
 pub use divided::Split;
-pub use fault::{PartFault, SplitFault};
+pub use fault::SplitFault;
 pub use interleaving::{executives_keep_apart, perform_each};
 pub use joining::join_runs;
 pub use owners::{MOST_AGENT, Owners};

@@ -5,14 +5,13 @@ ghost use Rattle.std.specs.List.{filter_map};
 ghost use Rattle.std.specs.Map.{values_of};
 ghost use Rattle.tp_bounds.specs.Nets.{IsPointOf};
 ghost use Rattle.tp_agents.specs.Owners.{owner_of, agent_count, place_of, events_of, ArePlaces};
-ghost use Rattle.tp_agents.specs.Parts.{own_point, bound_between, inner_of, inner_bounds, keeps_interval, keeps_intervals, event_line, AnswersPart};
+ghost use Rattle.tp_agents.specs.Parts.{own_point, bound_between, inner_of, inner_bounds, keeps_interval, keeps_intervals, event_line, IsPart};
 
 use crate::divided::Split;
-use crate::fault::PartFault;
 use crate::owners::{owner, place};
 use std::alloc::{AllocError, Global};
 use std::collections::BTreeMap;
-use tp_bounds::{Bound, MOST_BOUNDS, PlanNet, Point, at_least, at_most};
+use tp_bounds::{Bound, PlanNet, Point, at_least, at_most};
 
 /// For each event, how many events of its agent come before it. It goes over the events before
 /// each.
@@ -122,21 +121,14 @@ fn texts(alloc: Global, owners: &[u16], agent: u16) -> Result<Vec<String>, Alloc
 /// that keep it there.
 ///
 /// It goes over all bounds in force once, and over the events before each event.
-///
-/// # Errors
-/// `TooMany` where these bounds are more than 65,535, so that an executive over a network takes the
-/// bounds of any part that there is; `Memory`.
-pub fn part(alloc: Global, split: &Split, agent: u16) -> Result<PlanNet, PartFault>
+pub fn part(alloc: Global, split: &Split, agent: u16) -> Result<PlanNet, AllocError>
     requires { agent < agent_count split.now.owners.items }
-    ensures { AnswersPart split.now.setting split.now.owners.items split.now.intervals.items agent
-        result }
+    ensures { IfOk result (IsPart split.now.setting split.now.owners.items
+        split.now.intervals.items agent) }
 {
     let _events = split.setting.events();
     let mut bounds = inner_bounds(alloc, split, agent)?;
     keep_intervals(&mut bounds, split, agent)?;
-    if bounds.len() > MOST_BOUNDS as usize {
-        return Err(PartFault::TooMany);
-    }
     let events = texts(alloc, &split.owners, agent)?;
     Ok(PlanNet {
         horizon: split.setting.horizon(),

@@ -17,7 +17,7 @@ ghost use Rattle.tp_agents_laws.specs.NetsInForce.{HasInForce, MakesValidPlan};
 use crate::wanting::had_memory;
 use std::alloc::{AllocError, Global};
 use std::test::Fail;
-use tp_agents::{Owners, PartFault, Split, SplitFault, join_runs, part, split};
+use tp_agents::{Owners, Split, SplitFault, join_runs, part, split};
 use tp_agents_laws::{joined_runs_make_valid_plans, part_runs_keep_parts};
 use tp_bounds::{Bound, BoundId, Limits, MOST_BOUNDS, PlanNet, Point, Setting};
 use tp_exec_machine::Command::{Advance, Dispatch};
@@ -54,11 +54,11 @@ fn start(
     if split.agents() <= agent {
         return Ok(None);
     }
-    match part(alloc, split, agent) {
-        Ok(network) => Ok(Some(over(alloc, split, agent, &network)?)),
-        Err(PartFault::TooMany) => Ok(None),
-        Err(PartFault::Memory) => Err(AllocError),
+    let network = part(alloc, split, agent)?;
+    if network.bounds.len() > MOST_BOUNDS as usize {
+        return Ok(None);
     }
+    Ok(Some(over(alloc, split, agent, &network)?))
 }
 
 /// What an executive reports.

@@ -5,7 +5,7 @@ use super::settings::{
 };
 use std::alloc::{AllocError, Global};
 use std::test::Fail;
-use tp_agents::{PartFault, Split, part};
+use tp_agents::{Split, part};
 use tp_bounds::PlanNet;
 
 /// A part: the texts of its events, and its bounds.
@@ -95,15 +95,12 @@ fn is_part(alloc: Global, split: &Split, agent: u16, wanted: Part) -> Result<boo
     if split.agents() <= agent {
         return Ok(false);
     }
-    match again!(part(alloc, split, agent)) {
-        Ok(network) => Ok(
-            network.horizon == split.setting.horizon()
-                && has_texts(&network, wanted.texts)
-                && has_bounds(&network, wanted.bounds),
-        ),
-        Err(PartFault::TooMany) => Ok(false),
-        Err(PartFault::Memory) => Err(AllocError),
-    }
+    let network = again!(part(alloc, split, agent))?;
+    Ok(
+        network.horizon == split.setting.horizon()
+            && has_texts(&network, wanted.texts)
+            && has_bounds(&network, wanted.bounds),
+    )
 }
 
 fn are_parts(alloc: Global, split: &Split, parts: &[Part]) -> Result<bool, AllocError> {

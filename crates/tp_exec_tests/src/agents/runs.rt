@@ -1,13 +1,13 @@
 //! Parts carried out apart, in each order of their commands, and joined.
 
-ghost use Rattle.std.specs.Prelude.{◌≡◌, ◌≤◌, ℕ, length, IsTrue};
+ghost use Rattle.std.specs.Prelude.{◌≡◌, ℕ, length, IsTrue};
 ghost use Rattle.tp_agents.specs.Owners.{events_of};
 ghost use Rattle.tp_agents.specs.Joined.{FitParts};
 
 use super::settings::{EMPTY, FREE, LAMP, MATCH, PAIR, World, split_world};
 use std::alloc::{AllocError, Global};
 use std::test::Fail;
-use tp_agents::{PartFault, Split, join_runs, part, perform_each};
+use tp_agents::{Split, join_runs, part, perform_each};
 use tp_bounds::{BoundId, Limits, MOST_BOUNDS, PlanNet, check_schedule};
 use tp_exec_machine::Command::{Advance, Dispatch, Withdraw};
 use tp_exec_machine::{Answer, Command, Executive, Refusal, Report, perform};
@@ -72,12 +72,13 @@ const CASES: [Case; 6] = [
 ];
 
 /// An executive over a part's network, under the greatest limits.
-fn over(alloc: Global, network: &PlanNet) -> Result<Executive<RepairNet>, AllocError>
-    requires { length network.now.bounds.items ≤ MOST_BOUNDS }
-{
+fn over(alloc: Global, network: &PlanNet) -> Result<Option<Executive<RepairNet>>, AllocError> {
+    if network.bounds.len() > MOST_BOUNDS as usize {
+        return Ok(None);
+    }
     let net = RepairNet::new(alloc, network.events.len() as u16, network.horizon)?;
     let limits = Limits::greatest(network.horizon);
-    Executive::from_plan(alloc, network, limits, net)
+    Ok(Some(Executive::from_plan(alloc, network, limits, net)?))
 }
 
 /// An executive over the part of an agent that there is.
@@ -89,11 +90,8 @@ fn start(
     if split.agents() <= agent {
         return Ok(None);
     }
-    match part(alloc, split, agent) {
-        Ok(network) => Ok(Some(over(alloc, &network)?)),
-        Err(PartFault::TooMany) => Ok(None),
-        Err(PartFault::Memory) => Err(AllocError),
-    }
+    let network = part(alloc, split, agent)?;
+    over(alloc, &network)
 }
 
 /// Whether an executive carries a command out. Where memory was refused, it is asked again.
