@@ -82,7 +82,7 @@ HELPS = (
     (("--help", "-h", "help"), ("Usage: tempo", "bare", "split", "--explain", "Examples:", "Exit status: 0 yes")),
     (
         ("bare --help", "help bare"),
-        ("Usage: tempo bare", "network N H", "window E", "--journal <FILE>", "--explain", "Example:"),
+        ("Usage: tempo bare", "network N H", "window E", "--journal <FILE>", "--resume <OLD>", "--explain", "Example:"),
     ),
     (
         ("check --help", "help check"),
@@ -97,6 +97,7 @@ HELPS = (
             "lag E L",
             "`altered`",
             "--journal <FILE>",
+            "--resume <OLD>",
             "--scale",
             "Exit status: 0 a plan of the run was printed",
             "Example:",
@@ -104,7 +105,7 @@ HELPS = (
     ),
     (
         ("plan --help", "help plan"),
-        ("Usage: tempo plan", "--explain", "unreachable", "exhausted", "spent B", "--budget", "100000", "--horizon", "--scale", "Example:"),
+        ("Usage: tempo plan", "--explain", "unreachable", "exhausted", "spent B", "--progress", "waiting", "--budget", "100000", "--horizon", "--scale", "Example:"),
     ),
     (
         ("solve --help", "help solve"),
@@ -118,6 +119,7 @@ HELPS = (
             "<OWNERS>",
             "interval E LO HI",
             "one to four digits",
+            "--part <A>",
             "--scale",
             "--horizon",
             "Exit status: 0 for the intervals",
@@ -125,6 +127,7 @@ HELPS = (
         ),
     ),
     (("audit --help", "help audit"), ("Usage: tempo audit", "--explain", "[DOMAIN]", "audit ok N", "wrong N", "--horizon", "Examples:")),
+    (("draw --help", "help draw"), ("Usage: tempo draw", "--explain", "<PLAN>", "--journal <LOG>", "--scale", "--horizon", "Example:")),
 )
 
 

@@ -29,7 +29,7 @@ use Rattle.tp_cli_plan.specs.Searches.{SaysNoPlan, SearchesPart, WritesPlan}
 use Rattle.tp_cli_split.specs.Splits.{SplitsPart, WritesPlan as WritesIntervals, WritesSome, WritesSplit}
 use Rattle.tp_cli_plan.specs.declared.search_words.SearchWords.{SearchWords}
 use Rattle.tp_cli_draw.specs.Draws.{DrawsPart, WritesDrawn}
-use Rattle.tp_cli_draw.specs.declared.draw_words.DrawWords.{DrawWords}
+use Rattle.tp_cli_inputs.specs.declared.draw_words.DrawWords.{DrawWords}
 use Rattle.tp_cli_resume.specs.Bare.{ResumesBare, ResumesPart, SaysWrongOld}
 use Rattle.tp_cli_resume.specs.Run.{GoesOfPlan, ResumesRun}
 use Rattle.tp_cli.specs.CallFiles.{CallFiles, journal_file}

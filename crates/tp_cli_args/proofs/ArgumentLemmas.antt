@@ -15,7 +15,7 @@ use Rattle.tp_cli_args.specs.Requests.{AskForOneThing, AsksBy, AsksFor, AsksSear
 use Rattle.tp_text.specs.Scales.{scale_ticks}
 use Rattle.tp_text.specs.declared.number.Scale.TheVariants.{One}
 use Rattle.std.specs.Option.{option_map}
-use Rattle.tp_cli_draw.specs.declared.draw_words.DrawWords.{DrawWords}
+use Rattle.tp_cli_inputs.specs.declared.draw_words.DrawWords.{DrawWords}
 use Rattle.tp_cli_inputs.specs.declared.plan_words.PlanWords.{PlanWords}
 use Rattle.tp_cli_plan.specs.declared.search_words.Order.{Order}
 use Rattle.tp_cli_plan.specs.declared.search_words.Order.TheVariants.{Lacking, Guided}
@@ -352,7 +352,7 @@ draw_words w v domain problem plan scale horizon journal log = (
       problem = ap Some (sym problem);
       plan = ap Some (sym plan);
       scale = (codes "1", refl, sym scale);
-      until = subst (IsUntil _) (sym horizon) ((codes "9", refl, refl), omega arith);
+      until = subst (IsUntil (Some (codes "9")) (Some (codes "9"))) (sym horizon) ((codes "9", refl, refl), omega arith);
       journal = ap (option_map (λ s. s.now)) journal ∙ ap Some log;
     },
   ),

@@ -7,7 +7,7 @@ use Rattle.clap.specs.declared.error.kind.ErrorKind.TheVariants.{DisplayHelp, Di
 use Rattle.tp_text.specs.Scales.{scale_ticks}
 use Rattle.tp_text.specs.declared.number.Scale.{Scale}
 use Rattle.tp_cli_args.specs.Commands.{tempo_app}
-use Rattle.tp_cli_draw.specs.declared.draw_words.DrawWords.{DrawWords}
+use Rattle.tp_cli_inputs.specs.declared.draw_words.DrawWords.{DrawWords}
 use Rattle.tp_cli_inputs.specs.declared.plan_words.PlanWords.{PlanWords}
 use Rattle.tp_cli_plan.specs.Searches.{tells_progress}
 use Rattle.tp_cli_plan.specs.declared.search_words.Order.{Order}
@@ -43,11 +43,10 @@ pub record IsSearchWords (greatest : ℕ) (rows : List Row) (w : SearchWords) : 
   pub budget : Spells (one_of (codes "budget") rows) w.budget
   pub most : w.budget ≤ greatest
 
--- the tick that `--horizon` gives, where that has no default
-abbrev pub IsUntil : List Row → Option ℕ → Type 0
-IsUntil rows None = first_of (codes "horizon") rows ≡ None
-IsUntil rows (Some horizon) =
-    Spells (one_of (codes "horizon") rows) horizon × (horizon ≤ 1000000000)
+-- the tick that `--horizon` gives, where that has no default: the value that is given first, and the one that is read
+abbrev pub IsUntil : Option Text → Option Text → Option ℕ → Type 0
+IsUntil first one None = first ≡ None
+IsUntil first one (Some horizon) = Spells one horizon × (horizon ≤ 1000000000)
 
 -- the values of `draw`
 pub record IsDrawWords (rows : List Row) (w : DrawWords) : Type 0 where
@@ -55,7 +54,8 @@ pub record IsDrawWords (rows : List Row) (w : DrawWords) : Type 0 where
   pub problem : first_of (codes "PROBLEM") rows ≡ Some w.problem.now
   pub plan : first_of (codes "PLAN") rows ≡ Some w.plan.now
   pub scale : Spells (one_of (codes "scale") rows) (scale_ticks w.scale)
-  pub until : IsUntil rows w.horizon
+  pub until :
+      IsUntil (first_of (codes "horizon") rows) (one_of (codes "horizon") rows) w.horizon
   pub journal : option_map (λ s. s.now) w.journal ≡ first_of (codes "journal") rows
 
 -- whether an option is given that has no value

@@ -6,7 +6,7 @@ ghost use Rattle.clap.specs.Words.{Text, Row, first_of, found_of, kind_of, one_o
 ghost use Rattle.clap.specs.declared.error.kind.ErrorKind.TheVariants as kinds;
 ghost use Rattle.tp_text.specs.Scales.{scale_ticks};
 ghost use Rattle.tp_cli_inputs.specs.declared.plan_words.PlanWords.{PlanWords};
-ghost use Rattle.tp_cli_draw.specs.declared.draw_words.DrawWords.{DrawWords};
+ghost use Rattle.tp_cli_inputs.specs.declared.draw_words.DrawWords.{DrawWords};
 ghost use Rattle.tp_cli_plan.specs.declared.search_words.SearchWords.{SearchWords};
 ghost use Rattle.tp_solve.specs.declared.solving.Wishes.{Wishes};
 ghost use Rattle.tp_cli_args.specs.Requests.{AskForOneThing, AsksBy, AsksFor, IsDrawWords, IsFlag, IsPlanWords, IsSearchWords, IsUntil, NamesBare, Spells, TellsText};
@@ -16,9 +16,8 @@ use crate::requests::Request;
 use clap::error::ErrorKind;
 use clap::{ArgMatches, Error};
 use std::alloc::{AllocError, Global};
-use tp_cli_draw::DrawWords;
 use tp_cli_files::STANDARD_INPUT;
-use tp_cli_inputs::PlanWords;
+use tp_cli_inputs::{DrawWords, PlanWords};
 use tp_cli_plan::{Order, SearchWords, Wishes};
 use tp_text::Scale;
 
@@ -52,13 +51,13 @@ const GREATEST_GUIDED_BUDGET: u32 = 1_000_000_000;
 
 /// Whether just so many of these files, or fewer, are the standard input.
 fn reads_at_most(most: usize, files: &[&str]) -> bool {
-    let mut count = 0;
+    let mut left = most;
     for name in files {
         if *name == STANDARD_INPUT {
-            if count == most {
+            if left == 0 {
                 return false;
             }
-            count += 1;
+            left -= 1;
         }
     }
     true
@@ -225,7 +224,7 @@ fn bare_asked<'w>(matches: &ArgMatches<'w>) -> Option<Request<'w>>
 /// it.
 fn run_begun<'w>(matches: &ArgMatches<'w>, plan: PlanWords<'w>) -> Option<Request<'w>>
     requires resume { first_of (codes "resume") (rows_of (found_of matches.now)) ≡ None }
-    requires plan { IsPlanWords (rows_of (found_of matches.now)) plan.entry }
+    requires plan { IsPlanWords (rows_of (found_of matches.now)) plan }
     ensures { IfSome result (AsksBy (Some (codes "run", rows_of (found_of matches.now)))) }
 {
     match word(matches, "journal") {
@@ -244,7 +243,7 @@ fn run_resumed<'w>(
     old: &'w str,
 ) -> Option<Request<'w>>
     requires resume { first_of (codes "resume") (rows_of (found_of matches.now)) ≡ Some old.now }
-    requires plan { IsPlanWords (rows_of (found_of matches.now)) plan.entry }
+    requires plan { IsPlanWords (rows_of (found_of matches.now)) plan }
     ensures { IfSome result (AsksBy (Some (codes "run", rows_of (found_of matches.now)))) }
 {
     let log = word(matches, "journal")?;
@@ -323,7 +322,9 @@ fn draw_words<'w>(matches: &ArgMatches<'w>) -> Option<DrawWords<'w>>
 
 /// The tick that `--horizon` gives, if it is there.
 fn until(matches: &ArgMatches<'_>) -> Option<Option<u32>>
-    ensures { IfSome result (IsUntil (rows_of (found_of matches.now))) }
+    ensures { IfSome result (IsUntil
+        (first_of (codes "horizon") (rows_of (found_of matches.now)))
+        (one_of (codes "horizon") (rows_of (found_of matches.now)))) }
 {
     match word(matches, "horizon") {
         None => Some(None),

@@ -1,7 +1,6 @@
 //! What a call may ask for.
 
-use tp_cli_draw::DrawWords;
-use tp_cli_inputs::PlanWords;
+use tp_cli_inputs::{DrawWords, PlanWords};
 use tp_cli_plan::SearchWords;
 
 /// What a call asks for.

@@ -27,7 +27,7 @@ use Rattle.tp_cli_draw.specs.Stops.{draw_failures, draw_status, draw_text}
 use Rattle.tp_cli_draw.specs.Words.{plan_of}
 use Rattle.tp_cli_draw.specs.declared.answers.Drawn.{Drawn}
 use Rattle.tp_cli_draw.specs.declared.answers.Drawn.TheVariants.{Picture, Invalid, Wrong}
-use Rattle.tp_cli_draw.specs.declared.draw_words.DrawWords.{DrawWords}
+use Rattle.tp_cli_inputs.specs.declared.draw_words.DrawWords.{DrawWords}
 use Rattle.tp_cli_draw.specs.declared.stops.DrawStop.{DrawStop}
 use Rattle.tp_cli_draw.specs.declared.stops.DrawStop.TheVariants.{Judging, Network, Executive, Journal, Memory, Write}
 

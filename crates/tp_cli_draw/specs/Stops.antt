@@ -5,7 +5,7 @@ use Rattle.tp_cli_inputs.specs.JudgeLines.{judge_status, judge_text}
 use Rattle.tp_cli_run.specs.RunLines.{network_status, network_text}
 use Rattle.tp_cli_audit.specs.AuditLines.{stop_status, stop_text}
 use Rattle.tp_cli_draw.specs.Words.{plan_of}
-use Rattle.tp_cli_draw.specs.declared.draw_words.DrawWords.{DrawWords}
+use Rattle.tp_cli_inputs.specs.declared.draw_words.DrawWords.{DrawWords}
 use Rattle.tp_cli_draw.specs.declared.stops.DrawStop.{DrawStop}
 use Rattle.tp_cli_draw.specs.declared.stops.DrawStop.TheVariants.{Judging, Network, Executive, Journal, Memory, Write}
 

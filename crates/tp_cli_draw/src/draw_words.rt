@@ -1,22 +1,9 @@
-//! What a call names.
+//! The plan and the horizon that words of a call name.
 
 ghost use Rattle.std.specs.Prelude.{◌≡◌, ◌≤◌};
 ghost use Rattle.tp_cli_draw.specs.Words.{plan_of};
 
-use tp_cli_inputs::PlanWords;
-use tp_text::Scale;
-
-/// The files of a plan, the ticks of a unit of its time, the end of the windows where it is given,
-/// and the file of a journal, if a run is to be drawn.
-#[derive(Clone, Copy)]
-pub struct DrawWords<'w> {
-    pub domain: &'w str,
-    pub problem: &'w str,
-    pub plan: &'w str,
-    pub scale: Scale,
-    pub horizon: Option<u32>,
-    pub journal: Option<&'w str>,
-}
+use tp_cli_inputs::{DrawWords, PlanWords};
 
 /// The greatest horizon.
 const GREATEST_HORIZON: u32 = 1_000_000_000;

@@ -6,7 +6,7 @@ ghost use Rattle.tp_cli_draw.specs.Pictures.{DrawsJudged, DrawsLog, DrawsNet, Dr
 
 use crate::answers::Drawn;
 use crate::beginning::begin;
-use crate::draw_words::{DrawWords, horizon_or};
+use crate::draw_words::horizon_or;
 use crate::named::Names;
 use crate::replaying::{ReplayStop, Told, replay};
 use crate::scenes::scene_of;
@@ -15,6 +15,7 @@ use std::alloc::Global;
 use tp_bounds::{Limits, PlanNet};
 use tp_cli_audit::{AuditStop, Found, audit_in, lags_suit, plan_start};
 use tp_cli_files::Files;
+use tp_cli_inputs::DrawWords;
 use tp_deorder::deorder;
 use tp_device::Source;
 use tp_draw_svg::picture_text;

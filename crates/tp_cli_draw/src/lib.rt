@@ -1,6 +1,6 @@
 //! `draw`: the plan in a file as a picture, or its run up to the end of a journal.
 //!
-//! - `draw_words`: what a call names
+//! - `draw_words`: the plan and the horizon that a call names
 //! - `stops`: why nothing is drawn, and the line of it
 //! - `beginning`: the executive over a plan's network, before anything happened
 //! - `replaying`: the run of a journal, carried out anew
@@ -22,6 +22,5 @@ mod scenes;
 mod stops;
 
 pub use answers::Drawn;
-pub use draw_words::DrawWords;
 pub use run::run_draw;
 pub use stops::{DrawStop, draw_line};

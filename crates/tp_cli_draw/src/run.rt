@@ -10,14 +10,14 @@ ghost use Rattle.tp_cli_draw.specs.Stops.{draw_failures};
 ghost use Rattle.tp_cli_draw.specs.Words.{plan_of};
 
 use crate::answers::{Drawn, write_drawn};
-use crate::draw_words::{DrawWords, horizon_or, plan_words};
+use crate::draw_words::{horizon_or, plan_words};
 use crate::drawing::{draw_judged, draw_verdict};
 use crate::named::{Names, plan_and_names};
 use crate::stops::{DrawStop, draw_line};
 use std::alloc::Global;
 use tp_cli_audit::head_in;
 use tp_cli_files::{Files, OUT_OF_ORDER, REFUSED, complain};
-use tp_cli_inputs::{NamedPlan, verdict_of};
+use tp_cli_inputs::{DrawWords, NamedPlan, verdict_of};
 use tp_device::Sink;
 use tp_happen::Plan;
 use tp_journal::JournalHead;

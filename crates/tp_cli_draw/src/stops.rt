@@ -7,10 +7,10 @@ ghost use Rattle.tp_cli_audit.specs.AuditLines.{stop_status, stop_text};
 ghost use Rattle.tp_cli_draw.specs.Stops.{draw_status, draw_text, journal_name};
 ghost use Rattle.tp_cli_draw.specs.Words.{plan_of};
 
-use crate::draw_words::{DrawWords, plan_words};
+use crate::draw_words::plan_words;
 use tp_cli_audit::{AuditStop, audit_stop_line};
 use tp_cli_files::FaultLine;
-use tp_cli_inputs::{JudgeFault, judge_line};
+use tp_cli_inputs::{DrawWords, JudgeFault, judge_line};
 use tp_cli_run::network_line;
 use tp_deorder::DeorderFault;
 

@@ -1,6 +1,7 @@
 //! The files of the host, and the words of its call.
 
 ghost use Rattle.std.specs.Prelude.{◌≡◌, None, drop};
+ghost use Rattle.std.specs.Io.{ReadsAtMost};
 ghost use Rattle.tp_cli_files.specs.Calls.{call_status, call_text};
 ghost use Rattle.tp_cli_files.specs.FaultLines.{Tells, fault_text};
 
@@ -84,7 +85,9 @@ impl<I: Read> StandardInput<I> {
     }
 
     /// Reads what stands behind the first `at` bytes.
-    fn read_from(&mut self, at: usize, buf: &mut [u8]) -> io::Result<usize> {
+    fn read_from(&mut self, at: usize, buf: &mut [u8]) -> io::Result<usize>
+        ensures bound { ReadsAtMost result buf.new }
+    {
         if at < self.kept.len() {
             let mut behind = &self.kept[at..];
             return behind.read(buf);

@@ -1,6 +1,6 @@
 -- A run that goes on where its journal ends.
 use Rattle.std.proofs.Common.{◌≡◌, ◌∙◌, ◌≤◌, ℕ, inl, inr, List, [], ◌∷◌, ◌++◌, drop, take, length, Option, Some, None, Bool, true, false, map, flat_map, refl, ap, sym, subst, append_assoc, append-nil, arith, codes, decimal}
-use Rattle.std.specs.Prelude.{Ok, Err, IfSome, Unit}
+use Rattle.std.specs.Prelude.{Result, Ok, Err, IfErr, IfOk, IfSome, Unit}
 use Rattle.std.specs.Io.KnownBytes.{Appends, Consumes, IsAtEnd}
 use Rattle.std.proofs.KnownBytes.{Appends-trans, Appends-nil}
 use Rattle.std.proofs.lemmas.Fmt.{decimal_digit}
@@ -16,13 +16,17 @@ use Rattle.tp_script.specs.Serving.{TakesLines}
 use Rattle.tp_script.specs.declared.serving.Served.{Served}
 use Rattle.tp_script.proofs.ServeLemmas.{appends_end}
 use Rattle.tp_journal_pairs.specs.Journal.{Entry, Has, IsHead, IsVersion, Runs, head_of, head_lines, journal_lines, kind_lines, lag_line, lags_of, own_of, pair_lines, text_of}
-use Rattle.tp_journal_pairs.specs.Writing.{EntersAll, journal_bytes, pairs_text}
+use Rattle.tp_journal_pairs.specs.Writing.{EntersAll, journal_bytes, pairs_text, write_failures}
 use Rattle.tp_journal_pairs.specs.GoingOn.{GoesOn}
 use Rattle.tp_journal_pairs.specs.declared.faults.JournalFault.{JournalFault}
+use Rattle.tp_journal_pairs.specs.declared.faults.JournalFault.TheVariants as journal
 use Rattle.tp_journal_pairs.proofs.WriteLemmas.{journal_more, runs_more}
 use Rattle.tp_journal.specs.Replay.{LeadsTo}
 use Rattle.tp_cli_run.specs.LogFile.{IsNamed, LogFile}
-use Rattle.tp_cli_resume.specs.Going.{Continues, GoesTo, begin_text}
+use Rattle.tp_cli_resume.specs.Going.{Continues, GoesTo, StopsGoing, StopsIn, begin_text, went_result}
+use Rattle.tp_cli_resume.specs.Stops.{resume_failures}
+use Rattle.tp_cli_resume.specs.declared.stops.ResumeStop.{ResumeStop}
+use Rattle.tp_cli_resume.specs.declared.stops.ResumeStop.TheVariants.{Journaling}
 
 -- ---- all lines
 
@@ -107,3 +111,27 @@ continues input held now file first mid last kept pairs l g named =
       logs = appends_is file.blank file.kept _ _ (ap (λ t. t ++ pairs_text g.entries) begun ∙ sym (journal_more first l.2.entries g.entries)) g.logs;
       named = named;
     }
+
+-- ---- what came of the commands behind the journal
+
+pub goes_of : (went : Result Machine JournalFault) (r : Result Machine ResumeStop) (P : Machine → Type 0) → r ≡ went_result went → IfOk went P → IfOk r P
+goes_of (Ok last) r P is h = subst (λ q. IfOk q P) (sym is) h
+goes_of (Err fault) r P is h = subst (λ q. IfOk q P) (sym is) tt
+
+pub named_of : (r : Result Machine ResumeStop) (file : LogFile) → IsNamed file → IfOk r (λ _. IsNamed file)
+named_of (Ok last) file named = named
+named_of (Err stop) file named = tt
+
+pub stops_of : (went : Result Machine JournalFault) (r : Result Machine ResumeStop) (mid : Machine) (kept : List ℕ) (input held now : Option (List ℕ)) (file : LogFile) → r ≡ went_result went → IsNamed file → IfErr went (StopsIn mid kept input held now file.blank file.kept) → IfErr r (StopsGoing mid kept input held now file)
+stops_of (Ok last) r mid kept input held now file is named h = subst (λ q. IfErr q (StopsGoing mid kept input held now file)) (sym is) tt
+stops_of (Err fault) r mid kept input held now file is named h = subst (λ q. IfErr q (StopsGoing mid kept input held now file)) (sym is) (named, h)
+
+count_fault : (n : ℕ) (fault : JournalFault) → write_failures {T = Machine} n (Err fault) ≡ resume_failures {T = Machine} n (Err (Journaling fault))
+count_fault n journal.Read = refl
+count_fault n journal.Write = refl
+count_fault n journal.Log = refl
+count_fault n journal.TooLong = refl
+
+pub counted_of : (went : Result Machine JournalFault) (r : Result Machine ResumeStop) (n m : ℕ) → r ≡ went_result went → m ≡ write_failures n went → m ≡ resume_failures n r
+counted_of (Ok last) r n m is count = subst (λ q. m ≡ resume_failures n q) (sym is) count
+counted_of (Err fault) r n m is count = subst (λ q. m ≡ resume_failures n q) (sym is) (count ∙ count_fault n fault)

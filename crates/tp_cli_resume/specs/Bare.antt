@@ -1,5 +1,5 @@
 -- A run on a network of bounds alone that goes on.
-use Rattle.std.specs.Prelude.{◌≡◌, ℕ, List, [], Option, Some, None, Bool, true, false, Err, ◌⊎◌}
+use Rattle.std.specs.Prelude.{◌≡◌, ℕ, List, [], Option, Some, None, Bool, true, false, Result, Ok, Err, ◌⊎◌}
 use Rattle.std.specs.Io.KnownBytes.{Appends}
 use Rattle.tp_device.specs.Bytes.{AppendsPart}
 use Rattle.tp_exec_machine.specs.Machine.{Machine}
@@ -62,6 +62,11 @@ abbrev pub SaysOld : Option (List ℕ) → Option (List ℕ) → Option (List �
     → LogFile → Bool → Type 0
 SaysOld old input held now file true = ResumesBare old input held now file
 SaysOld old input held now file false = SaysWrongOld old held now file
+
+-- whether a run went on
+abbrev pub ran_result : Result Machine ResumeStop → Result Bool ResumeStop
+ran_result (Ok last) = Ok true
+ran_result (Err stop) = Err stop
 
 -- Why the run did not go on to its end, what was written by then, and what is in the new file. Where the journal is none no file was made.
 abbrev pub StopsResumed : Option (List ℕ) → Option (List ℕ) → Option (List ℕ) → Option (List ℕ)

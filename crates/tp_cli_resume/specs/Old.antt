@@ -24,6 +24,16 @@ IsUnread (Line n) = ⊥
 IsUnread Head = ⊥
 IsUnread Write = ⊥
 
+-- this is no failed write
+abbrev pub IsQuiet : AuditStop → Type 0
+IsQuiet Open = Unit {0}
+IsQuiet Network = Unit {0}
+IsQuiet Memory = Unit {0}
+IsQuiet Read = Unit {0}
+IsQuiet (Line n) = Unit {0}
+IsQuiet Head = Unit {0}
+IsQuiet Write = ⊥
+
 -- the bytes are a journal of a machine that begins so, and the run is as that leaves it; or the answer on line n is not allowed
 abbrev pub IsTaken : Machine → List ℕ → Taken → Type 0
 IsTaken old kept (Goes run) =

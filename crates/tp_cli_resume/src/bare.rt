@@ -6,7 +6,7 @@ ghost use Rattle.tp_device.specs.Bytes.{AppendsPart};
 ghost use Rattle.tp_cli_audit.specs.Audits.{found_line};
 ghost use Rattle.tp_cli_audit.specs.Bare.{HindersBare, HindersTold};
 ghost use Rattle.tp_cli_files.specs.FaultLines.{TellsFault};
-ghost use Rattle.tp_cli_resume.specs.Bare.{EndsResumed, HindersOld, IsTakenBare, IsTakenHead, ResumesPart, SaysOld, StopsResumed, WentBare};
+ghost use Rattle.tp_cli_resume.specs.Bare.{EndsResumed, HindersOld, IsTakenBare, IsTakenHead, ResumesPart, SaysOld, StopsResumed, WentBare, ran_result};
 ghost use Rattle.tp_cli_resume.specs.Stops.{resume_failures};
 ghost use Rattle.tp_cli_run.specs.LogFile.{log_file};
 
@@ -17,7 +17,9 @@ use std::alloc::Global;
 use tp_cli_audit::{AuditStop, Found, bare_start, head_of, is_bare, say};
 use tp_cli_files::{Files, Logs, OUT_OF_ORDER, complain};
 use tp_device::{Sink, Source};
+use tp_exec_machine::Executive;
 use tp_journal::JournalHead;
+use tp_repair::RepairNet;
 
 /// Audits a journal that was kept, with that head, against the executive that the head tells.
 fn take_headed(alloc: Global, kept: Vec<u8>, head: &JournalHead) -> Result<Taken, AuditStop>
@@ -75,6 +77,16 @@ fn say_wrong<O: Sink>(output: &mut O, line: u64) -> Result<bool, ResumeStop>
     }
 }
 
+/// Answers that the run went on, where it did.
+fn ran_on(went: Result<Executive<RepairNet>, ResumeStop>) -> Result<bool, ResumeStop>
+    ensures { result ≡ ran_result went }
+{
+    match went {
+        Ok(_) => Ok(true),
+        Err(stop) => Err(stop),
+    }
+}
+
 /// Goes on from the journal in the file of a name. Answers whether that is one.
 fn resume<N: Files, L: Logs, I: Source + Drop, O: Sink>(
     alloc: Global,
@@ -96,10 +108,7 @@ fn resume<N: Files, L: Logs, I: Source + Drop, O: Sink>(
     ensures told { O.failures output.new ≡ resume_failures (O.failures output.old) result }
 {
     match take_old(alloc, files, old) {
-        Ok(Taken::Goes(run)) => match go_on(alloc, logs, name, run, input, output) {
-            Ok(_) => Ok(true),
-            Err(stop) => Err(stop),
-        },
+        Ok(Taken::Goes(run)) => ran_on(go_on(alloc, logs, name, run, input, output)),
         Ok(Taken::Wrong(line)) => say_wrong(output, line),
         Err(stop) => Err(ResumeStop::Auditing(stop)),
     }

@@ -42,11 +42,10 @@ fn put(bytes: &mut Vec<u8>, more: &[u8]) -> Result<(), AuditStop>
 }
 
 /// All bytes that a source has left.
-fn all_bytes<S: Source + Drop>(alloc: Global, source: S) -> Result<Vec<u8>, AuditStop>
-    ensures whole { IfOk result (λ v. IfSome (S.left source) (λ bytes. v.items ≡ bytes)) }
+fn pull_all<S: Source>(alloc: Global, source: &mut S) -> Result<Vec<u8>, AuditStop>
+    ensures whole { IfOk result (λ v. IfSome (S.left source.old) (λ bytes. v.items ≡ bytes)) }
     ensures cause { IfErr result IsUnread }
 {
-    let mut source = source;
     let mut chunk = [0; 4096];
     let mut bytes = Vec::new(alloc);
     while bytes.len() < usize::MAX {
@@ -59,6 +58,15 @@ fn all_bytes<S: Source + Drop>(alloc: Global, source: S) -> Result<Vec<u8>, Audi
         put(&mut bytes, &chunk[..count])?;
     }
     Err(AuditStop::Memory)
+}
+
+/// The same of a source that is done with.
+fn all_bytes<S: Source + Drop>(alloc: Global, source: S) -> Result<Vec<u8>, AuditStop>
+    ensures whole { IfOk result (λ v. IfSome (S.left source) (λ bytes. v.items ≡ bytes)) }
+    ensures cause { IfErr result IsUnread }
+{
+    let mut source = source;
+    pull_all(alloc, &mut source)
 }
 
 /// The journal in the file of a name, up to its last whole pair.

@@ -10,6 +10,8 @@ ghost use Rattle.tp_device.specs.Bytes.{AppendsPart};
 ghost use Rattle.tp_cli_audit.specs.Audits.{found_line};
 ghost use Rattle.tp_cli_files.specs.FaultLines.{TellsFault};
 ghost use Rattle.tp_cli_inputs.specs.Named.{IsNamedPlan};
+ghost use Rattle.tp_cli_inputs.specs.VerdictLines.{invalid_line};
+ghost use Rattle.tp_cli_resume.specs.Old.{IsQuiet};
 ghost use Rattle.tp_cli_run.specs.LogFile.{log_file};
 ghost use Rattle.tp_cli_resume.specs.Run.{ComesFrom, EndsOn, EndsRunResumed, GoesOfPlan, GoesSteps, GoesVerdict, HasStopped, IsTakenNet, ResumesRun, StopsEarly, told_on};
 ghost use Rattle.tp_cli_resume.specs.RunStops.{run_resume_failures};
@@ -29,7 +31,7 @@ use tp_device::{Sink, Source};
 use tp_happen::Plan;
 use tp_journal::JournalHead;
 use tp_task::Task;
-use tp_validate::{ValidPlan, Verdict};
+use tp_validate::{Fault, ValidPlan, Verdict};
 
 /// Audits a journal that was kept, with that head, against the executive over the network of a plan.
 fn take_net(
@@ -41,6 +43,7 @@ fn take_net(
     requires { length network.now.bounds.items ≤ 65535 }
     ensures taken { IfOk result (IsTakenNet network.now head.now kept.items) }
     ensures came { IfOk result (ComesFrom network.now) }
+    ensures quiet { IfErr result IsQuiet }
 {
     if !lags_suit(network, head) {
         return Err(AuditStop::Head);
@@ -100,6 +103,20 @@ fn say_wrong<O: Sink>(output: &mut O, line: u64) -> Result<bool, RunResumeStop>
     match say(output, Found::Wrong(line)) {
         Ok(_) => Ok(false),
         Err(_) => Err(RunResumeStop::Resuming(ResumeStop::Auditing(AuditStop::Write))),
+    }
+}
+
+/// Writes the first fault of a plan that is not valid. Answers that the run does not go on.
+fn say_invalid<O: Sink>(output: &mut O, tick: u32, why: Fault) -> Result<bool, RunResumeStop>
+    ensures said { IfOk result (λ went. (went ≡ false)
+        × Appends (O.held output.old) (O.held output.new) (invalid_line tick why)) }
+    ensures cause { IfErr result (λ stop. (stop ≡ RunResumeStop.Write)
+        × AppendsPart (O.held output.old) (O.held output.new) (invalid_line tick why)) }
+    ensures failures { O.failures output.new ≡ run_resume_failures (O.failures output.old) result }
+{
+    match write_invalid(output, tick, why) {
+        Ok(()) => Ok(false),
+        Err(_) => Err(RunResumeStop::Write),
     }
 }
 
@@ -187,10 +204,7 @@ fn run_verdict<L: Logs, I: Source + Drop, O: Sink>(
         Verdict::Valid(plan) => {
             run_valid(alloc, logs, name, plan, horizon, head, kept, input, output)
         }
-        Verdict::Invalid { plan: _, tick, why } => match write_invalid(output, *tick, *why) {
-            Ok(()) => Ok(false),
-            Err(_) => Err(RunResumeStop::Write),
-        },
+        Verdict::Invalid { plan: _, tick, why } => say_invalid(output, *tick, *why),
     }
 }
 

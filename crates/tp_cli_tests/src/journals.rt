@@ -146,7 +146,7 @@ const RUNS: [Run; 8] = [
             status: 3,
             journal: Some(
                 "journal 2\nnetwork 2 100\nown 2\nbound 0 1 0 -2\nbound 1 0 1 6\n\
-                 > dispatch 0\n< ok\n> adv",
+                 > dispatch 0\n< ok\n> ",
             ),
         },
     ),

@@ -1,13 +1,16 @@
 //! The run of a call whose streams are heard.
 
+ghost use Rattle.std.specs.Prelude.{◌≤◌};
+
 use crate::asked::without_explain;
-use crate::heard::{HeardFaults, HeardInput, HeardOutput, KeptInput};
+use crate::heard::KeptInput;
+use crate::listening::run_heard;
 use crate::session::Session;
 use std::alloc::Global;
 use std::cell::RefCell;
 use std::io::{Read, Write};
 use std::rt::Files as HostFileSystem;
-use tp_cli::{Desk, run_streams};
+use tp_cli::Desk;
 use tp_cli_files::{HostFiles, Logs, StandardInput};
 
 /// The streams of a call: what it reads, where its answers and its fault line go, where it tells
@@ -41,6 +44,7 @@ where
     V: Write + Drop,
     B: Write + Drop,
     E: Write + Drop,
+    ensures { result ≤ 3 }
 {
     let plain = without_explain(alloc, words).unwrap_or(Vec::new(alloc));
     let kept = RefCell::new(Vec::new(alloc));
@@ -64,24 +68,8 @@ where
         logs,
         board: streams.board,
     };
-    let status = run_streams(
-        alloc,
-        words,
-        &mut desk,
-        HeardInput {
-            reader: streams.input,
-            listener: &session,
-        },
-        HeardOutput {
-            writer: streams.output,
-            listener: &session,
-        },
-        HeardFaults {
-            writer: streams.faults,
-            listener: &session,
-        },
-    )
-    .status;
+    let heard = (streams.input, streams.output, streams.faults);
+    let status = run_heard(alloc, words, &mut desk, heard, &session).status;
     if let (Ok(read), Ok(mut session)) = (kept.try_borrow(), session.try_borrow_mut()) {
         let read = RefCell::new(StandardInput::new(alloc, read.as_slice()));
         session.end(status, &mut HostFiles::new(rt, &read));

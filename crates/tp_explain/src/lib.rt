@@ -4,12 +4,14 @@
 //! - `asked`: whether words ask for explanations
 //! - `session`: what was heard of a call, and the lines that explain it
 //! - `heard`: readers and writers that are listened to
+//! - `listening`: a call whose streams are listened to
 //! - `explained`: the run of a call whose streams are heard
 #![tactic(auto)]
 
 mod asked;
 mod explained;
 mod heard;
+mod listening;
 mod session;
 
 pub use asked::explains;

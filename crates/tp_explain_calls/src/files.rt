@@ -7,10 +7,6 @@ pub fn put_file_fault(page: &mut Page, name: &str) {
     put_file(page, name);
     page.put("error: the file cannot be opened or read");
     page.end_line();
-    if name == "-" {
-        page.put("help: /dev/stdin is standard input");
-        page.end_line();
-    }
 }
 
 /// Puts that the journal of a name can't be made or written.

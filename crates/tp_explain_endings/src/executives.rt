@@ -1,15 +1,20 @@
 //! The executive of a journal's head, or of a plan's network.
 
+ghost use Rattle.std.specs.Prelude.{◌≤◌};
+ghost use Rattle.tp_validate.specs.OfTask.{IsOfTask};
+
 use std::alloc::Global;
 use tp_bounds::{Limits, MOST_EVENTS, MOST_HORIZON, PlanNet};
-use tp_cli_audit::{lags_fit, set_lags};
+use tp_cli_audit::{lags_fit, lags_suit, plan_start, set_lags};
 use tp_cli_files::Files;
 use tp_cli_inputs::{NamedPlan, PlanWords, plan_in, verdict_of};
 use tp_deorder::deorder;
 use tp_exec_machine::Executive;
 use tp_explain_faults::Call;
+use tp_happen::Plan;
 use tp_journal::JournalHead;
 use tp_repair::RepairNet;
+use tp_task::Task;
 use tp_validate::Verdict;
 
 /// The executive of the head of a journal of `bare`.
@@ -20,9 +25,14 @@ pub fn bare_executive(alloc: Global, head: &JournalHead) -> Option<Executive<Rep
     if !lags_fit(head.events, head.lags.as_slice()) {
         return None;
     }
-    let mut net = RepairNet::new(alloc, head.events, head.horizon).ok()?;
-    set_lags(&mut net, head.lags.as_slice());
-    Some(Executive::bare(alloc, Limits::greatest(head.horizon), net))
+    match RepairNet::new(alloc, head.events, head.horizon) {
+        Ok(net) => {
+            let mut net = net;
+            set_lags(&mut net, head.lags.as_slice());
+            Some(Executive::bare(alloc, Limits::greatest(head.horizon), net))
+        }
+        Err(_) => None,
+    }
 }
 
 /// The executive over the network of a plan, with the lags of the head of its journal.
@@ -31,16 +41,24 @@ pub fn plan_executive(
     network: &PlanNet,
     head: &JournalHead,
 ) -> Option<Executive<RepairNet>> {
-    let events = u16::try_from(network.events.len()).ok()?;
-    if events > MOST_EVENTS || network.horizon > MOST_HORIZON || network.bounds.len() > 65_535 {
+    if network.bounds.len() > 65_535 || !lags_suit(network, head) {
         return None;
     }
-    if !lags_fit(events, head.lags.as_slice()) {
-        return None;
+    plan_start(alloc, network, head).ok()
+}
+
+/// The network of a plan, if the plan is valid.
+fn network_of(alloc: Global, task: &Task, plan: Plan, horizon: u32) -> Option<PlanNet>
+    requires task { IsOfTask task.now plan }
+    requires horizon { horizon ≤ 1000000000 }
+{
+    match verdict_of(alloc, task, plan) {
+        Ok(verdict) => match &verdict {
+            Verdict::Valid(plan) => deorder(alloc, plan, &Limits::greatest(horizon)).ok(),
+            Verdict::Invalid { .. } => None,
+        },
+        Err(_) => None,
     }
-    let mut net = RepairNet::new(alloc, events, network.horizon).ok()?;
-    set_lags(&mut net, head.lags.as_slice());
-    Executive::from_plan(alloc, network, Limits::greatest(network.horizon), net).ok()
 }
 
 /// The network of the plan of a call.
@@ -55,9 +73,11 @@ pub fn plan_network<N: Files>(alloc: Global, files: &mut N, call: &Call<'_>) -> 
         scale: call.scale,
         horizon: call.horizon,
     };
-    let NamedPlan { task, plan } = plan_in(alloc, files, words).ok()?;
-    match verdict_of(alloc, &task, plan) {
-        Ok(Verdict::Valid(plan)) => deorder(alloc, &plan, &Limits::greatest(call.horizon)).ok(),
-        _ => None,
+    match plan_in(alloc, files, words) {
+        Ok(named) => {
+            let NamedPlan { task, plan } = named;
+            network_of(alloc, &task, plan, call.horizon)
+        }
+        Err(_) => None,
     }
 }

@@ -1,4 +1,4 @@
-//! The answer that is allowed on a line of a journal, and the head that the journal of a plan has.
+//! The answer that is allowed on a line of a journal.
 
 use crate::executives::{bare_executive, plan_executive, plan_network};
 use crate::taken::{LONGEST, Taken, next_of, put_line};
@@ -53,8 +53,8 @@ fn pair_at<N: Net, S: Reader + Drop>(
         let [b'>', b' ', command @ ..] = line.as_slice() else {
             continue;
         };
-        let pair = take_pair(alloc, executive, lines, command)?;
         number = number.saturating_add(1);
+        let pair = take_pair(alloc, executive, lines, command, number >= wanted)?;
         if number >= wanted {
             return Ok(pair);
         }
@@ -62,17 +62,23 @@ fn pair_at<N: Net, S: Reader + Drop>(
     Ok(None)
 }
 
-/// Takes the answer to a command, and carries the command out, but if it was refused.
+/// Takes the answer to a command, and carries the command out. One that is not wanted and was
+/// refused changed nothing.
 fn take_pair<N: Net, S: Reader + Drop>(
     alloc: Global,
     executive: &mut Executive<N>,
     lines: &mut Lines<S>,
     command: &[u8],
+    is_wanted: bool,
 ) -> Result<Option<Pair>, AllocError> {
     let Some(answer) = next_of(alloc, lines)? else {
         return Ok(None);
     };
-    let allowed = answer_of(alloc, executive, command);
+    let allowed = if is_wanted || !answer.as_slice().starts_with(b"< refused") {
+        answer_of(alloc, executive, command)
+    } else {
+        Vec::new(alloc)
+    };
     Ok(Some(Pair {
         command: Vec::from_slice(alloc, command)?,
         answer,
