@@ -94,14 +94,14 @@ module _ (held : List ℕ → Option (List ℕ)) (w : DrawWords) (h : ℕ) (task
 
   pub verdict_drawn : (v : Verdict) (drawn : Drawn) → w.journal ≡ None → Judged held (plan_of w h) task v → DrawsVerdict v drawn → IsDrawn held w drawn
   verdict_drawn (verdict.Valid plan) (Picture text) none judged d =
-      ((h, task, judged.0, judged.1, judged.2.2, tt), λ log named. absurd (no_log w log none named))
+      ((h, (task, judged.0, judged.1, judged.2.2, tt)), λ log named. absurd (no_log w log none named))
   verdict_drawn (verdict.Valid plan) (Invalid tick why) none judged d = absurd d
   verdict_drawn (verdict.Valid plan) (Wrong n) none judged d = absurd d
   verdict_drawn (verdict.Invalid plan tick why) drawn none judged d = invalid_drawn drawn plan tick why judged d
 
   valid_stopped : (steps : List Step) (stop : DrawStop) → IsNamedPlan held (plan_of w h) task steps → IsValidPlan task steps → StopsSteps task steps stop → IsStopped held w stop
   valid_stopped steps (Judging fault) named valid s = absurd s
-  valid_stopped steps (Network fault) named valid s = (h, task, steps, named, valid, s)
+  valid_stopped steps (Network fault) named valid s = (h, (task, steps, named, valid, s))
   valid_stopped steps Executive named valid s = tt
   valid_stopped steps (Journal stop) named valid s = absurd s
   valid_stopped steps Memory named valid s = tt
@@ -119,14 +119,14 @@ module _ (held : List ℕ → Option (List ℕ)) (w : DrawWords) (h : ℕ) (task
   module _ (log : List ℕ) (named_log : NamesLog w log) (head : JournalHead) (told : IfSome (held log) (λ bytes. IsHeadTold bytes head)) where
     log_drawn : (steps : List Step) (drawn : Drawn) → IsNamedPlan held (plan_of w h) task steps → IsValidPlan task steps → DrawsLog task steps h head (held log) drawn → IsDrawn held w drawn
     log_drawn steps (Picture text) named valid d = (
-      (h, task, steps, named, valid, tt),
+      (h, (task, steps, named, valid, tt)),
       λ other is.
           let same : Some log ≡ Some other = sym named_log ∙ is in
           let at : log ≡ other = cc in
-          (d.0, subst (λ l. FoundNamed held w l (found.Journal d.0)) at (head, told, h, task, steps, named, valid, d.1)),
+          (d.0, subst (λ l. FoundNamed held w l (found.Journal d.0)) at (head, told, (h, (task, steps, named, valid, d.1)))),
     )
     log_drawn steps (Invalid tick why) named valid d = absurd d
-    log_drawn steps (Wrong n) named valid d = (log, named_log, head, told, h, task, steps, named, valid, d)
+    log_drawn steps (Wrong n) named valid d = (log, named_log, (head, told, (h, (task, steps, named, valid, d))))
 
     pub judged_drawn : (v : Verdict) (drawn : Drawn) → Judged held (plan_of w h) task v → DrawsJudged v h head (held log) drawn → IsDrawn held w drawn
     judged_drawn (verdict.Valid plan) drawn judged d =
@@ -141,12 +141,12 @@ module _ (held : List ℕ → Option (List ℕ)) (w : DrawWords) (h : ℕ) (task
     log_stopped steps audit.Memory named valid s = tt
     log_stopped steps audit.Read named valid s = tt
     log_stopped steps (audit.Line n) named valid s = s
-    log_stopped steps audit.Head named valid s = (head, told, h, task, steps, named, valid, s)
+    log_stopped steps audit.Head named valid s = (head, told, (h, (task, steps, named, valid, s)))
     log_stopped steps audit.Write named valid s = absurd s
 
     steps_stopped : (steps : List Step) (stop : DrawStop) → IsNamedPlan held (plan_of w h) task steps → IsValidPlan task steps → HindersSteps task steps h head (held log) stop → IsStopped held w stop
     steps_stopped steps (Judging fault) named valid s = absurd s
-    steps_stopped steps (Network fault) named valid s = (h, task, steps, named, valid, h, s)
+    steps_stopped steps (Network fault) named valid s = (h, (task, steps, named, valid, (h, s)))
     steps_stopped steps Executive named valid s = tt
     steps_stopped steps (Journal stop) named valid s = (log, named_log, log_stopped steps stop named valid s)
     steps_stopped steps Memory named valid s = tt

@@ -103,8 +103,8 @@ drawn_text (Wrong n) = found_line (found.Wrong n)
 -- it was written, and the answer is whether it is a picture
 abbrev pub WritesDrawn : (List ℕ → Option (List ℕ)) → DrawWords → Option (List ℕ) → Option (List ℕ)
     → Bool → Type 0
-WritesDrawn held w before now yes =
-    (drawn : Drawn) × IsDrawn held w drawn × (yes ≡ is_picture drawn)
+WritesDrawn held w before now drew =
+    (drawn : Drawn) × IsDrawn held w drawn × (drew ≡ is_picture drawn)
     × Appends before now (drawn_text drawn)
 
 -- The plan that the words name is valid, a journal that they name is one of a run of its network,

@@ -81,7 +81,7 @@ fn draw_run_of<N: Files>(
 ) -> Result<Drawn, DrawStop>
     requires limit { horizon ≤ 1000000000 }
     requires of_task { IsOfTask task.now plan }
-    requires named { NamesLog words.entry log.now }
+    requires named { NamesLog words log.now }
     ensures drawn { (held : List ℕ → Option (List ℕ))
         → N.held files.old log.now ≡ held log.now
         → IsNamedPlan held (plan_of words.entry horizon) task.now plan
@@ -109,7 +109,7 @@ fn draw_headed<N: Files>(
     log: &str,
     head: &JournalHead,
 ) -> Result<Drawn, DrawStop>
-    requires { NamesLog words.entry log.now }
+    requires { NamesLog words log.now }
     ensures drawn { (held : List ℕ → Option (List ℕ))
         → ((other : List ℕ) → N.held files.old other ≡ held other)
         → IfSome (held log.now) (λ bytes. IsHeadTold bytes head.now)
@@ -137,7 +137,7 @@ fn draw_run<N: Files>(
     words: DrawWords<'_>,
     log: &str,
 ) -> Result<Drawn, DrawStop>
-    requires { NamesLog words.entry log.now }
+    requires { NamesLog words log.now }
     ensures drawn { IfOk result (IsDrawn (N.held files.old) words.entry) }
     ensures cause { IfErr result (IsStopped (N.held files.old) words.entry) }
 {
