@@ -29,6 +29,25 @@ def brim(first, goal):
     return f"(define (problem p) (:domain brim) (:init (= (x) {first})) (:goal {goal}))"
 
 
+# a lamp that burns for 2 to 20 ticks, and a repair of 10 for which it has to
+LAMP = """(define (domain lamp) (:predicates (lit) (dark) (mended))
+ (:durative-action burn :parameters () :duration (and (>= ?duration 2) (<= ?duration 20))
+  :condition (at start (dark))
+  :effect (and (at start (not (dark))) (at start (lit)) (at end (not (lit)))))
+ (:durative-action mend :parameters () :duration (= ?duration 10)
+  :condition (over all (lit)) :effect (at end (mended))))"""
+
+UNMENDED = "(define (problem p) (:domain lamp) (:init (dark)) (:goal (mended)))"
+
+BY_LIGHT = "0: (burn) [10]\n0: (mend) [10]\n"
+
+# the same with oil for 15 ticks, where the repair has to be looked at in the end alone
+OIL = LAMP.replace("(:predicates", "(:functions (oil)) (:predicates").replace(":condition (at start (dark))", ":condition (and (at start (dark)) (over all (>= (oil) 0)))")
+OIL = OIL.replace(":effect (and (at start (not (dark)))", ":effect (and (at start (decrease (oil) ?duration)) (at start (not (dark)))")
+LOOKED_AT = OIL.replace("(over all (lit))", "(at end (lit))")
+
+OILED = "(define (problem p) (:domain lamp) (:init (dark) (= (oil) 15)) (:goal (mended)))"
+
 # a domain, a problem of it, the words of the call, what it writes, and its exit status
 ROWS = (
     (TOGGLE, TOGGLED, CALL, "0: (need)\n", 0),
@@ -51,6 +70,17 @@ ROWS = (
     (BRIM, brim(999999999999999, "(done)"), CALL, "0: (rise)\n1: (finish)\n", 0),
     (BRIM, brim(1000000000000000, "(done)"), CALL, "0: (finish)\n", 0),
 )
+
+# 45 places, of whose 91,125 rides each has an end that nothing keeps from happening, and two a start
+RIDES = """(define (domain rides) (:predicates (at ?x) (road ?x ?y ?z))
+ (:durative-action ride :parameters (?x ?y ?z) :duration (= ?duration 3)
+  :condition (and (at start (at ?x)) (at start (road ?x ?y ?z)))
+  :effect (and (at start (not (at ?x))) (at end (at ?y)))))"""
+
+PLACES = f"""(define (problem p) (:domain rides) (:objects {" ".join(f"o{i}" for i in range(45))})
+ (:init (at o0) (road o0 o1 o0) (road o1 o2 o0)) (:goal (at o2)))"""
+
+RIDDEN = "0: (ride o0 o1 o0) [3]\n4: (ride o1 o2 o0) [3]\n"
 
 # a count of instantaneous steps, one a tick
 STEPS = """(define (domain steps) (:functions (x))
@@ -152,6 +182,14 @@ class Solve(Case):
         self.assertEqual(plan, "0: (step)\n" * 512)
         outcome = call(f"{CALL} --budget 1000", {"domain": STEPS, "problem": counted(513)})
         self.assertEqual(outcome.status, 1)
+
+    def test_more_actions_than_there_may_be(self):
+        files = {"domain": RIDES, "problem": PLACES}
+        self.comes_to(told_by(RIDDEN, 0), CALL, files)
+        self.comes_to(told("", "fault ground 2 too-many actions\n", 2), "plan domain problem", files)
+        # where the guided search finds nothing, all have to be looked at
+        apart = {**files, "problem": PLACES.replace("(:goal (at o2))", "(:goal (at o3))")}
+        self.comes_to(told("", "fault ground 2 too-many actions\n", 2), CALL, apart)
 
     def test_mending_by_the_light_of_few_matches(self):
         for fuses in (2, 3, 6):

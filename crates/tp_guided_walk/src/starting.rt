@@ -6,11 +6,11 @@ use crate::walk::Walk;
 use std::alloc::AllocError;
 use tp_guided_costs::Heuristic;
 use tp_guided_space::{Choice, Space};
-use tp_search_compiled::{Event, NONE, Task};
+use tp_search_compiled::{Event, NONE, Span, Task};
 
-// Whether an action can start in the state before the tick's happening.
-fn has_choices(space: &Space<'_>, action: u32) -> bool {
-    space.choices_of(action).count > 0
+// Whether an item is still to do, and can start at this tick.
+fn is_possible(space: &Space<'_>, item: &Item) -> bool {
+    item.times > 0 && item.open && space.joins(item.action)
 }
 
 fn is_pending_on(value: &Heuristic<'_>, item: &Item, place: u32, envelope: u32) -> bool {
@@ -72,7 +72,7 @@ impl Walk {
         let Some(item) = self.pending.item(place) else {
             return Ok(false);
         };
-        if item.times == 0 || self.is_early(space, value, &item, place)? {
+        if !is_possible(space, &item) || self.is_early(space, value, &item, place)? {
             return Ok(false);
         }
         if self.threatens(space, value, &item, place, forced) {
@@ -144,8 +144,7 @@ impl Walk {
         if !forced {
             return true;
         }
-        let ready = other.soon
-            || (has_choices(space, other.action) && self.pending.has_needs(space.state(), &other));
+        let ready = other.soon || (other.open && self.pending.has_needs(space.state(), &other));
         ready
             && !(goes_first(&item, place, &other, other_place)
                 && takes_from(space, &self.pending, &other, &item))
@@ -188,7 +187,7 @@ impl Walk {
         let task = space.task();
         self.brought.clear();
         for item in self.pending.items() {
-            if item.times > 0 && has_choices(space, item.action) {
+            if item.times > 0 && item.open {
                 push_brought(task, task.start_of(item.action), &mut self.brought)?;
             }
         }
@@ -207,8 +206,8 @@ impl Walk {
     ) -> bool {
         let mut place: u32 = 0;
         for item in self.pending.items() {
-            if is_pending_on(value, item, place, envelope)
-                && (!now || has_choices(space, item.action))
+            if (item.open || !now)
+                && is_pending_on(value, item, place, envelope)
                 && self.is_there(space, item)
             {
                 return true;
@@ -235,9 +234,6 @@ impl Walk {
         item: &Item,
         place: u32,
     ) -> Result<bool, AllocError> {
-        if !has_choices(space, item.action) || !space.joins(item.action) {
-            return Ok(false);
-        }
         self.list_tries(space, value, item, place)?;
         for at in 0..self.tries.len() {
             let number = self.tries.get(at).copied().unwrap_or(NONE);
@@ -251,7 +247,7 @@ impl Walk {
     }
 
     // The starts of an item that are tried, in order: the least duration first, but the greatest
-    // for an envelope and where its length counts.
+    // for an envelope and where its length counts; and those between where these do not serve.
     fn list_tries(
         &mut self,
         space: &mut Space<'_>,
@@ -261,22 +257,45 @@ impl Walk {
     ) -> Result<(), AllocError> {
         self.tries.clear();
         let span = space.choices_of(item.action);
-        let least = span.at;
-        if span.count < 2 {
-            self.tries.push(least)?;
-            return Ok(());
+        let most = span.at.saturating_add(span.count).saturating_sub(1);
+        if span.count > 1 && self.is_long(space.task(), item) {
+            return self.list_long(space, value, place, span);
         }
-        let most = span.at.saturating_add(1);
-        if !self.is_long(space.task(), item) {
-            self.tries.push(least)?;
+        self.tries.push(span.at)?;
+        if span.count > 1 {
             self.tries.push(most)?;
-            return Ok(());
         }
+        self.push_between(span)
+    }
+
+    // The same, the greatest duration first. In some rounds the one that is as long as what it is for
+    // goes before it.
+    fn list_long(
+        &mut self,
+        space: &mut Space<'_>,
+        value: &Heuristic<'_>,
+        place: u32,
+        span: Span,
+    ) -> Result<(), AllocError> {
+        let most = span.at.saturating_add(span.count).saturating_sub(1);
         if self.stretch {
-            self.push_stretched(space, value, place, least)?;
+            self.push_stretched(space, value, place, span)?;
+            self.tries.push(most)?;
+        } else {
+            self.tries.push(most)?;
+            self.push_stretched(space, value, place, span)?;
         }
-        self.tries.push(most)?;
-        self.tries.push(least)?;
+        self.push_between(span)?;
+        self.tries.push(span.at)?;
+        Ok(())
+    }
+
+    // The starts of a span between the first and the last.
+    fn push_between(&mut self, span: Span) -> Result<(), AllocError> {
+        for offset in 2..span.count {
+            let number = span.at.saturating_add(offset).saturating_sub(1);
+            self.tries.push(number)?;
+        }
         Ok(())
     }
 
@@ -296,10 +315,10 @@ impl Walk {
         space: &mut Space<'_>,
         value: &Heuristic<'_>,
         place: u32,
-        least: u32,
+        span: Span,
     ) -> Result<(), AllocError> {
-        let (Some(low), Some(high)) = (space.choice(least), space.choice(least.saturating_add(1)))
-        else {
+        let most = span.at.saturating_add(span.count).saturating_sub(1);
+        let (Some(low), Some(high)) = (space.choice(span.at), space.choice(most)) else {
             return Ok(());
         };
         let ticks = self.ticks_on(space, value, place);
