@@ -10,4 +10,4 @@ pub returns-in-Err-clause-part : goal.returns-in-Err-clause-part
 returns-in-Err-clause-part g c = (refl, c.in-Err.ensures.part.1)
 
 pub returns-in-Err-clause-failures : goal.returns-in-Err-clause-failures
-returns-in-Err-clause-failures g c = c.in-Err.ensures.failures ∙ ap (λ s. say_failures {T = Bool} _ (Err s)) c.in-Err.ensures.part.0
+returns-in-Err-clause-failures g c = c.in-Err.ensures.failures ∙ ap (λ s. say_failures {T = Bool} (g.O.Sink.failures c.args.output.now) (Err s)) c.in-Err.ensures.part.0

@@ -8,6 +8,6 @@ returns-in-Ok-audit_in-clause-found g c =
     let fit : LagsFit c.args.network.now c.args.head.now = search rules in
     net_found c.in-Ok-audit_in.found c.args.network.now c.args.head.now c.in-Ok.executive _ c.in-Ok.ensures.machine fit c.in-Ok-audit_in.ensures.found
 
-pub returns-in-Ok-clause-cause : goal.returns-in-Ok-clause-cause
-returns-in-Ok-clause-cause g c =
+pub returns-in-Err-audit_in-clause-cause : goal.returns-in-Err-audit_in-clause-cause
+returns-in-Err-audit_in-clause-cause g c =
     net_hinders c.in-Err-audit_in.stop c.args.network.now c.args.head.now c.in-Ok.executive _ c.in-Ok.ensures.machine c.in-Err-audit_in.ensures.cause

@@ -5,6 +5,6 @@ use Rattle.tp_cli_draw.proofs.drawing.plan_picture.Goals as goal
 
 pub returns-in-Err : goal.returns-in-Err
 returns-in-Err c = (
-  c.horizon_or.result,
+  c.horizon_or-horizon.result,
   subst (λ (l : RunLimits). OnTooMany c.in-Err.fault (PassesLimits l c.args.plan.now.task c.args.plan.now.steps)) c.greatest.ensures c.in-Err.ensures.err,
 )

@@ -22,7 +22,7 @@ returns-in-Ok-clause-cause g c =
 pub returns-in-Err-clause-cause : goal.returns-in-Err-clause-cause
 returns-in-Err-clause-cause g c =
     λ held same told. (
-      c.horizon_or.result,
+      c.horizon_or-horizon.result,
       subst (λ (p : PlanWords). Explains held p c.in-Err.fault) c.plan_words.ensures.is
           (explains_over (g.N.Files.held c.args.files.now) held c.plan_words.result c.in-Err.fault same c.in-Err.ensures.cause),
     )
