@@ -24,9 +24,9 @@ pub struct Streams<I, W, V, B, E> {
     pub notes: E,
 }
 
-/// Does what the words ask for, as `run_streams` does, and explains on `notes` each refusal as it
-/// goes out, and the verdict or the fault at the end. Answers the exit status. `again` is the
-/// standard input for a command that reads it as a file.
+/// Does what the words without `--explain` ask for, as `run_streams` does, and explains on `notes`
+/// each refusal as it goes out, and the verdict or the fault at the end. Answers the exit status.
+/// `again` is the standard input for a command that reads it as a file.
 pub fn run_explained<R, L, J, I, W, V, B, E>(
     rt: &R,
     alloc: Global,
@@ -46,13 +46,17 @@ where
     E: Write + Drop,
     ensures { result ≤ 3 }
 {
-    let plain = without_explain(alloc, words).unwrap_or(Vec::new(alloc));
+    let copied = without_explain(alloc, words);
+    let plain = match &copied {
+        Ok(rest) => rest.as_slice(),
+        Err(_) => words,
+    };
     let kept = RefCell::new(Vec::new(alloc));
     let nothing: &[u8] = &[];
     let unread = RefCell::new(StandardInput::new(alloc, nothing));
     let session = RefCell::new(Session::new(
         alloc,
-        plain.as_slice(),
+        plain,
         HostFiles::new(rt, &unread),
         streams.notes,
     ));
@@ -69,7 +73,7 @@ where
         board: streams.board,
     };
     let heard = (streams.input, streams.output, streams.faults);
-    let status = run_heard(alloc, words, &mut desk, heard, &session).status;
+    let status = run_heard(alloc, plain, &mut desk, heard, &session).status;
     if let (Ok(read), Ok(mut session)) = (kept.try_borrow(), session.try_borrow_mut()) {
         let read = RefCell::new(StandardInput::new(alloc, read.as_slice()));
         session.end(status, &mut HostFiles::new(rt, &read));
