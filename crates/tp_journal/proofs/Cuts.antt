@@ -1,5 +1,5 @@
 -- Lines at the end of a text, and a pair that was cut off.
-use Rattle.std.proofs.Common.{◌≡◌, ◌≢◌, ◌∙◌, ℕ, suc, ◌+◌, ◌-◌, ◌<◌, ◌≤◌, inl, inr, List, [], ◌∷◌, ◌++◌, length, take, drop, get_or, refl, ap, sym, subst, arith}
+use Rattle.std.proofs.Common.{◌≡◌, ◌≢◌, ◌∙◌, ℕ, zero, suc, ◌+◌, ◌-◌, ◌<◌, ◌≤◌, inl, inr, List, [], ◌∷◌, ◌++◌, length, take, drop, get_or, refl, ap, sym, subst, arith}
 use Rattle.std.proofs.Math.Seq.{drop-cons}
 use Rattle.std.proofs.lemmas.List.{drop-append-le, drop_all, length-take-le, take-append-drop}
 use Rattle.tp_script.specs.Reading.{Free}
@@ -11,11 +11,21 @@ drop_one bytes at some le =
     let n : suc (at - 1) ≡ at = omega arith in
     drop-cons bytes (at - 1) 0 (omega arith) ∙ ap (λ k. get_or bytes (at - 1) 0 ∷ drop k bytes) n
 
+free_at : (x : ℕ) (xs : List ℕ) → x ≢ 10 → Free xs → (k d : ℕ) → k < suc (length xs) → get_or (x ∷ xs) k d ≡ 10 → ⊥
+free_at x xs other free zero d lt is = other is
+free_at x xs other free (suc k) d lt is = free k d (omega (arith, lt)) is
+
+free_more : (x : ℕ) (xs : List ℕ) → x ≢ 10 → Free xs → Free (x ∷ xs)
+free_more x xs other free = λ k d lt is. free_at x xs other free k d lt is
+
+free_none : Free []
+free_none = λ k d lt is. let no : ⊥ = omega (arith, lt) in no
+
 pub free_one : (bytes : List ℕ) (at : ℕ) → 0 < at → at ≤ length bytes → get_or bytes (at - 1) 0 ≢ 10 → Free (drop at bytes) → Free (drop (at - 1) bytes)
-free_one bytes at some le other free = subst Free (sym (drop_one bytes at some le)) (other, free)
+free_one bytes at some le other free = subst Free (sym (drop_one bytes at some le)) (free_more (get_or bytes (at - 1) 0) (drop at bytes) other free)
 
 pub free_all : (bytes : List ℕ) → Free (drop (length bytes) bytes)
-free_all bytes = subst Free (sym (drop_all (length bytes) bytes (omega arith))) tt
+free_all bytes = subst Free (sym (drop_all (length bytes) bytes (omega arith))) free_none
 
 pub torn_none : (bytes : List ℕ) → IsTornPair (drop (length bytes) bytes)
 torn_none bytes = inl (drop_all (length bytes) bytes (omega arith))
