@@ -207,7 +207,8 @@ impl<'j, 'a> Walk<'j, 'a> {
 
     // Binds the next parameter; whether that is allowed, else nothing is bound.
     fn bind(&mut self, object: u32) -> Result<bool, AllocError> {
-        if !self.narrow_all(self.row.len(), object) {
+        let depth = self.row.len();
+        if !self.narrow_all(depth, object) {
             return Ok(false);
         }
         self.row.push(object)?;
