@@ -29,25 +29,6 @@ def brim(first, goal):
     return f"(define (problem p) (:domain brim) (:init (= (x) {first})) (:goal {goal}))"
 
 
-# a lamp that burns for 2 to 20 ticks, and a repair of 10 for which it has to
-LAMP = """(define (domain lamp) (:predicates (lit) (dark) (mended))
- (:durative-action burn :parameters () :duration (and (>= ?duration 2) (<= ?duration 20))
-  :condition (at start (dark))
-  :effect (and (at start (not (dark))) (at start (lit)) (at end (not (lit)))))
- (:durative-action mend :parameters () :duration (= ?duration 10)
-  :condition (over all (lit)) :effect (at end (mended))))"""
-
-UNMENDED = "(define (problem p) (:domain lamp) (:init (dark)) (:goal (mended)))"
-
-BY_LIGHT = "0: (burn) [10]\n0: (mend) [10]\n"
-
-# the same with oil for 15 ticks, where the repair has to be looked at in the end alone
-OIL = LAMP.replace("(:predicates", "(:functions (oil)) (:predicates").replace(":condition (at start (dark))", ":condition (and (at start (dark)) (over all (>= (oil) 0)))")
-OIL = OIL.replace(":effect (and (at start (not (dark)))", ":effect (and (at start (decrease (oil) ?duration)) (at start (not (dark)))")
-LOOKED_AT = OIL.replace("(over all (lit))", "(at end (lit))")
-
-OILED = "(define (problem p) (:domain lamp) (:init (dark) (= (oil) 15)) (:goal (mended)))"
-
 # a domain, a problem of it, the words of the call, what it writes, and its exit status
 ROWS = (
     (TOGGLE, TOGGLED, CALL, "0: (need)\n", 0),
