@@ -103,8 +103,7 @@ COUNTS = (
     ("depots", 1, ((4, 27), (6, 33), (14, 58))),
     ("driverlog", 1, ((3, 44), (3, 84), (5, 178))),
     ("elevators", 1, ((3, 24), (3, 24), (3, 31))),
-    # (the third: 97 and 88 there, where the atoms of actions that start and never end have no numbers)
-    ("floortile", 1, ((21, 47), (32, 64), (1015, 74))),
+    ("floortile", 1, ((21, 47), (32, 64), (97, 88))),
     ("matchcellar", 1, ((2, 5), (2, 5), (5, 11))),
     ("observ", 10, ((6, 1170), (9, 1500), (17, 2690))),
     ("openstacks", 1, ((5, 142), (7, 168), (9, 275))),
@@ -167,7 +166,6 @@ class Solve(Case):
     def test_more_actions_than_there_may_be(self):
         files = {"domain": RIDES, "problem": PLACES}
         self.comes_to(told_by(RIDDEN, 0), CALL, files)
-        self.comes_to(told("", "fault ground 2 too-many actions\n", 2), "plan domain problem", files)
         # where the guided search finds nothing, all have to be looked at
         apart = {**files, "problem": PLACES.replace("(:goal (at o2))", "(:goal (at o3))")}
         self.comes_to(told("", "fault ground 2 too-many actions\n", 2), CALL, apart)
