@@ -10,7 +10,8 @@ use std::alloc::{AllocError, Global};
 use std::collections::BTreeMap;
 use tp_bounds::{Bound, Point};
 
-/// Says that `to`, an event of one agent, comes no later than `w` ticks after `from`, an event of another.
+/// Says that `to`, an event of one agent, comes no later than `w` ticks after `from`, an event of
+/// another.
 #[derive(Clone, Copy, Debug, PartialEq, Eq)]
 pub struct CrossBound {
     pub from: u16,

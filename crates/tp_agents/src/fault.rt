@@ -10,8 +10,8 @@ pub enum SplitFault {
     /// Out of memory.
     #[error("out of memory")]
     Memory,
-    /// The word of the text, counted from 0, is no number; or the event has no agent, or one whose number is over 1,023, or
-    /// there is no such event and a number for it.
+    /// The word of the text, counted from 0, is no number; or the event has no agent, or one whose
+    /// number is over 1,023, or there is no such event and a number for it.
     #[error("no agent for this event")]
     Owner(u32),
     /// No schedule remains, and this closed chain of edges says why.

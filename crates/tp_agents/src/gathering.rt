@@ -85,7 +85,8 @@ fn first_ids(alloc: Global, setting: &Setting) -> Result<Vec<u32>, AllocError> {
     ids_at(alloc, &ids, &order)
 }
 
-/// Brings the bound of an identifier into force, if a setting has one under it that is not in force yet.
+/// Brings the bound of an identifier into force, if a setting has one under it that is not in force
+/// yet.
 fn gather_at<N: Net>(net: &mut N, setting: &Setting, id: u32) -> Result<(), SplitFault>
     requires between { N.takes_between ≡ true }
     requires unbegun { IsUnbegun setting.now }
@@ -105,7 +106,8 @@ fn gather_at<N: Net>(net: &mut N, setting: &Setting, id: u32) -> Result<(), Spli
     bring(net, BoundId(id), bound)
 }
 
-/// Brings all bounds of a setting into force in a new network, first those that hold moments in the end.
+/// Brings all bounds of a setting into force in a new network, first those that hold moments in the
+/// end.
 fn gather<N: Net>(alloc: Global, net: &mut N, setting: &Setting) -> Result<(), SplitFault>
     requires between { N.takes_between ≡ true }
     requires new { N.seen net.old ≡ fresh (event_count setting.now) setting.now.horizon }
@@ -135,8 +137,8 @@ fn lows<N: Net>(alloc: Global, net: &N) -> Result<Vec<u32>, AllocError>
     Ok(least)
 }
 
-/// The moments of the least schedule of a setting in which nothing has happened. It costs one `add` of a network for each
-/// bound in force, of which those that hold moments in the end come first.
+/// The moments of the least schedule of a setting in which nothing has happened. It costs one `add`
+/// of a network for each bound in force, of which those that hold moments in the end come first.
 ///
 /// # Errors
 /// `Conflict` where no schedule remains; `Memory`.

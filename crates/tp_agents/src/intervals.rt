@@ -43,7 +43,8 @@ fn moment_from(ticks: i64) -> u64
     if ticks < 0 { 0 } else { ticks as u64 }
 }
 
-/// The least moment at which an event meets each cross bound from it, the others being where they end.
+/// The least moment at which an event meets each cross bound from it, the others being where they
+/// end.
 fn low_end(crosses: &[CrossBound], before: &[Option<(u32, u32)>], least: &[u32], e: u16) -> u64
     requires { All (λ b. IsInRange b.w) crosses.now }
     ensures { result ≡ low_of crosses.now (ends before.now least.now) e }
@@ -57,7 +58,8 @@ fn low_end(crosses: &[CrossBound], before: &[Option<(u32, u32)>], least: &[u32],
     low
 }
 
-/// The greatest moment at which an event meets each cross bound to it, the others being where they begin.
+/// The greatest moment at which an event meets each cross bound to it, the others being where they
+/// begin.
 fn high_end(
     horizon: u32,
     crosses: &[CrossBound],
@@ -97,8 +99,8 @@ fn interval(
     Some((low as u32, high as u32))
 }
 
-/// The intervals of events, of which the least schedule that remains has these moments. It goes over the cross bounds at
-/// most three times for each event.
+/// The intervals of events, of which the least schedule that remains has these moments. It goes
+/// over the cross bounds at most three times for each event.
 pub(crate) fn intervals(
     alloc: Global,
     horizon: u32,

@@ -33,9 +33,10 @@ fn joined(alloc: Global, owners: &[u16], reports: &[Report]) -> Result<Vec<u32>,
     Ok(moments)
 }
 
-/// The moments of all events of the setting that was split, where there is one report for each agent and each tells of a
-/// run in which every event is dispatched and no bound of its part was withdrawn; else none. Where each report's moments are
-/// a schedule of its part, as those of such a run are, these are a schedule of the setting.
+/// The moments of all events of the setting that was split, where there is one report for each
+/// agent and each tells of a run in which every event is dispatched and no bound of its part was
+/// withdrawn; else none. Where each report's moments are a schedule of its part, as those of such a
+/// run are, these are a schedule of the setting.
 ///
 /// It goes over the events before each event.
 pub fn join_runs(

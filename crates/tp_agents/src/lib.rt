@@ -1,6 +1,7 @@
-//! A temporal network split among agents that never speak to each other: temporal decoupling (Hunsberger 2002). Each agent
-//! gets its own events with the bounds among them, and an interval for each event that a bound joins with another agent's;
-//! whatever the agents choose within, the bounds between them are met, and their runs join into one of the whole.
+//! A temporal network split among agents that never speak to each other: temporal decoupling
+//! (Hunsberger 2002). Each agent gets its own events with the bounds among them, and an interval
+//! for each event that a bound joins with another agent's; whatever the agents choose within, the
+//! bounds between them are met, and their runs join into one of the whole.
 //!
 //! - `owners`: which agent each event is for; `reading`: the same from a text.
 //! - `fault`: what keeps a setting from being split.
@@ -34,8 +35,9 @@ pub use parts::part;
 pub use reading::read_owners;
 pub use splitting::split;
 
-/// What the intervals of a split are good for: every choice of moments inside them meets every bound between agents; none can
-/// be made wider by one tick at either end, the others as they are; and each agent's part has a schedule.
+/// What the intervals of a split are good for: every choice of moments inside them meets every
+/// bound between agents; none can be made wider by one tick at either end, the others as they are;
+/// and each agent's part has a schedule.
 pub fn intervals_decouple(split: &Split)
     ensures decouples { Decouples split.now.setting split.now.owners.items
         split.now.intervals.items }
@@ -47,7 +49,8 @@ pub fn intervals_decouple(split: &Split)
     let _events = split.setting.events();
 }
 
-/// Executives that share nothing, whatever the order in which their commands come in, are each as after its own alone.
+/// Executives that share nothing, whatever the order in which their commands come in, are each as
+/// after its own alone.
 pub fn executives_keep_apart()
     ensures { KeepsApart }
 {}

@@ -86,7 +86,8 @@ fn has_agent(owners: &[u16], e: u16) -> bool
     }
 }
 
-/// The first event that has no number, or one over 1,023; or else the number of events, if there are more numbers.
+/// The first event that has no number, or one over 1,023; or else the number of events, if there
+/// are more numbers.
 pub(crate) fn misowned(events: u16, owners: &[u16]) -> Option<u32>
     ensures { MatchOption result
         (AreOwners events owners.now) (IsFirstMisowned events owners.now) }

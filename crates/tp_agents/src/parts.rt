@@ -13,7 +13,8 @@ use std::alloc::{AllocError, Global};
 use std::collections::BTreeMap;
 use tp_bounds::{Bound, PlanNet, Point, at_least, at_most};
 
-/// For each event, how many events of its agent come before it. It goes over the events before each.
+/// For each event, how many events of its agent come before it. It goes over the events before
+/// each.
 fn places(alloc: Global, owners: &[u16]) -> Result<Vec<u16>, AllocError>
     requires { length owners.now ≤ 1_024 }
     ensures { IfOk result (λ v. ArePlaces owners.now v.items) }
@@ -114,9 +115,10 @@ fn texts(alloc: Global, owners: &[u16], agent: u16) -> Result<Vec<String>, Alloc
     Ok(texts)
 }
 
-/// The network of an agent's part: its events in order, numbered from 0, each under the text `event E` with its number in
-/// the whole; the bounds that join no event of another agent, by rising identifier; and for each of its events that has an
-/// interval, by rising number, the two bounds that keep it there.
+/// The network of an agent's part: its events in order, numbered from 0, each under the text `event
+/// E` with its number in the whole; the bounds that join no event of another agent, by rising
+/// identifier; and for each of its events that has an interval, by rising number, the two bounds
+/// that keep it there.
 ///
 /// It goes over all bounds in force once, and over the events before each event.
 pub fn part(alloc: Global, split: &Split, agent: u16) -> Result<PlanNet, AllocError>

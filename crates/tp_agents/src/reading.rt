@@ -43,8 +43,8 @@ fn number(word: &[u8]) -> Option<u16>
     Some(number)
 }
 
-/// The fault of a word that is no number, by how many words came before it. A text with more words than there are numbers
-/// for them is out of memory.
+/// The fault of a word that is no number, by how many words came before it. A text with more words
+/// than there are numbers for them is out of memory.
 fn other_word(before: usize) -> SplitFault
     ensures { TellsWord before result }
 {
@@ -54,8 +54,8 @@ fn other_word(before: usize) -> SplitFault
     }
 }
 
-/// The agents of events, by event: whole numbers of one to four digits between blanks, which are those of planning texts. It
-/// goes over the text once.
+/// The agents of events, by event: whole numbers of one to four digits between blanks, which are
+/// those of planning texts. It goes over the text once.
 ///
 /// # Errors
 /// `Owner` of the first word that is no such number, counted from 0; `Memory`.

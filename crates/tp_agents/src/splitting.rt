@@ -38,16 +38,16 @@ fn split_by(
     })
 }
 
-/// Splits a setting in which nothing has happened among the agents of its events, so that each may carry its own part out
-/// without a word to the others: each event that has a bound with an event of another agent gets an interval, which its
-/// agent keeps.
+/// Splits a setting in which nothing has happened among the agents of its events, so that each may
+/// carry its own part out without a word to the others: each event that has a bound with an event
+/// of another agent gets an interval, which its agent keeps.
 ///
-/// It costs one `add` of a network for each bound in force, and at most three passes over the bounds between agents for each
-/// event.
+/// It costs one `add` of a network for each bound in force, and at most three passes over the
+/// bounds between agents for each event.
 ///
-/// # Errors
-/// `Owner` of the first event that has no agent, or one whose number is over 1,023, or that there is not; then `Conflict`
-/// where no schedule remains, by a reason that `check_reason` accepts of the setting; `Memory`.
+/// # Errors `Owner` of the first event that has no agent, or one whose number is over 1,023, or
+/// that there is not; then `Conflict` where no schedule remains, by a reason that `check_reason`
+/// accepts of the setting; `Memory`.
 pub fn split(alloc: Global, setting: &Setting, owners: &Owners) -> Result<Split, SplitFault>
     requires { IsUnbegun setting.now }
     ensures { AnswersSplit setting.now owners.now result }

@@ -1,5 +1,5 @@
-//! What agents that do not speak to each other come to together, once each has carried its part of a valid plan out: a valid
-//! plan. This crate has laws alone, and no code.
+//! What agents that do not speak to each other come to together, once each has carried its part of
+//! a valid plan out: a valid plan. This crate has laws alone, and no code.
 #![tactic(auto)]
 
 ghost use Rattle.std.specs.Prelude.{◌≡◌, List, length};
@@ -14,9 +14,10 @@ ghost use Rattle.tp_agents_laws.specs.JoinedPlans.{JoinedRunsAreSchedules, Joine
 use tp_agents::Split;
 use tp_bounds::Setting;
 
-/// The report of an executive over an agent's part, after any list of commands, has a moment for each event of the part. While
-/// none of the part's bounds is withdrawn, the moments are a schedule of the part. So `join_runs` may be given the reports of
-/// all agents, and where every run is complete, the parts are kept.
+/// The report of an executive over an agent's part, after any list of commands, has a moment for
+/// each event of the part. While none of the part's bounds is withdrawn, the moments are a schedule
+/// of the part. So `join_runs` may be given the reports of all agents, and where every run is
+/// complete, the parts are kept.
 pub fn part_runs_keep_parts(split: &Split)
     ensures fit { PartReportsFit split.now.setting split.now.owners.items
         split.now.intervals.items }
@@ -29,15 +30,16 @@ pub fn part_runs_keep_parts(split: &Split)
     let _events = split.setting.events();
 }
 
-/// That holds whatever the order in which the commands of all agents come, where their executives share nothing.
+/// That holds whatever the order in which the commands of all agents come, where their executives
+/// share nothing.
 pub fn joint_runs_are_part_runs(split: &Split)
     ensures { (reports : List Report) → AreJointReports split.now.setting split.now.owners.items
         split.now.intervals.items reports → ArePartReports split.now.setting
         split.now.owners.items split.now.intervals.items reports }
 {}
 
-/// A network is in force in a setting of its events and its horizon in which its bounds came into force, whatever there was
-/// before: so in one in which nothing has happened.
+/// A network is in force in a setting of its events and its horizon in which its bounds came into
+/// force, whatever there was before: so in one in which nothing has happened.
 pub fn networks_come_into_force()
     ensures over { (s : Setting) (n : PlanNet) → event_count s ≡ length n.events.items
         → s.horizon ≡ n.horizon → HasInForce (with_bounds s 0 n.bounds.items) n }
@@ -45,8 +47,8 @@ pub fn networks_come_into_force()
         (setting_of (length n.events.items) n.horizon n.bounds.items) n }
 {}
 
-/// Where a setting has the events and the horizon of a valid plan's network and all its bounds in force, perhaps with others,
-/// each schedule of it makes a valid plan.
+/// Where a setting has the events and the horizon of a valid plan's network and all its bounds in
+/// force, perhaps with others, each schedule of it makes a valid plan.
 pub fn schedules_make_valid_plans(setting: &Setting)
     ensures { SchedulesMakeValidPlans setting.now }
 {
@@ -54,9 +56,9 @@ pub fn schedules_make_valid_plans(setting: &Setting)
     let _events = setting.events();
 }
 
-/// What `join_runs` makes of complete runs of all parts is a schedule of the setting that was split. It makes a valid plan
-/// where that setting has the events and the horizon of a valid plan's network and all its bounds in force, perhaps with
-/// others.
+/// What `join_runs` makes of complete runs of all parts is a schedule of the setting that was
+/// split. It makes a valid plan where that setting has the events and the horizon of a valid plan's
+/// network and all its bounds in force, perhaps with others.
 pub fn joined_runs_make_valid_plans(split: &Split)
     ensures schedule { JoinedRunsAreSchedules split.now.setting split.now.owners.items
         split.now.intervals.items }

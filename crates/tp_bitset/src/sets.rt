@@ -72,7 +72,8 @@ impl NumberSet {
         numbers.iter().any(|number| self.contains(*number as usize))
     }
 
-    /// Puts a number in. It costs one step, and one more for each word that the set lacks up to that number.
+    /// Puts a number in. It costs one step, and one more for each word that the set lacks up to
+    /// that number.
     pub fn insert(&mut self, number: usize) -> Result<(), AllocError>
         ensures ok { OnOk result
             ((n : ℕ) → has_number self.new n ≡ (has_number self.old n || n == number)) }

@@ -1,4 +1,5 @@
-//! Checks of what others say of a setting: that no schedule remains, and why; or that these moments are one.
+//! Checks of what others say of a setting: that no schedule remains, and why; or that these moments
+//! are one.
 
 ghost use Rattle.std.specs.Prelude.{◌≡◌, ◌≢◌, ◌↔◌, ℕ, ◌<◌, List, length, IsTrue, Some, MatchOption, OnOk, IfErr};
 ghost use Rattle.std.specs.List.{AllByRecursion};
@@ -92,8 +93,9 @@ fn weight(setting: &Setting, edges: &[Edge]) -> i128
     sum
 }
 
-/// Whether the edges are a reason: they exist in the setting, each begins where the one before ends and the first where
-/// the last ends, no two begin at one point, and their weights add up to less than 0. Then no schedule remains.
+/// Whether the edges are a reason: they exist in the setting, each begins where the one before ends
+/// and the first where the last ends, no two begin at one point, and their weights add up to less
+/// than 0. Then no schedule remains.
 pub fn check_reason(setting: &Setting, reason: &Reason) -> bool
     ensures exact { IsTrue result ↔ IsReason setting.now reason.now.edges.items }
     ensures refutes { IsTrue result → ¬ HasSchedule setting.now }
@@ -172,7 +174,8 @@ fn unmet(bounds: &BTreeMap<u32, Bound>, moments: &[u32]) -> Option<BoundId>
     None
 }
 
-/// Whether the moments, one for each event, are a schedule that remains; else something that they break.
+/// Whether the moments, one for each event, are a schedule that remains; else something that they
+/// break.
 pub fn check_schedule(setting: &Setting, moments: &[u32]) -> Result<(), Broken>
     ensures ok { OnOk result (IsListedSchedule setting.now moments.now) }
     ensures err { IfErr result (λ broken. Breaks setting.now moments.now broken

@@ -8,8 +8,8 @@ ghost use Rattle.tp_bounds.specs.declared.Bound.{Bound};
 
 use crate::Bound;
 
-/// The events of a plan, each as text, and the bounds that its schedules have to meet. The points of the bounds exist, their
-/// weights are in range, and they have a schedule up to the horizon.
+/// The events of a plan, each as text, and the bounds that its schedules have to meet. The points
+/// of the bounds exist, their weights are in range, and they have a schedule up to the horizon.
 #[derive(Drop)]
 pub struct PlanNet {
     /// The latest moment, in ticks.
@@ -31,8 +31,8 @@ impl PlanNet {
     }
 }
 
-/// The schedules of bounds in force under identifiers from 0 on, where nothing has happened, are the assignments from 0 to the
-/// horizon that meet each of them.
+/// The schedules of bounds in force under identifiers from 0 on, where nothing has happened, are
+/// the assignments from 0 to the horizon that meet each of them.
 pub fn schedules_meet_bounds()
     ensures { (events horizon : ℕ) (bounds : List Bound) (t : ℕ → ℕ) → (IsSchedule
         (setting_of events horizon bounds) t ↔ (IsWithin events horizon t × MeetsEach t bounds)) }

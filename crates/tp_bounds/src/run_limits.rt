@@ -59,8 +59,9 @@ impl Model for Limits {
 }
 
 impl Limits {
-    /// Limits of these numbers: events of a network, bounds in force, identifiers given out, the horizon in ticks, ground
-    /// atoms (and ground fluents), ground actions, and states that a search expands.
+    /// Limits of these numbers: events of a network, bounds in force, identifiers given out, the
+    /// horizon in ticks, ground atoms (and ground fluents), ground actions, and states that a
+    /// search expands.
     pub fn new(
         events: u16,
         bounds: u32,

@@ -14,8 +14,9 @@ use std::alloc::{AllocError, Global};
 use std::collections::BTreeMap;
 use std::marker::Model;
 
-/// Events, the horizon, the bounds in force, the moments at which events were dispatched, how late their reports may come,
-/// the time, and a bound that is asked for. Nothing is worked out from them: a setting may have no schedule.
+/// Events, the horizon, the bounds in force, the moments at which events were dispatched, how late
+/// their reports may come, the time, and a bound that is asked for. Nothing is worked out from
+/// them: a setting may have no schedule.
 #[derive(Drop)]
 pub struct Setting {
     horizon: u32,
@@ -58,7 +59,8 @@ impl Model for Setting {
 }
 
 impl Setting {
-    /// A setting at 0 of so many events, with a horizon in ticks, no bound, and no event that is reported late.
+    /// A setting at 0 of so many events, with a horizon in ticks, no bound, and no event that is
+    /// reported late.
     pub fn new(alloc: Global, events: u16, horizon: u32) -> Result<Setting, AllocError>
         requires events { events ≤ MOST_EVENTS }
         requires horizon { horizon ≤ MOST_HORIZON }
@@ -112,8 +114,8 @@ impl Setting {
         self.clock = now;
     }
 
-    /// Lets the report of an event come so many ticks late, at most 1,000,000,000. It is still 0, so that the same schedules
-    /// remain.
+    /// Lets the report of an event come so many ticks late, at most 1,000,000,000. It is still 0,
+    /// so that the same schedules remain.
     pub fn set_lag(&mut self, e: u16, lag: u32)
         requires event { e < event_count self.old }
         requires start { self.old.clock ≡ 0 }
@@ -142,8 +144,8 @@ impl Setting {
         self.fixed[e as usize] = Some(moment);
     }
 
-    /// The moment before which an event that is not dispatched can't have happened any more: now less its lag, 0 where the
-    /// lag is more.
+    /// The moment before which an event that is not dispatched can't have happened any more: now
+    /// less its lag, 0 where the lag is more.
     pub fn floor(&self, e: u16) -> u32
         requires event { e < event_count self.now }
         requires free { fixed_at self.now e ≡ None }
@@ -185,8 +187,9 @@ impl Setting {
         &self.bounds
     }
 
-    /// The bound in force than which `k` others have a lower identifier, and its identifier: the bounds in force are told by
-    /// rising identifier, as `k` rises from 0. It takes no memory, and `k` steps along the bounds.
+    /// The bound in force than which `k` others have a lower identifier, and its identifier: the
+    /// bounds in force are told by rising identifier, as `k` rises from 0. It takes no memory, and
+    /// `k` steps along the bounds.
     pub fn nth(&self, k: usize) -> Option<(BoundId, Bound)>
         ensures { IsNth self.now.bounds k result }
     {

@@ -25,8 +25,8 @@ fn tell<O: Sink>(judgement: Judgement, output: &mut O) -> Result<bool, PlanStop>
     }
 }
 
-/// Judges the plan that the words name, and writes the verdict. Answers whether the plan is valid. A file is opened only when
-/// what stands before it is done.
+/// Judges the plan that the words name, and writes the verdict. Answers whether the plan is valid.
+/// A file is opened only when what stands before it is done.
 fn check<N: Files, O: Sink>(
     alloc: Global,
     files: &mut N,
@@ -46,8 +46,8 @@ fn check<N: Files, O: Sink>(
     }
 }
 
-/// Writes the verdict on the plan that the words name. Answers the exit status: 0 for a valid plan, 1 for another, and for another
-/// writes one fault line.
+/// Writes the verdict on the plan that the words name. Answers the exit status: 0 for a valid plan,
+/// 1 for another, and for another writes one fault line.
 pub fn run_check<N: Files, O: Sink, F: Sink>(
     alloc: Global,
     files: &mut N,
@@ -66,8 +66,8 @@ pub fn run_check<N: Files, O: Sink, F: Sink>(
         (O.held output.old) (O.held output.new) (O.failures output.old) (O.failures output.new)
         (F.failures faults.old) (F.held faults.old) (F.failures faults.new) (F.held faults.new) }
 
-    // Nothing is written for input that is refused, and of the true verdict at most a first part where memory or a device is
-    // wanting; a write that failed is always told.
+    // Nothing is written for input that is refused, and of the true verdict at most a first part
+    // where memory or a device is wanting; a write that failed is always told.
     ensures kept { result ≡ REFUSED → O.held output.new ≡ O.held output.old }
     ensures part { result ≡ OUT_OF_ORDER
         → SaysPart (N.held files.old) words.entry (O.held output.old) (O.held output.new) }

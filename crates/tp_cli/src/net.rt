@@ -60,7 +60,8 @@ fn write_network<O: Sink>(
     }
 }
 
-/// Writes the lines of the network of a plan, or its first fault. Answers whether the plan is valid.
+/// Writes the lines of the network of a plan, or its first fault. Answers whether the plan is
+/// valid.
 fn show<O: Sink>(
     alloc: Global,
     verdict: &Verdict<'_>,
@@ -109,8 +110,8 @@ fn show_of<O: Sink>(
     }
 }
 
-/// Writes the network of the plan that the words name, or its first fault. Answers whether the plan is valid. A file is opened
-/// only when what stands before it is done.
+/// Writes the network of the plan that the words name, or its first fault. Answers whether the plan
+/// is valid. A file is opened only when what stands before it is done.
 fn net<N: Files, O: Sink>(
     alloc: Global,
     files: &mut N,
@@ -133,8 +134,8 @@ fn net<N: Files, O: Sink>(
     }
 }
 
-/// Writes the network of the plan that the words name. Answers the exit status: 0 where it was written, 1 for a plan that is not
-/// valid, and for another writes one fault line.
+/// Writes the network of the plan that the words name. Answers the exit status: 0 where it was
+/// written, 1 for a plan that is not valid, and for another writes one fault line.
 pub fn run_net<N: Files, O: Sink, F: Sink>(
     alloc: Global,
     files: &mut N,
@@ -153,8 +154,8 @@ pub fn run_net<N: Files, O: Sink, F: Sink>(
         (O.held output.new) (O.failures output.old) (O.failures output.new) (F.failures faults.old)
         (F.held faults.old) (F.failures faults.new) (F.held faults.new) }
 
-    // Nothing is written for input that is refused, and of the true text at most a first part where memory or a device is
-    // wanting; a write that failed is always told.
+    // Nothing is written for input that is refused, and of the true text at most a first part where
+    // memory or a device is wanting; a write that failed is always told.
     ensures kept { result ≡ REFUSED → O.held output.new ≡ O.held output.old }
     ensures part { result ≡ OUT_OF_ORDER
         → ShowsPart (N.held files.old) words.entry (O.held output.old) (O.held output.new) }

@@ -22,7 +22,8 @@ use tp_cli_files::{
 };
 use tp_device::{FromRead, Sink};
 
-/// What a run came to: its exit status, and the writers. The output is gone where the last of it could not be handed on.
+/// What a run came to: its exit status, and the writers. The output is gone where the last of it
+/// could not be handed on.
 #[derive(Drop)]
 pub struct Ended<W, V> {
     pub status: u8,
@@ -79,7 +80,8 @@ fn tell_lost<F: Sink>(status: u8, faults: &mut F)
     }
 }
 
-/// Hands on what was written, and answers the exit status. What can't be handed on is a write that failed.
+/// Hands on what was written, and answers the exit status. What can't be handed on is a write that
+/// failed.
 fn hand_on<W: Write + Drop, F: Sink>(
     status: u8,
     output: LineWriter<W>,
@@ -182,8 +184,8 @@ fn end_lost<F: Ledger, W, V: Write + Drop>(faults: Counted<V>) -> Ended<W, V>
 
 /// Does what the words ask for, over a reader and writers of std.
 ///
-/// Each answer is handed to `output` as soon as its line is whole. What could not be written to `output` in the end is told
-/// as a failed write.
+/// Each answer is handed to `output` as soon as its line is whole. What could not be written to
+/// `output` in the end is told as a failed write.
 pub fn run_streams<N: Files, L: Logs, B: Write, R: Read + Drop, W: Write + Drop, V: Write + Drop>(
     alloc: Global,
     words: &[String],
@@ -237,7 +239,8 @@ fn refuse_counted<F: Ledger, V: Write + Drop>(why: CallFault, faults: Counted<V>
     }
 }
 
-/// Tells a writer of std why the words of a call were not taken: the whole line, or where the writer fails a first part of it.
+/// Tells a writer of std why the words of a call were not taken: the whole line, or where the
+/// writer fails a first part of it.
 pub fn refuse_streams<V: Write + Drop>(why: CallFault, faults: V) -> Refused<V>
     ensures status { result.status ≡ call_status why }
     ensures told { AppendsPart (V.contents faults) (V.contents result.faults) (call_text why) }

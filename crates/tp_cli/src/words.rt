@@ -20,13 +20,16 @@ use std::io::Write;
 use tp_cli_args::{NoRequest, Request, read_words};
 use tp_cli_audit::{run_bare_audit, run_plan_audit};
 use tp_cli_bare::{run_bare, run_bare_journal};
+use tp_cli_draw::run_draw;
 use tp_cli_files::{FaultLine, Files, Logs, OUT_OF_ORDER, REFUSED, complain, complain_more};
 use tp_cli_plan::run_plan;
+use tp_cli_resume::{run_bare_resume, run_run_resume};
 use tp_cli_run::{run_run, run_run_journal};
 use tp_cli_split::run_split;
 use tp_device::{Sink, Source, push_all};
 
-/// Does what the words ask for. Answers the exit status, and for another than 0 and 1 writes one fault line.
+/// Does what the words ask for. Answers the exit status, and for another than 0 and 1 writes one
+/// fault line.
 pub fn run_words<N: Files, L: Logs, B: Write, I: Source + Drop, O: Sink, F: Sink>(
     alloc: Global,
     words: &[String],
@@ -44,13 +47,15 @@ pub fn run_words<N: Files, L: Logs, B: Write, I: Source + Drop, O: Sink, F: Sink
         L.blank (L.named files.new.logs) (L.kept files.new.logs))
         (I.left input) (O.held output.old) (O.held output.new) }
 
-    // Of a network of bounds alone all is answered, or where the status tells otherwise a first part.
+    // Of a network of bounds alone all is answered, or where the status tells otherwise a first
+    // part.
     ensures all { AsksFor (map string_bytes words.now) Request.Bare → result ≡ 0
         → AnswersAll (I.left input) (O.held output.old) (O.held output.new) }
     ensures part { AsksFor (map string_bytes words.now) Request.Bare → result ≢ 0
         → AnswersPart (I.left input) (O.held output.old) (O.held output.new) }
 
-    // Such a network is refused only where it has no head, or a lag that does not fit, or too many bytes come in.
+    // Such a network is refused only where it has no head, or a lag that does not fit, or too many
+    // bytes come in.
     ensures refused { AsksFor (map string_bytes words.now) Request.Bare → result ≡ REFUSED
         → IsRefused (I.left input) }
     ensures bare { AsksFor (map string_bytes words.now) Request.Bare → result ≢ 0
@@ -65,7 +70,8 @@ pub fn run_words<N: Files, L: Logs, B: Write, I: Source + Drop, O: Sink, F: Sink
         (O.held output.old) (O.held output.new) (O.failures output.old) (O.failures output.new)
         (F.failures faults.old) (F.held faults.old) (F.failures faults.new) (F.held faults.new) }
 
-    // Where memory or a device is wanting, a first part of what is asked for is written, or nothing.
+    // Where memory or a device is wanting, a first part of what is asked for is written, or
+    // nothing.
     ensures broken { result ≡ OUT_OF_ORDER → DoesPart (map string_bytes words.now)
         (call_files (N.held files.old.shelf) (L.asked files.old.logs) (L.asked files.new.logs)
         L.blank (L.named files.new.logs) (L.kept files.new.logs))
@@ -83,8 +89,8 @@ pub fn run_words<N: Files, L: Logs, B: Write, I: Source + Drop, O: Sink, F: Sink
     ensures quiet { AsksForNoProgress (map string_bytes words.now)
         → files.new.board ≡ files.old.board }
 
-    // A write that failed is always told. A fault line goes with each fault, and with nothing else; behind it stands only what
-    // `clap` says of words that are refused.
+    // A write that failed is always told. A fault line goes with each fault, and with nothing else;
+    // behind it stands only what `clap` says of words that are refused.
     ensures told { result ≢ OUT_OF_ORDER → O.failures output.new ≡ O.failures output.old }
     ensures within { result ≤ 3 }
     ensures silent { result ≤ 1 → faults.new ≡ faults.old }
@@ -107,8 +113,18 @@ pub fn run_words<N: Files, L: Logs, B: Write, I: Source + Drop, O: Sink, F: Sink
             alloc, shelf, log, plan, output, faults,
         ),
         Ok(Request::Split(plan, owners)) => {
-            run_split(alloc, shelf, plan, owners, output, faults)
+            run_split(alloc, shelf, plan, owners, None, output, faults)
         }
+        Ok(Request::Part(plan, owners, agent)) => {
+            run_split(alloc, shelf, plan, owners, Some(agent), output, faults)
+        }
+        Ok(Request::BareResume(old, log)) => run_bare_resume(
+            alloc, shelf, logs, old, log, input, output, faults,
+        ),
+        Ok(Request::RunResume(plan, old, log)) => run_run_resume(
+            alloc, shelf, logs, plan, old, log, input, output, faults,
+        ),
+        Ok(Request::Draw(words)) => run_draw(alloc, shelf, words, output, faults),
         Ok(Request::Help(text)) => show(text.as_str(), output, faults),
         Err(NoRequest::Words(text)) => refuse_words(text, faults),
         Err(NoRequest::Memory) => complain(
@@ -136,7 +152,8 @@ fn show<O: Sink, F: Sink>(text: &str, output: &mut O, faults: &mut F) -> u8
     }
 }
 
-/// Writes that the words are refused, and what `clap` says of them, if it says something. Answers the exit status.
+/// Writes that the words are refused, and what `clap` says of them, if it says something. Answers
+/// the exit status.
 fn refuse_words<F: Sink>(text: Option<String>, faults: &mut F) -> u8
     ensures status { result ≡ REFUSED }
     ensures refused { (held : Option (List ℕ)) → (n : ℕ) → RefusesWords result held held n n

@@ -38,7 +38,7 @@ fn head_fits(head: &JournalHead) -> bool
 }
 
 /// Whether a head is that of a network of bounds alone, which can be so.
-fn is_bare(head: &JournalHead) -> bool
+pub fn is_bare(head: &JournalHead) -> bool
     ensures { IsTrue result ↔ IsBareHead head.now }
 {
     match head.own {
@@ -62,7 +62,7 @@ pub fn set_lags<N: Net>(net: &mut N, lags: &[(u16, u32)])
 }
 
 /// The executive that a head tells, which is new.
-fn bare_start(alloc: Global, head: &JournalHead) -> Result<Executive<RepairNet>, AllocError>
+pub fn bare_start(alloc: Global, head: &JournalHead) -> Result<Executive<RepairNet>, AllocError>
     requires { HeadFits head.now }
     ensures machine { IfOk result (λ m. m ≡ bare_machine head.now) }
     ensures new { IfOk result IsNewExecutive }
@@ -121,10 +121,12 @@ fn say_bare<N: Files, O: Sink>(
     }
 }
 
-/// Audits the journal in the file of a name, which is to be that of commands on a network of bounds alone: the network is the one that
-/// its head tells. Answers the exit status: 0 where it is such a journal, and the line `audit ok N` with the number of its pairs was
-/// written; 1 where an answer is not allowed, and the line `wrong N` with the number of its line was; and for another writes one fault
-/// line. The file is opened twice: its head is read first, and then all of it. It costs little more than the run did.
+/// Audits the journal in the file of a name, which is to be that of commands on a network of bounds
+/// alone: the network is the one that its head tells. Answers the exit status: 0 where it is such a
+/// journal, and the line `audit ok N` with the number of its pairs was written; 1 where an answer
+/// is not allowed, and the line `wrong N` with the number of its line was; and for another writes
+/// one fault line. The file is opened twice: its head is read first, and then all of it. It costs
+/// little more than the run did.
 pub fn run_bare_audit<N: Files, O: Sink, F: Sink>(
     alloc: Global,
     files: &mut N,

@@ -17,7 +17,8 @@ use tp_device::{Sink, Source};
 use tp_journal::JournalHead;
 use tp_validate::{ValidPlan, Verdict};
 
-/// Audits what a source has left, a journal with that head, against the executive over the network of a plan.
+/// Audits what a source has left, a journal with that head, against the executive over the network
+/// of a plan.
 fn audit_net<S: Source + Drop>(
     alloc: Global,
     network: &PlanNet,

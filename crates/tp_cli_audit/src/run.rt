@@ -19,8 +19,8 @@ use tp_happen::Plan;
 use tp_journal::JournalHead;
 use tp_task::Task;
 
-/// Audits what a source has left, a journal with that head, against the plan that the words name, of its task, and writes what was
-/// found. Answers whether the plan is valid and it is a journal.
+/// Audits what a source has left, a journal with that head, against the plan that the words name,
+/// of its task, and writes what was found. Answers whether the plan is valid and it is a journal.
 fn audit_task<S: Source + Drop, O: Sink>(
     alloc: Global,
     words: PlanWords<'_>,
@@ -71,7 +71,8 @@ fn audit_words<N: Files, S: Source + Drop, O: Sink>(
     }
 }
 
-/// The same of the journal in the file of a name, whose head is known: the file is opened before the others.
+/// The same of the journal in the file of a name, whose head is known: the file is opened before
+/// the others.
 fn audit_opened<N: Files, O: Sink>(
     alloc: Global,
     files: &mut N,
@@ -114,11 +115,13 @@ fn audit_log<N: Files, O: Sink>(
     }
 }
 
-/// Audits the journal in the file of a name, which is to be that of a run of the plan that the words name: the executive is the one over
-/// that plan's network, with the lags that the journal's head tells. Answers the exit status: 0 where it is such a journal, and the line
-/// `audit ok N` with the number of its pairs was written; 1 where an answer is not allowed, and the line `wrong N` with the number of
-/// its line was, or where the plan is not valid, and its first fault was; and for another writes one fault line. The head of the journal
-/// is read first, then the plan, and then all of the journal; its file is opened twice. The cost is that of `check` and of the
+/// Audits the journal in the file of a name, which is to be that of a run of the plan that the
+/// words name: the executive is the one over that plan's network, with the lags that the journal's
+/// head tells. Answers the exit status: 0 where it is such a journal, and the line `audit ok N`
+/// with the number of its pairs was written; 1 where an answer is not allowed, and the line `wrong
+/// N` with the number of its line was, or where the plan is not valid, and its first fault was; and
+/// for another writes one fault line. The head of the journal is read first, then the plan, and
+/// then all of the journal; its file is opened twice. The cost is that of `check` and of the
 /// network, and then little more than that of the run.
 pub fn run_plan_audit<N: Files, O: Sink, F: Sink>(
     alloc: Global,

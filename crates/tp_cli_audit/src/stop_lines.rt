@@ -21,7 +21,8 @@ pub enum PlanAuditStop {
     Deordering(DeorderFault),
 }
 
-/// The line of an audit that was hindered, of the file of a name against the plan that the words name.
+/// The line of an audit that was hindered, of the file of a name against the plan that the words
+/// name.
 pub fn plan_stop_line<'w>(stop: PlanAuditStop, log: &'w str, words: PlanWords<'w>) -> FaultLine<'w>
     ensures status { result.status ≡ plan_stop_status stop }
     ensures text { fault_text result ≡ plan_stop_text log.entry.now words.entry stop }

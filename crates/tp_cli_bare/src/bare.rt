@@ -43,8 +43,8 @@ fn of_network(served: Result<Served, ServeFault>) -> Result<Served, BareFault>
     }
 }
 
-/// Reads the lags of a new network, and makes an executive over it under the greatest limits. The executive is new. It takes memory for
-/// the network alone.
+/// Reads the lags of a new network, and makes an executive over it under the greatest limits. The
+/// executive is new. It takes memory for the network alone.
 pub fn begin<I: Source>(
     alloc: Global,
     lines: &mut Lines<I>,
@@ -115,7 +115,8 @@ fn bare<I: Source + Drop, O: Sink>(
     answer(alloc, &mut lines, events, horizon, output)
 }
 
-/// Answers the commands of the input. Answers the exit status, and for another than 0 writes one fault line.
+/// Answers the commands of the input. Answers the exit status, and for another than 0 writes one
+/// fault line.
 pub fn run_bare<I: Source + Drop, O: Sink, F: Sink>(
     alloc: Global,
     input: I,
@@ -126,7 +127,8 @@ pub fn run_bare<I: Source + Drop, O: Sink, F: Sink>(
     ensures part { result ≢ 0 → AnswersPart (I.left input) (O.held output.old) (O.held output.new) }
     ensures refused { result ≡ REFUSED → IsRefused (I.left input) }
 
-    // No status says no, a write that failed is always told, and a fault line goes with each fault and with nothing else.
+    // No status says no, a write that failed is always told, and a fault line goes with each fault
+    // and with nothing else.
     ensures no { result ≢ 1 }
     ensures told { result ≢ OUT_OF_ORDER → O.failures output.new ≡ O.failures output.old }
     ensures silent { result ≡ 0 → faults.new ≡ faults.old }

@@ -32,7 +32,8 @@ fn of_journal(served: Result<Served, JournalFault>) -> Result<Served, JournalSto
     }
 }
 
-/// Answers the commands of the lines behind the lags, on a new network, and writes their journal to the log.
+/// Answers the commands of the lines behind the lags, on a new network, and writes their journal to
+/// the log.
 fn answer<I: Source + Drop, O: Sink, L: Sink>(
     alloc: Global,
     lines: &mut Lines<I>,
@@ -59,7 +60,8 @@ fn answer<I: Source + Drop, O: Sink, L: Sink>(
     }
 }
 
-/// Reads the head of a network and the lags of its events, answers the commands that follow, and writes their journal to the log.
+/// Reads the head of a network and the lags of its events, answers the commands that follow, and
+/// writes their journal to the log.
 pub(crate) fn log_bare<I: Source + Drop, O: Sink, L: Sink>(
     alloc: Global,
     input: I,

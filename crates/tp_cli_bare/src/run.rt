@@ -40,11 +40,12 @@ fn journaled<N: Logs, I: Source + Drop, O: Sink>(
     }
 }
 
-/// Answers the commands of the input, and writes their journal to the file of a name: the head, and then for each line that has an
-/// answer its pair, which is in the file before the answer goes out. Answers the exit status, and for another than 0 writes one fault
-/// line. It costs what the commands cost, and writes each answer twice. A pair is four writes of the file; a report and a
-/// conflict take one more for each moment or edge and one for the line's end, and the pair of a line that is no command is one
-/// write.
+/// Answers the commands of the input, and writes their journal to the file of a name: the head, and
+/// then for each line that has an answer its pair, which is in the file before the answer goes out.
+/// Answers the exit status, and for another than 0 writes one fault line. It costs what the
+/// commands cost, and writes each answer twice. A pair is four writes of the file; a report and a
+/// conflict take one more for each moment or edge and one for the line's end, and the pair of a
+/// line that is no command is one write.
 pub fn run_bare_journal<N: Logs, I: Source + Drop, O: Sink, F: Sink>(
     alloc: Global,
     files: &mut N,
@@ -59,11 +60,13 @@ pub fn run_bare_journal<N: Logs, I: Source + Drop, O: Sink, F: Sink>(
         LogsPart (I.left input) (O.held output.old) (O.held output.new) N.blank (N.kept files.new) }
     ensures refused { result ≡ REFUSED → IsRefused (I.left input) }
 
-    // Just one file is asked for. Where it is made, its name is the one that was asked for: so `ends` says it of each fault.
+    // Just one file is asked for. Where it is made, its name is the one that was asked for: so
+    // `ends` says it of each fault.
     ensures asked { N.asked files.new ≡ option_map suc (N.asked files.old) }
     ensures named { result ≡ 0 → IfSome (N.named files.new) (λ n. n ≡ name.now) }
 
-    // No status says no, a write that failed is always told, and a fault line goes with each fault and with nothing else.
+    // No status says no, a write that failed is always told, and a fault line goes with each fault
+    // and with nothing else.
     ensures no { result ≢ 1 }
     ensures within { result ≤ 3 }
     ensures told { result ≢ OUT_OF_ORDER → O.failures output.new ≡ O.failures output.old }

@@ -28,9 +28,10 @@ fn judge(alloc: Global, task: &Task, plan: Plan) -> Result<Judgement, JudgeFault
     }
 }
 
-/// Judges the plan that the words name. A file is opened only when what stands before it is done, and read once. The cost is that of
-/// reading the three texts, of writing out the ground actions that the plan names, and of validating it. The task is not freed: a call
-/// is made once in a run of the program, whose end frees all at once.
+/// Judges the plan that the words name. A file is opened only when what stands before it is done,
+/// and read once. The cost is that of reading the three texts, of writing out the ground actions
+/// that the plan names, and of validating it. The task is not freed: a call is made once in a run
+/// of the program, whose end frees all at once.
 ///
 /// # Errors
 /// A fault of a file, of its text, of the task, of memory or of the run of the plan.

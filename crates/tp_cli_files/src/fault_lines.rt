@@ -219,7 +219,8 @@ fn push_construct<F: Sink>(faults: &mut F, at: u32, what: &str) -> Result<(), Fa
     push_both(faults, b" ", what)
 }
 
-/// Writes the line of a fault, and answers the exit status. If the line can't be written, the status alone tells.
+/// Writes the line of a fault, and answers the exit status. If the line can't be written, the
+/// status alone tells.
 pub fn complain<F: Sink>(faults: &mut F, line: FaultLine<'_>) -> u8
     ensures status { result ≡ line.entry.status }
     ensures told { Tells (fault_text line.entry) (F.failures faults.old) (F.held faults.old)
@@ -231,7 +232,8 @@ pub fn complain<F: Sink>(faults: &mut F, line: FaultLine<'_>) -> u8
     line.status
 }
 
-/// Writes the line of a fault and a text behind it, and answers the exit status. If they can't be written, the status alone tells.
+/// Writes the line of a fault and a text behind it, and answers the exit status. If they can't be
+/// written, the status alone tells.
 pub fn complain_more<F: Sink>(faults: &mut F, line: FaultLine<'_>, more: &str) -> u8
     ensures status { result ≡ line.entry.status }
     ensures told { Tells (fault_text line.entry ++ more.now) (F.failures faults.old)

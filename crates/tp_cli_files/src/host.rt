@@ -1,16 +1,21 @@
 //! The files of the host, and the words of its call.
 
 ghost use Rattle.std.specs.Prelude.{◌≡◌, None, drop};
+ghost use Rattle.std.specs.Io.{ReadsAtMost};
 ghost use Rattle.tp_cli_files.specs.Calls.{call_status, call_text};
 ghost use Rattle.tp_cli_files.specs.FaultLines.{Tells, fault_text};
 
 use crate::fault_lines::{FaultLine, complain};
 use crate::files::Files;
-use std::alloc::{AllocError, AllocFailed};
+use std::alloc::{AllocError, AllocFailed, Global};
+use std::cell::RefCell;
 use std::io::{ErrorKind, Read};
 use std::rt::{Env, Files as HostFileSystem};
-use std::{env, fs};
+use std::{env, fs, io};
 use tp_device::{Failed, Sink, Source};
+
+/// The name of the standard input among those of files.
+pub const STANDARD_INPUT: &str = "-";
 
 /// A file of the host that is read. Behind 2^64 - 1 reads that failed there is nothing more in it.
 #[derive(Drop)]
@@ -49,27 +54,125 @@ impl<R: Read> Source for HostFile<R> {
     }
 }
 
-/// The files of the host, under their paths.
+/// The standard input as a file of a call. What the first that opens it reads is kept, as far as
+/// there is memory, so that it can be opened once more at its first byte.
 #[derive(Drop)]
-pub struct HostFiles<'r, R: HostFileSystem> {
-    rt: &'r R,
+pub struct StandardInput<I> {
+    reader: I,
+    kept: Vec<u8>,
+    opened: u8,
+    whole: bool,
 }
 
-impl<'r, R: HostFileSystem> HostFiles<'r, R> {
-    /// The files that the runtime reaches.
-    pub fn new(rt: &'r R) -> Self {
-        HostFiles { rt }
+impl<I: Read> StandardInput<I> {
+    /// What the reader has left.
+    pub fn new(alloc: Global, reader: I) -> Self {
+        StandardInput {
+            reader,
+            kept: Vec::new(alloc),
+            opened: 0,
+            whole: true,
+        }
+    }
+
+    /// Whether it can be opened, and then counts that.
+    fn open(&mut self) -> bool {
+        let may = self.opened == 0 || (self.opened == 1 && self.whole);
+        if may {
+            self.opened += 1;
+        }
+        may
+    }
+
+    /// Reads what stands behind the first `at` bytes.
+    fn read_from(&mut self, at: usize, buf: &mut [u8]) -> io::Result<usize>
+        ensures bound { ReadsAtMost result buf.new }
+    {
+        if at < self.kept.len() {
+            let mut behind = &self.kept[at..];
+            return behind.read(buf);
+        }
+        let count = self.reader.read(buf)?;
+        if self.opened == 1 && self.whole {
+            self.whole = self.kept.extend_from_slice(&buf[..count]).is_ok();
+        }
+        Ok(count)
     }
 }
 
-impl<R: HostFileSystem> Files for HostFiles<'_, R> {
-    type Input = HostFile<R::File>;
+/// The standard input, opened as a file: `at` of its kept bytes were read.
+#[derive(Drop)]
+pub struct OpenInput<'i, I> {
+    input: &'i RefCell<StandardInput<I>>,
+    at: usize,
+}
+
+impl<I: Read> Read for OpenInput<'_, I> {
+    fn read(&mut self, buf: &mut [u8]) -> io::Result<usize> {
+        let Ok(mut input) = self.input.try_borrow_mut() else {
+            return Err(io::Error::from(ErrorKind::WouldBlock));
+        };
+        let count = input.read_from(self.at, buf)?;
+        self.at = self.at.saturating_add(count);
+        Ok(count)
+    }
+}
+
+/// Where a file of a call is read from: under its path, or from the standard input.
+#[derive(Drop)]
+pub enum HostReader<'i, F, I> {
+    File(F),
+    Input(OpenInput<'i, I>),
+}
+
+impl<F: Read, I: Read> Read for HostReader<'_, F, I> {
+    fn read(&mut self, buf: &mut [u8]) -> io::Result<usize> {
+        match self {
+            HostReader::File(file) => file.read(buf),
+            HostReader::Input(input) => input.read(buf),
+        }
+    }
+}
+
+/// The files of the host, under their paths. The name `-` is that of the standard input.
+#[derive(Drop)]
+pub struct HostFiles<'r, 'i, R: HostFileSystem, I> {
+    rt: &'r R,
+    input: &'i RefCell<StandardInput<I>>,
+}
+
+impl<'r, 'i, R: HostFileSystem, I: Read> HostFiles<'r, 'i, R, I> {
+    /// The files that the runtime reaches, and the standard input.
+    pub fn new(rt: &'r R, input: &'i RefCell<StandardInput<I>>) -> Self {
+        HostFiles { rt, input }
+    }
+
+    /// Opens the standard input.
+    fn open_input(&self) -> Result<HostFile<HostReader<'i, R::File, I>>, Failed> {
+        let Ok(mut input) = self.input.try_borrow_mut() else {
+            return Err(Failed);
+        };
+        if !input.open() {
+            return Err(Failed);
+        }
+        Ok(HostFile::new(HostReader::Input(OpenInput {
+            input: self.input,
+            at: 0,
+        })))
+    }
+}
+
+impl<'i, R: HostFileSystem, I: Read> Files for HostFiles<'_, 'i, R, I> {
+    type Input = HostFile<HostReader<'i, R::File, I>>;
 
     ghost held = { λ _ _. None };
 
     fn open(&mut self, name: &str) -> Result<Self::Input, Failed> {
+        if name == STANDARD_INPUT {
+            return self.open_input();
+        }
         match fs::open(self.rt, name) {
-            Ok(reader) => Ok(HostFile::new(reader)),
+            Ok(reader) => Ok(HostFile::new(HostReader::File(reader))),
             Err(_) => Err(Failed),
         }
     }
@@ -124,7 +227,8 @@ fn call_fault(kind: ErrorKind) -> CallFault {
     }
 }
 
-/// The words after the program's name. What the host's call holds is not told. The cost grows with the bytes of the words.
+/// The words after the program's name. What the host's call holds is not told. The cost grows with
+/// the bytes of the words.
 pub fn words_of_call<R: Env + AllocGlobal>(rt: &R) -> Result<Vec<String>, CallFault> {
     let mut words = Vec::new(rt.alloc());
     match env::args(rt) {
@@ -149,7 +253,8 @@ fn line_of_call(why: CallFault) -> FaultLine<'static>
     }
 }
 
-/// Writes why the words were not taken. Answers the exit status: 2 where one of them is no text, and 3 where memory was refused.
+/// Writes why the words were not taken. Answers the exit status: 2 where one of them is no text,
+/// and 3 where memory was refused.
 pub fn refuse_call<F: Sink>(why: CallFault, faults: &mut F) -> u8
     ensures status { result ≡ call_status why }
     ensures told { Tells (call_text why) (F.failures faults.old) (F.held faults.old)

@@ -8,8 +8,9 @@ use std::io::Write;
 use std::rt::Files as HostFileSystem;
 use tp_device::{Failed, Sink};
 
-/// A file of the host that is written. Each push is a write of the host's, and none is kept back. What the file holds is not
-/// told. A write that fails, or takes none of some bytes, counts as a failure; behind 2^64 - 1 of them no more goes to the file.
+/// A file of the host that is written. Each push is a write of the host's, and none is kept back.
+/// What the file holds is not told. A write that fails, or takes none of some bytes, counts as a
+/// failure; behind 2^64 - 1 of them no more goes to the file.
 #[derive(Drop)]
 pub struct HostLog<W: Write> {
     writer: W,

@@ -9,7 +9,8 @@ pub trait Logs {
     /// A file that is written. It was made empty, and each of its pushes goes to the file at once.
     type Log: Sink + Drop;
 
-    /// How many files were asked for so far, where that is told. One that could not be made counts, too.
+    /// How many files were asked for so far, where that is told. One that could not be made counts,
+    /// too.
     ghost asked: { Self → Option ℕ };
 
     /// The name of the file that was made last, where that is told.

@@ -6,8 +6,9 @@ use std::io::Write;
 use std::sync::ledger::{Blank, Book, Ledger, Share};
 use tp_device::{Failed, Sink};
 
-/// A writer of std as a sink. Each error of the writer is a failure, also an interruption, and so is a call that takes none of some
-/// bytes. Its failures are counted in a ledger, which takes no bytes when the program runs.
+/// A writer of std as a sink. Each error of the writer is a failure, also an interruption, and so
+/// is a call that takes none of some bytes. Its failures are counted in a ledger, which takes no
+/// bytes when the program runs.
 #[derive(Drop)]
 pub struct Outlet<W: Write, L: Ledger> {
     writer: W,

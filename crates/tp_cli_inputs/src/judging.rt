@@ -196,7 +196,10 @@ fn plan_from<'a, N: Files>(
 }
 
 /// The same of a problem.
-fn plan_with<N: Files>(
+///
+/// # Errors
+/// The first fault of the task and the plan, and of the plan's file.
+pub fn plan_with<N: Files>(
     alloc: Global,
     files: &mut N,
     words: PlanWords<'_>,
@@ -241,11 +244,12 @@ fn plan_over<N: Files>(
     plan
 }
 
-/// The plan that the words name, with its task: the ground actions that its text names, of all type-correct bindings of the domain
-/// and the problem that the words name. A file is opened only when what stands before it is done, and read once. The cost is that of
-/// reading the three texts, and of writing out `:init`, the goal and the actions that are named: other bindings are not looked at.
-/// What the texts of the domain and the problem spell is not freed: a call is made once in a run of the program, whose end frees
-/// all at once.
+/// The plan that the words name, with its task: the ground actions that its text names, of all
+/// type-correct bindings of the domain and the problem that the words name. A file is opened only
+/// when what stands before it is done, and read once. The cost is that of reading the three texts,
+/// and of writing out `:init`, the goal and the actions that are named: other bindings are not
+/// looked at. What the texts of the domain and the problem spell is not freed: a call is made once
+/// in a run of the program, whose end frees all at once.
 ///
 /// # Errors
 /// The first fault of the domain, the problem, the task and the plan, and of their files.

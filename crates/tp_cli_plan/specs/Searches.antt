@@ -18,9 +18,9 @@ use Rattle.tp_cli_plan.specs.declared.search_words.Order.{Order}
 use Rattle.tp_cli_plan.specs.declared.search_words.Order.TheVariants.{Lacking, Guided}
 use Rattle.tp_cli_plan.specs.declared.search_words.SearchWords.{SearchWords}
 
--- plans are told of as they are found
+-- it is told how far the search is, or of plans as they are found
 abbrev pub tells_progress : Order → Bool
-tells_progress Lacking = false
+tells_progress (Lacking progress) = progress
 tells_progress (Guided wishes) = wishes.progress
 
 -- the same words as those of a plan in a file, though no file of a plan is opened

@@ -1,4 +1,5 @@
-//! The search for a plan of the problem in a file: the plan that was found, or the line that says why there is none.
+//! The search for a plan of the problem in a file: the plan that was found, or the line that says
+//! why there is none.
 //!
 //! - `search_words`: the names of the files, how time is measured, the budget and the order
 //! - `found_text`: the text of what a search came to

@@ -27,7 +27,7 @@ use tp_ground::{actions_are_readable, reached_actions_are_readable};
 use tp_ground_laws::{plans_of_some_are_plans, same_goal_is_in_reach, same_plans_are_valid};
 use tp_ground_named::chosen_actions_are_readable;
 use tp_happen::plans_are_read;
-use tp_search::{Found, SearchFault, search};
+use tp_search::{Found, SearchFault, search_with};
 use tp_solve::{Proposed, Wishes, propose_with, search_rest, solve_with};
 use tp_task::Task;
 use tp_validate::ValidPlan;
@@ -57,7 +57,14 @@ fn found_in<'t, B: Write>(
     ensures quiet { tells_progress words.entry.order ≡ false → board.new ≡ board.old }
 {
     match (words.order, spent) {
-        (Order::Lacking, _) => search(alloc, task, words.budget, words.horizon),
+        (Order::Lacking { progress }, _) => search_with(
+            alloc,
+            task,
+            words.budget,
+            words.horizon,
+            progress,
+            board,
+        ),
         (Order::Guided(_), Some(spent)) => {
             search_rest(alloc, task, words.budget, spent, words.horizon)
         }
@@ -67,7 +74,8 @@ fn found_in<'t, B: Write>(
     }
 }
 
-/// Searches for a plan of a task, and writes it, or why there is none. Answers whether there is one.
+/// Searches for a plan of a task, and writes it, or why there is none. Answers whether there is
+/// one.
 fn search_of<B: Write, O: Sink>(
     alloc: Global,
     words: SearchWords<'_>,
@@ -309,7 +317,7 @@ fn plan_of<B: Write, O: Sink>(
     ensures quiet { tells_progress words.entry.order ≡ false → board.new ≡ board.old }
 {
     match words.order {
-        Order::Lacking => plan_reached(alloc, words, inputs, None, board, output),
+        Order::Lacking { .. } => plan_reached(alloc, words, inputs, None, board, output),
         Order::Guided(wishes) => plan_guided(alloc, words, wishes, inputs, board, output),
     }
 }
@@ -341,9 +349,10 @@ fn plan<N: Files, B: Write, O: Sink>(
     }
 }
 
-/// Searches for a plan of the problem that the words name, with at most so many expansions as their budget, and writes it in the plan
-/// format; or the line `unreachable`, `exhausted` or `spent N` where none was found. Answers the exit status: 0 for a plan, 1 where
-/// none was found, and for another writes one fault line.
+/// Searches for a plan of the problem that the words name, with at most so many expansions as their
+/// budget, and writes it in the plan format; or the line `unreachable`, `exhausted` or `spent N`
+/// where none was found. Answers the exit status: 0 for a plan, 1 where none was found, and for
+/// another writes one fault line.
 ///
 /// The search is of the task that `ground_reached` makes: no more actions than its relaxed reach keeps. In the guided order the task
 /// that `ground_joined` makes is searched first, by the guided search alone; where that proposes no valid plan, the other order answers
@@ -368,8 +377,8 @@ pub fn run_plan<N: Files, B: Write, O: Sink, F: Sink>(
         (O.held output.old) (O.held output.new) (O.failures output.old) (O.failures output.new)
         (F.failures faults.old) (F.held faults.old) (F.failures faults.new) (F.held faults.new) }
 
-    // Nothing is written for input that is refused, and of a true answer at most a first part where memory or a device is
-    // wanting; a write that failed is always told.
+    // Nothing is written for input that is refused, and of a true answer at most a first part where
+    // memory or a device is wanting; a write that failed is always told.
     ensures kept { result ≡ REFUSED → O.held output.new ≡ O.held output.old }
     ensures part { result ≡ OUT_OF_ORDER
         → SearchesPart (N.held files.old) words.entry (O.held output.old) (O.held output.new) }

@@ -9,14 +9,14 @@ use tp_text::Scale;
 /// In which order a search takes its nodes.
 #[derive(Clone, Copy, Debug, PartialEq, Eq)]
 pub enum Order {
-    /// By the count of goal conjuncts that they lack.
-    Lacking,
+    /// By the count of goal conjuncts that they lack, and whether it is told how far it is.
+    Lacking { progress: bool },
     /// By relaxed plans, and what is wished for beside a plan.
     Guided(Wishes),
 }
 
-/// The files of a domain and a problem, the ticks of a unit of time, the tick that no step may end past, how many nodes may be
-/// expanded, and in which order.
+/// The files of a domain and a problem, the ticks of a unit of time, the tick that no step may end
+/// past, how many nodes may be expanded, and in which order.
 #[derive(Clone, Copy)]
 pub struct SearchWords<'w> {
     pub domain: &'w str,
@@ -30,7 +30,8 @@ pub struct SearchWords<'w> {
 impl<'w> SearchWords<'w> {
     ghost use Rattle.tp_cli_plan.specs.Searches.{task_words};
 
-    /// The words of the task, as those that name a plan have them. There is no file of a plan; the problem's stands for it.
+    /// The words of the task, as those that name a plan have them. There is no file of a plan; the
+    /// problem's stands for it.
     pub(crate) fn task_words(self) -> PlanWords<'w>
         ensures { result ≡ task_words self.entry }
     {

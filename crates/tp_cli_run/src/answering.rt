@@ -47,8 +47,8 @@ fn answer_lines<I: Source, O: Sink>(
     }
 }
 
-/// Reads the lags at the beginning of the input, answers the commands behind them on the network of a plan, and hands the executive
-/// on.
+/// Reads the lags at the beginning of the input, answers the commands behind them on the network of
+/// a plan, and hands the executive on.
 pub(crate) fn answer<I: Source + Drop, O: Sink>(
     alloc: Global,
     input: I,

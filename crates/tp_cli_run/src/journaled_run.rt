@@ -34,7 +34,8 @@ use tp_repair::RepairNet;
 use tp_task::Task;
 use tp_validate::{ValidPlan, Verdict};
 
-/// Answers the commands of the input on the network of a plan, with their journal in the file of a name.
+/// Answers the commands of the input on the network of a plan, with their journal in the file of a
+/// name.
 fn journaled<L: Logs, I: Source + Drop, O: Sink>(
     alloc: Global,
     logs: &mut L,
@@ -77,8 +78,8 @@ fn of_telling(told: Result<bool, RunStop>) -> Result<bool, RunJournalStop>
     }
 }
 
-/// Answers the commands of the input on the network of a plan, with their journal in the file of a name, and writes the plan of the
-/// run. Answers whether there is one.
+/// Answers the commands of the input on the network of a plan, with their journal in the file of a
+/// name, and writes the plan of the run. Answers whether there is one.
 fn run_on<L: Logs, I: Source + Drop, O: Sink>(
     alloc: Global,
     logs: &mut L,
@@ -195,7 +196,8 @@ fn run_of<L: Logs, I: Source + Drop, O: Sink>(
     }
 }
 
-/// The same with the files read. A file is opened, and the journal file made, only when what stands before it is done.
+/// The same with the files read. A file is opened, and the journal file made, only when what stands
+/// before it is done.
 fn run<N: Files, L: Logs, I: Source + Drop, O: Sink>(
     alloc: Global,
     files: &mut N,
@@ -225,11 +227,13 @@ fn run<N: Files, L: Logs, I: Source + Drop, O: Sink>(
     }
 }
 
-/// Runs the plan that the words name, with its journal in the file of a name: answers the commands of the input on its network, writes
-/// the head and for each line that has an answer its pair to the file, which holds the pair before the answer goes out, and writes the
-/// plan of the run behind the answers. Answers the exit status: 0 where that plan was written; 1 where there is none, or the plan that
-/// the words name is not valid, and its first fault was written; and for another writes one fault line. The file is made once the plan
-/// has its network. The cost is that of `run_run`, and each answer is written twice.
+/// Runs the plan that the words name, with its journal in the file of a name: answers the commands
+/// of the input on its network, writes the head and for each line that has an answer its pair to
+/// the file, which holds the pair before the answer goes out, and writes the plan of the run behind
+/// the answers. Answers the exit status: 0 where that plan was written; 1 where there is none, or
+/// the plan that the words name is not valid, and its first fault was written; and for another
+/// writes one fault line. The file is made once the plan has its network. The cost is that of
+/// `run_run`, and each answer is written twice.
 pub fn run_run_journal<N: Files, L: Logs, I: Source + Drop, O: Sink, F: Sink>(
     alloc: Global,
     files: &mut N,
@@ -258,8 +262,9 @@ pub fn run_run_journal<N: Files, L: Logs, I: Source + Drop, O: Sink, F: Sink>(
         (O.failures output.old) (O.failures output.new)
         (F.failures faults.old) (F.held faults.old) (F.failures faults.new) (F.held faults.new) }
 
-    // For input that is refused nothing is written to the output, unless it is refused for its length alone; where memory or a device
-    // is wanting, a first part of what is to be written is; a write that failed is always told.
+    // For input that is refused nothing is written to the output, unless it is refused for its
+    // length alone; where memory or a device is wanting, a first part of what is to be written is;
+    // a write that failed is always told.
     ensures kept { result ≡ REFUSED → (O.held output.new ≡ O.held output.old)
         ⊎ IsLong (I.left input) }
     ensures part { result ≡ OUT_OF_ORDER → RunsPart (N.held files.old) words.entry (I.left input)

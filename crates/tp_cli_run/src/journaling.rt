@@ -19,7 +19,8 @@ use tp_journal_pairs::journal;
 use tp_repair::RepairNet;
 use tp_script::{LONGEST_LINE, Lines};
 
-/// Answers the commands of the lines behind the lags, writes their journal to the log, and hands the executive on.
+/// Answers the commands of the lines behind the lags, writes their journal to the log, and hands
+/// the executive on.
 fn log_lines<I: Source, O: Sink, L: Sink>(
     alloc: Global,
     lines: &mut Lines<I>,
@@ -48,8 +49,8 @@ fn log_lines<I: Source, O: Sink, L: Sink>(
     }
 }
 
-/// Reads the lags at the beginning of the input, answers the commands behind them on the network of a plan, writes their journal to
-/// the log, and hands the executive on.
+/// Reads the lags at the beginning of the input, answers the commands behind them on the network of
+/// a plan, writes their journal to the log, and hands the executive on.
 pub(crate) fn log_run<I: Source + Drop, O: Sink, L: Sink>(
     alloc: Global,
     input: I,

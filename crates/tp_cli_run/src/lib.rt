@@ -1,5 +1,5 @@
-//! `run`: the network of a valid plan takes the commands of a reader, and the plan of the run is written after the answers;
-//! without and with a journal.
+//! `run`: the network of a valid plan takes the commands of a reader, and the plan of the run is
+//! written after the answers; without and with a journal.
 //!
 //! - `starting`: the executive over a plan's network, with the lags of its events
 //! - `answering`: the answers to all commands of a reader

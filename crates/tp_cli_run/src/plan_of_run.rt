@@ -29,8 +29,8 @@ fn write_lines<O: Sink>(run: &Plan, task: &Task, output: &mut O) -> Result<(), F
     print_plan(run, task, output)
 }
 
-/// Writes the plan of a run, if there is one, behind the line `plan`. Answers whether there is. It costs one look at each event and
-/// each step.
+/// Writes the plan of a run, if there is one, behind the line `plan`. Answers whether there is. It
+/// costs one look at each event and each step.
 ///
 /// # Errors
 /// `Answering(Network)` where memory is wanting; `Write` where the writer fails.

@@ -24,7 +24,8 @@ use tp_happen::Plan;
 use tp_task::Task;
 use tp_validate::{ValidPlan, Verdict};
 
-/// Answers the commands of the input on the network of a plan, and writes the plan of the run. Answers whether there is one.
+/// Answers the commands of the input on the network of a plan, and writes the plan of the run.
+/// Answers whether there is one.
 fn run_on<I: Source + Drop, O: Sink>(
     alloc: Global,
     plan: &ValidPlan<'_>,
@@ -140,9 +141,10 @@ fn run<N: Files, I: Source + Drop, O: Sink>(
     }
 }
 
-/// Runs the plan that the words name: answers the commands of the input on its network, and writes the plan of the run behind the
-/// answers. Answers the exit status: 0 where that plan was written; 1 where there is none, or the plan that the words name is not
-/// valid, and its first fault was written; and for another writes one fault line. The cost is that of `check` and of the network,
+/// Runs the plan that the words name: answers the commands of the input on its network, and writes
+/// the plan of the run behind the answers. Answers the exit status: 0 where that plan was written;
+/// 1 where there is none, or the plan that the words name is not valid, and its first fault was
+/// written; and for another writes one fault line. The cost is that of `check` and of the network,
 /// and then of the executive for each command.
 pub fn run_run<N: Files, I: Source + Drop, O: Sink, F: Sink>(
     alloc: Global,
@@ -163,8 +165,9 @@ pub fn run_run<N: Files, I: Source + Drop, O: Sink, F: Sink>(
         (O.held output.old) (O.held output.new) (O.failures output.old) (O.failures output.new)
         (F.failures faults.old) (F.held faults.old) (F.failures faults.new) (F.held faults.new) }
 
-    // For input that is refused nothing is written, unless it is refused for its length alone; where memory or a device is wanting, a
-    // first part of what is to be written is; a write that failed is always told.
+    // For input that is refused nothing is written, unless it is refused for its length alone;
+    // where memory or a device is wanting, a first part of what is to be written is; a write that
+    // failed is always told.
     ensures kept { result ≡ REFUSED → (O.held output.new ≡ O.held output.old)
         ⊎ IsLong (I.left input) }
     ensures part { result ≡ OUT_OF_ORDER → RunsPart (N.held files.old) words.entry (I.left input)

@@ -16,7 +16,8 @@ pub enum RunStop {
     Judging(JudgeFault),
     /// The plan has no network.
     Network(DeorderFault),
-    /// The commands were not answered to their end, or there was no memory for the network or for the plan of the run.
+    /// The commands were not answered to their end, or there was no memory for the network or for
+    /// the plan of the run.
     Answering(BareFault),
     /// The line of a plan that is not valid, or the plan of the run, can't be written.
     Write,

@@ -19,7 +19,8 @@ use tp_exec_machine::Executive;
 use tp_repair::RepairNet;
 use tp_script::{Lines, read_lags};
 
-/// An executive over a network that is new but for lags, in which the bounds of a plan come into force.
+/// An executive over a network that is new but for lags, in which the bounds of a plan come into
+/// force.
 fn over(
     alloc: Global,
     network: &PlanNet,
@@ -37,8 +38,9 @@ fn over(
     Executive::from_plan(alloc, network, Limits::greatest(network.horizon), net)
 }
 
-/// Reads the lags that stand at the beginning of a run, and makes the executive over the network of its plan, under the greatest
-/// limits. It costs one addition to the network for each bound of the plan.
+/// Reads the lags that stand at the beginning of a run, and makes the executive over the network of
+/// its plan, under the greatest limits. It costs one addition to the network for each bound of the
+/// plan.
 ///
 /// # Errors
 /// `Network` where memory is wanting; `Serving` with `Read` or `Head` of the lags.

@@ -17,7 +17,8 @@ pub enum RunJournalStop {
     Judging(JudgeFault),
     /// The plan has no network.
     Network(DeorderFault),
-    /// The journal file can't be made, or the commands were not answered to their end with their journal.
+    /// The journal file can't be made, or the commands were not answered to their end with their
+    /// journal.
     Journal(JournalStop),
     /// There is no memory for the plan of the run.
     Telling,

@@ -17,7 +17,8 @@ fn put_interval(text: &mut String, e: usize, interval: Option<(u32, u32)>) -> Re
     }
 }
 
-/// The line `interval E LO HI` for each event that has an interval, by rising number: LO and HI are its first and its last tick.
+/// The line `interval E LO HI` for each event that has an interval, by rising number: LO and HI are
+/// its first and its last tick.
 ///
 /// # Errors
 /// Where memory is wanting.

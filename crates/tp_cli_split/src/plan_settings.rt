@@ -8,8 +8,8 @@ use tp_bounds::{Limits, PlanNet, Setting};
 use tp_exec_machine::Executive;
 use tp_repair::RepairNet;
 
-/// The setting in which nothing has happened and the bounds of a plan's network are in force. It costs one addition to a network
-/// for each.
+/// The setting in which nothing has happened and the bounds of a plan's network are in force. It
+/// costs one addition to a network for each.
 pub(crate) fn plan_setting(alloc: Global, network: &PlanNet) -> Result<Setting, AllocError>
     requires { length network.now.bounds.items ≤ 65535 }
     ensures { IfOk result (λ setting. setting ≡ net_setting network.now) }

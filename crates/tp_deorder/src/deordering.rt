@@ -26,7 +26,8 @@ use tp_happen::Step;
 use tp_task::Task;
 use tp_validate::{PlacedEvent, PlannedStep, ValidPlan, agenda_of, placed_events, planned_steps};
 
-/// The bounds of steps that may take these numbers of ticks. TooMany where they are more than `most`.
+/// The bounds of steps that may take these numbers of ticks. TooMany where they are more than
+/// `most`.
 fn note_all(
     alloc: Global,
     events: &[PlacedEvent<'_>],
@@ -176,15 +177,17 @@ fn net_within(
     })
 }
 
-/// The network of a validated plan: its schedules are exactly the assignments that meet the bounds of the plan, and the plan
-/// of a run at each of them is valid. TooMany exactly where the plan has more events than the limits allow, ends past
-/// their horizon, or its network has more bounds than they allow.
+/// The network of a validated plan: its schedules are exactly the assignments that meet the bounds
+/// of the plan, and the plan of a run at each of them is valid. TooMany exactly where the plan has
+/// more events than the limits allow, ends past their horizon, or its network has more bounds than
+/// they allow.
 ///
-/// It compares each two events by their footprints, and each event with the invariant of each durative step: a step for each
-/// atom and fluent that one of them changes. It leaves out the order of two events where one between them interferes with both,
-/// since it follows from two others: for each pair in order it looks through the later events up to one that stands between, at
-/// most the cube of the events in looks at a table. Which bounds express the schedules is this function's own choice, the same
-/// for a plan whenever it is asked.
+/// It compares each two events by their footprints, and each event with the invariant of each
+/// durative step: a step for each atom and fluent that one of them changes. It leaves out the order
+/// of two events where one between them interferes with both, since it follows from two others: for
+/// each pair in order it looks through the later events up to one that stands between, at most the
+/// cube of the events in looks at a table. Which bounds express the schedules is this function's
+/// own choice, the same for a plan whenever it is asked.
 pub fn deorder(
     alloc: Global,
     plan: &ValidPlan<'_>,

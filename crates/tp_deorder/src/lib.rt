@@ -46,7 +46,8 @@ pub use tp_happen;
 pub use tp_task;
 pub use tp_validate;
 
-/// What keeps a plan from having a network: out of memory, or too many events, ticks or bounds for the limits.
+/// What keeps a plan from having a network: out of memory, or too many events, ticks or bounds for
+/// the limits.
 #[derive(Clone, Copy, Debug, PartialEq, Eq, Error)]
 pub enum DeorderFault {
     #[error("out of memory")]
@@ -66,8 +67,8 @@ impl From<AllocError> for DeorderFault {
     }
 }
 
-/// The schedules of the list of a plan's bounds are exactly the assignments from 0 to the horizon that meet the bounds
-/// of the plan.
+/// The schedules of the list of a plan's bounds are exactly the assignments from 0 to the horizon
+/// that meet the bounds of the plan.
 pub fn bounds_are_listed()
     ensures { (horizon scale : ℕ) (trace : ℕ → State) (plan : List Planned) (t : ℕ → ℕ)
         → (IsSchedule
@@ -81,7 +82,8 @@ pub fn runs_are_retimed()
         → plan_of task (run_steps task t steps) ≡ retimed t (plan_of task steps) }
 {}
 
-/// A plan has one network within the same limits: the same events, and the same bounds under the same numbers.
+/// A plan has one network within the same limits: the same events, and the same bounds under the
+/// same numbers.
 pub fn networks_agree()
     ensures { (task : Task) (steps : List Step) (limits : RunLimits) (m n : PlanNet)
         → IsPlanNetOf task steps limits m → IsPlanNetOf task steps limits n

@@ -1,11 +1,13 @@
-//! What is kept where a problem's task has only some of its ground actions: the network of a plan, its schedules and its runs.
+//! What is kept where a problem's task has only some of its ground actions: the network of a plan,
+//! its schedules and its runs.
 #![tactic(auto)]
 
 ghost use Rattle.tp_deorder_laws.specs.SameNetworks.{PlansHaveSameNetworks};
 
-/// The same steps, their actions taken by name and objects, have the same network for any two tasks of a problem that have their
-/// actions: the same events as text, the same bounds one after another, so the same schedules, and the same runs. So the network of a
-/// plan on the task of the ground actions that the plan names is that on the task of all.
+/// The same steps, their actions taken by name and objects, have the same network for any two tasks
+/// of a problem that have their actions: the same events as text, the same bounds one after
+/// another, so the same schedules, and the same runs. So the network of a plan on the task of the
+/// ground actions that the plan names is that on the task of all.
 pub fn plans_have_same_networks()
     ensures { PlansHaveSameNetworks }
 {}

@@ -46,8 +46,9 @@ impl<R: Read, L: Ledger> Source for FromRead<R, L> {
     }
 }
 
-/// A writer of std as a sink. Each error of the writer is a failure, also an interruption, and so is a call that takes none of
-/// some bytes. It keeps nothing back: what a push took was handed to the writer.
+/// A writer of std as a sink. Each error of the writer is a failure, also an interruption, and so
+/// is a call that takes none of some bytes. It keeps nothing back: what a push took was handed to
+/// the writer.
 #[derive(Drop)]
 pub struct ToWrite<W: Write, L: Ledger> {
     writer: W,

@@ -57,8 +57,8 @@ fn moment_of(moments: &[u32], event: usize) -> u32
     }
 }
 
-/// Adds a step at the moment of its first event, as long as to its last one, and tells the number of the next step's first
-/// event.
+/// Adds a step at the moment of its first event, as long as to its last one, and tells the number
+/// of the next step's first event.
 fn put_moved(
     moved: &mut Vec<Step>,
     task: &Task,
@@ -131,9 +131,10 @@ fn plan_at<N: Net>(alloc: Global, net: &N, plan: &ValidPlan<'_>) -> Result<Optio
     Ok(Some(Plan::new(steps)))
 }
 
-/// The plan of the run, where the network came from a validated plan: that plan's steps, each at the moment of its first
-/// event and as long as to its last one. It is valid, and so it reaches the goal. There is none until every event is
-/// dispatched, and none once a bound of the plan was withdrawn.
+/// The plan of the run, where the network came from a validated plan: that plan's steps, each at
+/// the moment of its first event and as long as to its last one. It is valid, and so it reaches the
+/// goal. There is none until every event is dispatched, and none once a bound of the plan was
+/// withdrawn.
 ///
 /// It costs one look at each event and each step.
 pub fn run_plan<N: Net>(
@@ -171,8 +172,9 @@ pub fn runs_keep_the_plan()
         → CameFrom t steps old → Run old commands answers new → CameFrom t steps new }
 {}
 
-/// Every completed run of a network that was built from a validated plan, none of its own bounds withdrawn, is a valid plan,
-/// which reaches the goal: after any list of commands, where all events are dispatched and the kind is `Kept`.
+/// Every completed run of a network that was built from a validated plan, none of its own bounds
+/// withdrawn, is a valid plan, which reaches the goal: after any list of commands, where all events
+/// are dispatched and the kind is `Kept`.
 pub fn completed_runs_are_valid_plans()
     ensures { (t : Task) (steps : List Step) (l limits : RunLimits) (n : PlanNet)
         (s : Setting) (commands : List Command) (answers : List Answer) (new : Machine)

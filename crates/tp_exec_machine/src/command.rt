@@ -40,7 +40,8 @@ pub struct Report {
     pub now: u32,
     /// Where the bounds come from.
     pub kind: Kind,
-    /// For each event its moment, dispatched or that of the pointwise least schedule, and whether it is dispatched.
+    /// For each event its moment, dispatched or that of the pointwise least schedule, and whether
+    /// it is dispatched.
     pub moments: Vec<(u32, bool)>,
     /// Whether every event is dispatched.
     pub done: bool,

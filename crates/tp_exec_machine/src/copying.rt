@@ -9,7 +9,8 @@ use std::alloc::AllocError;
 use tp_bounds::{BoundId, Setting};
 use tp_net::Net;
 
-/// Puts the network's bounds in force, each under its identifier. No identifier from `next` on is in force.
+/// Puts the network's bounds in force, each under its identifier. No identifier from `next` on is
+/// in force.
 pub(crate) fn copy_bounds<N: Net>(
     net: &N,
     next: u32,
@@ -44,8 +45,8 @@ pub(crate) fn copy_lags<N: Net>(net: &N, setting: &mut Setting)
     }
 }
 
-/// Dispatches the events that the network has dispatched, each at its moment. In the setting it is still 0, so that no
-/// moment lies before its floor.
+/// Dispatches the events that the network has dispatched, each at its moment. In the setting it is
+/// still 0, so that no moment lies before its floor.
 pub(crate) fn copy_past<N: Net>(net: &N, setting: &mut Setting)
     requires lawful { IsLawful (N.seen net.now) }
     requires start { setting.old.clock ≡ 0 }

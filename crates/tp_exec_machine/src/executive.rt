@@ -56,7 +56,8 @@ impl<N: Net> Model for Executive<N> {
 }
 
 impl<N: Net> Executive<N> {
-    /// An executive over a network that is new but for lags, whose bounds are all still to be added. It takes no memory.
+    /// An executive over a network that is new but for lags, whose bounds are all still to be
+    /// added. It takes no memory.
     pub fn bare(alloc: Global, limits: Limits, net: N) -> Executive<N>
         requires between { N.takes_between ≡ true }
         requires fresh { IsFresh (N.seen net) }
@@ -159,7 +160,8 @@ impl<N: Net> Executive<N> {
         }
     }
 
-    /// Takes a bound out of force. A network that keeps a plan's bounds is altered for good once one of them is withdrawn.
+    /// Takes a bound out of force. A network that keeps a plan's bounds is altered for good once
+    /// one of them is withdrawn.
     pub fn withdraw(&mut self, id: BoundId) -> Result<(), Refusal>
         ensures { Step self.old (Withdraw id) (answer_of (λ _. Accepted) result) self.new }
     {
@@ -172,8 +174,9 @@ impl<N: Net> Executive<N> {
         Ok(())
     }
 
-    /// The least and the greatest moment of an event, in ticks. The event happens at a moment in some remaining schedule
-    /// exactly if that moment is not before the one and not after the other. It takes no memory.
+    /// The least and the greatest moment of an event, in ticks. The event happens at a moment in
+    /// some remaining schedule exactly if that moment is not before the one and not after the
+    /// other. It takes no memory.
     pub fn window(&self, e: u16) -> Result<(u32, u32), Refusal>
         ensures step { Step self.now (Window e) (answer_of (λ w. Told w.0 w.1) result) self.now }
         ensures exact { IfOk result
@@ -201,8 +204,8 @@ impl<N: Net> Executive<N> {
         }
     }
 
-    /// An event happened, as was observed, at a moment from its floor to now. From then on it counts as dispatched at that
-    /// moment.
+    /// An event happened, as was observed, at a moment from its floor to now. From then on it
+    /// counts as dispatched at that moment.
     pub fn happened(&mut self, e: u16, moment: u32) -> Result<(), Refusal>
         ensures { Step self.old (Happened e moment) (answer_of (λ _. Accepted) result) self.new }
     {
@@ -248,7 +251,8 @@ impl<N: Net> Executive<N> {
         })
     }
 
-    /// A copy of the setting: the events, the horizon, the lags, the bounds in force, what was dispatched, and now.
+    /// A copy of the setting: the events, the horizon, the lags, the bounds in force, what was
+    /// dispatched, and now.
     pub fn setting(&self) -> Result<Setting, AllocError>
         ensures { IfOk result (λ setting. setting ≡ self.now.setting) }
     {
@@ -262,8 +266,9 @@ impl<N: Net> Executive<N> {
 }
 
 impl<N: Net + Drop> Executive<N> {
-    /// An executive over a network that is new but for lags, in which the bounds of a plan come into force, under identifiers
-    /// from 0 on. Some schedule always remains, so memory alone can be wanting, and then the network is dropped.
+    /// An executive over a network that is new but for lags, in which the bounds of a plan come
+    /// into force, under identifiers from 0 on. Some schedule always remains, so memory alone can
+    /// be wanting, and then the network is dropped.
     ///
     /// It costs one `add` of the network for each bound.
     pub fn from_plan(

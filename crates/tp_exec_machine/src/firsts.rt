@@ -1,11 +1,13 @@
-//! Which of many bounds come into force first: those that hold the least and the greatest moments in the end, from the origin on. Each
-//! of them moves few points, and behind them no other bound moves any. It is a guess, of which nothing is promised: in whatever order
-//! the bounds come, all of them are in force in the end.
+//! Which of many bounds come into force first: those that hold the least and the greatest moments
+//! in the end, from the origin on. Each of them moves few points, and behind them no other bound
+//! moves any. It is a guess, of which nothing is promised: in whatever order the bounds come, all
+//! of them are in force in the end.
 
 use std::alloc::{AllocError, Global};
 use tp_bounds::{Bound, Point};
 
-// That one point has a moment asks another one to come so many ticks behind it, or before it where ticks are counted backwards.
+// That one point has a moment asks another one to come so many ticks behind it, or before it where
+// ticks are counted backwards.
 #[derive(Clone, Copy)]
 struct Arrow {
     source: usize,
@@ -21,7 +23,8 @@ fn number_of(point: Point) -> usize {
     }
 }
 
-// What a bound asks for upwards, of least moments, or downwards, of greatest ones, which are counted below 0.
+// What a bound asks for upwards, of least moments, or downwards, of greatest ones, which are
+// counted below 0.
 fn arrow_of(bound: &Bound, upwards: bool) -> Arrow {
     let from = number_of(bound.from);
     let to = number_of(bound.to);
@@ -104,7 +107,8 @@ fn settles(moments: &[i64], settled: &[bool], arrow: Arrow) -> bool {
         && moments.get(arrow.target).copied() == Some(asked(moments, arrow))
 }
 
-// Settles what bounds hold by points that are settled, and puts their places at the end of a list. Tells whether there were some.
+// Settles what bounds hold by points that are settled, and puts their places at the end of a list.
+// Tells whether there were some.
 fn settle_once(
     bounds: &[Bound],
     upwards: bool,
@@ -146,8 +150,9 @@ fn put_holding(
     Ok(())
 }
 
-/// The places of the bounds that come into force first, where they are between so many events, up to that horizon. It goes over the
-/// bounds once for each point at most, four times in all. Nothing is promised of what it tells.
+/// The places of the bounds that come into force first, where they are between so many events, up
+/// to that horizon. It goes over the bounds once for each point at most, four times in all. Nothing
+/// is promised of what it tells.
 pub fn foremost(
     alloc: Global,
     bounds: &[Bound],

@@ -1,5 +1,5 @@
-//! An executive: a network that takes commands, as one machine. Each of its calls is one step of that machine
-//! (`specs/Step.antt`), and a list of commands is a run of it (`specs/Run.antt`).
+//! An executive: a network that takes commands, as one machine. Each of its calls is one step of
+//! that machine (`specs/Step.antt`), and a list of commands is a run of it (`specs/Run.antt`).
 //!
 //! - `command`: what an executive is asked, and what it answers.
 //! - `refusal`: why a command changes nothing.

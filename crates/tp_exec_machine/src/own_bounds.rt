@@ -32,7 +32,8 @@ fn bring<N: Net>(net: &mut N, id: BoundId, bound: Bound) -> Result<(), AllocErro
     }
 }
 
-/// Brings the bound at a place of a plan's network into force, if there is one that is not in force yet.
+/// Brings the bound at a place of a plan's network into force, if there is one that is not in force
+/// yet.
 fn bring_at<N: Net>(net: &mut N, network: &PlanNet, place: u32) -> Result<(), AllocError>
     requires between { N.takes_between ≡ true }
     requires begun { (s : Setting) × IsFresh s
@@ -50,9 +51,9 @@ fn bring_at<N: Net>(net: &mut N, network: &PlanNet, place: u32) -> Result<(), Al
     bring(net, BoundId(place), *bound)
 }
 
-/// Brings the bounds of a plan's network into force, under identifiers from 0 on, and tells how many they are: at most so
-/// many as there are identifiers. Those come first that hold moments in the end, since a bound that moves points behind others is
-/// looked at with all that these join.
+/// Brings the bounds of a plan's network into force, under identifiers from 0 on, and tells how
+/// many they are: at most so many as there are identifiers. Those come first that hold moments in
+/// the end, since a bound that moves points behind others is looked at with all that these join.
 pub(crate) fn bring_own<N: Net>(
     alloc: Global,
     net: &mut N,

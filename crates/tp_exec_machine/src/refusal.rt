@@ -54,7 +54,8 @@ impl From<AllocError> for Refusal {
     }
 }
 
-/// What a network's fault becomes. A network that takes bounds between events never says that it can't hold one.
+/// What a network's fault becomes. A network that takes bounds between events never says that it
+/// can't hold one.
 pub(crate) fn refused_by(fault: NetFault) -> Refusal
     requires { ¬ SaysBetween (Err fault) }
     ensures { result ≡ refusal_of fault }

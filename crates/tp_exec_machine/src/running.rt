@@ -48,7 +48,8 @@ pub fn perform<N: Net>(executive: &mut Executive<N>, command: Command) -> Answer
     }
 }
 
-/// Carries commands out, one after another. Where there is no memory for their answers, none of them is carried out.
+/// Carries commands out, one after another. Where there is no memory for their answers, none of
+/// them is carried out.
 pub fn perform_all<N: Net>(
     alloc: Global,
     executive: &mut Executive<N>,
@@ -65,9 +66,9 @@ pub fn perform_all<N: Net>(
     Ok(answers)
 }
 
-/// What a run tells is true. Each window told holds exactly the moments at which the event happens in some schedule that
-/// remains just then; and a well-formed command is answered Conflict exactly if no schedule would remain, where there is
-/// memory.
+/// What a run tells is true. Each window told holds exactly the moments at which the event happens
+/// in some schedule that remains just then; and a well-formed command is answered Conflict exactly
+/// if no schedule would remain, where there is memory.
 pub fn runs_tell_the_truth()
     ensures { (old new : Machine) (commands : List Command) (answers : List Answer)
         → Run old commands answers new → RunTellsTruth old commands answers new }

@@ -16,11 +16,8 @@ use std::alloc::Global;
 use tp_bounds::Limits;
 use tp_ground_actions::grounding::actions_fit;
 use tp_ground_actions::numbers::has_great_number;
-use tp_ground_bindings::noting::universe_of;
-use tp_ground_bindings::universe::Universe;
-use tp_syntax_ast::domain::Domain;
-use tp_syntax_ast::problem::Problem;
-use tp_syntax_ast::symbols::Typed;
+use tp_ground_bindings::{Universe, universe_of};
+use tp_syntax_ast::{Domain, Problem, Typed};
 use tp_task::{GroundFault, Task, TooManyKind};
 use tp_text::Scale;
 
@@ -121,9 +118,10 @@ fn within<'a>(
     task_with(alloc, &universe, domain, problem, &all, limits, scale)
 }
 
-/// The task of a problem of a domain: its actions written out over its objects, atoms and fluents numbered in the order in
-/// which `:init`, the goal and the ground actions mention them. Takes time and memory in what is written out: a step for each
-/// variable of each binding and for each part of what stands under it.
+/// The task of a problem of a domain: its actions written out over its objects, atoms and fluents
+/// numbered in the order in which `:init`, the goal and the ground actions mention them. Takes time
+/// and memory in what is written out: a step for each variable of each binding and for each part of
+/// what stands under it.
 pub fn ground(
     alloc: Global,
     domain: &Domain,

@@ -1,4 +1,5 @@
-//! Actions with the objects that their parameters stand for: all of them, some of them, and what is written out of them.
+//! Actions with the objects that their parameters stand for: all of them, some of them, and what is
+//! written out of them.
 
 ghost use Rattle.std.specs.Prelude.{◌≡◌, ◌++◌, ◌∷◌, Bool, map, filter, length, IfOk, OnOk};
 ghost use Rattle.tp_syntax_ast.specs.DomainViews.{action_view};
@@ -13,9 +14,8 @@ ghost use Rattle.tp_ground.specs.Instances.{instance_view};
 
 use std::alloc::{AllocError, Global};
 use tp_ground_actions::grounding::lower_under;
-use tp_ground_bindings::rows::{Rows, rows_of};
-use tp_ground_bindings::universe::{Universe, copied, refill};
-use tp_syntax_ast::action::Action;
+use tp_ground_bindings::{Rows, Universe, copied, refill, rows_of};
+use tp_syntax_ast::Action;
 use tp_task::{Body, GroundFault, Numbering};
 
 /// An action, and the objects that its parameters stand for.

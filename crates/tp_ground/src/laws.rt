@@ -10,8 +10,8 @@ ghost use Rattle.tp_ground.specs.Reached.{IsReachedTask};
 ghost use Rattle.tp_task.specs.Readable.{AreReadable};
 ghost use Rattle.tp_task.specs.declared.task.Task.{Task};
 
-/// The words of each ground action of a task, where domain and problem are spelled by texts, are names in lower case, by
-/// which the action is found again.
+/// The words of each ground action of a task, where domain and problem are spelled by texts, are
+/// names in lower case, by which the action is found again.
 pub fn actions_are_readable()
     ensures { (text other : List ℕ) (d : Domain)
         (p : Problem) (limits : RunLimits) (scale : Scale) (t : Task) → SpellsDomain text d

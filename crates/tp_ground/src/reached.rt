@@ -1,4 +1,5 @@
-//! The task of the ground actions that can be met at all: those with an event whose condition is met in the relaxed reach.
+//! The task of the ground actions that can be met at all: those with an event whose condition is
+//! met in the relaxed reach.
 
 ghost use Rattle.std.specs.Prelude.{◌≡◌, ◌≤◌, ◌++◌, true, false, map, length, nat_lt, IfOk, IfErr, OnOk};
 ghost use Rattle.std.specs.List.{list_all};
@@ -19,10 +20,8 @@ use crate::tasks::{LoweredTask, lower_problem, task_with};
 use std::alloc::{AllocError, Global};
 use tp_bounds::Limits;
 use tp_ground_actions::beginning::truths;
-use tp_ground_bindings::noting::universe_of;
-use tp_ground_bindings::universe::Universe;
-use tp_syntax_ast::domain::Domain;
-use tp_syntax_ast::problem::Problem;
+use tp_ground_bindings::{Universe, universe_of};
+use tp_syntax_ast::{Domain, Problem};
 use tp_task::{Body, GroundFault, Numbering, Task, TooManyKind};
 use tp_task_reachability::{met, saturate};
 use tp_text::Scale;
@@ -171,10 +170,11 @@ fn reached_within<'a>(
     kept_task(alloc, &universe, domain, problem, &kept, limits, scale)
 }
 
-/// The task of a problem of a domain, as `ground` gives it, but with only the ground actions that can ever be of use: those
-/// with an event whose condition is met in the relaxed reach (the delete relaxation of Bonet and Geffner 2001), in the same
-/// order. Atoms, fluents and actions are counted as far as what is kept mentions them. All type-correct bindings are
-/// written out once to find these, whatever the limits, so it takes time and memory in what all of them write out.
+/// The task of a problem of a domain, as `ground` gives it, but with only the ground actions that
+/// can ever be of use: those with an event whose condition is met in the relaxed reach (the delete
+/// relaxation of Bonet and Geffner 2001), in the same order. Atoms, fluents and actions are counted
+/// as far as what is kept mentions them. All type-correct bindings are written out once to find
+/// these, whatever the limits, so it takes time and memory in what all of them write out.
 pub fn ground_reached(
     alloc: Global,
     domain: &Domain,

@@ -19,10 +19,9 @@ use crate::instances::{Instance, lower_instances, name_instances};
 use std::alloc::{AllocError, Global};
 use tp_bounds::Limits;
 use tp_ground_actions::beginning::{NumberedInitial, entries, numbers, truths};
-use tp_ground_bindings::universe::Universe;
+use tp_ground_bindings::Universe;
 use tp_ground_effects::closed_condition;
-use tp_syntax_ast::domain::Domain;
-use tp_syntax_ast::problem::{Initial, Problem};
+use tp_syntax_ast::{Domain, Initial, Problem};
 use tp_task::{Body, Cond, GroundFault, Numbering, Task};
 use tp_text::Scale;
 
@@ -46,7 +45,7 @@ fn lower_with<'a>(
     universe: &Universe<'a>,
     numbering: &mut Numbering,
     initial: &'a [Initial],
-    goal: &'a tp_syntax_ast::cond::Cond,
+    goal: &'a tp_syntax_ast::Cond,
     some: &[Instance<'a>],
 ) -> Result<LoweredTask, GroundFault>
     ensures { Lowers named_task numbering.old result numbering.new

@@ -7,9 +7,9 @@ ghost use Rattle.tp_ground_effects.specs.Mentions.{of_each};
 ghost use Rattle.tp_ground_effects.specs.Lowered.{Lowers};
 
 use std::alloc::{AllocError, Global};
-use tp_ground_bindings::environment::Env;
+use tp_ground_bindings::Env;
 use tp_ground_effects::{atom, fluent};
-use tp_syntax_ast::problem::Initial;
+use tp_syntax_ast::Initial;
 use tp_task::{GroundFault, Numbering};
 
 /// What one entry of `:init` says, by number.

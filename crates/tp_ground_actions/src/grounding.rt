@@ -12,11 +12,9 @@ ghost use Rattle.tp_ground_effects.specs.Lowered.{Lowers};
 ghost use Rattle.tp_ground_actions.specs.Grounding.{ground_actions};
 
 use std::alloc::{AllocError, Global};
-use tp_ground_bindings::environment::Env;
-use tp_ground_bindings::rows::{Rows, rows_of};
-use tp_ground_bindings::universe::Universe;
-use tp_ground_effects::bodies::body;
-use tp_syntax_ast::action::Action;
+use tp_ground_bindings::{Env, Rows, Universe, rows_of};
+use tp_ground_effects::body;
+use tp_syntax_ast::Action;
 use tp_task::{Body, GroundFault, Numbering};
 
 // How many more there may be behind some rows, of so many with them. None if these are more.

@@ -12,15 +12,10 @@ ghost use Rattle.tp_syntax_ast.specs.Conditions.{Condition};
 ghost use Rattle.tp_syntax_ast.specs.Effects;
 ghost use Rattle.tp_ground_actions.specs.Great.{is_great, great_expression, great_condition, great_part, great_simple_effect, great_effect, great_timed, great_constraint, great_body, great_initial, has_great_number};
 
-use tp_syntax_ast::action::{Action, Body};
-use tp_syntax_ast::cond::Cond;
-use tp_syntax_ast::constraint::DurationRule;
-use tp_syntax_ast::domain::Domain;
-use tp_syntax_ast::effect::{Effect, SimpleEffect};
-use tp_syntax_ast::expr::Expr;
-use tp_syntax_ast::joined::Joined;
-use tp_syntax_ast::problem::{Initial, Problem};
-use tp_syntax_ast::timed::Timed;
+use tp_syntax_ast::{
+    Action, Body, Cond, Domain, DurationRule, Effect, Expr, Initial, Joined, Problem, SimpleEffect,
+    Timed,
+};
 use tp_task::GREATEST_NUMBER;
 
 fn is_great(number: i64) -> bool

@@ -8,8 +8,7 @@ ghost use Rattle.tp_ground_bindings.specs.Views.{env_view};
 
 use smallvec::SmallVec;
 use std::alloc::{AllocError, Global};
-use tp_syntax_ast::symbols::Typed;
-use tp_syntax_ast::term::{Atom, Term};
+use tp_syntax_ast::{Atom, Term, Typed};
 
 /// What variables stand for. An inner one hides an outer one of the same name.
 #[derive(Clone, Copy)]

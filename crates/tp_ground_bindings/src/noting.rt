@@ -7,14 +7,9 @@ ghost use Rattle.tp_ground_bindings.specs.Views.{universe_view};
 
 use crate::universe::{Universe, note, plain_universe};
 use std::alloc::{AllocError, Global};
-use tp_syntax_ast::action::{Action, Body};
-use tp_syntax_ast::cond::Cond;
-use tp_syntax_ast::domain::Domain;
-use tp_syntax_ast::effect::{Effect, SimpleEffect};
-use tp_syntax_ast::joined::Joined;
-use tp_syntax_ast::problem::Problem;
-use tp_syntax_ast::symbols::Typed;
-use tp_syntax_ast::timed::Timed;
+use tp_syntax_ast::{
+    Action, Body, Cond, Domain, Effect, Joined, Problem, SimpleEffect, Timed, Typed,
+};
 
 fn note_variables<'a>(
     alloc: Global,

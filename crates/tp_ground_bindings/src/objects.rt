@@ -6,10 +6,11 @@ ghost use Rattle.tp_syntax_ast.specs.Symbols.{typed_view};
 ghost use Rattle.tp_syntax_types.specs.TypeViews.{types_view};
 ghost use Rattle.tp_ground_bindings.specs.KnownChoices.{is_known};
 
-use tp_syntax_ast::symbols::Typed;
+use tp_syntax_ast::Typed;
 use tp_syntax_types::types::Types;
 
-/// The types, the domain's constants, the problem's objects, and the objects of each list of types that was looked for.
+/// The types, the domain's constants, the problem's objects, and the objects of each list of types
+/// that was looked for.
 #[derive(Drop)]
 pub struct Universe<'a> {
     pub types: Types<'a>,

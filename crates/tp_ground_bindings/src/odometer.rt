@@ -6,8 +6,8 @@ ghost use Rattle.tp_ground_bindings.specs.Rows.{has_names, lists_of};
 
 use std::borrow::CowSlice;
 
-/// The names that each variable may stand for, and the places of one binding among them. They advance as an odometer does, the
-/// last place first.
+/// The names that each variable may stand for, and the places of one binding among them. They
+/// advance as an odometer does, the last place first.
 #[derive(Drop)]
 pub struct Rows<'u, 'a> {
     pub lists: Vec<CowSlice<'u, &'a str>>,

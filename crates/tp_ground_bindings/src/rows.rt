@@ -12,7 +12,7 @@ pub use crate::odometer::Rows;
 use crate::universe::{Universe, choices};
 use std::alloc::{AllocError, Global};
 use std::borrow::CowSlice;
-use tp_syntax_ast::symbols::Typed;
+use tp_syntax_ast::Typed;
 
 impl<'u, 'a> Rows<'u, 'a> {
     /// Makes the row the next binding, the first variable varying slowest, if there is one more.
@@ -29,7 +29,8 @@ impl<'u, 'a> Rows<'u, 'a> {
         true
     }
 
-    /// How many bindings there are before the first, for the capacity of a list of them. Nothing is promised.
+    /// How many bindings there are before the first, for the capacity of a list of them. Nothing is
+    /// promised.
     pub fn count(&self) -> usize {
         if !self.is_fresh {
             return 0;

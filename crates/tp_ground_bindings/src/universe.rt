@@ -16,9 +16,7 @@ use crate::objects::Known;
 pub use crate::objects::Universe;
 use std::alloc::{AllocError, Global};
 use std::borrow::CowSlice;
-use tp_syntax_ast::domain::Domain;
-use tp_syntax_ast::problem::Problem;
-use tp_syntax_ast::symbols::Typed;
+use tp_syntax_ast::{Domain, Problem, Typed};
 use tp_syntax_types::types::{Types, types_fit};
 
 /// The types and objects, before any are looked for.

@@ -17,13 +17,8 @@ ghost use Rattle.tp_ground_conditions.specs.Lowered.{Lowers};
 use crate::expressions::{comparison_of, operand};
 use crate::numbers::atom;
 use std::alloc::{AllocError, Global};
-use tp_ground_bindings::environment::{Env, object_for};
-use tp_ground_bindings::rows::rows_of;
-use tp_ground_bindings::universe::Universe;
-use tp_syntax_ast::expr::Expr;
-use tp_syntax_ast::symbols::Typed;
-use tp_syntax_ast::term::{Atom, Term};
-use tp_syntax_ast::words::Comparison;
+use tp_ground_bindings::{Env, Universe, object_for, rows_of};
+use tp_syntax_ast::{Atom, Comparison, Expr, Term, Typed};
 use tp_task::{Cond, GroundFault, Numbering};
 
 fn fact<'a>(
@@ -86,7 +81,7 @@ fn conditions<'a>(
     universe: &Universe<'a>,
     env: &Env<'_, 'a>,
     numbering: &mut Numbering,
-    conds: &'a [tp_syntax_ast::cond::Cond],
+    conds: &'a [tp_syntax_ast::Cond],
 ) -> Result<Vec<Cond>, GroundFault>
     ensures { Lowers (λ t v. map (named_condition t) v.items) numbering.old result numbering.new
         (map (λ c. condition_in (universe_view universe.now) (env_view env.now) (cond_view c))
@@ -108,7 +103,7 @@ fn under_each<'a>(
     env: &Env<'_, 'a>,
     numbering: &mut Numbering,
     variables: &'a [Typed],
-    cond: &'a tp_syntax_ast::cond::Cond,
+    cond: &'a tp_syntax_ast::Cond,
 ) -> Result<Vec<Cond>, GroundFault>
     ensures { Lowers (λ t v. map (named_condition t) v.items) numbering.old result numbering.new
         (map (λ e. condition_in (universe_view universe.now) e (cond_view cond.now))
@@ -132,7 +127,7 @@ fn negated<'a>(
     universe: &Universe<'a>,
     env: &Env<'_, 'a>,
     numbering: &mut Numbering,
-    cond: &'a tp_syntax_ast::cond::Cond,
+    cond: &'a tp_syntax_ast::Cond,
 ) -> Result<Cond, GroundFault>
     ensures { Lowers named_condition numbering.old result numbering.new (negation (condition_in
         (universe_view universe.now) (env_view env.now) (cond_view cond.now))) (of_condition
@@ -148,7 +143,7 @@ fn conjunction<'a>(
     universe: &Universe<'a>,
     env: &Env<'_, 'a>,
     numbering: &mut Numbering,
-    conds: &'a [tp_syntax_ast::cond::Cond],
+    conds: &'a [tp_syntax_ast::Cond],
 ) -> Result<Cond, GroundFault>
     ensures { Lowers named_condition numbering.old result numbering.new
         (all_of (conditions_from (map (λ c.
@@ -165,7 +160,7 @@ fn disjunction<'a>(
     universe: &Universe<'a>,
     env: &Env<'_, 'a>,
     numbering: &mut Numbering,
-    conds: &'a [tp_syntax_ast::cond::Cond],
+    conds: &'a [tp_syntax_ast::Cond],
 ) -> Result<Cond, GroundFault>
     ensures { Lowers named_condition numbering.old result numbering.new
         (any_of (conditions_from (map (λ c.
@@ -183,7 +178,7 @@ fn for_all<'a>(
     env: &Env<'_, 'a>,
     numbering: &mut Numbering,
     variables: &'a [Typed],
-    cond: &'a tp_syntax_ast::cond::Cond,
+    cond: &'a tp_syntax_ast::Cond,
 ) -> Result<Cond, GroundFault>
     ensures { Lowers named_condition numbering.old result numbering.new (all_of (conditions_from
         (map (λ e. condition_in (universe_view universe.now) e (cond_view cond.now))
@@ -203,7 +198,7 @@ fn for_some<'a>(
     env: &Env<'_, 'a>,
     numbering: &mut Numbering,
     variables: &'a [Typed],
-    cond: &'a tp_syntax_ast::cond::Cond,
+    cond: &'a tp_syntax_ast::Cond,
 ) -> Result<Cond, GroundFault>
     ensures { Lowers named_condition numbering.old result numbering.new (any_of (conditions_from
         (map (λ e. condition_in (universe_view universe.now) e (cond_view cond.now))
@@ -223,32 +218,30 @@ pub fn condition<'a>(
     universe: &Universe<'a>,
     env: &Env<'_, 'a>,
     numbering: &mut Numbering,
-    cond: &'a tp_syntax_ast::cond::Cond,
+    cond: &'a tp_syntax_ast::Cond,
 ) -> Result<Cond, GroundFault>
     ensures { Lowers named_condition numbering.old result numbering.new (condition_in
         (universe_view universe.now) (env_view env.now) (cond_view cond.now)) (of_condition
         (condition_in (universe_view universe.now) (env_view env.now) (cond_view cond.now))) }
 {
     match cond {
-        tp_syntax_ast::cond::Cond::And(conds) => conjunction(
-            alloc, universe, env, numbering, conds,
-        ),
-        tp_syntax_ast::cond::Cond::Or(conds) => disjunction(alloc, universe, env, numbering, conds),
-        tp_syntax_ast::cond::Cond::Not(inner) => negated(alloc, universe, env, numbering, inner),
-        tp_syntax_ast::cond::Cond::Imply(a, b) => {
+        tp_syntax_ast::Cond::And(conds) => conjunction(alloc, universe, env, numbering, conds),
+        tp_syntax_ast::Cond::Or(conds) => disjunction(alloc, universe, env, numbering, conds),
+        tp_syntax_ast::Cond::Not(inner) => negated(alloc, universe, env, numbering, inner),
+        tp_syntax_ast::Cond::Imply(a, b) => {
             let first = negated(alloc, universe, env, numbering, a)?;
             let second = condition(alloc, universe, env, numbering, b)?;
             Ok(either(alloc, first, second)?)
         }
-        tp_syntax_ast::cond::Cond::Forall(variables, inner) => {
+        tp_syntax_ast::Cond::Forall(variables, inner) => {
             for_all(alloc, universe, env, numbering, variables.as_slice(), inner)
         }
-        tp_syntax_ast::cond::Cond::Exists(variables, inner) => {
+        tp_syntax_ast::Cond::Exists(variables, inner) => {
             for_some(alloc, universe, env, numbering, variables.as_slice(), inner)
         }
-        tp_syntax_ast::cond::Cond::Atom(a) => fact(alloc, env, numbering, a),
-        tp_syntax_ast::cond::Cond::Same(a, b) => Ok(same(alloc, env, a, b)),
-        tp_syntax_ast::cond::Cond::Compare(comparison, a, b) => {
+        tp_syntax_ast::Cond::Atom(a) => fact(alloc, env, numbering, a),
+        tp_syntax_ast::Cond::Same(a, b) => Ok(same(alloc, env, a, b)),
+        tp_syntax_ast::Cond::Compare(comparison, a, b) => {
             compared(alloc, env, numbering, *comparison, a, b)
         }
     }
@@ -259,7 +252,7 @@ pub fn closed_condition<'a>(
     alloc: Global,
     universe: &Universe<'a>,
     numbering: &mut Numbering,
-    cond: &'a tp_syntax_ast::cond::Cond,
+    cond: &'a tp_syntax_ast::Cond,
 ) -> Result<Cond, GroundFault>
     ensures { Lowers named_condition numbering.old result numbering.new
         (condition_in (universe_view universe.now) [] (cond_view cond.now)) (of_condition

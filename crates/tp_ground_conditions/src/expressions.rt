@@ -10,19 +10,19 @@ ghost use Rattle.tp_ground_conditions.specs.Lowered.{Lowers};
 
 use crate::numbers::fluent;
 use std::alloc::Global;
-use tp_ground_bindings::environment::Env;
+use tp_ground_bindings::Env;
 use tp_task::{Comparison, Expr, GroundFault, Numbering};
 
 /// How numbers are compared.
-pub fn comparison_of(comparison: tp_syntax_ast::words::Comparison) -> Comparison
+pub fn comparison_of(comparison: tp_syntax_ast::Comparison) -> Comparison
     ensures { result ≡ comparison_of comparison }
 {
     match comparison {
-        tp_syntax_ast::words::Comparison::Less => Comparison::Less,
-        tp_syntax_ast::words::Comparison::AtMost => Comparison::AtMost,
-        tp_syntax_ast::words::Comparison::Equal => Comparison::Equal,
-        tp_syntax_ast::words::Comparison::AtLeast => Comparison::AtLeast,
-        tp_syntax_ast::words::Comparison::Greater => Comparison::Greater,
+        tp_syntax_ast::Comparison::Less => Comparison::Less,
+        tp_syntax_ast::Comparison::AtMost => Comparison::AtMost,
+        tp_syntax_ast::Comparison::Equal => Comparison::Equal,
+        tp_syntax_ast::Comparison::AtLeast => Comparison::AtLeast,
+        tp_syntax_ast::Comparison::Greater => Comparison::Greater,
     }
 }
 
@@ -32,7 +32,7 @@ pub fn operand<'a>(
     alloc: Global,
     env: &Env<'_, 'a>,
     numbering: &mut Numbering,
-    expr: &'a tp_syntax_ast::expr::Expr,
+    expr: &'a tp_syntax_ast::Expr,
 ) -> Result<Box<Expr>, GroundFault>
     ensures { Lowers (λ t b. named_expression t b.value) numbering.old result numbering.new
         (expression_in (env_view env.now) (expr_view expr.now))
@@ -48,34 +48,34 @@ pub fn expression<'a>(
     alloc: Global,
     env: &Env<'_, 'a>,
     numbering: &mut Numbering,
-    expr: &'a tp_syntax_ast::expr::Expr,
+    expr: &'a tp_syntax_ast::Expr,
 ) -> Result<Expr, GroundFault>
     ensures { Lowers named_expression numbering.old result numbering.new
         (expression_in (env_view env.now) (expr_view expr.now))
         (of_expression (expression_in (env_view env.now) (expr_view expr.now))) }
 {
     match expr {
-        tp_syntax_ast::expr::Expr::Number(number) => Ok(Expr::Number(*number)),
-        tp_syntax_ast::expr::Expr::Duration => Ok(Expr::Duration),
-        tp_syntax_ast::expr::Expr::Fluent(atom) => {
+        tp_syntax_ast::Expr::Number(number) => Ok(Expr::Number(*number)),
+        tp_syntax_ast::Expr::Duration => Ok(Expr::Duration),
+        tp_syntax_ast::Expr::Fluent(atom) => {
             let number = fluent(alloc, env, numbering, atom)?;
             Ok(Expr::Fluent(number))
         }
-        tp_syntax_ast::expr::Expr::Negated(a) => {
+        tp_syntax_ast::Expr::Negated(a) => {
             let x = operand(alloc, env, numbering, a)?;
             Ok(Expr::Negated(x))
         }
-        tp_syntax_ast::expr::Expr::Sum(a, b) => {
+        tp_syntax_ast::Expr::Sum(a, b) => {
             let x = operand(alloc, env, numbering, a)?;
             let y = operand(alloc, env, numbering, b)?;
             Ok(Expr::Sum(x, y))
         }
-        tp_syntax_ast::expr::Expr::Difference(a, b) => {
+        tp_syntax_ast::Expr::Difference(a, b) => {
             let x = operand(alloc, env, numbering, a)?;
             let y = operand(alloc, env, numbering, b)?;
             Ok(Expr::Difference(x, y))
         }
-        tp_syntax_ast::expr::Expr::Product(a, b) => {
+        tp_syntax_ast::Expr::Product(a, b) => {
             let x = operand(alloc, env, numbering, a)?;
             let y = operand(alloc, env, numbering, b)?;
             Ok(Expr::Product(x, y))

@@ -9,8 +9,8 @@ ghost use Rattle.tp_ground_conditions.specs.Mentions.{an_atom, a_fluent};
 ghost use Rattle.tp_ground_conditions.specs.Lowered.{Lowers};
 
 use std::alloc::Global;
-use tp_ground_bindings::environment::{Env, words_in};
-use tp_syntax_ast::term::Atom;
+use tp_ground_bindings::{Env, words_in};
+use tp_syntax_ast::Atom;
 use tp_task::{GroundFault, Numbering};
 
 // The number of the atom of some words, which gets the next one if it has none.

@@ -19,14 +19,10 @@ use crate::changes::Changes;
 use crate::constraints::limits;
 use crate::parts::joined;
 use std::alloc::Global;
-use tp_ground_bindings::environment::Env;
-use tp_ground_bindings::universe::Universe;
-use tp_ground_conditions::conditions::condition;
-use tp_syntax_ast::constraint::DurationRule;
-use tp_syntax_ast::effect::Effect;
-use tp_syntax_ast::timed::{TimedCond, TimedEffect};
-use tp_syntax_ast::words::TimeSpecifier;
-use tp_syntax_ast::words::TimeSpecifier::{AtEnd, AtStart, OverAll};
+use tp_ground_bindings::{Env, Universe};
+use tp_ground_conditions::condition;
+use tp_syntax_ast::TimeSpecifier::{AtEnd, AtStart, OverAll};
+use tp_syntax_ast::{DurationRule, Effect, TimeSpecifier, TimedCond, TimedEffect};
 use tp_task::{Body, Cond, GroundEvent, GroundFault, Limit, Numbering};
 
 // The event of these changes.
@@ -111,7 +107,7 @@ fn instant<'a>(
     universe: &Universe<'a>,
     env: &Env<'_, 'a>,
     numbering: &mut Numbering,
-    precondition: &'a tp_syntax_ast::cond::Cond,
+    precondition: &'a tp_syntax_ast::Cond,
     effect: &'a Effect,
 ) -> Result<GroundEvent, GroundFault>
     ensures { Lowers named_event numbering.old result numbering.new
@@ -185,21 +181,21 @@ pub fn body<'a>(
     universe: &Universe<'a>,
     env: &Env<'_, 'a>,
     numbering: &mut Numbering,
-    body: &'a tp_syntax_ast::action::Body,
+    body: &'a tp_syntax_ast::Body,
 ) -> Result<Body, GroundFault>
     ensures { Lowers named_body numbering.old result numbering.new
         (body_in (universe_view universe.now) (env_view env.now) (body_view body.now))
         (of_body (universe_view universe.now) (env_view env.now) (body_view body.now)) }
 {
     match body {
-        tp_syntax_ast::action::Body::Instant {
+        tp_syntax_ast::Body::Instant {
             precondition,
             effect,
         } => {
             let event = instant(alloc, universe, env, numbering, precondition, effect)?;
             Ok(Body::Instant(event))
         }
-        tp_syntax_ast::action::Body::Durative {
+        tp_syntax_ast::Body::Durative {
             duration,
             condition,
             effect,

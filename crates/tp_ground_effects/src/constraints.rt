@@ -10,9 +10,9 @@ ghost use Rattle.tp_ground_conditions.specs.ReadBack.{named_limit};
 ghost use Rattle.tp_ground_conditions.specs.Lowered.{Lowers};
 
 use std::alloc::Global;
-use tp_ground_bindings::environment::Env;
-use tp_ground_conditions::expressions::{comparison_of, expression};
-use tp_syntax_ast::constraint::DurationRule;
+use tp_ground_bindings::Env;
+use tp_ground_conditions::{comparison_of, expression};
+use tp_syntax_ast::DurationRule;
 use tp_task::{GroundFault, Limit, Numbering};
 
 #[cycle(limits)]

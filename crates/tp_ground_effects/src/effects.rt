@@ -20,16 +20,9 @@ ghost use Rattle.tp_ground_conditions.specs.Lowered.{Lowers};
 use crate::changes::Changes;
 use crate::parts::{Lowerable, push_part};
 use std::alloc::Global;
-use tp_ground_bindings::environment::Env;
-use tp_ground_bindings::universe::Universe;
-use tp_ground_conditions::conditions::condition;
-use tp_ground_conditions::expressions::expression;
-use tp_ground_conditions::numbers::{atom, fluent};
-use tp_syntax_ast::effect::{Effect, SimpleEffect};
-use tp_syntax_ast::expr::Expr;
-use tp_syntax_ast::term::Atom;
-use tp_syntax_ast::timed::Timed;
-use tp_syntax_ast::words::{TimeSpecifier, Writing};
+use tp_ground_bindings::{Env, Universe};
+use tp_ground_conditions::{atom, condition, expression, fluent};
+use tp_syntax_ast::{Atom, Effect, Expr, SimpleEffect, TimeSpecifier, Timed, Writing};
 use tp_task::{Change, Cond, GroundFault, Numbering, NumericEffect};
 
 fn change_of(writing: Writing) -> Change
@@ -167,7 +160,7 @@ impl Lowerable for SimpleEffect {
     }
 }
 
-impl Lowerable for Timed<tp_syntax_ast::cond::Cond> {
+impl Lowerable for Timed<tp_syntax_ast::Cond> {
     type Gathered = Vec<Cond>;
 
     ghost Seen = { Effects.Timed Condition };

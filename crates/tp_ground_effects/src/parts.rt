@@ -13,12 +13,8 @@ ghost use Rattle.tp_ground_conditions.specs.Mentions.{Mentions, of_each};
 ghost use Rattle.tp_ground_effects.specs.Gathered.{Gathers, Makes};
 
 use std::alloc::Global;
-use tp_ground_bindings::environment::Env;
-use tp_ground_bindings::rows::rows_of;
-use tp_ground_bindings::universe::Universe;
-use tp_syntax_ast::joined::Joined;
-use tp_syntax_ast::symbols::Typed;
-use tp_syntax_ast::words::TimeSpecifier;
+use tp_ground_bindings::{Env, Universe, rows_of};
+use tp_syntax_ast::{Joined, TimeSpecifier, Typed};
 use tp_task::{GroundFault, Numbering};
 
 /// What may stand inside.

@@ -2,13 +2,10 @@
 
 use crate::objects::{Objects, Place};
 use std::alloc::AllocError;
-use tp_ground_bindings::universe::Universe;
-use tp_syntax_ast::action::{Action, Body};
-use tp_syntax_ast::effect::{Effect, SimpleEffect};
-use tp_syntax_ast::joined::Joined;
-use tp_syntax_ast::term::{Atom, Term};
-use tp_syntax_ast::timed::{Timed, TimedEffect};
-use tp_syntax_ast::words::Writing;
+use tp_ground_bindings::Universe;
+use tp_syntax_ast::{
+    Action, Atom, Body, Effect, Joined, SimpleEffect, Term, Timed, TimedEffect, Writing,
+};
 
 /// The atoms or fluents of an effect. A place that is None may be anything.
 #[derive(Drop)]

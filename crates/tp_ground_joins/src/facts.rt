@@ -3,8 +3,7 @@
 use crate::objects::Objects;
 use std::alloc::{AllocError, Global};
 use std::collections::BTreeMap;
-use tp_syntax_ast::problem::Initial;
-use tp_syntax_ast::term::{Atom, Term};
+use tp_syntax_ast::{Atom, Initial, Term};
 
 /// Rows of objects under each of some names.
 #[derive(Drop)]

@@ -6,10 +6,8 @@ use crate::objects::Objects;
 use crate::relations::{Relation, Slot, relation_of, slot_of, slots_of};
 use crate::wanted::{Sameness, Wanted, wanted_of};
 use std::alloc::AllocError;
-use tp_ground_bindings::universe::Universe;
-use tp_syntax_ast::action::Action;
-use tp_syntax_ast::symbols::Typed;
-use tp_syntax_ast::term::Atom;
+use tp_ground_bindings::Universe;
+use tp_syntax_ast::{Action, Atom, Typed};
 
 /// A column of a relation.
 #[derive(Clone, Copy)]

@@ -15,12 +15,9 @@ use std::alloc::{AllocError, Global};
 use tp_bounds::Limits;
 use tp_ground::{GroundFault, Instance, Task, lower_instances};
 use tp_ground_actions::beginning::{NumberedInitial, entries, truths};
-use tp_ground_bindings::noting::universe_of;
-use tp_ground_bindings::universe::{Universe, refill};
+use tp_ground_bindings::{Universe, refill, universe_of};
 use tp_ground_named::{Begun, ground_named};
-use tp_syntax_ast::action::Action;
-use tp_syntax_ast::domain::Domain;
-use tp_syntax_ast::problem::{Initial, Problem};
+use tp_syntax_ast::{Action, Domain, Initial, Problem};
 use tp_task::Numbering;
 use tp_text::Scale;
 

@@ -2,9 +2,8 @@
 
 use std::alloc::{AllocError, Global};
 use std::collections::BTreeMap;
-use tp_ground_bindings::universe::{Universe, choices};
-use tp_syntax_ast::symbols::Typed;
-use tp_syntax_ast::term::Term;
+use tp_ground_bindings::{Universe, choices};
+use tp_syntax_ast::{Term, Typed};
 
 /// What may stand at a place of an atom: an object, or each object of a kind.
 #[derive(Clone, Copy)]

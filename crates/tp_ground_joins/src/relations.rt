@@ -2,8 +2,7 @@
 
 use crate::objects::Objects;
 use std::alloc::AllocError;
-use tp_syntax_ast::symbols::Typed;
-use tp_syntax_ast::term::{Atom, Term};
+use tp_syntax_ast::{Atom, Term, Typed};
 
 /// What stands at a place of a condition of an action: an object, or a parameter by its place.
 #[derive(Clone, Copy, PartialEq, Eq)]

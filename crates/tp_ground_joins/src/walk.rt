@@ -5,7 +5,7 @@ use crate::objects::Objects;
 use crate::relations::{Range, Slot};
 use std::alloc::AllocError;
 use tp_ground::{GroundFault, Instance, TooManyKind};
-use tp_syntax_ast::action::Action;
+use tp_syntax_ast::Action;
 
 /// The most objects that are tried for the parameters of an action.
 const MOST_STEPS: u32 = 100_000_000;

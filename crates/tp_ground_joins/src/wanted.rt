@@ -2,15 +2,10 @@
 //! reads has a value.
 
 use std::alloc::{AllocError, Global};
-use tp_syntax_ast::action::{Action, Body};
-use tp_syntax_ast::cond::Cond;
-use tp_syntax_ast::constraint::DurationRule;
-use tp_syntax_ast::effect::{Effect, SimpleEffect};
-use tp_syntax_ast::expr::Expr;
-use tp_syntax_ast::joined::Joined;
-use tp_syntax_ast::term::{Atom, Term};
-use tp_syntax_ast::timed::{Timed, TimedCond, TimedEffect};
-use tp_syntax_ast::words::Writing;
+use tp_syntax_ast::{
+    Action, Atom, Body, Cond, DurationRule, Effect, Expr, Joined, SimpleEffect, Term, Timed,
+    TimedCond, TimedEffect, Writing,
+};
 
 /// Two terms that must, or must not, stand for the same object.
 #[derive(Clone, Copy)]

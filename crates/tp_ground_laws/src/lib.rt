@@ -1,5 +1,5 @@
-//! What is kept where a problem's task has only some of its ground actions: verdicts on plans; and where these are the actions of the
-//! relaxed reach, valid plans and whether the goal is in reach.
+//! What is kept where a problem's task has only some of its ground actions: verdicts on plans; and
+//! where these are the actions of the relaxed reach, valid plans and whether the goal is in reach.
 #![tactic(auto)]
 
 ghost use Rattle.std.specs.Prelude.{◌↔◌, ℕ, Bool, List};
@@ -15,8 +15,8 @@ ghost use Rattle.tp_ground_laws.specs.SamePlans.{HaveSamePlans, HoldsPlans, Plan
 
 use tp_ground::actions_are_readable;
 
-/// A plan, its actions taken by name and objects, is valid for the whole task of a problem exactly if it is for the task of
-/// the actions that the relaxed reach keeps.
+/// A plan, its actions taken by name and objects, is valid for the whole task of a problem exactly
+/// if it is for the task of the actions that the relaxed reach keeps.
 pub fn same_plans_are_valid()
     ensures { (text other : List ℕ) (d : Domain) (p : Problem)
         (limits small : RunLimits) (scale : Scale) (t u : Task) → SpellsDomain text d
@@ -26,8 +26,9 @@ pub fn same_plans_are_valid()
     actions_are_readable();
 }
 
-/// A plan, its actions taken by name and objects, is judged alike, with the same first fault, for any two tasks of a problem that have
-/// its actions: so a verdict on the task of the ground actions that a plan names is one on the task of all, however many there are.
+/// A plan, its actions taken by name and objects, is judged alike, with the same first fault, for
+/// any two tasks of a problem that have its actions: so a verdict on the task of the ground actions
+/// that a plan names is one on the task of all, however many there are.
 pub fn plans_are_judged_alike()
     ensures { PlansAreJudgedAlike }
 {}

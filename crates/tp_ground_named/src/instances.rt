@@ -13,9 +13,8 @@ ghost use Rattle.tp_ground_named.specs.Named.{chosen_of};
 use crate::picks::{pick, rows_in, tails_of};
 use std::alloc::{AllocError, Global};
 use tp_ground::Instance;
-use tp_ground_bindings::rows::lists_of;
-use tp_ground_bindings::universe::{Universe, copied};
-use tp_syntax_ast::action::Action;
+use tp_ground_bindings::{Universe, copied, lists_of};
+use tp_syntax_ast::Action;
 
 // Puts instances of an action with some rows of objects at the end of a list.
 fn push_instances<'a>(

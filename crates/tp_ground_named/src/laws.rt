@@ -11,8 +11,8 @@ ghost use Rattle.tp_task.specs.declared.task.Task.{Task};
 ghost use Rattle.tp_ground.specs.Reached.{IsTaskOf};
 ghost use Rattle.tp_ground_named.specs.Named.{chosen};
 
-/// The words of each ground action of such a task, where domain and problem are spelled by texts, are names in lower case, by
-/// which the action is found again.
+/// The words of each ground action of such a task, where domain and problem are spelled by texts,
+/// are names in lower case, by which the action is found again.
 pub fn chosen_actions_are_readable()
     ensures { (text other : List ℕ) (d : Domain)
         (p : Problem) (limits : RunLimits) (scale : Scale) (asked : List Words) (t : Task)

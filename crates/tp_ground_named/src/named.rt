@@ -20,11 +20,9 @@ use std::alloc::Global;
 use tp_bounds::Limits;
 use tp_ground::{Instance, LoweredTask, check, lower_instances, name_instances, task_of};
 use tp_ground_actions::beginning::{NumberedInitial, entries};
-use tp_ground_bindings::noting::universe_of;
-use tp_ground_bindings::universe::Universe;
+use tp_ground_bindings::{Universe, universe_of};
 use tp_ground_effects::closed_condition;
-use tp_syntax_ast::domain::Domain;
-use tp_syntax_ast::problem::{Initial, Problem};
+use tp_syntax_ast::{Domain, Initial, Problem};
 use tp_task::{Body, Cond, GroundFault, Numbering, Task, TooManyKind};
 use tp_text::Scale;
 
@@ -49,7 +47,7 @@ fn lower_ends<'a>(
     universe: &Universe<'a>,
     numbering: &mut Numbering,
     initial: &'a [Initial],
-    goal: &'a tp_syntax_ast::cond::Cond,
+    goal: &'a tp_syntax_ast::Cond,
 ) -> Result<Ends, GroundFault>
     ensures { Lowers named_ends numbering.old result numbering.new
         (written_ends (universe_view universe.now) (map initial_view initial.now)
@@ -101,10 +99,11 @@ fn begun_over<'a>(
     })
 }
 
-/// Begins the tasks of a problem: numbers what `:init` and the goal mention. Takes time and memory in what they write out.
+/// Begins the tasks of a problem: numbers what `:init` and the goal mention. Takes time and memory
+/// in what they write out.
 ///
-/// # Errors
-/// A number past 10^15, too many objects, or too many atoms or fluents for the limits; or out of memory.
+/// # Errors A number past 10^15, too many objects, or too many atoms or fluents for the limits; or
+/// out of memory.
 pub fn begin<'a>(
     alloc: Global,
     domain: &'a Domain,
@@ -200,10 +199,12 @@ fn task_within<'a>(
     task_of_some(alloc, domain, problem, begun, some, limits, scale)
 }
 
-/// The task of a problem of a domain with the ground actions that lists of names ask for, each by the name of an action and its objects.
-/// A list that is no type-correct binding asks for nothing. Actions stand in the order of all bindings; atoms and fluents are those that
-/// `:init`, the goal or one of these actions mention. Takes time and memory in the actions of the domain, in what is asked for with
-/// the objects of its parameters, and in what the chosen actions write out: no other binding is looked at, however many there are.
+/// The task of a problem of a domain with the ground actions that lists of names ask for, each by
+/// the name of an action and its objects. A list that is no type-correct binding asks for nothing.
+/// Actions stand in the order of all bindings; atoms and fluents are those that `:init`, the goal
+/// or one of these actions mention. Takes time and memory in the actions of the domain, in what is
+/// asked for with the objects of its parameters, and in what the chosen actions write out: no other
+/// binding is looked at, however many there are.
 ///
 /// # Errors
 /// Too many atoms, fluents or chosen actions for the limits; or out of memory.

@@ -7,7 +7,7 @@ ghost use Rattle.tp_ground_named.specs.Picks.{tails, tail_after, row_words};
 
 use std::alloc::{AllocError, Global};
 use std::borrow::CowSlice;
-use tp_ground_bindings::universe::refill;
+use tp_ground_bindings::refill;
 
 // What follows a name in a row that begins with it.
 fn tail_after<'r, 'n>(row: &'r [&'n str], name: &str) -> Option<&'r [&'n str]>
@@ -87,8 +87,8 @@ fn push_behind<'a>(
     Ok(())
 }
 
-/// The rows of one name out of each list that are asked for, in order. Takes time in the rows that are asked for, with the names of
-/// the lists for each of them.
+/// The rows of one name out of each list that are asked for, in order. Takes time in the rows that
+/// are asked for, with the names of the lists for each of them.
 pub(crate) fn pick<'a>(
     alloc: Global,
     lists: &[CowSlice<'_, &'a str>],

@@ -1,4 +1,5 @@
-//! The operators of a relaxed plan: which are in it, and which of them add a proposition most cheaply.
+//! The operators of a relaxed plan: which are in it, and which of them add a proposition most
+//! cheaply.
 
 use std::alloc::{AllocError, Global};
 use tp_guided_relaxed::Relaxed;

@@ -24,7 +24,8 @@ const UNREACHED: PropCost = PropCost {
     settled: false,
 };
 
-/// How many of an operator's needs are not settled yet, what the others cost, and its total once it fired.
+/// How many of an operator's needs are not settled yet, what the others cost, and its total once it
+/// fired.
 #[derive(Clone, Copy)]
 struct OpCost {
     left: u32,

@@ -6,8 +6,8 @@ use crate::wanted::Wants;
 use std::alloc::{AllocError, Global};
 use tp_search_compiled::{NONE, Running, Task};
 
-/// A start of a relaxed plan: its cost, the cost of the cheapest start or helper that wants what its action brings, its action,
-/// and how often it is to start.
+/// A start of a relaxed plan: its cost, the cost of the cheapest start or helper that wants what
+/// its action brings, its action, and how often it is to start.
 #[derive(Clone, Copy, Debug, PartialEq, Eq, PartialOrd, Ord)]
 pub struct Wanted {
     pub cost: u32,

@@ -9,7 +9,8 @@ use std::alloc::{AllocError, Global};
 use tp_guided_relaxed::Relaxed;
 use tp_search_compiled::{NONE, Running, State, Task};
 
-/// The value of the state that was evaluated last, and its relaxed plan. All room is kept from one state to the next.
+/// The value of the state that was evaluated last, and its relaxed plan. All room is kept from one
+/// state to the next.
 #[derive(Drop)]
 pub struct Heuristic<'a> {
     costs: Costs<'a>,
@@ -41,7 +42,8 @@ fn literals_of(alloc: Global, relaxed: &Relaxed) -> Result<Vec<u32>, AllocError>
 }
 
 impl<'a> Heuristic<'a> {
-    /// Room for a task and its relaxed task. `by_most`: an operator costs the greatest of what it needs in place of the sum.
+    /// Room for a task and its relaxed task. `by_most`: an operator costs the greatest of what it
+    /// needs in place of the sum.
     pub fn new(
         alloc: Global,
         task: &'a Task,
@@ -62,8 +64,9 @@ impl<'a> Heuristic<'a> {
         })
     }
 
-    /// How many events a relaxed plan has from a state with running steps, which have to end; `DEAD` if there is none. With a
-    /// seed, of equally cheap operators one is taken by a hash, with 0 the first.
+    /// How many events a relaxed plan has from a state with running steps, which have to end;
+    /// `DEAD` if there is none. With a seed, of equally cheap operators one is taken by a hash,
+    /// with 0 the first.
     pub fn evaluate(
         &mut self,
         state: &State,
@@ -126,7 +129,8 @@ impl<'a> Heuristic<'a> {
         self.standing.stands_on(place, other)
     }
 
-    /// The literals that an action needs at its start, and while it runs without bringing them about itself, by rising number.
+    /// The literals that an action needs at its start, and while it runs without bringing them
+    /// about itself, by rising number.
     pub fn needs(&self, action: u32) -> &[u32] {
         let count = self.literals.get(action as usize).copied().unwrap_or(0);
         let relaxed = self.costs.relaxed;

@@ -57,7 +57,8 @@ impl Wants {
         self.wants.get(prop as usize).copied().unwrap_or(UNWANTED)
     }
 
-    // A proposition of this cost is wanted: by an operator of this total, `DEAD` for the goal, that is an end or not.
+    // A proposition of this cost is wanted: by an operator of this total, `DEAD` for the goal, that
+    // is an end or not.
     fn want(&mut self, prop: u32, cost: u32, total: u32, end: bool) -> Result<(), AllocError> {
         let Some(at) = self.wants.get_mut(prop as usize) else {
             return Ok(());
@@ -143,8 +144,8 @@ fn choose(
     Ok(())
 }
 
-// Chooses who brings a proposition: an operator that is chosen already and is cheaper than all that want it, else the
-// cheapest.
+// Chooses who brings a proposition: an operator that is chosen already and is cheaper than all that
+// want it, else the cheapest.
 fn bring(
     costs: &mut Costs<'_>,
     chosen: &mut Chosen,
@@ -207,7 +208,8 @@ fn bring_all(
     Ok(())
 }
 
-/// Chooses the operators of a relaxed plan for a goal that is in reach, from a state with running steps whose ends are in reach.
+/// Chooses the operators of a relaxed plan for a goal that is in reach, from a state with running
+/// steps whose ends are in reach.
 pub fn extract(
     costs: &mut Costs<'_>,
     chosen: &mut Chosen,

@@ -66,7 +66,8 @@ fn never_changes(task: &Task, x: Value) -> bool {
     }
 }
 
-/// An expression, by its number if it comes to the same whatever happens; `fixed` has the values of the fluents.
+/// An expression, by its number if it comes to the same whatever happens; `fixed` has the values of
+/// the fluents.
 pub fn folded(task: &Task, x: Value, fixed: &[Interval]) -> Value {
     if !never_changes(task, x) {
         return x;

@@ -299,7 +299,8 @@ impl<'a> Builder<'a> {
         }
     }
 
-    // Adds what one of the conditions that words make needs: a helper that each of them adds, if there are several.
+    // Adds what one of the conditions that words make needs: a helper that each of them adds, if
+    // there are several.
     #[cycle(words)]
     fn any(
         &mut self,

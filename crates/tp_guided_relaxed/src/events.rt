@@ -87,7 +87,8 @@ impl Builder<'_> {
         self.happen(action.event, number, &mut pre, running)
     }
 
-    // Adds the parts of an invariant that a start does not bring about itself; false if one never holds.
+    // Adds the parts of an invariant that a start does not bring about itself; false if one never
+    // holds.
     fn before(
         &mut self,
         invariant: &Form,
@@ -131,7 +132,8 @@ impl Builder<'_> {
         Ok(true)
     }
 
-    // Whether an event changes an atom of an invariant's disjunctions, or a fluent of its comparisons.
+    // Whether an event changes an atom of an invariant's disjunctions, or a fluent of its
+    // comparisons.
     fn touches(&self, invariant: &Form, event: &Event) -> bool {
         let task = self.task;
         let plain = invariant
@@ -167,7 +169,8 @@ impl Builder<'_> {
         self.disjunctions(invariant, out)
     }
 
-    // The operator of an event that needs some propositions, too, and adds one more; none if it can never happen.
+    // The operator of an event that needs some propositions, too, and adds one more; none if it can
+    // never happen.
     fn happen(
         &mut self,
         number: u32,

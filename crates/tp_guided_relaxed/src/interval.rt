@@ -1,4 +1,5 @@
-//! Ranges of numbers. A bound past 10^15 stands for "without limit"; an empty range, whose bounds are crossed, for "undefined".
+//! Ranges of numbers. A bound past 10^15 stands for "without limit"; an empty range, whose bounds
+//! are crossed, for "undefined".
 
 use tp_search_compiled::{GREATEST, Ins, Op, Task, UNDEFINED, Value, part};
 
@@ -154,7 +155,8 @@ fn run(code: &[Ins], of: &[Interval], duration: Interval) -> Option<Interval> {
     operands.pop()
 }
 
-/// The range of an expression, for ranges of the fluents and of the duration; empty if a fluent of it is undefined.
+/// The range of an expression, for ranges of the fluents and of the duration; empty if a fluent of
+/// it is undefined.
 pub fn value(task: &Task, x: Value, of: &[Interval], duration: Interval) -> Interval {
     match x {
         Value::Num(n) => Interval::point(n),
@@ -178,8 +180,8 @@ pub fn may_hold(op: Op, a: Interval, b: Interval) -> bool {
     }
 }
 
-/// What a comparison lacks, 0 if it may hold: the distance by which its sides have to come nearer. None if that is no question
-/// of distance.
+/// What a comparison lacks, 0 if it may hold: the distance by which its sides have to come nearer.
+/// None if that is no question of distance.
 pub fn gap(op: Op, a: Interval, b: Interval) -> Option<i64> {
     if a.is_empty() || b.is_empty() {
         return None;

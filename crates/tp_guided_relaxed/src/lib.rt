@@ -1,9 +1,11 @@
-//! The relaxed task of the guided search: propositions, which never become false again, and the operators that add them.
+//! The relaxed task of the guided search: propositions, which never become false again, and the
+//! operators that add them.
 //!
 //! - `interval`: ranges of numbers, expressions over them, and comparisons of them
 //! - `relaxed`: propositions and operators
 //! - `comparing`: comparisons as propositions, and how a change of a fluent may help them
-//! - `conjuncts`: what conditions need; `events`: the operators of events; `making`, `linking`: all of the relaxed task
+//! - `conjuncts`: what conditions need; `events`: the operators of events; `making`, `linking`: all
+//!   of the relaxed task
 #![tactic(auto)]
 
 mod comparing;

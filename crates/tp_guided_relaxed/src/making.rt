@@ -69,8 +69,8 @@ fn goal_of(alloc: Global, builder: &mut Builder<'_>) -> Result<Option<Vec<u32>>,
     }
 }
 
-/// The relaxed task of those actions that are live, of all where there is no list, for a task that begins in a state. It takes
-/// the time and memory of their conditions and effects.
+/// The relaxed task of those actions that are live, of all where there is no list, for a task that
+/// begins in a state. It takes the time and memory of their conditions and effects.
 pub fn build(
     alloc: Global,
     task: &Task,

@@ -9,10 +9,12 @@ pub struct Compared {
     pub compare: Compare,
 }
 
-/// The relaxed task. Propositions are, first, the literals of the atoms that change: 2 a for "atom a is true", 2 a + 1 for "it is
-/// false"; then for each action that lasts "it runs", comparisons with fluents that change, "fluent f has a value", and helpers
-/// for disjunctions. Operators are the events of the actions, and helpers without an event. The end of an action needs that it
-/// runs, and its invariant; its start needs the parts of the invariant that it does not bring about itself.
+/// The relaxed task. Propositions are, first, the literals of the atoms that change: 2 a for "atom
+/// a is true", 2 a + 1 for "it is false"; then for each action that lasts "it runs", comparisons
+/// with fluents that change, "fluent f has a value", and helpers for disjunctions. Operators are
+/// the events of the actions, and helpers without an event. The end of an action needs that it
+/// runs, and its invariant; its start needs the parts of the invariant that it does not bring about
+/// itself.
 #[derive(Drop)]
 pub struct Relaxed {
     /// How many atoms change.
@@ -29,14 +31,16 @@ pub struct Relaxed {
     pub action: Vec<u32>,
     /// The operators that need nothing.
     pub free: Vec<u32>,
-    /// Of each action: the operators of its start, or only event, and its end, and its proposition "it runs", or none.
+    /// Of each action: the operators of its start, or only event, and its end, and its proposition
+    /// "it runs", or none.
     pub start_op: Vec<u32>,
     pub end_op: Vec<u32>,
     pub running: Vec<u32>,
     pub compares: Vec<Compared>,
     /// Of each proposition: its comparison, or none.
     pub compare_of: Vec<u32>,
-    /// Of each fluent: the comparisons that a lesser value may help, and those that a greater one may help.
+    /// Of each fluent: the comparisons that a lesser value may help, and those that a greater one
+    /// may help.
     pub helped_by_fall: Lists,
     pub helped_by_rise: Lists,
     /// Of each fluent: its proposition "it has a value", or none.

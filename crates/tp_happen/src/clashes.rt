@@ -10,7 +10,8 @@ use crate::interfere::is_additive;
 use std::alloc::{AllocError, Global};
 use tp_task::NumericEffect;
 
-/// Whether a write may not stand behind others of its fluent: there is one, and not all of them are additive.
+/// Whether a write may not stand behind others of its fluent: there is one, and not all of them are
+/// additive.
 fn clashes(before: Option<bool>, additive: bool) -> bool
     ensures { result ≡ clashes before additive }
 {
@@ -20,7 +21,8 @@ fn clashes(before: Option<bool>, additive: bool) -> bool
     }
 }
 
-// Whether writes mix. A table tells for each fluent whether the writes so far are additive, if there are any.
+// Whether writes mix. A table tells for each fluent whether the writes so far are additive, if
+// there are any.
 fn mixes(effects: &[NumericEffect], table: &mut [Option<bool>]) -> bool
     requires known { All (λ w. w.fluent < length table.old) effects.now }
     requires blank { (f : ℕ) → slice_index_or table.old f None ≡ None }

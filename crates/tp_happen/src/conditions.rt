@@ -8,8 +8,7 @@ ghost use Rattle.tp_happen.specs.Judged.{finding, of_condition, opposite, of_bot
 ghost use Rattle.tp_happen.specs.Stored.{state_of};
 
 use crate::{Range, State, value};
-use tp_task::truth::compared;
-use tp_task::{AtomId, Comparison, Cond, Expr};
+use tp_task::{AtomId, Comparison, Cond, Expr, compared};
 
 /// What a condition is found to be: one byte, so that it is handed back in a register.
 #[derive(Clone, Copy)]

@@ -35,7 +35,8 @@ impl<'t> Model for Footprint<'t> {
 }
 
 impl<'t> Footprint<'t> {
-    /// The footprint of an event. Takes the time of its mentions, and a bit for each atom and fluent.
+    /// The footprint of an event. Takes the time of its mentions, and a bit for each atom and
+    /// fluent.
     pub fn of(alloc: Global, event: &EventRef<'t>) -> Result<Footprint<'t>, AllocError>
         ensures { IfOk result (λ f. f ≡ event.now) }
     {
@@ -68,7 +69,8 @@ impl<'t> Footprint<'t> {
         disturb(&self.sides, &other.sides)
     }
 
-    /// Whether two events interfere, as `interferes` answers. Takes a step for each atom and fluent that one of them changes.
+    /// Whether two events interfere, as `interferes` answers. Takes a step for each atom and fluent
+    /// that one of them changes.
     pub fn interferes(&self, other: &Footprint<'_>) -> bool
         ensures { result ≡ interferes self.now.event other.now.event }
     {

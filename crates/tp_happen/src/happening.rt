@@ -18,7 +18,8 @@ use crate::{EventRef, Range, State};
 use std::alloc::{AllocError, Global};
 use thiserror::Error;
 
-/// What stops a happening from being worked out: out of memory, or a number past 10^15 in absolute value.
+/// What stops a happening from being worked out: out of memory, or a number past 10^15 in absolute
+/// value.
 #[derive(Clone, Copy, Debug, PartialEq, Eq, Error)]
 pub enum ApplyFault {
     #[error("out of memory")]
@@ -121,9 +122,10 @@ fn next(alloc: Global, state: &State, events: &[EventRef<'_>]) -> Result<State, 
     })
 }
 
-/// What happens to a state when events happen at once, or the first fault: something undefined, then a condition
-/// that does not hold, then an event that mixes writes, then two events that interfere, each by the lowest number.
-/// Takes the time and memory of the state, and the time of the conditions and effects of the events.
+/// What happens to a state when events happen at once, or the first fault: something undefined,
+/// then a condition that does not hold, then an event that mixes writes, then two events that
+/// interfere, each by the lowest number. Takes the time and memory of the state, and the time of
+/// the conditions and effects of the events.
 pub fn apply(alloc: Global, state: &State, events: &[EventRef<'_>]) -> Result<Outcome, ApplyFault>
     requires fits { list_all (fits_in state.now) events.now ≡ true }
     ensures ok { IfOk result (Applies state.now events.now) }

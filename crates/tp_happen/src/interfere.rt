@@ -220,8 +220,9 @@ pub(crate) fn interfere(a: &GroundEvent, b: &GroundEvent) -> bool
     disturbs(a, b) || disturbs(b, a)
 }
 
-/// Whether two events interfere: one of them adds or deletes an atom that the other's condition mentions, adds an
-/// atom that the other deletes, writes a fluent that the other reads, or sets a fluent that the other writes.
+/// Whether two events interfere: one of them adds or deletes an atom that the other's condition
+/// mentions, adds an atom that the other deletes, writes a fluent that the other reads, or sets a
+/// fluent that the other writes.
 pub fn interferes(first: &Event<'_>, second: &Event<'_>) -> bool
     ensures { result ≡ spec.interferes first.now second.now }
 {

@@ -43,5 +43,5 @@ pub use states::State;
 pub use tp_plan_text::{
     Plan, PlanFault, Step, forms_are_written, plans_are_read, print_plan, read_plan,
 };
-pub use tp_task::truth::compares;
+pub use tp_task::compares;
 pub use values::{Range, value};

@@ -8,7 +8,8 @@ use crate::mentions::{push_atoms, push_read, push_set, push_written};
 use std::alloc::{AllocError, Global};
 use tp_task::GroundEvent;
 
-/// A way in which two events interfere: what one of them does to an atom or a fluent, and what the other does with it.
+/// A way in which two events interfere: what one of them does to an atom or a fluent, and what the
+/// other does with it.
 #[derive(Clone, Copy)]
 pub enum Meeting {
     ChangedAndAsked,

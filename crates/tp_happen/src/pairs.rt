@@ -34,8 +34,8 @@ fn first_pair(events: &[Footprint<'_>]) -> Option<(usize, usize)>
     None
 }
 
-/// The first two events that interfere. Takes the time of their conditions and effects, and a step for each pair of events and
-/// each effect of one of them.
+/// The first two events that interfere. Takes the time of their conditions and effects, and a step
+/// for each pair of events and each effect of one of them.
 #[tactic(auto, using(crate::proofs::FirstPair::few))]
 pub(crate) fn first_interfering(
     alloc: Global,

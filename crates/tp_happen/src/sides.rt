@@ -9,7 +9,8 @@ use std::alloc::{AllocError, Global};
 use tp_bitset::NumberSet;
 use tp_task::GroundEvent;
 
-/// In one of these ways: what the event does as the first of the two, and what it does as the other.
+/// In one of these ways: what the event does as the first of the two, and what it does as the
+/// other.
 #[derive(Drop)]
 pub(crate) struct Side {
     pub(crate) done: Vec<u32>,

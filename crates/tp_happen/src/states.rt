@@ -10,7 +10,8 @@ use std::marker::Model;
 use tp_task::{AtomId, FluentId, Task};
 use tp_text::Scale;
 
-/// The truth of each atom and the number of each fluent that has one, with the scale of the task's time.
+/// The truth of each atom and the number of each fluent that has one, with the scale of the task's
+/// time.
 #[derive(Drop)]
 pub struct State {
     pub(crate) scale: Scale,

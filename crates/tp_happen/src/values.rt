@@ -31,7 +31,8 @@ pub(crate) fn small(x: Option<i64>) -> Result<Option<i64>, Range>
     }
 }
 
-/// The value of an expression, in a state and for a duration in units. `Range` where it or a part passes 10^15.
+/// The value of an expression, in a state and for a duration in units. `Range` where it or a part
+/// passes 10^15.
 pub fn value(state: &State, duration: Option<i64>, expr: &Expr) -> Result<Option<i64>, Range>
     ensures ok { IfOk result (λ v. v ≡ spec.value (state_of state.now) duration expr.now) }
     ensures small { OnOk result (values_small (state_of state.now) duration expr.now ≡ true) }

@@ -22,7 +22,8 @@ fn write_atoms(atoms: &mut [bool], which: &[u32], truth: bool)
     }
 }
 
-/// What one numeric effect makes of its fluent. Its right side is evaluated in the state before the happening.
+/// What one numeric effect makes of its fluent. Its right side is evaluated in the state before the
+/// happening.
 fn written(
     now: Option<i64>,
     state: &State,

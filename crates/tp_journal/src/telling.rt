@@ -164,10 +164,9 @@ fn take_any<R: Source>(lines: &mut Lines<R>, place: Place, number: u64) -> Resul
 /// `<` ends it, whatever else the line holds. It takes memory for the lags, and reads each line of
 /// the head twice.
 ///
-/// # Errors
-/// `Line(n)` where line n is wanted in the head and is the first that breaks the format, or does not
-/// end within the bytes that the lines may take; `Memory` where a growth is refused; `Read` where the
-/// reader fails.
+/// # Errors `Line(n)` where line n is wanted in the head and is the first that breaks the format,
+/// or does not end within the bytes that the lines may take; `Memory` where a growth is refused;
+/// `Read` where the reader fails.
 pub fn journal_head<R: Source>(
     alloc: Global,
     lines: &mut Lines<R>,

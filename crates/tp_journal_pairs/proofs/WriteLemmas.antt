@@ -137,7 +137,7 @@ enters_long old line gt = at_true _ _ (nat_lt 256 (length line)) (lt-ltb 256 (le
 
 -- ---- one line more
 
-runs_more : (old mid new : Machine) (es fs : List Entry) → Runs 2 old es mid → Runs 2 mid fs new → Runs 2 old (es ++ fs) new
+pub runs_more : (old mid new : Machine) (es fs : List Entry) → Runs 2 old es mid → Runs 2 mid fs new → Runs 2 old (es ++ fs) new
 runs_more old mid new [] fs h k = subst (λ m. Runs 2 m fs new) h k
 runs_more old mid new (None ∷ es) fs h k = runs_more old mid new es fs h k
 runs_more old mid new (Some p ∷ es) fs h k = (h.0, h.1, h.2, h.3, runs_more h.0 mid new es fs h.4 k)

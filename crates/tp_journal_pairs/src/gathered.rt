@@ -6,8 +6,8 @@ use std::marker::Model;
 use std::sync::ledger::{Blank, Ledger};
 use tp_device::{Failed, FailureCount, Sink};
 
-/// At most 16,896 bytes: a line of an answer, of which a journal has none of more than 16,384, and the
-/// line of its command.
+/// At most 16,896 bytes: a line of an answer, of which a journal has none of more than 16,384, and
+/// the line of its command.
 #[derive(Drop)]
 struct Sheet {
     bytes: [u8; 16_896],
@@ -58,7 +58,8 @@ impl Sheet {
     }
 }
 
-/// A sink that keeps what it is given until it is asked for. A push of more than there is room for fails.
+/// A sink that keeps what it is given until it is asked for. A push of more than there is room for
+/// fails.
 #[derive(Drop)]
 pub(crate) struct Gathered<L: Ledger> {
     sheet: Sheet,

@@ -141,11 +141,12 @@ fn judge_telling<N: Net>(
     compared(is_text_of(alloc, &answer, text))
 }
 
-/// Judges the text of a command's answer, without its line end. Any reason that qualifies is right, and so is that memory ran
-/// out where it may. Where the text is right the executive has gone on as it says.
+/// Judges the text of a command's answer, without its line end. Any reason that qualifies is right,
+/// and so is that memory ran out where it may. Where the text is right the executive has gone on as
+/// it says.
 ///
-/// It costs what the command costs, or for a refusal 3 k + 1 look-ups, where its reason has k edges; and it takes memory for a
-/// copy of the text, and for the edges of a reason.
+/// It costs what the command costs, or for a refusal 3 k + 1 look-ups, where its reason has k
+/// edges; and it takes memory for a copy of the text, and for the edges of a reason.
 pub fn judge<N: Net>(
     alloc: Global,
     executive: &mut Executive<N>,

@@ -1,4 +1,5 @@
-//! Whether edges are a reason against a command: the setting that would be is looked at, edge by edge, and never copied.
+//! Whether edges are a reason against a command: the setting that would be is looked at, edge by
+//! edge, and never copied.
 
 ghost use Rattle.std.specs.Prelude.{◌≡◌, ◌≢◌, ◌↔◌, ◌<◌, ℕ, true, false, IsTrue, MatchOption, slice_index_or};
 ghost use Rattle.std.specs.List.{AllByRecursion};
@@ -219,8 +220,8 @@ fn mark(marks: &mut [bool], point: Point) -> Option<bool>
     Some(was)
 }
 
-/// Whether no two of those of the edges that exist begin at one point. Each edge is looked at once, from the last to the
-/// first, and the points at which the ones behind it begin are marked.
+/// Whether no two of those of the edges that exist begin at one point. Each edge is looked at once,
+/// from the last to the first, and the points at which the ones behind it begin are marked.
 fn begin_apart<N: Net>(executive: &Executive<N>, command: Command, edges: &[Edge]) -> bool
     requires conflict { may_conflict command ≡ true }
     requires sound { IsSound executive.now }

@@ -1,4 +1,5 @@
-//! The writing of a journal: lines of commands are answered, and each answer has its pair in the log before it goes out.
+//! The writing of a journal: lines of commands are answered, and each answer has its pair in the
+//! log before it goes out.
 
 ghost use Rattle.std.specs.Prelude.{◌≡◌, ◌≤◌, ◌<◌, [], ◌∷◌, ◌++◌, None, Some, IfOk, length, codes, decimal, map};
 ghost use Rattle.tp_device.specs.Bytes.{Writes, failures_after};
@@ -132,8 +133,8 @@ fn write_pair<V: Sink>(log: &mut V, command: &Command, answer: &Answer) -> Resul
     write_reply(log, answer)
 }
 
-/// Writes the pair of a command, in as few pushes as the log wants for its bytes: they are gathered first. What is too long for
-/// that goes out piece by piece.
+/// Writes the pair of a command, in as few pushes as the log wants for its bytes: they are gathered
+/// first. What is too long for that goes out piece by piece.
 fn write_pair_whole<V: Sink, L: Ledger>(
     log: &mut V,
     blank: Blank,
@@ -224,13 +225,13 @@ fn enter_line<N: Net, W: Sink, V: Sink>(
 
 /// What one turn did.
 #[derive(Clone, Copy)]
-enum Turn {
+pub(crate) enum Turn {
     Answered(u64),
     Over,
 }
 
 /// Reads a line and enters it.
-fn take_turn<N: Net, R: Source, W: Sink, V: Sink>(
+pub(crate) fn take_turn<N: Net, R: Source, W: Sink, V: Sink>(
     executive: &mut Executive<N>,
     lines: &mut Lines<R>,
     answers: &mut W,
@@ -259,13 +260,14 @@ fn take_turn<N: Net, R: Source, W: Sink, V: Sink>(
     }
 }
 
-/// Answers all lines, as `serve` does, and writes their journal to the log: the head, then for each line that has an answer
-/// its pair, which goes to the log before the answer goes out. After a fault the executive is as after the lines that were
-/// read whole. Beside what the commands cost it writes each answer twice, and takes no memory.
+/// Answers all lines, as `serve` does, and writes their journal to the log: the head, then for each
+/// line that has an answer its pair, which goes to the log before the answer goes out. After a
+/// fault the executive is as after the lines that were read whole. Beside what the commands cost it
+/// writes each answer twice, and takes no memory.
 ///
-/// # Errors
-/// `Read` where the reader fails, `Write` where `answers` does, `Log` where `log` does; `TooLong` where the reader has more
-/// bytes than the lines may take, 2^32 unless they were made with another limit.
+/// # Errors `Read` where the reader fails, `Write` where `answers` does, `Log` where `log` does;
+/// `TooLong` where the reader has more bytes than the lines may take, 2^32 unless they were made
+/// with another limit.
 pub fn journal<N: Net, R: Source, W: Sink, V: Sink>(
     executive: &mut Executive<N>,
     lines: &mut Lines<R>,

@@ -1,4 +1,5 @@
-//! The edges of a setting, as two lists in one order: their names, and their arcs in the distance graph.
+//! The edges of a setting, as two lists in one order: their names, and their arcs in the distance
+//! graph.
 ghost use Rattle.std.specs.Prelude.{◌≡◌, ℕ, ◌<◌, ◌≤◌, ◌++◌, ◌∷◌, [], All, length, map, IfOk};
 ghost use Rattle.tp_bounds.specs.Setting.{Setting};
 ghost use Rattle.tp_bounds.specs.Changes.{without_bound};
@@ -11,7 +12,8 @@ use crate::slacks::Arc;
 use std::alloc::{AllocError, Global};
 use tp_bounds::{Bound, BoundId, Edge, Point, Reason};
 
-/// The number of a point among those of the arcs: 0 for the origin, one more than its own for an event.
+/// The number of a point among those of the arcs: 0 for the origin, one more than its own for an
+/// event.
 pub fn number(point: Point) -> usize
     ensures { result ≡ number_of point }
 {

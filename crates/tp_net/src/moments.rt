@@ -1,5 +1,5 @@
-//! The least and the greatest moments of the points of a distance graph (Dechter, Meiri and Pearl 1991), and what one more
-//! arc does to them: new moments, or a negative cycle through it.
+//! The least and the greatest moments of the points of a distance graph (Dechter, Meiri and Pearl
+//! 1991), and what one more arc does to them: new moments, or a negative cycle through it.
 ghost use Rattle.std.specs.Prelude.{◌≡◌, ℕ, ◌+◌, ◌-◌, ◌^◌, ◌<◌, ◌≤◌, ◌∷◌, [], ◌++◌, length, All, IfOk, slice_index, vec_len, pos};
 ghost use Rattle.tp_net.specs.Graph.{IsSolution, HasNoSolution, IsLeast, IsGreatest, moment};
 ghost use Rattle.tp_net.specs.Slacks.{JoinsPoints};
@@ -92,7 +92,8 @@ pub fn lower(alloc: Global, arcs: &[Arc], high: &[u64], new: Arc) -> Result<Vec<
     Ok(differences(alloc, high, &lowered.amounts)?)
 }
 
-/// The least and the greatest moments with one more arc, or the numbers of the arcs of a negative cycle.
+/// The least and the greatest moments with one more arc, or the numbers of the arcs of a negative
+/// cycle.
 #[derive(Debug, Drop)]
 pub enum Added {
     Both(Vec<u64>, Vec<u64>),

@@ -1,6 +1,6 @@
-//! The least and the greatest moments by Bellman-Ford: each arc in turn moves the point that breaks it, until a round moves
-//! none. At most points * edges steps.
-//! Some solution is known, so no point moves past it, and there are no more rounds than points.
+//! The least and the greatest moments by Bellman-Ford: each arc in turn moves the point that breaks
+//! it, until a round moves none. At most points * edges steps. Some solution is known, so no point
+//! moves past it, and there are no more rounds than points.
 ghost use Rattle.std.specs.Prelude.{◌≡◌, ℕ, ◌<◌, ◌≤◌, ◌^◌, length, All, IsTrue, false, ℤ, slice_index, pos, ◌+ℤ◌, ◌≤ℤ◌};
 ghost use Rattle.tp_net.specs.Graph.{IsLeast, IsGreatest, MeetsArc, moment};
 ghost use Rattle.tp_net.specs.Slacks.{JoinsPoints};
@@ -44,7 +44,8 @@ fn rise_once(arcs: &[Arc], known: &[u64], low: &mut [u64]) -> bool
     rose
 }
 
-/// Raises moments that are not above those of any solution until they are the least solution. Some solution is known.
+/// Raises moments that are not above those of any solution until they are the least solution. Some
+/// solution is known.
 pub fn settle_low(arcs: &[Arc], known: &[u64], low: &mut [u64])
     requires len { length known.now ≡ length low.old }
     requires origin { 0 < length low.old }
@@ -111,7 +112,8 @@ fn fall_once(arcs: &[Arc], known: &[u64], high: &mut [u64]) -> bool
     fell
 }
 
-/// Lowers moments that are not below those of any solution until they are the greatest solution. Some solution is known.
+/// Lowers moments that are not below those of any solution until they are the greatest solution.
+/// Some solution is known.
 pub fn settle_high(arcs: &[Arc], known: &[u64], high: &mut [u64])
     requires len { length known.now ≡ length high.old }
     requires origin { 0 < length high.old }

@@ -1,4 +1,5 @@
-//! A network for bounds between any two points, which keeps the least and the greatest moment of each.
+//! A network for bounds between any two points, which keeps the least and the greatest moment of
+//! each.
 ghost use Rattle.std.specs.Prelude.{◌≡◌, ◌≢◌, ℕ, ◌<◌, ◌≤◌, ◌-◌, ◌++◌, ◌∷◌, [], length, slice_index, IfOk, OnOk, OnErr, replicate, MatchOption, suc};
 ghost use Prim.Native.Nat.{max};
 ghost use Rattle.std.specs.FinMap.{insert};
@@ -19,8 +20,8 @@ use std::collections::BTreeMap;
 use std::marker::Model;
 use tp_bounds::{Bound, BoundId, Edge, Point};
 
-/// A network for bounds between any two points. It keeps its edges, by name and as arcs, and the least and the
-/// greatest moment of each point.
+/// A network for bounds between any two points. It keeps its edges, by name and as arcs, and the
+/// least and the greatest moment of each point.
 #[derive(Drop)]
 pub struct ScratchNet {
     horizon: u32,
@@ -61,7 +62,8 @@ pub fn tops(alloc: Global, events: u16, horizon: u32) -> Result<Vec<u64>, AllocE
     Ok(tops)
 }
 
-/// An event that is not dispatched and can't wait until the floor that it has at the moment, if there is one.
+/// An event that is not dispatched and can't wait until the floor that it has at the moment, if
+/// there is one.
 pub fn late(fixed: &[Option<u32>], high: &[u64], lags: &[u32], now: u32) -> Option<u16>
     requires events { length fixed.now ≤ 1024 }
     requires points { length high.now ≡ suc (length fixed.now) }
@@ -90,7 +92,8 @@ fn between(alloc: Global, low: &[u64], high: &[u64], back: u64) -> Result<Vec<u6
     Ok(between)
 }
 
-/// Puts a bound under its identifier, and its edge after the others. Where memory runs out, all is as before.
+/// Puts a bound under its identifier, and its edge after the others. Where memory runs out, all is
+/// as before.
 fn enter(
     bounds: &mut BTreeMap<u32, Bound>,
     names: &mut Vec<Edge>,

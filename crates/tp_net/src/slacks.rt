@@ -7,7 +7,8 @@ ghost use Rattle.tp_net.specs.Sizes.{IsSmall, IsSmallWeight};
 use crate::spread::Link;
 use std::alloc::{AllocError, Global};
 
-/// An arc of a distance graph, between points by number: the moment of `to` is at most that of `from` plus the weight.
+/// An arc of a distance graph, between points by number: the moment of `to` is at most that of
+/// `from` plus the weight.
 #[derive(Clone, Copy, Debug)]
 pub struct Arc {
     pub from: usize,
@@ -47,7 +48,8 @@ pub fn is_met(arc: Arc, moments: &[u64]) -> bool
     moments[arc.to] as i64 <= moments[arc.from] as i64 + arc.weight
 }
 
-/// The arcs as links along which rising moments spread: where the end of an arc rises, its beginning has to.
+/// The arcs as links along which rising moments spread: where the end of an arc rises, its
+/// beginning has to.
 pub fn up_links(alloc: Global, arcs: &[Arc], low: &[u64]) -> Result<Vec<Link>, AllocError>
     requires small { All IsSmall low.now }
     requires weights { All (λ e. IsSmallWeight e.weight) arcs.now }
@@ -67,7 +69,8 @@ pub fn up_links(alloc: Global, arcs: &[Arc], low: &[u64]) -> Result<Vec<Link>, A
     Ok(links)
 }
 
-/// The arcs as links along which falling moments spread: where the beginning of an arc falls, its end has to.
+/// The arcs as links along which falling moments spread: where the beginning of an arc falls, its
+/// end has to.
 pub fn down_links(alloc: Global, arcs: &[Arc], high: &[u64]) -> Result<Vec<Link>, AllocError>
     requires small { All IsSmall high.now }
     requires weights { All (λ e. IsSmallWeight e.weight) arcs.now }

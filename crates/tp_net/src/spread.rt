@@ -1,7 +1,8 @@
-//! Incremental tightening (Dechter, Meiri and Pearl 1991): Dijkstra on reduced costs. The kept moments are the potential, so
-//! the reduced cost of an edge is its slack; what is worked out is by how much each point has to move. Points are settled in
-//! the order of the greatest amount, each once; the next one is looked for among all points, and all edges are read for each
-//! point that is settled: points * (points + edges).
+//! Incremental tightening (Dechter, Meiri and Pearl 1991): Dijkstra on reduced costs. The kept
+//! moments are the potential, so the reduced cost of an edge is its slack; what is worked out is by
+//! how much each point has to move. Points are settled in the order of the greatest amount, each
+//! once; the next one is looked for among all points, and all edges are read for each point that is
+//! settled: points * (points + edges).
 ghost use Rattle.std.specs.Prelude.{◌≡◌, ◌≢◌, ℕ, ◌+◌, ◌-◌, ◌<◌, ◌≤◌, length, All, IfOk, MatchOption, slice_index, vec_len};
 ghost use Rattle.tp_net.specs.Links.{MeetsLink, IsClosed, AreAmong, Spreading, IsNext, IsSpread, IsTrace, link_at};
 

@@ -9,7 +9,7 @@ ghost use Rattle.tp_plan_text.specs.PlanForms.{form_view, head_of, words_of, bra
 
 use crate::tokens::{Token, is_bare, next_token, take_sign, take_word};
 use std::alloc::{AllocError, Global};
-use tp_syntax_ast::term::is_name;
+use tp_syntax_ast::is_name;
 use tp_text::has_time_form;
 
 /// What stands on a line: `TIME: (WORD ..)`, and `[DURATION]` or not.

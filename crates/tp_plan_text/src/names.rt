@@ -10,8 +10,8 @@ use crate::tokens::is_bare;
 use std::alloc::{AllocError, Global};
 use tp_bounds::MOST_STEPS;
 
-/// The name and the objects for which each line of a text in lower case asks, as far as the lines can be steps: those behind
-/// the 512th that is not empty are left out.
+/// The name and the objects for which each line of a text in lower case asks, as far as the lines
+/// can be steps: those behind the 512th that is not empty are left out.
 pub fn names_in<'t>(alloc: Global, text: &'t str) -> Result<Vec<Vec<&'t str>>, AllocError>
     ensures { IfOk result (λ v. map (λ ws. map (λ w. w.now) ws.items) v.items
         ≡ names_from 0 (lines_of text.now)) }

@@ -5,7 +5,8 @@ ghost use Rattle.std.specs.Prelude.{◌≡◌};
 use std::marker::Model;
 use tp_task::ActionId;
 
-/// A step of a plan: an action that starts at a tick and lasts so many ticks, 0 for an instantaneous action.
+/// A step of a plan: an action that starts at a tick and lasts so many ticks, 0 for an
+/// instantaneous action.
 #[derive(Clone, Copy, Debug, PartialEq, Eq)]
 pub struct Step {
     pub tick: u32,

@@ -150,7 +150,8 @@ fn write_steps<W: Sink>(steps: &[Step], task: &Task, writer: &mut W) -> Result<(
     Ok(())
 }
 
-/// Writes a plan of a task, a line for each step. It takes no memory. Where the writer fails, it has taken some first part.
+/// Writes a plan of a task, a line for each step. It takes no memory. Where the writer fails, it
+/// has taken some first part.
 pub fn print_plan<W: Sink>(plan: &Plan, task: &Task, writer: &mut W) -> Result<(), Failed>
     ensures bytes { Writes
         (W.held writer.old) (W.held writer.new) (plan_text (readable task.now) plan.now) result }
@@ -159,7 +160,8 @@ pub fn print_plan<W: Sink>(plan: &Plan, task: &Task, writer: &mut W) -> Result<(
     write_steps(plan.steps(), task, writer)
 }
 
-/// What is written for steps spells them, where the words of each action are names in lower case, by which it is found.
+/// What is written for steps spells them, where the words of each action are names in lower case,
+/// by which it is found.
 pub fn plans_are_read()
     ensures { PlansAreRead }
 {}

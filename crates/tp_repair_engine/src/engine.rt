@@ -26,8 +26,8 @@ use tp_bounds::{Bound, BoundId, Edge, Reason};
 use tp_net::edges::arc;
 use tp_net::slacks::Arc;
 
-/// The arcs of a network under keys, the least and the greatest moments that they leave, room to work them out, and how
-/// many edges the last command looked at.
+/// The arcs of a network under keys, the least and the greatest moments that they leave, room to
+/// work them out, and how many edges the last command looked at.
 #[derive(Drop)]
 pub struct Engine {
     pub store: Store,
@@ -38,7 +38,8 @@ pub struct Engine {
     pub looks: u64,
 }
 
-/// Puts a bound and the key of its edge under its identifier. Where a growth is refused, neither stands there.
+/// Puts a bound and the key of its edge under its identifier. Where a growth is refused, neither
+/// stands there.
 fn record(
     bounds: &mut BTreeMap<u32, Bound>,
     keys: &mut BTreeMap<u32, usize>,
@@ -97,9 +98,9 @@ fn enter(
     Ok(())
 }
 
-/// Brings a bound in with the moments that it leaves, or tells the rest of a negative cycle that begins with its edge.
-/// Where it can't be met, or a growth is refused, the edges and the moments are as before. The edge and each other one
-/// are looked at once a direction at most.
+/// Brings a bound in with the moments that it leaves, or tells the rest of a negative cycle that
+/// begins with its edge. Where it can't be met, or a growth is refused, the edges and the moments
+/// are as before. The edge and each other one are looked at once a direction at most.
 pub fn bring(
     alloc: Global,
     engine: &mut Engine,
@@ -150,7 +151,8 @@ pub fn bring(
     Ok(None)
 }
 
-/// A reason that begins with an edge which no solution meets. It changes nothing; each edge is looked at once at most.
+/// A reason that begins with an edge which no solution meets. It changes nothing; each edge is
+/// looked at once at most.
 pub fn refute(
     alloc: Global,
     engine: &mut Engine,

@@ -41,7 +41,8 @@ pub fn slack_along(
     }
 }
 
-/// Goes through the list of a point that has just been settled, and tells how many edges it looked at.
+/// Goes through the list of a point that has just been settled, and tells how many edges it looked
+/// at.
 fn relax(
     list: &[Half],
     moments: &[u64],
@@ -91,9 +92,9 @@ fn relax(
     Ok(looks)
 }
 
-/// What each point gains or loses, in which order they were settled (0: not), by which edge each got it, and the points
-/// that may be settled next. It is kept from command to command, so that a command takes memory only where the order or the
-/// queue outgrows its room.
+/// What each point gains or loses, in which order they were settled (0: not), by which edge each
+/// got it, and the points that may be settled next. It is kept from command to command, so that a
+/// command takes memory only where the order or the queue outgrows its room.
 #[derive(Drop)]
 pub struct Work {
     pub amounts: Vec<u64>,
@@ -121,8 +122,8 @@ impl Work {
     }
 }
 
-/// Lets amounts flow from the points that have some to those that have to follow, and tells how many edges it looked at:
-/// the lists of the points that it settles. Points may be settled already.
+/// Lets amounts flow from the points that have some to those that have to follow, and tells how
+/// many edges it looked at: the lists of the points that it settles. Points may be settled already.
 pub fn flow(
     store: &Store,
     moments: &[u64],

@@ -26,7 +26,8 @@ fn turn(direction: Direction) -> Direction
     }
 }
 
-/// What a point has by an edge from a point that is not marked, which has the amount; nothing by one that is marked.
+/// What a point has by an edge from a point that is not marked, which has the amount; nothing by
+/// one that is marked.
 fn offered(
     half: &Half,
     moments: &[u64],
@@ -55,8 +56,8 @@ fn offered(
     0
 }
 
-/// The most that a point has by the edges in its list from points that are not marked, which have the amount each; and how
-/// many edges were looked at.
+/// The most that a point has by the edges in its list from points that are not marked, which have
+/// the amount each; and how many edges were looked at.
 fn best_of(
     list: &[Half],
     moments: &[u64],
@@ -127,8 +128,8 @@ fn wait_point(work: &mut Work, points: usize, point: usize, amount: u64) -> Resu
     Ok(())
 }
 
-/// Settles one more point with the amount, or, where it is marked, lets it wait with the most that it has by points that
-/// are not; and tells how many edges it looked at.
+/// Settles one more point with the amount, or, where it is marked, lets it wait with the most that
+/// it has by points that are not; and tells how many edges it looked at.
 fn begin_at(
     store: &Store,
     moments: &[u64],
@@ -205,7 +206,8 @@ fn begin(
     Ok(looks)
 }
 
-/// The amounts of marked points, where all others have the amount; where a growth is refused, work is left over.
+/// The amounts of marked points, where all others have the amount; where a growth is refused, work
+/// is left over.
 fn try_free(
     store: &Store,
     moments: &[u64],
@@ -246,8 +248,8 @@ fn try_free(
     Ok(begun + more)
 }
 
-/// By how much less than the amount each marked point goes back, where all others stay; and how many edges were looked at:
-/// those at marked points.
+/// By how much less than the amount each marked point goes back, where all others stay; and how
+/// many edges were looked at: those at marked points.
 pub fn free(
     store: &Store,
     moments: &[u64],

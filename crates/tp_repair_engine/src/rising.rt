@@ -84,8 +84,8 @@ fn try_rise_floors(
     Ok(flow(store, low, Direction::Up, work)?)
 }
 
-/// How far the least moments rise where the floors of events that are not fixed rise to those at a moment; and how many
-/// edges were looked at: those that end at points that rise.
+/// How far the least moments rise where the floors of events that are not fixed rise to those at a
+/// moment; and how many edges were looked at: those that end at points that rise.
 pub fn rise_floors(
     store: &Store,
     low: &[u64],

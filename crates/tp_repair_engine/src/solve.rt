@@ -1,4 +1,5 @@
-//! The least and the greatest moments when an edge leaves: those that it may have held are worked out anew from the others.
+//! The least and the greatest moments when an edge leaves: those that it may have held are worked
+//! out anew from the others.
 ghost use Rattle.std.specs.Prelude.{◌≡◌, ◌≢◌, ◌⊎◌, ℕ, ◌+◌, ◌*◌, ◌-◌, ◌<◌, ◌≤◌, ◌^◌, ◌+ℤ◌, ◌<ℤ◌, All, length, IfOk, OnOk, OnErr, slice_index, true, false};
 ghost use Rattle.tp_net.specs.Graph.{MeetsArc, moment, arc_at};
 ghost use Rattle.tp_net.specs.Links.{MeetsLink};
@@ -83,8 +84,8 @@ pub fn holds_high(high: &[u64], arc: Arc) -> bool
     slack(high[arc.from], high[arc.to], arc.weight) == 0
 }
 
-/// The amounts that meet the edges, where points that are not marked have the amount. Where the origin is marked, it alone
-/// has.
+/// The amounts that meet the edges, where points that are not marked have the amount. Where the
+/// origin is marked, it alone has.
 fn free_marked(
     store: &Store,
     moments: &[u64],
@@ -122,7 +123,8 @@ fn free_marked(
     Ok(spread_from(store, moments, direction, work, 0, amount)?)
 }
 
-/// Marks what follows a point by tight edges, and works out the amounts that marked points have by the others.
+/// Marks what follows a point by tight edges, and works out the amounts that marked points have by
+/// the others.
 fn held_back(
     store: &Store,
     moments: &[u64],
@@ -247,8 +249,8 @@ fn high_without(
     Ok((heightened, looks))
 }
 
-/// Works the moments out anew that an edge held, which no solution has to meet any more. Where a growth is refused, they
-/// stay.
+/// Works the moments out anew that an edge held, which no solution has to meet any more. Where a
+/// growth is refused, they stay.
 pub fn solve(alloc: Global, engine: &mut Engine, arc: Arc, amount: u64) -> Result<(), AllocError>
     requires wired { (edges : ℕ) × IsWired (length engine.old.low.items) edges engine.old }
     requires start_low { IsStart

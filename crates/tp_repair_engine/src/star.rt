@@ -30,7 +30,8 @@ fn grow(
     Ok(())
 }
 
-/// The edges of so many events with the origin, and their keys: those of the floors, and those of the ends.
+/// The edges of so many events with the origin, and their keys: those of the floors, and those of
+/// the ends.
 pub fn star(
     alloc: Global,
     events: u16,

@@ -19,16 +19,18 @@ pub enum Direction {
     Down,
 }
 
-/// An edge as it stands in the list of a point: the point at its other end, its key, and its weight. The weight is
-/// copied here, so that who goes through the list reads it from end to end.
+/// An edge as it stands in the list of a point: the point at its other end, its key, and its
+/// weight. The weight is copied here, so that who goes through the list reads it from end to end,
+/// by [`look_at`] alone.
 #[derive(Clone, Copy, Debug, Drop)]
 pub struct Half {
     pub far: usize,
     pub key: usize,
-    pub weight: i64,
+    weight: i64,
 }
 
-/// An edge by name and as an arc, with its places in the list of the point where it ends, and of that where it begins.
+/// An edge by name and as an arc, with its places in the list of the point where it ends, and of
+/// that where it begins.
 #[derive(Clone, Copy, Debug, Drop)]
 pub struct Node {
     pub name: Edge,
@@ -45,8 +47,8 @@ pub struct Store {
     pub out: Vec<Vec<Half>>,
 }
 
-/// The lists along which moments move: rising ones go through the arcs that end at a point, falling ones through those
-/// that begin there.
+/// The lists along which moments move: rising ones go through the arcs that end at a point, falling
+/// ones through those that begin there.
 pub fn lists(store: &Store, direction: Direction) -> &[Vec<Half>]
     ensures { result.now ≡ lists_of direction store.now }
 {
@@ -148,7 +150,8 @@ fn pop_half(lists: &mut Vec<Vec<Half>>, point: usize)
     let _half = lists[point].pop();
 }
 
-/// Puts the two halves of an edge into the lists of its points, or, where a growth is refused, neither.
+/// Puts the two halves of an edge into the lists of its points, or, where a growth is refused,
+/// neither.
 fn push_both(
     into: &mut Vec<Vec<Half>>,
     out: &mut Vec<Vec<Half>>,

@@ -56,8 +56,8 @@ pub fn wipe(work: &mut Work, points: usize)
     }
 }
 
-/// How far each point has to move where one has to by an amount, from where nothing is worked out; and how many edges were
-/// looked at. Where a growth is refused, work is left over.
+/// How far each point has to move where one has to by an amount, from where nothing is worked out;
+/// and how many edges were looked at. Where a growth is refused, work is left over.
 fn try_spread(
     store: &Store,
     moments: &[u64],
@@ -164,7 +164,8 @@ fn end_of(store: &Store, key: usize) -> usize
     }
 }
 
-/// How far the points rise for one more arc, if it can be met; else the rest of a negative cycle that begins with it.
+/// How far the points rise for one more arc, if it can be met; else the rest of a negative cycle
+/// that begins with it.
 pub fn rise(
     alloc: Global,
     store: &Store,
@@ -236,8 +237,8 @@ pub fn fall(
     Ok(())
 }
 
-/// What one more arc does in both directions. The moments stay, so that nothing has to be put back where it can't be met,
-/// or where a growth is refused.
+/// What one more arc does in both directions. The moments stay, so that nothing has to be put back
+/// where it can't be met, or where a growth is refused.
 pub fn tighten(
     alloc: Global,
     store: &Store,

@@ -143,7 +143,8 @@ fn write_refusal<W: Sink>(writer: &mut W, refusal: &Refusal) -> Result<(), Faile
     }
 }
 
-/// Writes the line of an answer. It takes no memory. Where the writer fails, it has taken some first part of the line.
+/// Writes the line of an answer. It takes no memory. Where the writer fails, it has taken some
+/// first part of the line.
 pub fn write_answer<W: Sink>(writer: &mut W, answer: &Answer) -> Result<(), Failed>
     ensures bytes { Writes (W.held writer.old) (W.held writer.new) (line_of answer.now) result }
     ensures cause { W.failures writer.new ≡ failures_after (W.failures writer.old) result }

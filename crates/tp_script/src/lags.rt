@@ -36,12 +36,12 @@ fn may_set<N: Net>(net: &N, e: u16, lag: u32) -> bool
     e < net.events() && net.lag(e) == 0 && lag <= MOST_LAG
 }
 
-/// Reads the lines of lags that come next, and sets the lags. The first line of another form is left, to be taken next. It
-/// takes no memory.
+/// Reads the lines of lags that come next, and sets the lags. The first line of another form is
+/// left, to be taken next. It takes no memory.
 ///
-/// # Errors
-/// `Read` where the reader fails; `Head` for an event that there is not or that has a lag already, and for a lag over
-/// 1,000,000,000 ticks. The lags before it stay set, and the line at fault was taken.
+/// # Errors `Read` where the reader fails; `Head` for an event that there is not or that has a lag
+/// already, and for a lag over 1,000,000,000 ticks. The lags before it stay set, and the line at
+/// fault was taken.
 pub fn read_lags<N: Net, R: Source>(lines: &mut Lines<R>, net: &mut N) -> Result<(), ServeFault>
     requires longest { lines.old.longest ≡ 256 }
     requires start { (N.seen net.old).clock ≡ 0 }

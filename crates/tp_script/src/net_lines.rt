@@ -1,4 +1,5 @@
-//! The network of a plan as lines: its events with their texts, and its bounds by their identifiers.
+//! The network of a plan as lines: its events with their texts, and its bounds by their
+//! identifiers.
 
 ghost use Rattle.std.specs.Prelude.{◌≡◌, ◌++◌, map, codes, IfOk, OnOk, string_bytes};
 ghost use Rattle.tp_script.specs.NetLines.{bound_line, event_line, lines_from, network_lines, point_text};
@@ -57,8 +58,8 @@ fn put_events(text: &mut String, events: &[String]) -> Result<(), AllocError>
     Ok(())
 }
 
-/// The lines of a network: `event E TEXT` for each event, and then `bound ID F T W` for each bound, F and T being events, or `o`
-/// for the origin.
+/// The lines of a network: `event E TEXT` for each event, and then `bound ID F T W` for each bound,
+/// F and T being events, or `o` for the origin.
 pub fn network_text(alloc: Global, net: &PlanNet) -> Result<String, AllocError>
     ensures { IfOk result (λ text. string_bytes text ≡ network_lines net.now) }
 {

@@ -5,8 +5,8 @@ ghost use Rattle.tp_device.specs.Bytes.{Writes, failures_after};
 
 use tp_device::{Failed, Sink, Text, push_all};
 
-/// Writes a line of a word, with the space behind it, and a number. It takes no memory. Where the writer fails, it has taken
-/// some first part of the line.
+/// Writes a line of a word, with the space behind it, and a number. It takes no memory. Where the
+/// writer fails, it has taken some first part of the line.
 pub fn write_numbered<W: Sink>(writer: &mut W, word: &[u8], n: u32) -> Result<(), Failed>
     requires { length word.now ≤ 20 }
     ensures bytes { Writes
@@ -19,8 +19,8 @@ pub fn write_numbered<W: Sink>(writer: &mut W, word: &[u8], n: u32) -> Result<()
     push_all(writer, text.as_slice())
 }
 
-/// Writes a line of a word, with the space behind it, and two numbers. It takes no memory. Where the writer fails, it has
-/// taken some first part of the line.
+/// Writes a line of a word, with the space behind it, and two numbers. It takes no memory. Where
+/// the writer fails, it has taken some first part of the line.
 pub fn write_two_numbers<W: Sink>(
     writer: &mut W,
     word: &[u8],

@@ -93,8 +93,8 @@ fn add_actions(writer: &mut Writer, task: &tp_task::Task, kept: &[bool]) -> Resu
 }
 
 impl Task {
-    /// A ground task with those of its actions that are kept, in their order, in which no step ends behind the horizon. It
-    /// takes the time and memory of their conditions and effects.
+    /// A ground task with those of its actions that are kept, in their order, in which no step ends
+    /// behind the horizon. It takes the time and memory of their conditions and effects.
     pub fn new(
         alloc: Global,
         task: &tp_task::Task,

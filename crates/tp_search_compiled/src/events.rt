@@ -145,8 +145,8 @@ impl Writer {
         Ok(Span::between(at, self.task.rules.len()))
     }
 
-    // An event with the fluents that it reads, of which its duration constraint reads those from a place on, and those that
-    // it changes by what they were.
+    // An event with the fluents that it reads, of which its duration constraint reads those from a
+    // place on, and those that it changes by what they were.
     fn with_reads(&mut self, event: Event, ruled: usize) -> Result<Event, AllocError> {
         let reads = append(&mut self.task.lists, &self.reads)?;
         let at = reads.at as usize;

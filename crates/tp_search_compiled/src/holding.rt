@@ -12,7 +12,8 @@ impl State {
         self.judge(task, form) == Some(true)
     }
 
-    /// Whether a condition holds; None where its atoms are as it wants them and a number of it is out of range.
+    /// Whether a condition holds; None where its atoms are as it wants them and a number of it is
+    /// out of range.
     #[inline]
     pub fn judge(&self, task: &Task, form: &Form) -> Option<bool> {
         if !task.list(form.wanted).iter().all(|a| self.has(*a))

@@ -1,8 +1,11 @@
-//! A ground task as the guided search reads it: conditions, effects and durations as flat lists, numbered for the search.
+//! A ground task as the guided search reads it: conditions, effects and durations as flat lists,
+//! numbered for the search.
 //!
-//! - `spans`, `lists`, `queue`, `mixing`: runs of a vector, lists by number, a queue by whole keys, and a hash
+//! - `spans`, `lists`, `queue`, `mixing`: runs of a vector, lists by number, a queue by whole keys,
+//!   and a hash
 //! - `values`: numbers in terms of a state, and comparisons of them
-//! - `task`: conditions, events, actions and the task; `writing`, `conditions`, `events`, `compiled`: how it is made
+//! - `task`: conditions, events, actions and the task; `writing`, `conditions`, `events`,
+//!   `compiled`: how it is made
 //! - `places`: how atoms and fluents are numbered
 //! - `state`, `holding`: a state, what events do to it, and whether conditions hold in it
 //! - `marks`: whether events interfere

@@ -10,8 +10,8 @@ struct Waiting {
     next: u32,
 }
 
-/// Numbers by whole keys below a size: the least key first, within a key the one pushed first. The last key stands for all
-/// from there on.
+/// Numbers by whole keys below a size: the least key first, within a key the one pushed first. The
+/// last key stands for all from there on.
 #[derive(Drop)]
 pub struct Buckets {
     heads: Vec<u32>,

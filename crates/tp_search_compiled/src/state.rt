@@ -4,7 +4,8 @@ use crate::task::{Event, Task, Write, WriteTo};
 use crate::values::{UNDEFINED, Value, ranged, value_of};
 use std::alloc::{AllocError, Global};
 
-/// A state: a bit for each atom, a value for each fluent; and what they were before the changes since the last `keep`.
+/// A state: a bit for each atom, a value for each fluent; and what they were before the changes
+/// since the last `keep`.
 #[derive(Drop)]
 pub struct State {
     pub bits: Vec<u64>,
@@ -67,7 +68,8 @@ impl State {
             .unwrap_or(UNDEFINED)
     }
 
-    /// The value of an expression whose fluents are defined, for a duration in units; None where a number is out of range.
+    /// The value of an expression whose fluents are defined, for a duration in units; None where a
+    /// number is out of range.
     pub fn value(&self, task: &Task, x: Value, units: i64) -> Option<i64> {
         value_of(&task.code, x, &self.values, units)
     }
@@ -82,8 +84,8 @@ impl State {
         (event.duration && units == UNDEFINED) || !self.defined(task.list(event.needs))
     }
 
-    /// Carries out an event whose needs are defined; no other event of its tick interferes with it. Answers whether all
-    /// numbers stay in range; where one does not, only a part of it is done.
+    /// Carries out an event whose needs are defined; no other event of its tick interferes with it.
+    /// Answers whether all numbers stay in range; where one does not, only a part of it is done.
     pub fn apply(&mut self, task: &Task, event: &Event, units: i64) -> Result<bool, AllocError> {
         if event.writes.count > 0 && !self.apply_writes(task, event, units)? {
             return Ok(false);

@@ -3,8 +3,8 @@
 use crate::spans::{Span, part};
 use crate::values::{Compare, Ins, Op, Value};
 
-/// A part of a disjunction: an atom that has to be true or false, a comparison by its number among those of the
-/// disjunctions, or a group of the words behind it, of which all or one have to hold.
+/// A part of a disjunction: an atom that has to be true or false, a comparison by its number among
+/// those of the disjunctions, or a group of the words behind it, of which all or one have to hold.
 #[derive(Clone, Copy)]
 pub enum Word {
     Holds(u32),
@@ -24,8 +24,8 @@ impl Word {
     }
 }
 
-/// A condition: atoms that have to be true, atoms that have to be false, comparisons, and the disjunctions among its
-/// conjuncts, with their comparisons.
+/// A condition: atoms that have to be true, atoms that have to be false, comparisons, and the
+/// disjunctions among its conjuncts, with their comparisons.
 #[derive(Clone, Copy)]
 pub struct Form {
     /// In `lists`.

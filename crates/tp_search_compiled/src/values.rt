@@ -3,8 +3,8 @@
 use crate::spans::{Span, part};
 use tp_task::Comparison;
 
-/// What stands for the value of a fluent that has none, and for a duration that is no whole number of units: no number of a
-/// task is as small.
+/// What stands for the value of a fluent that has none, and for a duration that is no whole number
+/// of units: no number of a task is as small.
 pub const UNDEFINED: i64 = i64::MIN;
 
 /// The greatest magnitude of a number, 10^15.
@@ -142,7 +142,8 @@ fn run(code: &[Ins], values: &[i64], units: i64) -> Option<i64> {
     operands.pop()
 }
 
-/// The value of an expression whose fluents are defined, for a duration in units; None where a number is out of range.
+/// The value of an expression whose fluents are defined, for a duration in units; None where a
+/// number is out of range.
 pub fn value_of(code: &[Ins], x: Value, values: &[i64], units: i64) -> Option<i64> {
     match x {
         Value::Num(n) => Some(n),

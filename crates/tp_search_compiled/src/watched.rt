@@ -6,8 +6,8 @@ use crate::state::State;
 use crate::task::Task;
 use std::alloc::{AllocError, Global};
 
-/// The actions that may start, each under the atom that is needed least often of those that it needs and that some event
-/// changes, and those that need no such atom.
+/// The actions that may start, each under the atom that is needed least often of those that it
+/// needs and that some event changes, and those that need no such atom.
 #[derive(Drop)]
 pub struct Watched {
     pub lists: Lists,

@@ -6,8 +6,9 @@ use crate::store::{Start, push_copy};
 use std::alloc::{AllocError, Global};
 use tp_search_compiled::{Marks, Running, State, Task};
 
-/// The node that is expanded: the steps that run past its tick, the events of its tick, the starts that were chosen there,
-/// which conjuncts of the goal its own state meets, and the number of its state once that is kept.
+/// The node that is expanded: the steps that run past its tick, the events of its tick, the starts
+/// that were chosen there, which conjuncts of the goal its own state meets, and the number of its
+/// state once that is kept.
 #[derive(Drop)]
 pub struct Current {
     pub running: Vec<Running>,
@@ -115,7 +116,8 @@ impl Current {
         Ok(count)
     }
 
-    /// How many conjuncts a state lacks in which only some of them may differ from the node's own, which lacks so many.
+    /// How many conjuncts a state lacks in which only some of them may differ from the node's own,
+    /// which lacks so many.
     pub fn lacking_with(
         &self,
         task: &Task,

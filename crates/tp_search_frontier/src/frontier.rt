@@ -15,8 +15,8 @@ use std::marker::Model;
 use tp_search_compiled::{Lists, Marks, NONE, Running, Span, State, Task, Watched};
 use tp_task::MOST_STEPS;
 
-/// The nodes of a search, seen as those that still wait: a queue for each number of goal conjuncts that they lack, each in
-/// the order in which they were made.
+/// The nodes of a search, seen as those that still wait: a queue for each number of goal conjuncts
+/// that they lack, each in the order in which they were made.
 #[derive(Drop)]
 pub struct Frontier {
     alloc: Global,
@@ -56,7 +56,8 @@ fn watched_in(alloc: Global, task: &Task, state: &State) -> Result<Watched, Allo
 }
 
 impl Frontier {
-    /// The frontier of a task at the root: tick 0, the state in which the task begins, whose relaxed reach is known.
+    /// The frontier of a task at the root: tick 0, the state in which the task begins, whose
+    /// relaxed reach is known.
     pub fn new(
         alloc: Global,
         task: &tp_task::Task,
@@ -110,12 +111,18 @@ impl Frontier {
         Ok(())
     }
 
-    /// The node that lacks the fewest conjuncts of the goal, of these the one made first, and how many it lacks.
+    /// The node that lacks the fewest conjuncts of the goal, of these the one made first, and how
+    /// many it lacks.
     pub fn take(&mut self) -> Option<(u32, usize)>
         ensures { MatchOption result (AreEmpty self.old × (self.new ≡ self.old))
             (λ t. IsTaken self.old t.0 t.1 self.new) }
     {
         self.queues.take()
+    }
+
+    /// How many nodes wait.
+    pub fn waiting(&self) -> usize {
+        self.queues.count()
     }
 
     /// Whether no step of a node runs past its tick. With no conjunct lacking it is a plan then.

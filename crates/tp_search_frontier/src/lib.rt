@@ -1,5 +1,5 @@
-//! The frontier of a search for plans: its nodes, their order and their children. What it finds is not proved to be a plan:
-//! its caller has each plan judged.
+//! The frontier of a search for plans: its nodes, their order and their children. What it finds is
+//! not proved to be a plan: its caller has each plan judged.
 //!
 //! - `fault`: what keeps a search from an answer
 //! - `store`: nodes, moments, states

@@ -90,8 +90,8 @@ fn rounded(ticks: u32, unit: u32) -> u32 {
     }
 }
 
-// The least lawful duration of an action in ticks; a multiple of the unit where an effect mentions it. None where there is
-// none, or only past 32 bits.
+// The least lawful duration of an action in ticks; a multiple of the unit where an effect mentions
+// it. None where there is none, or only past 32 bits.
 fn least_duration(task: &Task, state: &State, action: &Action) -> Result<Option<u32>, SearchFault> {
     let allowed = allowed_by(task, state, task.rule_of(action))?;
     let Ok(least) = u32::try_from(allowed.least) else {
@@ -206,7 +206,8 @@ pub fn end_can_happen(
     holds(task, state, &event.cond)
 }
 
-/// Of each action whether it is kept: whether the condition of its start is met in the relaxed reach.
+/// Of each action whether it is kept: whether the condition of its start is met in the relaxed
+/// reach.
 pub fn startable(
     alloc: Global,
     task: &tp_task::Task,

@@ -1,5 +1,5 @@
-//! The nodes of a search. Those of one tick that stem from one wait share a moment: the state before the tick's happening, the
-//! steps that run, and what can start there.
+//! The nodes of a search. Those of one tick that stem from one wait share a moment: the state
+//! before the tick's happening, the steps that run, and what can start there.
 
 use std::alloc::{AllocError, Global};
 use tp_search_compiled::{NONE, Running, Span, State, Task, part, small};
@@ -12,7 +12,8 @@ pub struct Start {
     pub duration: u32,
 }
 
-/// A step that was chosen: its tick, its action, and how many ticks it lasts, 0 for an instantaneous action.
+/// A step that was chosen: its tick, its action, and how many ticks it lasts, 0 for an
+/// instantaneous action.
 #[derive(Clone, Copy, Debug, PartialEq, Eq)]
 pub struct Chosen {
     pub tick: u32,
@@ -33,7 +34,8 @@ pub struct Moment {
     pub starts: Option<Span>,
 }
 
-/// A node: its parent, its moment, the start that it chose (`NONE` where it waited), and its number of steps.
+/// A node: its parent, its moment, the start that it chose (`NONE` where it waited), and its number
+/// of steps.
 #[derive(Clone, Copy)]
 pub struct Node {
     pub parent: u32,

@@ -58,7 +58,8 @@ fn push_touched(
     Ok(())
 }
 
-/// For each action the conjuncts of the goal, by number, that its only event or its start may change.
+/// For each action the conjuncts of the goal, by number, that its only event or its start may
+/// change.
 pub fn touched_by(alloc: Global, task: &Task) -> Result<Lists, AllocError> {
     let mentions = mentions_of(alloc, task)?;
     let mut lists = Lists::new(alloc);

@@ -160,7 +160,8 @@ fn is_apart(rows: &Rows, task: &Task, chosen: &[u32], action: u32) -> bool
     true
 }
 
-// The child of a node that chooses an action next, if it is not before the first and interferes with none chosen.
+// The child of a node that chooses an action next, if it is not before the first and interferes
+// with none chosen.
 fn add_child(
     arena: &mut Arena,
     rows: &Rows,
@@ -212,7 +213,8 @@ fn add_children(
     Ok(())
 }
 
-// Expands a node; which candidates interfere with the last one chosen is asked before, if it was not.
+// Expands a node; which candidates interfere with the last one chosen is asked before, if it was
+// not.
 fn expand(
     arena: &mut Arena,
     rows: &mut Rows,
@@ -265,7 +267,8 @@ fn run<'t>(
     Ok(Found::Exhausted)
 }
 
-/// Looks for a plan of instantaneous steps at tick 0, for each set of actions that can happen at once there one node.
+/// Looks for a plan of instantaneous steps at tick 0, for each set of actions that can happen at
+/// once there one node.
 pub fn plan_at_once<'t>(
     alloc: Global,
     task: &'t Task,

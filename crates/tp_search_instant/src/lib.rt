@@ -5,8 +5,11 @@
 //! - `rows`, `sides`: which actions interfere
 #![tactic(auto)]
 
-pub mod arena;
-pub mod at_once;
-pub mod found;
-pub mod rows;
-pub mod sides;
+mod arena;
+mod at_once;
+mod found;
+mod rows;
+mod sides;
+
+pub use at_once::{judge, plan_at_once};
+pub use found::Found;

@@ -180,7 +180,8 @@ impl Rows {
         }
     }
 
-    /// Whether an action and a candidate are one event each, and these interfere: looked up where it was asked.
+    /// Whether an action and a candidate are one event each, and these interfere: looked up where
+    /// it was asked.
     pub fn meet(&self, task: &Task, action: u32, candidate: u32) -> bool
         ensures { (among : List ℕ) → AreRows task.now among self.now.rows.items
             → In candidate among → result ≡ interfere task.now action candidate }

@@ -1,5 +1,5 @@
-//! Actions whose events are kept as sets of atoms and fluents, so that another one is seen to interfere in the time of what it
-//! mentions itself.
+//! Actions whose events are kept as sets of atoms and fluents, so that another one is seen to
+//! interfere in the time of what it mentions itself.
 
 ghost use Rattle.std.specs.Prelude.{◌≡◌, ℕ, IfOk};
 ghost use Rattle.tp_task.specs.declared.events.GroundEvent.{GroundEvent};
@@ -21,7 +21,8 @@ const WAYS: [Meeting; 4] = [
     Meeting::SetAndWritten,
 ];
 
-/// Of an event, in one of the ways in which two interfere: where it does what the first one does, and where what the other does.
+/// Of an event, in one of the ways in which two interfere: where it does what the first one does,
+/// and where what the other does.
 #[derive(Drop)]
 pub struct Side {
     way: Meeting,
@@ -65,8 +66,8 @@ fn sides_of_event(alloc: Global, event: &Event<'_>) -> Result<Vec<Side>, AllocEr
     Ok(sides)
 }
 
-/// The sides of an action that is one event, and none of another. They cost what the event mentions, and a bit for each atom and
-/// fluent.
+/// The sides of an action that is one event, and none of another. They cost what the event
+/// mentions, and a bit for each atom and fluent.
 pub fn sides_of(alloc: Global, task: &Task, action: u32) -> Result<Vec<Side>, AllocError>
     ensures { IfOk result (λ v. AreSidesOf task.now action v.items) }
 {
@@ -89,7 +90,8 @@ fn meets(alloc: Global, side: &Side, other: &Event<'_>) -> Result<bool, AllocErr
     Ok(side.met.has_any(&done))
 }
 
-// Whether the event with this side interferes in that way with the one that an action is, if it is one event.
+// Whether the event with this side interferes in that way with the one that an action is, if it is
+// one event.
 fn meet_in(alloc: Global, task: &Task, side: &Side, other: u32) -> Result<bool, AllocError>
     ensures { (e : GroundEvent) → IsSide e side.now
         → IfOk result (λ b. b ≡ meet_with side.now.way e (only_event task.now other)) }
@@ -100,8 +102,8 @@ fn meet_in(alloc: Global, task: &Task, side: &Side, other: u32) -> Result<bool, 
     }
 }
 
-/// Whether an action with these sides interferes with another, both being one event each. It costs what the other one's event
-/// mentions.
+/// Whether an action with these sides interferes with another, both being one event each. It costs
+/// what the other one's event mentions.
 pub fn sides_meet(
     alloc: Global,
     task: &Task,

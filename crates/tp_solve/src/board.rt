@@ -17,8 +17,8 @@ fn write_line<B: Write>(board: &mut B, makespan: u32, expanded: u32) -> Result<(
     board.write_all(b"\n")
 }
 
-/// Tells the makespan of a plan that was found after so many expansions, if that is wished for. Where it can't be written, it is left
-/// out.
+/// Tells the makespan of a plan that was found after so many expansions, if that is wished for.
+/// Where it can't be written, it is left out.
 pub(crate) fn tell<B: Write>(board: &mut B, wished: bool, makespan: u32, expanded: u32)
     ensures { wished ≡ false → board.new ≡ board.old }
 {

@@ -1,4 +1,5 @@
-//! A plan at the pointwise least schedule of its network: the same steps, none later than it has to be.
+//! A plan at the pointwise least schedule of its network: the same steps, none later than it has to
+//! be.
 
 ghost use Rattle.std.specs.Prelude.{◌≤◌, length};
 ghost use Rattle.tp_solve.specs.Sought.{IsSought};
@@ -69,7 +70,8 @@ fn moved(
     Ok(moved)
 }
 
-/// The steps of a plan at the least schedule of its network, None where it has no network within the limits or no room for it.
+/// The steps of a plan at the least schedule of its network, None where it has no network within
+/// the limits or no room for it.
 fn least_steps(alloc: Global, plan: &ValidPlan<'_>) -> Option<Vec<Step>> {
     let task = plan.task();
     let network = deorder(alloc, plan, &task.limits).ok()?;
@@ -80,7 +82,8 @@ fn least_steps(alloc: Global, plan: &ValidPlan<'_>) -> Option<Vec<Step>> {
     moved(alloc, task, plan.plan().steps(), &moments).ok()
 }
 
-/// A plan at the least schedule of its network, where that is a valid plan that ends no later; else the plan as it is.
+/// A plan at the least schedule of its network, where that is a valid plan that ends no later; else
+/// the plan as it is.
 pub(crate) fn tightened<'t>(
     alloc: Global,
     task: &'t Task,

@@ -1,5 +1,6 @@
-//! Guided planning: what the guided search proposes is judged, scheduled and perhaps bettered; where it proposes no valid plan, the
-//! search by the count of unmet goal conjuncts answers with what is left of the budget.
+//! Guided planning: what the guided search proposes is judged, scheduled and perhaps bettered;
+//! where it proposes no valid plan, the search by the count of unmet goal conjuncts answers with
+//! what is left of the budget.
 //!
 //! - `least`: a plan at the least schedule of its network
 //! - `board`: what is told of a plan as it is found

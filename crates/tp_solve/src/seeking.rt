@@ -21,8 +21,8 @@ pub(crate) struct Aim<'t> {
     pub(crate) horizon: u32,
 }
 
-/// What a part of the guided search came to: a plan, if it proposed a valid one, how many nodes it expanded, and whether there may be
-/// more.
+/// What a part of the guided search came to: a plan, if it proposed a valid one, how many nodes it
+/// expanded, and whether there may be more.
 #[derive(Drop)]
 pub(crate) struct Outcome<'t> {
     pub(crate) plan: Option<ValidPlan<'t>>,
@@ -42,7 +42,8 @@ fn judged<'t>(aim: Aim<'t>, steps: Vec<Step>) -> Result<Option<ValidPlan<'t>>, S
     }
 }
 
-/// Lets the guided search go on until it proposes a plan or the budget is spent; where `before` is given, a plan that ends before it.
+/// Lets the guided search go on until it proposes a plan or the budget is spent; where `before` is
+/// given, a plan that ends before it.
 pub(crate) fn sought<'t>(
     aim: Aim<'t>,
     guided: &mut Guided<'_>,
@@ -110,8 +111,9 @@ fn earlier<'t, B: Write>(
     }
 }
 
-/// Lets the guided search go on from a plan, found after so many expansions, until the budget is spent. Each better plan takes the
-/// place of the last. Where the search has no answer, as for want of memory, the best so far stands.
+/// Lets the guided search go on from a plan, found after so many expansions, until the budget is
+/// spent. Each better plan takes the place of the last. Where the search has no answer, as for want
+/// of memory, the best so far stands.
 pub(crate) fn bettered<'t, B: Write>(
     aim: Aim<'t>,
     guided: &mut Guided<'_>,

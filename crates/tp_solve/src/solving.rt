@@ -1,4 +1,5 @@
-//! A plan of a task, or why there is none: the guided search first, then the search by the count of unmet goal conjuncts.
+//! A plan of a task, or why there is none: the guided search first, then the search by the count of
+//! unmet goal conjuncts.
 
 ghost use Rattle.std.specs.Prelude.{◌≡◌, true, false, IfOk, IfSome};
 ghost use Rattle.tp_task_reachability.specs.TaskReach.{GoalIs};
@@ -12,12 +13,13 @@ use std::alloc::Global;
 use std::io::{Write, sink};
 use tp_guided::Guided;
 use tp_search::{Found, SearchFault, certified, search, unreachable_has_no_plan};
-use tp_search_instant::at_once::judge;
+use tp_search_instant::judge;
 use tp_task::Task;
 use tp_task_reachability::goal_in_reach;
 use tp_validate::ValidPlan;
 
-/// What is wished for beside a plan: better ones, until the budget is spent; and that the makespan of each is told as it is found.
+/// What is wished for beside a plan: better ones, until the budget is spent; and that the makespan
+/// of each is told as it is found.
 #[derive(Clone, Copy, Debug, PartialEq, Eq)]
 pub struct Wishes {
     pub improve: bool,
@@ -53,8 +55,8 @@ pub fn search_rest<'t>(
     }
 }
 
-/// The plan that the guided search proposes within three quarters of a budget, and with it, where that is wished for, the best that it
-/// proposes within all of it.
+/// The plan that the guided search proposes within three quarters of a budget, and with it, where
+/// that is wished for, the best that it proposes within all of it.
 fn guided_plan<'t, B: Write>(
     aim: Aim<'t>,
     budget: u32,
@@ -175,8 +177,9 @@ pub fn propose_with<'t, B: Write>(
     }
 }
 
-/// The same as `solve`, with what is wished for beside: that better plans are sought until the budget is spent, so that the best one is
-/// the answer, and that the makespan of each plan of the guided search goes to `board` as it is found.
+/// The same as `solve`, with what is wished for beside: that better plans are sought until the
+/// budget is spent, so that the best one is the answer, and that the makespan of each plan of the
+/// guided search goes to `board` as it is found.
 pub fn solve_with<'t, B: Write>(
     alloc: Global,
     task: &'t Task,
@@ -201,9 +204,10 @@ pub fn solve_with<'t, B: Write>(
     }
 }
 
-/// A plan of a task that ends by a horizon, at its least schedule, or why there is none. The guided search has three quarters of the
-/// budget; where it proposes no valid plan, the search by the count of unmet goal conjuncts answers with what is left, up to as many
-/// expansions as the task's limits allow.
+/// A plan of a task that ends by a horizon, at its least schedule, or why there is none. The guided
+/// search has three quarters of the budget; where it proposes no valid plan, the search by the
+/// count of unmet goal conjuncts answers with what is left, up to as many expansions as the task's
+/// limits allow.
 pub fn solve<'t>(
     alloc: Global,
     task: &'t Task,

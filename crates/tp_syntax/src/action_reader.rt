@@ -20,24 +20,13 @@ ghost use Rattle.tp_syntax_ast.specs.Gives.{Gives};
 ghost use Rattle.tp_syntax_ast.specs.declared.words.Key.TheVariants as keys;
 
 use std::alloc::Global;
-use tp_syntax_ast::action::{Action, Body};
-use tp_syntax_ast::cond::Cond;
-use tp_syntax_ast::constraint::DurationRule;
-use tp_syntax_ast::effect::Effect;
-use tp_syntax_ast::fault::SyntaxFault;
-use tp_syntax_ast::joined::Joined;
-use tp_syntax_ast::timed::{TimedCond, TimedEffect};
-use tp_syntax_ast::typed_list::TypedList;
-use tp_syntax_ast::words::Key;
-use tp_syntax_conditions::cond::read_cond;
-use tp_syntax_conditions::constraint::read_constraint;
-use tp_syntax_effects::effect::read_effect;
-use tp_syntax_effects::timed::{read_timed_cond, read_timed_effect};
-use tp_syntax_scope::scope::Scope;
-use tp_syntax_scope::symbols::Symbols;
-use tp_syntax_scope::term::name_of;
-use tp_syntax_scope::typed::parameters_at;
-use tp_syntax_scope::variables::Variables;
+use tp_syntax_ast::{
+    Action, Body, Cond, DurationRule, Effect, Joined, Key, SyntaxFault, TimedCond, TimedEffect,
+    TypedList,
+};
+use tp_syntax_conditions::{read_cond, read_constraint};
+use tp_syntax_effects::{read_effect, read_timed_cond, read_timed_effect};
+use tp_syntax_scope::{Scope, Symbols, Variables, name_of, parameters_at};
 use tp_syntax_sections::fields::{Field, find_field, read_fields};
 use tp_syntax_types::types::Types;
 use tp_text::Tree;

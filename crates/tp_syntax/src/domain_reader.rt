@@ -19,17 +19,13 @@ ghost use Rattle.tp_syntax_ast.specs.declared.words.Section.TheVariants as secti
 use crate::action_reader::read_action;
 use crate::known::with_signatures;
 use std::alloc::Global;
-use tp_syntax_ast::action::Action;
-use tp_syntax_ast::domain::Domain;
-use tp_syntax_ast::fault::{SyntaxFault, text_fault, tree_fault};
-use tp_syntax_ast::symbols::{Signature, Typed};
-use tp_syntax_ast::type_list::TypeList;
-use tp_syntax_ast::words::Section;
-use tp_syntax_scope::head::{defined, named, requirements_in};
-use tp_syntax_scope::signatures::{functions_in, predicates_in};
-use tp_syntax_scope::symbols::Symbols;
-use tp_syntax_scope::type_reader::types_in;
-use tp_syntax_scope::typed::{objects_in, place};
+use tp_syntax_ast::{
+    Action, Domain, Section, Signature, SyntaxFault, TypeList, Typed, text_fault, tree_fault,
+};
+use tp_syntax_scope::{
+    Symbols, defined, functions_in, named, objects_in, place, predicates_in, requirements_in,
+    types_in,
+};
 use tp_syntax_sections::keyed::SectionItem;
 use tp_syntax_sections::sections::{find_section, read_sections};
 use tp_syntax_types::lookup::Lookup;

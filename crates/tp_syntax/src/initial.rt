@@ -11,15 +11,10 @@ ghost use Rattle.tp_syntax_ast.specs.DomainViews.{initial_view};
 ghost use Rattle.tp_syntax_ast.specs.Gives.{Gives, IsKept};
 
 use std::alloc::Global;
-use tp_syntax_ast::fault::{LeftOutPart, SyntaxFault};
-use tp_syntax_ast::problem::Initial;
-use tp_syntax_ast::term::Atom;
-use tp_syntax_ast::words::is_word;
-use tp_syntax_conditions::expr::{begins_number, number_fault, outside_conditions};
-use tp_syntax_effects::effect::atom_at;
-use tp_syntax_scope::lists::{both, only};
-use tp_syntax_scope::scope::{Scope, atom_in};
-use tp_syntax_scope::symbols::{Kind, Symbols};
+use tp_syntax_ast::{Atom, Initial, LeftOutPart, SyntaxFault, is_word};
+use tp_syntax_conditions::{begins_number, number_fault, outside_conditions};
+use tp_syntax_effects::atom_at;
+use tp_syntax_scope::{Kind, Scope, Symbols, atom_in, both, only};
 use tp_text::{Token, Tree, read_whole};
 
 fn initial_number(fact: Atom, tree: &Tree, at: u32) -> Result<Initial, SyntaxFault>

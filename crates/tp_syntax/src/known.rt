@@ -7,8 +7,8 @@ ghost use Rattle.tp_syntax_scope.specs.SymbolViews.{symbols_view};
 ghost use Rattle.tp_syntax_sections.specs.SectionViews.{domain_symbols};
 
 use std::alloc::{AllocError, Global};
-use tp_syntax_ast::symbols::{Signature, Typed};
-use tp_syntax_scope::symbols::Symbols;
+use tp_syntax_ast::{Signature, Typed};
+use tp_syntax_scope::Symbols;
 use tp_syntax_types::lookup::Lookup;
 use tp_syntax_types::types::Types;
 

@@ -20,19 +20,15 @@ ghost use Rattle.tp_syntax_ast.specs.declared.words.ProblemSection.TheVariants a
 use crate::initial::initial_of;
 use crate::known::with_signatures;
 use std::alloc::{AllocError, Global};
-use tp_syntax_ast::cond::Cond;
-use tp_syntax_ast::domain::Domain;
-use tp_syntax_ast::fault::{SyntaxFault, text_fault, tree_fault};
-use tp_syntax_ast::problem::{Initial, Problem};
-use tp_syntax_ast::symbols::Typed;
-use tp_syntax_ast::term::Atom;
-use tp_syntax_ast::words::ProblemSection;
-use tp_syntax_conditions::cond::read_cond;
-use tp_syntax_scope::head::{defined, name_place, named, requirements_in};
-use tp_syntax_scope::lists::{first_of, only};
-use tp_syntax_scope::scope::Scope;
-use tp_syntax_scope::symbols::Symbols;
-use tp_syntax_scope::typed::{item_place, objects_in, place};
+use tp_syntax_ast::{
+    Atom, Cond, Domain, Initial, Problem, ProblemSection, SyntaxFault, Typed, text_fault,
+    tree_fault,
+};
+use tp_syntax_conditions::read_cond;
+use tp_syntax_scope::{
+    Scope, Symbols, defined, first_of, item_place, name_place, named, objects_in, only, place,
+    requirements_in,
+};
 use tp_syntax_sections::clash::first_clash;
 use tp_syntax_sections::keyed::SectionItem;
 use tp_syntax_sections::problem_sections::{find_section, once_each};

@@ -5,7 +5,8 @@ ghost use Rattle.std.specs.Prelude.{◌≡◌};
 use crate::typed_list::TypedList;
 use std::rc::Rc;
 
-/// A name with its types: an object or parameter is of one of them. Items that were given their types together share them.
+/// A name with its types: an object or parameter is of one of them. Items that were given their
+/// types together share them.
 #[derive(Debug, PartialEq, Drop)]
 pub struct Typed {
     pub name: String,

@@ -9,8 +9,8 @@ use crate::types::TypeName;
 use std::alloc::Global;
 use std::marker::Model;
 
-/// Types. One that is marked was declared together with the one before it, so that their parents are the same (the first, with `object`);
-/// where there are no more marks, none is.
+/// Types. One that is marked was declared together with the one before it, so that their parents
+/// are the same (the first, with `object`); where there are no more marks, none is.
 #[derive(Debug, Drop)]
 pub struct TypeList {
     pub types: Vec<TypeName>,

@@ -9,8 +9,8 @@ use crate::symbols::Typed;
 use std::alloc::Global;
 use std::marker::Model;
 
-/// Items with their types. An item that is marked was given its types together with the one before it, so that they are the same; where
-/// there are no more marks, none is.
+/// Items with their types. An item that is marked was given its types together with the one before
+/// it, so that they are the same; where there are no more marks, none is.
 #[derive(Debug, Drop)]
 pub struct TypedList {
     pub items: Vec<Typed>,

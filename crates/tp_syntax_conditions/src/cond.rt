@@ -14,17 +14,13 @@ ghost use Rattle.tp_syntax_ast.specs.CondViews.{cond_view};
 
 use crate::expr::read_exprs;
 use std::alloc::Global;
-use tp_syntax_ast::cond::Cond;
-use tp_syntax_ast::expr::Expr;
-use tp_syntax_ast::fault::{LeftOutPart, SyntaxFault};
-use tp_syntax_ast::term::{Atom, Term, is_name};
-use tp_syntax_ast::typed_list::TypedList;
-use tp_syntax_ast::words::{Comparison, CondKind, CondWord, cond_word_of};
-use tp_syntax_scope::scope::{Scope, argument_known, atom_in};
-use tp_syntax_scope::symbols::Kind;
-use tp_syntax_scope::term::{is_variable, terms_of};
-use tp_syntax_scope::typed::{parameters_at, place};
-use tp_syntax_scope::variables::Variables;
+use tp_syntax_ast::{
+    Atom, Comparison, Cond, CondKind, CondWord, Expr, LeftOutPart, SyntaxFault, Term, TypedList,
+    cond_word_of, is_name,
+};
+use tp_syntax_scope::{
+    Kind, Scope, Variables, argument_known, atom_in, is_variable, parameters_at, place, terms_of,
+};
 use tp_text::{Token, Tree};
 
 fn kind_of(head: CondWord) -> CondKind

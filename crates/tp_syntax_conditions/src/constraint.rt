@@ -11,14 +11,11 @@ ghost use Rattle.tp_syntax_ast.specs.Words.{duration_comparison};
 
 use crate::expr::read_value;
 use std::alloc::Global;
-use tp_syntax_ast::constraint::DurationRule;
-use tp_syntax_ast::expr::Expr;
-use tp_syntax_ast::fault::{LeftOutPart, SyntaxFault};
-use tp_syntax_ast::words::{
-    Comparison, CondWord, ConstraintForm, cond_word_of, constraint_form_of, is_word,
+use tp_syntax_ast::{
+    Comparison, CondWord, ConstraintForm, DurationRule, Expr, LeftOutPart, SyntaxFault,
+    cond_word_of, constraint_form_of, is_word,
 };
-use tp_syntax_scope::lists::both;
-use tp_syntax_scope::scope::Scope;
+use tp_syntax_scope::{Scope, both};
 use tp_text::{Token, Tree};
 
 fn duration_comparison(head: CondWord) -> Option<Comparison>

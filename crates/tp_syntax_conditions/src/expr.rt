@@ -11,12 +11,8 @@ ghost use Rattle.tp_syntax_ast.specs.Expressions.{word_expression, is_operator, 
 ghost use Rattle.tp_syntax_ast.specs.ExprViews.{expr_view};
 
 use std::alloc::Global;
-use tp_syntax_ast::expr::Expr;
-use tp_syntax_ast::fault::{LeftOutPart, SyntaxFault};
-use tp_syntax_ast::term::Atom;
-use tp_syntax_ast::words::{Operator, is_word, operator_of};
-use tp_syntax_scope::scope::{Scope, atom_in};
-use tp_syntax_scope::symbols::Kind;
+use tp_syntax_ast::{Atom, Expr, LeftOutPart, Operator, SyntaxFault, is_word, operator_of};
+use tp_syntax_scope::{Kind, Scope, atom_in};
 use tp_text::{Token, Tree, read_whole};
 
 /// Whether a word begins as a number does.

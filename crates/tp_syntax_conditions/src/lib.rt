@@ -4,6 +4,10 @@
 //! - `constraint`: duration constraints
 #![tactic(auto)]
 
-pub mod cond;
-pub mod constraint;
-pub mod expr;
+mod cond;
+mod constraint;
+mod expr;
+
+pub use cond::read_cond;
+pub use constraint::read_constraint;
+pub use expr::{begins_number, number_fault, outside_conditions, read_value};

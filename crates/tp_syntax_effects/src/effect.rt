@@ -12,16 +12,12 @@ ghost use Rattle.tp_syntax_ast.specs.Gives.{Gives};
 
 use crate::joined::{Inner, read_joined};
 use std::alloc::Global;
-use tp_syntax_ast::effect::{Effect, SimpleEffect};
-use tp_syntax_ast::expr::Expr;
-use tp_syntax_ast::fault::{LeftOutPart, SyntaxFault};
-use tp_syntax_ast::joined::Joined;
-use tp_syntax_ast::term::Atom;
-use tp_syntax_ast::words::{EffectWord, Writing, effect_word_of};
-use tp_syntax_conditions::expr::read_value;
-use tp_syntax_scope::lists::{both, only};
-use tp_syntax_scope::scope::{Scope, atom_in};
-use tp_syntax_scope::symbols::Kind;
+use tp_syntax_ast::{
+    Atom, Effect, EffectWord, Expr, Joined, LeftOutPart, SimpleEffect, SyntaxFault, Writing,
+    effect_word_of,
+};
+use tp_syntax_conditions::read_value;
+use tp_syntax_scope::{Kind, Scope, atom_in, both, only};
 use tp_text::{Token, Tree};
 
 /// The atom that a member of the list at `at` spells, its name one of these.

@@ -11,13 +11,8 @@ ghost use Rattle.tp_syntax_ast.specs.PartViews.{joined_view};
 ghost use Rattle.tp_syntax_ast.specs.Gives.{Gives};
 
 use std::alloc::Global;
-use tp_syntax_ast::fault::SyntaxFault;
-use tp_syntax_ast::joined::Joined;
-use tp_syntax_ast::symbols::Typed;
-use tp_syntax_ast::words::{Joint, joint_of};
-use tp_syntax_scope::scope::Scope;
-use tp_syntax_scope::typed::parameters_at;
-use tp_syntax_scope::variables::Variables;
+use tp_syntax_ast::{Joined, Joint, SyntaxFault, Typed, joint_of};
+use tp_syntax_scope::{Scope, Variables, parameters_at};
 use tp_text::{Token, Tree};
 
 /// What may stand inside: a list that begins with another word than `and` and `forall`.

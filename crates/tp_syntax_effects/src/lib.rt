@@ -3,6 +3,9 @@
 //! - `joined`: what `and` and `forall` join; `effect` and `timed` are read by it
 #![tactic(auto)]
 
-pub mod effect;
-pub mod joined;
-pub mod timed;
+mod effect;
+mod joined;
+mod timed;
+
+pub use effect::{atom_at, read_effect};
+pub use timed::{read_timed_cond, read_timed_effect};

@@ -12,15 +12,12 @@ ghost use Rattle.tp_syntax_ast.specs.Gives.{Gives};
 
 use crate::joined::{Inner, read_joined};
 use std::alloc::Global;
-use tp_syntax_ast::cond::Cond;
-use tp_syntax_ast::effect::{Effect, SimpleEffect};
-use tp_syntax_ast::fault::{LeftOutPart, SyntaxFault};
-use tp_syntax_ast::joined::Joined;
-use tp_syntax_ast::timed::{Timed, TimedCond, TimedEffect};
-use tp_syntax_ast::words::{TimeSpecifier, is_word, specifier_of};
-use tp_syntax_conditions::cond::read_cond;
-use tp_syntax_scope::lists::both;
-use tp_syntax_scope::scope::Scope;
+use tp_syntax_ast::{
+    Cond, Effect, Joined, LeftOutPart, SimpleEffect, SyntaxFault, TimeSpecifier, Timed, TimedCond,
+    TimedEffect, is_word, specifier_of,
+};
+use tp_syntax_conditions::read_cond;
+use tp_syntax_scope::{Scope, both};
 use tp_text::{Token, Tree};
 
 #[tactic(auto, unfolding(tp_syntax_ast::specs::Effects::specifier_at))]

@@ -6,7 +6,9 @@
 //! - `print`: domains
 #![tactic(auto)]
 
-pub mod print;
-pub mod print_parts;
-pub mod printer;
-pub mod words;
+mod print;
+mod print_parts;
+mod printer;
+mod words;
+
+pub use print::print_domain;

@@ -15,11 +15,7 @@ use crate::print_parts::{
 };
 use crate::printer::Printer;
 use tp_device::{Failed, Sink};
-use tp_syntax_ast::action::{Action, Body};
-use tp_syntax_ast::domain::Domain;
-use tp_syntax_ast::symbols::{Signature, Typed};
-use tp_syntax_ast::timed::{TimedCond, TimedEffect};
-use tp_syntax_ast::types::TypeName;
+use tp_syntax_ast::{Action, Body, Domain, Signature, TimedCond, TimedEffect, TypeName, Typed};
 
 // Conditions and effects at their time specifiers, each behind its word.
 fn print_timed<W: Sink>(out: &mut Printer<W>, condition: &TimedCond, effect: &TimedEffect)
@@ -226,12 +222,13 @@ fn print_lines<W: Sink>(out: &mut Printer<W>, domain: &Domain)
     out.put(b")\n");
 }
 
-/// Writes the one spelling of a domain. What is written of a domain that some text spells spells it too. It takes no memory,
-/// and time in proportion to the domain, also where the writer fails.
+/// Writes the one spelling of a domain. What is written of a domain that some text spells spells it
+/// too. It takes no memory, and time in proportion to the domain, also where the writer fails.
 ///
 /// # Errors
 ///
-/// The writer's first failure. It has then taken some first part of the spelling, and is handed nothing more.
+/// The writer's first failure. It has then taken some first part of the spelling, and is handed
+/// nothing more.
 pub fn print_domain<W: Sink>(domain: &Domain, writer: &mut W) -> Result<(), Failed>
     ensures spells { IsSpelledAgain (domain_view domain.now) }
     ensures bytes { Writes

@@ -1,5 +1,5 @@
-//! The spellings of what stands in a domain: names, terms, expressions, conditions, effects, duration constraints.
-//! Nothing here takes memory.
+//! The spellings of what stands in a domain: names, terms, expressions, conditions, effects,
+//! duration constraints. Nothing here takes memory.
 
 ghost use Rattle.std.specs.Prelude.{◌≡◌, [], ◌∷◌, ◌++◌, map, string_bytes};
 ghost use Rattle.std.specs.Fmt.{signed_decimal};
@@ -23,16 +23,10 @@ use crate::printer::Printer;
 use crate::words::{comparison_word, writing_word};
 use itoa::Buffer;
 use tp_device::Sink;
-use tp_syntax_ast::cond::Cond;
-use tp_syntax_ast::constraint::DurationRule;
-use tp_syntax_ast::effect::{Effect, SimpleEffect};
-use tp_syntax_ast::expr::Expr;
-use tp_syntax_ast::joined::Joined;
-use tp_syntax_ast::symbols::Typed;
-use tp_syntax_ast::term::{Atom, Term};
-use tp_syntax_ast::timed::Timed;
-use tp_syntax_ast::typed_list::TypedList;
-use tp_syntax_ast::words::{Comparison, TimeSpecifier, Writing};
+use tp_syntax_ast::{
+    Atom, Comparison, Cond, DurationRule, Effect, Expr, Joined, SimpleEffect, Term, TimeSpecifier,
+    Timed, Typed, TypedList, Writing,
+};
 
 // Names, each after a space.
 pub fn print_names<W: Sink>(out: &mut Printer<W>, names: &[String])

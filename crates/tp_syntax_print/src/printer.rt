@@ -1,5 +1,5 @@
-//! A writer that is handed nothing more once it has failed. So what is printed is said form by form, and what a failure left is
-//! a first part of it.
+//! A writer that is handed nothing more once it has failed. So what is printed is said form by
+//! form, and what a failure left is a first part of it.
 
 ghost use Rattle.std.specs.Prelude.{◌≡◌, Ok};
 ghost use Rattle.tp_syntax_print.specs.Printers.{Prints};

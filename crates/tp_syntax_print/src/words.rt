@@ -3,7 +3,7 @@
 ghost use Rattle.std.specs.Prelude.{◌≡◌};
 ghost use Rattle.tp_syntax_print.specs.Words.{comparison_word, writing_word};
 
-use tp_syntax_ast::words::{Comparison, Writing};
+use tp_syntax_ast::{Comparison, Writing};
 
 /// The word of a comparison.
 pub fn comparison_word(comparison: Comparison) -> &'static [u8]

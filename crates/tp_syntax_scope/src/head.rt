@@ -11,8 +11,7 @@ use crate::lists::{both, first_of};
 use crate::term::{lowered, name_of};
 use crate::typed::place;
 use std::alloc::Global;
-use tp_syntax_ast::fault::SyntaxFault;
-use tp_syntax_ast::words::is_word;
+use tp_syntax_ast::{SyntaxFault, is_word};
 use tp_text::Tree;
 
 #[tactic(auto, unfolding(tp_syntax_ast::specs::Domains::kind_and_name))]

@@ -9,13 +9,23 @@
 //! - `levels`, `scope`: the variables in scope, and atoms over them and what was declared
 #![tactic(auto)]
 
-pub mod head;
-pub mod levels;
-pub mod lists;
-pub mod scope;
-pub mod signatures;
-pub mod symbols;
-pub mod term;
-pub mod type_reader;
-pub mod typed;
-pub mod variables;
+mod head;
+mod levels;
+mod lists;
+mod scope;
+mod signatures;
+mod symbols;
+mod term;
+mod type_reader;
+mod typed;
+mod variables;
+
+pub use head::{defined, name_place, named, requirements_in};
+pub use lists::{both, first_of, only};
+pub use scope::{Scope, argument_known, atom_in};
+pub use signatures::{functions_in, predicates_in};
+pub use symbols::{Kind, Symbols};
+pub use term::{is_variable, name_of, terms_of};
+pub use type_reader::types_in;
+pub use typed::{item_place, objects_in, parameters_at, place};
+pub use variables::Variables;

@@ -18,9 +18,7 @@ use crate::term::{name_of, terms_of};
 use crate::typed::place;
 use crate::variables::Variables;
 use std::alloc::{AllocError, Global};
-use tp_syntax_ast::fault::SyntaxFault;
-use tp_syntax_ast::symbols::Signature;
-use tp_syntax_ast::term::{Atom, Term};
+use tp_syntax_ast::{Atom, Signature, SyntaxFault, Term};
 use tp_syntax_types::types::lists_fit;
 use tp_text::{Token, Tree};
 

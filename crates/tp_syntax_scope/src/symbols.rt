@@ -5,7 +5,7 @@ ghost use Rattle.tp_syntax_ast.specs.Symbols.{typed_view, types_of, signature_vi
 ghost use Rattle.tp_syntax_scope.specs.SymbolViews.{symbols_view};
 ghost use Rattle.tp_syntax_scope.specs.Fits.{signatures_of};
 
-use tp_syntax_ast::symbols::{Signature, Typed};
+use tp_syntax_ast::{Signature, Typed};
 use tp_syntax_types::lookup::Lookup;
 use tp_syntax_types::types::Types;
 

@@ -8,8 +8,7 @@ ghost use Rattle.tp_text.specs.Trees.{shape_of};
 ghost use Rattle.tp_syntax_ast.specs.Gives.{Gives};
 
 use std::alloc::{AllocError, Global};
-use tp_syntax_ast::fault::SyntaxFault;
-use tp_syntax_ast::term::{Atom, Term, is_name};
+use tp_syntax_ast::{Atom, SyntaxFault, Term, is_name};
 use tp_text::Tree;
 
 /// The word in lower case.

@@ -15,12 +15,7 @@ ghost use Rattle.tp_syntax_ast.specs.Gives.{Gives};
 use crate::typed::{item_place, typed_items};
 use std::alloc::{AllocError, Global};
 use std::rc::Rc;
-use tp_syntax_ast::fault::SyntaxFault;
-use tp_syntax_ast::marks::is_marked;
-use tp_syntax_ast::symbols::Typed;
-use tp_syntax_ast::type_list::TypeList;
-use tp_syntax_ast::types::TypeName;
-use tp_syntax_ast::words::Items;
+use tp_syntax_ast::{Items, SyntaxFault, TypeList, TypeName, Typed, is_marked};
 use tp_syntax_types::names::NameSet;
 use tp_syntax_types::table::second_named;
 use tp_syntax_types::types::{Types, no_cycle};
@@ -71,7 +66,8 @@ fn type_below(item: &Typed, parent: &Rc<String>) -> Result<TypeName, AllocError>
     Ok(TypeName { name, parent })
 }
 
-// The types that these items declare. Those that are marked share the parent of the one before them.
+// The types that these items declare. Those that are marked share the parent of the one before
+// them.
 fn types_below(alloc: Global, items: &[Typed], rows: &[bool]) -> Result<Vec<TypeName>, AllocError>
     requires { AreParentRows rows.now (map type_below (map typed_view items.now)) }
     ensures { IfOk result
@@ -263,7 +259,8 @@ fn types_from(
     Ok(TypeList { types, marks })
 }
 
-/// The types of the section at `at`, all but `object`. What types that were given one parent together share is looked at once.
+/// The types of the section at `at`, all but `object`. What types that were given one parent
+/// together share is looked at once.
 #[tactic(auto, unfolding(tp_syntax_ast::specs::Domains::types_in))]
 pub fn types_in(alloc: Global, trees: &[Tree], at: u32) -> Result<TypeList, SyntaxFault>
     ensures { Gives (λ v. map parent_view v.items) result (types_in (shapes trees.now)) }

@@ -16,10 +16,7 @@ ghost use Rattle.std.specs.Str.{bytes_eq};
 use crate::term::{name_of, variable_of};
 use std::alloc::{AllocError, Global};
 use std::rc::Rc;
-use tp_syntax_ast::fault::{LeftOutPart, SyntaxFault};
-use tp_syntax_ast::symbols::Typed;
-use tp_syntax_ast::typed_list::TypedList;
-use tp_syntax_ast::words::{Items, is_word};
+use tp_syntax_ast::{Items, LeftOutPart, SyntaxFault, Typed, TypedList, is_word};
 use tp_syntax_types::once::second_mention;
 use tp_syntax_types::types::{Types, are_types, is_type};
 use tp_text::Tree;
@@ -180,7 +177,8 @@ fn give(
     Ok(())
 }
 
-// Gives names behind which no type stands the type of all objects. Where there are none, as in most lists, nothing is made.
+// Gives names behind which no type stands the type of all objects. Where there are none, as in most
+// lists, nothing is made.
 fn give_object(
     alloc: Global,
     done: &mut Vec<Typed>,
@@ -317,8 +315,8 @@ fn undeclared(types: &Types, item: Option<&Typed>, tree: &Tree) -> Option<u32> {
     None
 }
 
-// What is wrong with items of which one has a type that is not declared. The types of a run are those
-// of its last item.
+// What is wrong with items of which one has a type that is not declared. The types of a run are
+// those of its last item.
 fn undeclared_type(types: &Types, items: &[Typed], trees: &[Tree], at: u32) -> SyntaxFault {
     let mut last = None;
     let mut left = items.iter();

@@ -11,8 +11,7 @@ use crate::symbols::Symbols;
 use std::alloc::{AllocError, Global};
 use std::collections::BTreeMap;
 use std::marker::Model;
-use tp_syntax_ast::symbols::Typed;
-use tp_syntax_ast::typed_list::TypedList;
+use tp_syntax_ast::{Typed, TypedList};
 use tp_syntax_types::own_places::own_places;
 
 /// The variables of an action or a quantifier over what is declared, with a table of their names.

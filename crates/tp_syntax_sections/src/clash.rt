@@ -1,4 +1,5 @@
-//! Whether `:init` says that one atom holds and that it does not, or gives one fluent a value twice.
+//! Whether `:init` says that one atom holds and that it does not, or gives one fluent a value
+//! twice.
 
 ghost use Rattle.std.specs.Prelude.{◌≡◌, ◌||◌, map, IfOk, OnOk, not};
 ghost use Rattle.std.specs.Option.{is_some};
@@ -8,8 +9,7 @@ ghost use Rattle.tp_syntax_ast.specs.DomainViews.{initial_view};
 
 use indexmap::IndexSet;
 use std::alloc::{AllocError, Global};
-use tp_syntax_ast::problem::Initial;
-use tp_syntax_ast::term::Atom;
+use tp_syntax_ast::{Atom, Initial};
 
 // What was said so far.
 #[derive(Drop)]
@@ -43,8 +43,9 @@ impl<'a> Said<'a> {
     }
 }
 
-/// The number of the first entry that clashes with one before it: that of an atom that was said to fail if it says that it holds,
-/// or the other way round, or that of a fluent that was given a value, be it the same one.
+/// The number of the first entry that clashes with one before it: that of an atom that was said to
+/// fail if it says that it holds, or the other way round, or that of a fluent that was given a
+/// value, be it the same one.
 pub fn first_clash(alloc: Global, entries: &[Initial]) -> Result<Option<usize>, AllocError>
     ensures { IfOk result (λ o. is_some o ≡ not (no_clash (map initial_view entries.now))) }
 {

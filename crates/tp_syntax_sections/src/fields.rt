@@ -9,9 +9,8 @@ ghost use Rattle.tp_syntax_ast.specs.Gives.{Gives};
 
 use crate::keyed::{ItemKind, Keyed, find, repeated};
 use std::alloc::Global;
-use tp_syntax_ast::fault::SyntaxFault;
-use tp_syntax_ast::words::{Key, key_of};
-use tp_syntax_scope::typed::place;
+use tp_syntax_ast::{Key, SyntaxFault, key_of};
+use tp_syntax_scope::place;
 use tp_text::Tree;
 
 /// A field: a word and its value, in the list of an action.

@@ -9,7 +9,7 @@ ghost use Rattle.tp_syntax_ast.specs.Terms.{shapes};
 ghost use Rattle.tp_syntax_sections.specs.KeyedParts.{with_kind, part_seen, part_of, parts_of, first, or_nothing, each_once, once_each};
 
 use std::alloc::Global;
-use tp_syntax_ast::fault::SyntaxFault;
+use tp_syntax_ast::SyntaxFault;
 use tp_text::{Token, Tree};
 
 /// A kind of item.

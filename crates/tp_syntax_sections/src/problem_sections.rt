@@ -8,8 +8,7 @@ ghost use Rattle.tp_syntax_ast.specs.Gives.{Gives};
 
 use crate::keyed::{ItemKind, SectionItem, SectionWord, find_or_empty, read_parts};
 use std::alloc::Global;
-use tp_syntax_ast::fault::{LeftOutPart, SyntaxFault};
-use tp_syntax_ast::words::{ProblemSection, is_word, problem_section_of};
+use tp_syntax_ast::{LeftOutPart, ProblemSection, SyntaxFault, is_word, problem_section_of};
 use tp_text::{Token, Tree};
 
 impl ItemKind for ProblemSection {

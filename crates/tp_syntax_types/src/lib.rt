@@ -1,7 +1,7 @@
 //! Names found by tables, and the order among types.
 //!
-//! - `names`, `once`, `table`, `own_places`, `lookup`: sets of names, names that appear once, where names stand, what they were
-//!   declared as
+//! - `names`, `once`, `table`, `own_places`, `lookup`: sets of names, names that appear once, where
+//!   names stand, what they were declared as
 //! - `types`: the order among types, and whether types fit
 #![tactic(auto)]
 

@@ -7,7 +7,7 @@ ghost use Rattle.tp_syntax_types.specs.OwnTables.{variable_name, IsTextTable};
 
 use std::alloc::{AllocError, Global};
 use std::collections::BTreeMap;
-use tp_syntax_ast::symbols::Typed;
+use tp_syntax_ast::Typed;
 
 // Puts a name at a place if it has none.
 fn put(

@@ -8,9 +8,7 @@ ghost use Rattle.tp_syntax_ast.specs.TypedLists.{has_twice};
 use crate::once::second_mention;
 use std::alloc::{AllocError, Global};
 use std::collections::BTreeMap;
-use tp_syntax_ast::action::Action;
-use tp_syntax_ast::symbols::{Signature, Typed};
-use tp_syntax_ast::types::TypeName;
+use tp_syntax_ast::{Action, Signature, TypeName, Typed};
 
 /// What has a name.
 pub trait Named {

@@ -15,7 +15,7 @@ use crate::table::places;
 use std::alloc::{AllocError, Global};
 use std::collections::BTreeMap;
 use std::marker::Model;
-use tp_syntax_ast::types::TypeName;
+use tp_syntax_ast::TypeName;
 
 /// The types that a domain declares, and a table of their places.
 #[derive(Drop)]

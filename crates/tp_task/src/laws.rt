@@ -10,7 +10,8 @@ ghost use Rattle.tp_task.specs.State.{holds};
 ghost use Rattle.tp_task.specs.Verdict.{Fault, states, fault_at, last_moment, IsFirstFault};
 ghost use Rattle.tp_task.specs.declared.events.GroundEvent.{GroundEvent};
 
-/// The bounds of a valid plan: its own moments meet them, and each assignment that meets them makes a valid plan.
+/// The bounds of a valid plan: its own moments meet them, and each assignment that meets them makes
+/// a valid plan.
 pub fn schedules_are_valid()
     ensures own { (scale : ℕ) (initial : State) (goal : Cond) (plan : List Planned)
         (trace : ℕ → State) (t : ℕ → ℕ) → IsValidRun scale initial goal plan trace
@@ -29,7 +30,8 @@ pub fn unreachable_has_no_plan()
         → ¬ IsValid scale initial goal plan }
 {}
 
-/// A plan is valid exactly if it has no fault and reaches the goal, so one with a first fault is not valid.
+/// A plan is valid exactly if it has no fault and reaches the goal, so one with a first fault is
+/// not valid.
 pub fn valid_without_fault()
     ensures sound { (scale : ℕ) (initial : State) (goal : Cond) (plan : List Planned)
         → ((m : ℕ) → fault_at scale initial plan m ≡ None)

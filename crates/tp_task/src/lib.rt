@@ -1,7 +1,9 @@
 //! Ground tasks of the planner, and what plans of them are.
 //!
-//! - `events`, `task`: conditions, expressions, effects, events and tasks as data; `laws`: what holds of their plans
-//! - `truth`: whether parts of a condition hold, where they have a truth; whether effects mention the duration
+//! - `events`, `task`: conditions, expressions, effects, events and tasks as data; `laws`: what
+//!   holds of their plans
+//! - `truth`: whether parts of a condition hold, where they have a truth; whether effects mention
+//!   the duration
 //! - `labels`, `lookup`, `numbering`: names, atoms, fluents and actions by number
 //! - `fault`: why a problem has no task
 #![tactic(auto)]
@@ -23,3 +25,4 @@ pub use laws::{schedules_are_valid, unreachable_has_no_plan, valid_without_fault
 pub use numbering::Numbering;
 pub use task::{ActionId, AtomId, FluentId, Task};
 pub use tp_bounds::MOST_STEPS;
+pub use truth::{compared, compares};

@@ -24,7 +24,8 @@ pub struct FluentId(pub u32);
 #[derive(Clone, Copy, Debug, PartialEq, Eq)]
 pub struct ActionId(pub u32);
 
-/// What a domain and a problem ask for, written out over the objects, with the atoms and the fluents numbered.
+/// What a domain and a problem ask for, written out over the objects, with the atoms and the
+/// fluents numbered.
 #[derive(Drop)]
 pub struct Task {
     /// How large a run of the task may grow.

@@ -1,4 +1,5 @@
-//! Whether parts of a condition hold where fluents may lack numbers, and whether an event's effects mention the duration.
+//! Whether parts of a condition hold where fluents may lack numbers, and whether an event's effects
+//! mention the duration.
 
 ghost use Rattle.std.specs.Prelude.{◌≡◌, not};
 ghost use Rattle.std.specs.List.{list_any};

@@ -1,6 +1,6 @@
-//! Which actions may have an event whose condition is met, told by counters: each part of a condition waits for so many
-//! of its own parts (as in Dowling and Gallier 1984). Nothing is proved of the counters: they only say where it is worth
-//! looking.
+//! Which actions may have an event whose condition is met, told by counters: each part of a
+//! condition waits for so many of its own parts (as in Dowling and Gallier 1984). Nothing is proved
+//! of the counters: they only say where it is worth looking.
 
 use std::alloc::{AllocError, Global};
 use tp_task::{Body, Cond, GroundEvent};
@@ -19,8 +19,8 @@ struct Gate {
     missing: u32,
 }
 
-/// The parts of all conditions, those that wait for each atom, those with one more part met that is not yet counted, and
-/// the actions with an event whose condition is met.
+/// The parts of all conditions, those that wait for each atom, those with one more part met that is
+/// not yet counted, and the actions with an event whose condition is met.
 #[derive(Drop)]
 pub struct Counters {
     alloc: Global,
@@ -37,8 +37,8 @@ fn small(count: usize) -> u32 {
 }
 
 impl Counters {
-    /// The counters of some actions over so many atoms, of which none is counted yet. It costs the sizes of all
-    /// conditions.
+    /// The counters of some actions over so many atoms, of which none is counted yet. It costs the
+    /// sizes of all conditions.
     pub fn new(alloc: Global, actions: &[Body], atoms: usize) -> Result<Self, AllocError> {
         let mut counters = Counters {
             alloc,
@@ -125,7 +125,8 @@ impl Counters {
         Ok(())
     }
 
-    // One part of a gate is met; where it was the last that was missing, the gate is, and counts for what is above it.
+    // One part of a gate is met; where it was the last that was missing, the gate is, and counts
+    // for what is above it.
     fn lower(&mut self, gate: u32) -> Result<(), AllocError> {
         self.lowered.push(gate)?;
         for _ in 0..=self.gates.len() {

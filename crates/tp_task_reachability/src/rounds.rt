@@ -1,4 +1,5 @@
-//! What events add: first the actions that counters find, then rounds over all actions until one adds nothing.
+//! What events add: first the actions that counters find, then rounds over all actions until one
+//! adds nothing.
 
 ghost use Rattle.std.specs.Prelude.{◌≡◌, length, nat_lt, true, count_by, IfOk, OnOk};
 ghost use Rattle.std.specs.List.{list_all};
@@ -18,8 +19,8 @@ fn is_reached(reach: &[bool], atom: u32) -> bool
     reach.get(atom as usize).copied().unwrap_or(false)
 }
 
-/// Whether a condition (its negation, where `positive` is false) is met by a set of atoms. Each part of it is looked at
-/// once at most.
+/// Whether a condition (its negation, where `positive` is false) is met by a set of atoms. Each
+/// part of it is looked at once at most.
 #[cycle(met)]
 #[tactic(auto, using(crate::proofs::Rows::met_And, crate::proofs::Rows::met_Or))]
 pub fn met(reach: &[bool], positive: bool, cond: &Cond) -> bool
@@ -198,9 +199,9 @@ fn settle(reach: &mut [bool], actions: &[Body])
     }
 }
 
-/// Adds to a set of atoms what the events of actions can add, until none of them has more to add. Each atom that they add
-/// is among those that there are. It costs the sizes of all conditions and adds, a few times. Out of memory leaves a set
-/// that may have some of it.
+/// Adds to a set of atoms what the events of actions can add, until none of them has more to add.
+/// Each atom that they add is among those that there are. It costs the sizes of all conditions and
+/// adds, a few times. Out of memory leaves a set that may have some of it.
 pub fn saturate(alloc: Global, reach: &mut [bool], actions: &[Body]) -> Result<(), AllocError>
     requires { list_all (adds_fit (length reach.old)) actions.now ≡ true }
     ensures adds { OnOk result (Adds (acts_of_bodies actions.now) reach.old reach.new) }
@@ -211,8 +212,8 @@ pub fn saturate(alloc: Global, reach: &mut [bool], actions: &[Body]) -> Result<(
     Ok(())
 }
 
-/// The relaxed reach of a task: the truth of each atom (the delete relaxation of Bonet and Geffner 2001). It costs the
-/// sizes of all conditions and adds, a few times.
+/// The relaxed reach of a task: the truth of each atom (the delete relaxation of Bonet and Geffner
+/// 2001). It costs the sizes of all conditions and adds, a few times.
 pub fn reach(alloc: Global, task: &Task) -> Result<Vec<bool>, AllocError>
     ensures { IfOk result
         (λ v. IsReach (first_state task.now) (acts_of task.now) (set_of v.items)) }

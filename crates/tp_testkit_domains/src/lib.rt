@@ -1,4 +1,5 @@
-//! Five small domains with a problem each, as the texts that tests read: what happens in them can be worked out by hand.
+//! Five small domains with a problem each, as the texts that tests read: what happens in them can
+//! be worked out by hand.
 #![tactic(auto)]
 
 /// A fuse is mended by the light of a match.

@@ -36,7 +36,8 @@ impl<L: Ledger> Model for StopSink<L> {
 }
 
 impl<L: Ledger> StopSink<L> {
-    /// The text, behind which a call takes at most `most` bytes, or one where that is 0. Its failures are counted in the blank ledger.
+    /// The text, behind which a call takes at most `most` bytes, or one where that is 0. Its
+    /// failures are counted in the blank ledger.
     pub fn new(text: Vec<u8>, most: usize, stop: Stop, blank: Blank) -> Self
         requires name { blank.name ≡ L.name }
         requires parts { blank.parts ≡ L.parts }
@@ -65,8 +66,8 @@ impl<L: Ledger> Sink for StopSink<L> {
 
     ghost failures = { λ s. s.failures };
 
-    /// Takes bytes from the front, up to its most and up to where it stops. Memory is asked for where the text grows past its
-    /// capacity.
+    /// Takes bytes from the front, up to its most and up to where it stops. Memory is asked for
+    /// where the text grows past its capacity.
     ///
     /// # Errors
     /// `Failed` where it stops, and where memory is refused.

@@ -36,7 +36,8 @@ impl<'a, L: Ledger> Model for StopSource<'a, L> {
 }
 
 impl<'a, L: Ledger> StopSource<'a, L> {
-    /// These bytes, of which a call gives at most `most`, or one where that is 0. Its failures are counted in the blank ledger.
+    /// These bytes, of which a call gives at most `most`, or one where that is 0. Its failures are
+    /// counted in the blank ledger.
     pub fn new(bytes: &'a [u8], most: usize, stop: Stop, blank: Blank) -> Self
         requires name { blank.name ≡ L.name }
         requires parts { blank.parts ≡ L.parts }
@@ -58,7 +59,8 @@ impl<L: Ledger> Source for StopSource<'_, L> {
 
     ghost failures = { λ s. s.failures };
 
-    /// Gives as many bytes as there is room for, up to its most and up to where it stops. It fails there, also if no byte is left.
+    /// Gives as many bytes as there is room for, up to its most and up to where it stops. It fails
+    /// there, also if no byte is left.
     ///
     /// # Errors
     /// `Failed` where it stops.

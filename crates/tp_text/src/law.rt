@@ -14,7 +14,8 @@ pub fn one_tree()
     ensures { SpellsOneTree }
 {}
 
-/// A tree has a list inside 64 others exactly if its lexemes have one that begins where 64 are open.
+/// A tree has a list inside 64 others exactly if its lexemes have one that begins where 64 are
+/// open.
 pub fn deep_is_nested()
     ensures { DeepIsNested }
 {}

@@ -95,7 +95,8 @@ fn first_piece(first: u8, rest: &[u8]) -> Piece
     }
 }
 
-// The text of a token at a place: the slice there, so that its bytes are not looked at a second time.
+// The text of a token at a place: the slice there, so that its bytes are not looked at a second
+// time.
 fn slice_at<'a>(text: &'a str, at: usize, front: &'a [u8]) -> &'a str
     requires ascii { IsAscii front.now }
     requires there { front.now ≡ take (length front.now) (drop at text.now) }

@@ -1,8 +1,8 @@
 //! From the bytes of a planning text to its words, its tree and its numbers.
 //!
-//! `lexing` parts a text into tokens (`token`), its parentheses and words, each with its place. `tree` makes of them the one
-//! tree that the text spells. `number` reads words as whole numbers and as times, in ticks. `fault` says why a text is refused,
-//! and `law` what holds of every text.
+//! `lexing` parts a text into tokens (`token`), its parentheses and words, each with its place.
+//! `tree` makes of them the one tree that the text spells. `number` reads words as whole numbers
+//! and as times, in ticks. `fault` says why a text is refused, and `law` what holds of every text.
 #![tactic(auto)]
 
 mod fault;

@@ -142,7 +142,8 @@ fn natural(digits: &[u8]) -> Option<u32>
     ascii_text(digits).parse::<u32>().ok()
 }
 
-// The ticks of a fraction: its first digit counts tenths of a unit. Digits finer than a tick must be zeros.
+// The ticks of a fraction: its first digit counts tenths of a unit. Digits finer than a tick must
+// be zeros.
 fn fraction_ticks(digits: &[u8], scale: Scale) -> Option<u32>
     requires { list_all is_ascii_digit digits.now ≡ true }
     ensures { result
@@ -160,8 +161,8 @@ fn fraction_ticks(digits: &[u8], scale: Scale) -> Option<u32>
     Some(ticks)
 }
 
-/// The ticks that a word spells: its value times the ticks of a unit. `None` if it has not the form of a time, or its
-/// ticks are not whole or do not fit.
+/// The ticks that a word spells: its value times the ticks of a unit. `None` if it has not the form
+/// of a time, or its ticks are not whole or do not fit.
 pub fn read_ticks(word: &str, scale: Scale) -> Option<u32>
     ensures { result ≡ ticks_of (scale_ticks scale) word.now }
 {

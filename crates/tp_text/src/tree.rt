@@ -147,7 +147,8 @@ fn read_over(text: &str, bytes: &[u8], start: usize) -> Result<(), TextFault>
 }
 
 impl<'a> Builder<'a> {
-    // A step by the token that comes next. Where it can't go on, a byte behind it that may not stand there is at fault.
+    // A step by the token that comes next. Where it can't go on, a byte behind it that may not
+    // stand there is at fault.
     fn go_on(&mut self, alloc: Global, text: &str, next: &Next<'a>) -> Result<(), TextFault>
         requires one { IsOneTree self.old.outer.items self.old.items.items }
         requires place { next.now.at + length next.now.rest.now ≤ max_text }

@@ -23,7 +23,8 @@ fn is_atom_changed(before: &State, after: &State, atom: u32) -> bool
     before.has(AtomId(atom)) != after.has(AtomId(atom))
 }
 
-// Whether a fluent has another value in one of two states than in the other, or a value in one of them alone.
+// Whether a fluent has another value in one of two states than in the other, or a value in one of
+// them alone.
 fn is_fluent_changed(before: &State, after: &State, fluent: u32) -> bool
     ensures { result ≡ is_fluent_changed (state_of before.now) (state_of after.now) fluent }
 {

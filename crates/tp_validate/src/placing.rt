@@ -51,7 +51,8 @@ fn have_any(atoms: &NumberSet, some: &[u32], fluents: &NumberSet, others: &[u32]
 }
 
 impl<'t> PlannedStep<'t> {
-    /// Whether its invariant mentions one of these atoms or of these fluents. Takes a step for each of them.
+    /// Whether its invariant mentions one of these atoms or of these fluents. Takes a step for each
+    /// of them.
     pub fn mentions_any(&self, atoms: &[u32], fluents: &[u32]) -> bool
         ensures { result ≡ mentions_any self.now.body atoms.now fluents.now }
     {
@@ -59,7 +60,8 @@ impl<'t> PlannedStep<'t> {
     }
 }
 
-/// An event of a plan: its number, the numbers of its step's first and last event, and the moment at which it happens.
+/// An event of a plan: its number, the numbers of its step's first and last event, and the moment
+/// at which it happens.
 #[derive(Drop)]
 pub struct PlacedEvent<'t> {
     number: u16,

@@ -71,7 +71,8 @@ fn is_broken(after: &State, step: &PlannedStep<'_>, moment: u32) -> Result<bool,
     }
 }
 
-// Whether a step's invariant may have changed at a moment: it starts there, or its invariant mentions something that changes.
+// Whether a step's invariant may have changed at a moment: it starts there, or its invariant
+// mentions something that changes.
 fn is_in_question(step: &PlannedStep<'_>, changes: &Changes, moment: u32) -> bool
     ensures { result ≡ (step.now.moment == moment
         || mentions_any step.now.body changes.now.atoms.items changes.now.fluents.items) }
@@ -79,7 +80,8 @@ fn is_in_question(step: &PlannedStep<'_>, changes: &Changes, moment: u32) -> boo
     step.tick == moment || step.mentions_any(&changes.atoms, &changes.fluents)
 }
 
-// The same as `is_broken`, where the invariant of a step that is not in question is known to be kept.
+// The same as `is_broken`, where the invariant of a step that is not in question is known to be
+// kept.
 fn is_now_broken(
     after: &State,
     step: &PlannedStep<'_>,
@@ -100,8 +102,8 @@ fn is_now_broken(
     }
 }
 
-// The first step whose invariant runs past a moment and does not hold after it. Only the invariants of steps that start
-// there, or that mention something that changes, are evaluated.
+// The first step whose invariant runs past a moment and does not hold after it. Only the invariants
+// of steps that start there, or that mention something that changes, are evaluated.
 fn first_broken(
     after: &State,
     steps: &[PlannedStep<'_>],
@@ -125,8 +127,9 @@ fn first_broken(
     Ok(None)
 }
 
-// The first step whose invariant runs past a moment and does not hold after its events. Of the steps that ran before
-// it, only the invariants that mention something that the events change are evaluated.
+// The first step whose invariant runs past a moment and does not hold after its events. Of the
+// steps that ran before it, only the invariants that mention something that the events change are
+// evaluated.
 fn broken_after(
     alloc: Global,
     before: &State,
@@ -149,8 +152,9 @@ fn broken_after(
     Ok(broken)
 }
 
-/// What the events of a tick make of the state before it, or the first fault there. Of the steps that ran before it, it
-/// evaluates the invariants of those that mention something that an event there changes.
+/// What the events of a tick make of the state before it, or the first fault there. Of the steps
+/// that ran before it, it evaluates the invariants of those that mention something that an event
+/// there changes.
 pub fn judge_tick(
     alloc: Global,
     state: &State,

@@ -1,0 +1,95 @@
+//! Types of terms, and which of them fit.
+
+use crate::declarations::{Declared, Kind, World, declared, find_named};
+use std::alloc::{AllocError, Global};
+use tp_explain_grammar::{head_word, word_of};
+use tp_explain_text::Page;
+use tp_text::Tree;
+
+/// The types that a domain declares.
+#[derive(Drop)]
+pub struct Types<'t> {
+    pub declared: Vec<Declared<'t>>,
+}
+
+impl<'t> Types<'t> {
+    /// Those of a domain.
+    pub fn new(alloc: Global, world: &World<'t>) -> Result<Types<'t>, AllocError> {
+        Ok(Types {
+            declared: declared(alloc, world, Kind::Type)?,
+        })
+    }
+
+    /// The type above a type; `object` where none is named.
+    pub fn parent(&self, name: &str) -> Option<&'t str> {
+        let item = find_named(self.declared.as_slice(), name)?;
+        Some(first_type(item.types))
+    }
+
+    /// Whether a type is another one, or below it.
+    pub fn is_below(&self, below: &str, above: &str) -> bool {
+        let mut current = below;
+        for _ in 0..=self.declared.len() {
+            if current.eq_ignore_ascii_case(above) {
+                return true;
+            }
+            let Some(parent) = self.parent(current) else {
+                return false;
+            };
+            current = parent;
+        }
+        false
+    }
+}
+
+/// The types that stand behind `-`: one word, or those of `(either TYPE ..)`.
+fn type_trees<'t>(types: Option<&'t Tree<'t>>) -> &'t [Tree<'t>] {
+    match types {
+        Some(Tree::List { items, .. }) => items.as_slice().get(1..).unwrap_or(&[]),
+        _ => &[],
+    }
+}
+
+/// The type of one word that stands behind `-`, or `object`.
+fn first_type<'t>(types: Option<&'t Tree<'t>>) -> &'t str {
+    types.and_then(|tree| word_of(tree)).unwrap_or("object")
+}
+
+/// Whether a type is one of some, or below one.
+fn is_below_one(types: &Types<'_>, below: &str, above: Option<&Tree<'_>>) -> bool {
+    let several = type_trees(above);
+    if several.is_empty() {
+        return types.is_below(below, first_type(above));
+    }
+    several
+        .iter()
+        .any(|tree| types.is_below(below, word_of(tree).unwrap_or("")))
+}
+
+/// Whether something of some types may stand for a parameter of others: each of its types is one of
+/// those, or below one.
+pub fn fits(types: &Types<'_>, argument: Option<&Tree<'_>>, parameter: Option<&Tree<'_>>) -> bool {
+    let several = type_trees(argument);
+    if several.is_empty() {
+        return is_below_one(types, first_type(argument), parameter);
+    }
+    several.iter().all(|tree| is_below_one(types, word_of(tree).unwrap_or(""), parameter))
+}
+
+/// Puts types as they are written behind `-`, between backticks.
+pub fn put_type(page: &mut Page, types: Option<&Tree<'_>>) {
+    page.put("`");
+    match types {
+        Some(Tree::List { items, .. }) => {
+            page.put("(");
+            page.put(head_word(items.as_slice()).unwrap_or(""));
+            for tree in items.as_slice().get(1..).unwrap_or(&[]) {
+                page.put(" ");
+                page.put(word_of(tree).unwrap_or(""));
+            }
+            page.put(")");
+        }
+        _ => page.put(first_type(types)),
+    }
+    page.put("`");
+}

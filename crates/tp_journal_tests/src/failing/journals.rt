@@ -1,0 +1,151 @@
+//! Sessions whose journal is kept, and what stops them.
+
+ghost use Rattle.std.specs.Prelude.{◌≡◌, ◌<◌};
+
+use super::sessions::{
+    Device, MOST, SLOW, SOUND, Seen, front, front_lines, headed, lines_in, run, see, sink_of,
+    source_of, whole,
+};
+use std::alloc::Global;
+use std::marker::Brand;
+use std::sync::ledger::{Blank, Ledger};
+use tp_journal_pairs::{JournalFault, journal};
+use tp_script::{Lines, ServeFault, Served};
+use tp_testkit_failing::Stop;
+
+/// Two bounds with the origin, a window, and a refused bound.
+const COMMANDS: &[u8] = b"network 2 100\nadd o 0 10\nadd 0 o -3\nwindow 0\nadd 0 o -11\n";
+
+const ANSWERS: &[u8] = b"bound 0\nbound 1\nwindow 3 10\nrefused conflict new b0\n";
+
+const JOURNAL: &[u8] =
+    b"journal 2\nnetwork 2 100\nbare\n> add o 0 10\n< bound 0\n> add 0 o -3\n< bound 1\n> window 0\n< window 3 10\n> add 0 o -11\n< refused conflict new b0\n";
+
+/// The ledgers of a reader, a writer and a log.
+#[derive(Drop)]
+struct Blanks {
+    reads: Blank,
+    writes: Blank,
+    logs: Blank,
+}
+
+/// What is left behind a session whose journal is kept.
+#[derive(Drop)]
+struct Left {
+    served: Result<Served, JournalFault>,
+    text: Vec<u8>,
+    log: Vec<u8>,
+    seen: Seen,
+}
+
+/// What is left behind these commands, of which at most so many bytes are read.
+fn recorded<I: Ledger, O: Ledger, J: Ledger>(
+    alloc: Global,
+    most: u64,
+    log: Device,
+    blanks: Blanks,
+) -> Result<Left, ServeFault>
+    requires reads_name { blanks.reads.name ≡ I.name }
+    requires reads_parts { blanks.reads.parts ≡ I.parts }
+    requires reads_some { 0 < blanks.reads.parts }
+    requires writes_name { blanks.writes.name ≡ O.name }
+    requires writes_parts { blanks.writes.parts ≡ O.parts }
+    requires writes_some { 0 < blanks.writes.parts }
+    requires logs_name { blanks.logs.name ≡ J.name }
+    requires logs_parts { blanks.logs.parts ≡ J.parts }
+    requires logs_some { 0 < blanks.logs.parts }
+{
+    let source = source_of::<I>(COMMANDS, SOUND, blanks.reads);
+    let mut answers = sink_of::<O>(alloc, SLOW, blanks.writes);
+    let mut pages = sink_of::<J>(alloc, log, blanks.logs);
+    let mut lines = Lines::with_limit(alloc, source, 256, most)?;
+    let mut executive = headed(alloc, &mut lines)?;
+    let served = journal(&mut executive, &mut lines, &mut answers, &mut pages);
+    Ok(Left {
+        served,
+        text: answers.into_text(),
+        log: pages.into_text(),
+        seen: see(&executive),
+    })
+}
+
+fn record(alloc: Global, most: u64, log: Device) -> Result<Left, ServeFault> {
+    let blanks = Blanks {
+        reads: Blank::new(1),
+        writes: Blank::new(1),
+        logs: Blank::new(1),
+    };
+    recorded::<Brand, Brand, Brand>(alloc, most, log, blanks)
+}
+
+/// How many answers stand for the first so many bytes of the journal, one for each pair that is
+/// whole; and how many commands were done, one more once the head is whole.
+fn pairs_in(log: &[u8]) -> (usize, usize) {
+    let lines = lines_in(log);
+    let pairs = lines.saturating_sub(3) / 2;
+    (
+        pairs,
+        if lines < 3 {
+            0
+        } else {
+            pairs.saturating_add(1)
+        },
+    )
+}
+
+/// Whether a session left these answers and that log, for that reason, and its executive as behind
+/// so many commands.
+fn is_left(alloc: Global, left: &Left, fault: JournalFault, count: usize, done: usize) -> bool {
+    let Ok(wanted) = run(alloc, whole(front_lines(COMMANDS, done.saturating_add(1)))) else {
+        return false;
+    };
+    left.served == Err(fault)
+        && left.text.as_slice() == front_lines(ANSWERS, count)
+        && left.seen == wanted.seen
+}
+
+/// Whether a log that fails at the call for that byte, and takes more behind it, holds the bytes
+/// before it and no others. The answer of the pair that is not whole did not go out, and the
+/// executive is as behind its command.
+fn tears_at(alloc: Global, call: usize) -> bool {
+    let log = Device {
+        pace: 1,
+        stop: Stop::Call(call),
+    };
+    let Ok(left) = record(alloc, MOST, log) else {
+        return false;
+    };
+    let text = front(JOURNAL, call);
+    let (pairs, done) = pairs_in(text);
+    left.log.as_slice() == text && is_left(alloc, &left, JournalFault::Log, pairs, done)
+}
+
+#[test]
+fn logs_that_fail(rt: HostRuntime) {
+    let alloc = rt.alloc();
+    for call in 0..JOURNAL.len() {
+        assert!(rt; tears_at(alloc, call) || tears_at(alloc, call), "{call}");
+    }
+}
+
+/// Whether the pairs of the lines that are whole in so many bytes, which are all that may be read,
+/// are kept and answered.
+fn keeps_at_most(alloc: Global, most: usize) -> bool {
+    let Ok(left) = record(alloc, most as u64, SOUND) else {
+        return lines_in(front(COMMANDS, most)) == 0;
+    };
+    let done = lines_in(front(COMMANDS, most)).saturating_sub(1);
+    left.log.as_slice() == front_lines(JOURNAL, done.saturating_mul(2).saturating_add(3))
+        && is_left(alloc, &left, JournalFault::TooLong, done, done)
+}
+
+#[test]
+fn journals_of_at_most_so_many_bytes(rt: HostRuntime) {
+    let alloc = rt.alloc();
+    for most in 0..COMMANDS.len() {
+        assert!(rt;
+            keeps_at_most(alloc, most) || keeps_at_most(alloc, most),
+            "{most}"
+        );
+    }
+}
