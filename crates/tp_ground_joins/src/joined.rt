@@ -142,14 +142,16 @@ fn useful_words<'a>(
     whole_words(alloc, &universe, &problem.initial, &some, most)
 }
 
-/// The task of those ground actions of a problem that can be of use: the static conditions of each hold at first (joins find these, and
-/// make no list of all bindings), and in the delete relaxation it can start, its invariant holds, and it can end. Where these are more
-/// than the limits allow, some of them, by which all atoms are still reached. That all actions of valid plans are among them is not
-/// promised.
+/// The task of those ground actions of a problem that can be of use: the static conditions of each
+/// hold at first (joins find these, and make no list of all bindings), and in the delete relaxation
+/// it can start, its invariant holds, and it can end. Where these are more than the limits allow,
+/// some of them, by which all atoms are still reached. That all actions of valid plans are among
+/// them is not promised.
 ///
 /// # Errors
-/// More bindings that static conditions allow than `MOST_CANDIDATES`, or more objects tried than the joins may; too many atoms or fluents
-/// for the limits, or more actions that reach an atom first; or out of memory.
+/// More bindings that static conditions allow than `MOST_CANDIDATES`, or more objects tried than
+/// the joins may; too many atoms or fluents for the limits, or more actions that reach an atom
+/// first; or out of memory.
 pub fn ground_joined<'a>(
     alloc: Global,
     domain: &'a Domain,

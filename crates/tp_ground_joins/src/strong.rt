@@ -1,11 +1,12 @@
-//! Which actions can happen whole, in the delete relaxation: the start of one, and then, where its invariant is met too, its end. Where
-//! these are too many, some of them.
+//! Which actions can happen whole, in the delete relaxation: the start of one, and then, where its
+//! invariant is met too, its end. Where these are too many, some of them.
 
 use std::alloc::{AllocError, Global};
 use tp_task::{Body, Cond};
 use tp_task_reachability::met;
 
-/// How far an action is: whether it can start, whether it can happen whole, and whether it reached an atom first.
+/// How far an action is: whether it can start, whether it can happen whole, and whether it reached
+/// an atom first.
 #[derive(Clone, Copy)]
 struct Progress {
     started: bool,
@@ -240,8 +241,8 @@ impl<'b> Strong<'b> {
         count
     }
 
-    // Leaves no more than so many actions: those that reached an atom first, by which all atoms are still reached, and of the others an
-    // even share.
+    // Leaves no more than so many actions: those that reached an atom first, by which all atoms are
+    // still reached, and of the others an even share.
     fn thin_out(&mut self, most: usize) {
         let firsts = self.count(true);
         let others = self.count(false).saturating_sub(firsts);
@@ -267,8 +268,8 @@ impl<'b> Strong<'b> {
     }
 }
 
-/// Which actions can happen whole, where some atoms are true at first; where these are more than `most`, some of them, by which all
-/// atoms are still reached.
+/// Which actions can happen whole, where some atoms are true at first; where these are more than
+/// `most`, some of them, by which all atoms are still reached.
 pub(crate) fn whole_actions(
     alloc: Global,
     bodies: &[Body],
