@@ -29,25 +29,6 @@ def brim(first, goal):
     return f"(define (problem p) (:domain brim) (:init (= (x) {first})) (:goal {goal}))"
 
 
-# a lamp that burns for 2 to 20 ticks, and a repair of 10 for which it has to
-LAMP = """(define (domain lamp) (:predicates (lit) (dark) (mended))
- (:durative-action burn :parameters () :duration (and (>= ?duration 2) (<= ?duration 20))
-  :condition (at start (dark))
-  :effect (and (at start (not (dark))) (at start (lit)) (at end (not (lit)))))
- (:durative-action mend :parameters () :duration (= ?duration 10)
-  :condition (over all (lit)) :effect (at end (mended))))"""
-
-UNMENDED = "(define (problem p) (:domain lamp) (:init (dark)) (:goal (mended)))"
-
-BY_LIGHT = "0: (burn) [10]\n0: (mend) [10]\n"
-
-# the same with oil for 15 ticks, where the repair has to be looked at in the end alone
-OIL = LAMP.replace("(:predicates", "(:functions (oil)) (:predicates").replace(":condition (at start (dark))", ":condition (and (at start (dark)) (over all (>= (oil) 0)))")
-OIL = OIL.replace(":effect (and (at start (not (dark)))", ":effect (and (at start (decrease (oil) ?duration)) (at start (not (dark)))")
-LOOKED_AT = OIL.replace("(over all (lit))", "(at end (lit))")
-
-OILED = "(define (problem p) (:domain lamp) (:init (dark) (= (oil) 15)) (:goal (mended)))"
-
 # a domain, a problem of it, the words of the call, what it writes, and its exit status
 ROWS = (
     (TOGGLE, TOGGLED, CALL, "0: (need)\n", 0),
@@ -122,8 +103,7 @@ COUNTS = (
     ("depots", 1, ((4, 27), (6, 33), (14, 58))),
     ("driverlog", 1, ((3, 44), (3, 84), (5, 178))),
     ("elevators", 1, ((3, 24), (3, 24), (3, 31))),
-    # (the third: 97 and 88 there, where the atoms of actions that start and never end have no numbers)
-    ("floortile", 1, ((21, 47), (32, 64), (1015, 74))),
+    ("floortile", 1, ((21, 47), (32, 64), (97, 88))),
     ("matchcellar", 1, ((2, 5), (2, 5), (5, 11))),
     ("observ", 10, ((6, 1170), (9, 1500), (17, 2690))),
     ("openstacks", 1, ((5, 142), (7, 168), (9, 275))),
@@ -186,7 +166,6 @@ class Solve(Case):
     def test_more_actions_than_there_may_be(self):
         files = {"domain": RIDES, "problem": PLACES}
         self.comes_to(told_by(RIDDEN, 0), CALL, files)
-        self.comes_to(told("", "fault ground 2 too-many actions\n", 2), "plan domain problem", files)
         # where the guided search finds nothing, all have to be looked at
         apart = {**files, "problem": PLACES.replace("(:goal (at o2))", "(:goal (at o3))")}
         self.comes_to(told("", "fault ground 2 too-many actions\n", 2), CALL, apart)

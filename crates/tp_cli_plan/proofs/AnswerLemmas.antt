@@ -94,7 +94,7 @@ holds_of : (t u : Task) → HaveSamePlans t u → HoldsPlans t u
 holds_of t u h = record { same = h.same; wide = h.wide; told = h.told }
 
 in_order : (order : Order) (limits : RunLimits) (scale : Scale) (d : Domain) (p : Problem) (task : Task) → IsReachedTask limits scale d p task → IsPlanTask order limits scale d p task
-in_order Lacking limits scale d p task h = h
+in_order (Lacking progress) limits scale d p task h = h
 in_order (Guided wishes) limits scale d p task h = inl h
 
 module _ (read : PlansAreRead) (can_be_read : ActionsAreReadable) (all_readable : AllAreReadable) (same_plans : PlansAreTheSame) (same_goals : GoalsAreTheSame) (held : List ℕ → Option (List ℕ)) (w : SearchWords) (task : Task) (within : w.horizon ≤ 1000000000) (named : IsSearchTask held (task_words w) task) where

@@ -29,7 +29,8 @@ use Rattle.tp_cli_plan.specs.declared.stops.SearchStop.{SearchStop}
 use Rattle.tp_cli_plan.proofs.AnswerLemmas.{plan_said, plan_said_of_all}
 use Rattle.tp_cli_plan.proofs.ReadBack.{AllAreReadable, as_many_of_all, as_many_of_some}
 
--- the words of chosen actions are names, by which each is found again; and the steps of some actions are steps of all
+-- the words of chosen actions are names, by which each is found again; and the steps of some
+-- actions are steps of all
 abbrev pub ChosenAreReadable : Type 0
 ChosenAreReadable =
     (text other : List ℕ) (d : Domain) (p : Problem) (limits : RunLimits) (scale : Scale) (asked : List Words) (t : Task) → SpellsDomain text d → SpellsProblem d other p → IsTaskOf limits scale d p (chosen d p asked) t → AreReadable t.numbering.actions

@@ -34,14 +34,15 @@ task_words w =
       horizon = w.horizon;
     }
 
--- The task of which a plan is found: that of the actions that the relaxed reach keeps; in the guided order perhaps that of some actions
--- that joins leave.
+-- The task of which a plan is found: that of the actions that the relaxed reach keeps; in the
+-- guided order perhaps that of some actions that joins leave.
 abbrev pub IsPlanTask : Order → RunLimits → Scale → Domain → Problem → Task → Type 0
-IsPlanTask Lacking limits scale d p task = IsReachedTask limits scale d p task
+IsPlanTask (Lacking progress) limits scale d p task = IsReachedTask limits scale d p task
 IsPlanTask (Guided wishes) limits scale d p task =
     IsReachedTask limits scale d p task ⊎ IsJoinedTask limits scale d p task
 
--- a valid plan of such a task of the domain and the problem that the words name was written, which ends by their horizon
+-- a valid plan of such a task of the domain and the problem that the words name was written, which
+-- ends by their horizon
 pub record WritesPlan (held : List ℕ → Option (List ℕ)) (w : SearchWords)
     (before now : Option (List ℕ)) : Type 0 where
   pub task : Task

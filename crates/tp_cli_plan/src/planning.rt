@@ -45,7 +45,8 @@ fn tell<O: Sink>(found: &Found<'_>, output: &mut O) -> Result<bool, SearchStop>
     }
 }
 
-/// What the search that the words name comes to, where so many expansions of the guided search of another task are spent, if any.
+/// What the search that the words name comes to, where so many expansions of the guided search of
+/// another task are spent, if any.
 fn found_in<'t, B: Write>(
     alloc: Global,
     words: SearchWords<'_>,
@@ -244,7 +245,8 @@ fn plan_joined<B: Write, O: Sink>(
     }
 }
 
-/// Searches for a plan in the task of the relaxed reach, if none was found in that which joins leave.
+/// Searches for a plan in the task of the relaxed reach, if none was found in that which joins
+/// leave.
 fn plan_rest<B: Write, O: Sink>(
     alloc: Global,
     words: SearchWords<'_>,
@@ -272,7 +274,8 @@ fn plan_rest<B: Write, O: Sink>(
     }
 }
 
-/// Searches for a plan, first by the guided search of the task that joins leave, and then in that of the relaxed reach.
+/// Searches for a plan, first by the guided search of the task that joins leave, and then in that
+/// of the relaxed reach.
 fn plan_guided<B: Write, O: Sink>(
     alloc: Global,
     words: SearchWords<'_>,
@@ -322,8 +325,9 @@ fn plan_of<B: Write, O: Sink>(
     }
 }
 
-/// Searches for a plan of the task that the words name, and writes it, or why there is none. Answers whether there is one. What both
-/// texts spell is never freed: a call is made once in a run of the program, whose end frees all at once.
+/// Searches for a plan of the task that the words name, and writes it, or why there is none.
+/// Answers whether there is one. What both texts spell is never freed: a call is made once in a run
+/// of the program, whose end frees all at once.
 fn plan<N: Files, B: Write, O: Sink>(
     alloc: Global,
     files: &mut N,
@@ -354,10 +358,11 @@ fn plan<N: Files, B: Write, O: Sink>(
 /// where none was found. Answers the exit status: 0 for a plan, 1 where none was found, and for
 /// another writes one fault line.
 ///
-/// The search is of the task that `ground_reached` makes: no more actions than its relaxed reach keeps. In the guided order the task
-/// that `ground_joined` makes is searched first, by the guided search alone; where that proposes no valid plan, the other order answers
-/// with what is left of the budget. The cost is that of reading both texts, of grounding and of the search. What a guided search tells
-/// of plans as it finds them goes to `board`, if the words wish for it.
+/// The search is of the task that `ground_reached` makes: no more actions than its relaxed reach
+/// keeps. In the guided order the task that `ground_joined` makes is searched first, by the guided
+/// search alone; where that proposes no valid plan, the other order answers with what is left of
+/// the budget. The cost is that of reading both texts, of grounding and of the search. What a
+/// guided search tells of plans as it finds them goes to `board`, if the words wish for it.
 pub fn run_plan<N: Files, B: Write, O: Sink, F: Sink>(
     alloc: Global,
     files: &mut N,

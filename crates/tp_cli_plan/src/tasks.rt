@@ -1,5 +1,5 @@
-//! The domain and the problem in two files, and tasks of them: of the actions that the relaxed reach keeps, and of those that joins of
-//! static conditions leave.
+//! The domain and the problem in two files, and tasks of them: of the actions that the relaxed
+//! reach keeps, and of those that joins of static conditions leave.
 
 ghost use Rattle.std.specs.Prelude.{◌≤◌, ℕ, List, Option, IfOk, IfErr, IfSome};
 ghost use Rattle.tp_bounds.specs.RunLimits.{greatest_limits};
@@ -44,7 +44,8 @@ fn inputs_of<N: Files>(
     Ok(Inputs { domain, problem })
 }
 
-/// The domain and the problem that the words name. A file is opened only when what stands before it is done.
+/// The domain and the problem that the words name. A file is opened only when what stands before it
+/// is done.
 pub(crate) fn inputs_in<N: Files>(
     alloc: Global,
     files: &mut N,

@@ -182,6 +182,21 @@ impl Join {
     }
 }
 
+// The relations of an action, whose parameters are in scope.
+fn join_in_scope<'a>(
+    objects: &mut Objects<'a>,
+    universe: &Universe<'a>,
+    changes: &Changes<'a>,
+    facts: &Facts<'a>,
+    action: &'a Action,
+) -> Result<Join, AllocError> {
+    let parameters = action.parameters.as_slice();
+    let mut join = Join::new(objects, universe, parameters)?;
+    let wanted = wanted_of(objects.alloc, action)?;
+    join.ask_all(&*objects, changes, facts, parameters, &wanted)?;
+    Ok(join)
+}
+
 /// The relations of an action.
 pub(crate) fn join_of<'a>(
     objects: &mut Objects<'a>,
@@ -190,11 +205,8 @@ pub(crate) fn join_of<'a>(
     facts: &Facts<'a>,
     action: &'a Action,
 ) -> Result<Join, AllocError> {
-    let parameters = action.parameters.as_slice();
-    let wanted = wanted_of(objects.alloc, action)?;
-    let mut join = Join::new(objects, universe, parameters)?;
-    let before = objects.open(universe, parameters)?;
-    join.ask_all(&*objects, changes, facts, parameters, &wanted)?;
+    let before = objects.open(universe, action.parameters.as_slice())?;
+    let join = join_in_scope(objects, universe, changes, facts, action)?;
     objects.close(before);
     Ok(join)
 }

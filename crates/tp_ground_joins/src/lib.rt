@@ -1,4 +1,5 @@
-//! The task of those ground actions that can be of use, found by joins of static conditions: no list of all bindings is made.
+//! The task of those ground actions that can be of use, found by joins of static conditions: no
+//! list of all bindings is made.
 //!
 //! - `objects`: objects by number, and which of them fit lists of types
 //! - `changes`: what effects add and assign

@@ -168,7 +168,8 @@ impl Relation {
         low
     }
 
-    /// The rows of a range that have a value in a column, where all have the same in those before it.
+    /// The rows of a range that have a value in a column, where all have the same in those before
+    /// it.
     pub(crate) fn narrowed(&self, range: Range, column: usize, value: u32) -> Range {
         let low = self.first_from(range, column, value);
         let rest = Range {

@@ -1,9 +1,24 @@
-//! Which actions can happen whole, in the delete relaxation: the start of one, and then, where its invariant is met too, its end. Where
-//! these are too many, some of them.
+//! Which actions can happen whole, in the delete relaxation: the start of one, and then, where its
+//! invariant is met too, its end. Where these are too many, some of them.
 
 use std::alloc::{AllocError, Global};
 use tp_task::{Body, Cond};
 use tp_task_reachability::met;
+
+/// How far an action is: whether it can start, whether it can happen whole, and whether it reached
+/// an atom first.
+#[derive(Clone, Copy)]
+struct Progress {
+    started: bool,
+    whole: bool,
+    first: bool,
+}
+
+const NONE: Progress = Progress {
+    started: false,
+    whole: false,
+    first: false,
+};
 
 /// The atoms that are reached, and how far each action is.
 #[derive(Drop)]
@@ -11,12 +26,7 @@ struct Strong<'b> {
     alloc: Global,
     bodies: &'b [Body],
     reach: Vec<bool>,
-    /// Which actions can start.
-    started: Vec<bool>,
-    /// Which can happen whole.
-    whole: Vec<bool>,
-    /// Which reached an atom first.
-    first: Vec<bool>,
+    progress: Vec<Progress>,
     /// Of each atom, the actions whose conditions mention it.
     waiting: Vec<Vec<u32>>,
     /// The atoms that are reached and not yet told to those that wait for them.
@@ -33,22 +43,36 @@ fn mark(marks: &mut [bool], at: usize) {
     }
 }
 
+fn empty_lists(alloc: Global, count: usize) -> Result<Vec<Vec<u32>>, AllocError> {
+    let mut lists = Vec::new(alloc);
+    for _ in 0..count {
+        lists.push(Vec::new(alloc))?;
+    }
+    Ok(lists)
+}
+
 impl<'b> Strong<'b> {
     fn new(alloc: Global, bodies: &'b [Body], reach: Vec<bool>) -> Result<Self, AllocError> {
-        let mut strong = Strong {
+        let waiting = empty_lists(alloc, reach.len())?;
+        let progress = Vec::from_elem(alloc, NONE, bodies.len())?;
+        Ok(Strong {
             alloc,
             bodies,
             reach,
-            started: Vec::from_elem(alloc, false, bodies.len())?,
-            whole: Vec::from_elem(alloc, false, bodies.len())?,
-            first: Vec::from_elem(alloc, false, bodies.len())?,
-            waiting: Vec::new(alloc),
+            progress,
+            waiting,
             fresh: Vec::new(alloc),
-        };
-        for _ in 0..strong.reach.len() {
-            strong.waiting.push(Vec::new(alloc))?;
+        })
+    }
+
+    fn progress_of(&self, action: usize) -> Progress {
+        self.progress.get(action).copied().unwrap_or(NONE)
+    }
+
+    fn set_progress(&mut self, action: usize, progress: Progress) {
+        if let Some(at) = self.progress.get_mut(action) {
+            *at = progress;
         }
-        Ok(strong)
     }
 
     // An action waits for an atom. Where it does already, it is the last that does.
@@ -109,24 +133,51 @@ impl<'b> Strong<'b> {
         Ok(())
     }
 
-    fn add(&mut self, action: usize, atoms: &[u32]) -> Result<(), AllocError> {
+    // Atoms are reached by an action; whether one of them is new.
+    fn add(&mut self, atoms: &[u32]) -> Result<bool, AllocError> {
+        let before = self.fresh.len();
         for atom in atoms {
             if !is_marked(&self.reach, *atom as usize) {
                 mark(&mut self.reach, *atom as usize);
-                mark(&mut self.first, action);
                 self.fresh.push(*atom)?;
             }
         }
+        Ok(self.fresh.len() > before)
+    }
+
+    // An action can start.
+    fn start(&mut self, action: usize, adds: &[u32], whole: bool) -> Result<(), AllocError> {
+        let first = self.add(adds)?;
+        let progress = Progress {
+            started: true,
+            whole,
+            first,
+        };
+        self.set_progress(action, progress);
+        Ok(())
+    }
+
+    // An action that can start can end.
+    fn end(&mut self, action: usize, adds: &[u32]) -> Result<(), AllocError> {
+        let first = self.add(adds)?;
+        let before = self.progress_of(action);
+        let progress = Progress {
+            started: true,
+            whole: true,
+            first: before.first || first,
+        };
+        self.set_progress(action, progress);
         Ok(())
     }
 
     fn can_start(&self, action: usize, condition: &Cond) -> bool {
-        !is_marked(&self.started, action) && met(&self.reach, true, condition)
+        !self.progress_of(action).started && met(&self.reach, true, condition)
     }
 
     fn can_end(&self, action: usize, invariant: &Cond, condition: &Cond) -> bool {
-        is_marked(&self.started, action)
-            && !is_marked(&self.whole, action)
+        let progress = self.progress_of(action);
+        progress.started
+            && !progress.whole
             && met(&self.reach, true, invariant)
             && met(&self.reach, true, condition)
     }
@@ -137,19 +188,15 @@ impl<'b> Strong<'b> {
         match bodies.get(action) {
             Some(Body::Instant(only)) => {
                 if self.can_start(action, &only.condition) {
-                    mark(&mut self.started, action);
-                    mark(&mut self.whole, action);
-                    self.add(action, &only.adds)?;
+                    self.start(action, &only.adds, true)?;
                 }
             }
             Some(Body::Durative(start, end, invariant)) => {
                 if self.can_start(action, &start.condition) {
-                    mark(&mut self.started, action);
-                    self.add(action, &start.adds)?;
+                    self.start(action, &start.adds, false)?;
                 }
                 if self.can_end(action, invariant, &end.condition) {
-                    mark(&mut self.whole, action);
-                    self.add(action, &end.adds)?;
+                    self.end(action, &end.adds)?;
                 }
             }
             None => {}
@@ -183,41 +230,46 @@ impl<'b> Strong<'b> {
         Ok(())
     }
 
-    // Leaves no more than so many actions: those that reached an atom first, by which all atoms are still reached, and of the others an
-    // even share.
+    // How many actions can happen whole; of those that reached an atom first, if only these count.
+    fn count(&self, first: bool) -> usize {
+        let mut count: usize = 0;
+        for progress in &self.progress {
+            if progress.whole && (progress.first || !first) {
+                count = count.saturating_add(1);
+            }
+        }
+        count
+    }
+
+    // Leaves no more than so many actions: those that reached an atom first, by which all atoms are
+    // still reached, and of the others an even share.
     fn thin_out(&mut self, most: usize) {
-        let firsts = count_both(&self.whole, &self.first);
-        let others = count(&self.whole).saturating_sub(firsts);
+        let firsts = self.count(true);
+        let others = self.count(false).saturating_sub(firsts);
         let room = most.saturating_sub(firsts).min(others);
         let mut sum: usize = 0;
-        for (whole, first) in self.whole.iter_mut().zip(self.first.iter()) {
-            if *whole && !*first {
+        for progress in self.progress.iter_mut() {
+            if progress.whole && !progress.first {
                 sum = sum.saturating_add(room);
-                *whole = sum >= others;
-                if *whole {
+                progress.whole = sum >= others;
+                if progress.whole {
                     sum = sum.saturating_sub(others);
                 }
             }
         }
     }
-}
 
-fn count(marks: &[bool]) -> usize {
-    marks.iter().filter(|mark| **mark).count()
-}
-
-fn count_both(marks: &[bool], others: &[bool]) -> usize {
-    let mut count: usize = 0;
-    for (mark, other) in marks.iter().zip(others.iter()) {
-        if *mark && *other {
-            count = count.saturating_add(1);
+    fn marks(&self) -> Result<Vec<bool>, AllocError> {
+        let mut marks = Vec::with_capacity(self.alloc, self.progress.len())?;
+        for progress in &self.progress {
+            marks.push(progress.whole)?;
         }
+        Ok(marks)
     }
-    count
 }
 
-/// Which actions can happen whole, where some atoms are true at first; where these are more than `most`, some of them, by which all
-/// atoms are still reached.
+/// Which actions can happen whole, where some atoms are true at first; where these are more than
+/// `most`, some of them, by which all atoms are still reached.
 pub(crate) fn whole_actions(
     alloc: Global,
     bodies: &[Body],
@@ -227,9 +279,8 @@ pub(crate) fn whole_actions(
     let mut strong = Strong::new(alloc, bodies, truths)?;
     strong.wait_all()?;
     strong.spread()?;
-    if count(&strong.whole) > most {
+    if strong.count(false) > most {
         strong.thin_out(most);
     }
-    let Strong { whole, .. } = strong;
-    Ok(whole)
+    strong.marks()
 }

@@ -17,8 +17,8 @@ pub(crate) struct Found<'a> {
     pub(crate) most: usize,
 }
 
-/// The objects that are still to be tried for a parameter: those of a range of a relation's rows in a column, or those of its kind from a
-/// place on.
+/// The objects that are still to be tried for a parameter: those of a range of a relation's rows in
+/// a column, or those of its kind from a place on.
 #[derive(Clone, Copy)]
 enum Left {
     Rows(Column, Range),
@@ -187,7 +187,8 @@ impl<'j, 'a> Walk<'j, 'a> {
         }
     }
 
-    // The next object that is to be tried, None where none is left for the last level, which is then closed.
+    // The next object that is to be tried, None where none is left for the last level, which is
+    // then closed.
     fn next_object(&mut self) -> Option<u32> {
         let top = self.levels.len().saturating_sub(1);
         let left = self.levels.get(top).copied()?;
@@ -207,7 +208,8 @@ impl<'j, 'a> Walk<'j, 'a> {
 
     // Binds the next parameter; whether that is allowed, else nothing is bound.
     fn bind(&mut self, object: u32) -> Result<bool, AllocError> {
-        if !self.narrow_all(self.row.len(), object) {
+        let depth = self.row.len();
+        if !self.narrow_all(depth, object) {
             return Ok(false);
         }
         self.row.push(object)?;

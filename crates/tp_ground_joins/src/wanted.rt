@@ -1,5 +1,5 @@
-//! The conditions that each use of an action meets: those that stand alone at its start, all the time or at its end, and that what it
-//! reads has a value.
+//! The conditions that each use of an action meets: those that stand alone at its start, all the
+//! time or at its end, and that what it reads has a value.
 
 use std::alloc::{AllocError, Global};
 use tp_syntax_ast::{
@@ -15,7 +15,8 @@ pub(crate) struct Sameness<'a> {
     pub(crate) same: bool,
 }
 
-/// Atoms that must hold at some time, fluents that must have a value, and terms that must or must not be the same.
+/// Atoms that must hold at some time, fluents that must have a value, and terms that must or must
+/// not be the same.
 #[derive(Drop)]
 pub(crate) struct Wanted<'a> {
     pub(crate) atoms: Vec<&'a Atom>,

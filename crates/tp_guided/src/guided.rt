@@ -66,7 +66,7 @@ impl<'t> Guided<'t> {
                     exhausted: false,
                 });
             }
-            let ends = self.rounds.note_none(outcome.spent, outcome.empty, better);
+            let ends = self.rounds.note_none(outcome.empty, better);
             if ends || spent >= budget {
                 return Ok(no_plan(spent, ends));
             }

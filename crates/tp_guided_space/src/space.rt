@@ -45,15 +45,6 @@ fn running_from(choice: Choice) -> Running {
     }
 }
 
-// The most ticks that one of some steps has left.
-fn most_left(running: &[Running]) -> u32 {
-    let mut most = 0;
-    for run in running {
-        most = run.left.max(most);
-    }
-    most
-}
-
 impl<'t> Space<'t> {
     /// The space of a task, whose root is loaded; no step ends past a limit.
     pub fn new(
@@ -255,7 +246,7 @@ impl<'t> Space<'t> {
         self.store.unpack(moment.state, &mut self.own);
         self.own.keep();
         if moment.choices.is_none() {
-            self.find_choices(moment.tick, moment.running)?;
+            self.find_choices(moment.tick)?;
         }
         self.store.read_chain(node, &mut self.chain)?;
         self.load_running(moment.running)?;
@@ -265,11 +256,10 @@ impl<'t> Space<'t> {
     }
 
     // Finds what can start at the moment of the loaded node, of whose events none has happened yet.
-    fn find_choices(&mut self, tick: u32, running: Span) -> Result<(), AllocError> {
+    fn find_choices(&mut self, tick: u32) -> Result<(), AllocError> {
         let frame = Frame {
             tick,
             limit: self.limit,
-            left: most_left(self.store.runs(running)),
         };
         find_choices(self.task, &self.own, frame, self.watched, &mut self.found)?;
         if let Some(node) = self.store.node(self.node) {

@@ -4,12 +4,11 @@ use crate::store::Choice;
 use std::alloc::AllocError;
 use tp_search_compiled::{Action, GREATEST, NONE, Op, State, Task, UNDEFINED, Watched, units};
 
-/// The tick of a start, the tick that no step ends past, and the most ticks that a running step has left.
+/// The tick of a start, and the tick that no step ends past.
 #[derive(Clone, Copy)]
 pub struct Frame {
     pub tick: u32,
     pub limit: u32,
-    pub left: u32,
 }
 
 fn rounded_down(ticks: i64, scale: i64) -> i64 {
@@ -113,43 +112,7 @@ fn add_choice(
     Ok(())
 }
 
-fn rounded_ticks(ticks: u32, scale: u32) -> u32 {
-    match ticks.checked_div(scale) {
-        Some(units) => units.saturating_mul(scale),
-        None => ticks,
-    }
-}
-
-// The greatest of the durations from the least on that ends by the limit, the least where none does.
-fn most_by_limit(task: &Task, action: &Action, frame: Frame, least: u32, most: u32) -> u32 {
-    let room = frame.limit.saturating_sub(frame.tick);
-    let room = if action.duration {
-        rounded_ticks(room, task.scale)
-    } else {
-        room
-    };
-    most.min(room).max(least)
-}
-
-// The least duration that outlasts the running steps.
-fn outlasting(task: &Task, action: &Action, frame: Frame) -> u32 {
-    let ticks = frame.left.saturating_add(1);
-    if action.duration {
-        rounded_ticks(
-            ticks.saturating_add(task.scale).saturating_sub(1),
-            task.scale,
-        )
-    } else {
-        ticks
-    }
-}
-
-fn choice_of(action: u32, duration: u32) -> Choice {
-    Choice { action, duration }
-}
-
-// Adds the starts of an action with its least duration, with the greatest that ends by the limit, and where steps run, with the least
-// between these that outlasts them.
+// Adds the starts of an action with its least and its greatest duration.
 fn add_choices(
     task: &Task,
     state: &State,
@@ -163,14 +126,17 @@ fn add_choices(
     let Some((least, most)) = lengths(task, state, action) else {
         return Ok(());
     };
-    let most = most_by_limit(task, action, frame, least, most);
-    let between = outlasting(task, action, frame);
-    add_choice(task, state, frame, choice_of(number, least), found)?;
-    if frame.left > 0 && least < between && between < most {
-        add_choice(task, state, frame, choice_of(number, between), found)?;
-    }
+    let choice = Choice {
+        action: number,
+        duration: least,
+    };
+    add_choice(task, state, frame, choice, found)?;
     if most > least {
-        add_choice(task, state, frame, choice_of(number, most), found)?;
+        let choice = Choice {
+            action: number,
+            duration: most,
+        };
+        add_choice(task, state, frame, choice, found)?;
     }
     Ok(())
 }

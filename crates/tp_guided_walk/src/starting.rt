@@ -6,7 +6,7 @@ use crate::walk::Walk;
 use std::alloc::AllocError;
 use tp_guided_costs::Heuristic;
 use tp_guided_space::{Choice, Space};
-use tp_search_compiled::{Event, NONE, Span, Task};
+use tp_search_compiled::{Event, NONE, Task};
 
 // Whether an item is still to do, and can start at this tick.
 fn is_possible(space: &Space<'_>, item: &Item) -> bool {
@@ -247,7 +247,7 @@ impl Walk {
     }
 
     // The starts of an item that are tried, in order: the least duration first, but the greatest
-    // for an envelope and where its length counts; and those between where these do not serve.
+    // for an envelope and where its length counts.
     fn list_tries(
         &mut self,
         space: &mut Space<'_>,
@@ -257,45 +257,22 @@ impl Walk {
     ) -> Result<(), AllocError> {
         self.tries.clear();
         let span = space.choices_of(item.action);
-        let most = span.at.saturating_add(span.count).saturating_sub(1);
-        if span.count > 1 && self.is_long(space.task(), item) {
-            return self.list_long(space, value, place, span);
+        let least = span.at;
+        if span.count < 2 {
+            self.tries.push(least)?;
+            return Ok(());
         }
-        self.tries.push(span.at)?;
-        if span.count > 1 {
+        let most = span.at.saturating_add(1);
+        if !self.is_long(space.task(), item) {
+            self.tries.push(least)?;
             self.tries.push(most)?;
+            return Ok(());
         }
-        self.push_between(span)
-    }
-
-    // The same, the greatest duration first. In some rounds the one that is as long as what it is for
-    // goes before it.
-    fn list_long(
-        &mut self,
-        space: &mut Space<'_>,
-        value: &Heuristic<'_>,
-        place: u32,
-        span: Span,
-    ) -> Result<(), AllocError> {
-        let most = span.at.saturating_add(span.count).saturating_sub(1);
         if self.stretch {
-            self.push_stretched(space, value, place, span)?;
-            self.tries.push(most)?;
-        } else {
-            self.tries.push(most)?;
-            self.push_stretched(space, value, place, span)?;
+            self.push_stretched(space, value, place, least)?;
         }
-        self.push_between(span)?;
-        self.tries.push(span.at)?;
-        Ok(())
-    }
-
-    // The starts of a span between the first and the last.
-    fn push_between(&mut self, span: Span) -> Result<(), AllocError> {
-        for offset in 2..span.count {
-            let number = span.at.saturating_add(offset).saturating_sub(1);
-            self.tries.push(number)?;
-        }
+        self.tries.push(most)?;
+        self.tries.push(least)?;
         Ok(())
     }
 
@@ -315,10 +292,10 @@ impl Walk {
         space: &mut Space<'_>,
         value: &Heuristic<'_>,
         place: u32,
-        span: Span,
+        least: u32,
     ) -> Result<(), AllocError> {
-        let most = span.at.saturating_add(span.count).saturating_sub(1);
-        let (Some(low), Some(high)) = (space.choice(span.at), space.choice(most)) else {
+        let (Some(low), Some(high)) = (space.choice(least), space.choice(least.saturating_add(1)))
+        else {
             return Ok(());
         };
         let ticks = self.ticks_on(space, value, place);

@@ -26,15 +26,16 @@ pub struct Wishes {
     pub progress: bool,
 }
 
-/// What the guided search came to by itself: a plan, if it proposed a valid one, and of how many expansions it took.
+/// What the guided search came to by itself: a plan, if it proposed a valid one, and of how many
+/// expansions it took.
 #[derive(Drop)]
 pub struct Proposed<'t> {
     pub plan: Option<ValidPlan<'t>>,
     pub spent: u32,
 }
 
-/// The search by the count of unmet goal conjuncts, with what is left of a budget, as far as the task's limits let it go. Where that is
-/// spent, the whole budget is.
+/// The search by the count of unmet goal conjuncts, with what is left of a budget, as far as the
+/// task's limits let it go. Where that is spent, the whole budget is.
 pub fn search_rest<'t>(
     alloc: Global,
     task: &'t Task,
@@ -148,8 +149,9 @@ fn propose_in<'t, B: Write>(
     })
 }
 
-/// A plan of a task that ends by a horizon, at its least schedule, if the guided search proposes one within three quarters of a budget:
-/// it alone, so that nothing is told of a task without one. What is wished for beside is as in `solve_with`.
+/// A plan of a task that ends by a horizon, at its least schedule, if the guided search proposes
+/// one within three quarters of a budget: it alone, so that nothing is told of a task without one.
+/// What is wished for beside is as in `solve_with`.
 pub fn propose_with<'t, B: Write>(
     alloc: Global,
     task: &'t Task,
