@@ -125,13 +125,13 @@ LAST = 1 + 21 + 230 + 1
 
 
 # a goal that is met where nothing is deleted, and never else
-LAMPS = """(define (domain lamps) (:requirements :typing) (:types lamp)
+SWITCHES = """(define (domain lamps) (:requirements :typing) (:types lamp)
  (:predicates (lit ?l - lamp) (done))
  (:action switch :parameters (?l - lamp) :precondition (not (lit ?l)) :effect (lit ?l))
  (:action dim :parameters (?l - lamp) :precondition (lit ?l) :effect (not (lit ?l)))
  (:action end :parameters (?l - lamp) :precondition (and (lit ?l) (not (lit ?l))) :effect (done)))"""
 
-LIT = "(define (problem p) (:domain lamps) (:objects a b c d e f g h i j - lamp) (:init) (:goal (done)))"
+SWITCHED = "(define (problem p) (:domain lamps) (:objects a b c d e f g h i j - lamp) (:init) (:goal (done)))"
 
 
 class Plan(Case):
@@ -170,7 +170,7 @@ class Plan(Case):
                 self.comes_to(told_by(text, status), f"{CALL} --budget {budget}", files)
 
     def test_how_far_a_search_is_is_told(self):
-        files = {"domain": LAMPS, "problem": LIT}
+        files = {"domain": SWITCHES, "problem": SWITCHED}
         found = call(f"{CALL} --budget 250000 --progress", files)
         self.assertEqual((found.answers, found.status), (b"spent 250000\n", 1))
         lines = [f"expanded {count} waiting \\d+ lacking 1\n" for count in (100_000, 200_000)]

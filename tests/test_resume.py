@@ -105,10 +105,8 @@ class Resumed(Case):
         self.comes_to(told("wrong 18\n", "", 1), RUN, {**PLAN, "old.log": wrong}, whole("report\n"))
 
     def test_a_plan_that_is_not_valid_has_no_run_to_go_on_with(self):
-        files = {**PLAN, "plan": "0: (watch) [5]\n", "old.log": RUN_JOURNAL}
-        found = call(RUN, files, whole("report\n"))
-        self.assertRegex(found.answers, rb"^invalid ")
-        self.assertEqual((found.faults, found.status, found.journal), (b"", 1, None))
+        files = {**PLAN, "plan": "0: (watch) [4]\n", "old.log": RUN_JOURNAL}
+        self.comes_to(told("invalid 0 duration 0\n", "", 1), RUN, files, whole("report\n"))
 
     def test_a_journal_of_the_first_version_goes_on_as_one_of_the_second(self):
         old = "journal 1\nnetwork 1 5\nbare\n> window 0\n< window 0 5\n"

@@ -7,6 +7,7 @@ use Rattle.tp_device.specs.Bytes.{AppendsPart}
 use Rattle.tp_cli_bare.specs.Bare.{AnswersAll, AnswersPart, IsRefused, first_machine}
 use Rattle.tp_exec_machine.specs.Machine.{Machine}
 use Rattle.tp_script.specs.Pending.{Reading}
+use Rattle.tp_script.specs.Serving.{EndsUnwritten}
 use Rattle.tp_script.specs.declared.serving.Served.{Served}
 use Rattle.tp_journal_pairs.specs.Journal.{Entry}
 use Rattle.tp_journal_pairs.specs.Writing.{EndsJournal, EndsUnlogged, Journals}
@@ -251,11 +252,28 @@ unlogged_over old new lines entries a b c d log logged over h =
       logs = h.logs;
     }
 
+unwritten_over : (old new : Machine) (lines : List (List ℕ)) (text : List ℕ) (a b c d : Option (List ℕ)) → Shift a b c d → EndsUnwritten old new lines text a b → EndsUnwritten old new lines text c d
+unwritten_over old new lines text a b c d over h =
+    record {
+      lines_before = h.lines_before;
+      line = h.line;
+      said = h.said;
+      answer = h.answer;
+      mid = h.mid;
+      count = h.count;
+      lines_are = h.lines_are;
+      text_is = h.text_is;
+      ran_before = h.ran_before;
+      ran_last = h.ran_last;
+      within = h.within;
+      written = over _ h.written;
+    }
+
 ends_journal_over : (old new : Machine) (after : Reading) (lines : List (List ℕ)) (entries : List Entry) (text part : List ℕ) (a b c d log logged : Option (List ℕ)) (result : Result Served JournalFault) → Shift a b c d → EndsJournal old new after lines entries text part a b log logged result → EndsJournal old new after lines entries text part c d log logged result
 ends_journal_over old new after lines entries text part a b c d log logged (Ok served) over h = (h.0, h.1, over _ h.2, h.3, h.4)
 ends_journal_over old new after lines entries text part a b c d log logged (Err Read) over h = (over _ h.0, h.1)
 ends_journal_over old new after lines entries text part a b c d log logged (Err TooLong) over h = (over _ h.0, h.1, h.2, h.3)
-ends_journal_over old new after lines entries text part a b c d log logged (Err Write) over h = (h.0, part_over a b c d _ over h.1, h.2)
+ends_journal_over old new after lines entries text part a b c d log logged (Err Write) over h = (h.0, unwritten_over old new lines text a b c d over h.1, h.2)
 ends_journal_over old new after lines entries text part a b c d log logged (Err Log) over h = (h.0, unlogged_over old new lines entries a b c d log logged over h.1)
 
 journals_over : (old new : Machine) (before after : Reading) (a b c d log logged : Option (List ℕ)) (result : Result Served JournalFault) → Shift a b c d → Journals old new before after a b log logged result → Journals old new before after c d log logged result

@@ -116,7 +116,7 @@ fn blank_sheet<J: Ledger>(alloc: Global, room: Option<usize>, logs: Blank) -> Op
 }
 
 /// What comes of a call, over streams whose failures are counted.
-fn called<N: Files, I: Ledger, O: Ledger, F: Ledger, J: Ledger, A: Ledger>(
+fn called<N: Files + Drop, I: Ledger, O: Ledger, F: Ledger, J: Ledger, A: Ledger>(
     alloc: Global,
     words: &[String],
     files: N,
@@ -154,11 +154,16 @@ fn called<N: Files, I: Ledger, O: Ledger, F: Ledger, J: Ledger, A: Ledger>(
         board: sink(),
     };
     let status = run_words(alloc, words, &mut desk, input, &mut output, &mut faults);
+    let Desk {
+        shelf: _,
+        logs,
+        board: _,
+    } = desk;
     Outcome {
         status,
         answers: output.into_text(),
         faults: faults.into_text(),
-        journal: desk.logs.into_text(),
+        journal: logs.into_text(),
     }
 }
 
@@ -173,7 +178,7 @@ fn words_of(alloc: Global, words: &[&str]) -> Result<Vec<String>, AllocError> {
 }
 
 /// What comes of a call with these words.
-pub(crate) fn call<N: Files>(
+pub(crate) fn call<N: Files + Drop>(
     alloc: Global,
     words: &[&str],
     files: N,

@@ -8,26 +8,37 @@ const EXPLAIN: &str = "--explain";
 /// The word behind which all words are files.
 const FILES: &str = "--";
 
-/// Whether explanations are asked for: one of the words does, before all words are files.
-pub fn explains(words: &[String]) -> bool {
+/// Whether another word than the first `skipped` asks for explanations, before all words are files.
+fn asks_behind(skipped: usize, words: &[String]) -> bool {
+    let mut left = skipped;
     for word in words {
         if word.as_str() == FILES {
             return false;
         }
         if word.as_str() == EXPLAIN {
-            return true;
+            if left == 0 {
+                return true;
+            }
+            left -= 1;
         }
     }
     false
 }
 
-/// The words of the call without those that ask for explanations.
+/// Whether explanations are asked for: one of the words does, before all words are files.
+pub fn explains(words: &[String]) -> bool {
+    asks_behind(0, words)
+}
+
+/// The words of the call without the one that asks for explanations. Where two do, all of them:
+/// they are refused.
 pub(crate) fn without_explain(alloc: Global, words: &[String]) -> Result<Vec<String>, AllocError> {
+    let mut found = asks_behind(1, words);
     let mut rest = Vec::new(alloc);
-    let mut files = false;
     for word in words {
-        files = files || word.as_str() == FILES;
-        if files || word.as_str() != EXPLAIN {
+        if !found && word.as_str() == EXPLAIN {
+            found = true;
+        } else {
             rest.push(word.clone()?)?;
         }
     }

@@ -46,13 +46,17 @@ where
     E: Write + Drop,
     ensures { result ≤ 3 }
 {
-    let plain = without_explain(alloc, words).unwrap_or(Vec::new(alloc));
+    let plain = without_explain(alloc, words);
+    let asked = match &plain {
+        Ok(rest) => rest.as_slice(),
+        Err(_) => words,
+    };
     let kept = RefCell::new(Vec::new(alloc));
     let nothing: &[u8] = &[];
     let unread = RefCell::new(StandardInput::new(alloc, nothing));
     let session = RefCell::new(Session::new(
         alloc,
-        plain.as_slice(),
+        asked,
         HostFiles::new(rt, &unread),
         streams.notes,
     ));
@@ -69,7 +73,7 @@ where
         board: streams.board,
     };
     let heard = (streams.input, streams.output, streams.faults);
-    let status = run_heard(alloc, words, &mut desk, heard, &session).status;
+    let status = run_heard(alloc, asked, &mut desk, heard, &session).status;
     if let (Ok(read), Ok(mut session)) = (kept.try_borrow(), session.try_borrow_mut()) {
         let read = RefCell::new(StandardInput::new(alloc, read.as_slice()));
         session.end(status, &mut HostFiles::new(rt, &read));

@@ -204,7 +204,7 @@ fn add_actions<'t>(items: &mut Vec<Declared<'t>>, text: &Text<'t>) -> Result<(),
 
 /// All names that are declared as something, in the order of their declaration: of objects the
 /// constants first.
-pub fn declared<'t>(
+pub fn declarations_of<'t>(
     alloc: Global,
     world: &World<'t>,
     kind: Kind,

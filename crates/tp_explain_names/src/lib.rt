@@ -14,7 +14,7 @@ mod typing;
 mod unknown;
 
 pub use declarations::{
-    Declared, Kind, World, declared, find_named, is_action, section_of, typed_items,
+    Declared, Kind, World, declarations_of, find_named, is_action, section_of, typed_items,
 };
 pub use mismatches::{put_cannot_fit, put_takes, put_types};
 pub use near::{other_kind, put_near, put_other_kind};

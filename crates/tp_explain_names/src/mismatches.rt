@@ -1,7 +1,8 @@
 //! What is wrong with terms of the wrong types, and with types that lead round in a cycle.
 
 use crate::declarations::{
-    Declared, Kind, World, declared, find_named, innermost, section_of, typed_items, variables_at,
+    Declared, Kind, World, declarations_of, find_named, innermost, section_of, typed_items,
+    variables_at,
 };
 use crate::typing::{Types, fits, put_type};
 use std::alloc::{AllocError, Global};
@@ -99,7 +100,7 @@ fn terms_at<'t>(
     path: &[Step<'t>],
 ) -> Result<Terms<'t>, AllocError> {
     let types = Types::new(alloc, world)?;
-    let objects = declared(alloc, world, Kind::Object)?;
+    let objects = declarations_of(alloc, world, Kind::Object)?;
     let variables = variables_at(alloc, path)?;
     Ok(Terms {
         types,

@@ -1,6 +1,6 @@
 //! The nearest of the declared names to one that is not declared, or a list of them.
 
-use crate::declarations::{Declared, Kind, World, declared, find_named};
+use crate::declarations::{Declared, Kind, World, declarations_of, find_named};
 use std::alloc::{AllocError, Global};
 use tp_explain_text::{Nearest, Page, put_place};
 
@@ -112,7 +112,7 @@ pub fn other_kind<'t>(
         if other == kind {
             continue;
         }
-        let names = declared(alloc, world, other)?;
+        let names = declarations_of(alloc, world, other)?;
         if let Some(name) = find_named(names.as_slice(), word) {
             return Ok(Some((other, name)));
         }

@@ -1,6 +1,6 @@
 //! What is wrong with what stands a second time.
 
-use crate::declarations::{Declared, Kind, World, declared, find_named, typed_items};
+use crate::declarations::{Declared, Kind, World, declarations_of, find_named, typed_items};
 use std::alloc::{AllocError, Global};
 use tp_explain_grammar::{
     Role, Step, Symbol, Text, end_headline, head_word, is_the_word, items_of, path_to, place_of,
@@ -103,7 +103,7 @@ fn names_among<'t>(
     in_problem: bool,
 ) -> Result<Vec<Declared<'t>>, AllocError> {
     if kind != Kind::Variable {
-        return declared(alloc, world, kind);
+        return declarations_of(alloc, world, kind);
     }
     let skipped = match step.role {
         Role::Signature(_) => 1,

@@ -1,6 +1,6 @@
 //! Types of terms, and which of them fit.
 
-use crate::declarations::{Declared, Kind, World, declared, find_named};
+use crate::declarations::{Declared, Kind, World, declarations_of, find_named};
 use std::alloc::{AllocError, Global};
 use tp_explain_grammar::{head_word, word_of};
 use tp_explain_text::Page;
@@ -16,7 +16,7 @@ impl<'t> Types<'t> {
     /// Those of a domain.
     pub fn new(alloc: Global, world: &World<'t>) -> Result<Types<'t>, AllocError> {
         Ok(Types {
-            declared: declared(alloc, world, Kind::Type)?,
+            declared: declarations_of(alloc, world, Kind::Type)?,
         })
     }
 

@@ -1,6 +1,6 @@
 //! What is wrong with a name that is not declared.
 
-use crate::declarations::{Declared, Kind, World, declared, variables_at};
+use crate::declarations::{Declared, Kind, World, declarations_of, variables_at};
 use crate::near::{other_kind, put_near, put_other_kind};
 use std::alloc::{AllocError, Global};
 use tp_explain_grammar::{
@@ -37,7 +37,7 @@ fn names_for<'t>(
 ) -> Result<Vec<Declared<'t>>, AllocError> {
     match kind {
         Kind::Variable => variables_at(alloc, path),
-        _ => declared(alloc, world, kind),
+        _ => declarations_of(alloc, world, kind),
     }
 }
 

@@ -4,8 +4,8 @@ use crate::steps::{StepLine, Word};
 use std::alloc::{AllocError, Global};
 use tp_explain_grammar::{end_headline, is_the_word, items_of, put_error_at};
 use tp_explain_names::{
-    Declared, Kind, Types, World, declared, find_named, fits, other_kind, put_cannot_fit, put_near,
-    put_other_kind, put_takes, typed_items,
+    Declared, Kind, Types, World, declarations_of, find_named, fits, other_kind, put_cannot_fit,
+    put_near, put_other_kind, put_takes, typed_items,
 };
 use tp_explain_text::{Page, Source, put_place};
 use tp_text::Tree;
@@ -69,7 +69,7 @@ fn put_no_name<'t>(
     kind: Kind,
     word: &Word<'_>,
 ) -> Result<(), AllocError> {
-    let names = declared(alloc, world, kind)?;
+    let names = declarations_of(alloc, world, kind)?;
     if let Some((other, name)) = other_kind(alloc, world, kind, word.text)? {
         put_error_at(page, plan, word.at);
         put_other_kind(page, kind, word.text, other);
@@ -137,7 +137,7 @@ fn put_objects<'t>(
     parameters: &[Declared<'t>],
     words: &[Word<'_>],
 ) -> Result<(), AllocError> {
-    let objects = declared(alloc, world, Kind::Object)?;
+    let objects = declarations_of(alloc, world, Kind::Object)?;
     for word in words.iter().skip(1) {
         if find_named(objects.as_slice(), word.text).is_none() {
             return put_no_name(alloc, page, world, plan, Kind::Object, word);

@@ -6,7 +6,7 @@ use tp_explain_grammar::{
     Text, end_headline, is_the_word, items_of, place_of, put_error_at, word_of,
 };
 use tp_explain_names::{
-    Declared, Kind, Types, World, declared, fits, is_action, section_of, typed_items,
+    Declared, Kind, Types, World, declarations_of, fits, is_action, section_of, typed_items,
 };
 use tp_explain_text::{Page, Source};
 use tp_text::{Token, Tree, read_whole};
@@ -109,7 +109,7 @@ fn parameters_in<'t>(
 }
 
 /// The counts of a predicate, a function or an action.
-fn counted<'t>(
+fn counts_of<'t>(
     alloc: Global,
     kind: Kind,
     items: &'t [Tree<'t>],
@@ -134,12 +134,12 @@ fn most_of<'t>(
     kind: Kind,
 ) -> Result<Option<Counted<'t>>, AllocError> {
     let types = Types::new(alloc, world)?;
-    let objects = declared(alloc, world, Kind::Object)?;
+    let objects = declarations_of(alloc, world, Kind::Object)?;
     let rows = rows_of(alloc, objects.as_slice())?;
     let mut most = None;
     let mut many = 0u64;
     for tree in lists_of(world, kind) {
-        let found = counted(alloc, kind, items_of(tree), &types, rows.as_slice())?;
+        let found = counts_of(alloc, kind, items_of(tree), &types, rows.as_slice())?;
         if let Some(found) = found {
             let count = product(found.counts.as_slice());
             if count > many {
@@ -201,7 +201,7 @@ pub fn put_too_many<'t>(
         b"fluents" => (Kind::Function, "fluents"),
         b"actions" => (Kind::Action, "ground actions"),
         _ => {
-            let objects = declared(alloc, world, Kind::Object)?;
+            let objects = declarations_of(alloc, world, Kind::Object)?;
             put_objects(page, world, objects.as_slice());
             return Ok(());
         }

@@ -28,7 +28,8 @@ AreSameSteps t u [] (n ∷ ns) = ⊥
 AreSameSteps t u (m ∷ ms) [] = ⊥
 AreSameSteps t u (m ∷ ms) (n ∷ ns) = IsSameStep t u m n × AreSameSteps t u ms ns
 
--- The plans that are valid for one task are those that are valid for the other, which may have fewer actions.
+-- The plans that are valid for one task are those that are valid for the other, which may have
+-- fewer actions.
 pub record HaveSamePlans (t u : Task) : Type 0 where
   -- the same steps are valid for both, or for neither
   pub same :
@@ -54,6 +55,22 @@ pub record HaveSamePlans (t u : Task) : Type 0 where
       → IsOfTask t ms → IsOfTask u ns
       → AreSameSteps t u ms ns → plan_text (readable t) ms ≡ plan_text (readable u) ns
 
+-- The steps of a task that has some of the actions of another are steps of that one.
+pub record HoldsPlans (t u : Task) : Type 0 where
+  -- the same steps are valid for both, or for neither
+  pub same :
+      (ms ns : List Step)
+      → IsOfTask t ms → IsOfTask u ns
+      → AreSameSteps t u ms ns → IsValidPlan t ms ↔ IsValidPlan u ns
+  -- each step of the other is one of the one
+  pub wide :
+      (ns : List Step) → IsOfTask u ns → (ms : List Step) × IsOfTask t ms × AreSameSteps t u ms ns
+  -- the same steps are written as the same text
+  pub told :
+      (ms ns : List Step)
+      → IsOfTask t ms → IsOfTask u ns
+      → AreSameSteps t u ms ns → plan_text (readable t) ms ≡ plan_text (readable u) ns
+
 -- some ground actions of a problem, in order
 abbrev pub some_of : Domain → Problem → (Instance → Bool) → List Instance
 some_of d p test = filter test (instances (universe_of d p) d.actions)
@@ -63,7 +80,8 @@ pub record AreJudgedAlike (t u : Task) (ms ns : List Step) : Type 0 where
   pub valid : IsValidPlan t ms ↔ IsValidPlan u ns
   pub first : (tick : ℕ) (why : Fault) → IsFirst t ms tick why ↔ IsFirst u ns tick why
 
--- Two tasks of a problem that texts spell, each with some of its ground actions, whichever these are, judge the same steps alike.
+-- Two tasks of a problem that texts spell, each with some of its ground actions, whichever these
+-- are, judge the same steps alike.
 abbrev pub PlansAreJudgedAlike : Type 0
 PlansAreJudgedAlike =
     (text other : List ℕ) (d : Domain) (p : Problem) (limits small : RunLimits) (scale : Scale)

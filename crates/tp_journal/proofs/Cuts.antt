@@ -1,6 +1,7 @@
 -- Lines at the end of a text, and a pair that was cut off.
 use Rattle.std.proofs.Common.{◌≡◌, ◌≢◌, ◌∙◌, ℕ, suc, ◌+◌, ◌-◌, ◌<◌, ◌≤◌, inl, inr, List, [], ◌∷◌, ◌++◌, length, take, drop, get_or, refl, ap, sym, subst, arith}
 use Rattle.std.proofs.Math.Seq.{drop-cons}
+use Rattle.std.proofs.lemmas.List.Elements.{All-cons, All-nil}
 use Rattle.std.proofs.lemmas.List.{drop-append-le, drop_all, length-take-le, take-append-drop}
 use Rattle.tp_script.specs.Reading.{Free}
 use Rattle.tp_journal.specs.Replay.{IsTornPair}
@@ -12,10 +13,10 @@ drop_one bytes at some le =
     drop-cons bytes (at - 1) 0 (omega arith) ∙ ap (λ k. get_or bytes (at - 1) 0 ∷ drop k bytes) n
 
 pub free_one : (bytes : List ℕ) (at : ℕ) → 0 < at → at ≤ length bytes → get_or bytes (at - 1) 0 ≢ 10 → Free (drop at bytes) → Free (drop (at - 1) bytes)
-free_one bytes at some le other free = subst Free (sym (drop_one bytes at some le)) (other, free)
+free_one bytes at some le other free = subst Free (sym (drop_one bytes at some le)) (All-cons (λ b. b ≢ 10) (get_or bytes (at - 1) 0) (drop at bytes) other free)
 
 pub free_all : (bytes : List ℕ) → Free (drop (length bytes) bytes)
-free_all bytes = subst Free (sym (drop_all (length bytes) bytes (omega arith))) tt
+free_all bytes = subst Free (sym (drop_all (length bytes) bytes (omega arith))) (All-nil (λ b. b ≢ 10))
 
 pub torn_none : (bytes : List ℕ) → IsTornPair (drop (length bytes) bytes)
 torn_none bytes = inl (drop_all (length bytes) bytes (omega arith))

@@ -79,6 +79,6 @@ fewer (e ∷ es) low most free sorted within le lt none =
 pub fewer_ids : (m : BTreeMap ℕ Bound) (free : ℕ) → tree.IsOrdered nat_cmp m → ((q : ℕ) → get (held m.entries) q ≢ None → q < 2 ^ 32) → free < 2 ^ 32 → get (held m.entries) free ≡ None → length m.entries < 2 ^ 32
 fewer_ids m free ordered below lt none =
     let h = fewer m.entries 0 (2 ^ 32) free ordered
-        (λ q some. (omega arith, below q (λ e. some (sym (get-from_entries nat_cmp_total m.entries q) ∙ e))))
-        (omega arith) lt (sym (get-from_entries nat_cmp_total m.entries free) ∙ none) in
+    (λ q some. (omega arith, below q (λ e. some (sym (get-from_entries nat_cmp_total m.entries q) ∙ e))))
+    (omega arith) lt (sym (get-from_entries nat_cmp_total m.entries free) ∙ none) in
     omega (arith, h)

@@ -93,8 +93,8 @@ bounds_met test (x ∷ es) n =
     let down : ℕ → ℕ = λ e. cond (test e) (one_at (number_of x.1.from) (suc e)) 0 in
     let rest : ℕ → ℕ = λ e. cond (test e) (bounds_at Up (suc e) es + bounds_at Down (suc e) es) 0 in
     let step = sum_le (λ e. cond (test e) (bounds_at Up (suc e) (x ∷ es) + bounds_at Down (suc e) (x ∷ es)) 0) (λ e. (up e + down e) + rest e) n
-        (λ e _. first_then up (test e) (bounds_at Up (suc e) (x ∷ es)) (bounds_at Down (suc e) (x ∷ es)) (one_at (number_of x.1.to) (suc e)) (bounds_at Up (suc e) es) (one_at (number_of x.1.from) (suc e)) (bounds_at Down (suc e) es)
-        (sum_by-cons (λ b. one_at (near Up (arc_of b)) (suc e)) x.1 (map (λ (y : ℕ × Bound). y.1) es)) (sum_by-cons (λ b. one_at (near Down (arc_of b)) (suc e)) x.1 (map (λ (y : ℕ × Bound). y.1) es))) in
+    (λ e _. first_then up (test e) (bounds_at Up (suc e) (x ∷ es)) (bounds_at Down (suc e) (x ∷ es)) (one_at (number_of x.1.to) (suc e)) (bounds_at Up (suc e) es) (one_at (number_of x.1.from) (suc e)) (bounds_at Down (suc e) es)
+    (sum_by-cons (λ b. one_at (near Up (arc_of b)) (suc e)) x.1 (map (λ (y : ℕ × Bound). y.1) es)) (sum_by-cons (λ b. one_at (near Down (arc_of b)) (suc e)) x.1 (map (λ (y : ℕ × Bound). y.1) es))) in
     let s1 = sum_add (λ e. up e + down e) rest n in
     let s2 = sum_add up down n in
     let ends = both (is_among test x.1.from) (is_among test x.1.to) (sum_to down n) (sum_to up n) (end_met test x.1.from n) (end_met test x.1.to n) in

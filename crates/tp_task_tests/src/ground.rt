@@ -2,6 +2,7 @@
 
 mod bindings;
 mod examples;
+mod joins;
 mod limits;
 mod numbering;
 mod reach;

@@ -7,7 +7,7 @@ ghost use Rattle.tp_agents.specs.Joined.{FitParts};
 use super::settings::{EMPTY, FREE, LAMP, MATCH, PAIR, World, split_world};
 use std::alloc::{AllocError, Global};
 use std::test::Fail;
-use tp_agents::{Split, join_runs, part};
+use tp_agents::{Split, join_runs, part, perform_each};
 use tp_bounds::{BoundId, Limits, MOST_BOUNDS, PlanNet, check_schedule};
 use tp_exec_machine::Command::{Advance, Dispatch, Withdraw};
 use tp_exec_machine::{Answer, Command, Executive, Refusal, Report, perform};
@@ -256,6 +256,43 @@ fn two_events_apart_are_joined(rt: HostRuntime) -> Result<(), Fail> {
     let split = again!(split_world(rt.alloc(), PAIR, &[0, 1]))?;
     for order in PAIR_ORDERS {
         assert!(rt; again!(pair_is_so(rt.alloc(), &split, order))?, "{order}");
+    }
+    Ok(())
+}
+
+/// The same, each list carried out as it comes.
+fn each_is_so(
+    alloc: Global,
+    split: &Split,
+    commands: [Command; 3],
+    agents: [bool; 3],
+) -> Result<bool, AllocError> {
+    let (Some(first), Some(second)) = (start(alloc, split, 0)?, start(alloc, split, 1)?) else {
+        return Ok(false);
+    };
+    let mut executives = [first, second];
+    let given = [
+        (u16::from(agents[0]), commands[0]),
+        (u16::from(agents[1]), commands[1]),
+        (u16::from(agents[2]), commands[2]),
+    ];
+    let answers = perform_each(alloc, &mut executives, &given)?;
+    let taken = answers
+        .iter()
+        .all(|answer| matches!(answer, Answer::Accepted));
+    let [first, second] = executives;
+    Ok(taken && both_join_to(alloc, split, &first, &second, Some(&[0, 7]))?)
+}
+
+#[test]
+fn commands_are_carried_out_as_they_come(rt: HostRuntime) -> Result<(), Fail> {
+    let split = again!(split_world(rt.alloc(), PAIR, &[0, 1]))?;
+    for (commands, agents) in [
+        ([Dispatch(0), Advance(7), Dispatch(0)], [false, true, true]),
+        ([Advance(7), Dispatch(0), Dispatch(0)], [true, false, true]),
+        ([Advance(7), Dispatch(0), Dispatch(0)], [true, true, false]),
+    ] {
+        assert!(rt; again!(each_is_so(rt.alloc(), &split, commands, agents))?);
     }
     Ok(())
 }

@@ -4,6 +4,8 @@ use std::alloc::{AllocError, Global};
 use std::test::Fail;
 use tp_bounds::Limits;
 use tp_ground::{ground, ground_reached};
+use tp_ground_joins::ground_joined;
+use tp_ground_named::begin;
 use tp_syntax::{Domain, read_domain, read_problem};
 use tp_task::{ActionId, AtomId, GroundFault, Task};
 use tp_text::Scale;
@@ -39,9 +41,24 @@ pub fn reached_within(
     Ok(ground_reached(alloc, domain, &problem, limits, Scale::One))
 }
 
-/// What a task tells: how many actions, atoms and fluents it has, some of its actions and atoms as
-/// text, which atoms are true at first and which values its fluents have then, actions found by
-/// their words, and words of its second action.
+/// The same of the actions alone that joins of static conditions leave.
+pub fn joined_within(
+    alloc: Global,
+    domain: &Domain,
+    problem: &str,
+    limits: &Limits,
+) -> Result<Result<Task, GroundFault>, Fail> {
+    let problem = read_problem(alloc, problem, domain)
+        .ok()
+        .ok_or("no problem")?;
+    let begun = begin(alloc, domain, &problem, limits)
+        .ok()
+        .ok_or("too large")?;
+    Ok(ground_joined(alloc, domain, &problem, begun, limits, Scale::One))
+}
+
+/// What a task tells: how many actions, atoms and fluents it has, some of its actions and atoms as text, which atoms are true
+/// at first and which values its fluents have then, actions found by their words, and words of its second action.
 #[derive(Clone, Copy)]
 pub struct Told<'a> {
     pub counts: (usize, usize, usize),
@@ -153,6 +170,24 @@ pub fn are_kept(
 ) -> Result<bool, Fail> {
     let domain = domain(alloc, domain_text)?;
     is_kept(alloc, &domain, problem, told)
+}
+
+// The same of a domain that is lent.
+fn is_joined(alloc: Global, domain: &Domain, problem: &str, told: &Told) -> Result<bool, Fail> {
+    let task = joined_within(alloc, domain, problem, &Limits::greatest(100))?;
+    let task = task.ok().ok_or("no task")?;
+    Ok(tells(&task, told)?)
+}
+
+/// Whether the task of the actions alone that joins of static conditions leave tells these.
+pub fn are_joined(
+    alloc: Global,
+    domain_text: &str,
+    problem: &str,
+    told: &Told,
+) -> Result<bool, Fail> {
+    let domain = domain(alloc, domain_text)?;
+    is_joined(alloc, &domain, problem, told)
 }
 
 /// What is told where nothing is asked.
