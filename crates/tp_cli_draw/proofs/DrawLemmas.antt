@@ -250,3 +250,6 @@ ends_told status output output-now stop is write other = write ∙ (any_type out
 
 pub ends_within : (status : ℕ) (stop : DrawStop) → status ≡ draw_status stop → status ≤ 3
 ends_within status stop is = subst (λ n. n ≤ 3) (sym is) (stop_is stop).1
+
+pub ends_status : (status : ℕ) (stop : DrawStop) → status ≡ draw_status stop → IsStatus status
+ends_status status stop is = subst IsStatus (sym is) (stop_is stop)

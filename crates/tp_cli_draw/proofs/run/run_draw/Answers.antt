@@ -1,5 +1,5 @@
-use Rattle.std.proofs.Common.{◌∙◌, sym}
-use Rattle.tp_cli_draw.proofs.DrawLemmas.{ends, ends_told, ends_within, kept_then, part_then}
+use Rattle.std.proofs.Common.{◌≤◌, ◌∙◌, arith, sym}
+use Rattle.tp_cli_draw.proofs.DrawLemmas.{ends, ends_status, ends_told, ends_within, kept_then, part_then}
 use Rattle.tp_cli_draw.proofs.run.run_draw.Goals as goal
 
 pub returns-in-Err-clause-stopped : goal.returns-in-Err-clause-stopped
@@ -24,3 +24,24 @@ returns-in-Err-clause-told g c =
 
 pub returns-in-Err-clause-within : goal.returns-in-Err-clause-within
 returns-in-Err-clause-within g c = ends_within _ c.in-Err.stop (c.complain.ensures.status ∙ c.draw_line.ensures.status)
+
+pub returns-in-Err-clause-drawn : goal.returns-in-Err-clause-drawn
+returns-in-Err-clause-drawn g c =
+    λ is.
+    let two : 2 ≤ c.complain.result = (ends_status c.complain.result c.in-Err.stop (c.complain.ensures.status ∙ c.draw_line.ensures.status)).0 in
+    let none : ⊥ = omega (arith, two, is) in
+    absurd none
+
+pub returns-in-Err-clause-no : goal.returns-in-Err-clause-no
+returns-in-Err-clause-no g c =
+    λ is.
+    let two : 2 ≤ c.complain.result = (ends_status c.complain.result c.in-Err.stop (c.complain.ensures.status ∙ c.draw_line.ensures.status)).0 in
+    let none : ⊥ = omega (arith, two, is) in
+    absurd none
+
+pub returns-in-Err-clause-silent : goal.returns-in-Err-clause-silent
+returns-in-Err-clause-silent g c =
+    λ is.
+    let two : 2 ≤ c.complain.result = (ends_status c.complain.result c.in-Err.stop (c.complain.ensures.status ∙ c.draw_line.ensures.status)).0 in
+    let none : ⊥ = omega (arith, two, is) in
+    absurd none
