@@ -28,8 +28,7 @@ AreSameSteps t u [] (n ∷ ns) = ⊥
 AreSameSteps t u (m ∷ ms) [] = ⊥
 AreSameSteps t u (m ∷ ms) (n ∷ ns) = IsSameStep t u m n × AreSameSteps t u ms ns
 
--- The plans that are valid for one task are those that are valid for the other, which may have
--- fewer actions.
+-- The plans that are valid for one task are those that are valid for the other, which may have fewer actions.
 pub record HaveSamePlans (t u : Task) : Type 0 where
   -- the same steps are valid for both, or for neither
   pub same :
@@ -80,8 +79,7 @@ pub record AreJudgedAlike (t u : Task) (ms ns : List Step) : Type 0 where
   pub valid : IsValidPlan t ms ↔ IsValidPlan u ns
   pub first : (tick : ℕ) (why : Fault) → IsFirst t ms tick why ↔ IsFirst u ns tick why
 
--- Two tasks of a problem that texts spell, each with some of its ground actions, whichever these
--- are, judge the same steps alike.
+-- Two tasks of a problem that texts spell, each with some of its ground actions, whichever these are, judge the same steps alike.
 abbrev pub PlansAreJudgedAlike : Type 0
 PlansAreJudgedAlike =
     (text other : List ℕ) (d : Domain) (p : Problem) (limits small : RunLimits) (scale : Scale)

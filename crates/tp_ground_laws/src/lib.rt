@@ -33,8 +33,8 @@ pub fn plans_are_judged_alike()
     ensures { PlansAreJudgedAlike }
 {}
 
-/// The steps of the task of some of a problem's ground actions, whichever these are, are steps of
-/// the task of all: valid for both or for neither, and written as the same text.
+/// The steps of the task of some of a problem's ground actions, whichever these are, are steps of the task of all: valid for both or for
+/// neither, and written as the same text.
 pub fn plans_of_some_are_plans()
     ensures { (text other : List ℕ) (d : Domain) (p : Problem)
         (limits small : RunLimits) (scale : Scale) (those : Instance → Bool) (t u : Task)
@@ -42,8 +42,8 @@ pub fn plans_of_some_are_plans()
         → IsTaskOf small scale d p (some_of d p those) u → HoldsPlans t u }
 {}
 
-/// The goal is met in the relaxed reach of the whole task of a problem exactly if it is in that of
-/// the task of the actions that are kept.
+/// The goal is met in the relaxed reach of the whole task of a problem exactly if it is in that of the task of the actions
+/// that are kept.
 pub fn same_goal_is_in_reach()
     ensures { (d : Domain) (p : Problem) (limits small : RunLimits)
         (scale : Scale) (t u : Task) → IsTask limits scale d p t
