@@ -103,9 +103,10 @@ fn tell_bounds(
     words: PlanWords<'_>,
 ) -> Result<(), AllocError> {
     let (domain, problem, plan) = texts.into_parts();
-    let domain = read_tree(alloc, domain.as_str());
-    let problem = read_tree(alloc, problem.as_str());
-    let (Ok(domain), Ok(problem)) = (domain, problem) else {
+    let Ok(domain) = read_tree(alloc, domain.as_str()) else {
+        return Ok(());
+    };
+    let Ok(problem) = read_tree(alloc, problem.as_str()) else {
         return Ok(());
     };
     let story = Story::new(alloc, &domain, &problem, plan.as_str(), words.scale)?;

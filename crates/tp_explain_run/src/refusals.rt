@@ -82,11 +82,14 @@ fn put_no_event(page: &mut Page, picture: &Picture, event: u16) {
 
 /// The first point of a bound that there is not.
 fn missing(picture: &Picture, bound: Bound) -> u16 {
-    match (bound.from, bound.to) {
-        (Point::Event(from), _) if picture.events() <= from => from,
-        (_, Point::Event(to)) => to,
-        (Point::Event(from), Point::Origin) => from,
-        _ => 0,
+    if let Point::Event(from) = bound.from {
+        if picture.events() <= from {
+            return from;
+        }
+    }
+    match bound.to {
+        Point::Event(to) => to,
+        Point::Origin => 0,
     }
 }
 

@@ -68,6 +68,24 @@ fn tell(
     }
 }
 
+/// Puts what is told with the reasons of the bounds of a plan's story.
+fn tell_of_story(
+    page: &mut Page,
+    picture: &Picture,
+    plan: &RunPlan,
+    story: &Story<'_>,
+    told: Told<'_>,
+) -> Result<(), AllocError> {
+    let causes = Causes::new(story)?;
+    let reasons = Reasons {
+        names: Names::Texts(plan.events.as_slice()),
+        scale: plan.scale.ticks(),
+        story: Some(story),
+        causes: Some(&causes),
+    };
+    tell(page, picture, &reasons, told)
+}
+
 /// Puts what is told with the reasons of the bounds of a plan.
 fn tell_of_plan(
     page: &mut Page,
@@ -76,20 +94,14 @@ fn tell_of_plan(
     told: Told<'_>,
 ) -> Result<(), AllocError> {
     let alloc = picture.alloc();
-    let domain = read_tree(alloc, plan.domain.as_str());
-    let problem = read_tree(alloc, plan.problem.as_str());
-    let (Ok(domain), Ok(problem)) = (domain, problem) else {
+    let Ok(domain) = read_tree(alloc, plan.domain.as_str()) else {
+        return Ok(());
+    };
+    let Ok(problem) = read_tree(alloc, plan.problem.as_str()) else {
         return Ok(());
     };
     let story = Story::new(alloc, &domain, &problem, plan.plan.as_str(), plan.scale)?;
-    let causes = Causes::new(&story)?;
-    let reasons = Reasons {
-        names: Names::Texts(plan.events.as_slice()),
-        scale: plan.scale.ticks(),
-        story: Some(&story),
-        causes: Some(&causes),
-    };
-    tell(page, picture, &reasons, told)
+    tell_of_story(page, picture, plan, &story, told)
 }
 
 /// What is known without the texts of a plan.

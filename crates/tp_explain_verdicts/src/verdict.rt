@@ -75,16 +75,19 @@ fn tell<'a>(
 }
 
 /// Explains a verdict on texts in lower case.
-fn tell_lower(
+fn tell_lower<'t>(
     alloc: Global,
     page: &mut Page,
     texts: &Texts<'_>,
-    domain: &str,
-    problem: &str,
-    plan: &str,
+    domain: &'t str,
+    problem: &'t str,
+    plan: &'t str,
     why: Why<'_>,
 ) -> Result<(), AllocError> {
-    let (Ok(domain), Ok(problem)) = (read_tree(alloc, domain), read_tree(alloc, problem)) else {
+    let Ok(domain) = read_tree(alloc, domain) else {
+        return Ok(());
+    };
+    let Ok(problem) = read_tree(alloc, problem) else {
         return Ok(());
     };
     let story = Story::new(alloc, &domain, &problem, plan, texts.scale)?;
