@@ -10,17 +10,16 @@
 //! - `intervals`: the interval of each event, from the least schedule.
 //! - `divided`: a setting that is split; `splitting`: how it is.
 //! - `parts`: the network of each agent.
-//! - `interleaving`: commands that come to the executives of all agents, in whatever order.
 //! - `joining`: the runs of all agents, joined.
 #![tactic(auto)]
 
 ghost use Rattle.tp_agents.specs.Decoupled.{Decouples, IsWide, HasPartSchedules};
+ghost use Rattle.tp_agents.specs.Interleaved.{KeepsApart};
 
 mod crosses;
 mod divided;
 mod fault;
 mod gathering;
-mod interleaving;
 mod intervals;
 mod joining;
 mod owners;
@@ -30,7 +29,6 @@ mod splitting;
 
 pub use divided::Split;
 pub use fault::SplitFault;
-pub use interleaving::{executives_keep_apart, perform_each};
 pub use joining::join_runs;
 pub use owners::{MOST_AGENT, Owners};
 pub use parts::part;
@@ -50,3 +48,9 @@ pub fn intervals_decouple(split: &Split)
     // this call tells that the bounds in force suit the setting
     let _events = split.setting.events();
 }
+
+/// Executives that share nothing, whatever the order in which their commands come in, are each as
+/// after its own alone.
+pub fn executives_keep_apart()
+    ensures { KeepsApart }
+{}

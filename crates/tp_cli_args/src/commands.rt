@@ -3,7 +3,7 @@
 ghost use Rattle.std.specs.Prelude.{◌≡◌, false, IfOk, codes};
 ghost use Rattle.clap.specs.Words.{app_of, new_app, rule_of, with_subcommand};
 ghost use Rattle.clap.specs.declared.builder.command.Command.TheViews.{out-Command as fields_of};
-ghost use Rattle.tp_cli_args.specs.Commands.{audit_app, auditing_app, bare_app, budget_rule, check_app, draw_app, drawing_app, explain_rule, file_rule, flag_rule, horizon_rule, journal_app, journal_rule, judging_app, net_app, network_app, options_app, other_rule, part_rule, plan_app, planning_app, resume_rule, run_app, scale_rule, search_app, solve_app, solve_budget_rule, solve_files, solving_app, split_app, splitting_app, start_app, tempo_app, timed_app, until_rule, with_others};
+ghost use Rattle.tp_cli_args.specs.Commands.{audit_app, auditing_app, bare_app, budget_rule, check_app, file_rule, flag_rule, horizon_rule, journal_rule, judging_app, net_app, network_app, other_rule, plan_app, planning_app, run_app, scale_rule, search_app, solve_app, solve_budget_rule, solve_files, solving_app, split_app, start_app, tempo_app, with_others};
 
 use clap::{Arg, ArgAction, Command, value_parser};
 use std::alloc::{AllocError, Global};
@@ -15,9 +15,7 @@ const VERSION: &str = "0.3.0 (rattle logic dac8208d650f15bf)";
 const ABOUT: &str =
     "Plans over time: judges them, and answers commands on networks of events and bounds";
 
-const EXIT: &str =
-    "Without words it does what `tempo bare` does. A file `-` is the standard input, of one file at most, and of none of a
-command that reads its commands there. With `--explain` a fault, a verdict or a refusal is explained on standard error.
+const EXIT: &str = "Without words it does what `tempo bare` does.
 
 Exit status: 0 yes, 1 an answer of no, 2 refused input, 3 memory or a device.
 For 2 and 3 a line `fault PART NUMBER WORD ..` goes to standard error.
@@ -32,9 +30,7 @@ Examples:
   printf 'dispatch 0\\nadvance 3\\ndispatch 1\\n' | tempo run domain.pddl problem.pddl plan.txt
   printf 'dispatch 0\\n' | tempo run domain.pddl problem.pddl plan.txt --journal run.log
   tempo audit run.log domain.pddl problem.pddl plan.txt
-  tempo split domain.pddl problem.pddl plan.txt owners.txt
-  tempo draw domain.pddl problem.pddl plan.txt > plan.svg
-  tempo solve domain.pddl problem.pddl | tempo check domain.pddl problem.pddl - --explain";
+  tempo split domain.pddl problem.pddl plan.txt owners.txt";
 
 const BARE_ABOUT: &str = "Answers commands on a network of events and bounds";
 
@@ -59,9 +55,7 @@ prints
   bound 0
   window 0 100
 
-With `--journal FILE` each command and its answer go to the file before the answer goes out, for `tempo audit FILE`.
-With `--resume OLD --journal NEW` the run whose journal is in OLD goes on where that ends: its head and its pairs are copied to
-NEW, but for a last pair that was cut off, and standard input has commands alone.";
+With `--journal FILE` each command and its answer go to the file before the answer goes out, for `tempo audit FILE`.";
 
 const CHECK_ABOUT: &str = "Says whether a plan is valid, and if not, its first fault";
 
@@ -111,8 +105,7 @@ Behind the answers it prints `plan` and the plan of the run, each step at its mo
 network is kept. That plan is valid. For a plan that is not valid it prints the line that `check` prints.
 
 With `--journal FILE` each command and its answer go to the file before the answer goes out; `tempo audit FILE` with the same
-three files, scale and horizon judges it. With `--resume OLD --journal NEW` the run whose journal is in OLD goes on where that
-ends: its head and its pairs are copied to NEW, but for a last pair that was cut off, and standard input has commands alone.
+three files, scale and horizon judges it.
 
 Exit status: 0 a plan of the run was printed, 1 there is none, 2 refused input, 3 memory or a device.
 
@@ -138,12 +131,6 @@ Where no plan was found, prints
   unreachable   no plan is valid: the goal is not met even where negated conditions and comparisons count as met
   exhausted     no node is left to expand
   spent B       B nodes were expanded, the budget
-
-With `--progress` it is told on standard error after each 100000 expansions by the line
-
-  expanded N waiting W lacking L
-
-W being the nodes that wait, and L the least number of goal conjuncts that a node lacked.
 
 Example:
   tempo plan domain.pddl problem.pddl --budget 1000
@@ -204,9 +191,6 @@ Whatever tick from LO to HI the agents choose for these events, each for its own
 met: an agent need only keep the other bounds of its events, and within its intervals it can. For a plan that is not valid it
 prints the line that `check` prints.
 
-With `--part A` it prints the network of agent A alone in place of the intervals, by the lines that `tempo bare` reads: its
-events numbered from 0, the bounds among them, and two bounds for each interval of its events.
-
 Exit status: 0 for the intervals, also where there are none, 1 for a plan that is not valid, 2 refused input, 3 memory or a
 device.
 
@@ -216,20 +200,6 @@ Example:
 prints
   interval 0 0 0
   interval 1 2 6";
-
-const DRAW_ABOUT: &str = "Draws a valid plan, or a run of it, as a picture";
-
-const DRAW_HELP: &str =
-    "Reads a domain and a problem of PDDL 2.1 and a plan, as `check` does. For a valid plan it writes a picture in SVG: a bar for each
-step, in lanes by the first object, the window of each start and end as a whisker, and arrows for the bounds that hold them.
-The horizon is that of the windows; it is the plan's own end if --horizon is not given. For a plan that is not valid it prints
-the line that `check` prints.
-
-With `--journal LOG` it draws the run of that journal up to its end: what happened, now, and the windows that remain. LOG is
-judged first, as `audit` does. The horizon is then that of its head if --horizon is not given.
-
-Example:
-  tempo draw domain.pddl problem.pddl plan.txt > plan.svg";
 
 /// A file that has to be named.
 fn file_argument<'a>(alloc: Global, id: &'a str, help: &'a str) -> Arg<'a>
@@ -268,19 +238,6 @@ fn horizon_option<'a>(alloc: Global) -> Arg<'a>
         .value_parser(value_parser!(u32).range(0..=1000000000))
         .default_value("1000000")
         .help("The tick that no step may end past, from 0 to 1000000000")
-}
-
-/// The same without a tick where none is given.
-fn until_option<'a>(alloc: Global) -> Arg<'a>
-    ensures rule { rule_of result ≡ until_rule }
-    ensures local { result.global ≡ false }
-{
-    Arg::new(alloc, "horizon")
-        .long("horizon")
-        .value_name("H")
-        .action(ArgAction::Set)
-        .value_parser(value_parser!(u32).range(0..=1000000000))
-        .help("The tick up to which windows are drawn, from 0 to 1000000000")
 }
 
 /// How many nodes a search may expand.
@@ -322,18 +279,6 @@ fn flag_option<'a>(alloc: Global, id: &'a str, help: &'a str) -> Arg<'a>
         .help(help)
 }
 
-/// Whether faults, verdicts and refusals are explained.
-fn explain_option<'a>(alloc: Global) -> Arg<'a>
-    ensures rule { rule_of result ≡ explain_rule }
-    ensures local { result.global ≡ false }
-{
-    flag_option(
-        alloc,
-        "explain",
-        "Explain faults, verdicts and refusals on standard error",
-    )
-}
-
 /// The file of a journal that is kept.
 fn journal_option<'a>(alloc: Global) -> Arg<'a>
     ensures rule { rule_of result ≡ journal_rule }
@@ -346,53 +291,7 @@ fn journal_option<'a>(alloc: Global) -> Arg<'a>
         .help("A file to write the journal to; what it held is lost")
 }
 
-/// The file of a journal that is read.
-fn log_option<'a>(alloc: Global) -> Arg<'a>
-    ensures rule { rule_of result ≡ journal_rule }
-    ensures local { result.global ≡ false }
-{
-    Arg::new(alloc, "journal")
-        .long("journal")
-        .value_name("LOG")
-        .action(ArgAction::Set)
-        .help("The journal of a run of the plan, which is drawn up to its end")
-}
-
-/// The file of a journal that a run goes on from.
-fn resume_option<'a>(alloc: Global) -> Arg<'a>
-    ensures rule { rule_of result ≡ resume_rule }
-    ensures local { result.global ≡ false }
-{
-    Arg::new(alloc, "resume")
-        .long("resume")
-        .value_name("OLD")
-        .action(ArgAction::Set)
-        .help("A journal to go on from; its pairs are copied to that of --journal")
-}
-
-/// The agent whose part is printed.
-fn part_option<'a>(alloc: Global) -> Arg<'a>
-    ensures rule { rule_of result ≡ part_rule }
-    ensures local { result.global ≡ false }
-{
-    Arg::new(alloc, "part")
-        .long("part")
-        .value_name("A")
-        .action(ArgAction::Set)
-        .value_parser(value_parser!(u32).range(0..=1023))
-        .help("Print the network of this agent alone, for `tempo bare`")
-}
-
-/// The two options of commands that keep journals.
-fn journal_options<'a>(alloc: Global, start: Command<'a>) -> Result<Command<'a>, AllocError>
-    requires { (fields_of start).has_globals ≡ false }
-    ensures app { IfOk result (λ c. app_of c ≡ journal_app (app_of start.entry)) }
-    ensures local { IfOk result (λ c. (fields_of c).has_globals ≡ false) }
-{
-    start.arg(journal_option(alloc))?.arg(resume_option(alloc))
-}
-
-/// The command `bare` before it has its options.
+/// The command `bare` before it has its option.
 fn bare_start<'a>(alloc: Global) -> Command<'a>
     ensures app { app_of result ≡ new_app (codes "bare") }
     ensures local { (fields_of result).has_globals ≡ false }
@@ -407,7 +306,7 @@ fn bare_command<'a>(alloc: Global) -> Result<Command<'a>, AllocError>
     ensures app { IfOk result (λ c. app_of c ≡ bare_app) }
     ensures local { IfOk result (λ c. (fields_of c).has_globals ≡ false) }
 {
-    journal_options(alloc, bare_start(alloc))?.arg(explain_option(alloc))
+    bare_start(alloc).arg(journal_option(alloc))
 }
 
 /// A command that takes the files of a plan, before it has arguments.
@@ -418,29 +317,18 @@ fn plan_start<'a>(alloc: Global, name: &'a str, about: &'a str, help: &'a str) -
     Command::new(alloc, name).about(about).after_help(help)
 }
 
-/// The same with the scale, the horizon and whether it explains.
-fn timed_command<'a>(alloc: Global, start: Command<'a>) -> Result<Command<'a>, AllocError>
-    requires { (fields_of start).has_globals ≡ false }
-    ensures app { IfOk result (λ c. app_of c ≡ timed_app (app_of start.entry)) }
-    ensures local { IfOk result (λ c. (fields_of c).has_globals ≡ false) }
-{
-    start
-        .arg(scale_option(alloc))?
-        .arg(horizon_option(alloc))?
-        .arg(explain_option(alloc))
-}
-
 /// The same with the files, the scale and the horizon.
 fn plan_command<'a>(alloc: Global, start: Command<'a>) -> Result<Command<'a>, AllocError>
     requires { (fields_of start).has_globals ≡ false }
     ensures app { IfOk result (λ c. app_of c ≡ plan_app (app_of start.entry)) }
     ensures local { IfOk result (λ c. (fields_of c).has_globals ≡ false) }
 {
-    let files = start
+    start
         .arg(file_argument(alloc, "DOMAIN", "The file of the domain"))?
         .arg(file_argument(alloc, "PROBLEM", "The file of the problem"))?
-        .arg(file_argument(alloc, "PLAN", "The file of the plan"))?;
-    timed_command(alloc, files)
+        .arg(file_argument(alloc, "PLAN", "The file of the plan"))?
+        .arg(scale_option(alloc))?
+        .arg(horizon_option(alloc))
 }
 
 /// The command `check`.
@@ -464,8 +352,7 @@ fn run_command<'a>(alloc: Global) -> Result<Command<'a>, AllocError>
     ensures app { IfOk result (λ c. app_of c ≡ run_app) }
     ensures local { IfOk result (λ c. (fields_of c).has_globals ≡ false) }
 {
-    let run = plan_command(alloc, plan_start(alloc, "run", RUN_ABOUT, RUN_HELP))?;
-    journal_options(alloc, run)
+    plan_command(alloc, plan_start(alloc, "run", RUN_ABOUT, RUN_HELP))?.arg(journal_option(alloc))
 }
 
 /// The command `plan`.
@@ -473,16 +360,12 @@ fn search_command<'a>(alloc: Global) -> Result<Command<'a>, AllocError>
     ensures app { IfOk result (λ c. app_of c ≡ search_app) }
     ensures local { IfOk result (λ c. (fields_of c).has_globals ≡ false) }
 {
-    let files = plan_start(alloc, "plan", PLAN_ABOUT, PLAN_HELP)
+    plan_start(alloc, "plan", PLAN_ABOUT, PLAN_HELP)
         .arg(file_argument(alloc, "DOMAIN", "The file of the domain"))?
-        .arg(file_argument(alloc, "PROBLEM", "The file of the problem"))?;
-    timed_command(alloc, files)?
-        .arg(budget_option(alloc))?
-        .arg(flag_option(
-            alloc,
-            "progress",
-            "Tell on standard error how far the search is",
-        ))
+        .arg(file_argument(alloc, "PROBLEM", "The file of the problem"))?
+        .arg(scale_option(alloc))?
+        .arg(horizon_option(alloc))?
+        .arg(budget_option(alloc))
 }
 
 /// The command `solve` with its files and how its time is measured.
@@ -490,10 +373,11 @@ fn solve_start<'a>(alloc: Global) -> Result<Command<'a>, AllocError>
     ensures app { IfOk result (λ c. app_of c ≡ solve_files) }
     ensures local { IfOk result (λ c. (fields_of c).has_globals ≡ false) }
 {
-    let files = plan_start(alloc, "solve", SOLVE_ABOUT, SOLVE_HELP)
+    plan_start(alloc, "solve", SOLVE_ABOUT, SOLVE_HELP)
         .arg(file_argument(alloc, "DOMAIN", "The file of the domain"))?
-        .arg(file_argument(alloc, "PROBLEM", "The file of the problem"))?;
-    timed_command(alloc, files)
+        .arg(file_argument(alloc, "PROBLEM", "The file of the problem"))?
+        .arg(scale_option(alloc))?
+        .arg(horizon_option(alloc))
 }
 
 /// The command `solve`.
@@ -555,7 +439,9 @@ fn audit_command<'a>(alloc: Global) -> Result<Command<'a>, AllocError>
     ensures local { IfOk result (λ c. (fields_of c).has_globals ≡ false) }
 {
     let start = audit_start(alloc).arg(file_argument(alloc, "LOG", "The file of the journal"))?;
-    timed_command(alloc, audit_files(alloc, start)?)
+    audit_files(alloc, start)?
+        .arg(scale_option(alloc))?
+        .arg(horizon_option(alloc))
 }
 
 /// The command `split`.
@@ -563,38 +449,11 @@ fn split_command<'a>(alloc: Global) -> Result<Command<'a>, AllocError>
     ensures app { IfOk result (λ c. app_of c ≡ split_app) }
     ensures local { IfOk result (λ c. (fields_of c).has_globals ≡ false) }
 {
-    plan_command(alloc, plan_start(alloc, "split", SPLIT_ABOUT, SPLIT_HELP))?
-        .arg(file_argument(
-            alloc,
-            "OWNERS",
-            "The file of the numbers of the events' agents",
-        ))?
-        .arg(part_option(alloc))
-}
-
-/// The options of `draw`.
-fn draw_options<'a>(alloc: Global, start: Command<'a>) -> Result<Command<'a>, AllocError>
-    requires { (fields_of start).has_globals ≡ false }
-    ensures app { IfOk result (λ c. app_of c ≡ drawing_app (app_of start.entry)) }
-    ensures local { IfOk result (λ c. (fields_of c).has_globals ≡ false) }
-{
-    start
-        .arg(scale_option(alloc))?
-        .arg(until_option(alloc))?
-        .arg(log_option(alloc))?
-        .arg(explain_option(alloc))
-}
-
-/// The command `draw`.
-fn draw_command<'a>(alloc: Global) -> Result<Command<'a>, AllocError>
-    ensures app { IfOk result (λ c. app_of c ≡ draw_app) }
-    ensures local { IfOk result (λ c. (fields_of c).has_globals ≡ false) }
-{
-    let files = plan_start(alloc, "draw", DRAW_ABOUT, DRAW_HELP)
-        .arg(file_argument(alloc, "DOMAIN", "The file of the domain"))?
-        .arg(file_argument(alloc, "PROBLEM", "The file of the problem"))?
-        .arg(file_argument(alloc, "PLAN", "The file of the plan"))?;
-    draw_options(alloc, files)
+    plan_command(alloc, plan_start(alloc, "split", SPLIT_ABOUT, SPLIT_HELP))?.arg(file_argument(
+        alloc,
+        "OWNERS",
+        "The file of the numbers of the events' agents",
+    ))
 }
 
 /// The program before it has commands. Its words begin after its name.
@@ -609,20 +468,13 @@ fn tempo_start<'a>(alloc: Global) -> Result<Command<'a>, AllocError>
         .bin_name("tempo")
 }
 
-/// The same with the option that it explains.
-fn tempo_options<'a>(alloc: Global) -> Result<Command<'a>, AllocError>
-    ensures { IfOk result (λ c. app_of c ≡ options_app) }
-{
-    tempo_start(alloc)?.arg(explain_option(alloc))
-}
-
 /// The program with the commands that judge.
 fn judging_command<'a>(alloc: Global) -> Result<Command<'a>, AllocError>
     ensures { IfOk result (λ c. app_of c ≡ judging_app) }
 {
     let bare = bare_command(alloc)?;
     let check = check_command(alloc)?;
-    tempo_options(alloc)?.subcommand(bare)?.subcommand(check)
+    tempo_start(alloc)?.subcommand(bare)?.subcommand(check)
 }
 
 /// The same with the command that prints networks.
@@ -665,18 +517,10 @@ fn auditing_command<'a>(alloc: Global) -> Result<Command<'a>, AllocError>
     solving_command(alloc)?.subcommand(audit)
 }
 
-/// The same with the command that splits networks among agents.
-fn splitting_command<'a>(alloc: Global) -> Result<Command<'a>, AllocError>
-    ensures { IfOk result (λ c. app_of c ≡ splitting_app) }
-{
-    let split = split_command(alloc)?;
-    auditing_command(alloc)?.subcommand(split)
-}
-
 /// The program with all its commands.
 pub fn tempo_command<'a>(alloc: Global) -> Result<Command<'a>, AllocError>
     ensures { IfOk result (λ c. app_of c ≡ tempo_app) }
 {
-    let draw = draw_command(alloc)?;
-    splitting_command(alloc)?.subcommand(draw)
+    let split = split_command(alloc)?;
+    auditing_command(alloc)?.subcommand(split)
 }

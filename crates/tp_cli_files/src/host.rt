@@ -1,21 +1,16 @@
 //! The files of the host, and the words of its call.
 
 ghost use Rattle.std.specs.Prelude.{◌≡◌, None, drop};
-ghost use Rattle.std.specs.Io.{ReadsAtMost};
 ghost use Rattle.tp_cli_files.specs.Calls.{call_status, call_text};
 ghost use Rattle.tp_cli_files.specs.FaultLines.{Tells, fault_text};
 
 use crate::fault_lines::{FaultLine, complain};
 use crate::files::Files;
-use std::alloc::{AllocError, AllocFailed, Global};
-use std::cell::RefCell;
+use std::alloc::{AllocError, AllocFailed};
 use std::io::{ErrorKind, Read};
 use std::rt::{Env, Files as HostFileSystem};
-use std::{env, fs, io};
+use std::{env, fs};
 use tp_device::{Failed, Sink, Source};
-
-/// The name of the standard input among those of files.
-pub const STANDARD_INPUT: &str = "-";
 
 /// A file of the host that is read. Behind 2^64 - 1 reads that failed there is nothing more in it.
 #[derive(Drop)]
@@ -54,125 +49,27 @@ impl<R: Read> Source for HostFile<R> {
     }
 }
 
-/// The standard input as a file of a call. What the first that opens it reads is kept, as far as
-/// there is memory, so that it can be opened once more at its first byte.
+/// The files of the host, under their paths.
 #[derive(Drop)]
-pub struct StandardInput<I> {
-    reader: I,
-    kept: Vec<u8>,
-    opened: u8,
-    whole: bool,
-}
-
-impl<I: Read> StandardInput<I> {
-    /// What the reader has left.
-    pub fn new(alloc: Global, reader: I) -> Self {
-        StandardInput {
-            reader,
-            kept: Vec::new(alloc),
-            opened: 0,
-            whole: true,
-        }
-    }
-
-    /// Whether it can be opened, and then counts that.
-    fn open(&mut self) -> bool {
-        let may = self.opened == 0 || (self.opened == 1 && self.whole);
-        if may {
-            self.opened += 1;
-        }
-        may
-    }
-
-    /// Reads what stands behind the first `at` bytes.
-    fn read_from(&mut self, at: usize, buf: &mut [u8]) -> io::Result<usize>
-        ensures bound { ReadsAtMost result buf.new }
-    {
-        if at < self.kept.len() {
-            let mut behind = &self.kept[at..];
-            return behind.read(buf);
-        }
-        let count = self.reader.read(buf)?;
-        if self.opened == 1 && self.whole {
-            self.whole = self.kept.extend_from_slice(&buf[..count]).is_ok();
-        }
-        Ok(count)
-    }
-}
-
-/// The standard input, opened as a file: `at` of its kept bytes were read.
-#[derive(Drop)]
-pub struct OpenInput<'i, I> {
-    input: &'i RefCell<StandardInput<I>>,
-    at: usize,
-}
-
-impl<I: Read> Read for OpenInput<'_, I> {
-    fn read(&mut self, buf: &mut [u8]) -> io::Result<usize> {
-        let Ok(mut input) = self.input.try_borrow_mut() else {
-            return Err(io::Error::from(ErrorKind::WouldBlock));
-        };
-        let count = input.read_from(self.at, buf)?;
-        self.at = self.at.saturating_add(count);
-        Ok(count)
-    }
-}
-
-/// Where a file of a call is read from: under its path, or from the standard input.
-#[derive(Drop)]
-pub enum HostReader<'i, F, I> {
-    File(F),
-    Input(OpenInput<'i, I>),
-}
-
-impl<F: Read, I: Read> Read for HostReader<'_, F, I> {
-    fn read(&mut self, buf: &mut [u8]) -> io::Result<usize> {
-        match self {
-            HostReader::File(file) => file.read(buf),
-            HostReader::Input(input) => input.read(buf),
-        }
-    }
-}
-
-/// The files of the host, under their paths. The name `-` is that of the standard input.
-#[derive(Drop)]
-pub struct HostFiles<'r, 'i, R: HostFileSystem, I> {
+pub struct HostFiles<'r, R: HostFileSystem> {
     rt: &'r R,
-    input: &'i RefCell<StandardInput<I>>,
 }
 
-impl<'r, 'i, R: HostFileSystem, I: Read> HostFiles<'r, 'i, R, I> {
-    /// The files that the runtime reaches, and the standard input.
-    pub fn new(rt: &'r R, input: &'i RefCell<StandardInput<I>>) -> Self {
-        HostFiles { rt, input }
-    }
-
-    /// Opens the standard input.
-    fn open_input(&self) -> Result<HostFile<HostReader<'i, R::File, I>>, Failed> {
-        let Ok(mut input) = self.input.try_borrow_mut() else {
-            return Err(Failed);
-        };
-        if !input.open() {
-            return Err(Failed);
-        }
-        Ok(HostFile::new(HostReader::Input(OpenInput {
-            input: self.input,
-            at: 0,
-        })))
+impl<'r, R: HostFileSystem> HostFiles<'r, R> {
+    /// The files that the runtime reaches.
+    pub fn new(rt: &'r R) -> Self {
+        HostFiles { rt }
     }
 }
 
-impl<'i, R: HostFileSystem, I: Read> Files for HostFiles<'_, 'i, R, I> {
-    type Input = HostFile<HostReader<'i, R::File, I>>;
+impl<R: HostFileSystem> Files for HostFiles<'_, R> {
+    type Input = HostFile<R::File>;
 
     ghost held = { λ _ _. None };
 
     fn open(&mut self, name: &str) -> Result<Self::Input, Failed> {
-        if name == STANDARD_INPUT {
-            return self.open_input();
-        }
         match fs::open(self.rt, name) {
-            Ok(reader) => Ok(HostFile::new(HostReader::File(reader))),
+            Ok(reader) => Ok(HostFile::new(reader)),
             Err(_) => Err(Failed),
         }
     }

@@ -196,10 +196,7 @@ fn plan_from<'a, N: Files>(
 }
 
 /// The same of a problem.
-///
-/// # Errors
-/// The first fault of the task and the plan, and of the plan's file.
-pub fn plan_with<N: Files>(
+fn plan_with<N: Files>(
     alloc: Global,
     files: &mut N,
     words: PlanWords<'_>,

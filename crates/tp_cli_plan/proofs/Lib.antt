@@ -1,5 +1,4 @@
 pub mod AnswerLemmas
-pub mod JoinedLemmas
 pub mod ReadBack
 pub mod StopLemmas
 pub mod TaskLemmas

@@ -1,5 +1,4 @@
 pub mod FoundText
-pub mod Parts
 pub mod SearchStops
 pub mod SearchTasks
 pub mod Searches

@@ -6,4 +6,3 @@ pub mod CopyLemmas
 pub mod OwnBounds
 pub mod Keeping
 pub mod InTurn
-pub mod Listed

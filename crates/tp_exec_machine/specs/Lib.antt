@@ -4,4 +4,3 @@ pub mod Run
 pub mod Copies
 pub mod OwnBounds
 pub mod Partly
-pub mod Orders

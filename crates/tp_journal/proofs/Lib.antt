@@ -17,4 +17,3 @@ pub mod OtherHeads
 pub mod Accepted
 pub mod FewEdges
 pub mod LineSizes
-pub mod Cuts

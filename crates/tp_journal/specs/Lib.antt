@@ -2,4 +2,3 @@ pub mod Form
 pub mod Auditing
 pub mod Telling
 pub mod Laws
-pub mod Replay

@@ -5,4 +5,3 @@ pub mod WriteLemmas
 pub mod SoundLemmas
 pub mod MarkLemmas
 pub mod HeadLemmas
-pub mod FollowLemmas

@@ -1,7 +1,6 @@
-pub mod Allowed
-pub mod Edges
-pub mod GoingOn
-pub mod Journal
-pub mod Reasons
 pub mod Sound
+pub mod Edges
+pub mod Allowed
+pub mod Reasons
+pub mod Journal
 pub mod Writing

@@ -1,16 +1,8 @@
-//! Tests of networks of events and bounds.
-//!
-//! - `bounds`: settings, schedules, reasons and limits as data
-//! - `net`: the plain networks, by hand and against all assignments
-//! - `repair`: the network that is repaired, by hand and against the plain one
-//! - `trials`: changes that tests ask of a network, and its answers
+//! Tests of `tp_net`, apart from it so that the gate proves it once. `examples`: networks by hand;
+//! `enumeration`: small networks against all assignments.
 #![tactic(auto)]
 
 #[cfg(test)]
-mod bounds;
+mod enumeration;
 #[cfg(test)]
-mod net;
-#[cfg(test)]
-mod repair;
-#[cfg(test)]
-mod trials;
+mod examples;

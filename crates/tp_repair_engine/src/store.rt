@@ -20,13 +20,12 @@ pub enum Direction {
 }
 
 /// An edge as it stands in the list of a point: the point at its other end, its key, and its
-/// weight. The weight is copied here, so that who goes through the list reads it from end to end,
-/// by [`look_at`] alone.
+/// weight. The weight is copied here, so that who goes through the list reads it from end to end.
 #[derive(Clone, Copy, Debug, Drop)]
 pub struct Half {
     pub far: usize,
     pub key: usize,
-    weight: i64,
+    pub weight: i64,
 }
 
 /// An edge by name and as an arc, with its places in the list of the point where it ends, and of

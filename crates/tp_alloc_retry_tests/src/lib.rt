@@ -1,0 +1,41 @@
+//! Tests of the calls that may want memory: where a growth is refused, the same call is made once
+//! more, and answers as one that nothing preceded. `scripts/refused-memory` lets each request of a
+//! test fail in turn; with ample memory the tests show that each call has an answer.
+//!
+//! - `worlds`: the small domains and problems, and their tasks
+//! - `texts`: words, trees, domains and problems
+//! - `tasks`: what is told of a task, and happenings
+//! - `plans`: plans that are read, judged, looked for, and freed from their order
+//! - `runs`: executives over the networks of plans
+//! - `plans_of_runs`: the plans of completed runs
+//! - `networks`: settings, and executives over both networks for all bounds
+//! - `journals`: heads of journals, and audits
+#![tactic(auto)]
+
+/// The answer of a call; where it is an error, that of the same call once more.
+#[cfg(test)]
+macro_rules! again {
+    ($call:expr) => {
+        match $call {
+            Err(_) => $call,
+            first => first,
+        }
+    };
+}
+
+#[cfg(test)]
+mod journals;
+#[cfg(test)]
+mod networks;
+#[cfg(test)]
+mod plans;
+#[cfg(test)]
+mod plans_of_runs;
+#[cfg(test)]
+mod runs;
+#[cfg(test)]
+mod tasks;
+#[cfg(test)]
+mod texts;
+#[cfg(test)]
+mod worlds;

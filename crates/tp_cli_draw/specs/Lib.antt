@@ -1,4 +1,0 @@
-pub mod Draws
-pub mod Pictures
-pub mod Stops
-pub mod Words

@@ -1,0 +1,13 @@
+//! Values and relaxed plans of small tasks, worked out by hand.
+//!
+//! - `kinds`: a domain with a proposition of each kind, and values of its goals
+//! - `plans`: relaxed plans, with and without running steps
+//! - `queues`: the order in which a queue gives its numbers
+#![tactic(auto)]
+
+#[cfg(test)]
+mod kinds;
+#[cfg(test)]
+mod plans;
+#[cfg(test)]
+mod queues;

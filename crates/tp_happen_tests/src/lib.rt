@@ -1,0 +1,24 @@
+//! Worked examples of happenings, and plans as texts: what happens to states of small tasks, and
+//! what is read and written.
+//!
+//! - `rows`: happenings written as rows of a table, and whether a task carries them out so
+//! - `happenings`, `counters`: rows of the small domains, and of one that counts
+//! - `values`: what expressions, conditions and comparisons are worth
+//! - `plans`, `printing`: plans that texts spell, and plans that are written
+//! - `texts`: the domains printed and read again, and their beginnings
+#![tactic(auto)]
+
+#[cfg(test)]
+mod counters;
+#[cfg(test)]
+mod happenings;
+#[cfg(test)]
+mod plans;
+#[cfg(test)]
+mod printing;
+#[cfg(test)]
+mod rows;
+#[cfg(test)]
+mod texts;
+#[cfg(test)]
+mod values;
