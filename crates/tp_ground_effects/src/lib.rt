@@ -1,5 +1,5 @@
 //! The grounding of effects and bodies: what is joined by `and` and `forall` written out over the
-//! objects. Offers again what is called of `tp_ground_conditions` from above: atoms and fluents by
+//! objects. Re-exports what is called of `tp_ground_conditions` from above: atoms and fluents by
 //! number, and closed conditions.
 //!
 //! - `changes`, `parts`, `effects`, `constraints`, `bodies`: what is written out under a binding
