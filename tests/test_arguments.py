@@ -1,7 +1,7 @@
 """Calls for help and for the version, and words that are refused."""
 import subprocess
 
-from program import NEVER, Case, call, whole
+from program import NEVER, Case, call, told, whole
 
 # words that are refused, and what is said of them
 REFUSED = (
@@ -32,6 +32,26 @@ REFUSED = (
     ("check d p l o", "error: unexpected argument 'o' found"),
     ("''", "error: "),
     ("help join", "error: "),
+    # the standard input is one file at most, and none where commands are read there
+    ("check - - l", ""),
+    ("check - p -", ""),
+    ("net d - -", ""),
+    ("plan - -", ""),
+    ("solve - -", ""),
+    ("run - p l", ""),
+    ("run d p - --journal log", ""),
+    ("audit - d p -", ""),
+    ("audit - - p l", ""),
+    ("split - p l -", ""),
+    ("split d p - -", ""),
+    # a journal goes to a file of its own
+    ("bare --journal -", ""),
+    ("run d p l --journal -", ""),
+    ("run d p l --journal d", ""),
+    ("run d p l --journal p", ""),
+    ("run d p l --journal l", ""),
+    ("check d p l --explain --explain", "cannot be used multiple times"),
+    ("check d p l --explain=1", "--explain"),
 )
 
 # options that no call of `check`, `split`, `plan` or `solve` may have
@@ -59,20 +79,25 @@ OTHERS = (
 
 # calls for the help of the program and of its commands, and what stands in it
 HELPS = (
-    (("--help", "-h", "help"), ("Usage: tempo", "bare", "split", "Examples:", "Exit status: 0 yes")),
-    (("bare --help", "help bare"), ("Usage: tempo bare", "network N H", "window E", "--journal <FILE>", "Example:")),
+    (("--help", "-h", "help"), ("Usage: tempo", "bare", "split", "--explain", "Examples:", "Exit status: 0 yes")),
+    (
+        ("bare --help", "help bare"),
+        ("Usage: tempo bare", "network N H", "window E", "--journal <FILE>", "--resume <OLD>", "--explain", "Example:"),
+    ),
     (
         ("check --help", "help check"),
-        ("Usage: tempo check", "TIME: (NAME ARG ..) [DURATION]", "--scale", "--horizon", "1000000", "Example:"),
+        ("Usage: tempo check", "--explain", "TIME: (NAME ARG ..) [DURATION]", "--scale", "--horizon", "1000000", "Example:"),
     ),
-    (("net --help", "help net"), ("Usage: tempo net", "event E TEXT", "bound ID F T W", "--horizon", "Example:")),
+    (("net --help", "help net"), ("Usage: tempo net", "--explain", "event E TEXT", "bound ID F T W", "--horizon", "Example:")),
     (
         ("run --help", "help run"),
         (
             "Usage: tempo run",
+            "--explain",
             "lag E L",
             "`altered`",
             "--journal <FILE>",
+            "--resume <OLD>",
             "--scale",
             "Exit status: 0 a plan of the run was printed",
             "Example:",
@@ -80,26 +105,29 @@ HELPS = (
     ),
     (
         ("plan --help", "help plan"),
-        ("Usage: tempo plan", "unreachable", "exhausted", "spent B", "--budget", "100000", "--horizon", "--scale", "Example:"),
+        ("Usage: tempo plan", "--explain", "unreachable", "exhausted", "spent B", "--progress", "waiting", "--budget", "100000", "--horizon", "--scale", "Example:"),
     ),
     (
         ("solve --help", "help solve"),
-        ("Usage: tempo solve", "unreachable", "--budget", "1000000000", "--improve", "--progress", "makespan M expanded N", "Example:"),
+        ("Usage: tempo solve", "--explain", "unreachable", "--budget", "1000000000", "--improve", "--progress", "makespan M expanded N", "Example:"),
     ),
     (
         ("split --help", "help split"),
         (
             "Usage: tempo split",
+            "--explain",
             "<OWNERS>",
             "interval E LO HI",
             "one to four digits",
+            "--part <A>",
             "--scale",
             "--horizon",
             "Exit status: 0 for the intervals",
             "Example:",
         ),
     ),
-    (("audit --help", "help audit"), ("Usage: tempo audit", "[DOMAIN]", "audit ok N", "wrong N", "--horizon", "Examples:")),
+    (("audit --help", "help audit"), ("Usage: tempo audit", "--explain", "[DOMAIN]", "audit ok N", "wrong N", "--horizon", "Examples:")),
+    (("draw --help", "help draw"), ("Usage: tempo draw", "--explain", "<PLAN>", "--journal <LOG>", "--scale", "--horizon", "Example:")),
 )
 
 
@@ -129,6 +157,9 @@ class Arguments(Case):
             for words in calls:
                 with self.subTest(f"tempo {words}"):
                     self.helps(words, texts)
+
+    def test_a_version_that_cannot_be_written(self):
+        self.comes_to(told("tem", "fault script 2 write\n", 3), "--version", room=3)
 
     def test_the_version_names_the_logic_of_the_kit(self):
         _, logic = subprocess.run(["rt", "version"], capture_output=True, check=True).stdout.split(b" logic ")

@@ -256,6 +256,7 @@ LAGS = (
     "network 1 5\nlag 1 2\n",
     "network 1 5\nlag 0 2\nlag 0 2\n",
     "network 1 5\nlag 0 1000000001\n",
+    "network 0 5\nlag 0 0",
 )
 
 # commands with heads at their limits, and their answers
@@ -263,6 +264,11 @@ LIMITS = (
     ("network 1024 1000000000\nwindow 1023\nwindow 1024\n", "window 0 1000000000\nrefused event\n"),
     ("\tnetwork \r 0001  05\r\nwindow 0\n", "window 0 5\n"),
     ("network 1 5", ""),
+    # lines of lags end at the first line of another form, which is answered as any other
+    ("network 1 5\nlag 0 0\nlag 0 3\n\nlag 0 3\nadvance 4\nwindow 0", "refused line\nok\nwindow 1 5\n"),
+    ("network 1 5\nlag 0 10000000000\nwindow 0\n", "refused line\nwindow 0 5\n"),
+    ("network 1 5\n\tlag 00 01 \r\nadvance 5\nwindow 0\n", "ok\nwindow 4 5\n"),
+    ("network 1 5\nlag 0 1000000000", ""),
 )
 
 # a line with so many blanks before that, and its answers

@@ -20,6 +20,48 @@ CHARGE = (world("CHARGE"), world("UNCHARGED"))
 
 SUPPLY = (SUPPLY_DOMAIN, SUPPLY_PROBLEM)
 
+TANK = (world("TANK"), world("EMPTY_TANK"))
+
+# a tank that is as full as a number may be, and one that is to be filled by 512 steps
+BRIM = (world("TANK"), "(define (problem p) (:domain tank) (:init (= (level) 1000000000000000)) (:goal (>= (level) 3)))")
+
+DEEP = (world("TANK"), "(define (problem p) (:domain tank) (:init (= (level) 0)) (:goal (>= (level) 512)))")
+
+LAMP = (
+    """(define (domain lamp)
+ (:predicates (lit) (open) (done))
+ (:functions (fuel))
+ (:durative-action watch :parameters () :duration (= ?duration 5)
+  :condition (over all (and (lit) (not (open)) (>= (fuel) 2))) :effect (at end (done)))
+ (:action light :parameters () :effect (lit))
+ (:action light-anew :parameters () :effect (and (not (lit)) (lit)))
+ (:action put-out :parameters () :effect (not (lit)))
+ (:action shut :parameters () :effect (not (open)))
+ (:action fill :parameters () :effect (assign (fuel) 2))
+ (:action add-none :parameters () :effect (increase (fuel) 0))
+ (:action burn :parameters () :effect (decrease (fuel) 1)))""",
+    "(define (problem p) (:domain lamp) (:init (lit) (= (fuel) 2)) (:goal (done)))",
+)
+
+# the fluents x and y are 3 and 2, z has no value, and (on) is false
+COUNTER = (
+    """(define (domain counter)
+ (:predicates (on))
+ (:functions (x) (y) (z))
+ (:action set :parameters () :effect (assign (x) 5))
+ (:action up :parameters () :effect (increase (x) (y)))
+ (:action grow :parameters () :effect (increase (y) 1))
+ (:action both :parameters () :effect (and (assign (x) 1) (increase (x) 1)))
+ (:action drain :parameters () :effect (decrease (x) (z)))
+ (:action blink :parameters () :precondition (on) :effect (not (on)))
+ (:action look :parameters () :precondition (not (= (z) 1)) :effect ())
+ (:durative-action pause :parameters () :duration (= ?duration (y)) :effect ())
+ (:durative-action wait :parameters () :duration (= ?duration (z)) :effect ())
+ (:durative-action guard :parameters () :duration (= ?duration 4)
+  :condition (over all (< (x) 5)) :effect ()))""",
+    "(define (problem p) (:domain counter) (:init (= (x) 3) (= (y) 2)) (:goal (or (<= (x) 5) (on) (= (z) 0))))",
+)
+
 # an empty plan reaches this goal
 MET = (world("TOGGLE"), "(define (problem p) (:domain toggle) (:init (p)) (:goal (p)))")
 
@@ -59,6 +101,18 @@ WIDE = (
     "(define (problem p) (:domain d) (:objects {}) (:goal (forall (?a ?b) (not (p ?a ?b)))))".format(" ".join(f"o{n}" for n in range(257))),
 )
 
+# the same of numbers
+WIDE_IN_NUMBERS = (
+    "(define (domain d) (:functions (f ?a ?b)) (:action a :parameters ()))",
+    "(define (problem p) (:domain d) (:objects {}) (:goal (forall (?a ?b) (> (f ?a ?b) 0))))".format(" ".join(f"o{n}" for n in range(257))),
+)
+
+# so many objects and no more
+OBJECTS_OF = {
+    count: ("(define (domain d))", "(define (problem p) (:domain d) (:objects {}) (:goal (and)))".format(" ".join(f"o{n}" for n in range(count))))
+    for count in (65_535, 65_536)
+}
+
 # 2,210 ground actions, of which those alone are written out that a plan names
 MANY = (
     """(define (domain many)
@@ -78,11 +132,21 @@ TENTHS = "check domain problem plan --scale 10 --horizon 35"
 
 THOUSANDTHS = "check domain problem plan --scale 1000"
 
+NEAR = "check domain problem plan --horizon 5"
+
+NEAR_AND_FINE = "check domain problem plan --scale 1000 --horizon 5000"
+
 # plans, the words of the call, and the line that it writes
 FUSES = (
     ("0: (light-match m1) [8]\n0: (mend-fuse f1) [5]\n", CALL, "valid\n"),
     ("0: (light-match m1) [8]\n3: (mend-fuse f1) [5]\n", CALL, "valid\n"),
     ("0: (light-match m1) [8]\n4: (mend-fuse f1) [5]\n", CALL, "invalid 8 over-all 1\n"),
+    ("0: (mend-fuse f1) [5]\n1: (light-match m1) [8]\n", CALL, "invalid 0 over-all 0\n"),
+    ("0: (light-match m1) [8]\n9: (light-match m1) [8]\n", CALL, "invalid 9 condition 2\n"),
+    ("0: (light-match m1) [8]\n0: (light-match m1) [8]\n", CALL, "invalid 0 interferes 0 2\n"),
+    ("2: (light-match m1) [7]\n", CALL, "invalid 2 duration 0\n"),
+    ("2: (light-match m1) [8]\n", CALL, "invalid 10 goal\n"),
+    ("", CALL, "invalid 0 goal\n"),
 )
 
 SWITCHES = (
@@ -90,6 +154,11 @@ SWITCHES = (
     ("3: (need)\n4: (drop)\n", CALL, "valid\n"),
     ("3: (drop)\n4: (need)\n", CALL, "invalid 4 condition 1\n"),
     ("0: (watch) [5]\n2: (give)\n3: (drop)\n", CALL, "valid\n"),
+    ("3: (drop)\n3: (need)\n", CALL, "invalid 3 interferes 0 1\n"),
+    ("4: (drop)\n3: (need)\n", CALL, "valid\n"),
+    ("4: (need)\n3: (drop)\n", CALL, "invalid 4 condition 0\n"),
+    ("0: (drop)\n7: (give)\n", CALL, "invalid 7 goal\n"),
+    ("", CALL, "invalid 0 goal\n"),
 )
 
 HORIZONS = (
@@ -106,6 +175,13 @@ DURATIONS = (
     ("0: (rest) [4]\n", CALL, "valid\n"),
     ("0: (charge) [7]\n", CALL, "invalid 0 duration 0\n"),
     ("0: (rest) [0]\n", CALL, "invalid 0 duration 0\n"),
+    ("0: (rest) [2]\n", CALL, "valid\n"),
+    ("0: (rest) [6]\n", CALL, "valid\n"),
+    ("0: (charge) [2]\n0: (charge) [2]\n", CALL, "valid\n"),
+    ("0: (charge) [2]\n1: (charge) [2]\n", CALL, "valid\n"),
+    ("0: (charge) [3]\n", CALL, "invalid 3 goal\n"),
+    ("0: (charge) [1]\n", CALL, "invalid 0 duration 0\n"),
+    ("0: (rest) [4]\n3: (charge) [7]\n", CALL, "invalid 3 duration 1\n"),
 )
 
 FRACTIONS = (
@@ -113,6 +189,78 @@ FRACTIONS = (
     ("0.001: (charge) [4.000]\n", THOUSANDTHS, "valid\n"),
     ("0.001: (charge) [4.5]\n", THOUSANDTHS, "invalid 4501 undefined 1\n"),
     ("0.0005: (charge) [4]\n", THOUSANDTHS, "fault plan 4 not-ticks 1\n"),
+    ("0.001: (rest) [4.5]\n", THOUSANDTHS, "valid\n"),
+    ("0.001: (rest) [6.001]\n", THOUSANDTHS, "invalid 1 duration 0\n"),
+    ("0.001: (rest) [1.999]\n", THOUSANDTHS, "invalid 1 duration 0\n"),
+)
+
+# a goal that is met at first may be lost
+MET_OR_LOST = (
+    ("", CALL, "valid\n"),
+    ("5: (drop)\n", CALL, "invalid 5 goal\n"),
+)
+
+# an invariant counts from its start on, up to the tick before its end
+WATCHED = (
+    ("0: (watch) [5]\n2: (give)\n3: (drop)\n", CALL, "valid\n"),
+    ("0: (watch) [5]\n3: (give)\n3: (drop)\n", CALL, "valid\n"),
+    ("0: (watch) [5]\n3: (drop)\n4: (give)\n", CALL, "invalid 3 over-all 0\n"),
+    ("3: (drop)\n0: (watch) [5]\n", CALL, "invalid 3 over-all 1\n"),
+    ("0: (watch) [5]\n0: (drop)\n", CALL, "invalid 0 over-all 0\n"),
+    ("0: (watch) [5]\n4: (drop)\n", CALL, "invalid 4 over-all 0\n"),
+    ("0: (watch) [5]\n5: (drop)\n", CALL, "valid\n"),
+    ("0: (drop)\n1: (watch) [5]\n1: (give)\n", CALL, "valid\n"),
+    ("0: (drop)\n1: (watch) [5]\n2: (give)\n", CALL, "invalid 1 over-all 1\n"),
+    ("0: (watch) [5]\n2: (watch) [5]\n", CALL, "valid\n"),
+    ("1: (watch) [4]\n", CALL, "invalid 1 duration 0\n"),
+    ("1: (watch) [6]\n", CALL, "invalid 1 duration 0\n"),
+)
+
+# what writes into an invariant, and changes nothing that it mentions, leaves it as it is
+WRITTEN_AGAIN = (
+    ("0: (watch) [5]\n2: (light)\n", CALL, "valid\n"),
+    ("0: (watch) [5]\n2: (light-anew)\n", CALL, "valid\n"),
+    ("0: (watch) [5]\n2: (shut)\n", CALL, "valid\n"),
+    ("0: (watch) [5]\n2: (fill)\n", CALL, "valid\n"),
+    ("0: (watch) [5]\n2: (add-none)\n", CALL, "valid\n"),
+    ("0: (watch) [5]\n1: (light)\n2: (put-out)\n", CALL, "invalid 2 over-all 0\n"),
+    ("0: (watch) [5]\n2: (light)\n2: (shut)\n3: (burn)\n", CALL, "invalid 3 over-all 0\n"),
+    ("0: (watch) [5]\n1: (fill)\n2: (light)\n2: (burn)\n", CALL, "invalid 2 over-all 0\n"),
+)
+
+# a tank that is held below a level
+HELD = (
+    ("1: (fill-a)\n1: (fill-b)\n", CALL, "valid\n"),
+    ("0: (hold) [4]\n1: (fill-a)\n1: (fill-b)\n", CALL, "valid\n"),
+    ("0: (hold) [4]\n1: (fill-a)\n1: (fill-b)\n2: (fill-a)\n", CALL, "invalid 2 over-all 0\n"),
+    ("0: (hold) [4]\n1: (fill-a)\n1: (fill-b)\n4: (fill-a)\n", CALL, "valid\n"),
+    ("0: (hold) [0]\n1: (fill-b)\n", CALL, "invalid 0 duration 0\n"),
+    ("7: (fill-b)\n", CALL, "invalid 7 goal\n"),
+)
+
+# a fault may stand before a number that is out of range
+BRIMMED = (
+    ("1: (hold) [2]\n7: (fill-a)\n", CALL, "invalid 1 over-all 0\n"),
+    ("", CALL, "valid\n"),
+    ("7: (fill-a)\n", CALL, "fault check 2 range\n"),
+)
+
+# at one tick durations are looked at first, then values, conditions, clashes, interference, and at last invariants
+COUNTED = (
+    ("1: (wait) [3]\n", CALL, "invalid 1 undefined 0\n"),
+    ("1: (look)\n", CALL, "invalid 1 condition 0\n"),
+    ("1: (drain)\n1: (pause) [3]\n", CALL, "invalid 1 duration 1\n"),
+    ("1: (pause) [2]\n1: (blink)\n1: (drain)\n", CALL, "invalid 1 undefined 3\n"),
+    ("1: (both)\n1: (blink)\n", CALL, "invalid 1 condition 1\n"),
+    ("1: (set)\n1: (both)\n", CALL, "invalid 1 clash 1\n"),
+    ("1: (grow)\n1: (set)\n1: (up)\n", CALL, "invalid 1 interferes 0 2\n"),
+    ("5: (drain)\n1: (set)\n1: (up)\n", CALL, "invalid 1 interferes 1 2\n"),
+    ("0: (guard) [4]\n1: (set)\n1: (up)\n", CALL, "invalid 1 interferes 2 3\n"),
+    ("0: (guard) [4]\n1: (guard) [4]\n2: (set)\n", CALL, "invalid 2 over-all 0\n"),
+    ("0: (pause) [2]\n0: (grow)\n", CALL, "invalid 0 interferes 0 2\n"),
+    ("0: (grow)\n1: (pause) [3]\n", CALL, "invalid 4 goal\n"),
+    ("0: (grow)\n1: (pause) [2]\n", CALL, "invalid 1 duration 1\n"),
+    ("1: (pause) [2]\n2: (up)\n3: (up)\n", CALL, "invalid 3 goal\n"),
 )
 
 PLANS = (
@@ -120,6 +268,55 @@ PLANS = (
     ("x: (rest) [2]\n", CALL, "fault plan 2 line 1\n"),
     ("\n0: (dash) [1]\n", CALL, "fault plan 3 no-action 2\n"),
     ("4: (rest) [2]\n", "check domain problem plan --horizon 5", "fault plan 7 horizon 1\n"),
+)
+
+# lines that are no steps, or not those of an action, up to a near horizon
+SPELLINGS = (
+    ("0: (charge)\n", NEAR, "fault plan 6 no-duration 1\n"),
+    ("x: (rest) [2]\n", NEAR, "fault plan 2 line 1\n"),
+    ("0: (dash) [1]\n", NEAR, "fault plan 3 no-action 1\n"),
+    ("4: (rest) [2]\n", NEAR, "fault plan 7 horizon 1\n"),
+    ("1.: (rest) [2]\n", NEAR, "fault plan 2 line 1\n"),
+    ("0: rest [2]\n", NEAR, "fault plan 2 line 1\n"),
+    ("0: () [2]\n", NEAR, "fault plan 2 line 1\n"),
+    ("0: (2rest) [2]\n", NEAR, "fault plan 2 line 1\n"),
+    ("0: (rest) [2] x\n", NEAR, "fault plan 2 line 1\n"),
+    ("0: (rest) [x]\n", NEAR, "fault plan 2 line 1\n"),
+    ("\n;\n0: (rest) [2\n", NEAR, "fault plan 2 line 3\n"),
+    ("0: (r\u00e9st) [2]\n", NEAR, "fault plan 2 line 1\n"),
+    ("0: (rest) [2]\n3: (rest) [3]\nx\n", NEAR, "fault plan 7 horizon 2\n"),
+)
+
+# within a line its form is looked at first, then its action, then its brackets, then its ticks, and at last the horizon
+IN_ORDER = (
+    ("0.0005: (dash) x\n", NEAR_AND_FINE, "fault plan 2 line 1\n"),
+    ("0.0005: (dash)\n", NEAR_AND_FINE, "fault plan 3 no-action 1\n"),
+    ("0.0005: (charge)\n", NEAR_AND_FINE, "fault plan 6 no-duration 1\n"),
+    ("0.0005: (charge) [9]\n", NEAR_AND_FINE, "fault plan 4 not-ticks 1\n"),
+    ("9: (charge) [0.0005]\n", NEAR_AND_FINE, "fault plan 4 not-ticks 1\n"),
+    ("0: (charge) [5000000]\n", NEAR_AND_FINE, "fault plan 4 not-ticks 1\n"),
+    ("0: (charge) [5.001]\n", NEAR_AND_FINE, "fault plan 7 horizon 1\n"),
+)
+
+# an action that has other objects, and what stands in brackets behind one that needs none
+OBJECTS = (
+    ("0: (mend-fuse m1) [5]\n", CALL, "fault plan 3 no-action 1\n"),
+    ("0: (mend-fuse) [5]\n", CALL, "fault plan 3 no-action 1\n"),
+)
+
+BRACKETS = (
+    ("3: (need) [0.5]\n4: (drop)\n", CALL, "valid\n"),
+    ("3: (need) [x]\n", CALL, "fault plan 2 line 1\n"),
+    ("100: (need) [9]\n", "check domain problem plan --horizon 100", "valid\n"),
+    ("101: (need)\n", "check domain problem plan --horizon 100", "fault plan 7 horizon 1\n"),
+)
+
+# many steps, and a line that is none
+LONG = (
+    (512 * "0: (rest) [2]\n;\n" + "x", CALL, "fault plan 5 too-many\n"),
+    (";\nx\n" + 513 * "0: (rest) [2]\n;\n", CALL, "fault plan 2 line 2\n"),
+    (511 * "0: (rest) [2]\n;\n" + "x", CALL, "fault plan 2 line 1023\n"),
+    (600 * "0: (rest) [2]\n;\n" + "x", CALL, "fault plan 5 too-many\n"),
 )
 
 NAMED = (
@@ -163,6 +360,27 @@ class Check(Case):
     def test_what_is_needed_is_not_dropped_at_the_same_tick(self):
         self.each_writes(TOGGLE, SWITCHES)
 
+    def test_a_goal_that_is_met_may_be_lost(self):
+        self.each_writes(MET, MET_OR_LOST)
+
+    def test_what_is_watched_over_all(self):
+        self.each_writes(TOGGLE, WATCHED)
+
+    def test_what_is_written_again_and_what_is_changed(self):
+        self.each_writes(LAMP, WRITTEN_AGAIN)
+
+    def test_a_tank_that_is_held(self):
+        self.each_writes(TANK, HELD)
+        self.each_writes(BRIM, BRIMMED)
+
+    def test_the_first_fault_of_a_tick_is_told(self):
+        self.each_writes(COUNTER, COUNTED)
+
+    @many_calls
+    def test_a_plan_of_512_steps(self):
+        for count, line in ((512, "valid\n"), (511, "invalid 510 goal\n")):
+            self.writes(DEEP, "".join(f"{tick}: (fill-a)\n" for tick in range(count)), CALL, line)
+
     def test_an_empty_plan_is_judged_by_its_goal(self):
         with self.subTest("a goal that is not met"):
             self.writes(TOGGLE, "", CALL, "invalid 0 goal\n")
@@ -201,8 +419,12 @@ class Check(Case):
         self.writes(LARGE, "0: (a {})\n".format(" ".join("xy" * 8 + "x")), CALL, "valid\n")
         self.writes(LARGE, "0: (a {})\n".format(" ".join("xy" * 8)), CALL, "fault plan 3 no-action 1\n")
 
+    @many_calls
     def test_tasks_that_are_too_large(self):
         self.writes(WIDE, "", CALL, "fault ground 2 too-many atoms\n")
+        self.writes(WIDE_IN_NUMBERS, "", CALL, "fault ground 2 too-many fluents\n")
+        self.writes(OBJECTS_OF[65_535], "", CALL, "valid\n")
+        self.writes(OBJECTS_OF[65_536], "", CALL, "fault ground 2 too-many objects\n")
 
     @many_calls
     def test_of_many_ground_actions_those_are_kept_that_a_plan_names(self):
@@ -241,6 +463,14 @@ class Check(Case):
 
     def test_plans_that_cannot_be_read(self):
         self.each_writes(CHARGE, PLANS)
+        self.each_writes(CHARGE, SPELLINGS)
+        self.each_writes(CHARGE, IN_ORDER)
+        self.each_writes(MATCH, OBJECTS)
+        self.each_writes(TOGGLE, BRACKETS)
+
+    @many_calls
+    def test_plans_of_many_lines(self):
+        self.each_writes(CHARGE, LONG)
         with self.subTest("too many steps"):
             self.writes(CHARGE, 513 * "0: (rest) [2]\n", CALL, "fault plan 5 too-many\n")
 
@@ -249,6 +479,12 @@ class Check(Case):
             self.writes(CHARGE, b"; \xe4\n", CALL, "fault file 2 utf8 plan\n")
         with self.subTest("a text that is too long"):
             self.writes(CHARGE, 1_048_577 * " ", CALL, "fault file 3 too-long plan\n")
+        with self.subTest("a text whose last letter is cut"):
+            self.writes(CHARGE, b"; \xc3", CALL, "fault file 2 utf8 plan\n")
+        with self.subTest("a text that is too long, and whose last byte is no text"):
+            self.writes(CHARGE, 1_048_576 * b" " + b"\xff", CALL, "fault file 3 too-long plan\n")
+        with self.subTest("a letter of two bytes in a comment"):
+            self.writes(CHARGE, "; \u00e4\n0: (rest) [4]\n", CALL, "valid\n")
 
     def asks_for(self, files, line, status):
         """A call with those files writes that line. It opens each of them once at most, and none behind the last of them."""

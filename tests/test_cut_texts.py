@@ -17,6 +17,7 @@ CHARGE = (world("CHARGE"), world("UNCHARGED"))
 # plans of these, and the words of the call
 PLANS = (
     (MATCH, "0: (light-match m1) [8]\n0: (mend-fuse f1) [5]\n", CHECK),
+    (MATCH, "0: (light-match m1) [8]\n3: (mend-fuse f1) [5]\n", CHECK),
     (MATCH, "0: (light-match m1) [8]\n4: (mend-fuse f1) [5]\n", CHECK),
     (TOGGLE, "3: (need)\n3: (drop)\n", CHECK),
     (TOGGLE, "3: (need)\n4: (drop)\n", CHECK),
@@ -26,7 +27,9 @@ PLANS = (
     (TANK, "0: (hold) [4]\n1: (fill-a)\n1: (fill-b)\n", CHECK),
     (CHARGE, "0: (charge) [4]\n", CHECK),
     (CHARGE, "0: (rest) [4]\n", CHECK),
+    (CHARGE, "0: (charge) [7]\n", CHECK),
     (CHARGE, "0.001: (charge) [2.000]\n", f"{CHECK} --scale 1000"),
+    (CHARGE, "0.001: (charge) [4.000]\n", f"{CHECK} --scale 1000"),
     (CHARGE, "0.001: (charge) [4.5]\n", f"{CHECK} --scale 1000"),
     (CHARGE, "0.0005: (charge) [4]\n", f"{CHECK} --scale 1000"),
 )
@@ -73,7 +76,7 @@ def found_in_a_beginning(text):
 class CutTexts(Case):
     def each_beginning_is_refused(self, part, text, files):
         """Each beginning of the text that lacks its last parenthesis is refused, as that part of the files."""
-        for count in range(text.rindex(")")):
+        for count in range(text.rindex(")") + 1):
             with self.subTest(f"{count} bytes"):
                 fault = fault_of_a_beginning(part, count)
                 self.comes_to(told("", fault, 2), CHECK, {**files, part: text[:count]})

@@ -30,14 +30,44 @@ ROWS = (
     (COMMANDS, 1_000, JOURNAL, ANSWERS, "", 0),
     # lags stand in the head
     (LATE, 1_000, LATE_JOURNAL, LATE_ANSWERS, "", 0),
+    # but for those that are 0
+    (
+        "network 3 10\nlag 0 3\nlag 1 0\nlag 2 4\nadvance 4\nhappened 0 1\n",
+        1_000,
+        "journal 2\nnetwork 3 10\nbare\nlag 0 3\nlag 2 4\n> advance 4\n< ok\n> happened 0 1\n< ok\n",
+        "ok\nok\n",
+        "",
+        0,
+    ),
+    # no event, and a last line without an end
+    (
+        "network 0 0\nreport\nadvance 0\nwindow 0",
+        1_000,
+        "journal 2\nnetwork 0 0\nbare\n> report\n< report 0 bare\n> advance 0\n< ok\n> window 0\n< refused event\n",
+        "report 0 bare\nok\nrefused event\n",
+        "",
+        0,
+    ),
+    # lines without words have no pair, and all others one spelling
+    (
+        "network 1 5\n\n  window\t 00 \r\n\t\nwindo 0\nreport",
+        1_000,
+        "journal 2\nnetwork 1 5\nbare\n> window 0\n< window 0 5\n> ?\n< refused line\n> report\n< report 0 bare 0\n",
+        "window 0 5\nrefused line\nreport 0 bare 0\n",
+        "",
+        0,
+    ),
     # no line behind the head
     ("network 0 0", 100, "journal 2\nnetwork 0 0\nbare\n", "", "", 0),
     # the file can't be made
     (COMMANDS, None, None, "", "fault script 6 log\n", 3),
     # no head, and so no journal
     ("advance 4\n", 100, "", "", "fault script 5 head\n", 2),
+    ("", 100, "", "", "fault script 5 head\n", 2),
+    ("network 1025 4\n", 100, "", "", "fault script 5 head\n", 2),
     # a lag that does not fit
     ("network 1 5\nlag 1 2\n", 100, "", "", "fault script 5 head\n", 2),
+    ("network 1 5\nlag 0 2\nlag 0 2\n", 100, "", "", "fault script 5 head\n", 2),
     # no room for the head
     (TWO, 0, "", "", "fault script 6 log\n", 3),
     # no room for the second pair, whose answer does not go out
@@ -110,12 +140,28 @@ RUNS = (
     ("a lag that does not fit", RESTED, "lag 2 1\n", "", "", "fault script 5 head\n", 2),
 )
 
+# commands of a whole run without lags, what they come to, and the journal
+HELD_COMMANDS = "dispatch 0\nadvance 4\ndispatch 1\n"
+
+HELD_ANSWERS = "ok\nok\nok\nplan\n0: (rest) [4]\n"
+
+HELD_JOURNAL = (
+    "journal 2\nnetwork 2 100\nown 2\nbound 0 1 0 -2\nbound 1 0 1 6\n"
+    "> dispatch 0\n< ok\n> advance 4\n< ok\n> dispatch 1\n< ok\n"
+)
+
+# how many lines the head of that journal has
+HELD_HEAD = 5
+
 HEAD = "fault journal 5 head\n"
 
 # a right head of the run whose plan is printed, and one with another bound, each with no question behind it
 UNASKED = RUN_JOURNAL.partition("> ")[0] + "> foo\n"
 
 OTHER_BOUND = UNASKED.replace("bound 0 1 0 -5", "bound 0 1 0 -4")
+
+# a head of three events, of which the plan has two
+LAG_OF_A_THIRD = "journal 2\nnetwork 3 100\nown 2\nbound 0 1 0 -2\nbound 1 0 1 6\nlag 2 3\n"
 
 # no question behind the head of a network of bounds alone, and a line that is none of a head
 FOO = "journal 1\nnetwork 2 100\nbare\n> foo\n"
@@ -127,6 +173,9 @@ AUDITS = (
     ("a run whose plan is printed", AUDIT, WATCHED, RUN_JOURNAL, "audit ok 8\n", "", 0),
     ("an answer that is altered", AUDIT, WATCHED, ALTERED, "wrong 18\n", "", 1),
     ("a run without a plan", AUDIT, RESTED, REST_JOURNAL, "audit ok 4\n", "", 0),
+    ("a window that is altered", AUDIT, RESTED, REST_JOURNAL.replace("window 4 8", "window 4 9"), "wrong 12\n", "", 1),
+    ("a journal without its last line", AUDIT, RESTED, REST_JOURNAL.removesuffix("< refused line\n"), "", "fault journal 3 line 14\n", 2),
+    ("a lag of an event that the plan has not", AUDIT, RESTED, LAG_OF_A_THIRD, "", HEAD, 2),
     ("without the plan", ALONE, WATCHED, RUN_JOURNAL, "", HEAD, 2),
     ("with another horizon", OTHERWISE, WATCHED, RUN_JOURNAL, "", HEAD, 2),
     ("with another plan", AUDIT, RESTED, RUN_JOURNAL, "", HEAD, 2),
@@ -164,6 +213,36 @@ class Journals(Case):
                 wanted = told(answers, "fault script 6 log\n", 3, JOURNAL[:room])
                 self.comes_to(wanted, BARE, given=whole(COMMANDS), log_room=room)
 
+    # the pair of an answer that does not go out whole is in the journal
+    @many_calls
+    def test_at_each_byte_an_output_without_room_leaves_the_pair_in_the_journal(self):
+        for room in range(len(ANSWERS)):
+            with self.subTest(f"{room} bytes"):
+                pairs = ANSWERS[:room].count("\n") + 1
+                kept = "".join(JOURNAL.splitlines(keepends=True)[: 3 + 2 * pairs])
+                wanted = told(ANSWERS[:room], "fault script 2 write\n", 3, kept)
+                self.comes_to(wanted, BARE, given=whole(COMMANDS), room=room, log_room=10_000)
+
+    # the lines that were read whole are answered, and have their pairs; the head is written with the first of them
+    @many_calls
+    def test_behind_each_byte_a_failed_read_leaves_the_pairs_of_the_lines_before_it(self):
+        for count in range(COMMANDS.index("add 0"), len(COMMANDS) + 1):
+            with self.subTest(f"{count} bytes"):
+                lines = [line for line in COMMANDS[:count].split("\n")[1:-1] if line]
+                answers = "".join(ANSWERS.splitlines(keepends=True)[: len(lines)])
+                kept = "".join(JOURNAL.splitlines(keepends=True)[: 3 + 2 * len(lines)])
+                wanted = told(answers, "fault script 1 read\n", 3, kept)
+                self.comes_to(wanted, BARE, given=broken(COMMANDS[:count]), log_room=10_000)
+
+    # what a full journal holds, up to the end of its last whole pair, is a journal
+    @many_calls
+    def test_the_whole_pairs_of_a_full_journal_are_a_journal(self):
+        lines = JOURNAL.splitlines(keepends=True)
+        for pairs in range((len(lines) - 3) // 2 + 1):
+            with self.subTest(f"{pairs} pairs"):
+                kept = "".join(lines[: 3 + 2 * pairs])
+                self.comes_to(told(f"audit ok {pairs}\n"), ALONE, {LOG: kept})
+
     def test_journals_that_were_kept_are_journals(self):
         for journal, answers in ((JOURNAL, "audit ok 7\n"), (LATE_JOURNAL, "audit ok 4\n")):
             with self.subTest(answers):
@@ -184,6 +263,26 @@ class Journals(Case):
         for name, files, commands, journal, answers, faults, status in RUNS:
             with self.subTest(name):
                 self.comes_to(told(answers, faults, status, journal), RUN, files, whole(commands), log_room=1_000)
+
+    # a first part of the journal, and the answers of the pairs that are whole in it
+    @many_calls
+    def test_at_each_byte_a_full_journal_of_a_run_holds_back_an_answer(self):
+        for room in range(len(HELD_JOURNAL)):
+            with self.subTest(f"{room} bytes"):
+                pairs = max(0, HELD_JOURNAL[:room].count("\n") - HELD_HEAD) // 2
+                answers = "".join(HELD_ANSWERS.splitlines(keepends=True)[:pairs])
+                wanted = told(answers, "fault script 6 log\n", 3, HELD_JOURNAL[:room])
+                self.comes_to(wanted, RUN, RESTED, whole(HELD_COMMANDS), log_room=room)
+
+    # of an answer that does not go out whole the pair is in the journal; of a plan that does not, all pairs are
+    @many_calls
+    def test_at_each_byte_an_output_of_a_run_without_room_leaves_the_pair(self):
+        for room in range(len(HELD_ANSWERS)):
+            with self.subTest(f"{room} bytes"):
+                pairs = HELD_ANSWERS[:room].count("\n") + 1
+                kept = "".join(HELD_JOURNAL.splitlines(keepends=True)[: HELD_HEAD + 2 * pairs])
+                wanted = told(HELD_ANSWERS[:room], "fault script 2 write\n", 3, kept)
+                self.comes_to(wanted, RUN, RESTED, whole(HELD_COMMANDS), room=room, log_room=10_000)
 
     def test_a_run_whose_journal_can_not_be_made(self):
         self.comes_to(told("", "fault script 6 log\n", 3), RUN, {**WATCHED, LOG: FOLDER}, whole(RUN_COMMANDS))

@@ -74,12 +74,27 @@ NETWORKS = (
         "event 0 at 0 (set)\nevent 1 at 1 (set)\nevent 2 at 2 (set)\nbound 0 1 0 -1\nbound 1 2 1 -1\n",
         0,
     ),
+    # however they are numbered
+    (
+        LINE,
+        "2: (set)\n0: (set)\n1: (set)\n",
+        NET,
+        "event 0 at 0 (set)\nevent 1 at 1 (set)\nevent 2 at 2 (set)\nbound 0 2 1 -1\nbound 1 0 2 -1\n",
+        0,
+    ),
     # one drop between the need and the other does not interfere with that one
     (
         TOGGLE,
         "0: (need)\n1: (drop)\n2: (drop)\n",
         NET,
         "event 0 at 0 (need)\nevent 1 at 1 (drop)\nevent 2 at 2 (drop)\nbound 0 1 0 -1\nbound 1 2 0 -1\n",
+        0,
+    ),
+    (
+        TOGGLE,
+        "0: (need)\n1: (need)\n2: (drop)\n",
+        NET,
+        "event 0 at 0 (need)\nevent 1 at 1 (need)\nevent 2 at 2 (drop)\nbound 0 2 0 -1\nbound 1 2 1 -1\n",
         0,
     ),
 )

@@ -1,5 +1,5 @@
 """Plans that are found of problems in files, and why none is, worked by hand."""
-from program import Case, told, told_by, world
+from program import Case, call, told, told_by, world
 
 CALL = "plan domain problem"
 
@@ -23,6 +23,19 @@ UNSWITCHED = "(define (problem p) (:domain toggle) (:init) (:goal (done)))"
 
 HELD = "(define (problem p) (:domain toggle) (:init (p)) (:goal (p)))"
 
+TANK, EMPTY = world("TANK"), world("EMPTY_TANK")
+
+CHARGE, UNCHARGED = world("CHARGE"), world("UNCHARGED")
+
+BOTH = "(define (problem p) (:domain charge) (:init (= (e) 0)) (:goal (and (>= (e) 8) (full))))"
+
+LAMP = """(define (domain lamp)
+ (:predicates (on))
+ (:action light :parameters () :precondition (not (on)) :effect (on))
+ (:action quench :parameters () :precondition (on) :effect (not (on))))"""
+
+NEVER = "(define (problem p) (:domain lamp) (:init) (:goal (and (on) (not (on)))))"
+
 # a domain, a problem of it, the words of the call, what it writes, and its exit status
 ROWS = (
     (TOGGLE, TOGGLED, CALL, "0: (need)\n", 0),
@@ -37,6 +50,21 @@ ROWS = (
     (MATCH, SPARE, CALL, "unreachable\n", 1),
     (MATCH, UNLIT, CALL, "exhausted\n", 1),
     (MATCH, UNLIT, "plan domain problem --horizon 1000000000 --budget 1000000", "exhausted\n", 1),
+    (MATCH, SPARE, "plan domain problem --budget 0", "unreachable\n", 1),
+    (TOGGLE, TOGGLED, "plan domain problem --budget 1", "0: (need)\n", 0),
+    (TOGGLE, UNSWITCHED, "plan domain problem --budget 8", "0: (give)\n0: (watch) [5]\n", 0),
+    (TANK, EMPTY, "plan domain problem --budget 1", "spent 1\n", 1),
+    (TANK, EMPTY, "plan domain problem --budget 2", "0: (fill-a)\n0: (fill-b)\n", 0),
+    (CHARGE, UNCHARGED, "plan domain problem --budget 2", "spent 2\n", 1),
+    (CHARGE, UNCHARGED, "plan domain problem --budget 3", "0: (rest) [2]\n", 0),
+    # no step ends by a near horizon
+    (CHARGE, UNCHARGED, "plan domain problem --budget 3 --horizon 1", "exhausted\n", 1),
+    # each charge of two ticks gives four
+    (CHARGE, BOTH, "plan domain problem --budget 10", "spent 10\n", 1),
+    (CHARGE, BOTH, "plan domain problem --budget 100", "0: (rest) [2]\n2: (charge) [2]\n4: (charge) [2]\n", 0),
+    # waits that lead to a state seen before are dropped, so no node is left in the end
+    (LAMP, NEVER, "plan domain problem --budget 5", "spent 5\n", 1),
+    (LAMP, NEVER, "plan domain problem --budget 6", "exhausted\n", 1),
 )
 
 
@@ -96,11 +124,37 @@ CROWDED = f"""(define (problem p) (:domain crowd) (:objects {" ".join(f"x{i}" fo
 LAST = 1 + 21 + 230 + 1
 
 
+# a stock whose square is past 10^15
+SUPPLY = """(define (domain supply)
+ (:functions (stock))
+ (:action square :parameters () :effect (increase (stock) (* (stock) (stock)))))"""
+
+OWED = """(define (problem p) (:domain supply)
+ (:init (= (stock) 1000000000)) (:goal (< (stock) 0)))"""
+
+
+# a goal that is met where nothing is deleted, and never else
+SWITCHES = """(define (domain lamps) (:requirements :typing) (:types lamp)
+ (:predicates (lit ?l - lamp) (done))
+ (:action switch :parameters (?l - lamp) :precondition (not (lit ?l)) :effect (lit ?l))
+ (:action dim :parameters (?l - lamp) :precondition (lit ?l) :effect (not (lit ?l)))
+ (:action end :parameters (?l - lamp) :precondition (and (lit ?l) (not (lit ?l))) :effect (done)))"""
+
+SWITCHED = "(define (problem p) (:domain lamps) (:objects a b c d e f g h i j - lamp) (:init) (:goal (done)))"
+
+
 class Plan(Case):
     def test_plans_and_why_there_is_none(self):
         for domain, problem, words, text, status in ROWS:
             with self.subTest(f"{problem!r} {words}"):
                 self.comes_to(told_by(text, status), words, {"domain": domain, "problem": problem})
+
+    def test_plans_that_are_found_are_valid(self):
+        for domain, problem, _, text, status in ROWS:
+            if status == 0 and "." not in text:
+                with self.subTest(text):
+                    files = {"domain": domain, "problem": problem, "plan": text}
+                    self.comes_to(told("valid\n"), "check domain problem plan", files)
 
     def test_conditions_that_actions_share(self):
         for lit, goal, text in SHARED:
@@ -113,6 +167,8 @@ class Plan(Case):
             self.comes_to(told("", "fault file 1 read domain\n", 3), CALL, {"problem": TOGGLED})
         with self.subTest("a problem of another domain"):
             self.comes_to(told_by("fault problem 4 unknown 29\n", 2), CALL, {"domain": MATCH, "problem": TOGGLED})
+        with self.subTest("a number past 10^15"):
+            self.comes_to(told_by("fault search 2 range\n", 2), CALL, {"domain": SUPPLY, "problem": OWED})
 
     def test_more_bindings_than_there_may_be_actions(self):
         files = {"domain": ROADS, "problem": CHAIN}
@@ -123,3 +179,13 @@ class Plan(Case):
         for budget, text, status in ((LAST, "0: (prepare)\n1: (finish)\n", 0), (LAST - 1, f"spent {LAST - 1}\n", 1)):
             with self.subTest(f"{budget} nodes"):
                 self.comes_to(told_by(text, status), f"{CALL} --budget {budget}", files)
+
+    def test_how_far_a_search_is_is_told(self):
+        files = {"domain": SWITCHES, "problem": SWITCHED}
+        found = call(f"{CALL} --budget 250000 --progress", files)
+        self.assertEqual((found.answers, found.status), (b"spent 250000\n", 1))
+        lines = [f"expanded {count} waiting \\d+ lacking 1\n" for count in (100_000, 200_000)]
+        self.assertRegex(found.faults.decode(), f"\\A{''.join(lines)}\\Z")
+        for words in (f"{CALL} --budget 250000", f"{CALL} --budget 99999 --progress"):
+            with self.subTest(words):
+                self.assertEqual(call(words, files).faults, b"")

@@ -3,6 +3,8 @@ from program import NEVER, Case, Once, broken, told, told_by, whole, world
 
 RUN = "run domain problem plan --horizon 100"
 
+MATCH = (world("MATCH"), world("MATCHES"))
+
 TOGGLE = (world("TOGGLE"), world("TOGGLED"))
 
 TANK = (world("TANK"), world("EMPTY_TANK"))
@@ -55,6 +57,7 @@ RUNS = (
 )
 
 WITHOUT_A_PLAN = (
+    (MATCH, "0: (light-match m1) [8]\n0: (mend-fuse f1) [5]\n", "dispatch 0\nwindow 2\n", "ok\nwindow 0 3\n", 1),
     (TANK, "1: (fill-a)\n1: (fill-b)\n", "window 0\nwindow 1\n", "window 0 100\nwindow 0 100\n", 1),
     (
         TANK,

@@ -365,6 +365,34 @@ class Split(Case):
         text += "".join(f"interval {looks + e} 1 1000000\n" for e in range(takes))
         self.comes_to(told(text), SPLIT, files_of(GATE, plan, looks * "0 " + takes * "1 "))
 
+    def test_parts_of_agents(self):
+        """The lines of a part are its events' count, the bounds of `net` that join no other event, and the intervals."""
+        for example, plan, owners, words, text in INTERVALS:
+            files = files_of(example, plan, owners)
+            shown = call(words.replace("split", "net", 1).replace(" owners", ""), files).answers.decode()
+            bounds = re.findall(r"(?m)^bound \d+ (\w+) (\w+) (\S+)$", shown)
+            horizon = re.search(r"--horizon (\d+)", words)
+            numbers = [int(word) for word in owners.split()]
+            for agent in range(max(numbers, default=-1) + 1):
+                own = [event for event, number in enumerate(numbers) if number == agent]
+                place = {"o": "o", **{str(event): str(k) for k, event in enumerate(own)}}
+                lines = [f"network {len(own)} {horizon[1] if horizon else 1_000_000}"]
+                lines += [f"add {place[f]} {place[t]} {w}" for f, t, w in bounds if f in place and t in place]
+                for event, low, high in re.findall(r"(?m)^interval (\d+) (\d+) (\d+)$", text):
+                    if event in place:
+                        least = f"-{low}" if low != "0" else "0"
+                        lines += [f"add {place[event]} o {least}", f"add o {place[event]} {high}"]
+                wanted = "".join(f"{line}\n" for line in lines)
+                with self.subTest(f"{plan!r} {owners!r} {words} --part {agent}"):
+                    self.comes_to(told(wanted), f"{words} --part {agent}", files)
+                    answers = "".join(f"bound {k}\n" for k in range(len(lines) - 1))
+                    self.comes_to(told(answers), "bare", {}, whole(wanted))
+
+    def test_agents_that_have_no_part(self):
+        for agent in (2, 1023):
+            wanted = told_by(f"fault split 4 agent {agent}\n", 2)
+            self.comes_to(wanted, f"{SPLIT_UP_TO_100} --part {agent}", files_of(MATCH, LIT, "0 0 1 1"))
+
     def split(self, files, options, owners):
         """The intervals that a call tells, which has to succeed."""
         words = " ".join(str(owner) for owner in owners)

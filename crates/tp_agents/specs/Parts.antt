@@ -1,5 +1,5 @@
 -- What each agent gets: its own events, the bounds among them, and the intervals of those at the interface.
-use Rattle.std.specs.Prelude.{◌≡◌, ℕ, suc, nat_eq, if◌then◌else◌, List, [], ◌∷◌, ◌++◌, length, map, slice_index_or, Option, Some, None, ℤ, codes, decimal, string_bytes}
+use Rattle.std.specs.Prelude.{◌≡◌, ℕ, suc, ◌<◌, nat_eq, if◌then◌else◌, List, [], ◌∷◌, ◌++◌, length, map, slice_index_or, Option, Some, None, ℤ, codes, decimal, string_bytes}
 use Rattle.std.specs.List.{filter_map}
 use Rattle.std.specs.FinMap.{values}
 use Rattle.tp_bounds.specs.declared.Point.{Point}
@@ -10,6 +10,8 @@ use Rattle.tp_bounds.specs.Setting.{Setting}
 use Rattle.tp_bounds.specs.Reasons.{at_most, at_least}
 use Rattle.tp_bounds.specs.OwnBounds.{setting_of}
 use Rattle.tp_bounds.specs.Certificates.{IsListedSchedule}
+use Rattle.tp_agents.specs.declared.fault.PartFault.{PartFault}
+use Rattle.tp_agents.specs.declared.fault.PartFault.TheVariants.{Memory, TooMany}
 use Rattle.tp_agents.specs.Owners.{owner_of, place_of, events_of}
 
 -- 'event E', with the number that the event has in the whole
@@ -62,6 +64,11 @@ pub record IsPart (s : Setting) (owners : List ℕ) (intervals : List (Option (�
   pub horizon : part.horizon ≡ s.horizon
   pub events : map string_bytes part.events.items ≡ map event_line (events_of owners agent)
   pub bounds : part.bounds.items ≡ part_bounds s owners intervals agent
+
+-- why an agent gets no network: its part has more bounds than can be in force. Out of memory says nothing.
+abbrev pub HasNoNet : Setting → List ℕ → List (Option (ℕ × ℕ)) → ℕ → PartFault → Type 0
+HasNoNet s owners intervals agent Memory = Unit {0}
+HasNoNet s owners intervals agent TooMany = 65_535 < length (part_bounds s owners intervals agent)
 
 -- moments of an agent's events that keep its inner bounds and its intervals
 abbrev pub IsPartSchedule : Setting → List ℕ → List (Option (ℕ × ℕ)) → ℕ → List ℕ → Type 0

@@ -1,4 +1,5 @@
-//! What keeps a setting from being split.
+//! What keeps a setting from being split, an agent from its part, and commands from being carried
+//! out.
 
 use std::alloc::{AllocError, AllocFailed};
 use thiserror::Error;
@@ -38,5 +39,49 @@ impl<T: Drop> From<AllocFailed<T>> for SplitFault {
 
     fn from(_error: AllocFailed<T>) -> SplitFault {
         SplitFault::Memory
+    }
+}
+
+/// Why an agent gets no network.
+#[derive(Debug, Drop, Error)]
+pub enum PartFault {
+    /// Out of memory.
+    #[error("out of memory")]
+    Memory,
+    /// The part has more bounds than can be in force at one time.
+    #[error("more than 65,535 bounds")]
+    TooMany,
+}
+
+impl From<AllocError> for PartFault {
+    ghost use Rattle.std.specs.Prelude.{◌≡◌};
+    ghost use Rattle.tp_agents.specs.declared.fault.PartFault.TheVariants.{Memory};
+
+    ghost from_gives = { λ _ fault. fault ≡ Memory };
+
+    fn from(_error: AllocError) -> PartFault {
+        PartFault::Memory
+    }
+}
+
+/// Why no command was carried out.
+#[derive(Debug, Drop, Error)]
+pub enum CommandFault {
+    /// Out of memory.
+    #[error("out of memory")]
+    Memory,
+    /// The command at this place is of an agent that there is not.
+    #[error("no agent for this command")]
+    Agent(usize),
+}
+
+impl From<AllocError> for CommandFault {
+    ghost use Rattle.std.specs.Prelude.{◌≡◌};
+    ghost use Rattle.tp_agents.specs.declared.fault.CommandFault.TheVariants.{Memory};
+
+    ghost from_gives = { λ _ fault. fault ≡ Memory };
+
+    fn from(_error: AllocError) -> CommandFault {
+        CommandFault::Memory
     }
 }

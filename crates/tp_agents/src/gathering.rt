@@ -12,7 +12,7 @@ ghost use Rattle.tp_agents.specs.Answers.{as_own, IsContradicted};
 use crate::fault::SplitFault;
 use std::alloc::{AllocError, Global};
 use tp_bounds::{Bound, BoundId, Edge, Reason, Setting};
-use tp_exec_machine::foremost;
+use tp_exec_machine::entry_order;
 use tp_net::{Net, NetFault};
 use tp_repair::RepairNet;
 
@@ -67,10 +67,10 @@ fn kept_bounds(alloc: Global, setting: &Setting) -> Result<(Vec<u32>, Vec<Bound>
 }
 
 /// The identifiers at some places.
-fn ids_at(alloc: Global, ids: &[u32], places: &[u32]) -> Result<Vec<u32>, AllocError> {
+fn ids_at(alloc: Global, ids: &[u32], places: &[usize]) -> Result<Vec<u32>, AllocError> {
     let mut found = Vec::new(alloc);
     for place in places {
-        if let Some(id) = ids.get(*place as usize) {
+        if let Some(id) = ids.get(*place) {
             found.push(*id)?;
         }
     }
@@ -81,7 +81,7 @@ fn ids_at(alloc: Global, ids: &[u32], places: &[u32]) -> Result<Vec<u32>, AllocE
 fn first_ids(alloc: Global, setting: &Setting) -> Result<Vec<u32>, AllocError> {
     let (ids, bounds) = kept_bounds(alloc, setting)?;
     let events = usize::from(setting.events());
-    let order = foremost(alloc, &bounds, events, setting.horizon())?;
+    let order = entry_order(alloc, &bounds, events, setting.horizon())?;
     ids_at(alloc, &ids, &order)
 }
 

@@ -4,22 +4,24 @@
 //! bounds between them are met, and their runs join into one of the whole.
 //!
 //! - `owners`: which agent each event is for; `reading`: the same from a text.
-//! - `fault`: what keeps a setting from being split.
+//! - `fault`: what keeps a setting from being split, an agent from its part, and commands from being
+//!   carried out.
 //! - `crosses`: bounds that join the events of two agents.
 //! - `gathering`: the least schedule of a setting.
 //! - `intervals`: the interval of each event, from the least schedule.
 //! - `divided`: a setting that is split; `splitting`: how it is.
 //! - `parts`: the network of each agent.
+//! - `interleaving`: commands that come to the executives of all agents, in whatever order.
 //! - `joining`: the runs of all agents, joined.
 #![tactic(auto)]
 
 ghost use Rattle.tp_agents.specs.Decoupled.{Decouples, IsWide, HasPartSchedules};
-ghost use Rattle.tp_agents.specs.Interleaved.{KeepsApart};
 
 mod crosses;
 mod divided;
 mod fault;
 mod gathering;
+mod interleaving;
 mod intervals;
 mod joining;
 mod owners;
@@ -28,7 +30,8 @@ mod reading;
 mod splitting;
 
 pub use divided::Split;
-pub use fault::SplitFault;
+pub use fault::{CommandFault, PartFault, SplitFault};
+pub use interleaving::{executives_keep_apart, perform_each};
 pub use joining::join_runs;
 pub use owners::{MOST_AGENT, Owners};
 pub use parts::part;
@@ -48,9 +51,3 @@ pub fn intervals_decouple(split: &Split)
     // this call tells that the bounds in force suit the setting
     let _events = split.setting.events();
 }
-
-/// Executives that share nothing, whatever the order in which their commands come in, are each as
-/// after its own alone.
-pub fn executives_keep_apart()
-    ensures { KeepsApart }
-{}

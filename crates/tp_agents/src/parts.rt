@@ -1,17 +1,18 @@
 //! What each agent gets.
 
-ghost use Rattle.std.specs.Prelude.{◌≡◌, ℕ, ◌<◌, ◌≤◌, ◌++◌, length, map, slice_index_or, string_bytes, None, Option, IfOk, OnOk};
+ghost use Rattle.std.specs.Prelude.{◌≡◌, ℕ, ◌<◌, ◌≤◌, ◌++◌, length, map, slice_index_or, string_bytes, None, Option, IfOk, IfErr, OnOk};
 ghost use Rattle.std.specs.List.{filter_map};
 ghost use Rattle.std.specs.Map.{values_of};
 ghost use Rattle.tp_bounds.specs.Nets.{IsPointOf};
 ghost use Rattle.tp_agents.specs.Owners.{owner_of, agent_count, place_of, events_of, ArePlaces};
-ghost use Rattle.tp_agents.specs.Parts.{own_point, bound_between, inner_of, inner_bounds, keeps_interval, keeps_intervals, event_line, IsPart};
+ghost use Rattle.tp_agents.specs.Parts.{own_point, bound_between, inner_of, inner_bounds, keeps_interval, keeps_intervals, event_line, IsPart, HasNoNet};
 
 use crate::divided::Split;
+use crate::fault::PartFault;
 use crate::owners::{owner, place};
 use std::alloc::{AllocError, Global};
 use std::collections::BTreeMap;
-use tp_bounds::{Bound, PlanNet, Point, at_least, at_most};
+use tp_bounds::{Bound, MOST_BOUNDS, PlanNet, Point, at_least, at_most};
 
 /// For each event, how many events of its agent come before it. It goes over the events before
 /// each.
@@ -115,14 +116,8 @@ fn texts(alloc: Global, owners: &[u16], agent: u16) -> Result<Vec<String>, Alloc
     Ok(texts)
 }
 
-/// The network of an agent's part: its events in order, numbered from 0, each under the text `event
-/// E` with its number in the whole; the bounds that join no event of another agent, by rising
-/// identifier; and for each of its events that has an interval, by rising number, the two bounds
-/// that keep it there.
-///
-/// It goes over all bounds in force once, and over the events before each event.
-pub fn part(alloc: Global, split: &Split, agent: u16) -> Result<PlanNet, AllocError>
-    requires { agent < agent_count split.now.owners.items }
+/// The network of an agent's part, however many bounds it has.
+fn network(alloc: Global, split: &Split, agent: u16) -> Result<PlanNet, AllocError>
     ensures { IfOk result (IsPart split.now.setting split.now.owners.items
         split.now.intervals.items agent) }
 {
@@ -135,4 +130,29 @@ pub fn part(alloc: Global, split: &Split, agent: u16) -> Result<PlanNet, AllocEr
         events,
         bounds,
     })
+}
+
+/// The network of an agent's part: its events in order, numbered from 0, each under the text `event
+/// E` with its number in the whole; the bounds that join no event of another agent, by rising
+/// identifier; and for each of its events that has an interval, by rising number, the two bounds
+/// that keep it there.
+///
+/// It goes over all bounds in force once, and over the events before each event.
+///
+/// # Errors
+/// `TooMany` where these are more bounds than can be in force at one time: each event with an
+/// interval has two in place of at least one bound of the whole. `Memory`.
+pub fn part(alloc: Global, split: &Split, agent: u16) -> Result<PlanNet, PartFault>
+    requires { agent < agent_count split.now.owners.items }
+    ensures part { IfOk result (IsPart split.now.setting split.now.owners.items
+        split.now.intervals.items agent) }
+    ensures few { IfOk result (λ net. length net.bounds.items ≤ MOST_BOUNDS) }
+    ensures err { IfErr result (HasNoNet split.now.setting split.now.owners.items
+        split.now.intervals.items agent) }
+{
+    let net = network(alloc, split, agent)?;
+    if net.bounds.len() > MOST_BOUNDS as usize {
+        return Err(PartFault::TooMany);
+    }
+    Ok(net)
 }

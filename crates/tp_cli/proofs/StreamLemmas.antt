@@ -1,5 +1,5 @@
 -- What was written to a writer of bytes that are kept before and after.
-use Rattle.std.proofs.Common.{◌≡◌, ◌≢◌, ◌∙◌, ◌≤◌, zero, suc, ap, ℕ, List, [], ◌++◌, Option, Some, None, ◌⊎◌, inl, inr, codes, sym, subst, refl, arith}
+use Rattle.std.proofs.Common.{◌≡◌, ◌≢◌, ◌∙◌, ◌≤◌, zero, suc, ap, ℕ, List, [], ◌++◌, Option, Some, None, Bool, true, false, ◌⊎◌, inl, inr, codes, sym, subst, refl, arith}
 use Rattle.std.specs.Prelude.{IfSome, MatchOption, Result, Ok, Err}
 use Rattle.std.specs.Io.KnownBytes.{Appends, Keeps}
 use Rattle.std.proofs.KnownBytes.{Keeps-refl, Keeps-trans, Appends-nil}
@@ -7,6 +7,7 @@ use Rattle.tp_device.specs.Bytes.{AppendsPart}
 use Rattle.tp_cli_bare.specs.Bare.{AnswersAll, AnswersPart, IsRefused, first_machine}
 use Rattle.tp_exec_machine.specs.Machine.{Machine}
 use Rattle.tp_script.specs.Pending.{Reading}
+use Rattle.tp_script.specs.Serving.{EndsUnwritten}
 use Rattle.tp_script.specs.declared.serving.Served.{Served}
 use Rattle.tp_journal_pairs.specs.Journal.{Entry}
 use Rattle.tp_journal_pairs.specs.Writing.{EndsJournal, EndsUnlogged, Journals}
@@ -28,6 +29,10 @@ use Rattle.tp_cli_run.specs.RunJournals.{LogsInNone, LogsInPlan, LogsToNone, Log
 use Rattle.tp_cli_plan.specs.Searches.{SaysNoPlan, SearchesPart, WritesPlan}
 use Rattle.tp_cli_split.specs.Splits.{SplitsPart, WritesPlan as WritesIntervals, WritesSome, WritesSplit}
 use Rattle.tp_cli_plan.specs.declared.search_words.SearchWords.{SearchWords}
+use Rattle.tp_cli_draw.specs.Draws.{DrawsPart, WritesDrawn}
+use Rattle.tp_cli_inputs.specs.declared.draw_words.DrawWords.{DrawWords}
+use Rattle.tp_cli_resume.specs.Bare.{ResumesBare, ResumesPart, SaysWrongOld}
+use Rattle.tp_cli_resume.specs.Run.{GoesOfPlan, ResumesRun}
 use Rattle.tp_cli.specs.CallFiles.{CallFiles, journal_file}
 use Rattle.tp_cli.specs.Checks.{SaysPart, SaysValid}
 use Rattle.tp_cli.specs.Done.{AnswersNo, DoesPart, DoesWhatIsAsked, IsAnsweredNo, IsDone, IsPartDone}
@@ -39,7 +44,7 @@ use Rattle.tp_cli.specs.Endings.{EndsCall}
 use Rattle.tp_cli.specs.Streams.{Ends, HandsOn, IsStopped, Runs, TellsSome}
 use Rattle.tp_cli_inputs.specs.declared.plan_words.PlanWords.{PlanWords}
 use Rattle.tp_cli_args.specs.declared.requests.Request.{Request}
-use Rattle.tp_cli_args.specs.declared.requests.Request.TheVariants.{Bare, BareLog, Check, Net, Run, RunLog, Plan, Audit, PlanAudit, Split, Help}
+use Rattle.tp_cli_args.specs.declared.requests.Request.TheVariants.{Bare, BareLog, BareResume, Check, Net, Run, RunLog, RunResume, Plan, Audit, PlanAudit, Split, Part, Draw, Help}
 
 -- what was appended there was appended here
 abbrev pub Shift : Option (List ℕ) → Option (List ℕ) → Option (List ℕ) → Option (List ℕ) → Type 0
@@ -179,7 +184,18 @@ runs_part_over files w input a b c d over (inr (inr h)) =
     inr (inr (h.0, h.1, h.2, h.3, writes_part_over h.0 h.1 w.horizon input a b c d over h.4))
 
 plan_over : (files : List ℕ → Option (List ℕ)) (w : SearchWords) (a b c d : Option (List ℕ)) → Shift a b c d → WritesPlan files w a b → WritesPlan files w c d
-plan_over files w a b c d over h = record { task = h.task; text = h.text; named = h.named; plan = h.plan; of_all = h.of_all; written = over _ h.written }
+plan_over files w a b c d over h =
+    record {
+      task = h.task;
+      text = h.text;
+      domain = h.domain;
+      problem = h.problem;
+      are_named = h.are_named;
+      task_of = h.task_of;
+      plan = h.plan;
+      of_all = h.of_all;
+      written = over _ h.written;
+    }
 
 no_plan_over : (files : List ℕ → Option (List ℕ)) (w : SearchWords) (a b c d : Option (List ℕ)) → Shift a b c d → SaysNoPlan files w a b → SaysNoPlan files w c d
 no_plan_over files w a b c d over h = record { task = h.task; line = h.line; named = h.named; why = h.why; of_all = h.of_all; written = over _ h.written }
@@ -187,7 +203,15 @@ no_plan_over files w a b c d over h = record { task = h.task; line = h.line; nam
 searches_part_over : (files : List ℕ → Option (List ℕ)) (w : SearchWords) (a b c d : Option (List ℕ)) → Shift a b c d → SearchesPart files w a b → SearchesPart files w c d
 searches_part_over files w a b c d over (inl none) = inl (over _ none)
 searches_part_over files w a b c d over (inr h) =
-    inr (record { task = h.task; text = h.text; named = h.named; is = h.is; part = part_over a b c d _ over h.part })
+    inr (record {
+      task = h.task;
+      text = h.text;
+      domain = h.domain;
+      problem = h.problem;
+      are_named = h.are_named;
+      is = h.is;
+      part = part_over a b c d _ over h.part;
+    })
 
 journal_over : (input a b c d : Option (List ℕ)) → Shift a b c d → SaysJournal input a b → SaysJournal input c d
 journal_over input a b c d over h = (h.0, h.1, over _ h.2)
@@ -247,11 +271,28 @@ unlogged_over old new lines entries a b c d log logged over h =
       logs = h.logs;
     }
 
+unwritten_over : (old new : Machine) (lines : List (List ℕ)) (text : List ℕ) (a b c d : Option (List ℕ)) → Shift a b c d → EndsUnwritten old new lines text a b → EndsUnwritten old new lines text c d
+unwritten_over old new lines text a b c d over h =
+    record {
+      lines_before = h.lines_before;
+      line = h.line;
+      said = h.said;
+      answer = h.answer;
+      mid = h.mid;
+      count = h.count;
+      lines_are = h.lines_are;
+      text_is = h.text_is;
+      ran_before = h.ran_before;
+      ran_last = h.ran_last;
+      within = h.within;
+      written = over _ h.written;
+    }
+
 ends_journal_over : (old new : Machine) (after : Reading) (lines : List (List ℕ)) (entries : List Entry) (text part : List ℕ) (a b c d log logged : Option (List ℕ)) (result : Result Served JournalFault) → Shift a b c d → EndsJournal old new after lines entries text part a b log logged result → EndsJournal old new after lines entries text part c d log logged result
 ends_journal_over old new after lines entries text part a b c d log logged (Ok served) over h = (h.0, h.1, over _ h.2, h.3, h.4)
 ends_journal_over old new after lines entries text part a b c d log logged (Err Read) over h = (over _ h.0, h.1)
 ends_journal_over old new after lines entries text part a b c d log logged (Err TooLong) over h = (over _ h.0, h.1, h.2, h.3)
-ends_journal_over old new after lines entries text part a b c d log logged (Err Write) over h = (h.0, part_over a b c d _ over h.1, h.2)
+ends_journal_over old new after lines entries text part a b c d log logged (Err Write) over h = (h.0, unwritten_over old new lines text a b c d over h.1, h.2)
 ends_journal_over old new after lines entries text part a b c d log logged (Err Log) over h = (h.0, unlogged_over old new lines entries a b c d log logged over h.1)
 
 journals_over : (old new : Machine) (before after : Reading) (a b c d log logged : Option (List ℕ)) (result : Result Served JournalFault) → Shift a b c d → Journals old new before after a b log logged result → Journals old new before after c d log logged result
@@ -401,45 +442,86 @@ plan_audit_part_over held w input a b c d over (inr h) =
     (λ head. SaysInvalidPart held w c d ⊎ RunsNamed held w (WritesFound w head input c d))
     (λ head is. part_under held w head input a b c d over is) h)
 
-intervals_over : (task : Task) (steps : List Step) (horizon : ℕ) (owners-held a b c d : Option (List ℕ)) → Shift a b c d → WritesIntervals task steps horizon owners-held a b → WritesIntervals task steps horizon owners-held c d
-intervals_over task steps horizon owners-held a b c d over h = (h.0, h.1, over _ h.2)
+intervals_over : (agent : Option ℕ) (task : Task) (steps : List Step) (horizon : ℕ) (owners-held a b c d : Option (List ℕ)) → Shift a b c d → WritesIntervals agent task steps horizon owners-held a b → WritesIntervals agent task steps horizon owners-held c d
+intervals_over agent task steps horizon owners-held a b c d over h = (h.0, h.1, over _ h.2)
 
-some_intervals_over : (task : Task) (steps : List Step) (horizon : ℕ) (owners-held a b c d : Option (List ℕ)) → Shift a b c d → WritesSome task steps horizon owners-held a b → WritesSome task steps horizon owners-held c d
-some_intervals_over task steps horizon owners-held a b c d over h = (h.0, h.1, part_over a b c d _ over h.2)
+some_intervals_over : (agent : Option ℕ) (task : Task) (steps : List Step) (horizon : ℕ) (owners-held a b c d : Option (List ℕ)) → Shift a b c d → WritesSome agent task steps horizon owners-held a b → WritesSome agent task steps horizon owners-held c d
+some_intervals_over agent task steps horizon owners-held a b c d over h = (h.0, h.1, part_over a b c d _ over h.2)
 
-split_over : (held : List ℕ → Option (List ℕ)) (w : PlanWords) (owners : List ℕ) (a b c d : Option (List ℕ)) → Shift a b c d → WritesSplit held w owners a b → WritesSplit held w owners c d
-split_over held w owners a b c d over h = (h.0, h.1, h.2, h.3, intervals_over h.0 h.1 w.horizon (held owners) a b c d over h.4)
+split_over : (agent : Option ℕ) (held : List ℕ → Option (List ℕ)) (w : PlanWords) (owners : List ℕ) (a b c d : Option (List ℕ)) → Shift a b c d → WritesSplit agent held w owners a b → WritesSplit agent held w owners c d
+split_over agent held w owners a b c d over h = (h.0, h.1, h.2, h.3, intervals_over agent h.0 h.1 w.horizon (held owners) a b c d over h.4)
 
-split_part_over : (held : List ℕ → Option (List ℕ)) (w : PlanWords) (owners : List ℕ) (a b c d : Option (List ℕ)) → Shift a b c d → SplitsPart held w owners a b → SplitsPart held w owners c d
-split_part_over held w owners a b c d over (inl none) = inl (over _ none)
-split_part_over held w owners a b c d over (inr (inl h)) = inr (inl (invalid_part_over held w a b c d over h))
-split_part_over held w owners a b c d over (inr (inr h)) =
-    inr (inr (h.0, h.1, h.2, h.3, some_intervals_over h.0 h.1 w.horizon (held owners) a b c d over h.4))
+split_part_over : (agent : Option ℕ) (held : List ℕ → Option (List ℕ)) (w : PlanWords) (owners : List ℕ) (a b c d : Option (List ℕ)) → Shift a b c d → SplitsPart agent held w owners a b → SplitsPart agent held w owners c d
+split_part_over agent held w owners a b c d over (inl none) = inl (over _ none)
+split_part_over agent held w owners a b c d over (inr (inl h)) = inr (inl (invalid_part_over held w a b c d over h))
+split_part_over agent held w owners a b c d over (inr (inr h)) =
+    inr (inr (h.0, h.1, h.2, h.3, some_intervals_over agent h.0 h.1 w.horizon (held owners) a b c d over h.4))
+
+resumes_over : (old input a b c d : Option (List ℕ)) (file : LogFile) → Shift a b c d → ResumesBare old input a b file → ResumesBare old input c d file
+resumes_over old input a b c d file over h = (h.0, h.1, h.2, h.3, h.4, h.5, h.6, over _ h.7)
+
+wrong_old_over : (old a b c d : Option (List ℕ)) (file : LogFile) → Shift a b c d → SaysWrongOld old a b file → SaysWrongOld old c d file
+wrong_old_over old a b c d file over h = (h.0, h.1, over _ h.2, h.3)
+
+resumes_part_over : (old input a b c d : Option (List ℕ)) → Shift a b c d → ResumesPart old input a b → ResumesPart old input c d
+resumes_part_over old input a b c d over (inl none) = inl (over _ none)
+resumes_part_over old input a b c d over (inr (inl h)) = inr (inl (h.0, h.1, part_over a b c d _ over h.2))
+resumes_part_over old input a b c d over (inr (inr h)) =
+    inr (inr (h.0, h.1, h.2, h.3, h.4, h.5, h.6, h.7, h.8, part_over a b c d _ over h.9))
+
+-- the first fault of a plan, or why a run does not go on
+goes_over : (held : List ℕ → Option (List ℕ)) (w : PlanWords) (kept : List ℕ) (input a b c d : Option (List ℕ)) (file : LogFile) (done : Bool) → Shift a b c d → GoesOfPlan held w kept input a b file done → GoesOfPlan held w kept input c d file done
+goes_over held w kept input a b c d file true over h =
+    named_over held w _ _ (λ task steps g. record { net = g.net; is_net = g.is_net; head = g.head; last = g.last; answers = g.answers; continues = g.continues; run = g.run; is = g.is; written = over _ g.written }) h
+goes_over held w kept input a b c d file false over (inl h) = inl (invalid_over held w a b c d over h.0, h.1)
+goes_over held w kept input a b c d file false over (inr h) =
+    inr (named_over held w _ _ (λ task steps g. elim g [
+      | inl n ↦ inl (record { net = n.net; is_net = n.is_net; head = n.head; last = n.last; answers = n.answers; continues = n.continues; none = n.none; written = over _ n.written })
+      | inr x ↦ inr (record { net = x.net; is_net = x.is_net; head = x.head; n = x.n; wrong = x.wrong; written = over _ x.written; made_none = x.made_none })
+    ]) h)
+
+resumes_run_over : (held : List ℕ → Option (List ℕ)) (w : PlanWords) (old : List ℕ) (input a b c d : Option (List ℕ)) (file : LogFile) (done : Bool) → Shift a b c d → ResumesRun held w old input a b file done → ResumesRun held w old input c d file done
+resumes_run_over held w old input a b c d file done over h = (h.0, h.1, goes_over held w h.0 input a b c d file done over h.2)
+
+drawn_over : (held : List ℕ → Option (List ℕ)) (w : DrawWords) (a b c d : Option (List ℕ)) (drew : Bool) → Shift a b c d → WritesDrawn held w a b drew → WritesDrawn held w c d drew
+drawn_over held w a b c d drew over h = (h.0, h.1, h.2, over _ h.3)
+
+draws_part_over : (held : List ℕ → Option (List ℕ)) (w : DrawWords) (a b c d : Option (List ℕ)) → Shift a b c d → DrawsPart held w a b → DrawsPart held w c d
+draws_part_over held w a b c d over (inl none) = inl (over _ none)
+draws_part_over held w a b c d over (inr h) = inr (h.0, h.1, part_over a b c d _ over h.2)
 
 done_over : (request : Request) (files : CallFiles) (input a b c d : Option (List ℕ)) → Shift a b c d → IsDone request files input a b → IsDone request files input c d
 done_over Bare files input a b c d over h = all_over input a b c d over h
 done_over (BareLog log) files input a b c d over h = (logs_over input a b c d files.blank files.kept over h.0, h.1, h.2)
+done_over (BareResume old log) files input a b c d over h = resumes_over (files.held old.now) input a b c d (journal_file log.now files) over h
 done_over (Check w) files input a b c d over h = valid_over files.held w a b c d over h
 done_over (Net w) files input a b c d over h = network_over files.held w a b c d over h
 done_over (Run w) files input a b c d over h = run_over files.held w input a b c d over h
 done_over (RunLog w log) files input a b c d over h = run_log_over files w log.now input a b c d over h
+done_over (RunResume w old log) files input a b c d over h = resumes_run_over files.held w old.now input a b c d (journal_file log.now files) true over h
 done_over (Plan w) files input a b c d over h = plan_over files.held w a b c d over h
 done_over (Audit log) files input a b c d over h = journal_over (files.held log.now) a b c d over h
 done_over (PlanAudit log w) files input a b c d over h = plan_journal_over files.held w (files.held log.now) a b c d over h
-done_over (Split w owners) files input a b c d over h = split_over files.held w owners.now a b c d over h
+done_over (Split w owners) files input a b c d over h = split_over None files.held w owners.now a b c d over h
+done_over (Part w owners agent) files input a b c d over h = split_over (Some agent) files.held w owners.now a b c d over h
+done_over (Draw w) files input a b c d over h = drawn_over files.held w a b c d true over h
 done_over (Help text) files input a b c d over h = over _ h
 
 part_done_over : (request : Request) (files : CallFiles) (input a b c d : Option (List ℕ)) → Shift a b c d → IsPartDone request files input a b → IsPartDone request files input c d
 part_done_over Bare files input a b c d over h = answers_part_over input a b c d over h
 part_done_over (BareLog log) files input a b c d over h = logs_some_over files input a b c d over h
+part_done_over (BareResume old log) files input a b c d over h = resumes_part_over (files.held old.now) input a b c d over h
 part_done_over (Check w) files input a b c d over h = says_part_over files.held w a b c d over h
 part_done_over (Net w) files input a b c d over h = shows_part_over files.held w a b c d over h
 part_done_over (Run w) files input a b c d over h = runs_part_over files.held w input a b c d over h
 part_done_over (RunLog w log) files input a b c d over h = runs_part_over files.held w input a b c d over h
+part_done_over (RunResume w old log) files input a b c d over h = (h.0, part_over a b c d _ over h.1)
 part_done_over (Plan w) files input a b c d over h = searches_part_over files.held w a b c d over h
 part_done_over (Audit log) files input a b c d over h = audit_part_over (files.held log.now) a b c d over h
 part_done_over (PlanAudit log w) files input a b c d over h = plan_audit_part_over files.held w (files.held log.now) a b c d over h
-part_done_over (Split w owners) files input a b c d over h = split_part_over files.held w owners.now a b c d over h
+part_done_over (Split w owners) files input a b c d over h = split_part_over None files.held w owners.now a b c d over h
+part_done_over (Part w owners agent) files input a b c d over h = split_part_over (Some agent) files.held w owners.now a b c d over h
+part_done_over (Draw w) files input a b c d over h = draws_part_over files.held w a b c d over h
 part_done_over (Help text) files input a b c d over h = part_over a b c d _ over h
 
 pub does_over : (words : List (List ℕ)) (files : CallFiles) (input a b c d : Option (List ℕ)) → Shift a b c d → DoesWhatIsAsked words files input a b → DoesWhatIsAsked words files input c d
@@ -449,14 +531,18 @@ does_over words files input a b c d over h =
 said_over : (request : Request) (files : CallFiles) (input a b c d : Option (List ℕ)) → Shift a b c d → IsAnsweredNo request files input a b → IsAnsweredNo request files input c d
 said_over Bare files input a b c d over h = absurd h
 said_over (BareLog log) files input a b c d over h = absurd h
+said_over (BareResume old log) files input a b c d over h = wrong_old_over (files.held old.now) a b c d (journal_file log.now files) over h
 said_over (Check w) files input a b c d over h = invalid_over files.held w a b c d over h
 said_over (Net w) files input a b c d over h = invalid_over files.held w a b c d over h
 said_over (Run w) files input a b c d over h = runs_none_over files.held w input a b c d over h
 said_over (RunLog w log) files input a b c d over h = run_log_none_over files w log.now input a b c d over h
+said_over (RunResume w old log) files input a b c d over h = resumes_run_over files.held w old.now input a b c d (journal_file log.now files) false over h
 said_over (Plan w) files input a b c d over h = no_plan_over files.held w a b c d over h
 said_over (Audit log) files input a b c d over h = wrong_over (files.held log.now) a b c d over h
 said_over (PlanAudit log w) files input a b c d over h = plan_no_over files.held w (files.held log.now) a b c d over h
 said_over (Split w owners) files input a b c d over h = invalid_over files.held w a b c d over h
+said_over (Part w owners agent) files input a b c d over h = invalid_over files.held w a b c d over h
+said_over (Draw w) files input a b c d over h = drawn_over files.held w a b c d false over h
 said_over (Help text) files input a b c d over h = absurd h
 
 pub no_over : (words : List (List ℕ)) (files : CallFiles) (input a b c d : Option (List ℕ)) → Shift a b c d → AnswersNo words files input a b → AnswersNo words files input c d

@@ -1,5 +1,5 @@
 -- How a call ends with another status than 0 and 1: what stopped it was told, and it is as it is told.
-use Rattle.std.specs.Prelude.{◌≡◌, ℕ, List, ◌++◌, Option, ◌⊎◌, codes}
+use Rattle.std.specs.Prelude.{◌≡◌, ℕ, List, ◌++◌, Option, Some, None, ◌⊎◌, codes}
 use Rattle.std.specs.String.{string_bytes}
 use Rattle.tp_device.specs.Bytes.{AppendsPart}
 use Rattle.tp_cli_files.specs.FaultLines.{Tells, fault_line}
@@ -11,13 +11,16 @@ use Rattle.tp_cli_run.specs.Runs.{EndsRun}
 use Rattle.tp_cli_plan.specs.SearchStops.{EndsSearch}
 use Rattle.tp_cli_split.specs.Splits.{EndsSplit}
 use Rattle.tp_cli_run.specs.RunJournals.{EndsRunLog}
+use Rattle.tp_cli_draw.specs.Draws.{EndsDraw}
+use Rattle.tp_cli_resume.specs.Bare.{EndsResumed}
+use Rattle.tp_cli_resume.specs.Run.{EndsRunResumed}
 use Rattle.tp_cli.specs.CallFiles.{CallFiles, journal_file}
 use Rattle.tp_cli_run.specs.LogFile.{AskedOnce}
 use Rattle.tp_cli.specs.Checks.{EndsCheck}
 use Rattle.tp_cli.specs.Networks.{EndsNet}
 use Rattle.tp_cli_args.specs.Requests.{AsksFor}
 use Rattle.tp_cli_args.specs.declared.requests.Request.{Request}
-use Rattle.tp_cli_args.specs.declared.requests.Request.TheVariants.{Bare, BareLog, Check, Net, Run, RunLog, Plan, Audit, PlanAudit, Split, Help}
+use Rattle.tp_cli_args.specs.declared.requests.Request.TheVariants.{Bare, BareLog, BareResume, Check, Net, Run, RunLog, RunResume, Plan, Audit, PlanAudit, Split, Part, Draw, Help}
 
 -- there was no memory for the words
 pub record LacksMemory (status : ℕ) (held held-now : Option (List ℕ)) (output output-now : ℕ)
@@ -56,6 +59,10 @@ EndsRequest (BareLog log) files input status held held-now output output-now fai
     failures-now now
     = EndsJournaled status input held held-now files.blank files.kept log.now files.named output
     output-now failures before failures-now now × AskedOnce (journal_file log.now files)
+EndsRequest (BareResume old log) files input status held held-now output output-now failures before
+    failures-now now
+    = EndsResumed (files.held old.now) old.now status input held held-now
+    (journal_file log.now files) output output-now failures before failures-now now
 EndsRequest
     (Check w) files input status held held-now output output-now failures before failures-now now
     = EndsCheck files.held w status held held-now output output-now failures before failures-now now
@@ -69,6 +76,10 @@ EndsRequest (RunLog w log) files input status held held-now output output-now fa
     failures-now now
     = EndsRunLog files.held w status input held held-now (journal_file log.now files) output
     output-now failures before failures-now now
+EndsRequest (RunResume w old log) files input status held held-now output output-now failures before
+    failures-now now
+    = EndsRunResumed w old.now status held held-now (journal_file log.now files) output output-now
+    failures before failures-now now
 EndsRequest
     (Plan w) files input status held held-now output output-now failures before failures-now now =
     EndsSearch files.held w status held held-now output output-now failures before failures-now now
@@ -81,8 +92,15 @@ EndsRequest (PlanAudit log w) files input status held held-now output output-now
     failures before failures-now now
 EndsRequest (Split w owners) files input status held held-now output output-now failures before
     failures-now now
-    = EndsSplit files.held w owners.now status held held-now output output-now failures before
+    = EndsSplit None files.held w owners.now status held held-now output output-now failures before
     failures-now now
+EndsRequest (Part w owners agent) files input status held held-now output output-now failures before
+    failures-now now
+    = EndsSplit (Some agent) files.held w owners.now status held held-now output output-now failures
+    before failures-now now
+EndsRequest
+    (Draw w) files input status held held-now output output-now failures before failures-now now =
+    EndsDraw files.held w status held held-now output output-now failures before failures-now now
 EndsRequest
     (Help text) files input status held held-now output output-now failures before failures-now now
     = StopsHelp (string_bytes text) status held held-now failures before failures-now now

@@ -20,8 +20,10 @@ use std::io::Write;
 use tp_cli_args::{NoRequest, Request, read_words};
 use tp_cli_audit::{run_bare_audit, run_plan_audit};
 use tp_cli_bare::{run_bare, run_bare_journal};
+use tp_cli_draw::run_draw;
 use tp_cli_files::{FaultLine, Files, Logs, OUT_OF_ORDER, REFUSED, complain, complain_more};
 use tp_cli_plan::run_plan;
+use tp_cli_resume::{run_bare_resume, run_run_resume};
 use tp_cli_run::{run_run, run_run_journal};
 use tp_cli_split::run_split;
 use tp_device::{Sink, Source, push_all};
@@ -111,8 +113,18 @@ pub fn run_words<N: Files, L: Logs, B: Write, I: Source + Drop, O: Sink, F: Sink
             alloc, shelf, log, plan, output, faults,
         ),
         Ok(Request::Split(plan, owners)) => {
-            run_split(alloc, shelf, plan, owners, output, faults)
+            run_split(alloc, shelf, plan, owners, None, output, faults)
         }
+        Ok(Request::Part(plan, owners, agent)) => {
+            run_split(alloc, shelf, plan, owners, Some(agent), output, faults)
+        }
+        Ok(Request::BareResume(old, log)) => run_bare_resume(
+            alloc, shelf, logs, old, log, input, output, faults,
+        ),
+        Ok(Request::RunResume(plan, old, log)) => run_run_resume(
+            alloc, shelf, logs, plan, old, log, input, output, faults,
+        ),
+        Ok(Request::Draw(words)) => run_draw(alloc, shelf, words, output, faults),
         Ok(Request::Help(text)) => show(text.as_str(), output, faults),
         Err(NoRequest::Words(text)) => refuse_words(text, faults),
         Err(NoRequest::Memory) => complain(

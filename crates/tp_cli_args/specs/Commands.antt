@@ -32,6 +32,15 @@ horizon_rule = record (new_rule (codes "horizon")) {
   parser = Some (vp.Signed (pos 0) (pos 1000000000));
 }
 
+-- `--horizon`, from 0 to 1000000000, by default none
+abbrev pub until_rule : Rule
+until_rule = record (new_rule (codes "horizon")) {
+  long = Some (codes "horizon");
+  action = Some Set;
+  value_names = 1;
+  parser = Some (vp.Signed (pos 0) (pos 1000000000));
+}
+
 -- `--budget`, from 0 to 1000000, by default 100000
 abbrev pub budget_rule : Rule
 budget_rule = record (new_rule (codes "budget")) {
@@ -64,9 +73,38 @@ journal_rule = record (new_rule (codes "journal")) {
   value_names = 1;
 }
 
+-- `--resume`, a file, by default none
+abbrev pub resume_rule : Rule
+resume_rule = record (new_rule (codes "resume")) {
+  long = Some (codes "resume");
+  action = Some Set;
+  value_names = 1;
+}
+
+-- `--part`, from 0 to 1023, by default none
+abbrev pub part_rule : Rule
+part_rule = record (new_rule (codes "part")) {
+  long = Some (codes "part");
+  action = Some Set;
+  value_names = 1;
+  parser = Some (vp.Signed (pos 0) (pos 1023));
+}
+
+-- the options of commands that keep journals
+abbrev pub journal_app : App → App
+journal_app start = with_rule (with_rule start journal_rule) resume_rule
+
+-- `--explain`
+abbrev pub explain_rule : Rule
+explain_rule = flag_rule (codes "explain")
+
 -- commands on a network of bounds alone
 abbrev pub bare_app : App
-bare_app = with_rule (new_app (codes "bare")) journal_rule
+bare_app = with_rule (journal_app (new_app (codes "bare"))) explain_rule
+
+-- how time is measured, and whether it explains
+abbrev pub timed_app : App → App
+timed_app files = with_rule (with_rule (with_rule files scale_rule) horizon_rule) explain_rule
 
 -- the files of a plan, and how its time is measured
 abbrev pub plan_app : App → App
@@ -74,7 +112,7 @@ plan_app named =
     let files = with_rule
     (with_rule (with_rule named (file_rule (codes "DOMAIN"))) (file_rule (codes "PROBLEM")))
     (file_rule (codes "PLAN")) in
-    with_rule (with_rule files scale_rule) horizon_rule
+    timed_app files
 
 abbrev pub check_app : App
 check_app = plan_app (new_app (codes "check"))
@@ -82,23 +120,23 @@ check_app = plan_app (new_app (codes "check"))
 abbrev pub net_app : App
 net_app = plan_app (new_app (codes "net"))
 
--- with a file for a journal
+-- with files for journals
 abbrev pub run_app : App
-run_app = with_rule (plan_app (new_app (codes "run"))) journal_rule
+run_app = journal_app (plan_app (new_app (codes "run")))
 
--- the files of a problem, how time is measured, and the budget of a search
+-- the files of a problem, how time is measured, the budget of a search, and whether it tells how far it is
 abbrev pub search_app : App
 search_app =
     let files = with_rule (with_rule (new_app (codes "plan")) (file_rule (codes "DOMAIN")))
     (file_rule (codes "PROBLEM")) in
-    with_rule (with_rule (with_rule files scale_rule) horizon_rule) budget_rule
+    with_rule (with_rule (timed_app files) budget_rule) (flag_rule (codes "progress"))
 
 -- the files of a problem, and how time is measured
 abbrev pub solve_files : App
 solve_files =
     let files = with_rule (with_rule (new_app (codes "solve")) (file_rule (codes "DOMAIN")))
     (file_rule (codes "PROBLEM")) in
-    with_rule (with_rule files scale_rule) horizon_rule
+    timed_app files
 
 -- with the budget of a guided search, and whether it goes on and tells what it finds
 abbrev pub solve_app : App
@@ -116,11 +154,26 @@ with_others log =
 abbrev pub audit_app : App
 audit_app =
     let log = with_rule (new_app (codes "audit")) (file_rule (codes "LOG")) in
-    with_rule (with_rule (with_others log) scale_rule) horizon_rule
+    timed_app (with_others log)
 
--- the files of a plan, and that of the agents of its events
+-- the files of a plan, that of the agents of its events, and perhaps one of these
 abbrev pub split_app : App
-split_app = with_rule (plan_app (new_app (codes "split"))) (file_rule (codes "OWNERS"))
+split_app =
+    with_rule (with_rule (plan_app (new_app (codes "split"))) (file_rule (codes "OWNERS"))) part_rule
+
+-- how time is measured, up to which tick, the file of a journal, and whether it explains
+abbrev pub drawing_app : App → App
+drawing_app files =
+    with_rule (with_rule (with_rule (with_rule files scale_rule) until_rule) journal_rule)
+    explain_rule
+
+-- the files of a plan, and perhaps that of a journal
+abbrev pub draw_app : App
+draw_app =
+    let files = with_rule
+    (with_rule (with_rule (new_app (codes "draw")) (file_rule (codes "DOMAIN")))
+    (file_rule (codes "PROBLEM"))) (file_rule (codes "PLAN")) in
+    drawing_app files
 
 -- the program's words begin after its name, and it tells its version
 abbrev pub start_app : App
@@ -128,9 +181,13 @@ start_app =
     let named = new_app (codes "tempo") in
     record named { top = record named.top { no_binary_name = true; has_version = true } }
 
+-- and explains where it is asked to
+abbrev pub options_app : App
+options_app = with_rule start_app explain_rule
+
 -- with the commands that judge a plan
 abbrev pub judging_app : App
-judging_app = with_subcommand (with_subcommand start_app bare_app.top) check_app.top
+judging_app = with_subcommand (with_subcommand options_app bare_app.top) check_app.top
 
 -- and the network of one
 abbrev pub network_app : App
@@ -148,5 +205,10 @@ solving_app = with_subcommand planning_app solve_app.top
 abbrev pub auditing_app : App
 auditing_app = with_subcommand solving_app audit_app.top
 
+-- and with the one that splits networks among agents
+abbrev pub splitting_app : App
+splitting_app = with_subcommand auditing_app split_app.top
+
+-- and with the one that draws plans
 abbrev pub tempo_app : App
-tempo_app = with_subcommand auditing_app split_app.top
+tempo_app = with_subcommand splitting_app draw_app.top

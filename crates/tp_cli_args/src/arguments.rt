@@ -6,16 +6,18 @@ ghost use Rattle.clap.specs.Words.{Text, Row, first_of, found_of, kind_of, one_o
 ghost use Rattle.clap.specs.declared.error.kind.ErrorKind.TheVariants as kinds;
 ghost use Rattle.tp_text.specs.Scales.{scale_ticks};
 ghost use Rattle.tp_cli_inputs.specs.declared.plan_words.PlanWords.{PlanWords};
+ghost use Rattle.tp_cli_inputs.specs.declared.draw_words.DrawWords.{DrawWords};
 ghost use Rattle.tp_cli_plan.specs.declared.search_words.SearchWords.{SearchWords};
 ghost use Rattle.tp_solve.specs.declared.solving.Wishes.{Wishes};
-ghost use Rattle.tp_cli_args.specs.Requests.{AskForOneThing, AsksBy, AsksFor, IsFlag, IsPlanWords, IsSearchWords, NamesBare, Spells, TellsText};
+ghost use Rattle.tp_cli_args.specs.Requests.{AskForOneThing, AsksBy, AsksFor, IsDrawWords, IsFlag, IsPlanWords, IsSearchWords, IsUntil, NamesBare, Spells, TellsText};
 
 use crate::commands::tempo_command;
 use crate::requests::Request;
 use clap::error::ErrorKind;
 use clap::{ArgMatches, Error};
 use std::alloc::{AllocError, Global};
-use tp_cli_inputs::PlanWords;
+use tp_cli_files::STANDARD_INPUT;
+use tp_cli_inputs::{DrawWords, PlanWords};
 use tp_cli_plan::{Order, SearchWords, Wishes};
 use tp_text::Scale;
 
@@ -47,6 +49,34 @@ const GREATEST_BUDGET: u32 = 1_000_000;
 /// The greatest budget of a guided search.
 const GREATEST_GUIDED_BUDGET: u32 = 1_000_000_000;
 
+/// Whether just so many of these files, or fewer, are the standard input.
+fn reads_at_most(most: usize, files: &[&str]) -> bool {
+    let mut left = most;
+    for name in files {
+        if *name == STANDARD_INPUT {
+            if left == 0 {
+                return false;
+            }
+            left -= 1;
+        }
+    }
+    true
+}
+
+/// Whether a journal can go to the file of that name: neither is it the standard input, nor one of
+/// the other files.
+fn is_apart(log: &str, files: &[&str]) -> bool {
+    if log == STANDARD_INPUT {
+        return false;
+    }
+    for name in files {
+        if *name == log {
+            return false;
+        }
+    }
+    true
+}
+
 /// The value of a word.
 fn word<'w>(matches: &ArgMatches<'w>, id: &str) -> Option<&'w str>
     ensures { option_map (λ s. s.now) result ≡ first_of id.now (rows_of (found_of matches.now)) }
@@ -69,8 +99,9 @@ fn scale(matches: &ArgMatches<'_>) -> Option<Scale>
     Scale::from_number(number(matches, "scale")?)
 }
 
-/// The files of a plan and how its time is measured.
-fn plan_words<'w>(matches: &ArgMatches<'w>) -> Option<PlanWords<'w>>
+/// The files of a plan and how its time is measured. At most so many of the files may be the
+/// standard input.
+fn plan_words<'w>(matches: &ArgMatches<'w>, most: usize) -> Option<PlanWords<'w>>
     ensures { IfSome result (IsPlanWords (rows_of (found_of matches.now))) }
 {
     let domain = word(matches, "DOMAIN")?;
@@ -78,7 +109,7 @@ fn plan_words<'w>(matches: &ArgMatches<'w>) -> Option<PlanWords<'w>>
     let plan = word(matches, "PLAN")?;
     let scale = scale(matches)?;
     let horizon = number(matches, "horizon")?;
-    if horizon > GREATEST_HORIZON {
+    if horizon > GREATEST_HORIZON || !reads_at_most(most, &[domain, problem, plan]) {
         return None;
     }
     Some(PlanWords {
@@ -108,6 +139,9 @@ fn search_words<'w>(
     if horizon > GREATEST_HORIZON || budget > greatest {
         return None;
     }
+    if !reads_at_most(1, &[domain, problem]) {
+        return None;
+    }
     Some(SearchWords {
         domain,
         problem,
@@ -129,7 +163,8 @@ fn flag(matches: &ArgMatches<'_>, id: &str) -> bool
 fn plan_asked<'w>(matches: &ArgMatches<'w>) -> Option<Request<'w>>
     ensures { IfSome result (AsksBy (Some (codes "plan", rows_of (found_of matches.now)))) }
 {
-    let words = search_words(matches, GREATEST_BUDGET, Order::Lacking)?;
+    let progress = flag(matches, "progress");
+    let words = search_words(matches, GREATEST_BUDGET, Order::Lacking { progress })?;
     Some(Request::Plan(words))
 }
 
@@ -145,26 +180,87 @@ fn solve_asked<'w>(matches: &ArgMatches<'w>) -> Option<Request<'w>>
     Some(Request::Plan(words))
 }
 
-/// What `bare` asks for: a journal too, where a file is named for it.
-fn bare_asked<'w>(matches: &ArgMatches<'w>) -> Request<'w>
-    ensures asked { AsksBy (Some (codes "bare", rows_of (found_of matches.now))) result }
+/// The request of `bare` without `--resume`: with a journal, where a file is named for it.
+fn bare_begun<'w>(matches: &ArgMatches<'w>) -> Option<Request<'w>>
+    requires { first_of (codes "resume") (rows_of (found_of matches.now)) ≡ None }
+    ensures asked { IfSome result (AsksBy (Some (codes "bare", rows_of (found_of matches.now)))) }
     ensures bare { first_of (codes "journal") (rows_of (found_of matches.now)) ≡ None
-        → result ≡ Request.Bare }
+        → result ≡ Some Request.Bare }
 {
     match word(matches, "journal") {
-        None => Request::Bare,
-        Some(log) => Request::BareLog(log),
+        None => Some(Request::Bare),
+        Some(log) if is_apart(log, &[]) => Some(Request::BareLog(log)),
+        Some(_) => None,
     }
 }
 
-/// What `run` asks for: a journal too, where a file is named for it.
+/// What `bare` asks for that goes on from the journal in a file: it goes to another.
+fn bare_resumed<'w>(matches: &ArgMatches<'w>, old: &'w str) -> Option<Request<'w>>
+    requires { first_of (codes "resume") (rows_of (found_of matches.now)) ≡ Some old.now }
+    ensures { IfSome result (AsksBy (Some (codes "bare", rows_of (found_of matches.now)))) }
+{
+    let log = word(matches, "journal")?;
+    if is_apart(log, &[old]) && reads_at_most(0, &[old]) {
+        Some(Request::BareResume(old, log))
+    } else {
+        None
+    }
+}
+
+/// What `bare` asks for.
+fn bare_asked<'w>(matches: &ArgMatches<'w>) -> Option<Request<'w>>
+    ensures asked { IfSome result (AsksBy (Some (codes "bare", rows_of (found_of matches.now)))) }
+    ensures bare { NamesBare (Some (codes "bare", rows_of (found_of matches.now)))
+        → result ≡ Some Request.Bare }
+{
+    match word(matches, "resume") {
+        None => bare_begun(matches),
+        Some(old) => bare_resumed(matches, old),
+    }
+}
+
+/// What `run` asks for that does not go on from a journal: a journal too, where a file is named for
+/// it.
+fn run_begun<'w>(matches: &ArgMatches<'w>, plan: PlanWords<'w>) -> Option<Request<'w>>
+    requires resume { first_of (codes "resume") (rows_of (found_of matches.now)) ≡ None }
+    requires plan { IsPlanWords (rows_of (found_of matches.now)) plan }
+    ensures { IfSome result (AsksBy (Some (codes "run", rows_of (found_of matches.now)))) }
+{
+    match word(matches, "journal") {
+        None => Some(Request::Run(plan)),
+        Some(log) if is_apart(log, &[plan.domain, plan.problem, plan.plan]) => {
+            Some(Request::RunLog(plan, log))
+        }
+        Some(_) => None,
+    }
+}
+
+/// What `run` asks for that goes on from the journal in a file: it goes to another.
+fn run_resumed<'w>(
+    matches: &ArgMatches<'w>,
+    plan: PlanWords<'w>,
+    old: &'w str,
+) -> Option<Request<'w>>
+    requires resume { first_of (codes "resume") (rows_of (found_of matches.now)) ≡ Some old.now }
+    requires plan { IsPlanWords (rows_of (found_of matches.now)) plan }
+    ensures { IfSome result (AsksBy (Some (codes "run", rows_of (found_of matches.now)))) }
+{
+    let log = word(matches, "journal")?;
+    if is_apart(log, &[old, plan.domain, plan.problem, plan.plan]) && reads_at_most(0, &[old]) {
+        Some(Request::RunResume(plan, old, log))
+    } else {
+        None
+    }
+}
+
+/// What `run` asks for.
 fn run_asked<'w>(matches: &ArgMatches<'w>) -> Option<Request<'w>>
     ensures { IfSome result (AsksBy (Some (codes "run", rows_of (found_of matches.now)))) }
 {
-    let plan = plan_words(matches)?;
-    match word(matches, "journal") {
-        None => Some(Request::Run(plan)),
-        Some(log) => Some(Request::RunLog(plan, log)),
+    let plan = plan_words(matches, 0)?;
+    match word(matches, "resume") {
+        None => run_begun(matches, plan),
+        Some(old) => run_resumed(matches, plan, old),
     }
 }
 
@@ -178,36 +274,99 @@ fn audit_asked<'w>(matches: &ArgMatches<'w>) -> Option<Request<'w>>
             let _scale = scale(matches)?;
             Some(Request::Audit(log))
         }
-        Some(_) => Some(Request::PlanAudit(log, plan_words(matches)?)),
+        Some(_) => {
+            let plan = plan_words(matches, 1)?;
+            if !reads_at_most(1, &[log, plan.domain, plan.problem, plan.plan]) {
+                return None;
+            }
+            Some(Request::PlanAudit(log, plan))
+        }
     }
 }
 
-/// What `split` asks for.
+/// What `split` asks for: the network of one agent, where it is named.
 fn split_asked<'w>(matches: &ArgMatches<'w>) -> Option<Request<'w>>
     ensures { IfSome result (AsksBy (Some (codes "split", rows_of (found_of matches.now)))) }
 {
-    let plan = plan_words(matches)?;
+    let plan = plan_words(matches, 1)?;
     let owners = word(matches, "OWNERS")?;
-    Some(Request::Split(plan, owners))
+    if !reads_at_most(1, &[plan.domain, plan.problem, plan.plan, owners]) {
+        return None;
+    }
+    match word(matches, "part") {
+        None => Some(Request::Split(plan, owners)),
+        Some(_) => Some(Request::Part(plan, owners, number(matches, "part")?)),
+    }
+}
+
+/// The files of a plan that is drawn, and how.
+fn draw_words<'w>(matches: &ArgMatches<'w>) -> Option<DrawWords<'w>>
+    ensures { IfSome result (IsDrawWords (rows_of (found_of matches.now))) }
+{
+    let domain = word(matches, "DOMAIN")?;
+    let problem = word(matches, "PROBLEM")?;
+    let plan = word(matches, "PLAN")?;
+    let scale = scale(matches)?;
+    let horizon = until(matches)?;
+    let journal = word(matches, "journal");
+    Some(DrawWords {
+        domain,
+        problem,
+        plan,
+        scale,
+        horizon,
+        journal,
+    })
+}
+
+/// The tick that `--horizon` gives, if it is there.
+fn until(matches: &ArgMatches<'_>) -> Option<Option<u32>>
+    ensures { IfSome result (IsUntil
+        (first_of (codes "horizon") (rows_of (found_of matches.now)))
+        (one_of (codes "horizon") (rows_of (found_of matches.now)))) }
+{
+    match word(matches, "horizon") {
+        None => Some(None),
+        Some(_) => {
+            let horizon = number(matches, "horizon")?;
+            if horizon > GREATEST_HORIZON {
+                return None;
+            }
+            Some(Some(horizon))
+        }
+    }
+}
+
+/// What `draw` asks for.
+fn draw_asked<'w>(matches: &ArgMatches<'w>) -> Option<Request<'w>>
+    ensures { IfSome result (AsksBy (Some (codes "draw", rows_of (found_of matches.now)))) }
+{
+    let words = draw_words(matches)?;
+    let log = words.journal.unwrap_or("");
+    if !reads_at_most(1, &[words.domain, words.problem, words.plan, log]) {
+        return None;
+    }
+    Some(Request::Draw(words))
 }
 
 /// What a command with its values asks for.
 fn asked_by<'w>(name: &str, matches: &ArgMatches<'w>) -> Result<Request<'w>, NoRequest>
     ensures asked { IfOk result (AsksBy (Some (name.now, rows_of (found_of matches.now)))) }
-    ensures bare { name.now ≡ codes "bare"
-        → first_of (codes "journal") (rows_of (found_of matches.now)) ≡ None
+    ensures bare { NamesBare (Some (name.now, rows_of (found_of matches.now)))
         → result ≡ Ok Request.Bare }
 {
     if name == "bare" {
-        return Ok(bare_asked(matches));
+        if let Some(request) = bare_asked(matches) {
+            return Ok(request);
+        }
     }
     if name == "check" {
-        if let Some(words) = plan_words(matches) {
+        if let Some(words) = plan_words(matches, 1) {
             return Ok(Request::Check(words));
         }
     }
     if name == "net" {
-        if let Some(words) = plan_words(matches) {
+        if let Some(words) = plan_words(matches, 1) {
             return Ok(Request::Net(words));
         }
     }
@@ -233,6 +392,11 @@ fn asked_by<'w>(name: &str, matches: &ArgMatches<'w>) -> Result<Request<'w>, NoR
     }
     if name == "split" {
         if let Some(request) = split_asked(matches) {
+            return Ok(request);
+        }
+    }
+    if name == "draw" {
+        if let Some(request) = draw_asked(matches) {
             return Ok(request);
         }
     }
@@ -297,6 +461,13 @@ pub fn bare_log_calls()
         → AsksFor (codes "bare" ∷ codes "--journal" ∷ codes "l" ∷ []) (Request.BareLog w.plan) }
 {}
 
+/// The files of two journals behind `bare`.
+pub fn bare_resume_calls()
+    ensures { (w : PlanWords) → w.plan.now ≡ codes "l" → w.domain.now ≡ codes "o"
+        → AsksFor (codes "bare" ∷ codes "--journal" ∷ codes "l" ∷ codes "--resume" ∷ codes "o" ∷ [])
+        (Request.BareResume w.domain w.plan) }
+{}
+
 /// Files and options of `check`, in the order in which they may stand, with a horizon of 1000000
 /// where none is given.
 pub fn check_calls()
@@ -334,12 +505,31 @@ pub fn run_log_calls()
         ∷ []) (Request.RunLog w v.domain) }
 {}
 
+/// The files of two journals behind the others of `run`.
+pub fn run_resume_calls()
+    ensures { (w : PlanWords) → (v : SearchWords) → w.domain.now ≡ codes "d"
+        → w.problem.now ≡ codes "p" → w.plan.now ≡ codes "l" → scale_ticks w.scale ≡ 1
+        → w.horizon ≡ 1000000 → v.domain.now ≡ codes "j" → v.problem.now ≡ codes "o"
+        → AsksFor (codes "run" ∷ codes "d" ∷ codes "p" ∷ codes "l" ∷ codes "--journal" ∷ codes "j"
+        ∷ codes "--resume" ∷ codes "o" ∷ []) (Request.RunResume w v.problem v.domain) }
+{}
+
 /// Files and options of `plan`, with a horizon of 1000000 where none is given.
 pub fn plan_calls()
     ensures { (w : SearchWords) → w.domain.now ≡ codes "d" → w.problem.now ≡ codes "p"
-        → scale_ticks w.scale ≡ 1 → w.horizon ≡ 1000000 → w.budget ≡ 7 → w.order ≡ Order.Lacking
+        → scale_ticks w.scale ≡ 1 → w.horizon ≡ 1000000 → w.budget ≡ 7
+        → w.order ≡ Order.Lacking false
+        → AsksFor (codes "plan" ∷ codes "d" ∷ codes "p" ∷ codes "--budget" ∷ codes "7" ∷ [])
+        (Request.Plan w) }
+{}
+
+/// The same where `plan` is to tell how far it is.
+pub fn plan_progress_calls()
+    ensures { (w : SearchWords) → w.domain.now ≡ codes "d" → w.problem.now ≡ codes "p"
+        → scale_ticks w.scale ≡ 1 → w.horizon ≡ 1000000 → w.budget ≡ 7
+        → w.order ≡ Order.Lacking true
         → AsksFor (codes "plan" ∷ codes "d" ∷ codes "p" ∷ codes "--budget" ∷ codes "7"
-        ∷ []) (Request.Plan w) }
+        ∷ codes "--progress" ∷ []) (Request.Plan w) }
 {}
 
 /// The same of `solve`, with a budget of 1000000 where none is given, and one of its two wishes.
@@ -376,8 +566,26 @@ pub fn split_calls()
         ∷ codes "l" ∷ codes "o" ∷ []) (Request.Split w v.domain) }
 {}
 
+/// The agent behind these files.
+pub fn part_calls()
+    ensures { (w : PlanWords) → (v : SearchWords) → w.domain.now ≡ codes "d"
+        → w.problem.now ≡ codes "p" → w.plan.now ≡ codes "l"
+        → scale_ticks w.scale ≡ 1 → w.horizon ≡ 1000000 → v.domain.now ≡ codes "o"
+        → AsksFor (codes "split" ∷ codes "d" ∷ codes "p" ∷ codes "l" ∷ codes "o" ∷ codes "--part"
+        ∷ codes "2" ∷ []) (Request.Part w v.domain 2) }
+{}
+
+/// The files of a plan behind `draw`, and its options.
+pub fn draw_calls()
+    ensures { (w : DrawWords) → (v : PlanWords) → w.domain.now ≡ codes "d"
+        → w.problem.now ≡ codes "p" → w.plan.now ≡ codes "l" → scale_ticks w.scale ≡ 1
+        → w.horizon ≡ Some 9 → w.journal ≡ Some v.plan → v.plan.now ≡ codes "j"
+        → AsksFor (codes "draw" ∷ codes "d" ∷ codes "p" ∷ codes "l" ∷ codes "--horizon"
+        ∷ codes "9" ∷ codes "--journal" ∷ codes "j" ∷ []) (Request.Draw w) }
+{}
+
 /// Words ask for one kind of thing at most: for one command, with one file for a journal or none,
-/// one of a domain or none, and one of agents or none, or for help.
+/// one to go on from or none, one of a domain or none, and one of agents or none, or for help.
 pub fn requests_are_distinct()
     ensures { (words : List (List ℕ)) → AskForOneThing words }
 {}

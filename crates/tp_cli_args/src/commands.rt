@@ -3,7 +3,7 @@
 ghost use Rattle.std.specs.Prelude.{◌≡◌, false, IfOk, codes};
 ghost use Rattle.clap.specs.Words.{app_of, new_app, rule_of, with_subcommand};
 ghost use Rattle.clap.specs.declared.builder.command.Command.TheViews.{out-Command as fields_of};
-ghost use Rattle.tp_cli_args.specs.Commands.{audit_app, auditing_app, bare_app, budget_rule, check_app, file_rule, flag_rule, horizon_rule, journal_rule, judging_app, net_app, network_app, other_rule, plan_app, planning_app, run_app, scale_rule, search_app, solve_app, solve_budget_rule, solve_files, solving_app, split_app, start_app, tempo_app, with_others};
+ghost use Rattle.tp_cli_args.specs.Commands.{audit_app, auditing_app, bare_app, budget_rule, check_app, draw_app, drawing_app, explain_rule, file_rule, flag_rule, horizon_rule, journal_app, journal_rule, judging_app, net_app, network_app, options_app, other_rule, part_rule, plan_app, planning_app, resume_rule, run_app, scale_rule, search_app, solve_app, solve_budget_rule, solve_files, solving_app, split_app, splitting_app, start_app, tempo_app, timed_app, until_rule, with_others};
 
 use clap::{Arg, ArgAction, Command, value_parser};
 use std::alloc::{AllocError, Global};
@@ -12,13 +12,15 @@ use std::alloc::{AllocError, Global};
 /// the kit's name: kits that differ in nothing that a proof depends on have one logic.
 const VERSION: &str = "0.3.0 (rattle logic dac8208d650f15bf)";
 
-const ABOUT: &str =
-    "Plans over time: judges them, and answers commands on networks of events and bounds";
+const ABOUT: &str = "Temporal planner, plan validator and plan executive for PDDL 2.1";
 
-const EXIT: &str = "Without words it does what `tempo bare` does.
+const EXIT: &str =
+    "Without arguments, `tempo` is `tempo bare`. A file `-` is standard input: at most one file of a
+call, and none of a command that reads commands there. With `--explain` faults, verdicts and
+refusals are explained on standard error.
 
-Exit status: 0 yes, 1 an answer of no, 2 refused input, 3 memory or a device.
-For 2 and 3 a line `fault PART NUMBER WORD ..` goes to standard error.
+Exit status: 0 yes, 1 no, 2 refused input, 3 memory or a device failed.
+With 2 and 3 a line `fault PART NUMBER WORD ..` is written to standard error.
 
 Examples:
   printf 'network 1 5\\nwindow 0\\n' | tempo bare
@@ -30,24 +32,26 @@ Examples:
   printf 'dispatch 0\\nadvance 3\\ndispatch 1\\n' | tempo run domain.pddl problem.pddl plan.txt
   printf 'dispatch 0\\n' | tempo run domain.pddl problem.pddl plan.txt --journal run.log
   tempo audit run.log domain.pddl problem.pddl plan.txt
-  tempo split domain.pddl problem.pddl plan.txt owners.txt";
+  tempo split domain.pddl problem.pddl plan.txt owners.txt
+  tempo draw domain.pddl problem.pddl plan.txt > plan.svg
+  tempo solve domain.pddl problem.pddl | tempo check domain.pddl problem.pddl - --explain";
 
-const BARE_ABOUT: &str = "Answers commands on a network of events and bounds";
+const BARE_ABOUT: &str = "Executes commands on a simple temporal network (STN)";
 
 const BARE_HELP: &str =
-    "Standard input has the line `network N H`, N events up to the tick H, perhaps lines `lag E L` for events that are
-reported up to L ticks late, and then commands, one a line:
+    "Standard input has the line `network N H` (N events, the horizon H), then lines `lag E L` for events
+that are reported up to L ticks late, if any, and then commands, one a line:
 
   advance T      now becomes T
-  add F T W      a bound: the moment of T is at most W after that of F
-  withdraw ID    the bound is no longer in force
-  window E       the least and the greatest moment of an event
+  add F T W      adds a bound: the moment of T minus that of F is at most W
+  withdraw ID    removes a bound
+  window E       prints the least and the greatest moment of an event
   dispatch E     the event happens now
   happened E M   the event happened at M
-  report         now, and each event's moment
+  report         prints now, and a moment for each event
 
-F and T are events from 0 up, or `o` for moment 0. Standard output has one answer a line:
-`ok`, `bound ID`, `window LO HI`, `report NOW KIND M ..` or `refused WHY`.
+F and T are events, numbered from 0, or `o`, the origin (moment 0). Each command has one answer
+line: `ok`, `bound ID`, `window LO HI`, `report NOW KIND M ..` or `refused WHY`.
 
 Example:
   printf 'network 2 100\\nadd 0 1 5\\nwindow 1\\n' | tempo bare
@@ -55,15 +59,17 @@ prints
   bound 0
   window 0 100
 
-With `--journal FILE` each command and its answer go to the file before the answer goes out, for `tempo audit FILE`.";
+With `--journal FILE` each command and its answer are written to the file before the answer is
+printed, for `tempo audit FILE`. With `--resume OLD --journal NEW` the run whose journal is OLD
+continues: NEW gets its head and its whole pairs, and standard input has only commands.";
 
-const CHECK_ABOUT: &str = "Says whether a plan is valid, and if not, its first fault";
+const CHECK_ABOUT: &str = "Validates a plan, and prints its first fault";
 
-const CHECK_HELP: &str = "Reads a domain and a problem of PDDL 2.1 and a plan, one step a line:
+const CHECK_HELP: &str = "Reads a domain and a problem of PDDL 2.1, and a plan, one step a line:
 
   TIME: (NAME ARG ..) [DURATION]
 
-Prints `valid`, or `invalid TICK WHY`, with WHY one of
+Prints `valid`, or `invalid TICK WHY`, where WHY is one of
   condition E, undefined E, clash E, interferes E F, over-all STEP, duration STEP, goal
 
 Steps are numbered from 0 in the order of the plan, and events from 0 by step, the start of a step before its end.
@@ -73,17 +79,17 @@ Example:
 prints
   valid";
 
-const NET_ABOUT: &str = "Prints the network of all schedules of a valid plan";
+const NET_ABOUT: &str = "Deorders a valid plan: prints the STN of all its schedules";
 
 const NET_HELP: &str =
-    "Reads a domain and a problem of PDDL 2.1 and a plan, as `check` does. For a valid plan it prints
+    "Reads a domain, a problem and a plan, as `check` does. For a valid plan it prints
 
-  event E TEXT       for each event, TEXT being `start STEP (NAME ARG ..)`, `end STEP ..` or `at STEP ..`
-  bound ID F T W     for each bound: the moment of T is at most W ticks after that of F
+  event E TEXT       each event; TEXT is `start STEP (NAME ARG ..)`, `end STEP ..` or `at STEP ..`
+  bound ID F T W     each bound: the moment of T minus that of F is at most W ticks
 
-The moments that meet all bounds, from 0 to the horizon, are those that keep the plan's durations lawful, its interfering
-events in their order, and its invariants. Each of them makes a valid plan. For a plan that is not valid it prints the line
-that `check` prints.
+The moments from 0 to the horizon that meet all bounds are those that keep the plan's durations, the
+order of its interfering events, and its invariants. Each makes a valid plan. For an invalid plan it
+prints the line of `check`.
 
 Example:
   tempo net domain.pddl problem.pddl plan.txt --horizon 100
@@ -94,20 +100,24 @@ prints
   bound 1 0 1 6";
 
 const RUN_ABOUT: &str =
-    "Answers commands on the network of a valid plan, and prints the plan of the run";
+    "Dispatches the network of a valid plan by commands, and prints the plan of the run";
 
 const RUN_HELP: &str =
-    "Reads a domain and a problem of PDDL 2.1 and a plan, as `check` does. For a valid plan it answers commands on the network
-that `net` prints, whose bounds have the identifiers from 0 up. Standard input may begin with lines `lag E L`, and then has
-the commands of `bare`, one a line. In a report the network is `kept`, or `altered` once a bound of the plan was withdrawn.
+    "Reads a domain, a problem and a plan, as `check` does. For a valid plan it executes commands on the
+network that `net` prints; the plan's bounds have its identifiers. Standard input has lines
+`lag E L`, if any, and then the commands of `bare`, one a line. In a report the network is `kept`,
+or `altered` once a bound of the plan was withdrawn.
 
-Behind the answers it prints `plan` and the plan of the run, each step at its moment, if every event happened and the
-network is kept. That plan is valid. For a plan that is not valid it prints the line that `check` prints.
+If every event happened and the network is kept, `plan` and the plan of the run follow the answers,
+each step at its moment. That plan is valid. For an invalid plan it prints the line of `check`.
 
-With `--journal FILE` each command and its answer go to the file before the answer goes out; `tempo audit FILE` with the same
-three files, scale and horizon judges it.
+With `--journal FILE` each command and its answer are written to the file before the answer is
+printed; `tempo audit FILE` with the same three files, scale and horizon judges it. With
+`--resume OLD --journal NEW` the run whose journal is OLD continues: NEW gets its head and its whole
+pairs, and standard input has only commands.
 
-Exit status: 0 a plan of the run was printed, 1 there is none, 2 refused input, 3 memory or a device.
+Exit status: 0 a plan of the run was printed, 1 there is none, 2 refused input, 3 memory or a device
+failed.
 
 Example:
   printf 'dispatch 0\\nadvance 3\\ndispatch 1\\n' | tempo run domain.pddl problem.pddl plan.txt
@@ -125,12 +135,18 @@ const PLAN_HELP: &str =
 
   TIME: (NAME ARG ..) [DURATION]
 
-which `check` reads. Nodes are expanded by the number of goal conjuncts that they lack: for larger problems there is `solve`.
-Where no plan was found, prints
+which `check` accepts. Nodes are expanded by the number of goal conjuncts that they lack; `solve` is
+for larger problems. Without a plan it prints
 
-  unreachable   no plan is valid: the goal is not met even where negated conditions and comparisons count as met
+  unreachable   no plan is valid: the goal is not met in the delete relaxation
   exhausted     no node is left to expand
   spent B       B nodes were expanded, the budget
+
+With `--progress` it prints on standard error, after each 100000 expansions, the line
+
+  expanded N waiting W lacking L
+
+W is the number of waiting nodes, L the least number of goal conjuncts that a node lacked.
 
 Example:
   tempo plan domain.pddl problem.pddl --budget 1000
@@ -140,36 +156,41 @@ prints
 const SOLVE_ABOUT: &str = "Searches for a plan of a larger problem";
 
 const SOLVE_HELP: &str =
-    "Reads a domain and a problem of PDDL 2.1, and prints what `plan` prints: a valid plan, none of whose steps comes later than the
-plan's network asks for, or one of the lines `unreachable`, `exhausted` and `spent B`.
+    "Reads a domain and a problem of PDDL 2.1, and prints what `plan` prints: a valid plan, at the
+earliest schedule of its network where that is found, or one of the lines `unreachable`,
+`exhausted` and `spent B`.
 
-The search is guided by relaxed plans, within three quarters of the budget; where it finds no plan, the search of `plan` has
-what is left. With `--improve` it goes on after its first plan until the budget is spent, and the plan that ends first is
-printed. With `--progress` each plan is told on standard error as it is found, by the line
+The search is guided by relaxed plans, within three quarters of the budget; where it finds no plan,
+the search of `plan` has the rest. With `--improve` it continues after its first plan until the
+budget is spent, and prints the plan that ends first. With `--progress` it prints on standard error,
+for each plan that is found, the line
 
   makespan M expanded N
 
-A metric of the problem is read and ignored.
+A metric of the problem is ignored.
 
 Example:
   tempo solve domain.pddl problem.pddl --improve --progress
 prints
   0: (need)";
 
-const AUDIT_ABOUT: &str = "Says whether a file is a journal, and if not, which answer is wrong";
+const AUDIT_ABOUT: &str =
+    "Judges the journal of a run: each answer, by executing the commands again";
 
 const AUDIT_HELP: &str =
-    "Reads a journal of commands on a network of events and bounds: its head, and for each line that had an answer the pair of
-the command, behind `> `, and the answer, behind `< `. Each command is carried out anew, and each answer judged. It prints
+    "Reads the journal of a run: its head, and for each line that had an answer a pair of the command,
+after `> `, and the answer, after `< `. The commands are executed again, and each answer is judged.
+It prints
 
   audit ok N     the file is a journal of N pairs
   wrong N        the answer on line N is not allowed
 
-The network is the one that the head tells. The journal of `tempo run` is judged where the domain, the problem and the plan
-are named, too: its network is that of the plan, and for a plan that is not valid it prints the line that `check` prints.
+The network is that of the head. For the journal of `tempo run`, name the domain, the problem and
+the plan: the network is that of the plan. For an invalid plan it prints the line of `check`.
 
-Exit status: 0 for the first, 1 for the others, 2 refused input, 3 memory or a device. A journal is refused by its first line
-that breaks the format (`fault journal 3 line N`), or where its network is not that one (`fault journal 5 head`).
+Exit status: 0 for the first, 1 for the others, 2 refused input, 3 memory or a device failed. A
+journal is refused by its first line that breaks the format (`fault journal 3 line N`), or for the
+head of another network (`fault journal 5 head`).
 
 Examples:
   tempo audit night.log
@@ -178,21 +199,23 @@ print
   audit ok 7";
 
 const SPLIT_ABOUT: &str =
-    "Prints intervals within which no agent of a valid plan needs to know of the others";
+    "Decouples the network of a valid plan among agents that do not communicate";
 
 const SPLIT_HELP: &str =
-    "Reads a domain and a problem of PDDL 2.1 and a plan, as `check` does, and from OWNERS the number of the agent of each event,
-in the order of the events that `net` prints: whole numbers of one to four digits between blanks, at most 1023. For a valid
+    "Reads a domain, a problem and a plan, as `check` does, and from OWNERS the agent of each event, in
+the order of `net`: whole numbers of one to four digits between blanks, at most 1023. For a valid
 plan it prints
 
-  interval E LO HI   for each event that a bound of the plan's network joins with another agent's event
+  interval E LO HI   each event that a bound joins with an event of another agent
 
-Whatever tick from LO to HI the agents choose for these events, each for its own, every bound that joins two agents' events is
-met: an agent need only keep the other bounds of its events, and within its intervals it can. For a plan that is not valid it
-prints the line that `check` prints.
+Whatever ticks the agents choose inside these intervals, every bound between two agents is met, and
+each agent can meet the bounds of its own events. For an invalid plan it prints the line of `check`.
 
-Exit status: 0 for the intervals, also where there are none, 1 for a plan that is not valid, 2 refused input, 3 memory or a
-device.
+With `--part A` it prints the network of agent A instead, as input of `tempo bare`: its events,
+numbered from 0, the bounds among them, and two bounds for each of its intervals.
+
+Exit status: 0 for the intervals, even if there are none, 1 for an invalid plan, 2 refused input, 3
+memory or a device failed.
 
 Example:
   printf '0 1\\n' >owners.txt
@@ -200,6 +223,20 @@ Example:
 prints
   interval 0 0 0
   interval 1 2 6";
+
+const DRAW_ABOUT: &str = "Draws a valid plan, or a run of it, as a picture";
+
+const DRAW_HELP: &str =
+    "Reads a domain, a problem and a plan, as `check` does. For a valid plan it prints an SVG picture: a
+bar for each step, in lanes by the first object, the window of each start and end as a whisker, and
+arrows for the bounds that hold them. Windows end at the horizon, by default the plan's own end. For
+an invalid plan it prints the line of `check`.
+
+With `--journal LOG` it draws the run of that journal up to its end: what happened, now, and the
+windows that remain. LOG is judged as by `audit`. The horizon is then, by default, that of its head.
+
+Example:
+  tempo draw domain.pddl problem.pddl plan.txt > plan.svg";
 
 /// A file that has to be named.
 fn file_argument<'a>(alloc: Global, id: &'a str, help: &'a str) -> Arg<'a>
@@ -223,7 +260,7 @@ fn scale_option<'a>(alloc: Global) -> Arg<'a>
         .action(ArgAction::Set)
         .value_parser(value_parser!(u32).range(1..=1000))
         .default_value("1")
-        .help("How many ticks a unit of time has: 1, 10, 100 or 1000")
+        .help("Ticks in a unit of time: 1, 10, 100 or 1000")
 }
 
 /// The tick that no step may end past.
@@ -240,6 +277,19 @@ fn horizon_option<'a>(alloc: Global) -> Arg<'a>
         .help("The tick that no step may end past, from 0 to 1000000000")
 }
 
+/// The same without a tick where none is given.
+fn until_option<'a>(alloc: Global) -> Arg<'a>
+    ensures rule { rule_of result ≡ until_rule }
+    ensures local { result.global ≡ false }
+{
+    Arg::new(alloc, "horizon")
+        .long("horizon")
+        .value_name("H")
+        .action(ArgAction::Set)
+        .value_parser(value_parser!(u32).range(0..=1000000000))
+        .help("The tick at which windows end, from 0 to 1000000000")
+}
+
 /// How many nodes a search may expand.
 fn budget_option<'a>(alloc: Global) -> Arg<'a>
     ensures rule { rule_of result ≡ budget_rule }
@@ -251,7 +301,7 @@ fn budget_option<'a>(alloc: Global) -> Arg<'a>
         .action(ArgAction::Set)
         .value_parser(value_parser!(u32).range(0..=1000000))
         .default_value("100000")
-        .help("How many nodes the search may expand, from 0 to 1000000")
+        .help("Nodes that the search may expand, from 0 to 1000000")
 }
 
 /// How many nodes a guided search may expand.
@@ -265,7 +315,7 @@ fn solve_budget_option<'a>(alloc: Global) -> Arg<'a>
         .action(ArgAction::Set)
         .value_parser(value_parser!(u32).range(0..=1000000000))
         .default_value("1000000")
-        .help("How many nodes the search may expand, from 0 to 1000000000")
+        .help("Nodes that the search may expand, from 0 to 1000000000")
 }
 
 /// An option that is given or not.
@@ -279,6 +329,18 @@ fn flag_option<'a>(alloc: Global, id: &'a str, help: &'a str) -> Arg<'a>
         .help(help)
 }
 
+/// Whether faults, verdicts and refusals are explained.
+fn explain_option<'a>(alloc: Global) -> Arg<'a>
+    ensures rule { rule_of result ≡ explain_rule }
+    ensures local { result.global ≡ false }
+{
+    flag_option(
+        alloc,
+        "explain",
+        "Explain faults, verdicts and refusals on standard error",
+    )
+}
+
 /// The file of a journal that is kept.
 fn journal_option<'a>(alloc: Global) -> Arg<'a>
     ensures rule { rule_of result ≡ journal_rule }
@@ -288,10 +350,56 @@ fn journal_option<'a>(alloc: Global) -> Arg<'a>
         .long("journal")
         .value_name("FILE")
         .action(ArgAction::Set)
-        .help("A file to write the journal to; what it held is lost")
+        .help("The file of the journal; its old content is lost")
 }
 
-/// The command `bare` before it has its option.
+/// The file of a journal that is read.
+fn log_option<'a>(alloc: Global) -> Arg<'a>
+    ensures rule { rule_of result ≡ journal_rule }
+    ensures local { result.global ≡ false }
+{
+    Arg::new(alloc, "journal")
+        .long("journal")
+        .value_name("LOG")
+        .action(ArgAction::Set)
+        .help("The journal of a run of the plan, to draw up to its end")
+}
+
+/// The file of a journal that a run goes on from.
+fn resume_option<'a>(alloc: Global) -> Arg<'a>
+    ensures rule { rule_of result ≡ resume_rule }
+    ensures local { result.global ≡ false }
+{
+    Arg::new(alloc, "resume")
+        .long("resume")
+        .value_name("OLD")
+        .action(ArgAction::Set)
+        .help("The journal of a run to continue; --journal gets its pairs")
+}
+
+/// The agent whose part is printed.
+fn part_option<'a>(alloc: Global) -> Arg<'a>
+    ensures rule { rule_of result ≡ part_rule }
+    ensures local { result.global ≡ false }
+{
+    Arg::new(alloc, "part")
+        .long("part")
+        .value_name("A")
+        .action(ArgAction::Set)
+        .value_parser(value_parser!(u32).range(0..=1023))
+        .help("Print the network of this agent, as input of `tempo bare`")
+}
+
+/// The two options of commands that keep journals.
+fn journal_options<'a>(alloc: Global, start: Command<'a>) -> Result<Command<'a>, AllocError>
+    requires { (fields_of start).has_globals ≡ false }
+    ensures app { IfOk result (λ c. app_of c ≡ journal_app (app_of start.entry)) }
+    ensures local { IfOk result (λ c. (fields_of c).has_globals ≡ false) }
+{
+    start.arg(journal_option(alloc))?.arg(resume_option(alloc))
+}
+
+/// The command `bare` before it has its options.
 fn bare_start<'a>(alloc: Global) -> Command<'a>
     ensures app { app_of result ≡ new_app (codes "bare") }
     ensures local { (fields_of result).has_globals ≡ false }
@@ -306,7 +414,7 @@ fn bare_command<'a>(alloc: Global) -> Result<Command<'a>, AllocError>
     ensures app { IfOk result (λ c. app_of c ≡ bare_app) }
     ensures local { IfOk result (λ c. (fields_of c).has_globals ≡ false) }
 {
-    bare_start(alloc).arg(journal_option(alloc))
+    journal_options(alloc, bare_start(alloc))?.arg(explain_option(alloc))
 }
 
 /// A command that takes the files of a plan, before it has arguments.
@@ -317,18 +425,29 @@ fn plan_start<'a>(alloc: Global, name: &'a str, about: &'a str, help: &'a str) -
     Command::new(alloc, name).about(about).after_help(help)
 }
 
+/// The same with the scale, the horizon and whether it explains.
+fn timed_command<'a>(alloc: Global, start: Command<'a>) -> Result<Command<'a>, AllocError>
+    requires { (fields_of start).has_globals ≡ false }
+    ensures app { IfOk result (λ c. app_of c ≡ timed_app (app_of start.entry)) }
+    ensures local { IfOk result (λ c. (fields_of c).has_globals ≡ false) }
+{
+    start
+        .arg(scale_option(alloc))?
+        .arg(horizon_option(alloc))?
+        .arg(explain_option(alloc))
+}
+
 /// The same with the files, the scale and the horizon.
 fn plan_command<'a>(alloc: Global, start: Command<'a>) -> Result<Command<'a>, AllocError>
     requires { (fields_of start).has_globals ≡ false }
     ensures app { IfOk result (λ c. app_of c ≡ plan_app (app_of start.entry)) }
     ensures local { IfOk result (λ c. (fields_of c).has_globals ≡ false) }
 {
-    start
+    let files = start
         .arg(file_argument(alloc, "DOMAIN", "The file of the domain"))?
         .arg(file_argument(alloc, "PROBLEM", "The file of the problem"))?
-        .arg(file_argument(alloc, "PLAN", "The file of the plan"))?
-        .arg(scale_option(alloc))?
-        .arg(horizon_option(alloc))
+        .arg(file_argument(alloc, "PLAN", "The file of the plan"))?;
+    timed_command(alloc, files)
 }
 
 /// The command `check`.
@@ -352,7 +471,8 @@ fn run_command<'a>(alloc: Global) -> Result<Command<'a>, AllocError>
     ensures app { IfOk result (λ c. app_of c ≡ run_app) }
     ensures local { IfOk result (λ c. (fields_of c).has_globals ≡ false) }
 {
-    plan_command(alloc, plan_start(alloc, "run", RUN_ABOUT, RUN_HELP))?.arg(journal_option(alloc))
+    let run = plan_command(alloc, plan_start(alloc, "run", RUN_ABOUT, RUN_HELP))?;
+    journal_options(alloc, run)
 }
 
 /// The command `plan`.
@@ -360,12 +480,16 @@ fn search_command<'a>(alloc: Global) -> Result<Command<'a>, AllocError>
     ensures app { IfOk result (λ c. app_of c ≡ search_app) }
     ensures local { IfOk result (λ c. (fields_of c).has_globals ≡ false) }
 {
-    plan_start(alloc, "plan", PLAN_ABOUT, PLAN_HELP)
+    let files = plan_start(alloc, "plan", PLAN_ABOUT, PLAN_HELP)
         .arg(file_argument(alloc, "DOMAIN", "The file of the domain"))?
-        .arg(file_argument(alloc, "PROBLEM", "The file of the problem"))?
-        .arg(scale_option(alloc))?
-        .arg(horizon_option(alloc))?
-        .arg(budget_option(alloc))
+        .arg(file_argument(alloc, "PROBLEM", "The file of the problem"))?;
+    timed_command(alloc, files)?
+        .arg(budget_option(alloc))?
+        .arg(flag_option(
+            alloc,
+            "progress",
+            "Print the progress of the search on standard error",
+        ))
 }
 
 /// The command `solve` with its files and how its time is measured.
@@ -373,11 +497,10 @@ fn solve_start<'a>(alloc: Global) -> Result<Command<'a>, AllocError>
     ensures app { IfOk result (λ c. app_of c ≡ solve_files) }
     ensures local { IfOk result (λ c. (fields_of c).has_globals ≡ false) }
 {
-    plan_start(alloc, "solve", SOLVE_ABOUT, SOLVE_HELP)
+    let files = plan_start(alloc, "solve", SOLVE_ABOUT, SOLVE_HELP)
         .arg(file_argument(alloc, "DOMAIN", "The file of the domain"))?
-        .arg(file_argument(alloc, "PROBLEM", "The file of the problem"))?
-        .arg(scale_option(alloc))?
-        .arg(horizon_option(alloc))
+        .arg(file_argument(alloc, "PROBLEM", "The file of the problem"))?;
+    timed_command(alloc, files)
 }
 
 /// The command `solve`.
@@ -390,12 +513,12 @@ fn solve_command<'a>(alloc: Global) -> Result<Command<'a>, AllocError>
         .arg(flag_option(
             alloc,
             "improve",
-            "Go on for better plans until the budget is spent",
+            "Search for better plans until the budget is spent",
         ))?
         .arg(flag_option(
             alloc,
             "progress",
-            "Tell each plan on standard error as it is found",
+            "Print the makespan of each plan on standard error",
         ))
 }
 
@@ -427,7 +550,7 @@ fn audit_files<'a>(alloc: Global, start: Command<'a>) -> Result<Command<'a>, All
         .arg(other_argument(
             alloc,
             "DOMAIN",
-            "The file of the domain of a plan that was run",
+            "The file of the domain of the plan that was run",
         ))?
         .arg(other_argument(alloc, "PROBLEM", "The file of its problem"))?
         .arg(other_argument(alloc, "PLAN", "The file of the plan"))
@@ -439,9 +562,7 @@ fn audit_command<'a>(alloc: Global) -> Result<Command<'a>, AllocError>
     ensures local { IfOk result (λ c. (fields_of c).has_globals ≡ false) }
 {
     let start = audit_start(alloc).arg(file_argument(alloc, "LOG", "The file of the journal"))?;
-    audit_files(alloc, start)?
-        .arg(scale_option(alloc))?
-        .arg(horizon_option(alloc))
+    timed_command(alloc, audit_files(alloc, start)?)
 }
 
 /// The command `split`.
@@ -449,11 +570,34 @@ fn split_command<'a>(alloc: Global) -> Result<Command<'a>, AllocError>
     ensures app { IfOk result (λ c. app_of c ≡ split_app) }
     ensures local { IfOk result (λ c. (fields_of c).has_globals ≡ false) }
 {
-    plan_command(alloc, plan_start(alloc, "split", SPLIT_ABOUT, SPLIT_HELP))?.arg(file_argument(
-        alloc,
-        "OWNERS",
-        "The file of the numbers of the events' agents",
-    ))
+    plan_command(alloc, plan_start(alloc, "split", SPLIT_ABOUT, SPLIT_HELP))?
+        .arg(file_argument(alloc, "OWNERS", "The file with the agent of each event"))?
+        .arg(part_option(alloc))
+}
+
+/// The options of `draw`.
+fn draw_options<'a>(alloc: Global, start: Command<'a>) -> Result<Command<'a>, AllocError>
+    requires { (fields_of start).has_globals ≡ false }
+    ensures app { IfOk result (λ c. app_of c ≡ drawing_app (app_of start.entry)) }
+    ensures local { IfOk result (λ c. (fields_of c).has_globals ≡ false) }
+{
+    start
+        .arg(scale_option(alloc))?
+        .arg(until_option(alloc))?
+        .arg(log_option(alloc))?
+        .arg(explain_option(alloc))
+}
+
+/// The command `draw`.
+fn draw_command<'a>(alloc: Global) -> Result<Command<'a>, AllocError>
+    ensures app { IfOk result (λ c. app_of c ≡ draw_app) }
+    ensures local { IfOk result (λ c. (fields_of c).has_globals ≡ false) }
+{
+    let files = plan_start(alloc, "draw", DRAW_ABOUT, DRAW_HELP)
+        .arg(file_argument(alloc, "DOMAIN", "The file of the domain"))?
+        .arg(file_argument(alloc, "PROBLEM", "The file of the problem"))?
+        .arg(file_argument(alloc, "PLAN", "The file of the plan"))?;
+    draw_options(alloc, files)
 }
 
 /// The program before it has commands. Its words begin after its name.
@@ -468,13 +612,20 @@ fn tempo_start<'a>(alloc: Global) -> Result<Command<'a>, AllocError>
         .bin_name("tempo")
 }
 
+/// The same with the option that it explains.
+fn tempo_options<'a>(alloc: Global) -> Result<Command<'a>, AllocError>
+    ensures { IfOk result (λ c. app_of c ≡ options_app) }
+{
+    tempo_start(alloc)?.arg(explain_option(alloc))
+}
+
 /// The program with the commands that judge.
 fn judging_command<'a>(alloc: Global) -> Result<Command<'a>, AllocError>
     ensures { IfOk result (λ c. app_of c ≡ judging_app) }
 {
     let bare = bare_command(alloc)?;
     let check = check_command(alloc)?;
-    tempo_start(alloc)?.subcommand(bare)?.subcommand(check)
+    tempo_options(alloc)?.subcommand(bare)?.subcommand(check)
 }
 
 /// The same with the command that prints networks.
@@ -517,10 +668,18 @@ fn auditing_command<'a>(alloc: Global) -> Result<Command<'a>, AllocError>
     solving_command(alloc)?.subcommand(audit)
 }
 
+/// The same with the command that splits networks among agents.
+fn splitting_command<'a>(alloc: Global) -> Result<Command<'a>, AllocError>
+    ensures { IfOk result (λ c. app_of c ≡ splitting_app) }
+{
+    let split = split_command(alloc)?;
+    auditing_command(alloc)?.subcommand(split)
+}
+
 /// The program with all its commands.
 pub fn tempo_command<'a>(alloc: Global) -> Result<Command<'a>, AllocError>
     ensures { IfOk result (λ c. app_of c ≡ tempo_app) }
 {
-    let split = split_command(alloc)?;
-    auditing_command(alloc)?.subcommand(split)
+    let draw = draw_command(alloc)?;
+    splitting_command(alloc)?.subcommand(draw)
 }

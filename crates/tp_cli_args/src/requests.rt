@@ -1,6 +1,6 @@
 //! What a call may ask for.
 
-use tp_cli_inputs::PlanWords;
+use tp_cli_inputs::{DrawWords, PlanWords};
 use tp_cli_plan::SearchWords;
 
 /// What a call asks for.
@@ -10,6 +10,9 @@ pub enum Request<'w> {
     Bare,
     /// The same, and their journal in the file of a name.
     BareLog(&'w str),
+    /// The same as the run whose journal is in the first file goes on, with all of its journal in
+    /// the second.
+    BareResume(&'w str, &'w str),
     /// The verdict on a plan.
     Check(PlanWords<'w>),
     /// The network of a plan.
@@ -18,6 +21,9 @@ pub enum Request<'w> {
     Run(PlanWords<'w>),
     /// The same, and their journal in the file of a name.
     RunLog(PlanWords<'w>, &'w str),
+    /// The same as the run whose journal is in the first file goes on, with all of its journal in
+    /// the second.
+    RunResume(PlanWords<'w>, &'w str, &'w str),
     /// A plan of a problem.
     Plan(SearchWords<'w>),
     /// The audit of the journal in a file, of commands on a network of bounds alone.
@@ -26,6 +32,10 @@ pub enum Request<'w> {
     PlanAudit(&'w str, PlanWords<'w>),
     /// The intervals of the events of a plan, among agents whose numbers are in the file of a name.
     Split(PlanWords<'w>, &'w str),
+    /// The network of one of these agents alone.
+    Part(PlanWords<'w>, &'w str, u32),
+    /// The picture of a plan, or of a run of it.
+    Draw(DrawWords<'w>),
     /// A text of help, or the version.
     Help(String),
 }

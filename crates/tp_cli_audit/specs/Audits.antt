@@ -5,6 +5,7 @@ use Rattle.tp_exec_machine.specs.Machine.{Machine}
 use Rattle.tp_script.specs.Pending.{Reading}
 use Rattle.tp_journal_pairs.specs.Journal.{IsJournalText}
 use Rattle.tp_journal.specs.Auditing.{BreaksLine, DisallowsAt, HasOtherHead}
+use Rattle.tp_journal.specs.Replay.{LeadsTo}
 use Rattle.tp_cli_audit.specs.declared.audit_lines.AuditStop.{AuditStop}
 use Rattle.tp_cli_audit.specs.declared.audit_lines.AuditStop.TheVariants.{Open, Network, Memory, Read, Line, Head, Write}
 use Rattle.tp_cli_audit.specs.declared.auditing.Found.{Found}
@@ -21,6 +22,11 @@ BreaksLog input n =
 abbrev pub IsFound : Machine → Option (List ℕ) → Found → Type 0
 IsFound machine input (Journal pairs) = IfSome input (λ bytes. IsJournalText machine bytes pairs)
 IsFound machine input (Wrong n) = IfSome input (λ bytes. DisallowsAt machine bytes n)
+
+-- where a journal was found, the machine comes to this one by it
+abbrev pub Leads : Machine → Machine → Option (List ℕ) → Found → Type 0
+Leads old new input (Journal pairs) = IfSome input (λ bytes. LeadsTo old bytes pairs new)
+Leads old new input (Wrong n) = Unit {0}
 
 -- what keeps an audit from an answer
 abbrev pub Hinders : Machine → Option (List ℕ) → AuditStop → Type 0

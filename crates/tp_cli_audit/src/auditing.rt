@@ -3,14 +3,14 @@
 ghost use Rattle.std.specs.Prelude.{◌≡◌, ℕ, List, IfOk, IfErr, IfSome};
 ghost use Rattle.tp_journal_pairs.specs.Writing.{IsNewExecutive};
 ghost use Rattle.tp_journal.specs.Telling.{IsHeadTold};
-ghost use Rattle.tp_cli_audit.specs.Audits.{Hinders, HindersHead, IsFound};
+ghost use Rattle.tp_cli_audit.specs.Audits.{Hinders, HindersHead, IsFound, Leads};
 
 use crate::audit_lines::AuditStop;
 use std::alloc::Global;
 use tp_cli_files::Files;
 use tp_device::Source;
 use tp_exec_machine::Executive;
-use tp_journal::{AuditFault, JournalHead, audit, journal_head};
+use tp_journal::{AuditFault, JournalHead, journal_head, replay};
 use tp_repair::RepairNet;
 use tp_script::Lines;
 
@@ -27,7 +27,7 @@ pub enum Found {
 }
 
 /// The head of the journal that a source has left.
-fn head_of<S: Source + Drop>(alloc: Global, source: S) -> Result<JournalHead, AuditStop>
+pub fn head_of<S: Source + Drop>(alloc: Global, source: S) -> Result<JournalHead, AuditStop>
     ensures head { IfOk result (λ head. IfSome (S.left source) (λ bytes. IsHeadTold bytes head)) }
     ensures cause { IfErr result (HindersHead (S.left source)) }
 {
@@ -63,25 +63,27 @@ pub fn head_in<N: Files>(alloc: Global, files: &mut N, log: &str) -> Result<Jour
     }
 }
 
-/// Audits the journal that a source has left against an executive, which is new. Each line is read
-/// once and each command that was accepted carried out, so that it costs little more than the run
-/// did.
+/// Audits the journal that a source has left against an executive, which is new, and then in the
+/// state in which the run ended. Each line is read once and each accepted command is executed, so
+/// that it costs little more than the run.
 ///
-/// # Errors `Read` where a read fails, `Memory`; `Line(n)` where line n breaks the format; `Head`
-/// for the head of another executive.
-pub fn audit_of<S: Source + Drop>(
+/// # Errors
+/// `Read` where a read fails, `Memory`; `Line(n)` where line n breaks the format; `Head` for the
+/// head of another executive.
+pub fn replay_of<S: Source + Drop>(
     alloc: Global,
     source: S,
-    executive: Executive<RepairNet>,
+    executive: &mut Executive<RepairNet>,
 ) -> Result<Found, AuditStop>
-    requires { IsNewExecutive executive }
-    ensures found { IfOk result (IsFound executive (S.left source)) }
-    ensures cause { IfErr result (Hinders executive (S.left source)) }
+    requires { IsNewExecutive executive.old }
+    ensures found { IfOk result (IsFound executive.old (S.left source)) }
+    ensures leads { IfOk result (Leads executive.old executive.new (S.left source)) }
+    ensures cause { IfErr result (Hinders executive.old (S.left source)) }
 {
     match Lines::new(alloc, source, LONGEST) {
         Ok(lines) => {
             let mut lines = lines;
-            match audit(alloc, executive, &mut lines) {
+            match replay(alloc, executive, &mut lines) {
                 Ok(audited) => Ok(Found::Journal(audited.pairs)),
                 Err(AuditFault::Wrong(n)) => Ok(Found::Wrong(n)),
                 Err(AuditFault::Memory) => Err(AuditStop::Memory),
@@ -92,6 +94,23 @@ pub fn audit_of<S: Source + Drop>(
         }
         Err(_) => Err(AuditStop::Memory),
     }
+}
+
+/// The same, with the executive dropped.
+///
+/// # Errors
+/// Those of `replay_of`.
+pub fn audit_of<S: Source + Drop>(
+    alloc: Global,
+    source: S,
+    executive: Executive<RepairNet>,
+) -> Result<Found, AuditStop>
+    requires { IsNewExecutive executive }
+    ensures found { IfOk result (IsFound executive (S.left source)) }
+    ensures cause { IfErr result (Hinders executive (S.left source)) }
+{
+    let mut executive = executive;
+    replay_of(alloc, source, &mut executive)
 }
 
 /// The same of the journal in the file of a name.

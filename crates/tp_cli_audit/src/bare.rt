@@ -38,7 +38,7 @@ fn head_fits(head: &JournalHead) -> bool
 }
 
 /// Whether a head is that of a network of bounds alone, which can be so.
-fn is_bare(head: &JournalHead) -> bool
+pub fn is_bare(head: &JournalHead) -> bool
     ensures { IsTrue result ↔ IsBareHead head.now }
 {
     match head.own {
@@ -62,7 +62,7 @@ pub fn set_lags<N: Net>(net: &mut N, lags: &[(u16, u32)])
 }
 
 /// The executive that a head tells, which is new.
-fn bare_start(alloc: Global, head: &JournalHead) -> Result<Executive<RepairNet>, AllocError>
+pub fn bare_start(alloc: Global, head: &JournalHead) -> Result<Executive<RepairNet>, AllocError>
     requires { HeadFits head.now }
     ensures machine { IfOk result (λ m. m ≡ bare_machine head.now) }
     ensures new { IfOk result IsNewExecutive }

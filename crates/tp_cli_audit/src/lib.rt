@@ -21,8 +21,9 @@ mod stop_lines;
 mod verdicts;
 
 pub use audit_lines::{AuditStop, audit_stop_line};
-pub use auditing::{Found, audit_in, audit_of, head_in};
-pub use bare::{lags_fit, run_bare_audit, set_lags};
+pub use auditing::{Found, audit_in, audit_of, head_in, head_of, replay_of};
+pub use bare::{bare_start, is_bare, lags_fit, run_bare_audit, set_lags};
 pub use run::run_plan_audit;
+pub use starting::{lags_suit, plan_start};
 pub use stop_lines::{PlanAuditStop, plan_stop_line};
 pub use verdicts::say;

@@ -10,13 +10,13 @@ use Rattle.tp_script.specs.Pending.{Reading}
 use Rattle.tp_script.specs.Reading.{Free, EndsLine, TakesWhole}
 use Rattle.tp_script.specs.Transcript.{lines_of, before_lines, Transcript}
 use Rattle.tp_script.specs.Lags.{lag_spelled, MaySet, SetsLags, TakesLags, NoLagNext, ReadsLags}
-use Rattle.tp_script.specs.Serving.{write_failures, Serves, ServesAll, TakesLines, EndsServing, TakesHead, head_of}
+use Rattle.tp_script.specs.Serving.{read_failures, write_failures, Serves, ServesAll, TakesLines, EndsServing, TakesHead, head_of}
 use Rattle.tp_script.specs.declared.serving.Served.{Served}
 use Rattle.tp_script.specs.declared.serving.ServeFault.{ServeFault}
 use Rattle.tp_script.specs.declared.serving.ServeFault.TheVariants.{Read, Write, Memory, TooLong, Head}
-use Rattle.tp_script.proofs.ServeLemmas.{first_whole}
+use Rattle.tp_script.proofs.ServeLemmas.{first_whole, unwritten_part}
 use Rattle.tp_script.specs.Reading.{HasMore, SameLimits}
-use Rattle.tp_cli_bare.specs.Bare.{first_setting, first_machine, EndLags, AnswersAll, AnswersLines, AnswersLinesTo, AnswersPart, BareStops, TakesAllLags, BeginsLines, HasNoHead, IsRefused, bare_failures, bare_result}
+use Rattle.tp_cli_bare.specs.Bare.{first_setting, first_machine, EndLags, AnswersAll, AnswersLines, AnswersLinesTo, AnswersPart, BareStops, TakesAllLags, BeginsLines, HasNoHead, IsRefused, bare_failures, bare_read_failures, bare_result}
 use Rattle.tp_cli_bare.specs.ServeLines.{bare_status}
 use Rattle.tp_cli_bare.specs.declared.bare.BareFault.{BareFault}
 use Rattle.tp_cli_bare.specs.declared.bare.BareFault.TheVariants.{Network, Serving}
@@ -24,28 +24,12 @@ use Rattle.tp_cli_files.proofs.FaultLemmas.{whole_part}
 
 -- ---- the lines of lags
 
-head_is : (a b : List ℕ) (cs ds : List (List ℕ)) → a ∷ cs ≡ b ∷ ds → a ≡ b
-head_is a b cs ds h = cc
-
--- a line is no longer than its text
-line_within : (xs line : List ℕ) (rest : List (List ℕ)) → lines_of xs ≡ line ∷ rest → length line ≤ length xs
-line_within [] line rest h = absurd (let f : ⊥ = cc in f)
-line_within (b ∷ bs) line rest h = go (nat_eq b 10) (lines_of bs) h (λ l ls is. line_within bs l ls is)
-  where
-    go : (t : Bool) (ls : List (List ℕ)) → cond t ([] ∷ ls) (before_lines b ls) ≡ line ∷ rest → ((l : List ℕ) (ms : List (List ℕ)) → ls ≡ l ∷ ms → length l ≤ length bs) → length line ≤ length (b ∷ bs)
-    go true ls is tail = let none : [] ≡ line = head_is [] line ls rest is in omega (arith, ap length none)
-    go false [] is tail = let one : b ∷ [] ≡ line = head_is (b ∷ []) line [] rest is in omega (arith, ap length one)
-    go false (l ∷ ls) is tail =
-        let more : b ∷ l ≡ line = head_is (b ∷ l) line ls rest is in
-        let behind : length l ≤ length bs = tail l ls refl in
-        omega (arith, ap length more, behind)
-
 pub end_lags : (xs ys zs text lags : List ℕ) (may : ℕ) → xs ≡ text ++ ys → ys ≡ lags ++ zs → NoLagNext (Some zs) may → 4_294_967_296 ≤ may + (length text + length lags) → EndLags xs (lines_of zs)
 end_lags xs ys zs text lags may first more stop most = λ line rest is.
     (elim (stop line rest is) [
       | inl none ↦ inl none
       | inr few ↦
-          inr (omega (arith, few, most, line_within zs line rest is, ap length first, ap length more, length-append text ys, length-append lags zs))
+          inr (omega (arith, few, most, ap length first, ap length more, length-append text ys, length-append lags zs))
     ])
 
 -- how many bytes may be taken behind the head and the lags
@@ -78,12 +62,12 @@ all_answered (Some xs) (Some ys) (Some zs) held now line text more head setting 
 
 -- ---- some lines are answered
 
-part_of_serving : (fault : ServeFault) (after : Reading) (held now : Option (List ℕ)) (lines : List (List ℕ)) (text part : List ℕ) → EndsServing after held now lines text part (Err fault) → AppendsPart held now text
-part_of_serving Read after held now lines text part ended = whole_part held now text ended
-part_of_serving Write after held now lines text part ended = ended.1
-part_of_serving Memory after held now lines text part ended = absurd ended
-part_of_serving TooLong after held now lines text part ended = whole_part held now text ended.0
-part_of_serving Head after held now lines text part ended = absurd ended
+part_of_serving : (fault : ServeFault) (old new : Machine) (after : Reading) (held now : Option (List ℕ)) (lines : List (List ℕ)) (text part : List ℕ) → EndsServing old new after held now lines text part (Err fault) → AppendsPart held now text
+part_of_serving Read old new after held now lines text part ended = whole_part held now text ended
+part_of_serving Write old new after held now lines text part ended = unwritten_part old new lines text held now ended.1
+part_of_serving Memory old new after held now lines text part ended = absurd ended
+part_of_serving TooLong old new after held now lines text part ended = whole_part held now text ended.0
+part_of_serving Head old new after held now lines text part ended = absurd ended
 
 part_answered : (a c d left held now : Option (List ℕ)) (line text more : List ℕ) (head : ℕ × ℕ) (setting : Setting) (lags : List (List ℕ)) (last : Machine) (lines : List (List ℕ)) (answers : List ℕ) (may : ℕ) → Free line → EndsLine line text c → Consumes a c text → length line ≤ 256 → head_of line ≡ Some head → Consumes c d more → IfSome c (λ ys. IfSome d (λ zs. lines_of ys ≡ lags ++ lines_of zs)) → SetsLags (first_setting head) lags setting → NoLagNext d may → 4_294_967_296 ≤ may + (length text + length more) → TakesLines d left lines → Transcript (first_machine head setting) lines answers last → AppendsPart held now answers → AnswersPart a held now
 part_answered None c d left held now line text more head setting lags last lines answers may free ends took short spelled took' split set stop most takes ran part = tt
@@ -136,6 +120,30 @@ no_write (Serving Memory) n = refl
 no_write (Serving TooLong) n = refl
 no_write (Serving Head) n = refl
 
+-- the same of reads
+pub no_more_reads : (fault : BareFault) (n : ℕ) → bare_read_failures {T = Machine} n (Err fault) ≡ bare_read_failures {T = Served} n (Err fault)
+no_more_reads Network n = refl
+no_more_reads (Serving Read) n = refl
+no_more_reads (Serving Write) n = refl
+no_more_reads (Serving Memory) n = refl
+no_more_reads (Serving TooLong) n = refl
+no_more_reads (Serving Head) n = refl
+
+pub lag_reads : (fault : ServeFault) (n : ℕ) → read_failures {T = Unit {0}} n (Err fault) ≡ bare_read_failures {T = Machine} n (Err (Serving fault))
+lag_reads Read n = refl
+lag_reads Write n = refl
+lag_reads Memory n = refl
+lag_reads TooLong n = refl
+lag_reads Head n = refl
+
+pub same_reads : (r : Result Served ServeFault) (q : Result Served BareFault) (n : ℕ) → q ≡ bare_result r → read_failures n r ≡ bare_read_failures n q
+same_reads (Ok x) q n is = ap (bare_read_failures n) (sym is)
+same_reads (Err Read) q n is = ap (bare_read_failures n) (sym is)
+same_reads (Err Write) q n is = ap (bare_read_failures n) (sym is)
+same_reads (Err Memory) q n is = ap (bare_read_failures n) (sym is)
+same_reads (Err TooLong) q n is = ap (bare_read_failures n) (sym is)
+same_reads (Err Head) q n is = ap (bare_read_failures n) (sym is)
+
 pub same_failures : (r : Result Served ServeFault) (q : Result Served BareFault) (n : ℕ) → q ≡ bare_result r → write_failures n r ≡ bare_failures n q
 same_failures (Ok x) q n is = ap (bare_failures n) (sym is)
 same_failures (Err Read) q n is = ap (bare_failures n) (sym is)
@@ -164,7 +172,7 @@ lines_part (Err (Serving fault)) source held now before reading after head from 
     subst (λ a. AnswersPart a held now) from
     (part_answered before.rest reading.rest mid.rest serves.left held now takes.0 takes.1.text l.1.read.text head answers.0 l.0 answers.2 serves.lines serves.text (mid.most - mid.taken) takes.1.free takes.1.ends takes.1.took takes.2 takes.3 l.1.read.took l.1.read.split l.1.set l.2
     (may_take before reading mid (first_setting head) answers.0 takes.0 l.0 takes.1 l.1 none (answers.3.most ∙ (same ∙ most))) serves.read serves.ran
-    (part_of_serving fault after held now serves.lines serves.text serves.part serves.ended))
+    (part_of_serving fault (first_machine head answers.0) answers.2 after held now serves.lines serves.text serves.part serves.ended))
 
 -- ---- why it ended early
 
@@ -303,7 +311,7 @@ serving_stops Write before reading mid after head setting last held now none mos
     let l = lags.lags in
     write_stops before.rest held now
     (part_answered before.rest reading.rest mid.rest serves.left held now takes.0 takes.1.text l.1.read.text head setting l.0 last serves.lines serves.text (mid.most - mid.taken) takes.1.free takes.1.ends takes.1.took takes.2 takes.3 l.1.read.took l.1.read.split l.1.set l.2
-    (may_take before reading mid (first_setting head) setting takes.0 l.0 takes.1 l.1 none (lags.most ∙ (same ∙ most))) serves.read serves.ran serves.ended.1)
+    (may_take before reading mid (first_setting head) setting takes.0 l.0 takes.1 l.1 none (lags.most ∙ (same ∙ most))) serves.read serves.ran (unwritten_part (first_machine head setting) last serves.lines serves.text held now serves.ended.1))
   where
     write_stops : (a held now : Option (List ℕ)) → AnswersPart a held now → BareStops a held now (Serving Write)
     write_stops None held now h = tt

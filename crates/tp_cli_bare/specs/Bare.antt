@@ -27,14 +27,15 @@ first_setting head = new_setting head.0 head.1
 abbrev pub first_machine : ℕ × ℕ → Setting → Machine
 first_machine head setting = new_machine setting (greatest_limits head.1)
 
--- The lines of lags were all taken: the first of the lines behind them, if there is one, is none, unless the bytes are as many as are
--- taken at most.
+-- The lines of lags were all taken: the first of the lines behind them, if there is one, is none,
+-- unless the bytes are more than are taken at most.
 abbrev pub EndLags : List ℕ → List (List ℕ) → Type 0
 EndLags bytes lines =
     (line : List ℕ) (rest : List (List ℕ)) → lines ≡ line ∷ rest → (lag_spelled line ≡ None)
-    ⊎ (4_294_967_296 ≤ length bytes)
+    ⊎ (4_294_967_296 < length bytes)
 
--- the first line is the head, lines of lags follow, and the transcript of all other lines was written
+-- the first line is the head, lines of lags follow, and the transcript of all other lines was
+-- written
 pub record AnswersHead (bytes : List ℕ) (held now : Option (List ℕ)) : Type 0 where
   pub head : ℕ × ℕ
   pub setting : Setting
@@ -56,7 +57,8 @@ abbrev pub AnswersAll : Option (List ℕ) → Option (List ℕ) → Option (List
 AnswersAll None held now = Unit {0}
 AnswersAll (Some bytes) held now = AnswersHead bytes held now
 
--- the first line is the head, lines of lags follow, and some first part of the transcript of some first lines behind them was written
+-- the first line is the head, lines of lags follow, and some first part of the transcript of some
+-- first lines behind them was written
 pub record AnswersSome (bytes : List ℕ) (held now : Option (List ℕ)) : Type 0 where
   pub head : ℕ × ℕ
   pub setting : Setting
@@ -79,7 +81,8 @@ abbrev pub AnswersPart : Option (List ℕ) → Option (List ℕ) → Option (Lis
 AnswersPart None held now = Unit {0}
 AnswersPart (Some bytes) held now = Appends held now [] ⊎ AnswersSome bytes held now
 
--- the first line is the head, lines of lags follow, and the transcript of the lines behind them was written whole, up to what is left
+-- the first line is the head, lines of lags follow, and the transcript of the lines behind them was
+-- written whole, up to what is left
 pub record AnswersLinesTo (bytes left : List ℕ) (held now : Option (List ℕ)) : Type 0 where
   pub head : ℕ × ℕ
   pub setting : Setting
@@ -101,8 +104,9 @@ abbrev pub AnswersRead : List ℕ → Option (List ℕ) → Option (List ℕ) �
 AnswersRead bytes held now =
     Appends held now [] ⊎ ((left : List ℕ) × AnswersLinesTo bytes left held now)
 
--- As many bytes were read as are taken at most, and there are more. The answers to all lines among them that are whole were written: what is
--- left begins with a part of a line, up to where the reading stopped. Or these bytes are a part of the first line, and nothing was written.
+-- As many bytes were read as are taken at most, and there are more. The answers to all lines among
+-- them that are whole were written: what is left begins with a part of a line, up to where the
+-- reading stopped. Or these bytes are a part of the first line, and nothing was written.
 abbrev pub AnswersMost : List ℕ → Option (List ℕ) → Option (List ℕ) → Type 0
 AnswersMost bytes held now =
     ((part more : List ℕ) × (bytes ≡ part ++ more) × Free part × (length part ≡ 4_294_967_296)
@@ -119,8 +123,8 @@ pub record TakesAllLags (head : ℕ × ℕ) (before after : Reading) (setting : 
   pub lags : ReadsLags before after (first_setting head) setting (Ok tt)
   pub most : after.most ≡ before.most
 
--- what came of the lines of lags behind a head: the machine in which the run begins, or one of them was at fault or not read, or there was
--- no memory for the network
+-- what came of the lines of lags behind a head: the machine in which the run begins, or one of them
+-- was at fault or not read, or there was no memory for the network
 abbrev pub BeginsLines : ℕ × ℕ → Reading → Reading → Result Machine BareFault → Type 0
 BeginsLines head before after (Ok m) =
     (setting : Setting) × TakesAllLags head before after setting
@@ -149,8 +153,8 @@ abbrev pub HasNoHead : List (List ℕ) → Type 0
 HasNoHead [] = Unit {0}
 HasNoHead (line ∷ lines) = (256 < length line) ⊎ (head_of line ≡ None)
 
--- behind the head and perhaps some lags stands the line of a lag that does not fit: it names no event, one that has a lag already, or a
--- lag out of range
+-- behind the head and perhaps some lags stands the line of a lag that does not fit: it names no
+-- event, one that has a lag already, or a lag out of range
 pub record HasBadLag (all : List (List ℕ)) : Type 0 where
   pub head : ℕ × ℕ
   pub setting : Setting
@@ -197,7 +201,18 @@ bare_failures n (Err (Serving serving.Memory)) = n
 bare_failures n (Err (Serving serving.TooLong)) = n
 bare_failures n (Err (Serving serving.Head)) = n
 
--- The fault that ended it with that status was told, and it is as it tells. A failed write is one that the count of failures tells of.
+-- a read that failed is counted
+abbrev pub bare_read_failures : {T : Type 0} → ℕ → Result T BareFault → ℕ
+bare_read_failures n (Ok x) = n
+bare_read_failures n (Err Network) = n
+bare_read_failures n (Err (Serving serving.Read)) = n + 1
+bare_read_failures n (Err (Serving serving.Write)) = n
+bare_read_failures n (Err (Serving serving.Memory)) = n
+bare_read_failures n (Err (Serving serving.TooLong)) = n
+bare_read_failures n (Err (Serving serving.Head)) = n
+
+-- The fault that ended it with that status was told, and it is as it tells. A failed write is one
+-- that the count of failures tells of.
 pub record StopsBare (status : ℕ) (input held held-now : Option (List ℕ)) (output output-now : ℕ)
     (failures : ℕ) (before : Option (List ℕ)) (failures-now : ℕ)
     (now : Option (List ℕ)) : Type 0 where

@@ -3,7 +3,7 @@
 ghost use Rattle.std.specs.Prelude.{◌≡◌, ◌≢◌, ℕ, ◌≤◌, [], IfOk, IfErr, OnOk, OnErr};
 ghost use Rattle.tp_script.specs.Machine.{IsFresh};
 ghost use Rattle.tp_cli_files.specs.FaultLines.{TellsFault};
-ghost use Rattle.tp_cli_bare.specs.Bare.{AnswersAll, AnswersLines, AnswersPart, BareStops, BeginsLines, IsRefused, StopsBare, bare_failures, bare_result};
+ghost use Rattle.tp_cli_bare.specs.Bare.{AnswersAll, AnswersLines, AnswersPart, BareStops, BeginsLines, IsRefused, StopsBare, bare_failures, bare_read_failures, bare_result};
 
 use crate::serve_lines::bare_line;
 use std::alloc::Global;
@@ -59,6 +59,7 @@ pub fn begin<I: Source>(
     ensures longest { lines.new.longest ≡ lines.old.longest }
     ensures most { lines.new.most ≡ lines.old.most }
     ensures told { (n : ℕ) → bare_failures n result ≡ n }
+    ensures read { lines.new.failures ≡ bare_read_failures lines.old.failures result }
 {
     match RepairNet::new(alloc, events, horizon) {
         Ok(net) => {
@@ -87,6 +88,7 @@ fn answer<I: Source + Drop, O: Sink>(
         (O.held output.new) result }
     ensures most { lines.new.most ≡ lines.old.most }
     ensures told { O.failures output.new ≡ bare_failures (O.failures output.old) result }
+    ensures read { lines.new.failures ≡ bare_read_failures lines.old.failures result }
 {
     match begin(alloc, lines, events, horizon) {
         Ok(executive) => {

@@ -1,5 +1,6 @@
 -- The texts of files.
 use Rattle.std.specs.Prelude.{◌≡◌, ◌+◌, ◌<◌, ◌≤◌, ℕ, List, length, Option, Some, None, Result, Ok, Err}
+use Rattle.std.specs.Io.KnownBytes.{ReadConsumes}
 use Rattle.std.specs.Str.{IsUtf8}
 use Rattle.tp_cli_files.specs.declared.files.FileFault.{FileFault}
 use Rattle.tp_cli_files.specs.declared.files.FileFault.TheVariants.{Memory, Read, Utf8, TooLong}
@@ -27,3 +28,8 @@ failures_after_file n (Err Memory) = n
 failures_after_file n (Err Utf8) = n
 failures_after_file n (Err TooLong) = n
 failures_after_file n (Ok x) = n
+
+-- a read gave some first part of these bytes, and an empty one only if there are none
+abbrev pub ReadsKept : {E : Type 0} → List ℕ → Result ℕ E → List ℕ → Type 0
+ReadsKept bytes result buffer =
+    (left : List ℕ) × ReadConsumes (Some bytes) (Some left) result buffer

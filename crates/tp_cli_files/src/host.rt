@@ -1,18 +1,28 @@
 //! The files of the host, and the words of its call.
 
-ghost use Rattle.std.specs.Prelude.{◌≡◌, None, drop};
+ghost use Rattle.std.specs.Prelude.{◌≡◌, ◌+◌, ◌-◌, ◌^◌, ◌<◌, ◌≤◌, ◌++◌, None, true, min, length, take, drop, IfOk};
+ghost use Rattle.std.specs.Io.{ReadsAtMost};
+ghost use Rattle.std.specs.Io.KnownBytes.{ReadConsumes};
+ghost use Rattle.tp_device.specs.Bytes.{failures_after};
 ghost use Rattle.tp_cli_files.specs.Calls.{call_status, call_text};
 ghost use Rattle.tp_cli_files.specs.FaultLines.{Tells, fault_text};
+ghost use Rattle.tp_cli_files.specs.Texts.{ReadsKept};
 
 use crate::fault_lines::{FaultLine, complain};
 use crate::files::Files;
-use std::alloc::{AllocError, AllocFailed};
+use std::alloc::{AllocError, AllocFailed, Global};
+use std::cell::RefCell;
 use std::io::{ErrorKind, Read};
 use std::rt::{Env, Files as HostFileSystem};
-use std::{env, fs};
+use std::{env, fs, io};
 use tp_device::{Failed, Sink, Source};
 
-/// A file of the host that is read. Behind 2^64 - 1 reads that failed there is nothing more in it.
+/// The name of the standard input among those of files.
+pub const STANDARD_INPUT: &str = "-";
+
+/// A file of the host that is read. Each pull is a read of the host's. Behind 2^64 - 1 reads that
+/// failed there is nothing more in it, so what it has left is told by a clause of `pull` and not by
+/// the source.
 #[derive(Drop)]
 pub struct HostFile<R: Read> {
     reader: R,
@@ -30,12 +40,19 @@ impl<R: Read> HostFile<R> {
 }
 
 impl<R: Read> Source for HostFile<R> {
-    // What a file of the host holds is not told.
+    // It is not told for good: see `read` below.
     ghost left = { λ _. None };
 
     ghost failures = { λ s. s.failures };
 
-    fn pull(&mut self, buffer: &mut [u8]) -> Result<usize, Failed> {
+    fn pull(&mut self, buffer: &mut [u8]) -> Result<usize, Failed>
+        ensures within { IfOk result (λ n. n ≤ length buffer.old) }
+        ensures bytes { ReadConsumes None None result buffer.new }
+        ensures cause { self.new.failures ≡ failures_after self.old.failures result }
+        // As long as a failure can be counted, each pull is a read.
+        ensures read { self.old.failures < 2 ^ 64 - 1 → ReadConsumes
+            (R.remaining self.old.reader) (R.remaining self.new.reader) result buffer.new }
+    {
         if self.failures == u64::MAX {
             return Ok(0);
         }
@@ -49,27 +66,142 @@ impl<R: Read> Source for HostFile<R> {
     }
 }
 
-/// The files of the host, under their paths.
+/// The standard input as a file of a call. What the first that opens it reads is kept, as far as
+/// there is memory, so that it can be opened once more at its first byte.
 #[derive(Drop)]
-pub struct HostFiles<'r, R: HostFileSystem> {
-    rt: &'r R,
+pub struct StandardInput<I> {
+    reader: I,
+    kept: Vec<u8>,
+    opened: u8,
+    whole: bool,
 }
 
-impl<'r, R: HostFileSystem> HostFiles<'r, R> {
-    /// The files that the runtime reaches.
-    pub fn new(rt: &'r R) -> Self {
-        HostFiles { rt }
+impl<I: Read> StandardInput<I> {
+    /// What the reader has left.
+    pub fn new(alloc: Global, reader: I) -> Self {
+        StandardInput {
+            reader,
+            kept: Vec::new(alloc),
+            opened: 0,
+            whole: true,
+        }
+    }
+
+    /// Whether it can be opened, and then counts that.
+    fn open(&mut self) -> bool {
+        let may = self.opened == 0 || (self.opened == 1 && self.whole);
+        if may {
+            self.opened += 1;
+        }
+        may
+    }
+
+    /// Reads what stands behind the first `at` bytes.
+    fn read_from(&mut self, at: usize, buf: &mut [u8]) -> io::Result<usize>
+        ensures bound { ReadsAtMost result buf.new }
+
+        // Bytes that are kept are read again, and behind them the reader goes on.
+        ensures again { at < length self.old.kept.items
+            → ReadsKept (drop at self.old.kept.items) result buf.new }
+        ensures same { at < length self.old.kept.items → self.new ≡ self.old }
+        ensures read { length self.old.kept.items ≤ at → ReadConsumes
+            (I.remaining self.old.reader) (I.remaining self.new.reader) result buf.new }
+
+        // As far as there is memory, the first that opens it keeps what it reads.
+        ensures kept { length self.old.kept.items ≤ at → self.old.opened ≡ 1
+            → self.new.whole ≡ true → IfOk result
+            (λ n. self.new.kept.items ≡ self.old.kept.items ++ take n buf.new) }
+    {
+        if at < self.kept.len() {
+            let mut behind = &self.kept[at..];
+            return behind.read(buf);
+        }
+        let count = self.reader.read(buf)?;
+        if self.opened == 1 && self.whole {
+            self.whole = self.kept.extend_from_slice(&buf[..count]).is_ok();
+        }
+        Ok(count)
     }
 }
 
-impl<R: HostFileSystem> Files for HostFiles<'_, R> {
-    type Input = HostFile<R::File>;
+/// The standard input, opened as a file: `at` of its kept bytes were read.
+#[derive(Drop)]
+pub struct OpenInput<'i, I> {
+    input: &'i RefCell<StandardInput<I>>,
+    at: usize,
+}
+
+impl<I: Read> Read for OpenInput<'_, I> {
+    fn read(&mut self, buf: &mut [u8]) -> io::Result<usize>
+        ensures bound { ReadsAtMost result buf.new }
+        ensures bytes { ReadConsumes None None result buf.new }
+        // The next read goes on behind this one.
+        ensures next { IfOk result (λ n. self.new.at ≡ min (self.old.at + n) (2 ^ 64 - 1)) }
+    {
+        let Ok(mut input) = self.input.try_borrow_mut() else {
+            return Err(io::Error::from(ErrorKind::WouldBlock));
+        };
+        let count = input.read_from(self.at, buf)?;
+        self.at = self.at.saturating_add(count);
+        Ok(count)
+    }
+}
+
+/// Where a file of a call is read from: under its path, or from the standard input.
+#[derive(Drop)]
+pub enum HostReader<'i, F, I> {
+    File(F),
+    Input(OpenInput<'i, I>),
+}
+
+impl<F: Read, I: Read> Read for HostReader<'_, F, I> {
+    fn read(&mut self, buf: &mut [u8]) -> io::Result<usize> {
+        match self {
+            HostReader::File(file) => file.read(buf),
+            HostReader::Input(input) => input.read(buf),
+        }
+    }
+}
+
+/// The files of the host, under their paths. The name `-` is that of the standard input.
+#[derive(Drop)]
+pub struct HostFiles<'r, 'i, R: HostFileSystem, I> {
+    rt: &'r R,
+    input: &'i RefCell<StandardInput<I>>,
+}
+
+impl<'r, 'i, R: HostFileSystem, I: Read> HostFiles<'r, 'i, R, I> {
+    /// The files that the runtime reaches, and the standard input.
+    pub fn new(rt: &'r R, input: &'i RefCell<StandardInput<I>>) -> Self {
+        HostFiles { rt, input }
+    }
+
+    /// Opens the standard input.
+    fn open_input(&self) -> Result<HostFile<HostReader<'i, R::File, I>>, Failed> {
+        let Ok(mut input) = self.input.try_borrow_mut() else {
+            return Err(Failed);
+        };
+        if !input.open() {
+            return Err(Failed);
+        }
+        Ok(HostFile::new(HostReader::Input(OpenInput {
+            input: self.input,
+            at: 0,
+        })))
+    }
+}
+
+impl<'i, R: HostFileSystem, I: Read> Files for HostFiles<'_, 'i, R, I> {
+    type Input = HostFile<HostReader<'i, R::File, I>>;
 
     ghost held = { λ _ _. None };
 
     fn open(&mut self, name: &str) -> Result<Self::Input, Failed> {
+        if name == STANDARD_INPUT {
+            return self.open_input();
+        }
         match fs::open(self.rt, name) {
-            Ok(reader) => Ok(HostFile::new(reader)),
+            Ok(reader) => Ok(HostFile::new(HostReader::File(reader))),
             Err(_) => Err(Failed),
         }
     }

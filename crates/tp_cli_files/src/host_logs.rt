@@ -1,6 +1,8 @@
 //! Journal files of the host.
 
-ghost use Rattle.std.specs.Prelude.{None};
+ghost use Rattle.std.specs.Prelude.{◌≡◌, ◌-◌, ◌^◌, ◌<◌, ◌≤◌, None, length, IfOk};
+ghost use Rattle.std.specs.Io.KnownBytes.{WriteAppends};
+ghost use Rattle.tp_device.specs.Bytes.{failures_after};
 
 use crate::logs::Logs;
 use std::fs;
@@ -9,8 +11,8 @@ use std::rt::Files as HostFileSystem;
 use tp_device::{Failed, Sink};
 
 /// A file of the host that is written. Each push is a write of the host's, and none is kept back.
-/// What the file holds is not told. A write that fails, or takes none of some bytes, counts as a
-/// failure; behind 2^64 - 1 of them no more goes to the file.
+/// A write that fails, or takes none of some bytes, counts as a failure; behind 2^64 - 1 of them no
+/// more goes to the file, so what it holds is told by a clause of `push` and not by the sink.
 #[derive(Drop)]
 pub struct HostLog<W: Write> {
     writer: W,
@@ -28,12 +30,20 @@ impl<W: Write> HostLog<W> {
 }
 
 impl<W: Write> Sink for HostLog<W> {
-    // What a file of the host holds is not told.
+    // It is not told for good: see `written` below.
     ghost held = { λ _. None };
 
     ghost failures = { λ s. s.failures };
 
-    fn push(&mut self, bytes: &[u8]) -> Result<usize, Failed> {
+    fn push(&mut self, bytes: &[u8]) -> Result<usize, Failed>
+        ensures within { IfOk result (λ n. n ≤ length bytes.now) }
+        ensures some { 0 < length bytes.now → IfOk result (λ n. 0 < n) }
+        ensures bytes { WriteAppends None None result bytes.now }
+        ensures cause { self.new.failures ≡ failures_after self.old.failures result }
+        // As long as a failure can be counted, each push is a write.
+        ensures written { self.old.failures < 2 ^ 64 - 1 → WriteAppends
+            (W.contents self.old.writer) (W.contents self.new.writer) result bytes.now }
+    {
         if self.failures == u64::MAX {
             return Ok(bytes.len());
         }

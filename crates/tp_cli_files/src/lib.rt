@@ -17,7 +17,10 @@ mod outlets;
 
 pub use fault_lines::{Detail, FaultLine, OUT_OF_ORDER, REFUSED, complain, complain_more};
 pub use files::{FileFault, Files, open_text, read_text};
-pub use host::{CallFault, HostFile, HostFiles, refuse_call, words_of_call};
+pub use host::{
+    CallFault, HostFile, HostFiles, HostReader, OpenInput, STANDARD_INPUT, StandardInput,
+    refuse_call, words_of_call,
+};
 pub use host_logs::{HostLog, HostLogs};
 pub use logs::Logs;
 pub use outlets::Outlet;

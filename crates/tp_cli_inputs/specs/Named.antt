@@ -3,7 +3,7 @@ use Rattle.std.specs.Prelude.{ℕ, List, Option}
 use Rattle.tp_bounds.specs.RunLimits.{greatest_limits}
 use Rattle.tp_syntax.specs.Domains.{Domain, SpellsDomain}
 use Rattle.tp_syntax.specs.Problems.{Problem, SpellsProblem}
-use Rattle.tp_ground.specs.Reached.{IsTaskOf}
+use Rattle.tp_ground_named.specs.Reached.{IsTaskOf}
 use Rattle.tp_ground_named.specs.Named.{chosen}
 use Rattle.tp_task.specs.declared.task.Task.{Task}
 use Rattle.tp_happen.specs.tp_plan_text.PlanNames.{plan_names}

@@ -4,7 +4,7 @@ use Rattle.tp_text.specs.declared.number.Scale.{Scale}
 use Rattle.tp_syntax_ast.specs.Domains.{Domain, SpellsDomain}
 use Rattle.tp_syntax_ast.specs.Problems.{Problem, SpellsProblem}
 use Rattle.tp_bounds.specs.RunLimits.{RunLimits}
-use Rattle.tp_ground.specs.Reached.{IsTaskOf}
+use Rattle.tp_ground_named.specs.Reached.{IsTaskOf}
 use Rattle.tp_ground_named.specs.Named.{chosen}
 use Rattle.tp_task.specs.Words.{Words}
 use Rattle.tp_task.specs.declared.task.Task.{Task}

@@ -196,7 +196,10 @@ fn plan_from<'a, N: Files>(
 }
 
 /// The same of a problem.
-fn plan_with<N: Files>(
+///
+/// # Errors
+/// The first fault of the task and the plan, and of the plan's file.
+pub fn plan_with<N: Files>(
     alloc: Global,
     files: &mut N,
     words: PlanWords<'_>,

@@ -6,22 +6,28 @@ use Rattle.tp_syntax.specs.Domains.{Domain, SpellsDomain}
 use Rattle.tp_syntax.specs.Problems.{Problem, SpellsProblem}
 use Rattle.tp_ground.specs.Grounding.{IsTask}
 use Rattle.tp_ground.specs.Reached.{IsReachedTask}
+use Rattle.tp_ground_joins.specs.Joined.{IsJoinedTask}
 use Rattle.tp_task.specs.Readable.{AreReadable}
 use Rattle.tp_task.specs.declared.task.Task.{Task}
 use Rattle.tp_happen.specs.tp_plan_text.PlanPrints.{PlansAreRead, plan_text}
 use Rattle.tp_happen.specs.tp_plan_text.PlanTexts.{SpellsPlan}
 use Rattle.tp_happen.specs.tp_plan_text.TaskWords.{readable}
-use Rattle.tp_validate.specs.OfTask.{IsOfTask}
+use Rattle.tp_validate.specs.OfTask.{IsOfTask, IsValidPlan}
+use Rattle.tp_validate.specs.Validated.{Validated}
 use Rattle.tp_task_reachability.specs.TaskReach.{GoalIs}
 use Rattle.tp_search.specs.tp_search_instant.Answers.{IsAnswer}
+use Rattle.tp_search.specs.tp_search_instant.Plans.{EndsBy}
 use Rattle.tp_search.specs.tp_search_instant.declared.found.Found.{Found}
 use Rattle.tp_search.specs.tp_search_instant.declared.found.Found.TheVariants.{Plan, Unreachable, Exhausted, Spent}
-use Rattle.tp_ground_laws.specs.SamePlans.{HaveSamePlans}
+use Rattle.tp_ground_laws.specs.SamePlans.{HaveSamePlans, HoldsPlans}
 use Rattle.tp_cli_plan.specs.SearchTasks.{IsSearchTask}
 use Rattle.tp_cli_plan.specs.FoundText.{IsFoundOfTask, IsNoPlanLine, IsPlanText, found_text, is_plan, spent_line}
-use Rattle.tp_cli_plan.specs.Searches.{IsSearchText, Searches, task_words}
+use Rattle.tp_cli_inputs.specs.Named.{AreNamed}
+use Rattle.tp_cli_plan.specs.Searches.{IsPlanTask, IsSearchText, Searches, task_words}
 use Rattle.tp_cli_plan.specs.SearchStops.{StopsSearch}
 use Rattle.tp_cli_plan.specs.Telling.{StopsTelling, TellsFound}
+use Rattle.tp_cli_plan.specs.declared.search_words.Order.{Order}
+use Rattle.tp_cli_plan.specs.declared.search_words.Order.TheVariants.{Lacking, Guided}
 use Rattle.tp_cli_plan.specs.declared.search_words.SearchWords.{SearchWords}
 use Rattle.tp_cli_plan.specs.declared.stops.SearchStop.{SearchStop}
 use Rattle.tp_cli_plan.proofs.ReadBack.{ActionsAreReadable, AllAreReadable, as_many, as_many_of_all, plan_accepted, plan_read}
@@ -41,6 +47,56 @@ abbrev pub Says : Task → ℕ → ℕ → Found → Bool → Type 0
 Says task budget horizon found true = IsPlanText task horizon (found_text found)
 Says task budget horizon found false = IsNoPlanLine task budget (found_text found)
 
+-- ---- the text of a plan
+
+module _ (read : PlansAreRead) (task : Task) (horizon : ℕ) (within : horizon ≤ 1000000000) (readable_here : AreReadable task.numbering.actions) (many : length task.actions.items ≡ length task.numbering.actions) (limit : task.limits.horizon ≡ horizon) where
+  pub plan_said : (plan : Validated) → plan.task ≡ task → EndsBy horizon plan.steps → IsValidPlan task plan.steps → IsFoundOfTask (Plan plan) → IsPlanText task horizon (plan_text (readable plan.task) plan.steps)
+  plan_said plan of_it ends valid of_task =
+      let are : IsOfTask task plan.steps = subst (λ (t : Task). IsOfTask t plan.steps) of_it of_task.1 in
+      let is : plan_text (readable plan.task) plan.steps ≡ plan_text (readable task) plan.steps = ap (λ (t : Task). plan_text (readable t) plan.steps) of_it in
+      let spells : SpellsPlan (readable task) (plan_text (readable plan.task) plan.steps) plan.steps =
+      subst (λ (text : List ℕ). SpellsPlan (readable task) text plan.steps) (sym is)
+      (plan_read read task horizon readable_here many limit within plan.steps are ends) in
+      record {
+        steps = plan.steps;
+        of_task = are;
+        valid = valid;
+        within = ends;
+        is = is;
+        spells = spells;
+        accepted = plan_accepted (readable task) (plan_text (readable plan.task) plan.steps) plan.steps spells of_task.0.few;
+      }
+
+  -- the same of a task that holds it
+  module _ (all : Task) (readable_all : AreReadable all.numbering.actions) (many_all : length all.actions.items ≡ length all.numbering.actions) (limit_all : all.limits.horizon ≡ horizon) (holds : HoldsPlans all task) where
+    pub plan_said_of_all : (plan : Validated) → plan.task ≡ task → EndsBy horizon plan.steps → IsValidPlan task plan.steps → IsFoundOfTask (Plan plan) → IsPlanText all horizon (plan_text (readable plan.task) plan.steps)
+    plan_said_of_all plan of_it in_time valid of_task =
+        let are : IsOfTask task plan.steps = subst (λ (t : Task). IsOfTask t plan.steps) of_it of_task.1 in
+        let (steps, own, e) = holds.wide plan.steps are in
+        let ends = ends_same all task horizon steps plan.steps e ∙ in_time in
+        let is : plan_text (readable plan.task) plan.steps ≡ plan_text (readable all) steps = ap (λ (t : Task). plan_text (readable t) plan.steps) of_it ∙ sym (holds.told steps plan.steps own are e) in
+        let spells : SpellsPlan (readable all) (plan_text (readable plan.task) plan.steps) steps =
+        subst (λ (text : List ℕ). SpellsPlan (readable all) text steps) (sym is)
+        (plan_read read all horizon readable_all many_all limit_all within steps own ends) in
+        record {
+          steps = steps;
+          of_task = own;
+          valid = (holds.same steps plan.steps own are e).1 valid;
+          within = ends;
+          is = is;
+          spells = spells;
+          accepted = plan_accepted (readable all) (plan_text (readable plan.task) plan.steps) steps spells (subst (λ (n : ℕ). n ≤ 512) (sym (as_long all task steps plan.steps e)) of_task.0.few);
+        }
+
+-- ---- the task of the actions in reach
+
+holds_of : (t u : Task) → HaveSamePlans t u → HoldsPlans t u
+holds_of t u h = record { same = h.same; wide = h.wide; told = h.told }
+
+in_order : (order : Order) (limits : RunLimits) (scale : Scale) (d : Domain) (p : Problem) (task : Task) → IsReachedTask limits scale d p task → IsPlanTask order limits scale d p task
+in_order (Lacking progress) limits scale d p task h = h
+in_order (Guided wishes) limits scale d p task h = inl h
+
 module _ (read : PlansAreRead) (can_be_read : ActionsAreReadable) (all_readable : AllAreReadable) (same_plans : PlansAreTheSame) (same_goals : GoalsAreTheSame) (held : List ℕ → Option (List ℕ)) (w : SearchWords) (task : Task) (within : w.horizon ≤ 1000000000) (named : IsSearchTask held (task_words w) task) where
   abbrev limits : RunLimits
   limits = greatest_limits w.horizon
@@ -48,22 +104,14 @@ module _ (read : PlansAreRead) (can_be_read : ActionsAreReadable) (all_readable 
   readable_here : AreReadable task.numbering.actions
   readable_here = can_be_read named.domain_in.0 named.problem_in.0 named.domain named.problem limits w.scale task named.domain_in.2 named.problem_in.2 named.task_of
 
+  many_here : length task.actions.items ≡ length task.numbering.actions
+  many_here = as_many limits w.scale named.domain named.problem task named.task_of
+
+  limit_here : task.limits.horizon ≡ w.horizon
+  limit_here = ap (λ (l : RunLimits). l.horizon) named.task_of.task.same_limits
+
   says : (found : Found) → IsAnswer task w.budget w.horizon found → IsFoundOfTask found → Says task w.budget w.horizon found (is_plan found)
-  says (Plan plan) answer of_task =
-      let are : IsOfTask task plan.steps = subst (λ (t : Task). IsOfTask t plan.steps) answer.task of_task.1 in
-      let is : plan_text (readable plan.task) plan.steps ≡ plan_text (readable task) plan.steps = ap (λ (t : Task). plan_text (readable t) plan.steps) answer.task in
-      let spells : SpellsPlan (readable task) (plan_text (readable plan.task) plan.steps) plan.steps =
-      subst (λ (text : List ℕ). SpellsPlan (readable task) text plan.steps) (sym is)
-      (plan_read read task w.horizon readable_here (as_many limits w.scale named.domain named.problem task named.task_of) (ap (λ (l : RunLimits). l.horizon) named.task_of.task.same_limits) within plan.steps are answer.within) in
-      record {
-        steps = plan.steps;
-        of_task = are;
-        valid = answer.valid;
-        within = answer.within;
-        is = is;
-        spells = spells;
-        accepted = plan_accepted (readable task) (plan_text (readable plan.task) plan.steps) plan.steps spells of_task.0.few;
-      }
+  says (Plan plan) answer of_task = plan_said read task w.horizon within readable_here many_here limit_here plan answer.task answer.within answer.valid of_task
   says Unreachable answer of_task = inl (answer, refl)
   says Exhausted answer of_task = inr (inl (answer, refl))
   says (Spent n) answer of_task =
@@ -84,33 +132,35 @@ module _ (read : PlansAreRead) (can_be_read : ActionsAreReadable) (all_readable 
 
     says_all : (found : Found) → IsAnswer task w.budget w.horizon found → IsFoundOfTask found → Says all w.budget w.horizon found (is_plan found)
     says_all (Plan plan) answer of_task =
-        let are : IsOfTask task plan.steps = subst (λ (t : Task). IsOfTask t plan.steps) answer.task of_task.1 in
-        let (steps, own, e) = same.wide plan.steps are in
-        let ends = ends_same all task w.horizon steps plan.steps e ∙ answer.within in
-        let is : plan_text (readable plan.task) plan.steps ≡ plan_text (readable all) steps = ap (λ (t : Task). plan_text (readable t) plan.steps) answer.task ∙ sym (same.told steps plan.steps own are e) in
-        let spells : SpellsPlan (readable all) (plan_text (readable plan.task) plan.steps) steps =
-        subst (λ (text : List ℕ). SpellsPlan (readable all) text steps) (sym is)
-        (plan_read read all w.horizon readable_all many_all (ap (λ (l : RunLimits). l.horizon) is_all.same_limits) within steps own ends) in
-        record {
-          steps = steps;
-          of_task = own;
-          valid = (same.same steps plan.steps own are e).1 answer.valid;
-          within = ends;
-          is = is;
-          spells = spells;
-          accepted = plan_accepted (readable all) (plan_text (readable plan.task) plan.steps) steps spells (subst (λ (n : ℕ). n ≤ 512) (sym (as_long all task steps plan.steps e)) of_task.0.few);
-        }
+        plan_said_of_all read task w.horizon within readable_here many_here limit_here all readable_all many_all (ap (λ (l : RunLimits). l.horizon) is_all.same_limits) (holds_of all task same) plan answer.task answer.within answer.valid of_task
     says_all Unreachable answer of_task = inl (unreachable_of_all all task same readable_all many_all goals answer, refl)
     says_all Exhausted answer of_task = inr (inl (exhausted_of_all all task same readable_all many_all goals answer, refl))
     says_all (Spent n) answer of_task =
         inr (inr (spent_of_all all task same readable_all many_all goals w.budget w.budget (record { in_reach = answer.in_reach; not_empty = answer.not_empty; all_of_it = refl }), ap spent_line answer.all_of_it))
 
-  text_is : (found : Found) (planned : Bool) → Says task w.budget w.horizon found planned → IsSearchText task w.budget w.horizon (found_text found)
-  text_is found true h = inl h
-  text_is found false h = inr h
+  are_named : AreNamed held (task_words w) named.domain named.problem
+  are_named = (named.domain_in, named.problem_in)
+
+  task_in : IsPlanTask w.order limits w.scale named.domain named.problem task
+  task_in = in_order w.order limits w.scale named.domain named.problem task named.task_of
+
+  text_is : (found : Found) (planned : Bool) → Says task w.budget w.horizon found planned → IsSearchText w named.domain named.problem task (found_text found)
+  text_is found true h = inl (task_in, h)
+  text_is found false h = inr (named.task_of, h)
 
   written : (found : Found) (before now : Option (List ℕ)) (planned : Bool) → Says task w.budget w.horizon found planned → ((all : Task) → IsTask limits w.scale named.domain named.problem all → Says all w.budget w.horizon found planned) → TellsFound found before now planned → Searches held w before now planned
-  written found before now true h k told = record { task = task; text = found_text found; named = named; plan = h; of_all = k; written = told.1 }
+  written found before now true h k told =
+      record {
+        task = task;
+        text = found_text found;
+        domain = named.domain;
+        problem = named.problem;
+        are_named = are_named;
+        task_of = task_in;
+        plan = h;
+        of_all = k;
+        written = told.1;
+      }
   written found before now false h k told = record { task = task; line = found_text found; named = named; why = h; of_all = k; written = told.1 }
 
   pub searches : (found : Found) (before now : Option (List ℕ)) (planned : Bool) → IsAnswer task w.budget w.horizon found → IsFoundOfTask found → TellsFound found before now planned → Searches held w before now planned
@@ -121,4 +171,12 @@ module _ (read : PlansAreRead) (can_be_read : ActionsAreReadable) (all_readable 
   pub stops : (found : Found) (before now : Option (List ℕ)) (stop : SearchStop) → IsAnswer task w.budget w.horizon found → IsFoundOfTask found → StopsTelling found before now stop → StopsSearch held w before now stop
   stops found before now stop answer of_task told =
       subst (StopsSearch held w before now) (sym told.0)
-      (record { task = task; text = found_text found; named = named; is = text_is found (is_plan found) (says found answer of_task); part = told.1 })
+      (record {
+        task = task;
+        text = found_text found;
+        domain = named.domain;
+        problem = named.problem;
+        are_named = are_named;
+        is = text_is found (is_plan found) (says found answer of_task);
+        part = told.1;
+      })

@@ -1,4 +1,5 @@
 pub mod AnswerLemmas
+pub mod JoinedLemmas
 pub mod ReadBack
 pub mod StopLemmas
 pub mod TaskLemmas

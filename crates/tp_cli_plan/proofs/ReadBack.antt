@@ -11,7 +11,7 @@ use Rattle.tp_syntax.specs.Domains.{Domain, SpellsDomain}
 use Rattle.tp_syntax.specs.Problems.{Problem, SpellsProblem}
 use Rattle.tp_ground.specs.Bindings.{universe_of}
 use Rattle.tp_ground.specs.Grounding.{IsTask, ground_actions}
-use Rattle.tp_ground.specs.Reached.{IsReachedTask, action_of as reached_action}
+use Rattle.tp_ground.specs.Reached.{Instance, IsReachedTask, IsTaskOf, action_of as reached_action}
 use Rattle.tp_ground.specs.ReadBack.{named_body}
 use Rattle.tp_task.specs.Readable.{AreReadable, are_names}
 use Rattle.tp_task.specs.Tables.{words_at}
@@ -72,14 +72,17 @@ module _ (task : Task) (horizon : ℕ) (can_be_read : AreReadable task.numbering
       (step_read s a.0 e.0, steps_read steps a.1 e.1)
 
 module _ (limits : RunLimits) (scale : Scale) (d : Domain) (p : Problem) (task : Task) where
-  pub as_many : IsReachedTask limits scale d p task → length task.actions.items ≡ length task.numbering.actions
-  as_many is =
+  pub as_many_of_some : (some : List Instance) → IsTaskOf limits scale d p some task → length task.actions.items ≡ length task.numbering.actions
+  as_many_of_some some is =
       let u = universe_of d p in
       sym (length-map task.actions.items (named_body task.numbering))
-      ∙ ap length is.task.bodies
-      ∙ length-map is.kept (λ i. (reached_action u i).body)
-      ∙ sym (length-map is.kept (λ i. (reached_action u i).words))
-      ∙ sym (ap length is.task.names)
+      ∙ ap length is.bodies
+      ∙ length-map some (λ i. (reached_action u i).body)
+      ∙ sym (length-map some (λ i. (reached_action u i).words))
+      ∙ sym (ap length is.names)
+
+  pub as_many : IsReachedTask limits scale d p task → length task.actions.items ≡ length task.numbering.actions
+  as_many is = as_many_of_some is.kept is.task
 
   pub as_many_of_all : IsTask limits scale d p task → length task.actions.items ≡ length task.numbering.actions
   as_many_of_all is =

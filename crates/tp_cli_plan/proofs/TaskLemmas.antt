@@ -1,24 +1,34 @@
 -- The task that is searched, and why there is none, where files hold the same at two times.
-use Rattle.std.proofs.Common.{ℕ, List, Option}
+use Rattle.std.proofs.Common.{◌≡◌, ℕ, List, Option, subst}
+use Rattle.tp_bounds.specs.RunLimits.{greatest_limits}
 use Rattle.tp_syntax.specs.Domains.{Domain, SpellsDomain}
-use Rattle.tp_syntax.specs.Problems.{SpellsProblem}
+use Rattle.tp_syntax.specs.Problems.{Problem, SpellsProblem}
+use Rattle.tp_ground.specs.Reached.{IsReachedTask}
+use Rattle.tp_ground_joins.specs.Joined.{IsJoinedTask}
 use Rattle.tp_task.specs.declared.task.Task.{Task}
-use Rattle.tp_cli_inputs.specs.Named.{IsIn}
+use Rattle.tp_cli_inputs.specs.Named.{AreNamed}
 use Rattle.tp_cli_inputs.specs.declared.judging.JudgeFault.{JudgeFault}
 use Rattle.tp_cli_inputs.specs.declared.judging.JudgeFault.TheVariants as judge
 use Rattle.tp_cli_inputs.specs.declared.plan_words.PlanWords.{PlanWords}
 use Rattle.tp_cli_inputs.proofs.NamedLemmas.{Same, explains_over, in_over}
-use Rattle.tp_cli_plan.specs.SearchTasks.{ExplainsTask, IsSearchTask, IsSearchTaskWith}
+use Rattle.tp_cli_plan.specs.Parts.{IsJoinedOf}
+use Rattle.tp_cli_plan.specs.SearchTasks.{ExplainsTask, IsSearchTask}
+use Rattle.tp_cli_plan.specs.Searches.{task_words}
+use Rattle.tp_cli_plan.specs.declared.search_words.SearchWords.{SearchWords}
 
-pub search_task : (held later : List ℕ → Option (List ℕ)) (w : PlanWords) (domain : Domain) (task : Task) → IsIn (held w.domain.now) (λ text. SpellsDomain text domain) → Same later held → IsSearchTaskWith later w domain task → IsSearchTask held w task
-search_task held later w domain task spelled same is =
+pub search_task : (held : List ℕ → Option (List ℕ)) (w v : PlanWords) (d : Domain) (p : Problem) (task : Task) → w ≡ v → AreNamed held v d p → IsReachedTask (greatest_limits w.horizon) w.scale d p task → IsSearchTask held v task
+search_task held w v d p task e are is =
     record {
-      domain = domain;
-      problem = is.problem;
-      domain_in = spelled;
-      problem_in = in_over later held w.problem.now (λ text. SpellsProblem domain text is.problem) same is.problem_in;
-      task_of = is.task_of;
+      domain = d;
+      problem = p;
+      domain_in = are.0;
+      problem_in = are.1;
+      task_of = subst (λ (x : PlanWords). IsReachedTask (greatest_limits x.horizon) x.scale d p task) e is;
     }
+
+pub joined_of : (held : List ℕ → Option (List ℕ)) (w : SearchWords) (v : PlanWords) (d : Domain) (p : Problem) (task : Task) → v ≡ task_words w → AreNamed held (task_words w) d p → IsJoinedTask (greatest_limits v.horizon) v.scale d p task → IsJoinedOf held w task
+joined_of held w v d p task e are is =
+    (d, p, are, subst (λ (x : PlanWords). IsJoinedTask (greatest_limits x.horizon) x.scale d p task) e is)
 
 pub task_explained : (a b : List ℕ → Option (List ℕ)) (w : PlanWords) (fault : JudgeFault) → Same a b → ExplainsTask a w fault → ExplainsTask b w fault
 task_explained a b w (judge.DomainFile fault) same h = explains_over a b w (judge.DomainFile fault) same h

@@ -1,4 +1,5 @@
 pub mod FoundText
+pub mod Parts
 pub mod SearchStops
 pub mod SearchTasks
 pub mod Searches

@@ -11,13 +11,6 @@ use Rattle.tp_cli_inputs.specs.declared.judging.JudgeFault.{JudgeFault}
 use Rattle.tp_cli_inputs.specs.declared.judging.JudgeFault.TheVariants as judge
 use Rattle.tp_cli_inputs.specs.declared.plan_words.PlanWords.{PlanWords}
 
--- the task is that of a domain and the problem that the words name
-pub record IsSearchTaskWith (held : List ℕ → Option (List ℕ)) (w : PlanWords) (domain : Domain)
-    (task : Task) : Type 0 where
-  pub problem : Problem
-  pub problem_in : IsIn (held w.problem.now) (λ text. SpellsProblem domain text problem)
-  pub task_of : IsReachedTask (greatest_limits w.horizon) w.scale domain problem task
-
 -- the task is that of the domain and the problem that the words name
 pub record IsSearchTask (held : List ℕ → Option (List ℕ)) (w : PlanWords)
     (task : Task) : Type 0 where

@@ -9,8 +9,8 @@ use tp_text::Scale;
 /// In which order a search takes its nodes.
 #[derive(Clone, Copy, Debug, PartialEq, Eq)]
 pub enum Order {
-    /// By the count of goal conjuncts that they lack.
-    Lacking,
+    /// By the count of goal conjuncts that they lack, and whether it is told how far it is.
+    Lacking { progress: bool },
     /// By relaxed plans, and what is wished for beside a plan.
     Guided(Wishes),
 }

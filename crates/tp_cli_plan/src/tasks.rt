@@ -1,61 +1,95 @@
-//! The task of the domain and the problem in two files, with the actions that the relaxed reach
-//! keeps.
+//! The domain and the problem in two files, and tasks of them: of the actions that the relaxed
+//! reach keeps, and of those that joins of static conditions leave.
 
-ghost use Rattle.std.specs.Prelude.{◌≤◌, IfOk, IfErr};
-ghost use Rattle.tp_syntax.specs.DomainViews.{domain_view};
+ghost use Rattle.std.specs.Prelude.{◌≤◌, ℕ, List, Option, IfOk, IfErr, IfSome};
+ghost use Rattle.tp_bounds.specs.RunLimits.{greatest_limits};
+ghost use Rattle.tp_syntax.specs.DomainViews.{domain_view, problem_view};
 ghost use Rattle.tp_syntax.specs.Domains.{SpellsDomain};
-ghost use Rattle.tp_cli_inputs.specs.Named.{IsIn};
-ghost use Rattle.tp_cli_plan.specs.SearchTasks.{ExplainsTask, IsSearchTask, IsSearchTaskWith};
+ghost use Rattle.tp_ground.specs.Reached.{IsReachedTask};
+ghost use Rattle.tp_ground_joins.specs.Joined.{IsJoinedTask};
+ghost use Rattle.tp_cli_inputs.specs.Named.{AreNamed, IsIn};
+ghost use Rattle.tp_cli_plan.specs.SearchTasks.{ExplainsTask};
 
 use std::alloc::Global;
-use std::mem::forget;
 use tp_bounds::Limits;
 use tp_cli_files::Files;
 use tp_cli_inputs::{JudgeFault, PlanWords, domain_in, problem_in};
 use tp_ground::ground_reached;
-use tp_syntax::Domain;
+use tp_ground_joins::ground_joined;
+use tp_ground_named::begin;
+use tp_syntax::{Domain, Problem};
 use tp_task::Task;
 
-/// The task of a domain and the problem that the words name.
-fn task_with<N: Files>(
+/// A domain, and a problem of it.
+#[derive(Drop)]
+pub(crate) struct Inputs {
+    pub(crate) domain: Domain,
+    pub(crate) problem: Problem,
+}
+
+/// A domain with the problem that the words name.
+fn inputs_of<N: Files>(
     alloc: Global,
     files: &mut N,
     words: PlanWords<'_>,
-    domain: &Domain,
+    domain: Domain,
+) -> Result<Inputs, JudgeFault>
+    ensures named { IsIn (N.held files.old words.entry.domain.now)
+        (λ text. SpellsDomain text (domain_view domain)) → IfOk result (λ i.
+        AreNamed (N.held files.old) words.entry (domain_view i.domain) (problem_view i.problem)) }
+    ensures cause { IsIn (N.held files.old words.entry.domain.now) (λ text. SpellsDomain text
+        (domain_view domain)) → IfErr result (ExplainsTask (N.held files.old) words.entry) }
+{
+    let problem = problem_in(alloc, files, words, &domain)?;
+    Ok(Inputs { domain, problem })
+}
+
+/// The domain and the problem that the words name. A file is opened only when what stands before it
+/// is done.
+pub(crate) fn inputs_in<N: Files>(
+    alloc: Global,
+    files: &mut N,
+    words: PlanWords<'_>,
+) -> Result<Inputs, JudgeFault>
+    ensures named { IfOk result (λ i.
+        AreNamed (N.held files.old) words.entry (domain_view i.domain) (problem_view i.problem)) }
+    ensures cause { IfErr result (ExplainsTask (N.held files.old) words.entry) }
+{
+    let domain = domain_in(alloc, files, words)?;
+    inputs_of(alloc, files, words, domain)
+}
+
+/// The task of the actions that the relaxed reach keeps.
+pub(crate) fn reached_task(
+    alloc: Global,
+    words: PlanWords<'_>,
+    inputs: &Inputs,
 ) -> Result<Task, JudgeFault>
     requires { words.horizon ≤ 1000000000 }
-    ensures named { IfOk result
-        (IsSearchTaskWith (N.held files.old) words.entry (domain_view domain.now)) }
-    ensures cause { IsIn (N.held files.old words.entry.domain.now) (λ text. SpellsDomain text
-        (domain_view domain.now)) → IfErr result (ExplainsTask (N.held files.old) words.entry) }
+    ensures task { IfOk result (IsReachedTask (greatest_limits words.entry.horizon)
+        words.entry.scale (domain_view inputs.now.domain) (problem_view inputs.now.problem)) }
+    ensures cause { (held : List ℕ → Option (List ℕ)) → AreNamed held words.entry
+        (domain_view inputs.now.domain) (problem_view inputs.now.problem)
+        → IfErr result (ExplainsTask held words.entry) }
 {
-    let problem = problem_in(alloc, files, words, domain)?;
     let limits = Limits::greatest(words.horizon);
-    match ground_reached(alloc, domain, &problem, &limits, words.scale) {
-        Ok(task) => {
-            // To free it piece by piece takes long, and the end of the program does it at once.
-            forget(problem);
-            Ok(task)
-        }
+    match ground_reached(alloc, &inputs.domain, &inputs.problem, &limits, words.scale) {
+        Ok(task) => Ok(task),
         Err(fault) => Err(JudgeFault::Task(fault)),
     }
 }
 
-/// The task of the domain and the problem that the words name. A file is opened only when what
-/// stands before it is done. What both texts spell is never freed: a call is made once in a run of
-/// the program, whose end frees all at once.
-pub(crate) fn task_in<N: Files>(
-    alloc: Global,
-    files: &mut N,
-    words: PlanWords<'_>,
-) -> Result<Task, JudgeFault>
+/// The task of the actions that joins leave, None where it has none within the limits.
+pub(crate) fn joined_task(alloc: Global, words: PlanWords<'_>, inputs: &Inputs) -> Option<Task>
     requires { words.horizon ≤ 1000000000 }
-    ensures named { IfOk result (IsSearchTask (N.held files.old) words.entry) }
-    ensures cause { IfErr result (ExplainsTask (N.held files.old) words.entry) }
+    ensures { IfSome result (IsJoinedTask (greatest_limits words.entry.horizon)
+        words.entry.scale (domain_view inputs.now.domain) (problem_view inputs.now.problem)) }
 {
-    let domain = domain_in(alloc, files, words)?;
-    let task = task_with(alloc, files, words, &domain);
-    // As the problem in `task_with`.
-    forget(domain);
-    task
+    let limits = Limits::greatest(words.horizon);
+    let domain = &inputs.domain;
+    let problem = &inputs.problem;
+    match begin(alloc, domain, problem, &limits) {
+        Ok(begun) => ground_joined(alloc, domain, problem, begun, &limits, words.scale).ok(),
+        Err(_) => None,
+    }
 }

@@ -1,5 +1,5 @@
 -- Lines of lags at the beginning, and then commands on the network of a plan.
-use Rattle.std.proofs.Common.{◌≡◌, ◌+◌, ◌-◌, ◌≤◌, ℕ, List, [], ◌++◌, ◌⊎◌, length-append, length, Bool, true, false, nat_lt, Option, Some, None, refl, subst, sym, ap, ◌∷◌, ◌∙◌, inl, inr, arith}
+use Rattle.std.proofs.Common.{◌≡◌, ◌+◌, ◌-◌, ◌≤◌, ◌<◌, ℕ, List, [], ◌++◌, ◌⊎◌, length-append, length, Bool, true, false, nat_lt, Option, Some, None, refl, subst, sym, ap, ◌∷◌, ◌∙◌, inl, inr, arith}
 use Rattle.std.specs.Prelude.{Result, Ok, Err, IfErr, IfOk, IfSome, MatchBool, MatchOption}
 use Rattle.std.specs.Io.KnownBytes.{Consumes, IsAtEnd}
 use Rattle.std.proofs.KnownBytes.{Appends-nil}
@@ -21,7 +21,7 @@ use Rattle.tp_script.specs.Serving.{Serves, TakesLines}
 use Rattle.tp_script.specs.declared.serving.Served.{Served}
 use Rattle.tp_script.specs.declared.serving.ServeFault.{ServeFault}
 use Rattle.tp_script.specs.declared.serving.ServeFault.TheVariants.{Read, Write, Memory, TooLong, Head}
-use Rattle.tp_script.proofs.ServeLemmas.{first_whole}
+use Rattle.tp_script.proofs.ServeLemmas.{first_whole, unwritten_part}
 use Rattle.tp_cli_bare.specs.Bare.{TakesAllLags, first_setting}
 use Rattle.tp_cli_bare.specs.declared.bare.BareFault.{BareFault}
 use Rattle.tp_cli_bare.specs.declared.bare.BareFault.TheVariants.{Network, Serving}
@@ -78,7 +78,7 @@ answered_by net (Some xs) (Some ys) (Some zs) more setting lags last lines answe
       lines = lines;
       read = split ∙ ap (λ ls. lags ++ ls) takes.split;
       set = set;
-      end = subst (λ ls. (line : List ℕ) (rest : List (List ℕ)) → ls ≡ line ∷ rest → (lag_spelled line ≡ None) ⊎ (4_294_967_296 ≤ length xs)) takes.split (end_lags xs xs ys [] more may refl took stop most);
+      end = subst (λ ls. (line : List ℕ) (rest : List (List ℕ)) → ls ≡ line ∷ rest → (lag_spelled line ≡ None) ⊎ (4_294_967_296 < length xs)) takes.split (end_lags xs xs ys [] more may refl took stop most);
       ran = ran;
     }
 
@@ -164,7 +164,7 @@ serving_stops : (fault : ServeFault) (net : PlanNet) (before mid after : Reading
 serving_stops Read net before mid after setting last held now none most lags still serves =
     inr (rest_lines serves.left, serves.text, last, answered net before mid after setting last held now (Err Read) none most lags serves, serves.ended)
 serving_stops Write net before mid after setting last held now none most lags still serves =
-    (rest_lines serves.left, serves.text, last, answered net before mid after setting last held now (Err Write) none most lags serves, serves.ended.1)
+    (rest_lines serves.left, serves.text, last, answered net before mid after setting last held now (Err Write) none most lags serves, unwritten_part (run_machine net setting) last serves.lines serves.text held now serves.ended.1)
 serving_stops Memory net before mid after setting last held now none most lags still serves = absurd serves.ended
 serving_stops Head net before mid after setting last held now none most lags still serves = absurd serves.ended
 serving_stops TooLong net before mid after setting last held now none most lags still serves =

@@ -179,7 +179,8 @@ fn run_of<L: Logs, I: Source + Drop, O: Sink>(
     requires of_task { IsOfTask task.now plan }
     ensures said { (held : List ℕ → Option (List ℕ))
         → IsNamedPlan held words.entry task.now plan
-        → IfOk result (LogsTo held words.entry (I.left input) (O.held output.old) (O.held output.new)
+        → IfOk result (LogsTo held words.entry
+        (I.left input) (O.held output.old) (O.held output.new)
         (log_file name.now (L.asked logs.old) (L.asked logs.new)
         (L.named logs.new) L.blank (L.kept logs.new))) }
     ensures cause { (held : List ℕ → Option (List ℕ))

@@ -6,7 +6,7 @@ use Rattle.tp_cli_inputs.specs.JudgeLines.{judge_status, judge_text}
 use Rattle.tp_cli_inputs.specs.declared.plan_words.PlanWords.{PlanWords}
 use Rattle.tp_cli_run.specs.RunLines.{network_status, network_text}
 use Rattle.tp_cli_split.specs.declared.stops.SplitStop.{SplitStop}
-use Rattle.tp_cli_split.specs.declared.stops.SplitStop.TheVariants.{Judging, Network, Setting, OwnersFile, Owner, Memory, Conflict, Write}
+use Rattle.tp_cli_split.specs.declared.stops.SplitStop.TheVariants.{Judging, Network, Setting, OwnersFile, Owner, Agent, TooMany, Memory, Conflict, Write}
 
 abbrev pub split_status : SplitStop → ℕ
 split_status (Judging fault) = judge_status fault
@@ -14,6 +14,8 @@ split_status (Network fault) = network_status fault
 split_status Setting = 3
 split_status (OwnersFile fault) = file_status fault
 split_status (Owner e) = 2
+split_status (Agent a) = 2
+split_status TooMany = 2
 split_status Memory = 3
 split_status Conflict = 2
 split_status Write = 3
@@ -25,6 +27,8 @@ split_text w owners (Network fault) = network_text fault
 split_text w owners Setting = fault_line (codes "run") (codes "1 memory")
 split_text w owners (OwnersFile fault) = file_text (codes "split") fault owners
 split_text w owners (Owner e) = placed_line (codes "split") (codes "2 owner") e
+split_text w owners (Agent a) = placed_line (codes "split") (codes "4 agent") a
+split_text w owners TooMany = fault_line (codes "split") (codes "5 too-many")
 split_text w owners Memory = fault_line (codes "split") (codes "1 memory")
 split_text w owners Conflict = fault_line (codes "split") (codes "3 conflict")
 split_text w owners Write = fault_line (codes "script") (codes "2 write")
@@ -37,6 +41,8 @@ split_failures n (Err (Network fault)) = n
 split_failures n (Err Setting) = n
 split_failures n (Err (OwnersFile fault)) = n
 split_failures n (Err (Owner e)) = n
+split_failures n (Err (Agent a)) = n
+split_failures n (Err TooMany) = n
 split_failures n (Err Memory) = n
 split_failures n (Err Conflict) = n
 split_failures n (Err Write) = n + 1

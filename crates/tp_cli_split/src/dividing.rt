@@ -1,17 +1,18 @@
 //! The intervals of the events of a plan's network.
 
-ghost use Rattle.std.specs.Prelude.{◌≤◌, length, IfOk, IfErr};
+ghost use Rattle.std.specs.Prelude.{◌≤◌, length, Some, IfOk, IfErr};
 ghost use Rattle.std.specs.String.{string_bytes};
 ghost use Rattle.tp_agents.specs.Splits.{IsUnbegun};
 ghost use Rattle.tp_agents.specs.Texts.{AreNumbers, words_of};
 ghost use Rattle.tp_cli_inputs.specs.Named.{IsIn};
-ghost use Rattle.tp_cli_split.specs.Divides.{Divides, DividesPlan, IsMisread, SplitsInto, StopsAmong, StopsAs, StopsDividing, StopsPlan, net_setting};
+ghost use Rattle.tp_cli_split.specs.Divides.{Divides, DividesPlan, IsMisread, IsSplitText, SplitsInto, StopsAmong, StopsAs, StopsDividing, StopsPlan, net_setting};
 
 use crate::interval_lines::intervals_text;
+use crate::part_lines::bare_text;
 use crate::plan_settings::plan_setting;
 use crate::stops::SplitStop;
 use std::alloc::Global;
-use tp_agents::{Owners, SplitFault, read_owners, split};
+use tp_agents::{Owners, PartFault, Split, SplitFault, part, read_owners, split};
 use tp_bounds::{Limits, PlanNet, Setting};
 use tp_cli_files::{Files, open_text};
 use tp_deorder::deorder;
@@ -25,6 +26,41 @@ fn stop_of(fault: SplitFault) -> SplitStop
         SplitFault::Memory => SplitStop::Memory,
         SplitFault::Owner(e) => SplitStop::Owner(e),
         SplitFault::Conflict(_) => SplitStop::Conflict,
+    }
+}
+
+/// The lines of the network of an agent's part.
+fn part_text(alloc: Global, split: &Split, agent: u32) -> Result<String, SplitStop>
+    ensures lines { IfOk result (λ text. IsSplitText (Some agent) split.now.setting
+        split.now.owners.items split.now.intervals.items (string_bytes text)) }
+    ensures cause { IfErr result
+        (StopsAmong (Some agent) split.now.setting split.now.owners.items) }
+{
+    if agent >= u32::from(split.agents()) {
+        return Err(SplitStop::Agent(agent));
+    }
+    match part(alloc, split, agent as u16) {
+        Ok(net) => match bare_text(alloc, &net) {
+            Ok(text) => Ok(text),
+            Err(_) => Err(SplitStop::Memory),
+        },
+        Err(PartFault::Memory) => Err(SplitStop::Memory),
+        Err(PartFault::TooMany) => Err(SplitStop::TooMany),
+    }
+}
+
+/// The lines of the intervals of a setting that is split, or of the network of one agent's part.
+fn split_text(alloc: Global, split: &Split, agent: Option<u32>) -> Result<String, SplitStop>
+    ensures lines { IfOk result (λ text. IsSplitText agent split.now.setting
+        split.now.owners.items split.now.intervals.items (string_bytes text)) }
+    ensures cause { IfErr result (StopsAmong agent split.now.setting split.now.owners.items) }
+{
+    match agent {
+        Some(agent) => part_text(alloc, split, agent),
+        None => match intervals_text(alloc, &split.intervals) {
+            Ok(text) => Ok(text),
+            Err(_) => Err(SplitStop::Memory),
+        },
     }
 }
 
@@ -43,17 +79,21 @@ fn owners_in<N: Files>(alloc: Global, files: &mut N, owners: &str) -> Result<Own
     }
 }
 
-/// The lines of the intervals of a setting that is split among agents.
-fn lines_among(alloc: Global, setting: &Setting, owners: &Owners) -> Result<String, SplitStop>
+/// The lines of the intervals of a setting that is split among agents, or of the network of one
+/// agent's part.
+fn lines_among(
+    alloc: Global,
+    setting: &Setting,
+    owners: &Owners,
+    agent: Option<u32>,
+) -> Result<String, SplitStop>
     requires { IsUnbegun setting.now }
-    ensures lines { IfOk result (λ text. SplitsInto setting.now owners.now (string_bytes text)) }
-    ensures cause { IfErr result (StopsAmong setting.now owners.now) }
+    ensures lines { IfOk result (λ text.
+        SplitsInto agent setting.now owners.now (string_bytes text)) }
+    ensures cause { IfErr result (StopsAmong agent setting.now owners.now) }
 {
     match split(alloc, setting, owners) {
-        Ok(split) => match intervals_text(alloc, &split.intervals) {
-            Ok(text) => Ok(text),
-            Err(_) => Err(SplitStop::Memory),
-        },
+        Ok(split) => split_text(alloc, &split, agent),
         Err(fault) => Err(stop_of(fault)),
     }
 }
@@ -65,14 +105,15 @@ fn lines_of<N: Files>(
     files: &mut N,
     owners: &str,
     setting: &Setting,
+    agent: Option<u32>,
 ) -> Result<String, SplitStop>
     requires { IsUnbegun setting.now }
     ensures lines { IfOk result (λ text.
-        Divides setting.now (N.held files.old owners.now) (string_bytes text)) }
-    ensures cause { IfErr result (StopsDividing setting.now (N.held files.old owners.now)) }
+        Divides agent setting.now (N.held files.old owners.now) (string_bytes text)) }
+    ensures cause { IfErr result (StopsDividing agent setting.now (N.held files.old owners.now)) }
 {
     match owners_in(alloc, files, owners) {
-        Ok(numbers) => lines_among(alloc, setting, &numbers),
+        Ok(numbers) => lines_among(alloc, setting, &numbers, agent),
         Err(stop) => Err(stop),
     }
 }
@@ -83,15 +124,16 @@ fn lines_of_net<N: Files>(
     files: &mut N,
     owners: &str,
     network: &PlanNet,
+    agent: Option<u32>,
 ) -> Result<String, SplitStop>
     requires { length network.now.bounds.items ≤ 65535 }
     ensures lines { IfOk result (λ text.
-        Divides (net_setting network.now) (N.held files.old owners.now) (string_bytes text)) }
+        Divides agent (net_setting network.now) (N.held files.old owners.now) (string_bytes text)) }
     ensures cause { IfErr result
-        (StopsDividing (net_setting network.now) (N.held files.old owners.now)) }
+        (StopsDividing agent (net_setting network.now) (N.held files.old owners.now)) }
 {
     match plan_setting(alloc, network) {
-        Ok(setting) => lines_of(alloc, files, owners, &setting),
+        Ok(setting) => lines_of(alloc, files, owners, &setting, agent),
         Err(_) => Err(SplitStop::Setting),
     }
 }
@@ -104,15 +146,16 @@ pub(crate) fn lines_of_plan<N: Files>(
     owners: &str,
     plan: &ValidPlan<'_>,
     horizon: u32,
+    agent: Option<u32>,
 ) -> Result<String, SplitStop>
     requires { horizon ≤ 1000000000 }
-    ensures lines { IfOk result (λ text. DividesPlan plan.now.task plan.now.steps horizon
+    ensures lines { IfOk result (λ text. DividesPlan agent plan.now.task plan.now.steps horizon
         (N.held files.old owners.now) (string_bytes text)) }
     ensures cause { IfErr result
-        (StopsPlan plan.now.task plan.now.steps horizon (N.held files.old owners.now)) }
+        (StopsPlan agent plan.now.task plan.now.steps horizon (N.held files.old owners.now)) }
 {
     match deorder(alloc, plan, &Limits::greatest(horizon)) {
-        Ok(network) => lines_of_net(alloc, files, owners, &network),
+        Ok(network) => lines_of_net(alloc, files, owners, &network, agent),
         Err(fault) => Err(SplitStop::Network(fault)),
     }
 }

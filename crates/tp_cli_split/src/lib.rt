@@ -2,6 +2,7 @@
 //! events that bounds join with events of other agents.
 //!
 //! - `interval_lines`: the lines of intervals
+//! - `part_lines`: the lines by which an agent's part is made from nothing
 //! - `plan_settings`: the setting of a plan's network
 //! - `dividing`: the lines of the intervals of a plan's events
 //! - `splitting`: all of it, of the files that words name
@@ -10,6 +11,7 @@
 
 mod dividing;
 mod interval_lines;
+mod part_lines;
 mod plan_settings;
 mod splitting;
 mod stops;

@@ -25,16 +25,17 @@ fn write_lines<N: Files, O: Sink>(
     owners: &str,
     plan: &ValidPlan<'_>,
     horizon: u32,
+    agent: Option<u32>,
     output: &mut O,
 ) -> Result<(), SplitStop>
     requires { horizon ≤ 1000000000 }
-    ensures written { OnOk result (WritesPlan plan.now.task plan.now.steps horizon
+    ensures written { OnOk result (WritesPlan agent plan.now.task plan.now.steps horizon
         (N.held files.old owners.now) (O.held output.old) (O.held output.new)) }
-    ensures cause { IfErr result (StopsWriting plan.now.task plan.now.steps horizon
+    ensures cause { IfErr result (StopsWriting agent plan.now.task plan.now.steps horizon
         (N.held files.old owners.now) (O.held output.old) (O.held output.new)) }
     ensures failures { O.failures output.new ≡ split_failures (O.failures output.old) result }
 {
-    match lines_of_plan(alloc, files, owners, plan, horizon) {
+    match lines_of_plan(alloc, files, owners, plan, horizon, agent) {
         Ok(text) => match push_all(output, text.as_bytes()) {
             Ok(()) => Ok(()),
             Err(_) => Err(SplitStop::Write),
@@ -51,17 +52,20 @@ fn tell<N: Files, O: Sink>(
     owners: &str,
     verdict: &Verdict<'_>,
     horizon: u32,
+    agent: Option<u32>,
     output: &mut O,
 ) -> Result<bool, SplitStop>
     requires { horizon ≤ 1000000000 }
-    ensures said { IfOk result (TellsSplit verdict.now horizon (N.held files.old owners.now)
+    ensures said { IfOk result (TellsSplit agent verdict.now horizon (N.held files.old owners.now)
         (O.held output.old) (O.held output.new)) }
-    ensures cause { IfErr result (StopsTelling verdict.now horizon (N.held files.old owners.now)
-        (O.held output.old) (O.held output.new)) }
+    ensures cause { IfErr result (StopsTelling agent verdict.now horizon
+        (N.held files.old owners.now) (O.held output.old) (O.held output.new)) }
     ensures failures { O.failures output.new ≡ split_failures (O.failures output.old) result }
 {
     match verdict {
-        Verdict::Valid(plan) => match write_lines(alloc, files, owners, plan, horizon, output) {
+        Verdict::Valid(plan) => match write_lines(
+            alloc, files, owners, plan, horizon, agent, output,
+        ) {
             Ok(()) => Ok(true),
             Err(stop) => Err(stop),
         },
@@ -78,6 +82,7 @@ fn split_of<N: Files, O: Sink>(
     files: &mut N,
     words: PlanWords<'_>,
     owners: &str,
+    agent: Option<u32>,
     task: &Task,
     plan: Plan,
     output: &mut O,
@@ -87,15 +92,15 @@ fn split_of<N: Files, O: Sink>(
     ensures said { (held : List ℕ → Option (List ℕ))
         → N.held files.old owners.now ≡ held owners.now
         → IsNamedPlan held words.entry task.now plan → IfOk result
-        (Splits held words.entry owners.now (O.held output.old) (O.held output.new)) }
+        (Splits agent held words.entry owners.now (O.held output.old) (O.held output.new)) }
     ensures cause { (held : List ℕ → Option (List ℕ))
         → N.held files.old owners.now ≡ held owners.now
         → IsNamedPlan held words.entry task.now plan → IfErr result
-        (StopsSplit held words.entry owners.now (O.held output.old) (O.held output.new)) }
+        (StopsSplit agent held words.entry owners.now (O.held output.old) (O.held output.new)) }
     ensures failures { O.failures output.new ≡ split_failures (O.failures output.old) result }
 {
     match verdict_of(alloc, task, plan) {
-        Ok(verdict) => tell(alloc, files, owners, &verdict, words.horizon, output),
+        Ok(verdict) => tell(alloc, files, owners, &verdict, words.horizon, agent, output),
         Err(fault) => Err(SplitStop::Judging(fault)),
     }
 }
@@ -106,19 +111,20 @@ fn split_named<N: Files, O: Sink>(
     files: &mut N,
     words: PlanWords<'_>,
     owners: &str,
+    agent: Option<u32>,
     output: &mut O,
 ) -> Result<bool, SplitStop>
     requires { words.horizon ≤ 1000000000 }
-    ensures said { IfOk result
-        (Splits (N.held files.old) words.entry owners.now (O.held output.old) (O.held output.new)) }
-    ensures cause { IfErr result (StopsSplit
+    ensures said { IfOk result (Splits agent
+        (N.held files.old) words.entry owners.now (O.held output.old) (O.held output.new)) }
+    ensures cause { IfErr result (StopsSplit agent
         (N.held files.old) words.entry owners.now (O.held output.old) (O.held output.new)) }
     ensures failures { O.failures output.new ≡ split_failures (O.failures output.old) result }
 {
     match plan_in(alloc, files, words) {
         Ok(named) => {
             let NamedPlan { task, plan } = named;
-            split_of(alloc, files, words, owners, &task, plan, output)
+            split_of(alloc, files, words, owners, agent, &task, plan, output)
         }
         Err(fault) => Err(SplitStop::Judging(fault)),
     }
@@ -137,24 +143,25 @@ pub fn run_split<N: Files, O: Sink, F: Sink>(
     files: &mut N,
     words: PlanWords<'_>,
     owners: &str,
+    agent: Option<u32>,
     output: &mut O,
     faults: &mut F,
 ) -> u8
     requires { words.horizon ≤ 1000000000 }
-    ensures split { result ≡ 0 → WritesSplit
+    ensures split { result ≡ 0 → WritesSplit agent
         (N.held files.old) words.entry owners.now (O.held output.old) (O.held output.new) }
     ensures invalid { result ≡ 1
         → SaysInvalid (N.held files.old) words.entry (O.held output.old) (O.held output.new) }
 
     // What stopped it is told, and is as it is told.
-    ensures stopped { 2 ≤ result → EndsSplit (N.held files.old) words.entry owners.now result
+    ensures stopped { 2 ≤ result → EndsSplit agent (N.held files.old) words.entry owners.now result
         (O.held output.old) (O.held output.new) (O.failures output.old) (O.failures output.new)
         (F.failures faults.old) (F.held faults.old) (F.failures faults.new) (F.held faults.new) }
 
     // Nothing is written for input that is refused, and of the true text at most a first part where
     // memory or a device is wanting; a write that failed is always told.
     ensures kept { result ≡ REFUSED → O.held output.new ≡ O.held output.old }
-    ensures part { result ≡ OUT_OF_ORDER → SplitsPart
+    ensures part { result ≡ OUT_OF_ORDER → SplitsPart agent
         (N.held files.old) words.entry owners.now (O.held output.old) (O.held output.new) }
     ensures told { result ≢ OUT_OF_ORDER → O.failures output.new ≡ O.failures output.old }
 
@@ -164,7 +171,7 @@ pub fn run_split<N: Files, O: Sink, F: Sink>(
     ensures fault { 2 ≤ result → TellsFault [] (F.failures faults.old) (F.held faults.old)
         (F.failures faults.new) (F.held faults.new) }
 {
-    match split_named(alloc, files, words, owners, output) {
+    match split_named(alloc, files, words, owners, agent, output) {
         Ok(true) => 0,
         Ok(false) => 1,
         Err(stop) => complain(faults, split_line(stop, words, owners)),

@@ -23,6 +23,10 @@ pub enum SplitStop {
     /// The word, counted from 0, is no number; or the event has no agent, or one whose number is
     /// over 1,023, or there is no such event and a number for it.
     Owner(u32),
+    /// There is no agent of that number.
+    Agent(u32),
+    /// The agent's part has more bounds than can be in force at one time.
+    TooMany,
     /// There is no memory for the split, or for its lines.
     Memory,
     /// No schedule remains.
@@ -42,6 +46,8 @@ pub fn split_line<'w>(stop: SplitStop, words: PlanWords<'w>, owners: &'w str) ->
         SplitStop::Setting => FaultLine::out_of_order("run", "1 memory"),
         SplitStop::OwnersFile(fault) => FaultLine::of_file("split", fault, owners),
         SplitStop::Owner(e) => FaultLine::placed("split", "2 owner", e),
+        SplitStop::Agent(agent) => FaultLine::placed("split", "4 agent", agent),
+        SplitStop::TooMany => FaultLine::refused("split", "5 too-many"),
         SplitStop::Memory => FaultLine::out_of_order("split", "1 memory"),
         SplitStop::Conflict => FaultLine::refused("split", "3 conflict"),
         SplitStop::Write => FaultLine::out_of_order("script", "2 write"),

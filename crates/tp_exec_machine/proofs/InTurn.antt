@@ -1,4 +1,5 @@
--- A plan's bounds come into force in any order: what is in force always leaves a schedule, and in the end it is all of them.
+-- A plan's bounds come into force in any order: what is in force always leaves a schedule, and in
+-- the end it is all of them.
 use Rattle.std.proofs.Common.{◌≡◌, ◌≢◌, ℕ, zero, suc, ◌+◌, ◌<◌, ◌≤◌, List, [], ◌∷◌, length, slice_get, slice_index_or, get_or, pos, Option, Some, None, inl, inr, refl, sym, ap, subst, ◌∙◌, arith, add-zero}
 use Rattle.std.proofs.lemmas.Grind.{not_there}
 use Rattle.std.proofs.lemmas.Bool.{cases_eq, cases_lt}
@@ -17,6 +18,8 @@ use Rattle.tp_bounds.proofs.Schedules.{schedule_is}
 use Rattle.tp_net.proofs.Laws.{get_inserted, get_insert_other}
 use Rattle.tp_exec_machine.specs.Machine.{IsFresh}
 use Rattle.tp_exec_machine.specs.Partly.{IsPartly, Joins}
+use Rattle.tp_exec_machine.specs.Orders.{AreAllPlaces}
+use Rattle.tp_exec_machine.proofs.Listed.{place_stands}
 use Rattle.tp_exec_machine.proofs.OwnBounds.{stays_before, unused_behind, schedule_by}
 
 -- what stands for a bound where there is none
@@ -89,13 +92,19 @@ none_partly s of free =
       each = λ q b g. absurd (let f : None ≡ Some b = sym (free q) ∙ g in (let h : ⊥ = cc in h));
     }
 
--- the first ones are in force, and then one more is
-pub more_there : (r t : Setting) (xs : List Bound) (i q : ℕ) → ((p : ℕ) → p < i → get r.bounds p ≢ None) → i < length xs → q ≡ i → Joins r t (slice_get xs) q → (p : ℕ) → p < i + 1 → get t.bounds p ≢ None
-more_there r t xs i q h lt here j p below =
-    elim (cases_eq p q) [
-      | inl same ↦ subst (λ k. get t.bounds k ≢ None) (sym same) (j.there (λ none. let f : Some (get_or xs q nothing) ≡ None = sym (slice_get-get_or xs q nothing (omega (arith, here))) ∙ none in (let g : ⊥ = cc in g)))
-      | inr ne ↦ j.stays p (h p (omega (arith, here)))
+-- those of the first places in a list are in force, and then one more is
+pub more_there : (r t : Setting) (xs : List Bound) (order : List ℕ) (i q : ℕ) → ((k : ℕ) → k < i → get r.bounds (get_or order k 0) ≢ None) → q ≡ get_or order i 0 → q < length xs → Joins r t (slice_get xs) q → (k : ℕ) → k < i + 1 → get t.bounds (get_or order k 0) ≢ None
+more_there r t xs order i q h is lt j k below =
+    elim (cases_eq k i) [
+      | inl same ↦ subst (λ p. get t.bounds p ≢ None) (is ∙ sym (ap (λ n. get_or order n 0) same)) (j.there (λ none. let f : Some (get_or xs q nothing) ≡ None = sym (slice_get-get_or xs q nothing lt) ∙ none in (let g : ⊥ = cc in g)))
+      | inr ne ↦ j.stays (get_or order k 0) (h k (omega (arith, below, ne)))
     ]
+
+-- where all places of bounds stand in the list, all of them are
+pub there_all : (r : Setting) (xs : List Bound) (order : List ℕ) → AreAllPlaces (length xs) order → ((k : ℕ) → k < length order → get r.bounds (get_or order k 0) ≢ None) → (q : ℕ) → q < length xs → get r.bounds q ≢ None
+there_all r xs order all h q lt =
+    let s = place_stands (length xs) order q all lt in
+    subst (λ p. get r.bounds p ≢ None) s.2 (h s.0 s.1)
 
 -- ---- all of them
 

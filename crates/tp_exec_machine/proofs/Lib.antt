@@ -6,3 +6,4 @@ pub mod CopyLemmas
 pub mod OwnBounds
 pub mod Keeping
 pub mod InTurn
+pub mod Listed

@@ -4,3 +4,4 @@ pub mod Run
 pub mod Copies
 pub mod OwnBounds
 pub mod Partly
+pub mod Orders

@@ -1,7 +1,11 @@
-//! Which of many bounds come into force first: those that hold the least and the greatest moments
-//! in the end, from the origin on. Each of them moves few points, and behind them no other bound
-//! moves any. It is a guess, of which nothing is promised: in whatever order the bounds come, all
-//! of them are in force in the end.
+//! In which order many bounds come into force: first those that hold the least and the greatest
+//! moments in the end, from the origin on. Each of them moves few points, and behind them no other
+//! bound moves any. Which of them come first is a guess, of which nothing is promised: the order
+//! has each of them once. There may be no schedule, so the moments are not those of `tp_net`, whose
+//! rounds begin with one.
+
+ghost use Rattle.std.specs.Prelude.{◌≡◌, ℕ, ◌<◌, length, IfOk, OnOk, true, false, slice_index_or};
+ghost use Rattle.tp_exec_machine.specs.Orders.{AreAllPlaces, AreListed};
 
 use std::alloc::{AllocError, Global};
 use tp_bounds::{Bound, Point};
@@ -114,11 +118,10 @@ fn settle_once(
     upwards: bool,
     moments: &[i64],
     settled: &mut [bool],
-    order: &mut Vec<u32>,
+    order: &mut Vec<usize>,
 ) -> Result<bool, AllocError> {
     let before = order.len();
-    let mut place = 0u32;
-    for bound in bounds {
+    for (place, bound) in bounds.iter().enumerate() {
         let arrow = arrow_of(bound, upwards);
         if settles(moments, settled, arrow) {
             if let Some(flag) = settled.get_mut(arrow.target) {
@@ -126,7 +129,6 @@ fn settle_once(
             }
             order.push(place)?;
         }
-        place = place.saturating_add(1);
     }
     Ok(before < order.len())
 }
@@ -138,7 +140,7 @@ fn put_holding(
     points: usize,
     upwards: bool,
     first: i64,
-    order: &mut Vec<u32>,
+    order: &mut Vec<usize>,
 ) -> Result<(), AllocError> {
     let moments = moments_of(alloc, bounds, points, upwards, first)?;
     let mut settled = settled_of(alloc, &moments, first)?;
@@ -150,19 +152,65 @@ fn put_holding(
     Ok(())
 }
 
-/// The places of the bounds that come into force first, where they are between so many events, up
-/// to that horizon. It goes over the bounds once for each point at most, four times in all. Nothing
-/// is promised of what it tells.
-pub fn foremost(
+// The places of the bounds that hold moments, from the origin on. A bound that holds some in both
+// directions stands there twice.
+fn holding(
     alloc: Global,
     bounds: &[Bound],
     events: usize,
     horizon: u32,
-) -> Result<Vec<u32>, AllocError> {
+) -> Result<Vec<usize>, AllocError> {
     let points = events.saturating_add(1);
     let bottom = 0i64.saturating_sub(i64::from(horizon));
     let mut order = Vec::new(alloc);
     put_holding(alloc, bounds, points, true, 0, &mut order)?;
     put_holding(alloc, bounds, points, false, bottom, &mut order)?;
     Ok(order)
+}
+
+// Puts a place at the end of a list, if it is one and does not stand there yet.
+fn put_once(order: &mut Vec<usize>, there: &mut Vec<bool>, place: usize) -> Result<(), AllocError>
+    requires { AreListed there.old.items order.old.items }
+    ensures listed { OnOk result (AreListed there.new.items order.new.items) }
+    ensures len { length there.new.items ≡ length there.old.items }
+    ensures here { OnOk result
+        (place < length there.old.items → slice_index_or there.new.items place false ≡ true) }
+    ensures stays { (p : ℕ) → slice_index_or there.old.items p false ≡ true
+        → slice_index_or there.new.items p false ≡ true }
+{
+    if place < there.len() && !there[place] {
+        order.push(place)?;
+        there[place] = true;
+    }
+    Ok(())
+}
+
+// The places below a count, each once: those of a list before the others.
+fn each_once(alloc: Global, first: &[usize], count: usize) -> Result<Vec<usize>, AllocError>
+    ensures { IfOk result (λ order. AreAllPlaces count order.items) }
+{
+    let mut there = vec![in alloc; false; count]?;
+    let mut order = Vec::with_capacity(alloc, count)?;
+    for early in first {
+        put_once(&mut order, &mut there, *early)?;
+    }
+    for place in 0..count {
+        put_once(&mut order, &mut there, place)?;
+    }
+    Ok(order)
+}
+
+/// An order in which bounds between so many events, up to that horizon, come into force at little
+/// cost: the place of each bound once. It goes over the bounds once for each point at most, four
+/// times in all.
+pub fn entry_order(
+    alloc: Global,
+    bounds: &[Bound],
+    events: usize,
+    horizon: u32,
+) -> Result<Vec<usize>, AllocError>
+    ensures { IfOk result (λ order. AreAllPlaces (length bounds.now) order.items) }
+{
+    let first = holding(alloc, bounds, events, horizon)?;
+    each_once(alloc, &first, bounds.len())
 }

@@ -5,7 +5,7 @@
 //! - `refusal`: why a command changes nothing.
 //! - `executive`: the executive itself, over any network that takes bounds between events.
 //! - `own_bounds`: how the bounds of a plan come into force.
-//! - `firsts`: which of many bounds come first.
+//! - `firsts`: in which order many bounds come into force.
 //! - `copying`: what a network holds, as a setting.
 //! - `running`: whole commands, and lists of them.
 #![tactic(auto)]
@@ -20,6 +20,6 @@ mod running;
 
 pub use command::{Answer, Command, Kind, Report};
 pub use executive::{Executive, GREATEST_WEIGHT, is_point};
-pub use firsts::foremost;
+pub use firsts::entry_order;
 pub use refusal::Refusal;
 pub use running::{perform, perform_all, runs_tell_the_truth};

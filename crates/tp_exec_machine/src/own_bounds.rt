@@ -1,6 +1,6 @@
 //! The bounds of a plan come into force.
 
-ghost use Rattle.std.specs.Prelude.{◌≡◌, ◌≤◌, true, length, slice_get, None, IfOk, OnOk};
+ghost use Rattle.std.specs.Prelude.{◌≡◌, ◌<◌, ◌≤◌, ◌^◌, true, length, slice_get, None, IfOk, OnOk};
 ghost use Rattle.std.specs.FinMap as map;
 ghost use Rattle.tp_bounds.specs.Setting.{Setting, event_count, HasPoint, IsInRange};
 ghost use Rattle.tp_bounds.specs.Schedule.{HasSchedule};
@@ -9,7 +9,7 @@ ghost use Rattle.tp_bounds.specs.OwnBounds.{with_bounds};
 ghost use Rattle.tp_exec_machine.specs.Machine.{IsFresh};
 ghost use Rattle.tp_exec_machine.specs.Partly.{IsPartly, Joins};
 
-use crate::firsts::foremost;
+use crate::firsts::entry_order;
 use std::alloc::{AllocError, Global};
 use tp_bounds::{Bound, BoundId, PlanNet};
 use tp_net::{Net, NetFault};
@@ -32,23 +32,22 @@ fn bring<N: Net>(net: &mut N, id: BoundId, bound: Bound) -> Result<(), AllocErro
     }
 }
 
-/// Brings the bound at a place of a plan's network into force, if there is one that is not in force
-/// yet.
-fn bring_at<N: Net>(net: &mut N, network: &PlanNet, place: u32) -> Result<(), AllocError>
+/// Brings the bound at a place of a plan's network into force, if it is not in force yet.
+fn bring_at<N: Net>(net: &mut N, network: &PlanNet, place: usize) -> Result<(), AllocError>
     requires between { N.takes_between ≡ true }
     requires begun { (s : Setting) × IsFresh s
         × (event_count s ≡ length network.now.events.items) × (s.horizon ≡ network.now.horizon)
         × IsPartly s (N.seen net.old) (slice_get network.now.bounds.items) }
+    requires ids { length network.now.bounds.items < 2 ^ 32 }
+    requires place { place < length network.now.bounds.items }
     ensures { OnOk result
         (Joins (N.seen net.old) (N.seen net.new) (slice_get network.now.bounds.items) place) }
 {
-    let Some(bound) = network.bounds.get(place as usize) else {
-        return Ok(());
-    };
-    if net.bound(BoundId(place)).is_some() {
+    let id = BoundId(place as u32);
+    if net.bound(id).is_some() {
         return Ok(());
     }
-    bring(net, BoundId(place), *bound)
+    bring(net, id, network.bounds[place])
 }
 
 /// Brings the bounds of a plan's network into force, under identifiers from 0 on, and tells how
@@ -70,14 +69,9 @@ pub(crate) fn bring_own<N: Net>(
     ensures count { IfOk result (λ own. own ≡ length network.now.bounds.items) }
 {
     let events = network.events.len();
-    let order = foremost(alloc, &network.bounds, events, network.horizon)?;
+    let order = entry_order(alloc, &network.bounds, events, network.horizon)?;
     for place in &order {
         bring_at(net, network, *place)?;
     }
-    let mut next = 0;
-    for _bound in &network.bounds {
-        bring_at(net, network, next)?;
-        next += 1;
-    }
-    Ok(next)
+    Ok(network.bounds.len() as u32)
 }

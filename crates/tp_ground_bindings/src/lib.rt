@@ -16,4 +16,4 @@ mod universe;
 pub use environment::{Env, object_for, words_in};
 pub use noting::universe_of;
 pub use rows::{Rows, lists_of, rows_of};
-pub use universe::{Universe, copied, refill};
+pub use universe::{Universe, choices, copied, refill};

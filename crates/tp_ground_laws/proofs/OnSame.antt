@@ -220,3 +220,18 @@ module _ (scale : Scale) (d : Domain) (p : Problem) (t v : Task) (readable : Are
     lasting = same_body scale d p told' whole kept (λ x i. i) of_all t v k l;
     told = same_texts scale d p told' whole kept (λ x i. i) of_all t v k l;
   }
+
+-- ---- the steps of a task that has some of another's actions
+
+module _ (scale : Scale) (d : Domain) (p : Problem) (is js : List Instance) (t v : Task) (sub : (x : Instance) → In x js → In x is) (k : IsTaskFor scale d p is t) (l : IsTaskFor scale d p js v) where
+  found_among : (ns : List Step) → IsOfTask v ns → AllByRecursion (IsFound js is) ns
+  found_among [] h = tt
+  found_among (n ∷ ns) h =
+      let q = and_parts (is_step_of v n) (list_all (is_step_of v) ns) h in
+      let (y, at_n) = at_step scale d p js n (sym (step_by_words scale d p js v l n) ∙ q.0) in
+      (record { instance = y; at = at_n; is_in = sub y (got_in js n.action.0 y at_n) }, found_among ns q.1)
+
+  pub in_wider : (ns : List Step) → IsOfTask v ns → (ms : List Step) × IsOfTask t ms × AreSameSteps t v ms ns
+  in_wider ns h =
+      let (ms, own, same) = all_moved scale d p js is v t l k ns h (found_among ns h) in
+      (ms, own, flipped v t ns ms same)

@@ -54,6 +54,22 @@ pub record HaveSamePlans (t u : Task) : Type 0 where
       → IsOfTask t ms → IsOfTask u ns
       → AreSameSteps t u ms ns → plan_text (readable t) ms ≡ plan_text (readable u) ns
 
+-- The steps of a task that has some of the actions of another are steps of that one.
+pub record HoldsPlans (t u : Task) : Type 0 where
+  -- the same steps are valid for both, or for neither
+  pub same :
+      (ms ns : List Step)
+      → IsOfTask t ms → IsOfTask u ns
+      → AreSameSteps t u ms ns → IsValidPlan t ms ↔ IsValidPlan u ns
+  -- each step of the other is one of the one
+  pub wide :
+      (ns : List Step) → IsOfTask u ns → (ms : List Step) × IsOfTask t ms × AreSameSteps t u ms ns
+  -- the same steps are written as the same text
+  pub told :
+      (ms ns : List Step)
+      → IsOfTask t ms → IsOfTask u ns
+      → AreSameSteps t u ms ns → plan_text (readable t) ms ≡ plan_text (readable u) ns
+
 -- some ground actions of a problem, in order
 abbrev pub some_of : Domain → Problem → (Instance → Bool) → List Instance
 some_of d p test = filter test (instances (universe_of d p) d.actions)

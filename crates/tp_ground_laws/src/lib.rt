@@ -10,8 +10,8 @@ ghost use Rattle.tp_text.specs.declared.number.Scale.{Scale};
 ghost use Rattle.tp_task.specs.declared.task.Task.{Task};
 ghost use Rattle.tp_task_reachability.specs.TaskReach.{GoalIs};
 ghost use Rattle.tp_ground.specs.Grounding.{IsTask};
-ghost use Rattle.tp_ground.specs.Reached.{IsReachedTask};
-ghost use Rattle.tp_ground_laws.specs.SamePlans.{HaveSamePlans, PlansAreJudgedAlike};
+ghost use Rattle.tp_ground.specs.Reached.{Instance, IsReachedTask, IsTaskOf};
+ghost use Rattle.tp_ground_laws.specs.SamePlans.{HaveSamePlans, HoldsPlans, PlansAreJudgedAlike, some_of};
 
 use tp_ground::actions_are_readable;
 
@@ -33,8 +33,17 @@ pub fn plans_are_judged_alike()
     ensures { PlansAreJudgedAlike }
 {}
 
-/// The goal is met in the relaxed reach of the whole task of a problem exactly if it is in that of
-/// the task of the actions that are kept.
+/// The steps of the task of some of a problem's ground actions, whichever these are, are steps of
+/// the task of all: valid for both or for neither, and printed as the same text.
+pub fn plans_of_some_are_plans()
+    ensures { (text other : List ℕ) (d : Domain) (p : Problem)
+        (limits small : RunLimits) (scale : Scale) (those : Instance → Bool) (t u : Task)
+        → SpellsDomain text d → SpellsProblem d other p → IsTask limits scale d p t
+        → IsTaskOf small scale d p (some_of d p those) u → HoldsPlans t u }
+{}
+
+/// The goal is met in delete-relaxed reachability of the whole task of a problem exactly if it is
+/// met in that of the task of the actions that are kept.
 pub fn same_goal_is_in_reach()
     ensures { (d : Domain) (p : Problem) (limits small : RunLimits)
         (scale : Scale) (t u : Task) → IsTask limits scale d p t

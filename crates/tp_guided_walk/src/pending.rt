@@ -11,6 +11,8 @@ pub struct Item {
     pub action: u32,
     pub times: u32,
     pub benefit: u32,
+    /// Whether it can start in the state before the tick's happening.
+    pub open: bool,
     /// Whether its condition holds at some time while the running steps run out.
     pub soon: bool,
     /// The literals that it needs.
@@ -154,6 +156,7 @@ impl Pending {
             action: wanted.action,
             times: wanted.times,
             benefit: wanted.benefit,
+            open: false,
             soon: false,
             needs: Span::between(from, to),
             first,
@@ -285,6 +288,13 @@ impl Pending {
             if let Some(count) = self.counts.get_mut(*literal as usize) {
                 *count = count.saturating_sub(1);
             }
+        }
+    }
+
+    /// Sets whether an item can start in the state before the tick's happening.
+    pub fn set_open(&mut self, place: u32, open: bool) {
+        if let Some(item) = self.items.get_mut(place as usize) {
+            item.open = open;
         }
     }
 

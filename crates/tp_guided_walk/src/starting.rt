@@ -8,9 +8,9 @@ use tp_guided_costs::Heuristic;
 use tp_guided_space::{Choice, Space};
 use tp_search_compiled::{Event, NONE, Task};
 
-// Whether an action can start in the state before the tick's happening.
-fn has_choices(space: &Space<'_>, action: u32) -> bool {
-    space.choices_of(action).count > 0
+// Whether an item is still to do, and can start at this tick.
+fn is_possible(space: &Space<'_>, item: &Item) -> bool {
+    item.times > 0 && item.open && space.joins(item.action)
 }
 
 fn is_pending_on(value: &Heuristic<'_>, item: &Item, place: u32, envelope: u32) -> bool {
@@ -72,7 +72,7 @@ impl Walk {
         let Some(item) = self.pending.item(place) else {
             return Ok(false);
         };
-        if item.times == 0 || self.is_early(space, value, &item, place)? {
+        if !is_possible(space, &item) || self.is_early(space, value, &item, place)? {
             return Ok(false);
         }
         if self.threatens(space, value, &item, place, forced) {
@@ -144,8 +144,7 @@ impl Walk {
         if !forced {
             return true;
         }
-        let ready = other.soon
-            || (has_choices(space, other.action) && self.pending.has_needs(space.state(), &other));
+        let ready = other.soon || (other.open && self.pending.has_needs(space.state(), &other));
         ready
             && !(goes_first(&item, place, &other, other_place)
                 && takes_from(space, &self.pending, &other, &item))
@@ -188,7 +187,7 @@ impl Walk {
         let task = space.task();
         self.brought.clear();
         for item in self.pending.items() {
-            if item.times > 0 && has_choices(space, item.action) {
+            if item.times > 0 && item.open {
                 push_brought(task, task.start_of(item.action), &mut self.brought)?;
             }
         }
@@ -207,8 +206,8 @@ impl Walk {
     ) -> bool {
         let mut place: u32 = 0;
         for item in self.pending.items() {
-            if is_pending_on(value, item, place, envelope)
-                && (!now || has_choices(space, item.action))
+            if (item.open || !now)
+                && is_pending_on(value, item, place, envelope)
                 && self.is_there(space, item)
             {
                 return true;
@@ -235,9 +234,6 @@ impl Walk {
         item: &Item,
         place: u32,
     ) -> Result<bool, AllocError> {
-        if !has_choices(space, item.action) || !space.joins(item.action) {
-            return Ok(false);
-        }
         self.list_tries(space, value, item, place)?;
         for at in 0..self.tries.len() {
             let number = self.tries.get(at).copied().unwrap_or(NONE);

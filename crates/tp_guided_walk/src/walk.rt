@@ -134,11 +134,22 @@ impl Walk {
         space: &mut Space<'_>,
         value: &Heuristic<'_>,
     ) -> Result<(), AllocError> {
+        self.mark_open(space);
         space.mark_events();
         self.start_some(space, value, false)?;
         self.start_some(space, value, true)?;
         space.wipe_events();
         Ok(())
+    }
+
+    // Marks the items that can start in the state before the tick's happening.
+    fn mark_open(&mut self, space: &Space<'_>) {
+        for place in 0..self.pending.len() {
+            if let Some(item) = self.pending.item(place) {
+                let open = item.times > 0 && space.choices_of(item.action).count > 0;
+                self.pending.set_open(place, open);
+            }
+        }
     }
 
     fn start_some(

@@ -17,3 +17,4 @@ pub mod OtherHeads
 pub mod Accepted
 pub mod FewEdges
 pub mod LineSizes
+pub mod Cuts

@@ -30,6 +30,7 @@ use Rattle.tp_journal.specs.declared.form.Place.TheVariants.{Start, Question, Re
 use Rattle.tp_journal.specs.declared.faults.AuditFault.{AuditFault}
 use Rattle.tp_journal.specs.declared.faults.AuditFault.TheVariants.{Memory, Read, Line, Wrong, Head}
 use Rattle.tp_journal.specs.declared.auditing.Headed.{Headed}
+use Rattle.tp_journal.specs.Replay.{LeadsTo}
 use Rattle.tp_journal.specs.Form.{question_of, one_command, has_command, is_reply, is_of_pair, is_neat, is_answer_from, next_place, place_after, may_end}
 use Rattle.tp_journal.specs.Auditing.{IsBehind, DisallowsAt, HeadEnds, HasHead, IsReplyJudged, TakesReply, TakesQuestion, TakesPair, Audits}
 use Rattle.tp_journal.proofs.Places.{of_pair, question_next}
@@ -331,6 +332,18 @@ pairs_over old new start now version count pairs h = (
       )),
   h.ends.1,
 )
+
+-- and where the run ends
+pub pairs_lead : (old new : Machine) (start now : Reading) (version count pairs : ℕ) → JournalSoFar old new start now version count pairs None → IfSome start.rest (λ bytes. LeadsTo old bytes pairs new)
+pairs_lead old new start now version count pairs h =
+    known (λ bytes. LeadsTo old bytes pairs new) start.rest now.rest (text_of h.seen) h.ends.0.took
+    (λ left is. (
+      version,
+      h.seen,
+      record { entries = h.entries; head = h.allowed; runs = h.runs; count = h.count_of; free = h.ends.0.free; bytes_are = h.bytes_are },
+      ap (λ t. text_of h.seen ++ t) (at_end now.rest left is h.ends.1) ∙ append-nil (text_of h.seen),
+      h.ends.0.short,
+    ))
 
 -- a pair takes bytes
 pub pair_takes : (m new : Machine) (now after : Reading) (version : ℕ) (asked : Asked) (count : ℕ) (next : Option Asked) → TakesPair m new now after version asked count (Ok next) → now.taken + 3 ≤ after.taken

@@ -1,12 +1,13 @@
 //! The audit of a whole journal: each line is read once, the head is compared with the executive's
 //! own, and each answer is judged by the machine.
 
-ghost use Rattle.std.specs.Prelude.{◌≡◌, ◌+◌, ◌≤◌, ◌↔◌, [], true, drop, length, IsTrue, Some, IfOk};
+ghost use Rattle.std.specs.Prelude.{◌≡◌, ◌+◌, ◌≤◌, ◌↔◌, [], true, drop, length, IsTrue, Some, IfOk, IfSome};
 ghost use Rattle.tp_script.specs.Reading.{SameLimits};
 ghost use Rattle.tp_journal_pairs.specs.Journal.{IsHead, IsVersion, head_of, lags_of};
 ghost use Rattle.tp_journal_pairs.specs.Sound.{IsSound};
 ghost use Rattle.tp_journal_pairs.specs.Writing.{IsNewExecutive};
 ghost use Rattle.tp_journal.specs.Form.{may_end, is_of_pair, is_reply};
+ghost use Rattle.tp_journal.specs.Replay.{LeadsTo};
 ghost use Rattle.tp_journal.specs.Auditing.{HasFew, TakesPiece, TakesNext, TakesVersion, head_version, BeginsWithLine, Matches, TurnsHead, Heads, IsReplyJudged, TakesReply, TakesQuestion, TakesPair, Audits, audit_failures};
 
 use crate::faults::{AuditFault, Audited};
@@ -446,7 +447,7 @@ fn take_pair<N: Net, R: Source>(
 /// reader fails.
 pub fn audit<N: Net + Drop, R: Source>(
     alloc: Global,
-    mut executive: Executive<N>,
+    executive: Executive<N>,
     lines: &mut Lines<R>,
 ) -> Result<Audited, AuditFault>
     requires longest { lines.old.longest ≡ 16_384 }
@@ -456,7 +457,29 @@ pub fn audit<N: Net + Drop, R: Source>(
     ensures most { lines.new.most ≡ lines.old.most }
     ensures read { lines.new.failures ≡ audit_failures lines.old.failures result }
 {
-    let headed = match audit_head(alloc, &executive, lines) {
+    let mut executive = executive;
+    replay(alloc, &mut executive, lines)
+}
+
+/// The same with an executive that is kept: where the lines are a journal, it is as the run left it.
+///
+/// # Errors
+/// Those of `audit`.
+pub fn replay<N: Net, R: Source>(
+    alloc: Global,
+    executive: &mut Executive<N>,
+    lines: &mut Lines<R>,
+) -> Result<Audited, AuditFault>
+    requires longest { lines.old.longest ≡ 16_384 }
+    requires new { IsNewExecutive executive.old }
+    ensures audits { Audits executive.old lines.old lines.new result }
+    ensures leads { IfOk result (λ audited. IfSome lines.old.rest
+        (λ bytes. LeadsTo executive.old bytes audited.pairs executive.new)) }
+    ensures longest { lines.new.longest ≡ lines.old.longest }
+    ensures most { lines.new.most ≡ lines.old.most }
+    ensures read { lines.new.failures ≡ audit_failures lines.old.failures result }
+{
+    let headed = match audit_head(alloc, executive, lines) {
         Ok(headed) => headed,
         Err(fault) => return Err(fault),
     };
@@ -468,7 +491,7 @@ pub fn audit<N: Net + Drop, R: Source>(
         let Some(asked) = next else {
             return Ok(Audited { pairs });
         };
-        match take_pair(alloc, &mut executive, lines, headed.version, asked, count) {
+        match take_pair(alloc, executive, lines, headed.version, asked, count) {
             Ok(question) => next = question,
             Err(fault) => return Err(fault),
         }

@@ -3,17 +3,20 @@
 //! - `form`: which lines may stand where in a journal, whatever executive it is of.
 //! - `telling`: the head of a journal, as its lines tell it.
 //! - `auditing`: the audit of a whole journal.
+//! - `cutting`: where the whole pairs of a journal end.
 //! - `faults`: what audits answer.
 //! - `laws`: what holds of what a journal writes.
 #![tactic(auto)]
 
 mod auditing;
+mod cutting;
 mod faults;
 mod form;
 mod laws;
 mod telling;
 
-pub use auditing::audit;
+pub use auditing::{audit, replay};
+pub use cutting::whole_pairs;
 pub use faults::{AuditFault, Audited, JournalHead};
 pub use laws::{
     answers_have_the_form, heads_are_read, journals_are_accepted, journals_are_never_wrong,

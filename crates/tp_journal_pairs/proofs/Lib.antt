@@ -5,3 +5,4 @@ pub mod WriteLemmas
 pub mod SoundLemmas
 pub mod MarkLemmas
 pub mod HeadLemmas
+pub mod FollowLemmas

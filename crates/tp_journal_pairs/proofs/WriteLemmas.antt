@@ -137,7 +137,7 @@ enters_long old line gt = at_true _ _ (nat_lt 256 (length line)) (lt-ltb 256 (le
 
 -- ---- one line more
 
-runs_more : (old mid new : Machine) (es fs : List Entry) → Runs 2 old es mid → Runs 2 mid fs new → Runs 2 old (es ++ fs) new
+pub runs_more : (old mid new : Machine) (es fs : List Entry) → Runs 2 old es mid → Runs 2 mid fs new → Runs 2 old (es ++ fs) new
 runs_more old mid new [] fs h k = subst (λ m. Runs 2 m fs new) h k
 runs_more old mid new (None ∷ es) fs h k = runs_more old mid new es fs h k
 runs_more old mid new (Some p ∷ es) fs h k = (h.0, h.1, h.2, h.3, runs_more h.0 mid new es fs h.4 k)
@@ -269,7 +269,20 @@ journals_err old mid new before reading after held now then log logged further n
       runs = runs_more old mid new r.entries turns.1 r.runs (enters_runs mid new turns.0 turns.1 turns.2 turns.4);
       ended = (
         refl,
-        part_after held now then r.goes.text turns.2 [] (r.goes.text ++ turns.2) (ap (λ t. r.goes.text ++ t) (sym (append-nil turns.2))) r.goes.written turns.5,
+        record {
+          lines_before = r.goes.lines;
+          line = turns.0;
+          said = r.goes.text;
+          answer = turns.2;
+          mid = mid;
+          count = turns.5.count;
+          lines_are = refl;
+          text_is = refl;
+          ran_before = r.goes.ran;
+          ran_last = enters_answers mid new turns.0 turns.1 turns.2 turns.4;
+          within = turns.5.within;
+          written = Appends-trans held now then r.goes.text (take turns.5.count turns.2) r.goes.written turns.5.held;
+        },
         appends_is log further _ _ (sym (journal_more old r.entries turns.1)) (Appends-trans log logged further (journal_bytes old r.entries) (pairs_text turns.1) r.logs turns.6),
       );
     }

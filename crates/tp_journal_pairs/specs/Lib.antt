@@ -1,6 +1,7 @@
-pub mod Sound
-pub mod Edges
 pub mod Allowed
-pub mod Reasons
+pub mod Edges
+pub mod GoingOn
 pub mod Journal
+pub mod Reasons
+pub mod Sound
 pub mod Writing

@@ -15,7 +15,7 @@ use Rattle.tp_script.specs.Commands.{command_of, list_is_empty}
 use Rattle.tp_script.specs.Transcript.{line_of, refused_line, Transcript}
 use Rattle.tp_script.specs.Pending.{Reading}
 use Rattle.tp_script.specs.Reading.{Free, HasMore, TakesWhole, TakesPart}
-use Rattle.tp_script.specs.Serving.{TakesLines, Goes, commands_of, commands_in}
+use Rattle.tp_script.specs.Serving.{TakesLines, Goes, EndsUnwritten, commands_of, commands_in}
 use Rattle.tp_script.specs.declared.serving.Served.{Served}
 use Rattle.tp_journal_pairs.specs.declared.faults.JournalFault.{JournalFault}
 use Rattle.tp_journal_pairs.specs.declared.faults.JournalFault.TheVariants.{Read, Write, Log, TooLong}
@@ -33,7 +33,8 @@ IsNewExecutive m =
 abbrev pub AllAreInForce : Machine → Type 0
 AllAreInForce m = (id : ℕ) → id < m.next → get m.setting.bounds id ≢ None
 
--- what one line becomes: its entry, none for a line without words; what it is answered; and the state after it
+-- what one line becomes: its entry, none for a line without words; what it is answered; and the
+-- state after it
 abbrev pub Enters : Machine → List ℕ → List Entry → List ℕ → Machine → Type 0
 Enters old line entries text new =
     MatchBool (nat_lt 256 (length line)) ((entries ≡ None ∷ []) × (text ≡ refused_line)
@@ -117,8 +118,9 @@ pub record Records (old new : Machine) (before after : Reading)
   pub runs : Runs 2 old entries new
   pub logs : Appends log logged (journal_bytes old entries)
 
--- Where the log failed. Before: the entries whose answers went out; the log holds all of these, unless it holds no whole head. Last: that
--- of which a part may be in the log, and whose answer did not go out
+-- Where the log failed. Before: the entries whose answers went out; the log holds all of these,
+-- unless it holds no whole head. Last: that of which a part may be in the log, and whose answer did
+-- not go out
 pub record EndsUnlogged (old new : Machine) (lines : List (List ℕ)) (entries : List Entry)
     (held now log logged : Option (List ℕ)) : Type 0 where
   pub lines_before : List (List ℕ)
@@ -139,8 +141,8 @@ pub record EndsUnlogged (old new : Machine) (lines : List (List ℕ)) (entries :
   pub pairs_before : before ≢ [] → length (journal_bytes old before) ≤ count
   pub logs : Appends log logged (take count (journal_bytes old entries))
 
--- How it ended. Without a fault of writer or log, both hold all of it. Where the writer failed the log holds all, and the answers are some
--- first part of theirs
+-- How it ended. Without a fault of writer or log, both hold all of it. Where the writer failed the
+-- log holds all, and all answers but the last went out whole
 abbrev pub EndsJournal : Machine → Machine → Reading → List (List ℕ) → List Entry → List ℕ → List ℕ
     → Option (List ℕ) → Option (List ℕ) → Option (List ℕ) → Option (List ℕ)
     → Result Served JournalFault → Type 0
@@ -153,11 +155,13 @@ EndsJournal old new after lines entries text part held now log logged (Err TooLo
     Appends held now text × Appends log logged (journal_bytes old entries) × HasMore after.rest
     × (after.taken ≡ after.most)
 EndsJournal old new after lines entries text part held now log logged (Err Write) =
-    (part ≡ []) × AppendsPart held now text × Appends log logged (journal_bytes old entries)
+    (part ≡ []) × EndsUnwritten old new lines text held now
+    × Appends log logged (journal_bytes old entries)
 EndsJournal old new after lines entries text part held now log logged (Err Log) =
     (part ≡ []) × EndsUnlogged old new lines entries held now log logged
 
--- The lines that were read whole, what they became, which is their transcript and a run, and how it ended
+-- The lines that were read whole, what they became, which is their transcript and a run, and how it
+-- ended
 pub record Journals (old new : Machine) (before after : Reading)
     (held now log logged : Option (List ℕ)) (result : Result Served JournalFault) : Type 0 where
   pub lines : List (List ℕ)

@@ -1,6 +1,7 @@
 //! Journals of executives: how they are written, and whether an answer is one that may stand there.
 //!
 //! - `writing`: lines of commands answered, with their journal.
+//! - `going_on`: further lines answered, whose pairs follow those of a journal.
 //! - `gathered`: a text that is gathered before it is written.
 //! - `faults`: what ends that early.
 //! - `refusals`: the first refusal that applies to a command, without the command.
@@ -13,6 +14,7 @@
 mod edges;
 mod faults;
 mod gathered;
+mod going_on;
 mod judging;
 mod page;
 mod reasons;
@@ -21,6 +23,7 @@ mod writing;
 
 pub use edges::{begins_with, read_edge};
 pub use faults::JournalFault;
+pub use going_on::journal_on;
 pub use judging::{Finding, judge};
 pub use page::{head_text, is_text_of_command};
 pub use writing::journal;

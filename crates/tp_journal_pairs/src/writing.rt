@@ -225,13 +225,13 @@ fn enter_line<N: Net, W: Sink, V: Sink>(
 
 /// What one turn did.
 #[derive(Clone, Copy)]
-enum Turn {
+pub(crate) enum Turn {
     Answered(u64),
     Over,
 }
 
 /// Reads a line and enters it.
-fn take_turn<N: Net, R: Source, W: Sink, V: Sink>(
+pub(crate) fn take_turn<N: Net, R: Source, W: Sink, V: Sink>(
     executive: &mut Executive<N>,
     lines: &mut Lines<R>,
     answers: &mut W,

@@ -1,8 +1,16 @@
-//! Tests of `tp_net`, apart from it so that the gate proves it once. `examples`: networks by hand;
-//! `enumeration`: small networks against all assignments.
+//! Tests of networks of events and bounds.
+//!
+//! - `bounds`: settings, schedules, reasons and limits as data
+//! - `net`: the plain networks, by hand and against all assignments
+//! - `repair`: the network that is repaired, by hand and against the plain one
+//! - `trials`: changes that tests ask of a network, and its answers
 #![tactic(auto)]
 
 #[cfg(test)]
-mod enumeration;
+mod bounds;
 #[cfg(test)]
-mod examples;
+mod net;
+#[cfg(test)]
+mod repair;
+#[cfg(test)]
+mod trials;

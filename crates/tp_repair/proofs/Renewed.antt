@@ -1,4 +1,5 @@
--- What holds of a network that is repaired after now was raised, an event was fixed, or a bound left.
+-- What holds of a network that is repaired after now was raised, an event was fixed, or a bound
+-- left.
 use Rattle.std.proofs.Common.{◌≡◌, ◌≢◌, ℕ, zero, suc, ◌+◌, ◌*◌, ◌<◌, ◌≤◌, ◌^◌, inl, inr, cond, nat_eq, Bool, true, false, List, [], ◌∷◌, ◌++◌, length, map, get_or, refl, sym, ◌∙◌, ap, subst, arith, length-set}
 use Rattle.std.specs.Prelude.{Option, Some, None, slice_index_or, pos, ◌-ℤ◌, ◌≤ℤ◌}
 use Rattle.std.specs.Ordering.{nat_cmp}
@@ -26,7 +27,7 @@ use Rattle.tp_repair_engine.specs.declared.store.Node.{Node}
 use Rattle.tp_repair_engine.specs.declared.engine.Engine.{Engine}
 use Rattle.tp_net.specs.Moments.{IsStart}
 use Rattle.tp_repair_engine.specs.Store.{names_of, kept_arcs, KeepsOthers, keys_of, near, one_at}
-use Rattle.tp_repair_engine.proofs.Degrees.{counted_same, counted_left}
+use Rattle.tp_repair_engine.proofs.Degrees.{counted_same, counted_left, removed_none}
 use Rattle.tp_repair_engine.specs.Kept.{IsUnder, AreNodes}
 use Rattle.tp_repair_engine.specs.Engine.{IsWired, IsRepaired, AreMapped, IsChanged, IsLeft, IsUntouched}
 use Rattle.tp_repair_engine.specs.Slots.{raised_node, past_node, past_slots, left_slots, IsOpenFloor}
@@ -83,6 +84,7 @@ repaired_raised s now count keys floors ends g g' r c soon = record {
   exact = c.exact;
   wired = changed_wired (raised_node now s.lags) s count keys floors ends g g' r c;
   few = r.few;
+  ids = r.ids;
   spare = r.spare;
   floors_len = r.floors_len;
   ends_len = r.ends_len;
@@ -180,6 +182,7 @@ repaired_fixed s e m count keys floors ends g g' r c lt free floor soon =
       exact = c.exact;
       wired = subst (λ n. IsWired (suc n) (count + 2 * n) g') (sym len) (changed_wired (past_node e m) s count keys floors ends g g' r c);
       few = r.few;
+      ids = r.ids;
       spare = r.spare;
       floors_len = r.floors_len ∙ sym len;
       ends_len = r.ends_len ∙ sym len;
@@ -292,6 +295,11 @@ repaired_left s count keys keys' floors ends g g' id b key r is key_is finds l =
       exact = l.exact;
       wired = subst (λ p. IsWired p (count + 2 * event_count s) g') r.wired.low_len wired;
       few = (let f = r.few in omega (arith, f));
+      ids = λ q some.
+          (elim (same_or q id.0) [
+            | inl same ↦ absurd (some (ap (get (without_bound s id.0).bounds) same ∙ removed_none s.bounds id.0))
+            | inr ne ↦ r.ids q (λ none_q. some (get_remove_other s.bounds id.0 q ne ∙ none_q))
+          ]);
       spare = λ q free.
           (elim (same_or q id.0) [
             | inl same ↦ ap (tree.get nat_cmp keys') same ∙ gone

@@ -234,10 +234,9 @@ impl Net for RepairNet {
             (with_bound self.old.setting id.0 bound) self.new.looks) }
     {
         self.engine.looks = 0;
-        // there are no more identifiers
-        if self.bounds.len() > u32::MAX as usize {
-            return Err(NetFault::Memory);
-        }
+        // this call tells that the bounds stand by rising identifiers: where one is free, they are
+        // fewer than all
+        let _count = self.bounds.len();
         let alloc = *self.fixed.allocator();
         if let Some(path) = bring(
             alloc,

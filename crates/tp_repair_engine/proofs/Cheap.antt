@@ -18,14 +18,14 @@ use Rattle.tp_repair_engine.proofs.Repaired.{kept}
 
 -- ---- sums
 
-sum_le : (f g : ℕ → ℕ) (n : ℕ) → ((y : ℕ) → y < n → f y ≤ g y) → sum_to f n ≤ sum_to g n
+pub sum_le : (f g : ℕ → ℕ) (n : ℕ) → ((y : ℕ) → y < n → f y ≤ g y) → sum_to f n ≤ sum_to g n
 sum_le f g zero le = omega arith
 sum_le f g (suc n) le =
     let h = sum_le f g n (λ y lt. le y (omega (arith, lt))) in
     let e = le n (omega arith) in
     omega (arith, h, e)
 
-sum_add : (f g : ℕ → ℕ) (n : ℕ) → sum_to f n + sum_to g n ≡ sum_to (λ y. f y + g y) n
+pub sum_add : (f g : ℕ → ℕ) (n : ℕ) → sum_to f n + sum_to g n ≡ sum_to (λ y. f y + g y) n
 sum_add f g zero = refl
 sum_add f g (suc n) = let h = sum_add f g n in omega (arith, h)
 

@@ -56,7 +56,7 @@ is_none : {A : Type 0} (o : Option A) → ((x : A) → o ≡ Some x → ⊥) →
 is_none None h = refl
 is_none (Some x) h = absurd (h x refl)
 
-removed_none : (m : FinMap nat_cmp Bound) (k : ℕ) → get (remove m k) k ≡ None
+pub removed_none : (m : FinMap nat_cmp Bound) (k : ℕ) → get (remove m k) k ≡ None
 removed_none m k = is_none (get (remove m k) k) (λ b is. none_left m k b is)
 
 -- what is taken out and put back

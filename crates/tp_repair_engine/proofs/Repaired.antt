@@ -142,9 +142,9 @@ module _ (s : Setting) (keys keys' : BTreeMap ℕ ℕ) (floors ends : List ℕ) 
 
 pub repaired_brought : (s : Setting) (count : ℕ) (keys keys' : BTreeMap ℕ ℕ) (floors ends : List ℕ) (g g' : Engine) (id : BoundId) (b : Bound) (bounds bounds' : BTreeMap ℕ Bound)
     → IsRepaired s count keys floors ends g → get s.bounds id.0 ≡ None → HasPoint s b.from → HasPoint s b.to → IsInRange b.w
-    → IsBroughtIn id b g g' bounds bounds' keys keys' → count ≡ length bounds.entries → count < 2 ^ 32
+    → IsBroughtIn id b g g' bounds bounds' keys keys' → count ≡ length bounds.entries → count < 2 ^ 32 → id.0 < 2 ^ 32
     → IsRepaired (with_bound s id.0 b) (length bounds'.entries) keys' floors ends g'
-repaired_brought s count keys keys' floors ends g g' id b bounds bounds' r none from to weight i is few =
+repaired_brought s count keys keys' floors ends g g' id b bounds bounds' r none from to weight i is few word =
     let more : (count + 2 * event_count s) + 1 ≡ length bounds'.entries + 2 * event_count s = (let l = i.recorded.len in omega (arith, is, l)) in
     let wired = i.wired (count + 2 * event_count s) (wired_here s count keys floors ends g r) (let n = r.fit.events in omega (arith, few, n)) in
     record {
@@ -153,6 +153,11 @@ repaired_brought s count keys keys' floors ends g g' id b bounds bounds' r none 
       exact = i.exact;
       wired = subst (λ p. IsWired p (length bounds'.entries + 2 * event_count s) g') r.wired.low_len (subst (λ n. IsWired (length g.low.items) n g') more wired);
       few = (let l = i.recorded.len in omega (arith, is, l, few));
+      ids = λ q some.
+          (elim (same_or q id.0) [
+            | inl same ↦ omega (arith, same, word)
+            | inr ne ↦ r.ids q (λ none_q. some (get_insert_other s.bounds id.0 q b ne ∙ none_q))
+          ]);
       spare = λ q free.
           (elim (same_or q id.0) [
             | inl same ↦ absurd (none-some b (sym free ∙ (ap (get (with_bound s id.0 b).bounds) same ∙ get_inserted s.bounds id.0 b)))
@@ -175,6 +180,7 @@ repaired_unbrought s count keys keys' floors ends g g' bounds bounds' r u =
       exact = rw (u.low, u.high) exact;
       wired = subst (λ p. IsWired p (count + 2 * event_count s) g') r.wired.low_len (u.wired (count + 2 * event_count s) (wired_here s count keys floors ends g r));
       few = r.few;
+      ids = r.ids;
       spare = λ q free. u.finds q ∙ r.spare q free;
       floors_len = r.floors_len;
       ends_len = r.ends_len;
@@ -195,6 +201,7 @@ repaired_lagged s e lag count keys floors ends g r start lt few = record {
   exact = r.exact;
   wired = r.wired;
   few = r.few;
+  ids = r.ids;
   spare = r.spare;
   floors_len = r.floors_len;
   ends_len = r.ends_len;
@@ -228,6 +235,7 @@ relooked s count keys floors ends g n r =
         few = w.few;
       };
       few = r.few;
+      ids = r.ids;
       spare = r.spare;
       floors_len = r.floors_len;
       ends_len = r.ends_len;

@@ -36,6 +36,7 @@ use Rattle.tp_repair_engine.specs.declared.engine.Engine.{Engine}
 use Rattle.tp_repair_engine.specs.Store.{names_of, kept_arcs}
 use Rattle.tp_repair_engine.specs.Work.{IsIdle}
 use Rattle.tp_repair_engine.specs.Engine.{IsWired, IsRepaired}
+use Rattle.std.specs.FinMap.{get-empty}
 use Rattle.tp_repair_engine.proofs.Nodes.{nodes_listed, exact_arcs}
 
 last_key : (keys : List ℕ) (j k : ℕ) → length keys ≡ j → get_or (keys ++ k ∷ []) j 0 ≡ k
@@ -251,6 +252,7 @@ begun events horizon floors ends keys g few soon s none low high up down =
       exact = exact_arcs g.store.nodes.slots g.low.items g.high.items k.exact;
       wired = subst (λ p. IsWired p (0 + 2 * length (new_setting events horizon).fixed) g) points (subst (λ m. IsWired (events + 1) m g) edges wired);
       few = omega arith;
+      ids = λ q some. absurd (some (get-empty {X = Bound} nat_cmp q));
       spare = λ q _. none q;
       floors_len = s.floors_len ∙ sym count;
       ends_len = s.ends_len ∙ sym count;

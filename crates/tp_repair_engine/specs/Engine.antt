@@ -57,6 +57,7 @@ pub record IsRepaired (s : Setting) (count : ℕ) (keys : BTreeMap ℕ ℕ) (flo
   pub exact : AreExact (arcs_of g.store.nodes.slots) g.low.items g.high.items
   pub wired : IsWired (suc (event_count s)) (count + 2 * event_count s) g
   pub few : count ≤ 2 ^ 32
+  pub ids : (q : ℕ) → map.get s.bounds q ≢ None → q < 2 ^ 32
   pub spare : (q : ℕ) → map.get s.bounds q ≡ None → tree.get nat_cmp keys q ≡ None
   pub floors_len : length floors ≡ event_count s
   pub ends_len : length ends ≡ event_count s

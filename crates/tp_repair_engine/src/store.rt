@@ -20,12 +20,13 @@ pub enum Direction {
 }
 
 /// An edge as it stands in the list of a point: the point at its other end, its key, and its
-/// weight. The weight is copied here, so that who goes through the list reads it from end to end.
+/// weight. The weight is copied here, so that who goes through the list reads it from end to end,
+/// by [`look_at`] alone.
 #[derive(Clone, Copy, Debug, Drop)]
 pub struct Half {
     pub far: usize,
     pub key: usize,
-    pub weight: i64,
+    weight: i64,
 }
 
 /// An edge by name and as an arc, with its places in the list of the point where it ends, and of

@@ -96,7 +96,8 @@ at_end p (inl found) free le = absurd (free found.0 found.1 found.2)
 at_end p (inr (inl gt)) free le = absurd (let f : ⊥ = omega arith in f)
 at_end p (inr (inr end)) free le = end
 
--- the line that comes next is what stands before the first LF, where this is no more than the line of a lag has
+-- the line that comes next is what stands before the first LF, where this is no more than the line
+-- of a lag has
 next_is : (p : Pending) (n : ℕ) (ys line : List ℕ) (rest : List (List ℕ)) → p.left ≡ Some ys → IsInSight p → n ≤ length p.ready → ((k : ℕ) → k < n → get_or p.ready k 0 ≢ 10) → (n < length p.ready → get_or p.ready n 0 ≡ 10) → n ≤ 256 → lines_of (p.ready ++ ys) ≡ line ∷ rest → line ≡ take n p.ready
 next_is p n ys line rest left sight within free stop le h =
     let xs = p.ready in
@@ -134,7 +135,7 @@ no_next p n may (Some ys) is sight within free stop why = λ line rest h. (
           (let same : line ≡ take n p.ready = next_is p n ys line rest is sight within free stop le h in
           elim why [
             | inl none ↦ inl (ap lag_spelled same ∙ none)
-            | inr few ↦ inr (let size : length line ≡ n = ap length same ∙ length-take-le n p.ready within in omega arith)
+            | inr few ↦ inr (let size : length line ≡ n = ap length same ∙ length-take-le n p.ready within in let all = length-append p.ready ys in omega (arith, size, few, all))
           ])
     ])
   where

@@ -1,5 +1,5 @@
 -- Lines of lags, which stand behind the head, and what they do to a setting.
-use Rattle.std.specs.Prelude.{◌≡◌, ℕ, ◌+◌, ◌-◌, ◌≤◌, ◌<◌, ◌⊎◌, List, [], ◌∷◌, ◌++◌, length, take, Option, Some, None, Result, Ok, Err, nat_lt, if◌then◌else◌, codes, slice_index}
+use Rattle.std.specs.Prelude.{◌≡◌, ℕ, ◌+◌, ◌-◌, ◌≤◌, ◌<◌, ◌⊎◌, List, [], ◌∷◌, ◌++◌, length, min, take, Option, Some, None, Result, Ok, Err, nat_lt, if◌then◌else◌, codes, slice_index}
 use Rattle.std.specs.Str.{bytes_eq}
 use Rattle.std.specs.Io.KnownBytes.{Keeps, Consumes, IsAtEnd}
 use Rattle.tp_device.specs.declared.Failed.{Failed}
@@ -37,13 +37,14 @@ SetsLags old (line ∷ lines) new =
     × MaySet old lag
     × SetsLags (with_lag old lag.0 lag.1) lines new
 
--- what is left, where it is known, does not begin with the line of a lag, or with one of more bytes than may be taken
+-- what is left, where it is known, does not begin with the line of a lag, or with one of more bytes
+-- than may be taken, with its LF if it has one
 abbrev pub NoLagNext : Option (List ℕ) → ℕ → Type 0
 NoLagNext None may = Unit {0}
 NoLagNext (Some bytes) may =
     (line : List ℕ) (rest : List (List ℕ))
     → lines_of bytes ≡ line ∷ rest → (lag_spelled line ≡ None)
-    ⊎ (may ≤ length line)
+    ⊎ (may < min (length bytes) (length line + 1))
 
 -- the line of a lag is taken, or nothing is
 abbrev pub TakesLag : Reading → Reading → Result (Option (ℕ × ℕ)) Failed → Type 0
@@ -59,8 +60,9 @@ pub record TakesLags (old new : Reading) (s t : Setting) (lines : List (List ℕ
   pub counted : new.taken ≡ old.taken + length read.text
   pub set : SetsLags s lines t
 
--- All lines of lags were taken and the lags set. Or the reader failed behind some of them; or behind some of them stood one that
--- names no event, an event that has a lag already, or a lag out of range, and was taken too
+-- All lines of lags were taken and the lags set. Or the reader failed behind some of them; or
+-- behind some of them stood one that names no event, an event that has a lag already, or a lag out
+-- of range, and was taken too
 abbrev pub ReadsLags :
     Reading → Reading → Setting → Setting → Result (Unit {0}) ServeFault → Type 0
 ReadsLags old new s t (Ok x) =

@@ -2,6 +2,7 @@
 //! expanded nodes.
 //!
 //! - `seeking`: nodes taken from a frontier and expanded, `search`
+//! - `progress`: how far it is, told as it goes on
 //! - `certify`: what is found is judged by the validator
 //! - `laws`: what is known of plans, whatever the search does
 //!
@@ -11,10 +12,11 @@
 
 mod certify;
 mod laws;
+mod progress;
 mod seeking;
 
 pub use certify::certified;
 pub use laws::{plans_at_once_are_met, unreachable_has_no_plan};
-pub use seeking::search;
+pub use seeking::{search, search_with};
 pub use tp_search_frontier::SearchFault;
 pub use tp_search_instant::Found;

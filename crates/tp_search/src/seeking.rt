@@ -1,6 +1,6 @@
 //! The search: nodes are taken from a frontier and expanded, up to a budget.
 
-ghost use Rattle.std.specs.Prelude.{◌≡◌, ◌≤◌, [], true, IfOk, IfSome};
+ghost use Rattle.std.specs.Prelude.{◌≡◌, ◌≤◌, [], true, false, IfOk, IfSome};
 ghost use Rattle.tp_task.specs.Reach as spec;
 ghost use Rattle.tp_validate.specs.OfTask.{IsValidPlan};
 ghost use Rattle.tp_task_reachability.specs.TaskReach.{GoalIs};
@@ -8,7 +8,9 @@ ghost use Rattle.tp_search_instant.specs.Plans.{EndsBy};
 ghost use Rattle.tp_search_instant.specs.Answers.{IsAnswer};
 
 use crate::certify::certified;
+use crate::progress::tell;
 use std::alloc::{AllocError, Global};
+use std::io::{Write, sink};
 use tp_happen::Step;
 use tp_search_frontier::{Chosen, Frontier, SearchFault};
 use tp_search_instant::{Found, judge, plan_at_once};
@@ -48,19 +50,24 @@ fn plan_at<'t>(
 }
 
 // Takes nodes until one is a plan, the budget is spent or none is left.
-fn seek<'t>(
+fn seek<'t, B: Write>(
     alloc: Global,
     task: &'t Task,
     frontier: &mut Frontier,
     budget: u32,
     horizon: u32,
+    progress: bool,
+    board: &mut B,
 ) -> Result<Found<'t>, SearchFault>
     requires in_reach { GoalIs task.now true }
     requires not_empty { ¬ IsValidPlan task.now [] }
-    ensures { IfOk result (IsAnswer task.now budget horizon) }
+    ensures answer { IfOk result (IsAnswer task.now budget horizon) }
+    ensures quiet { progress ≡ false → board.new ≡ board.old }
 {
     let mut expanded = 0;
+    let mut least = usize::MAX;
     while let Some((node, lacking)) = frontier.take() {
+        least = least.min(lacking);
         if lacking == 0 {
             if let Some(plan) = plan_at(alloc, task, frontier, node, horizon)? {
                 return Ok(Found::Plan(plan));
@@ -71,26 +78,53 @@ fn seek<'t>(
         }
         frontier.expand(node)?;
         expanded += 1;
+        tell(board, progress, frontier, expanded, least);
     }
     plan_at_once(alloc, task, budget, horizon)
 }
 
 // The search of a task whose goal is in relaxed reach, over what is in reach.
-fn seek_in<'t>(
+fn seek_in<'t, B: Write>(
     alloc: Global,
     task: &'t Task,
     reached: &[bool],
     budget: u32,
     horizon: u32,
+    progress: bool,
+    board: &mut B,
 ) -> Result<Found<'t>, SearchFault>
     requires { GoalIs task.now true }
-    ensures { IfOk result (IsAnswer task.now budget horizon) }
+    ensures answer { IfOk result (IsAnswer task.now budget horizon) }
+    ensures quiet { progress ≡ false → board.new ≡ board.old }
 {
     if let Some(plan) = judge(alloc, task, &[])? {
         return Ok(Found::Plan(plan));
     }
     let mut frontier = Frontier::new(alloc, task, reached, horizon)?;
-    seek(alloc, task, &mut frontier, budget, horizon)
+    seek(alloc, task, &mut frontier, budget, horizon, progress, board)
+}
+
+/// The same as `search`; where progress is wished for, `board` is told after each 100,000
+/// expansions how many there were, how many nodes wait, and the least number of goal conjuncts that
+/// one lacked.
+#[tactic(auto, using(crate::proofs::Unreachable::unreachable))]
+pub fn search_with<'t, B: Write>(
+    alloc: Global,
+    task: &'t Task,
+    budget: u32,
+    horizon: u32,
+    progress: bool,
+    board: &mut B,
+) -> Result<Found<'t>, SearchFault>
+    ensures answer { IfOk result (IsAnswer task.now budget horizon) }
+    ensures quiet { progress ≡ false → board.new ≡ board.old }
+{
+    let reached = reach(alloc, task)?;
+    if met(&reached, true, &task.goal) {
+        seek_in(alloc, task, &reached, budget, horizon, progress, board)
+    } else {
+        Ok(Found::Unreachable)
+    }
 }
 
 /// Searches for a plan that ends by a horizon, with at most so many expansions. Nodes are taken by
@@ -99,7 +133,6 @@ fn seek_in<'t>(
 /// reach when they were made and of what can start at the waits of which a child starts something,
 /// and what the relaxed reach takes; where no node is left, also a look at all sets of actions that
 /// can happen at once at tick 0, at most as many as the budget.
-#[tactic(auto, using(crate::proofs::Unreachable::unreachable))]
 pub fn search<'t>(
     alloc: Global,
     task: &'t Task,
@@ -108,10 +141,5 @@ pub fn search<'t>(
 ) -> Result<Found<'t>, SearchFault>
     ensures { IfOk result (IsAnswer task.now budget horizon) }
 {
-    let reached = reach(alloc, task)?;
-    if met(&reached, true, &task.goal) {
-        seek_in(alloc, task, &reached, budget, horizon)
-    } else {
-        Ok(Found::Unreachable)
-    }
+    search_with(alloc, task, budget, horizon, false, &mut sink())
 }

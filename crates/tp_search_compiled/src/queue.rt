@@ -17,8 +17,14 @@ pub struct Buckets {
     heads: Vec<u32>,
     tails: Vec<u32>,
     waiting: Vec<Waiting>,
-    lowest: u32,
-    highest: u32,
+    /// A bit of each key: whether a number waits under it.
+    filled: Vec<u64>,
+    /// No word of bits before this one has one.
+    lowest: usize,
+}
+
+fn bit_of(key: u32) -> u64 {
+    1u64.wrapping_shl(key % 64)
 }
 
 impl Buckets {
@@ -26,12 +32,13 @@ impl Buckets {
     pub fn new(alloc: Global, size: u32) -> Result<Self, AllocError> {
         let heads = Vec::from_elem(alloc, NONE, size as usize)?;
         let tails = Vec::from_elem(alloc, NONE, size as usize)?;
+        let filled = Vec::from_elem(alloc, 0u64, size.div_ceil(64) as usize)?;
         Ok(Buckets {
             heads,
             tails,
             waiting: Vec::new(alloc),
-            lowest: size,
-            highest: 0,
+            filled,
+            lowest: 0,
         })
     }
 
@@ -41,9 +48,8 @@ impl Buckets {
         let key = key.min(last);
         let place = small(self.waiting.len());
         self.waiting.push(Waiting { item, next: NONE })?;
-        self.lowest = self.lowest.min(key);
-        self.highest = self.highest.max(key);
         self.link(key, place);
+        self.fill(key);
         Ok(())
     }
 
@@ -63,34 +69,47 @@ impl Buckets {
         }
     }
 
+    fn fill(&mut self, key: u32) {
+        let word = (key / 64) as usize;
+        self.lowest = self.lowest.min(word);
+        if let Some(bits) = self.filled.get_mut(word) {
+            *bits |= bit_of(key);
+        }
+    }
+
     /// Takes the first number of the least key, with this key.
     pub fn pop(&mut self) -> Option<(u32, u32)> {
-        let size = small(self.heads.len());
-        for key in self.lowest..size {
-            if let Some(item) = self.pop_at(key) {
-                self.lowest = key;
-                return Some((key, item));
+        for word in self.lowest..self.filled.len() {
+            let bits = self.filled.get(word).copied().unwrap_or(0);
+            if bits != 0 {
+                self.lowest = word;
+                let key = small(word).saturating_mul(64);
+                return self.pop_at(key.saturating_add(bits.trailing_zeros()));
             }
         }
-        self.lowest = size;
+        self.lowest = self.filled.len();
         None
     }
 
-    fn pop_at(&mut self, key: u32) -> Option<u32> {
+    // Takes the first number of a key that has one.
+    fn pop_at(&mut self, key: u32) -> Option<(u32, u32)> {
         let head = self.heads.get_mut(key as usize)?;
         let first = self.waiting.get(*head as usize).copied()?;
         *head = first.next;
-        Some(first.item)
+        if first.next == NONE {
+            let bits = self.filled.get_mut((key / 64) as usize)?;
+            *bits &= !bit_of(key);
+        }
+        Some((key, first.item))
     }
 
     /// Takes all numbers out, and keeps the room.
     pub fn clear(&mut self) {
-        let used = self.highest.saturating_add(1) as usize;
-        for head in self.heads.iter_mut().take(used) {
-            *head = NONE;
+        for _ in 0..self.waiting.len() {
+            if self.pop().is_none() {
+                break;
+            }
         }
         self.waiting.clear();
-        self.lowest = small(self.heads.len());
-        self.highest = 0;
     }
 }

@@ -120,6 +120,11 @@ impl Frontier {
         self.queues.take()
     }
 
+    /// How many nodes wait.
+    pub fn waiting(&self) -> usize {
+        self.queues.count()
+    }
+
     /// Whether no step of a node runs past its tick. With no conjunct lacking it is a plan then.
     pub fn nothing_runs(&mut self, number: u32) -> Result<bool, AllocError>
         ensures { self.new ≡ self.old }

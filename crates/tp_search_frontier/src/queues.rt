@@ -48,6 +48,11 @@ impl Queue {
         self.taken >= self.nodes.len()
     }
 
+    // How many nodes wait.
+    fn count(&self) -> usize {
+        self.nodes.len() - self.taken
+    }
+
     fn take(&mut self) -> u32
         requires { 0 < length self.old }
         ensures { self.old ≡ result ∷ self.new }
@@ -106,6 +111,15 @@ fn first_waiting(queues: &[Queue], from: usize) -> usize
 }
 
 impl Queues {
+    /// How many nodes wait. It looks at each queue.
+    pub fn count(&self) -> usize {
+        let mut count = 0usize;
+        for queue in self.queues.iter() {
+            count = count.saturating_add(queue.count());
+        }
+        count
+    }
+
     /// Empty queues for nodes that lack at most so many conjuncts.
     #[tactic(auto, using(crate::proofs::Waiting::empty_push))]
     pub fn new(alloc: Global, conjuncts: usize) -> Result<Self, AllocError>

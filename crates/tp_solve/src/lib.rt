@@ -14,5 +14,5 @@ mod seeking;
 mod solving;
 
 pub use least::makespan;
-pub use solving::{Wishes, solve, solve_with};
+pub use solving::{Proposed, Wishes, propose_with, search_rest, solve, solve_with};
 pub use tp_search::{Found, SearchFault};

@@ -12,10 +12,11 @@ use crate::seeking::{Aim, Outcome, bettered, sought};
 use std::alloc::Global;
 use std::io::{Write, sink};
 use tp_guided::Guided;
-use tp_search::{Found, SearchFault, search, unreachable_has_no_plan};
+use tp_search::{Found, SearchFault, certified, search, unreachable_has_no_plan};
 use tp_search_instant::judge;
 use tp_task::Task;
 use tp_task_reachability::goal_in_reach;
+use tp_validate::ValidPlan;
 
 /// What is wished for beside a plan: better ones, until the budget is spent; and that the makespan
 /// of each is told as it is found.
@@ -25,15 +26,29 @@ pub struct Wishes {
     pub progress: bool,
 }
 
+/// What the guided search came to by itself: a plan, if it proposed a valid one, and of how many
+/// expansions it took.
+#[derive(Drop)]
+pub struct Proposed<'t> {
+    pub plan: Option<ValidPlan<'t>>,
+    pub spent: u32,
+}
+
 /// The search by the count of unmet goal conjuncts, with what is left of a budget, as far as the
 /// task's limits let it go. Where that is spent, the whole budget is.
-fn searched<'t>(aim: Aim<'t>, budget: u32, spent: u32) -> Result<Found<'t>, SearchFault>
-    ensures { IfOk result (IsAnswer aim.entry.task.now budget aim.entry.horizon) }
+pub fn search_rest<'t>(
+    alloc: Global,
+    task: &'t Task,
+    budget: u32,
+    spent: u32,
+    horizon: u32,
+) -> Result<Found<'t>, SearchFault>
+    ensures { IfOk result (IsAnswer task.now budget horizon) }
 {
     let left = budget.saturating_sub(spent);
-    let left = left.min(aim.task.limits.expansions());
-    match search(aim.alloc, aim.task, left, aim.horizon) {
-        Ok(Found::Plan(plan)) => Ok(Found::Plan(tightened(aim.alloc, aim.task, aim.horizon, plan))),
+    let left = left.min(task.limits.expansions());
+    match search(alloc, task, left, horizon) {
+        Ok(Found::Plan(plan)) => Ok(Found::Plan(tightened(alloc, task, horizon, plan))),
         Ok(Found::Unreachable) => Ok(Found::Unreachable),
         Ok(Found::Exhausted) => Ok(Found::Exhausted),
         Ok(Found::Spent(_)) => Ok(Found::Spent(budget)),
@@ -106,7 +121,61 @@ fn solve_in<'t, B: Write>(
     let guided = guided_plan(aim, budget, wishes, board)?;
     match guided.plan {
         Some(plan) => Ok(Found::Plan(plan)),
-        None => searched(aim, budget, guided.spent),
+        None => search_rest(aim.alloc, aim.task, budget, guided.spent, aim.horizon),
+    }
+}
+
+// The same for the guided search alone, whose goal is in relaxed reach.
+fn propose_in<'t, B: Write>(
+    aim: Aim<'t>,
+    budget: u32,
+    wishes: Wishes,
+    board: &mut B,
+) -> Result<Proposed<'t>, SearchFault>
+    ensures plan { IfOk result
+        (λ r. IfSome r.plan (IsSought aim.entry.task.now aim.entry.horizon)) }
+    ensures quiet { wishes.progress ≡ false → board.new ≡ board.old }
+{
+    if let Some(plan) = certified(aim.alloc, aim.task, aim.horizon, Vec::new(aim.alloc))? {
+        return Ok(Proposed {
+            plan: Some(plan),
+            spent: 0,
+        });
+    }
+    let guided = guided_plan(aim, budget, wishes, board)?;
+    Ok(Proposed {
+        plan: guided.plan,
+        spent: guided.spent,
+    })
+}
+
+/// A plan of a task that ends by a horizon, at its least schedule, if the guided search proposes
+/// one within three quarters of a budget: it alone, so that nothing is told of a task without one.
+/// What is wished for beside is as in `solve_with`.
+pub fn propose_with<'t, B: Write>(
+    alloc: Global,
+    task: &'t Task,
+    budget: u32,
+    horizon: u32,
+    wishes: Wishes,
+    board: &mut B,
+) -> Result<Proposed<'t>, SearchFault>
+    ensures plan { IfOk result (λ r. IfSome r.plan (IsSought task.now horizon)) }
+    ensures quiet { wishes.progress ≡ false → board.new ≡ board.old }
+{
+    let aim = Aim {
+        alloc,
+        task,
+        horizon,
+    };
+    let in_reach = goal_in_reach(alloc, task)?;
+    if in_reach {
+        propose_in(aim, budget, wishes, board)
+    } else {
+        Ok(Proposed {
+            plan: None,
+            spent: 0,
+        })
     }
 }
 

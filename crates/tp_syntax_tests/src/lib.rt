@@ -1,17 +1,10 @@
-//! Tests of tp_syntax and the crates that it stands on: what no contract says, and each call once.
+//! Tests of texts and of their syntax: what no contract says, and each call once.
+//!
+//! - `text`: words, trees and numbers
+//! - `syntax`: domains and problems that are read, printed and refused
 #![tactic(auto)]
 
 #[cfg(test)]
-mod domain_faults;
+mod syntax;
 #[cfg(test)]
-mod domains;
-#[cfg(test)]
-mod printing;
-#[cfg(test)]
-mod problem_faults;
-#[cfg(test)]
-mod problems;
-#[cfg(test)]
-mod texts;
-#[cfg(test)]
-mod type_order;
+mod text;

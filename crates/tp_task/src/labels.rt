@@ -9,8 +9,11 @@ use smallvec::SmallVec;
 use std::alloc::{AllocError, Global};
 use std::marker::Model;
 
-/// Words by the numbers of their names: most atoms have at most three objects.
-pub type Label = SmallVec<usize, 4>;
+/// How many numbers a label holds with no allocation.
+pub const INLINE: usize = 8;
+
+/// Words by the numbers of their names.
+pub type Label = SmallVec<usize, INLINE>;
 
 /// Labels in order, of which two may be the same.
 #[derive(Drop)]

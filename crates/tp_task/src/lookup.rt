@@ -6,7 +6,7 @@ ghost use Rattle.std.specs.Str.{bytes_eq};
 ghost use Rattle.tp_task.specs.Words.{same_words, text_of_words};
 ghost use Rattle.tp_task.specs.Labels.{named, are_known, AreNamed};
 
-use crate::labels::{Label, Labels};
+use crate::labels::{INLINE, Label, Labels};
 use indexmap::IndexSet;
 use smallvec::SmallVec;
 use std::alloc::AllocError;
@@ -81,34 +81,28 @@ pub fn known_number(names: &IndexSet<String>, name: &str) -> Option<usize>
     names.get_index_of(name)
 }
 
-// The label of words, a name and its objects; None if one of them has no number.
-fn known_label(
-    names: &IndexSet<String>,
-    name: &str,
-    args: &[&str],
-) -> Result<Option<Label>, AllocError>
-    ensures { IfOk result (λ known. MatchOption known
+// The label of a name and a few objects; None if one of them has no number.
+fn short_label(names: &IndexSet<String>, name: &str, args: &[&str]) -> Option<Label>
+    requires few { length args.now < INLINE }
+    ensures { MatchOption result
         (are_known (map string_bytes names.now.keys)
         (name.now ∷ map (λ a. a.now) args.now) ≡ false)
         (λ l. (named (map string_bytes names.now.keys) l.items
         ≡ name.now ∷ map (λ a. a.now) args.now)
-        × AreNamed (length (map string_bytes names.now.keys)) l.items)) }
+        × AreNamed (length (map string_bytes names.now.keys)) l.items) }
 {
-    let Some(first) = known_number(names, name) else {
-        return Ok(None);
-    };
+    let first = known_number(names, name)?;
     let mut label = SmallVec::new(*names.allocator());
-    label.push(first)?;
+    label.push_reserved(first);
     for arg in args {
-        let Some(number) = known_number(names, *arg) else {
-            return Ok(None);
-        };
-        label.push(number)?;
+        let number = known_number(names, *arg)?;
+        label.push_reserved(number);
     }
-    Ok(Some(label))
+    Some(label)
 }
 
-/// Where the first label of these words stands: a name and its objects.
+/// Where the first label of these words stands: a name and its objects. It takes no memory: the
+/// numbers of few words fit in a label, and more words are compared in place.
 pub fn find(names: &IndexSet<String>, labels: &Labels, name: &str, args: &[&str]) -> Option<usize>
     requires distinct { IsDistinct bytes_eq (map string_bytes names.now.keys) }
     requires named { AllByRecursion
@@ -116,11 +110,12 @@ pub fn find(names: &IndexSet<String>, labels: &Labels, name: &str, args: &[&str]
     ensures { result ≡ position_from (same_words (name.now ∷ map (λ a. a.now) args.now)) 0
         (map (named (map string_bytes names.now.keys)) labels.now) }
 {
-    match known_label(names, name, args) {
-        Ok(Some(label)) => labels.position(&label),
-        Ok(None) => None,
-        // No memory for the numbers of so many words: the labels are looked at one after another.
-        Err(_) => find_by_names(names, labels, name, args),
+    if args.len() >= INLINE {
+        return find_by_names(names, labels, name, args);
+    }
+    match short_label(names, name, args) {
+        Some(label) => labels.position(&label),
+        None => None,
     }
 }
 

@@ -1,7 +1,7 @@
 use Rattle.std.proofs.Common.{◌∙◌, List, ℕ, arith, inl, inr, refl, subst}
 use Rattle.std.proofs.KnownBytes.{Appends-nil}
 use Rattle.tp_cli_files.specs.FaultLines.{Tells}
-use Rattle.tp_cli_args.specs.declared.requests.Request.TheVariants.{Bare, BareLog, Check, Net, Run, RunLog, Plan, Audit, PlanAudit, Split, Help}
+use Rattle.tp_cli_args.specs.declared.requests.Request.TheVariants.{Bare, BareLog, BareResume, Check, Net, Run, RunLog, RunResume, Plan, Audit, PlanAudit, Split, Part, Draw, Help}
 use Rattle.tp_cli.specs.CallFiles.{call_files}
 use Rattle.tp_cli.specs.Endings.{StopsHelp}
 use Rattle.tp_cli.proofs.StreamLemmas.{logs_part}
@@ -56,6 +56,21 @@ returns-in-Ok-BareLog-clause-unlogged g c =
     λ none.
     absurd (none.no_log c.in-Ok-BareLog.log (rw c.in-Ok-BareLog.field-0-is at c.in-Ok-BareLog.ensures.asked))
 
+pub returns-in-Ok-BareResume-clause-stopped : goal.returns-in-Ok-BareResume-clause-stopped
+returns-in-Ok-BareResume-clause-stopped g c =
+    λ two.
+    inr (inr (BareResume c.in-Ok-BareResume.old c.in-Ok-BareResume.log, rw c.in-Ok-BareResume.field-0-is at c.in-Ok-BareResume.ensures.asked, c.run_bare_resume.ensures.stopped two))
+
+pub returns-in-Ok-BareResume-clause-kept : goal.returns-in-Ok-BareResume-clause-kept
+returns-in-Ok-BareResume-clause-kept g c =
+    λ none two.
+    absurd (none.no_resume c.in-Ok-BareResume.old c.in-Ok-BareResume.log (rw c.in-Ok-BareResume.field-0-is at c.in-Ok-BareResume.ensures.asked))
+
+pub returns-in-Ok-BareResume-clause-unlogged : goal.returns-in-Ok-BareResume-clause-unlogged
+returns-in-Ok-BareResume-clause-unlogged g c =
+    λ none.
+    absurd (none.no_resume c.in-Ok-BareResume.old c.in-Ok-BareResume.log (rw c.in-Ok-BareResume.field-0-is at c.in-Ok-BareResume.ensures.asked))
+
 pub returns-in-Ok-Check-clause-stopped : goal.returns-in-Ok-Check-clause-stopped
 returns-in-Ok-Check-clause-stopped g c =
     λ two.
@@ -91,6 +106,21 @@ returns-in-Ok-RunLog-clause-unlogged g c =
     λ none.
     absurd (none.no_run_log c.in-Ok-RunLog.plan c.in-Ok-RunLog.log (rw c.in-Ok-RunLog.field-0-is at c.in-Ok-RunLog.ensures.asked))
 
+pub returns-in-Ok-RunResume-clause-stopped : goal.returns-in-Ok-RunResume-clause-stopped
+returns-in-Ok-RunResume-clause-stopped g c =
+    λ two.
+    inr (inr (RunResume c.in-Ok-RunResume.plan c.in-Ok-RunResume.old c.in-Ok-RunResume.log, rw c.in-Ok-RunResume.field-0-is at c.in-Ok-RunResume.ensures.asked, c.run_run_resume.ensures.stopped two))
+
+pub returns-in-Ok-RunResume-clause-kept : goal.returns-in-Ok-RunResume-clause-kept
+returns-in-Ok-RunResume-clause-kept g c =
+    λ none two.
+    absurd (none.no_run_resume c.in-Ok-RunResume.plan c.in-Ok-RunResume.old c.in-Ok-RunResume.log (rw c.in-Ok-RunResume.field-0-is at c.in-Ok-RunResume.ensures.asked))
+
+pub returns-in-Ok-RunResume-clause-unlogged : goal.returns-in-Ok-RunResume-clause-unlogged
+returns-in-Ok-RunResume-clause-unlogged g c =
+    λ none.
+    absurd (none.no_run_resume c.in-Ok-RunResume.plan c.in-Ok-RunResume.old c.in-Ok-RunResume.log (rw c.in-Ok-RunResume.field-0-is at c.in-Ok-RunResume.ensures.asked))
+
 pub returns-in-Ok-Plan-clause-stopped : goal.returns-in-Ok-Plan-clause-stopped
 returns-in-Ok-Plan-clause-stopped g c =
     λ two.
@@ -114,6 +144,16 @@ pub returns-in-Ok-Split-clause-stopped : goal.returns-in-Ok-Split-clause-stopped
 returns-in-Ok-Split-clause-stopped g c =
     λ two.
     inr (inr (Split c.in-Ok-Split.plan c.in-Ok-Split.owners, rw c.in-Ok-Split.field-0-is at c.in-Ok-Split.ensures.asked, c.run_split.ensures.stopped two))
+
+pub returns-in-Ok-Part-clause-stopped : goal.returns-in-Ok-Part-clause-stopped
+returns-in-Ok-Part-clause-stopped g c =
+    λ two.
+    inr (inr (Part c.in-Ok-Part.plan c.in-Ok-Part.owners c.in-Ok-Part.agent, rw c.in-Ok-Part.field-0-is at c.in-Ok-Part.ensures.asked, c.run_split-in-Ok-Part.ensures.stopped two))
+
+pub returns-in-Ok-Draw-clause-stopped : goal.returns-in-Ok-Draw-clause-stopped
+returns-in-Ok-Draw-clause-stopped g c =
+    λ two.
+    inr (inr (Draw c.in-Ok-Draw.words, rw c.in-Ok-Draw.field-0-is at c.in-Ok-Draw.ensures.asked, c.run_draw.ensures.stopped two))
 
 pub returns-in-Ok-Help-clause-stopped : goal.returns-in-Ok-Help-clause-stopped
 returns-in-Ok-Help-clause-stopped g c =

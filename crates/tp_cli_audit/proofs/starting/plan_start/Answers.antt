@@ -9,6 +9,9 @@ use Rattle.tp_journal_pairs.proofs.SoundLemmas.{plan_is_new}
 use Rattle.tp_cli_bare.specs.Bare.{first_setting}
 use Rattle.tp_cli_audit.specs.Bare.{LagFits, lagged}
 use Rattle.tp_cli_audit.proofs.AuditLemmas.{events_new}
+use Rattle.tp_bounds.specs.RunLimits.{greatest_limits}
+use Rattle.tp_exec.specs.FromPlan.{CameFrom}
+use Rattle.tp_exec.proofs.FromPlans.{start_came}
 use Rattle.tp_cli_run.specs.Starts.{net_head}
 use Rattle.tp_cli_audit.proofs.starting.plan_start.Goals as goal
 
@@ -43,3 +46,13 @@ pub returns-clause-new : goal.returns-clause-new
 returns-clause-new c =
     let fresh : IsFresh c.set_lags.new.net.setting = c.set_lags.ensures.new (subst IsFresh (sym c.in_ok-net.ensures.setting) (fresh_new _ _)) in
     IfOk-weaker c.from_plan.result _ _ (λ e is. plan_is_new e c.set_lags.new.net.setting c.args.network.now.bounds.items c.greatest.result fresh is) c.from_plan.ensures
+
+pub returns-clause-came : goal.returns-clause-came
+returns-clause-came c =
+    let same : c.len.result ≡ length c.args.network.now.events.items = omega (arith, c.args.network.now.events.ok, c.len.ensures) in
+    let fresh : IsFresh c.set_lags.new.net.setting = c.set_lags.ensures.new (subst IsFresh (sym c.in_ok-net.ensures.setting) (fresh_new _ _)) in
+    let events : event_count c.set_lags.new.net.setting ≡ length c.args.network.now.events.items =
+    c.set_lags.ensures.events ∙ (ap event_count c.in_ok-net.ensures.setting ∙ (events_new c.len.result c.args.network.now.horizon ∙ same)) in
+    let until = c.set_lags.ensures.horizon ∙ ap (λ (s : Setting). s.horizon) c.in_ok-net.ensures.setting in
+    IfOk-weaker c.from_plan.result _ _ (λ e is. λ t steps net. subst (CameFrom t steps) (sym is)
+    (start_came t steps (greatest_limits c.args.network.now.horizon) c.greatest.result c.args.network.now c.set_lags.new.net.setting net fresh events until)) c.from_plan.ensures

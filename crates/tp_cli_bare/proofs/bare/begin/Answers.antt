@@ -3,6 +3,7 @@ use Rattle.std.specs.Prelude.{Ok, Err}
 use Rattle.tp_script.specs.Machine.{IsFresh, new_machine}
 use Rattle.tp_script.proofs.Ready.{fresh_new}
 use Rattle.tp_script.specs.Lags.{ReadsLags}
+use Rattle.tp_cli_bare.proofs.BareLemmas.{lag_reads}
 use Rattle.tp_cli_bare.proofs.bare.begin.Goals as goal
 
 pub bare-requires-clause-fresh : goal.bare-requires-clause-fresh
@@ -28,3 +29,6 @@ pub returns-in-Ok-read_lags-clause-fresh : goal.returns-in-Ok-read_lags-clause-f
 returns-in-Ok-read_lags-clause-fresh g c =
     subst (λ m. IsFresh m.setting) (sym c.bare.ensures)
     (c.in-Ok-read_lags.ensures.new (subst IsFresh (sym c.in-Ok.ensures.setting) (fresh_new _ _)))
+
+pub returns-in-Err-read_lags-clause-read : goal.returns-in-Err-read_lags-clause-read
+returns-in-Err-read_lags-clause-read g c = c.in-Err-read_lags.ensures.read ∙ lag_reads c.in-Err-read_lags.fault _

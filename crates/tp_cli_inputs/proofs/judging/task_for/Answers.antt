@@ -1,7 +1,7 @@
 use Rattle.std.proofs.Common.{◌≡◌, ℕ, List, IfErr, IfOk, map, sym, ap, subst, ◌∙◌}
 use Rattle.tp_bounds.specs.RunLimits.{RunLimits}
 use Rattle.tp_ground_named.specs.Rows.{names_of}
-use Rattle.tp_ground.specs.Reached.{IsTaskOf}
+use Rattle.tp_ground_named.specs.Reached.{IsTaskOf}
 use Rattle.tp_happen.specs.tp_plan_text.PlanNames.{names_from, plan_names}
 use Rattle.tp_happen.specs.tp_plan_text.PlanTexts.{lines_of}
 use Rattle.tp_ground_named.specs.Named.{chosen, IsBegun, HasNoTaskOf}

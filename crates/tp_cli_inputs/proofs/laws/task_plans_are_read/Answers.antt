@@ -1,8 +1,8 @@
 use Rattle.std.proofs.Common.{◌≡◌, length, sym, ap, ◌∙◌}
 use Rattle.std.proofs.lemmas.List.{length-map}
-use Rattle.tp_ground.specs.ReadBack.{named_body}
-use Rattle.tp_ground.specs.Bindings.{universe_of}
-use Rattle.tp_ground.specs.Reached.{Instance, action_of}
+use Rattle.tp_ground_named.specs.ReadBack.{named_body}
+use Rattle.tp_ground_named.specs.Bindings.{universe_of}
+use Rattle.tp_ground_named.specs.Reached.{Instance, action_of}
 use Rattle.tp_ground_named.specs.Named.{chosen}
 use Rattle.tp_happen.proofs.OnTaskPlans.{task_plans_read}
 use Rattle.tp_cli_inputs.proofs.laws.task_plans_are_read.Goals as goal

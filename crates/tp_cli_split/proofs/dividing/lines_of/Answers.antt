@@ -8,8 +8,8 @@ returns-in-Ok-clause-lines g c =
 
 pub returns-in-Ok-clause-cause : goal.returns-in-Ok-clause-cause
 returns-in-Ok-clause-cause g c =
-    IfErr-weaker c.lines_among.result _ _ (λ stop h. among_stops c.args.setting.now (g.N.Files.held c.args.files.now c.args.owners.now) c.in-Ok.numbers stop c.in-Ok.ensures.spelled h) c.lines_among.ensures.cause
+    IfErr-weaker c.lines_among.result _ _ (λ stop h. among_stops c.args.agent c.args.setting.now (g.N.Files.held c.args.files.now c.args.owners.now) c.in-Ok.numbers stop c.in-Ok.ensures.spelled h) c.lines_among.ensures.cause
 
 pub returns-in-Err-clause-cause : goal.returns-in-Err-clause-cause
 returns-in-Err-clause-cause g c =
-    misread_stops c.args.setting.now (g.N.Files.held c.args.files.now c.args.owners.now) c.in-Err.stop c.in-Err.ensures.cause
+    misread_stops c.args.agent c.args.setting.now (g.N.Files.held c.args.files.now c.args.owners.now) c.in-Err.stop c.in-Err.ensures.cause

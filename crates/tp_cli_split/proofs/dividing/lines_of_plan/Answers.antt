@@ -11,4 +11,4 @@ returns-in-Ok-clause-lines g c =
 
 pub returns-in-Ok-clause-cause : goal.returns-in-Ok-clause-cause
 returns-in-Ok-clause-cause g c =
-    IfErr-weaker c.lines_of_net.result _ _ (λ stop h. dividing_stops c.args.plan.now.task c.args.plan.now.steps c.args.horizon c.in-Ok.network (subst (λ (l : RunLimits). IsPlanNetOf c.args.plan.now.task c.args.plan.now.steps l c.in-Ok.network) c.greatest.ensures c.in-Ok.ensures.net) (g.N.Files.held c.args.files.now c.args.owners.now) stop h) c.lines_of_net.ensures.cause
+    IfErr-weaker c.lines_of_net.result _ _ (λ stop h. dividing_stops c.args.plan.now.task c.args.plan.now.steps c.args.horizon c.in-Ok.network (subst (λ (l : RunLimits). IsPlanNetOf c.args.plan.now.task c.args.plan.now.steps l c.in-Ok.network) c.greatest.ensures c.in-Ok.ensures.net) (g.N.Files.held c.args.files.now c.args.owners.now) c.args.agent stop h) c.lines_of_net.ensures.cause

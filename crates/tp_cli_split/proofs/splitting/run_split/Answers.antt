@@ -5,17 +5,17 @@ use Rattle.tp_cli_split.proofs.splitting.run_split.Goals as goal
 pub returns-in-Err-clause-stopped : goal.returns-in-Err-clause-stopped
 returns-in-Err-clause-stopped g c =
     λ two.
-    ends (g.N.Files.held c.args.files.now) c.args.words c.args.owners.now _ _ _ _ _ _ _ _ _ c.in-Err.stop _ c.in-Err.ensures.cause (c.complain.ensures.status ∙ c.split_line.ensures.status) c.in-Err.ensures.failures c.split_line.ensures.text c.complain.ensures.told
+    ends c.args.agent (g.N.Files.held c.args.files.now) c.args.words c.args.owners.now _ _ _ _ _ _ _ _ _ c.in-Err.stop _ c.in-Err.ensures.cause (c.complain.ensures.status ∙ c.split_line.ensures.status) c.in-Err.ensures.failures c.split_line.ensures.text c.complain.ensures.told
 
 pub returns-in-Err-clause-kept : goal.returns-in-Err-clause-kept
 returns-in-Err-clause-kept g c =
     λ two.
-    kept_then (g.N.Files.held c.args.files.now) c.args.words c.args.owners.now _ _ c.in-Err.stop c.in-Err.ensures.cause (sym (c.complain.ensures.status ∙ c.split_line.ensures.status) ∙ two)
+    kept_then c.args.agent (g.N.Files.held c.args.files.now) c.args.words c.args.owners.now _ _ c.in-Err.stop c.in-Err.ensures.cause (sym (c.complain.ensures.status ∙ c.split_line.ensures.status) ∙ two)
 
 pub returns-in-Err-clause-part : goal.returns-in-Err-clause-part
 returns-in-Err-clause-part g c =
     λ broken.
-    part_then (g.N.Files.held c.args.files.now) c.args.words c.args.owners.now _ _ c.in-Err.stop c.in-Err.ensures.cause
+    part_then c.args.agent (g.N.Files.held c.args.files.now) c.args.words c.args.owners.now _ _ c.in-Err.stop c.in-Err.ensures.cause
 
 pub returns-in-Err-clause-told : goal.returns-in-Err-clause-told
 returns-in-Err-clause-told g c =

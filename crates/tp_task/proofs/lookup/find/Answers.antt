@@ -5,15 +5,14 @@ use Rattle.tp_task.specs.Labels.{named}
 use Rattle.tp_task.proofs.OnLookups.{same_position, no_position}
 use Rattle.tp_task.proofs.lookup.find.Goals as goal
 
-pub returns-in-Ok-Some : goal.returns-in-Ok-Some
-returns-in-Ok-Some c =
+pub returns-in-Some : goal.returns-in-Some
+returns-in-Some c =
     let N = map string_bytes c.args.names.now.keys in
-    let h = rw c.in-Ok-Some.field-0-is at c.in-Ok-Some.ensures in
+    let h = c.in-Some.ensures in
     c.position.ensures
-    ∙ sym (same_position N c.requires.distinct c.in-Ok-Some.label.items c.args.labels.now 0 h.1 c.requires.named)
+    ∙ sym (same_position N c.requires.distinct c.in-Some.label.items c.args.labels.now 0 h.1 c.requires.named)
     ∙ ap (λ ws. position_from (same_words ws) 0 (map (named N) c.args.labels.now)) h.0
 
-pub returns-in-Ok-None : goal.returns-in-Ok-None
-returns-in-Ok-None c =
-    let h = rw c.in-Ok-None.field-0-is at c.in-Ok-None.ensures in
-    sym (no_position (map string_bytes c.args.names.now.keys) (c.args.name.now ∷ map (λ a. a.now) c.args.args.now) c.args.labels.now 0 h c.requires.named)
+pub returns-in-None : goal.returns-in-None
+returns-in-None c =
+    sym (no_position (map string_bytes c.args.names.now.keys) (c.args.name.now ∷ map (λ a. a.now) c.args.args.now) c.args.labels.now 0 c.in-None.ensures c.requires.named)

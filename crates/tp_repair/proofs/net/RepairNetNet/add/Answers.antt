@@ -20,6 +20,7 @@ use Rattle.tp_repair_engine.specs.Bringing.{IsBrought, IsBroughtIn, IsUnbrought}
 use Rattle.tp_repair_engine.specs.Costs.{IsCheap}
 use Rattle.tp_repair_engine.proofs.Cheap.{cheap}
 use Rattle.tp_repair_engine.proofs.Repaired.{wired_here, small_low, small_high, weights, among, kept, with_looks, relooked, repaired_brought, repaired_unbrought}
+use Rattle.tp_repair.proofs.Few.{fewer_ids}
 use Rattle.tp_repair.proofs.net.RepairNetNet.add.Goals as goal
 
 pub bring-requires-clause-small_low : goal.bring-requires-clause-small_low
@@ -40,8 +41,8 @@ bring-requires-clause-bound c = sym (get_held c.self.inside.bounds c.args.id.0) 
 pub bring-requires-clause-key : goal.bring-requires-clause-key
 bring-requires-clause-key c = c.self.invariant.spare c.args.id.0 (ap (λ (t : Told). get t.setting.bounds c.args.id.0) c.self.view_is ∙ c.requires.unused)
 
-pub invariant_of-self-in_err-path : goal.invariant_of-self-in_err-path
-invariant_of-self-in_err-path c =
+pub invariant_of-self : goal.invariant_of-self
+invariant_of-self c =
     let i = c.self.inside in
     let s : Setting = settled i.horizon i.clock i.bounds.entries i.fixed.items i.lags.items in
     let n = length i.bounds.entries in
@@ -109,8 +110,9 @@ invariant_of-self-2 c =
     let none : get s.bounds c.args.id.0 ≡ None = ap (λ (t : Told). get t.setting.bounds c.args.id.0) c.self.view_is ∙ c.requires.unused in
     let from : HasPoint s c.args.bound.from = subst (λ (t : Told). HasPoint t.setting c.args.bound.from) (sym c.self.view_is) c.requires.from in
     let to : HasPoint s c.args.bound.to = subst (λ (t : Told). HasPoint t.setting c.args.bound.to) (sym c.self.view_is) c.requires.to in
-    let few : n < 2 ^ 32 = omega (arith, c.if-len.false, c.len.ensures.len) in
-    let brought = repaired_brought s n i.keys c.bring.new.keys i.floors.items i.ends.items g0 g' c.args.id c.args.bound i.bounds c.bring.new.bounds r none from to c.requires.weight b refl few in
+    let word : c.args.id.0 < 2 ^ 32 = omega arith in
+    let few : n < 2 ^ 32 = fewer_ids i.bounds c.args.id.0 c.len-count.ensures.ordered r.ids word none in
+    let brought = repaired_brought s n i.keys c.bring.new.keys i.floors.items i.ends.items g0 g' c.args.id c.args.bound i.bounds c.bring.new.bounds r none from to c.requires.weight b refl few word in
     relooked _ _ _ _ _ g' _
     (subst (λ (m : FinMap nat_cmp Bound). IsRepaired (record { horizon = i.horizon; clock = i.clock; bounds = m; fixed = i.fixed.items; lags = i.lags.items; proposed = None }) (length c.bring.new.bounds.entries) c.bring.new.keys i.floors.items i.ends.items g') (sym b.recorded.holds) brought)
 
@@ -126,8 +128,9 @@ returns-clause-exact c =
     let none : get s.bounds c.args.id.0 ≡ None = ap (λ (t : Told). get t.setting.bounds c.args.id.0) c.self.view_is ∙ c.requires.unused in
     let from : HasPoint s c.args.bound.from = subst (λ (t : Told). HasPoint t.setting c.args.bound.from) (sym c.self.view_is) c.requires.from in
     let to : HasPoint s c.args.bound.to = subst (λ (t : Told). HasPoint t.setting c.args.bound.to) (sym c.self.view_is) c.requires.to in
-    let few : n < 2 ^ 32 = omega (arith, c.if-len.false, c.len.ensures.len) in
-    let brought = repaired_brought s n i.keys c.bring.new.keys i.floors.items i.ends.items g0 g' c.args.id c.args.bound i.bounds c.bring.new.bounds r none from to c.requires.weight b refl few in
+    let word : c.args.id.0 < 2 ^ 32 = omega arith in
+    let few : n < 2 ^ 32 = fewer_ids i.bounds c.args.id.0 c.len-count.ensures.ordered r.ids word none in
+    let brought = repaired_brought s n i.keys c.bring.new.keys i.floors.items i.ends.items g0 g' c.args.id c.args.bound i.bounds c.bring.new.bounds r none from to c.requires.weight b refl few word in
     subst (λ (t : Told). HasSchedule (with_bound t.setting c.args.id.0 c.args.bound)) c.self.view_is (kept_possible _ _ _ _ _ (kept _ _ _ _ _ _ brought))
 
 pub returns-clause-cheap : goal.returns-clause-cheap
@@ -142,8 +145,9 @@ returns-clause-cheap c =
     let none : get s.bounds c.args.id.0 ≡ None = ap (λ (t : Told). get t.setting.bounds c.args.id.0) c.self.view_is ∙ c.requires.unused in
     let from : HasPoint s c.args.bound.from = subst (λ (t : Told). HasPoint t.setting c.args.bound.from) (sym c.self.view_is) c.requires.from in
     let to : HasPoint s c.args.bound.to = subst (λ (t : Told). HasPoint t.setting c.args.bound.to) (sym c.self.view_is) c.requires.to in
-    let few : n < 2 ^ 32 = omega (arith, c.if-len.false, c.len.ensures.len) in
-    let brought = repaired_brought s n i.keys c.bring.new.keys i.floors.items i.ends.items g0 g' c.args.id c.args.bound i.bounds c.bring.new.bounds r none from to c.requires.weight b refl few in
+    let word : c.args.id.0 < 2 ^ 32 = omega arith in
+    let few : n < 2 ^ 32 = fewer_ids i.bounds c.args.id.0 c.len-count.ensures.ordered r.ids word none in
+    let brought = repaired_brought s n i.keys c.bring.new.keys i.floors.items i.ends.items g0 g' c.args.id c.args.bound i.bounds c.bring.new.bounds r none from to c.requires.weight b refl few word in
     let h = subst (λ o. AreCounted g0.store (length g0.low.items) g'.up.amounts.items g'.down.amounts.items 0 g'.looks o) c.in_default.is c.in_ok-path.ensures.counted in
     subst (λ (t : Told). IsCheap 2 t.setting (with_bound t.setting c.args.id.0 c.args.bound) g'.looks) c.self.view_is
     (cheap s (with_bound s c.args.id.0 c.args.bound) n (length c.bring.new.bounds.entries) i.keys c.bring.new.keys i.floors.items i.ends.items i.floors.items i.ends.items g0 g' g'.up.amounts.items g'.down.amounts.items 2 g'.looks r brought refl b.moves.up b.moves.down (omega (arith, h)))
@@ -162,7 +166,7 @@ returns-in_err-path-clause-most c =
     let g0 : Engine = with_looks i.engine 0 in
     let r : IsRepaired s n i.keys i.floors.items i.ends.items g0 = relooked s n i.keys i.floors.items i.ends.items i.engine 0 c.self.invariant in
     let most = c.bring.ensures.looks (n + 2 * event_count s) (wired_here s n i.keys i.floors.items i.ends.items g0 r) in
-    let held = held_len i.bounds c.len.ensures.ordered in
+    let held = held_len i.bounds c.len-count.ensures.ordered in
     let told : edge_count s ≡ edge_count c.args.self.now.setting = ap (λ (t : Told). edge_count t.setting) c.self.view_is in
     omega (arith, most, held, told)
 
@@ -174,7 +178,7 @@ returns-in_err-reason-clause-most c =
     let g0 : Engine = with_looks i.engine 0 in
     let r : IsRepaired s n i.keys i.floors.items i.ends.items g0 = relooked s n i.keys i.floors.items i.ends.items i.engine 0 c.self.invariant in
     let most = c.bring.ensures.looks (n + 2 * event_count s) (wired_here s n i.keys i.floors.items i.ends.items g0 r) in
-    let held = held_len i.bounds c.len.ensures.ordered in
+    let held = held_len i.bounds c.len-count.ensures.ordered in
     let told : edge_count s ≡ edge_count c.args.self.now.setting = ap (λ (t : Told). edge_count t.setting) c.self.view_is in
     omega (arith, most, held, told)
 
@@ -186,7 +190,7 @@ returns-in-Some-clause-most c =
     let g0 : Engine = with_looks i.engine 0 in
     let r : IsRepaired s n i.keys i.floors.items i.ends.items g0 = relooked s n i.keys i.floors.items i.ends.items i.engine 0 c.self.invariant in
     let most = c.bring.ensures.looks (n + 2 * event_count s) (wired_here s n i.keys i.floors.items i.ends.items g0 r) in
-    let held = held_len i.bounds c.len.ensures.ordered in
+    let held = held_len i.bounds c.len-count.ensures.ordered in
     let told : edge_count s ≡ edge_count c.args.self.now.setting = ap (λ (t : Told). edge_count t.setting) c.self.view_is in
     omega (arith, most, held, told)
 
@@ -198,6 +202,6 @@ returns-clause-most c =
     let g0 : Engine = with_looks i.engine 0 in
     let r : IsRepaired s n i.keys i.floors.items i.ends.items g0 = relooked s n i.keys i.floors.items i.ends.items i.engine 0 c.self.invariant in
     let most = c.bring.ensures.looks (n + 2 * event_count s) (wired_here s n i.keys i.floors.items i.ends.items g0 r) in
-    let held = held_len i.bounds c.len.ensures.ordered in
+    let held = held_len i.bounds c.len-count.ensures.ordered in
     let told : edge_count s ≡ edge_count c.args.self.now.setting = ap (λ (t : Told). edge_count t.setting) c.self.view_is in
     omega (arith, most, held, told)

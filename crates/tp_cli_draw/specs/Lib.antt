@@ -1,0 +1,4 @@
+pub mod Draws
+pub mod Pictures
+pub mod Stops
+pub mod Words

@@ -1,0 +1,4 @@
+pub mod ResumeLemmas
+pub mod BareLemmas
+pub mod Came
+pub mod RunLemmas

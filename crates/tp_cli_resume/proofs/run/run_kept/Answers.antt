@@ -1,0 +1,9 @@
+use Rattle.std.proofs.Common.{inl, refl}
+use Rattle.tp_cli_resume.proofs.RunLemmas.{none_early, quiet_count, quiet_head}
+use Rattle.tp_cli_resume.proofs.run.run_kept.Goals as goal
+
+pub returns-in-Err-clause-cause : goal.returns-in-Err-clause-cause
+returns-in-Err-clause-cause g c = (none_early (g.O.Sink.held c.args.output.now), (refl, inl refl))
+
+pub returns-in-Err-clause-failures : goal.returns-in-Err-clause-failures
+returns-in-Err-clause-failures g c = quiet_count c.in-Err.stop _ (quiet_head _ c.in-Err.stop c.in-Err.ensures.cause)

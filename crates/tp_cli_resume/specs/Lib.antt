@@ -1,0 +1,6 @@
+pub mod Bare
+pub mod Going
+pub mod Old
+pub mod Run
+pub mod RunStops
+pub mod Stops

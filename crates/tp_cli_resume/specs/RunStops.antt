@@ -1,0 +1,32 @@
+-- The lines of what stops a run of a plan that goes on, and their exit statuses.
+use Rattle.std.specs.Prelude.{ℕ, ◌+◌, List, Result, Ok, Err, codes}
+use Rattle.tp_cli_files.specs.FaultLines.{fault_line}
+use Rattle.tp_cli_inputs.specs.JudgeLines.{judge_status, judge_text}
+use Rattle.tp_cli_inputs.specs.declared.plan_words.PlanWords.{PlanWords}
+use Rattle.tp_cli_run.specs.RunLines.{network_status, network_text}
+use Rattle.tp_cli_resume.specs.Stops.{resume_failures, resume_status, resume_text}
+use Rattle.tp_cli_resume.specs.declared.run_stops.RunResumeStop.{RunResumeStop}
+use Rattle.tp_cli_resume.specs.declared.run_stops.RunResumeStop.TheVariants.{Judging, Network, Resuming, Telling, Write}
+
+abbrev pub run_resume_status : RunResumeStop → ℕ
+run_resume_status (Judging fault) = judge_status fault
+run_resume_status (Network fault) = network_status fault
+run_resume_status (Resuming stop) = resume_status stop
+run_resume_status Telling = 3
+run_resume_status Write = 3
+
+abbrev pub run_resume_text : PlanWords → List ℕ → RunResumeStop → List ℕ
+run_resume_text w old (Judging fault) = judge_text w fault
+run_resume_text w old (Network fault) = network_text fault
+run_resume_text w old (Resuming stop) = resume_text old stop
+run_resume_text w old Telling = fault_line (codes "run") (codes "1 memory")
+run_resume_text w old Write = fault_line (codes "script") (codes "2 write")
+
+-- a write of the output that failed is counted
+abbrev pub run_resume_failures : {T : Type 0} → ℕ → Result T RunResumeStop → ℕ
+run_resume_failures n (Ok x) = n
+run_resume_failures n (Err (Judging fault)) = n
+run_resume_failures n (Err (Network fault)) = n
+run_resume_failures n (Err (Resuming stop)) = resume_failures {T = Unit {0}} n (Err stop)
+run_resume_failures n (Err Telling) = n
+run_resume_failures n (Err Write) = n + 1

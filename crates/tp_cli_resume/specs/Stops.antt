@@ -1,0 +1,33 @@
+-- The lines of what stops a run that goes on, and their exit statuses.
+use Rattle.std.specs.Prelude.{ℕ, ◌+◌, List, Result, Ok, Err, codes}
+use Rattle.tp_cli_files.specs.FaultLines.{fault_line}
+use Rattle.tp_journal_pairs.specs.declared.faults.JournalFault.TheVariants as journal
+use Rattle.tp_cli_audit.specs.AuditLines.{stop_status, stop_text}
+use Rattle.tp_cli_audit.specs.Audits.{say_failures}
+use Rattle.tp_cli_bare.specs.JournalLines.{journal_status, journal_text}
+use Rattle.tp_cli_resume.specs.declared.stops.ResumeStop.{ResumeStop}
+use Rattle.tp_cli_resume.specs.declared.stops.ResumeStop.TheVariants.{Auditing, Lines, Making, Journaling}
+
+abbrev pub resume_status : ResumeStop → ℕ
+resume_status (Auditing stop) = stop_status stop
+resume_status Lines = 3
+resume_status Making = 3
+resume_status (Journaling fault) = journal_status fault
+
+-- the line, where this is the name of the file of the journal that the run goes on from
+abbrev pub resume_text : List ℕ → ResumeStop → List ℕ
+resume_text old (Auditing stop) = stop_text old stop
+resume_text old Lines = fault_line (codes "script") (codes "3 memory")
+resume_text old Making = fault_line (codes "script") (codes "6 log")
+resume_text old (Journaling fault) = journal_text fault
+
+-- a write of the output that failed is counted
+abbrev pub resume_failures : {T : Type 0} → ℕ → Result T ResumeStop → ℕ
+resume_failures n (Ok x) = n
+resume_failures n (Err (Auditing stop)) = say_failures {T = Unit {0}} n (Err stop)
+resume_failures n (Err Lines) = n
+resume_failures n (Err Making) = n
+resume_failures n (Err (Journaling journal.Read)) = n
+resume_failures n (Err (Journaling journal.Write)) = n + 1
+resume_failures n (Err (Journaling journal.Log)) = n
+resume_failures n (Err (Journaling journal.TooLong)) = n

@@ -1,0 +1,10 @@
+use Rattle.std.proofs.Common.{◌≡◌, ℕ, ◌≤◌, None}
+use Rattle.std.specs.FinMap as map
+use Rattle.tp_agents.specs.Splits.{IsUnbegun}
+use Rattle.tp_exec_tests.proofs.agents.large.put_after.Given as goal
+
+abbrev pub invariant-loop-earlier : goal.invariant-loop-earlier
+invariant-loop-earlier l = record {
+  unbegun : IsUnbegun l.setting;
+  free : (id : ℕ) → l.next ≤ id → map.get l.setting.bounds id ≡ None;
+}

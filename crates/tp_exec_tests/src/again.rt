@@ -1,0 +1,21 @@
+//! Tests of the calls that may want memory: where a growth is refused, the same call is made once
+//! more, and answers as one that nothing preceded. `scripts/refused-memory` lets each request of a
+//! test fail in turn; with ample memory the tests show that each call has an answer.
+//!
+//! - `worlds`: the tasks of the small domains
+//! - `texts`: words, trees, domains and problems
+//! - `tasks`: what is told of a task, and happenings
+//! - `plans`: plans that are read, judged, looked for, and freed from their order
+//! - `runs`: executives over the networks of plans
+//! - `plans_of_runs`: the plans of completed runs
+//! - `networks`: settings, and executives over both networks for all bounds
+//! - `journals`: heads of journals, and audits
+
+mod journals;
+mod networks;
+mod plans;
+mod plans_of_runs;
+mod runs;
+mod tasks;
+mod texts;
+mod worlds;

@@ -1,0 +1,103 @@
+//! What is told of a task, and states.
+
+ghost use Rattle.std.specs.Prelude.{◌≡◌, true, IfOk};
+ghost use Rattle.std.specs.List.{list_all};
+ghost use Rattle.tp_happen.specs.Stored.{fits_in};
+ghost use Rattle.tp_exec_tests.specs.OfTask.{has_event};
+
+use crate::again::worlds::{kept_of, task_of};
+use std::alloc::Global;
+use std::test::Fail;
+use tp_happen::{ApplyFault, EventRef, Outcome, Part, State, apply, event};
+use tp_task::{ActionId, AtomId, FluentId, Task};
+use tp_testkit_tasks::{CHARGES, FUSES, SWITCHES, TANKS, World};
+
+/// Whether the first action and the first atom of a task have these texts.
+fn tells(task: &Task, action: &str, atom: &str) -> Result<bool, Fail> {
+    let first = again!(task.action_text(ActionId(0)))?;
+    let second = again!(task.atom_text(AtomId(0)))?;
+    Ok(first.as_str() == action && second.as_str() == atom)
+}
+
+fn tells_first(alloc: Global, world: World<'_>, action: &str, atom: &str) -> Result<bool, Fail> {
+    let task = task_of(alloc, world)?;
+    tells(&task, action, atom)
+}
+
+#[test]
+fn texts_of_actions_and_atoms(rt: HostRuntime) -> Result<(), Fail> {
+    assert!(rt; tells_first(rt.alloc(), FUSES, "(light-match m1)", "(unused m1)")?);
+    assert!(rt; tells_first(rt.alloc(), SWITCHES, "(need)", "(p)")?);
+    Ok(())
+}
+
+fn tells_kept(alloc: Global, world: World<'_>, action: &str, atom: &str) -> Result<bool, Fail> {
+    let task = kept_of(alloc, world)?;
+    tells(&task, action, atom)
+}
+
+#[test]
+fn texts_of_actions_in_reach(rt: HostRuntime) -> Result<(), Fail> {
+    assert!(rt; tells_kept(rt.alloc(), FUSES, "(light-match m1)", "(unused m1)")?);
+    assert!(rt; tells_kept(rt.alloc(), SWITCHES, "(need)", "(p)")?);
+    Ok(())
+}
+
+/// An event of an action without objects, in a step of so many ticks.
+fn event_of<'t>(task: &'t Task, name: &str, part: Part, ticks: u32) -> Result<EventRef<'t>, Fail>
+    ensures { IfOk result (λ e. has_event task.now e.event ≡ true) }
+{
+    let action = task.action(name, &[]).ok_or("no such action")?;
+    let one = event(task, action, part).ok_or("no such event")?;
+    Ok(EventRef::new(one, ticks))
+}
+
+/// The value of the first fluent behind a happening, if that is possible.
+fn value_after(
+    alloc: Global,
+    state: &State,
+    events: &[EventRef<'_>],
+) -> Result<Option<i64>, ApplyFault>
+    requires { list_all (fits_in state.now) events.now ≡ true }
+{
+    match apply(alloc, state, events)? {
+        Outcome::Next(next) => Ok(next.number(FluentId(0))),
+        Outcome::Fails(_, _) => Ok(None),
+    }
+}
+
+/// The same behind one event in the initial state.
+fn value_after_one(
+    alloc: Global,
+    task: &Task,
+    name: &str,
+    part: Part,
+    ticks: u32,
+) -> Result<Option<i64>, Fail> {
+    let state = again!(State::initial(alloc, task))?;
+    let events = [event_of(task, name, part, ticks)?];
+    Ok(again!(value_after(alloc, &state, &events))?)
+}
+
+fn gives(
+    alloc: Global,
+    world: World<'_>,
+    name: &str,
+    part: Part,
+    ticks: u32,
+) -> Result<Option<i64>, Fail> {
+    let task = task_of(alloc, world)?;
+    value_after_one(alloc, &task, name, part, ticks)
+}
+
+#[test]
+fn happenings_of_one_event(rt: HostRuntime) -> Result<(), Fail> {
+    for (world, name, part, ticks, value) in [
+        (TANKS, "fill-b", Part::Only, 0, 2),
+        (CHARGES, "charge", Part::End, 4, 8),
+    ] {
+        let found = gives(rt.alloc(), world, name, part, ticks)?;
+        assert!(rt; found == Some(value), "{name}");
+    }
+    Ok(())
+}

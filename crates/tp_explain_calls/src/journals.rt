@@ -1,0 +1,256 @@
+//! Lines that are no journal's.
+
+use crate::words::{next_word, number_in};
+use std::alloc::{AllocError, Global};
+use tp_cli_files::Files;
+use tp_device::Source as Reader;
+use tp_explain_text::{Page, put_line_place, put_mark_of_line};
+
+/// The most bytes of a line of a journal.
+const LONGEST: usize = 16_384;
+
+/// A line that was kept: its number, its first bytes, and whether it ends within as many as it may
+/// have.
+#[derive(Drop)]
+pub struct KeptLine {
+    pub number: u64,
+    pub bytes: Vec<u8>,
+    pub is_long: bool,
+    pub is_ended: bool,
+}
+
+/// Lines that are taken byte by byte, of which some are kept.
+#[derive(Drop)]
+struct Keeper {
+    alloc: Global,
+    kept: Vec<KeptLine>,
+    number: u64,
+    is_kept: bool,
+}
+
+/// Whether a line is to be kept: one of the first three, one of a number, or the one before it.
+fn is_wanted(number: u64, wanted: u64) -> bool {
+    number <= 3 || number == wanted || number.saturating_add(1) == wanted
+}
+
+impl Keeper {
+    /// The lines that were kept.
+    fn into_kept(self) -> Vec<KeptLine> {
+        let Keeper { kept, .. } = self;
+        kept
+    }
+
+    /// Begins the next line with its first byte.
+    fn begin(&mut self, wanted: u64) -> Result<(), AllocError> {
+        self.number = self.number.saturating_add(1);
+        self.is_kept = is_wanted(self.number, wanted);
+        if self.is_kept {
+            let bytes = Vec::new(self.alloc);
+            self.kept.push(KeptLine {
+                number: self.number,
+                bytes,
+                is_long: false,
+                is_ended: false,
+            })?;
+        }
+        Ok(())
+    }
+
+    /// Takes a byte of a line.
+    fn take(&mut self, byte: u8) -> Result<(), AllocError> {
+        if !self.is_kept {
+            return Ok(());
+        }
+        let Some(line) = self.kept.last_mut() else {
+            return Ok(());
+        };
+        if byte == b'\n' {
+            line.is_ended = true;
+        } else if line.bytes.len() < LONGEST {
+            line.bytes.push(byte)?;
+        } else {
+            line.is_long = true;
+        }
+        Ok(())
+    }
+
+    /// Takes bytes. Answers whether the line that is wanted is whole.
+    fn take_all(&mut self, bytes: &[u8], wanted: u64, inside: bool) -> Result<bool, AllocError> {
+        let mut inside = inside;
+        for byte in bytes {
+            if !inside {
+                self.begin(wanted)?;
+            }
+            self.take(*byte)?;
+            inside = *byte != b'\n';
+        }
+        Ok(inside)
+    }
+}
+
+/// The first three lines of the file of a name, the one of a number and the one before it, as far
+/// as they are there.
+pub fn keep_lines<N: Files>(
+    alloc: Global,
+    files: &mut N,
+    name: &str,
+    wanted: u64,
+) -> Result<Vec<KeptLine>, AllocError> {
+    let mut keeper = Keeper {
+        alloc,
+        kept: Vec::new(alloc),
+        number: 0,
+        is_kept: false,
+    };
+    let Ok(source) = files.open(name) else {
+        return Ok(keeper.into_kept());
+    };
+    let mut source = source;
+    let mut chunk = [0; 4096];
+    let mut inside = false;
+    for _ in 0..2_097_152u32 {
+        if keeper.number > wanted {
+            break;
+        }
+        let Ok(count) = source.pull(&mut chunk) else {
+            break;
+        };
+        if count == 0 {
+            break;
+        }
+        inside = keeper.take_all(chunk.get(..count).unwrap_or(&[]), wanted, inside)?;
+    }
+    Ok(keeper.into_kept())
+}
+
+/// A line that was kept, by its number.
+pub fn kept_line(lines: &[KeptLine], number: u64) -> Option<&KeptLine> {
+    lines.iter().find(|line| line.number == number)
+}
+
+/// How many own bounds a head tells of, by its third line.
+fn own_bounds(lines: &[KeptLine]) -> u64 {
+    let Some(line) = kept_line(lines, 3) else {
+        return 0;
+    };
+    let (word, behind) = next_word(line.bytes.as_slice());
+    if word != b"own".as_slice() {
+        return 0;
+    }
+    number_in(next_word(behind).0).unwrap_or(0)
+}
+
+/// What is wanted on a line.
+fn wanted_form(lines: &[KeptLine], number: u64) -> &'static str {
+    match number {
+        1 => return "`journal 2`",
+        2 => return "`network N H`",
+        3 => return "`bare` or `own K`",
+        _ => {}
+    }
+    if number <= own_bounds(lines).saturating_add(3) {
+        return "`bound ID F T W`";
+    }
+    let before = kept_line(lines, number.saturating_sub(1));
+    match before.map_or(&[][..], |line| line.bytes.as_slice()) {
+        [b'>', ..] => "an answer, `< ..`",
+        [b'<', ..] => "a command, `> ..`",
+        _ => "`lag E L` or a command, `> ..`",
+    }
+}
+
+/// Puts what was found on a line: its first word, or all of it where that is a sign of what is
+/// wanted.
+fn put_found(page: &mut Page, line: Option<&KeptLine>) {
+    let Some(line) = line else {
+        page.put("the end of the file");
+        return;
+    };
+    let bytes = line.bytes.as_slice();
+    let (word, _) = next_word(bytes);
+    if word.is_empty() {
+        page.put("an empty line");
+        return;
+    }
+    page.put("`");
+    match word {
+        [b'>' | b'<'] => put_text(page, bytes),
+        _ => put_text(page, word_of(word)),
+    }
+    page.put("`");
+}
+
+/// A word up to a parenthesis, a bracket or a semicolon in it, unless it begins with one.
+fn word_of(word: &[u8]) -> &[u8] {
+    for (count, byte) in word.iter().enumerate() {
+        if count > 0 && matches!(*byte, b'(' | b')' | b'[' | b']' | b';') {
+            return word.get(..count).unwrap_or(word);
+        }
+    }
+    word
+}
+
+fn put_text(page: &mut Page, bytes: &[u8]) {
+    for byte in bytes.iter().take(60) {
+        page.put_byte(match *byte {
+            b' '..=b'~' => *byte,
+            _ => b'?',
+        });
+    }
+    page.put(if bytes.len() > 60 { "..." } else { "" });
+}
+
+fn put_cut_help(page: &mut Page) {
+    page.put("help: after a crash, cut the journal behind its last whole pair");
+    page.end_line();
+}
+
+/// Puts the command to which an answer is missing.
+fn put_command(page: &mut Page, lines: &[KeptLine], number: u64) -> bool {
+    let before = number.saturating_sub(1);
+    let Some(line) = kept_line(lines, before) else {
+        return false;
+    };
+    let [b'>', b' ', command @ ..] = line.bytes.as_slice() else {
+        return false;
+    };
+    page.put("note: line ");
+    page.put_number(before);
+    page.put(" is the command `");
+    put_text(page, command);
+    page.put("`");
+    page.end_line();
+    true
+}
+
+/// Puts what is wrong with a line of a journal: it is too long, does not end, or is none.
+pub fn put_journal_line(page: &mut Page, name: &str, lines: &[KeptLine], number: u64) {
+    let line = kept_line(lines, number);
+    put_line_place(page, name, number, 1);
+    page.put("error: ");
+    let is_long = line.map_or(false, |line| line.is_long);
+    let is_open = line.map_or(false, |line| !line.is_ended);
+    if is_long {
+        page.put("the line has more than 16384 bytes");
+    } else if is_open {
+        page.put("the line does not end");
+    } else {
+        page.put("expected ");
+        page.put(wanted_form(lines, number));
+        page.put(", found ");
+        put_found(page, line);
+    }
+    page.end_line();
+    if let Some(line) = line {
+        put_mark_of_line(page, line.bytes.as_slice(), 0);
+    }
+    let is_missing = line.is_none() && put_command(page, lines, number);
+    if is_missing || (is_open && !is_long) {
+        put_cut_help(page);
+    } else {
+        page.put("help: see that ");
+        page.put(name);
+        page.put(" is a journal");
+        page.end_line();
+    }
+}

@@ -1,0 +1,134 @@
+//! Lines that are no command.
+
+use crate::lines::InputLine;
+use tp_explain_text::{Nearest, Page};
+use tp_script::{next_word, read_event, read_moment, read_number};
+
+/// The words of commands, each with its form and how many words stand behind it.
+const FORMS: [(&str, &str, u64); 7] = [
+    ("advance", "advance T", 1),
+    ("add", "add F T W", 3),
+    ("withdraw", "withdraw ID", 1),
+    ("window", "window E", 1),
+    ("dispatch", "dispatch E", 1),
+    ("happened", "happened E M", 2),
+    ("report", "report", 0),
+];
+
+/// The most bytes of a line.
+const LONGEST: usize = 256;
+
+/// A word as text. A word of bytes that are no text is none.
+fn text_of(word: &[u8]) -> &str {
+    str::from_utf8(word).unwrap_or("?")
+}
+
+/// How many words a line has.
+fn count_words(line: &[u8]) -> u64 {
+    let mut count = 0u64;
+    let mut rest = line;
+    for _ in 0..line.len() {
+        let (word, behind) = next_word(rest);
+        if word.is_empty() {
+            return count;
+        }
+        count = count.saturating_add(1);
+        rest = behind;
+    }
+    count
+}
+
+/// Whether a word is an event or the origin.
+fn is_point(word: &[u8]) -> bool {
+    word == b"o".as_slice() || read_event(word).is_some()
+}
+
+/// Whether a word is a weight.
+fn is_weight(word: &[u8]) -> bool {
+    match word {
+        [b'-', digits @ ..] => read_number(digits).is_some(),
+        _ => read_number(word).is_some(),
+    }
+}
+
+/// Whether a word may stand behind a command's word at a place.
+fn fits(command: &str, place: usize, word: &[u8]) -> bool {
+    match (command, place) {
+        ("add", 0 | 1) => is_point(word),
+        ("add", _) => is_weight(word),
+        ("window" | "dispatch", _) | ("happened", 0) => read_event(word).is_some(),
+        _ => read_moment(word).is_some(),
+    }
+}
+
+/// The first word behind a command's word that does not fit.
+fn first_misfit<'l>(command: &str, line: &'l [u8]) -> &'l [u8] {
+    let mut rest = line;
+    for place in 0..3 {
+        let (word, behind) = next_word(rest);
+        if word.is_empty() || !fits(command, place, word) {
+            return word;
+        }
+        rest = behind;
+    }
+    &[]
+}
+
+/// Puts what was found in place of a command's form.
+fn put_found(page: &mut Page, command: &str, line: &[u8], wanted: u64) {
+    let found = count_words(line);
+    if found == wanted {
+        page.put_code(text_of(first_misfit(command, line)));
+        return;
+    }
+    if found == 0 {
+        page.put("nothing");
+    } else {
+        page.put_count(found, "word", "words");
+    }
+    page.put(" behind ");
+    page.put_code(command);
+}
+
+/// Puts that no command has this name, and the nearest that there is.
+fn put_unknown(page: &mut Page, word: &[u8]) {
+    let text = text_of(word);
+    page.put("no command is named ");
+    page.put_code(text);
+    page.end_line();
+    let mut nearest = Nearest::to(text);
+    for (name, _, _) in &FORMS {
+        nearest.look_at(*name, None);
+    }
+    if let Some((name, _)) = nearest.found() {
+        page.put("help: did you mean ");
+        page.put_code(name);
+        page.put("?");
+        page.end_line();
+    }
+}
+
+/// Puts why a line is no command.
+pub(crate) fn put_no_command(page: &mut Page, line: &InputLine) {
+    if LONGEST < line.bytes.len() {
+        page.put("the line has ");
+        page.put_number(u64::try_from(line.bytes.len()).unwrap_or(u64::MAX));
+        page.put(" bytes, and at most 256 are read");
+        page.end_line();
+        return;
+    }
+    let (word, rest) = next_word(line.words());
+    let known = FORMS.iter().find(|form| form.0.as_bytes() == word);
+    if let Some((command, form, wanted)) = known {
+        page.put("expected ");
+        page.put_code(*form);
+        page.put(", found ");
+        put_found(page, *command, rest, *wanted);
+        page.end_line();
+    } else if word == b"lag".as_slice() {
+        page.put("lags stand before the first command");
+        page.end_line();
+    } else {
+        put_unknown(page, word);
+    }
+}
