@@ -10,7 +10,7 @@ use crate::wanting::had_memory;
 use std::alloc::{AllocError, Global};
 use std::test::Fail;
 use tp_bounds::{BoundId, Limits, MOST_BOUNDS, PlanNet};
-use tp_deorder::deorder;
+use tp_deorder::{DeorderFault, deorder};
 use tp_exec::{networks_come_from_their_plans, run_plan, runs_keep_the_plan};
 use tp_exec_machine::{Command, Executive, perform_all};
 use tp_happen::{Plan, Step};
@@ -87,6 +87,26 @@ fn plan_over(
     }
 }
 
+/// The same; where a command wanted memory, another run of them.
+fn plan_found(
+    alloc: Global,
+    plan: &ValidPlan<'_>,
+    limits: &Limits,
+    network: &PlanNet,
+    commands: &[Command],
+) -> Result<Option<Plan>, AllocError>
+    requires { IsPlanNetOf plan.now.task plan.now.steps limits.now network.now }
+{
+    again!(plan_over(alloc, plan, limits, network, commands))
+}
+
+/// The network of a plan.
+fn network_of(alloc: Global, plan: &ValidPlan<'_>, limits: &Limits) -> Result<PlanNet, DeorderFault>
+    ensures { IfOk result (IsPlanNetOf plan.now.task plan.now.steps limits.now) }
+{
+    again!(deorder(alloc, plan, limits))
+}
+
 /// A plan, commands of a run over its network, and the steps of the plan of that run, if there is
 /// one: the tick, the number of the action and the duration of each.
 #[derive(Clone, Copy)]
@@ -120,8 +140,8 @@ fn has_steps(plan: &Option<Plan>, told: Option<&[(u32, u32, u32)]>) -> bool {
 
 /// Whether the run over the network of a plan comes to that.
 fn is_so(alloc: Global, plan: &ValidPlan<'_>, limits: &Limits, run: Run) -> Result<bool, Fail> {
-    let network = again!(deorder(alloc, plan, limits))?;
-    let found = again!(plan_over(alloc, plan, limits, &network, run.commands))?;
+    let network = network_of(alloc, plan, limits)?;
+    let found = plan_found(alloc, plan, limits, &network, run.commands)?;
     Ok(has_steps(&found, run.steps))
 }
 
