@@ -620,49 +620,51 @@ is_told status ended b first before now f fnow contents None on silent fault two
 is_told status ended b first before now f fnow contents (Some w) on silent fault two =
     subst (λ n. TellsSome first n) (sym on.2) (fault (omega (arith, on.0, two)))
 
-is_stopped : {W : Type 0} (words : List (List ℕ)) (files : CallFiles) (input : Option (List ℕ)) (status ended : ℕ) (a b first before now : Option (List ℕ)) (f fnow o onow l lnow : ℕ) (contents : W → Option (List ℕ)) (output : Option W) → HandsOn contents status b f before fnow now ended output → (2 ≤ status → EndsCall words files input status a b o onow l first lnow before) → 2 ≤ ended → IfSome output (λ w. IsStopped words files input a first (contents w) ended now)
-is_stopped words files input status ended a b first before now f fnow o onow l lnow contents None on told two = tt
-is_stopped words files input status ended a b first before now f fnow o onow l lnow contents (Some w) on told two =
+is_stopped : {W : Type 0} (words : List (List ℕ)) (files : CallFiles) (input : Option (List ℕ)) (status ended : ℕ) (a b first before now : Option (List ℕ)) (f fnow r rnow o onow l lnow : ℕ) (contents : W → Option (List ℕ)) (output : Option W) → HandsOn contents status b f before fnow now ended output → (2 ≤ status → EndsCall words files input r rnow status a b o onow l first lnow before) → 2 ≤ ended → IfSome output (λ w. IsStopped words files input a first (contents w) ended now)
+is_stopped words files input status ended a b first before now f fnow r rnow o onow l lnow contents None on told two = tt
+is_stopped words files input status ended a b first before now f fnow r rnow o onow l lnow contents (Some w) on told two =
     record {
       inside = a;
       inside_now = b;
+      reads = r;
+      reads_now = rnow;
       failures = o;
       failures_now = onow;
       lost = l;
       lost_now = lnow;
       begins = Keeps-refl a;
       ends = on.1;
-      told = subst (λ n. EndsCall words files input ended a b o onow l first lnow n) (sym on.2)
-          (subst (λ s. EndsCall words files input s a b o onow l first lnow before) (sym on.0) (told (omega (arith, on.0, two))));
+      told = subst (λ n. EndsCall words files input r rnow ended a b o onow l first lnow n) (sym on.2)
+          (subst (λ s. EndsCall words files input r rnow s a b o onow l first lnow before) (sym on.0) (told (omega (arith, on.0, two))));
     }
 
-pub ends : {W : Type 0} (words : List (List ℕ)) (files : CallFiles) (input : Option (List ℕ)) (status ended : ℕ) (a b first before now : Option (List ℕ)) (f fnow : ℕ) (contents : W → Option (List ℕ)) (output : Option W) → HandsOn contents status b f before fnow now ended output → Runs words files input status a b → (AsksFor words Bare → status ≡ 2 → IsRefused input) → status ≤ 3 → (status ≤ 1 → before ≡ first) → (2 ≤ status → TellsSome first before) → (o onow l lnow : ℕ) → (2 ≤ status → EndsCall words files input status a b o onow l first lnow before) → (AsksForNoJournal words → files.asked_now ≡ files.asked_before) → Ends words files input a first contents ended output now
-ends words files input status ended a b first before now f fnow contents output on runs refused within silent fault o onow l lnow told unlogged =
+pub ends : {W : Type 0} (words : List (List ℕ)) (files : CallFiles) (input : Option (List ℕ)) (status ended : ℕ) (a b first before now : Option (List ℕ)) (f fnow : ℕ) (contents : W → Option (List ℕ)) (output : Option W) → HandsOn contents status b f before fnow now ended output → Runs words files input status a b → (AsksFor words Bare → status ≡ 2 → IsRefused input) → status ≤ 3 → (status ≤ 1 → before ≡ first) → (2 ≤ status → TellsSome first before) → (r rnow o onow l lnow : ℕ) → (2 ≤ status → EndsCall words files input r rnow status a b o onow l first lnow before) → (AsksForNoJournal words → files.asked_now ≡ files.asked_before) → Ends words files input a first contents ended output now
+ends words files input status ended a b first before now f fnow contents output on runs refused within silent fault r rnow o onow l lnow told unlogged =
     record {
       output_holds = holds words files input status ended a b before now f fnow contents output on runs;
       refused = λ asks. refuses status ended b before now f fnow contents output on (refused asks);
       within = few status ended b before now f fnow contents output on within;
       silent = is_silent status ended b first before now f fnow contents output on silent;
       fault = is_told status ended b first before now f fnow contents output on silent fault;
-      stopped = is_stopped words files input status ended a b first before now f fnow o onow l lnow contents output on told;
+      stopped = is_stopped words files input status ended a b first before now f fnow r rnow o onow l lnow contents output on told;
       unlogged = unlogged;
     }
 
 -- what `run_words` and the handing on tell, over the streams as they were
-pub counted : {W : Type 0} (words : List (List ℕ)) (files : CallFiles) (left input : Option (List ℕ)) (status ended : ℕ) (held a kept b first f0 f1 f2 now : Option (List ℕ)) (f fnow : ℕ) (contents : W → Option (List ℕ)) (output : Option W) → left ≡ input → held ≡ a → b ≡ kept → f0 ≡ first → now ≡ f2 → HandsOn contents status b f f1 fnow f2 ended output → Runs words files left status held kept → (AsksFor words Bare → status ≡ 2 → IsRefused left) → status ≤ 3 → (status ≤ 1 → f1 ≡ f0) → (2 ≤ status → TellsSome f0 f1) → (o onow l lnow : ℕ) → (2 ≤ status → EndsCall words files left status held kept o onow l f0 lnow f1) → (AsksForNoJournal words → files.asked_now ≡ files.asked_before) → Ends words files input a first contents ended output now
-counted words files left input status ended held a kept b first f0 f1 f2 now f fnow contents output from was is start end on runs refused within silent fault o onow l lnow told unlogged =
+pub counted : {W : Type 0} (words : List (List ℕ)) (files : CallFiles) (left input : Option (List ℕ)) (status ended : ℕ) (held a kept b first f0 f1 f2 now : Option (List ℕ)) (f fnow : ℕ) (contents : W → Option (List ℕ)) (output : Option W) → left ≡ input → held ≡ a → b ≡ kept → f0 ≡ first → now ≡ f2 → HandsOn contents status b f f1 fnow f2 ended output → Runs words files left status held kept → (AsksFor words Bare → status ≡ 2 → IsRefused left) → status ≤ 3 → (status ≤ 1 → f1 ≡ f0) → (2 ≤ status → TellsSome f0 f1) → (r rnow o onow l lnow : ℕ) → (2 ≤ status → EndsCall words files left r rnow status held kept o onow l f0 lnow f1) → (AsksForNoJournal words → files.asked_now ≡ files.asked_before) → Ends words files input a first contents ended output now
+counted words files left input status ended held a kept b first f0 f1 f2 now f fnow contents output from was is start end on runs refused within silent fault r rnow o onow l lnow told unlogged =
     let here : Runs words files input status a b = subst (λ i. Runs words files i status a b) from (subst (λ o. Runs words files left status o b) was (subst (λ n. Runs words files left status held n) (sym is) runs)) in
     let refuses_here : AsksFor words Bare → status ≡ 2 → IsRefused input = subst (λ i. AsksFor words Bare → status ≡ 2 → IsRefused i) from refused in
     let tells_here : 2 ≤ status → TellsSome first f1 = subst (λ f. 2 ≤ status → TellsSome f f1) start fault in
-    let told_here : 2 ≤ status → EndsCall words files input status a b o onow l first lnow f1 =
+    let told_here : 2 ≤ status → EndsCall words files input r rnow status a b o onow l first lnow f1 =
     λ two.
-    subst (λ i. EndsCall words files i status a b o onow l first lnow f1) from
-    (subst (λ h. EndsCall words files left status h b o onow l first lnow f1) was
-    (subst (λ k. EndsCall words files left status held k o onow l first lnow f1) (sym is)
-    (subst (λ g. EndsCall words files left status held kept o onow l g lnow f1) start (told two))))
+    subst (λ i. EndsCall words files i r rnow status a b o onow l first lnow f1) from
+    (subst (λ h. EndsCall words files left r rnow status h b o onow l first lnow f1) was
+    (subst (λ k. EndsCall words files left r rnow status held k o onow l first lnow f1) (sym is)
+    (subst (λ g. EndsCall words files left r rnow status held kept o onow l g lnow f1) start (told two))))
     in
     subst (λ n. Ends words files input a first contents ended output n) (sym end)
-    (ends words files input status ended a b first f1 f2 f fnow contents output on here refuses_here within (λ one. silent one ∙ start) tells_here o onow l lnow told_here unlogged)
+    (ends words files input status ended a b first f1 f2 f fnow contents output on here refuses_here within (λ one. silent one ∙ start) tells_here r rnow o onow l lnow told_here unlogged)
 
 -- the same over the writer that a buffer stands before
 over_buffer : {W : Type 0} (words : List (List ℕ)) (files : CallFiles) (input : Option (List ℕ)) (status : ℕ) (a held : Option (List ℕ)) (contents : W → Option (List ℕ)) (output : Option W) → Keeps held a → MatchOption output (status ≡ 3) (λ w. Runs words files input status a (contents w)) → MatchOption output (status ≡ 3) (λ w. Runs words files input status held (contents w))
@@ -676,6 +678,8 @@ stopped_over words files input a held first contents status (Some w) now keeps h
     record {
       inside = h.inside;
       inside_now = h.inside_now;
+      reads = h.reads;
+      reads_now = h.reads_now;
       failures = h.failures;
       failures_now = h.failures_now;
       lost = h.lost;

@@ -51,71 +51,77 @@ pub record StopsHelp (text : List ℕ) (status : ℕ) (held held-now : Option (L
   pub told : Tells (fault_line (codes "script") (codes "2 write")) failures before failures-now now
 
 -- how what is asked for ends
-abbrev pub EndsRequest : Request → CallFiles → Option (List ℕ) → ℕ
+abbrev pub EndsRequest : Request → CallFiles → Option (List ℕ) → ℕ → ℕ → ℕ
     → Option (List ℕ) → Option (List ℕ) → ℕ → ℕ → ℕ → Option (List ℕ) → ℕ → Option (List ℕ) → Type 0
-EndsRequest Bare files input status held held-now output output-now failures before failures-now now
-    = StopsBare status input held held-now output output-now failures before failures-now now
-EndsRequest (BareLog log) files input status held held-now output output-now failures before
+EndsRequest Bare files input reads reads-now status held held-now output output-now failures before
     failures-now now
-    = EndsJournaled status input held held-now files.blank files.kept log.now files.named output
-    output-now failures before failures-now now × AskedOnce (journal_file log.now files)
-EndsRequest (BareResume old log) files input status held held-now output output-now failures before
+    = StopsBare status input reads reads-now held held-now output output-now failures before
     failures-now now
-    = EndsResumed (files.held old.now) old.now status input held held-now
-    (journal_file log.now files) output output-now failures before failures-now now
-EndsRequest
-    (Check w) files input status held held-now output output-now failures before failures-now now
-    = EndsCheck files.held w status held held-now output output-now failures before failures-now now
-EndsRequest
-    (Net w) files input status held held-now output output-now failures before failures-now now
-    = EndsNet files.held w status held held-now output output-now failures before failures-now now
-EndsRequest (Run w) files input status held held-now output output-now failures before failures-now
-    now = EndsRun files.held w status input held held-now output output-now failures before
-    failures-now now
-EndsRequest (RunLog w log) files input status held held-now output output-now failures before
-    failures-now now
-    = EndsRunLog files.held w status input held held-now (journal_file log.now files) output
-    output-now failures before failures-now now
-EndsRequest (RunResume w old log) files input status held held-now output output-now failures before
-    failures-now now
-    = EndsRunResumed w old.now status held held-now (journal_file log.now files) output output-now
+EndsRequest (BareLog log) files input reads reads-now status held held-now output output-now
     failures before failures-now now
-EndsRequest
-    (Plan w) files input status held held-now output output-now failures before failures-now now =
+    = EndsJournaled status input reads reads-now held held-now files.blank files.kept log.now
+    files.named output output-now failures before failures-now now
+    × AskedOnce (journal_file log.now files)
+EndsRequest (BareResume old log) files input reads reads-now status held held-now output output-now
+    failures before failures-now now
+    = EndsResumed (files.held old.now) old.now status input reads reads-now held held-now
+    (journal_file log.now files) output output-now failures before failures-now now
+EndsRequest (Check w) files input reads reads-now status held held-now output output-now failures
+    before failures-now now
+    = EndsCheck files.held w status held held-now output output-now failures before failures-now now
+EndsRequest (Net w) files input reads reads-now status held held-now output output-now failures
+    before failures-now now
+    = EndsNet files.held w status held held-now output output-now failures before failures-now now
+EndsRequest (Run w) files input reads reads-now status held held-now output output-now failures
+    before failures-now now
+    = EndsRun files.held w status input reads reads-now held held-now output output-now failures
+    before failures-now now
+EndsRequest (RunLog w log) files input reads reads-now status held held-now output output-now
+    failures before failures-now now
+    = EndsRunLog files.held w status input reads reads-now held held-now (journal_file log.now files)
+    output output-now failures before failures-now now
+EndsRequest (RunResume w old log) files input reads reads-now status held held-now output output-now
+    failures before failures-now now
+    = EndsRunResumed w old.now status reads reads-now held held-now (journal_file log.now files)
+    output output-now failures before failures-now now
+EndsRequest (Plan w) files input reads reads-now status held held-now output output-now failures
+    before failures-now now =
     EndsSearch files.held w status held held-now output output-now failures before failures-now now
-EndsRequest (Audit log) files input status held held-now output output-now failures before
-    failures-now now = EndsBareAudit (files.held log.now) log.now status held held-now output
+EndsRequest (Audit log) files input reads reads-now status held held-now output output-now failures
+    before failures-now now = EndsBareAudit (files.held log.now) log.now status held held-now output
     output-now failures before failures-now now
-EndsRequest (PlanAudit log w) files input status held held-now output output-now failures before
-    failures-now now
+EndsRequest (PlanAudit log w) files input reads reads-now status held held-now output output-now
+    failures before failures-now now
     = EndsPlanAudit files.held w log.now status (files.held log.now) held held-now output output-now
     failures before failures-now now
-EndsRequest (Split w owners) files input status held held-now output output-now failures before
-    failures-now now
+EndsRequest (Split w owners) files input reads reads-now status held held-now output output-now
+    failures before failures-now now
     = EndsSplit None files.held w owners.now status held held-now output output-now failures before
     failures-now now
-EndsRequest (Part w owners agent) files input status held held-now output output-now failures before
-    failures-now now
+EndsRequest (Part w owners agent) files input reads reads-now status held held-now output output-now
+    failures before failures-now now
     = EndsSplit (Some agent) files.held w owners.now status held held-now output output-now failures
     before failures-now now
-EndsRequest
-    (Draw w) files input status held held-now output output-now failures before failures-now now =
+EndsRequest (Draw w) files input reads reads-now status held held-now output output-now failures
+    before failures-now now =
     EndsDraw files.held w status held held-now output output-now failures before failures-now now
-EndsRequest
-    (Help text) files input status held held-now output output-now failures before failures-now now
+EndsRequest (Help text) files input reads reads-now status held held-now output output-now failures
+    before failures-now now
     = StopsHelp (string_bytes text) status held held-now failures before failures-now now
 
-abbrev pub EndsCall : List (List ℕ) → CallFiles → Option (List ℕ) → ℕ
+abbrev pub EndsCall : List (List ℕ) → CallFiles → Option (List ℕ) → ℕ → ℕ → ℕ
     → Option (List ℕ) → Option (List ℕ) → ℕ → ℕ → ℕ → Option (List ℕ) → ℕ → Option (List ℕ) → Type 0
-EndsCall words files input status held held-now output output-now failures before failures-now now =
+EndsCall words files input reads reads-now status held held-now output output-now failures before
+    failures-now now =
     RefusesWords status held held-now output output-now failures before failures-now now
     ⊎ (LacksMemory status held held-now output output-now failures before failures-now now
-    ⊎ ((request : Request) × AsksFor words request × EndsRequest request files input status held
-    held-now output output-now failures before failures-now now))
+    ⊎ ((request : Request) × AsksFor words request × EndsRequest request files input reads reads-now
+    status held held-now output output-now failures before failures-now now))
 
 -- the same of commands on a network of bounds alone, whose words are never refused
-abbrev pub EndsBare : Option (List ℕ) → ℕ → Option (List ℕ) → Option (List ℕ) → ℕ → ℕ → ℕ
+abbrev pub EndsBare : Option (List ℕ) → ℕ → ℕ → ℕ → Option (List ℕ) → Option (List ℕ) → ℕ → ℕ → ℕ
     → Option (List ℕ) → ℕ → Option (List ℕ) → Type 0
-EndsBare input status held held-now output output-now failures before failures-now now =
-    StopsBare status input held held-now output output-now failures before failures-now now
+EndsBare input reads reads-now status held held-now output output-now failures before failures-now
+    now = StopsBare status input reads reads-now held held-now output output-now failures before
+    failures-now now
     ⊎ LacksMemory status held held-now output output-now failures before failures-now now

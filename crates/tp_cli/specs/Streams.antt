@@ -41,20 +41,22 @@ HandsOn contents status held failures before failures-now now ended None =
     × (2 ≤ status → now ≡ before)
 
 -- What stopped a run was told, and is as it is told: of the output as its buffer took it, from when it held what the writer did until it held
--- what the writer does now, and for some counts of writes that failed
+-- what the writer does now, and for some counts of reads and writes that failed
 pub record IsStopped (words : List (List ℕ)) (files : CallFiles)
     (input held faults now : Option (List ℕ)) (status : ℕ)
     (faults-now : Option (List ℕ)) : Type 0 where
   pub inside : Option (List ℕ)
   pub inside_now : Option (List ℕ)
+  pub reads : ℕ
+  pub reads_now : ℕ
   pub failures : ℕ
   pub failures_now : ℕ
   pub lost : ℕ
   pub lost_now : ℕ
   pub begins : Keeps held inside
   pub ends : Keeps inside_now now
-  pub told : EndsCall words files input status inside inside_now failures failures_now lost faults
-      lost_now faults-now
+  pub told : EndsCall words files input reads reads_now status inside inside_now failures failures_now
+      lost faults lost_now faults-now
 
 -- How a run ends. The output holds what the status tells, or it is gone and the status is 3. A network is refused only where it has no head
 -- or comes with too many bytes. A fault line goes with each fault, and with nothing else; where the output is not gone, it is as the line

@@ -143,10 +143,10 @@ fn run_counted<
     ensures quiet { AsksForNoProgress (map string_bytes words.now)
         → files.new.board ≡ files.old.board }
 {
-    let input = FromRead::<R, I>::new(input.stream, input.blank);
+    let mut input = FromRead::<R, I>::new(input.stream, input.blank);
     let mut output = Outlet::<LineWriter<W>, O>::new(output.stream, output.blank);
     let mut faults = Outlet::<V, F>::new(faults.stream, faults.blank);
-    let status = run_words(alloc, words, files, input, &mut output, &mut faults);
+    let status = run_words(alloc, words, files, &mut input, &mut output, &mut faults);
     let handed_on = hand_on(status, output.into_writer(), &mut faults);
     Ended {
         status: handed_on.status,

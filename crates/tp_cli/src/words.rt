@@ -30,43 +30,44 @@ use tp_device::{Sink, Source, push_all};
 
 /// Does what the words ask for. Answers the exit status, and for another than 0 and 1 writes one
 /// fault line.
-pub fn run_words<N: Files, L: Logs, B: Write, I: Source + Drop, O: Sink, F: Sink>(
+pub fn run_words<N: Files, L: Logs, B: Write, I: Source, O: Sink, F: Sink>(
     alloc: Global,
     words: &[String],
     files: &mut Desk<N, L, B>,
-    input: I,
+    input: &mut I,
     output: &mut O,
     faults: &mut F,
 ) -> u8
     ensures done { result ≡ 0 → DoesWhatIsAsked (map string_bytes words.now)
         (call_files (N.held files.old.shelf) (L.asked files.old.logs) (L.asked files.new.logs)
         L.blank (L.named files.new.logs) (L.kept files.new.logs))
-        (I.left input) (O.held output.old) (O.held output.new) }
+        (I.left input.old) (O.held output.old) (O.held output.new) }
     ensures no { result ≡ 1 → AnswersNo (map string_bytes words.now)
         (call_files (N.held files.old.shelf) (L.asked files.old.logs) (L.asked files.new.logs)
         L.blank (L.named files.new.logs) (L.kept files.new.logs))
-        (I.left input) (O.held output.old) (O.held output.new) }
+        (I.left input.old) (O.held output.old) (O.held output.new) }
 
     // Of a network of bounds alone all is answered, or where the status tells otherwise a first
     // part.
     ensures all { AsksFor (map string_bytes words.now) Request.Bare → result ≡ 0
-        → AnswersAll (I.left input) (O.held output.old) (O.held output.new) }
+        → AnswersAll (I.left input.old) (O.held output.old) (O.held output.new) }
     ensures part { AsksFor (map string_bytes words.now) Request.Bare → result ≢ 0
-        → AnswersPart (I.left input) (O.held output.old) (O.held output.new) }
+        → AnswersPart (I.left input.old) (O.held output.old) (O.held output.new) }
 
     // Such a network is refused only where it has no head, or a lag that does not fit, or too many
     // bytes come in.
     ensures refused { AsksFor (map string_bytes words.now) Request.Bare → result ≡ REFUSED
-        → IsRefused (I.left input) }
+        → IsRefused (I.left input.old) }
     ensures bare { AsksFor (map string_bytes words.now) Request.Bare → result ≢ 0
-        → EndsBare (I.left input) result (O.held output.old) (O.held output.new)
-        (O.failures output.old) (O.failures output.new) (F.failures faults.old) (F.held faults.old)
-        (F.failures faults.new) (F.held faults.new) }
+        → EndsBare (I.left input.old) (I.failures input.old) (I.failures input.new) result
+        (O.held output.old) (O.held output.new) (O.failures output.old) (O.failures output.new)
+        (F.failures faults.old) (F.held faults.old) (F.failures faults.new) (F.held faults.new) }
 
     // What stopped the call is told, and is as it is told.
     ensures stopped { 2 ≤ result → EndsCall (map string_bytes words.now)
         (call_files (N.held files.old.shelf) (L.asked files.old.logs) (L.asked files.new.logs)
-        L.blank (L.named files.new.logs) (L.kept files.new.logs)) (I.left input) result
+        L.blank (L.named files.new.logs) (L.kept files.new.logs)) (I.left input.old)
+        (I.failures input.old) (I.failures input.new) result
         (O.held output.old) (O.held output.new) (O.failures output.old) (O.failures output.new)
         (F.failures faults.old) (F.held faults.old) (F.failures faults.new) (F.held faults.new) }
 
@@ -75,9 +76,11 @@ pub fn run_words<N: Files, L: Logs, B: Write, I: Source + Drop, O: Sink, F: Sink
     ensures broken { result ≡ OUT_OF_ORDER → DoesPart (map string_bytes words.now)
         (call_files (N.held files.old.shelf) (L.asked files.old.logs) (L.asked files.new.logs)
         L.blank (L.named files.new.logs) (L.kept files.new.logs))
-        (I.left input) (O.held output.old) (O.held output.new) }
+        (I.left input.old) (O.held output.old) (O.held output.new) }
 
-    // Where no answers to commands are asked for, nothing is written for what is refused.
+    // Where no answers to commands are asked for, the input is left as it is, and nothing is written
+    // for what is refused.
+    ensures unread { AsksForNoCommands (map string_bytes words.now) → input.new ≡ input.old }
     ensures kept { AsksForNoCommands (map string_bytes words.now) → result ≡ REFUSED
         → O.held output.new ≡ O.held output.old }
 
@@ -89,8 +92,9 @@ pub fn run_words<N: Files, L: Logs, B: Write, I: Source + Drop, O: Sink, F: Sink
     ensures quiet { AsksForNoProgress (map string_bytes words.now)
         → files.new.board ≡ files.old.board }
 
-    // A write that failed is always told. A fault line goes with each fault, and with nothing else;
-    // behind it stands only what `clap` says of words that are refused.
+    // A read of the input or a write that failed is always told. A fault line goes with each fault,
+    // and with nothing else; behind it stands only what `clap` says of words that are refused.
+    ensures heard { result ≢ OUT_OF_ORDER → I.failures input.new ≡ I.failures input.old }
     ensures told { result ≢ OUT_OF_ORDER → O.failures output.new ≡ O.failures output.old }
     ensures within { result ≤ 3 }
     ensures silent { result ≤ 1 → faults.new ≡ faults.old }

@@ -12,7 +12,7 @@ use tp_device::Source;
 use tp_exec_machine::Executive;
 use tp_journal::{AuditFault, JournalHead, journal_head, replay};
 use tp_repair::RepairNet;
-use tp_script::Lines;
+use tp_script::{LineBuffers, Lines};
 
 /// The most bytes of a line of a journal.
 const LONGEST: usize = 16_384;
@@ -31,9 +31,10 @@ pub fn head_of<S: Source + Drop>(alloc: Global, source: S) -> Result<JournalHead
     ensures head { IfOk result (λ head. IfSome (S.left source) (λ bytes. IsHeadTold bytes head)) }
     ensures cause { IfErr result (HindersHead (S.left source)) }
 {
-    match Lines::new(alloc, source, LONGEST) {
-        Ok(lines) => {
-            let mut lines = lines;
+    let mut source = source;
+    match LineBuffers::new(alloc, LONGEST) {
+        Ok(buffers) => {
+            let mut lines = Lines::new(buffers, &mut source);
             match journal_head(alloc, &mut lines) {
                 Ok(head) => Ok(head),
                 Err(AuditFault::Memory) => Err(AuditStop::Memory),
@@ -80,9 +81,10 @@ pub fn replay_of<S: Source + Drop>(
     ensures leads { IfOk result (Leads executive.old executive.new (S.left source)) }
     ensures cause { IfErr result (Hinders executive.old (S.left source)) }
 {
-    match Lines::new(alloc, source, LONGEST) {
-        Ok(lines) => {
-            let mut lines = lines;
+    let mut source = source;
+    match LineBuffers::new(alloc, LONGEST) {
+        Ok(buffers) => {
+            let mut lines = Lines::new(buffers, &mut source);
             match replay(alloc, executive, &mut lines) {
                 Ok(audited) => Ok(Found::Journal(audited.pairs)),
                 Err(AuditFault::Wrong(n)) => Ok(Found::Wrong(n)),

@@ -8,20 +8,20 @@ use Rattle.tp_script.specs.Pending.{Reading}
 use Rattle.tp_script.specs.Reading.{Free, EndsLine, TakesWhole}
 use Rattle.tp_script.specs.Transcript.{lines_of, Transcript}
 use Rattle.tp_script.specs.Lags.{SetsLags, TakesLags, NoLagNext}
-use Rattle.tp_script.specs.Serving.{TakesHead, TakesLines, Serves, head_of}
+use Rattle.tp_script.specs.Serving.{TakesHead, TakesLines, Serves, head_of, read_failures}
 use Rattle.tp_script.specs.declared.serving.Served.{Served}
 use Rattle.tp_script.specs.declared.serving.ServeFault.{ServeFault}
 use Rattle.tp_script.specs.declared.serving.ServeFault.TheVariants as serving
 use Rattle.tp_script.proofs.ServeLemmas.{first_whole}
 use Rattle.tp_journal_pairs.specs.Journal.{Entry, Runs}
-use Rattle.tp_journal_pairs.specs.Writing.{EntersAll, IsNewExecutive, Journals, journal_bytes}
+use Rattle.tp_journal_pairs.specs.Writing.{EntersAll, IsNewExecutive, Journals, journal_bytes, read_failures as journal_reads}
 use Rattle.tp_journal_pairs.specs.declared.faults.JournalFault.{JournalFault}
 use Rattle.tp_journal_pairs.specs.declared.faults.JournalFault.TheVariants.{Read, Write, Log, TooLong}
 use Rattle.tp_cli_bare.specs.Bare.{BareStops, BeginsLines, EndLags, IsRefused, first_machine, first_setting}
 use Rattle.tp_cli_bare.specs.declared.bare.BareFault.TheVariants.{Serving}
-use Rattle.tp_cli_bare.proofs.BareLemmas.{answers_none, end_lags, lines_stop, refused_then}
+use Rattle.tp_cli_bare.proofs.BareLemmas.{answers_none, end_lags, lag_reads, lines_stop, refused_then}
 use Rattle.tp_cli_bare.specs.JournalLines.{stop_status}
-use Rattle.tp_cli_bare.specs.Logged.{LogsAll, LogsFrom, LogsLines, LogsPart, StopsLogged, logged_result}
+use Rattle.tp_cli_bare.specs.Logged.{LogsAll, LogsFrom, LogsLines, LogsPart, StopsLogged, input_failures, logged_result}
 use Rattle.tp_cli_bare.specs.declared.journal_lines.JournalStop.{JournalStop}
 use Rattle.tp_cli_bare.specs.declared.journal_lines.JournalStop.TheVariants.{Making, Beginning, Journaling}
 
@@ -121,6 +121,31 @@ logs_stop (Err (Journaling fault)) source held now log logged before reading aft
 pub stops_by : (r : Result Served JournalStop) (fault : ServeFault) (source held log : Option (List ℕ)) → IsErrAnd r (λ e. e ≡ Beginning (Serving fault)) → BareStops source held held (Serving fault) → IfErr r (StopsLogged source held held log log)
 stops_by (Ok x) fault source held log is h = absurd is
 stops_by (Err f) fault source held log is h = subst (λ e. StopsLogged source held held log log e) (sym is) (h, refl, refl)
+
+-- ---- reads that failed
+
+-- a head that was not read
+pub head_reads : (r : Result Served JournalStop) (fault : ServeFault) (n : ℕ) → IsErrAnd r (λ e. e ≡ Beginning (Serving fault)) → read_failures {T = ℕ × ℕ} n (Err fault) ≡ input_failures n r
+head_reads (Ok x) fault n is = absurd is
+head_reads (Err f) fault n is = lag_reads {A = ℕ × ℕ} {B = Unit {0}} fault n ∙ ap (λ e. input_failures {T = Served} n (Err e)) (sym is)
+
+pub any_input : {A B : Type 0} (stop : JournalStop) (n : ℕ) → input_failures {T = A} n (Err stop) ≡ input_failures {T = B} n (Err stop)
+any_input Making n = refl
+any_input (Beginning fault) n = refl
+any_input (Journaling Read) n = refl
+any_input (Journaling Write) n = refl
+any_input (Journaling Log) n = refl
+any_input (Journaling TooLong) n = refl
+
+journal_fault_reads : {A B : Type 0} (fault : JournalFault) (n : ℕ) → journal_reads {T = A} n (Err fault) ≡ input_failures {T = B} n (Err (Journaling fault))
+journal_fault_reads Read n = refl
+journal_fault_reads Write n = refl
+journal_fault_reads Log n = refl
+journal_fault_reads TooLong n = refl
+
+-- commands behind the lags that were not all read
+pub logged_reads : {A B : Type 0} (fault : JournalFault) (n m k : ℕ) → k ≡ journal_reads {T = A} m (Err fault) → m ≡ n → k ≡ input_failures {T = B} n (Err (Journaling fault))
+logged_reads {A} {B} fault n m k is same = is ∙ (ap (λ j. journal_reads {T = A} j (Err fault)) same ∙ journal_fault_reads {A = A} {B = B} fault n)
 
 -- ---- the file of a name
 

@@ -211,13 +211,14 @@ bare_read_failures n (Err (Serving serving.Memory)) = n
 bare_read_failures n (Err (Serving serving.TooLong)) = n
 bare_read_failures n (Err (Serving serving.Head)) = n
 
--- The fault that ended it with that status was told, and it is as it tells. A failed write is one
--- that the count of failures tells of.
-pub record StopsBare (status : ℕ) (input held held-now : Option (List ℕ)) (output output-now : ℕ)
-    (failures : ℕ) (before : Option (List ℕ)) (failures-now : ℕ)
-    (now : Option (List ℕ)) : Type 0 where
+-- The fault that ended it with that status was told, and it is as it tells. A failed read and a
+-- failed write are ones that the counts of failures tell of.
+pub record StopsBare (status : ℕ) (input : Option (List ℕ)) (reads reads-now : ℕ)
+    (held held-now : Option (List ℕ)) (output output-now : ℕ) (failures : ℕ)
+    (before : Option (List ℕ)) (failures-now : ℕ) (now : Option (List ℕ)) : Type 0 where
   pub fault : BareFault
   pub is : bare_status fault ≡ status
   pub cause : BareStops input held held-now fault
+  pub read : reads-now ≡ bare_read_failures {T = Unit {0}} reads (Err fault)
   pub write : output-now ≡ bare_failures {T = Unit {0}} output (Err fault)
   pub told : Tells (bare_text fault) failures before failures-now now

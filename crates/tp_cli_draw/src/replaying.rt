@@ -7,7 +7,7 @@ use tp_exec_machine::{Answer, Command, Executive, Refusal, perform};
 use tp_journal_pairs::begins_with;
 use tp_net::Net;
 use tp_repair::RepairNet;
-use tp_script::{LineFault, Lines, Next, read_command};
+use tp_script::{LineBuffers, LineFault, Lines, Next, read_command};
 
 /// What a journal says beside the state to which its commands lead.
 #[derive(Drop)]
@@ -188,7 +188,7 @@ fn told_first(alloc: Global, events: u16) -> Result<Told, AllocError> {
 fn replay_lines<R: Source>(
     alloc: Global,
     executive: &mut Executive<RepairNet>,
-    lines: &mut Lines<R>,
+    lines: &mut Lines<'_, R>,
     mut told: Told,
 ) -> Result<Told, ReplayStop> {
     let mut asked = Asked {
@@ -227,9 +227,10 @@ pub(crate) fn replay<R: Source + Drop>(
     let Ok(told) = told_first(alloc, executive.net().events()) else {
         return Err(ReplayStop::Memory);
     };
-    match Lines::new(alloc, source, LONGEST) {
-        Ok(lines) => {
-            let mut lines = lines;
+    let mut source = source;
+    match LineBuffers::new(alloc, LONGEST) {
+        Ok(buffers) => {
+            let mut lines = Lines::new(buffers, &mut source);
             replay_lines(alloc, executive, &mut lines, told)
         }
         Err(_) => Err(ReplayStop::Memory),

@@ -28,7 +28,7 @@ use Rattle.tp_cli_run.specs.LogFile.{IsNamed, LogFile, MadeNone}
 use Rattle.tp_cli_run.proofs.StatusLemmas.{IsStatus, three, two}
 use Rattle.tp_cli_resume.specs.Bare.{EndsResumed, HindersOld, ResumesBare, ResumesPart, SaysOld, StopsResumed, WentBare, ran_result}
 use Rattle.tp_cli_resume.specs.Going.{GoesTo, StopsGoing, StopsIn}
-use Rattle.tp_cli_resume.specs.Stops.{resume_failures, resume_status, resume_text}
+use Rattle.tp_cli_resume.specs.Stops.{resume_failures, resume_reads, resume_status, resume_text}
 use Rattle.tp_cli_resume.specs.declared.old.Run.{Run}
 use Rattle.tp_cli_resume.specs.declared.old.Taken.TheVariants.{Goes, Wrong}
 use Rattle.tp_cli_resume.specs.declared.stops.ResumeStop.{ResumeStop}
@@ -77,6 +77,19 @@ machine_type n (Journaling journal.TooLong) = refl
 pub counted_ran : (went : Result Machine ResumeStop) (r : Result Bool ResumeStop) (n m : ℕ) → r ≡ ran_result went → m ≡ resume_failures n went → m ≡ resume_failures n r
 counted_ran (Ok last) r n m is count = subst (λ q. m ≡ resume_failures n q) (sym is) count
 counted_ran (Err stop) r n m is count = subst (λ q. m ≡ resume_failures n q) (sym is) (count ∙ machine_type n stop)
+
+pub any_reads : {A B : Type 0} (n : ℕ) (stop : ResumeStop) → resume_reads {T = A} n (Err stop) ≡ resume_reads {T = B} n (Err stop)
+any_reads n (Auditing stop) = refl
+any_reads n Lines = refl
+any_reads n Making = refl
+any_reads n (Journaling journal.Read) = refl
+any_reads n (Journaling journal.Write) = refl
+any_reads n (Journaling journal.Log) = refl
+any_reads n (Journaling journal.TooLong) = refl
+
+pub heard_ran : (went : Result Machine ResumeStop) (r : Result Bool ResumeStop) (n m : ℕ) → r ≡ ran_result went → m ≡ resume_reads n went → m ≡ resume_reads n r
+heard_ran (Ok last) r n m is count = subst (λ q. m ≡ resume_reads n q) (sym is) count
+heard_ran (Err stop) r n m is count = subst (λ q. m ≡ resume_reads n q) (sym is) (count ∙ any_reads {A = Machine} {B = Bool} n stop)
 
 pub quiet_old : (old : Option (List ℕ)) (stop : AuditStop) (n : ℕ) → HindersOld old stop → n ≡ resume_failures {T = Bool} n (Err (Auditing stop))
 quiet_old old audit.Open n h = refl
@@ -194,18 +207,31 @@ any_type n (Journaling journal.Write) = refl
 any_type n (Journaling journal.Log) = refl
 any_type n (Journaling journal.TooLong) = refl
 
-pub ends : (old : Option (List ℕ)) (name : List ℕ) (status : ℕ) (input held now : Option (List ℕ)) (file : LogFile) (output output-now failures : ℕ) (said : Option (List ℕ)) (failures-now : ℕ) (said-now : Option (List ℕ)) (stop : ResumeStop) (text : List ℕ) → StopsResumed old input held now file stop → status ≡ resume_status stop → output-now ≡ resume_failures {T = Bool} output (Err stop) → text ≡ resume_text name stop → Tells text failures said failures-now said-now → EndsResumed old name status input held now file output output-now failures said failures-now said-now
-ends old name status input held now file output output-now failures said failures-now said-now stop text cause is write line told =
+pub no_read : (n : ℕ) (stop : ResumeStop) → (resume_status stop ≡ 3 → ⊥) → resume_reads {T = Unit {0}} n (Err stop) ≡ n
+no_read n (Auditing stop) other = refl
+no_read n Lines other = refl
+no_read n Making other = refl
+no_read n (Journaling journal.Read) other = absurd (other refl)
+no_read n (Journaling journal.Write) other = refl
+no_read n (Journaling journal.Log) other = refl
+no_read n (Journaling journal.TooLong) other = refl
+
+pub ends : (old : Option (List ℕ)) (name : List ℕ) (status : ℕ) (input : Option (List ℕ)) (reads reads-now : ℕ) (held now : Option (List ℕ)) (file : LogFile) (output output-now failures : ℕ) (said : Option (List ℕ)) (failures-now : ℕ) (said-now : Option (List ℕ)) (stop : ResumeStop) (text : List ℕ) → StopsResumed old input held now file stop → status ≡ resume_status stop → output-now ≡ resume_failures {T = Bool} output (Err stop) → reads-now ≡ resume_reads {T = Bool} reads (Err stop) → text ≡ resume_text name stop → Tells text failures said failures-now said-now → EndsResumed old name status input reads reads-now held now file output output-now failures said failures-now said-now
+ends old name status input reads reads-now held now file output output-now failures said failures-now said-now stop text cause is write read line told =
     record {
       stop = stop;
       is = sym is;
       cause = cause;
+      read = read ∙ any_reads {A = Bool} {B = Unit {0}} reads stop;
       write = write ∙ any_type output stop;
       told = subst (λ (t : List ℕ). Tells t failures said failures-now said-now) line told;
     }
 
 pub ends_told : (status output output-now : ℕ) (stop : ResumeStop) → status ≡ resume_status stop → output-now ≡ resume_failures {T = Bool} output (Err stop) → (status ≡ 3 → ⊥) → output-now ≡ output
 ends_told status output output-now stop is write other = write ∙ (any_type output stop ∙ no_write output stop (λ broken. other (is ∙ broken)))
+
+pub ends_heard : (status reads reads-now : ℕ) (stop : ResumeStop) → status ≡ resume_status stop → reads-now ≡ resume_reads {T = Bool} reads (Err stop) → (status ≡ 3 → ⊥) → reads-now ≡ reads
+ends_heard status reads reads-now stop is read other = read ∙ (any_reads {A = Bool} {B = Unit {0}} reads stop ∙ no_read reads stop (λ broken. other (is ∙ broken)))
 
 pub ends_within : (status : ℕ) (stop : ResumeStop) → status ≡ resume_status stop → IsStatus status
 ends_within status stop is = subst IsStatus (sym is) (stop_is stop)

@@ -16,7 +16,7 @@ use Rattle.tp_script.specs.Serving.{TakesLines}
 use Rattle.tp_script.specs.declared.serving.Served.{Served}
 use Rattle.tp_script.proofs.ServeLemmas.{appends_end}
 use Rattle.tp_journal_pairs.specs.Journal.{Entry, Has, IsHead, IsVersion, Runs, head_of, head_lines, journal_lines, kind_lines, lag_line, lags_of, own_of, pair_lines, text_of}
-use Rattle.tp_journal_pairs.specs.Writing.{EntersAll, journal_bytes, pairs_text, write_failures}
+use Rattle.tp_journal_pairs.specs.Writing.{EntersAll, journal_bytes, pairs_text, read_failures, write_failures}
 use Rattle.tp_journal_pairs.specs.GoingOn.{GoesOn}
 use Rattle.tp_journal_pairs.specs.declared.faults.JournalFault.{JournalFault}
 use Rattle.tp_journal_pairs.specs.declared.faults.JournalFault.TheVariants as journal
@@ -24,7 +24,7 @@ use Rattle.tp_journal_pairs.proofs.WriteLemmas.{journal_more, runs_more}
 use Rattle.tp_journal.specs.Replay.{LeadsTo}
 use Rattle.tp_cli_run.specs.LogFile.{IsNamed, LogFile}
 use Rattle.tp_cli_resume.specs.Going.{Continues, GoesTo, StopsGoing, StopsIn, begin_text, went_result}
-use Rattle.tp_cli_resume.specs.Stops.{resume_failures}
+use Rattle.tp_cli_resume.specs.Stops.{resume_failures, resume_reads}
 use Rattle.tp_cli_resume.specs.declared.stops.ResumeStop.{ResumeStop}
 use Rattle.tp_cli_resume.specs.declared.stops.ResumeStop.TheVariants.{Journaling}
 
@@ -135,3 +135,13 @@ count_fault n journal.TooLong = refl
 pub counted_of : (went : Result Machine JournalFault) (r : Result Machine ResumeStop) (n m : ℕ) → r ≡ went_result went → m ≡ write_failures n went → m ≡ resume_failures n r
 counted_of (Ok last) r n m is count = subst (λ q. m ≡ resume_failures n q) (sym is) count
 counted_of (Err fault) r n m is count = subst (λ q. m ≡ resume_failures n q) (sym is) (count ∙ count_fault n fault)
+
+hear_fault : (n : ℕ) (fault : JournalFault) → read_failures {T = Machine} n (Err fault) ≡ resume_reads {T = Machine} n (Err (Journaling fault))
+hear_fault n journal.Read = refl
+hear_fault n journal.Write = refl
+hear_fault n journal.Log = refl
+hear_fault n journal.TooLong = refl
+
+pub heard_of : (went : Result Machine JournalFault) (r : Result Machine ResumeStop) (n m : ℕ) → r ≡ went_result went → m ≡ read_failures n went → m ≡ resume_reads n r
+heard_of (Ok last) r n m is count = subst (λ q. m ≡ resume_reads n q) (sym is) count
+heard_of (Err fault) r n m is count = subst (λ q. m ≡ resume_reads n q) (sym is) (count ∙ hear_fault n fault)

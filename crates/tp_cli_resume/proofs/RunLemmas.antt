@@ -43,8 +43,8 @@ use Rattle.tp_cli_run.proofs.StatusLemmas.{IsStatus, judge_is, network_is, three
 use Rattle.tp_cli_resume.specs.Going.{GoesTo, StopsGoing, StopsIn}
 use Rattle.tp_cli_resume.specs.Old.{IsQuiet, IsTaken, IsUnread}
 use Rattle.tp_cli_resume.specs.Run.{ComesFrom, EndsOn, EndsRunResumed, GoesOfPlan, GoesSteps, GoesVerdict, HasStopped, StopsEarly, told_on}
-use Rattle.tp_cli_resume.specs.RunStops.{run_resume_failures, run_resume_status, run_resume_text}
-use Rattle.tp_cli_resume.specs.Stops.{resume_failures}
+use Rattle.tp_cli_resume.specs.RunStops.{run_resume_failures, run_resume_reads, run_resume_status, run_resume_text}
+use Rattle.tp_cli_resume.specs.Stops.{resume_failures, resume_reads}
 use Rattle.tp_cli_resume.specs.declared.old.Run.{Run}
 use Rattle.tp_cli_resume.specs.declared.old.Taken.{Taken}
 use Rattle.tp_cli_resume.specs.declared.old.Taken.TheVariants.{Goes, Wrong}
@@ -117,6 +117,17 @@ stopped_early mid kept input before now file (resume.Auditing stop) h = absurd h
 stopped_early mid kept input before now file resume.Lines h = (early_is before now h.0, h)
 stopped_early mid kept input before now file resume.Making h = (early_is before now h.0, h)
 stopped_early mid kept input before now file (resume.Journaling fault) h = (early_in mid kept input before now file.blank file.kept fault h.1, h.0)
+
+pub heard_going : (stop : ResumeStop) (n m : ℕ) → m ≡ resume_reads {T = Machine} n (Err stop) → m ≡ run_resume_reads {T = Bool} n (Err (Resuming stop))
+heard_going stop n m count = count ∙ bares.any_reads {A = Machine} {B = Unit {0}} n stop
+
+-- the telling of the plan of a run reads nothing
+pub told_reads : (told : Result Bool RunStop) (r : Result Bool RunResumeStop) (n : ℕ) → r ≡ told_on told → run_resume_reads n r ≡ n
+told_reads (Ok done) r n is = ap (run_resume_reads n) is
+told_reads (Err (run.Judging fault)) r n is = ap (run_resume_reads n) is
+told_reads (Err (run.Network fault)) r n is = ap (run_resume_reads n) is
+told_reads (Err (run.Answering fault)) r n is = ap (run_resume_reads n) is
+told_reads (Err run.Write) r n is = ap (run_resume_reads n) is
 
 pub counted_going : (stop : ResumeStop) (n m : ℕ) → m ≡ resume_failures {T = Machine} n (Err stop) → m ≡ run_resume_failures {T = Bool} n (Err (Resuming stop))
 counted_going stop n m count = count ∙ (bares.machine_type n stop ∙ bares.any_type n stop)
@@ -236,18 +247,36 @@ any_type n (Resuming stop) = refl
 any_type n Telling = refl
 any_type n Write = refl
 
-pub ends : (w : PlanWords) (old : List ℕ) (status : ℕ) (before now : Option (List ℕ)) (file : LogFile) (output output-now failures : ℕ) (said : Option (List ℕ)) (failures-now : ℕ) (said-now : Option (List ℕ)) (stop : RunResumeStop) (text : List ℕ) → HasStopped before now file stop → status ≡ run_resume_status stop → output-now ≡ run_resume_failures {T = Bool} output (Err stop) → text ≡ run_resume_text w old stop → Tells text failures said failures-now said-now → EndsRunResumed w old status before now file output output-now failures said failures-now said-now
-ends w old status before now file output output-now failures said failures-now said-now stop text cause is write line told =
+no_read : (n : ℕ) (stop : RunResumeStop) → (run_resume_status stop ≡ 3 → ⊥) → run_resume_reads {T = Unit {0}} n (Err stop) ≡ n
+no_read n (Judging fault) other = refl
+no_read n (Network fault) other = refl
+no_read n (Resuming stop) other = bares.no_read n stop other
+no_read n Telling other = refl
+no_read n Write other = refl
+
+any_reads : (n : ℕ) (stop : RunResumeStop) → run_resume_reads {T = Bool} n (Err stop) ≡ run_resume_reads {T = Unit {0}} n (Err stop)
+any_reads n (Judging fault) = refl
+any_reads n (Network fault) = refl
+any_reads n (Resuming stop) = refl
+any_reads n Telling = refl
+any_reads n Write = refl
+
+pub ends : (w : PlanWords) (old : List ℕ) (status : ℕ) (reads reads-now : ℕ) (before now : Option (List ℕ)) (file : LogFile) (output output-now failures : ℕ) (said : Option (List ℕ)) (failures-now : ℕ) (said-now : Option (List ℕ)) (stop : RunResumeStop) (text : List ℕ) → HasStopped before now file stop → status ≡ run_resume_status stop → output-now ≡ run_resume_failures {T = Bool} output (Err stop) → reads-now ≡ run_resume_reads {T = Bool} reads (Err stop) → text ≡ run_resume_text w old stop → Tells text failures said failures-now said-now → EndsRunResumed w old status reads reads-now before now file output output-now failures said failures-now said-now
+ends w old status reads reads-now before now file output output-now failures said failures-now said-now stop text cause is write read line told =
     record {
       stop = stop;
       is = sym is;
       cause = cause;
+      read = read ∙ any_reads reads stop;
       write = write ∙ any_type output stop;
       told = subst (λ (t : List ℕ). Tells t failures said failures-now said-now) line told;
     }
 
 pub ends_told : (status output output-now : ℕ) (stop : RunResumeStop) → status ≡ run_resume_status stop → output-now ≡ run_resume_failures {T = Bool} output (Err stop) → (status ≡ 3 → ⊥) → output-now ≡ output
 ends_told status output output-now stop is write other = write ∙ (any_type output stop ∙ no_write output stop (λ broken. other (is ∙ broken)))
+
+pub ends_heard : (status reads reads-now : ℕ) (stop : RunResumeStop) → status ≡ run_resume_status stop → reads-now ≡ run_resume_reads {T = Bool} reads (Err stop) → (status ≡ 3 → ⊥) → reads-now ≡ reads
+ends_heard status reads reads-now stop is read other = read ∙ (any_reads reads stop ∙ no_read reads stop (λ broken. other (is ∙ broken)))
 
 pub ends_within : (status : ℕ) (stop : RunResumeStop) → status ≡ run_resume_status stop → IsStatus status
 ends_within status stop is = subst IsStatus (sym is) (stop_is stop)

@@ -4,7 +4,7 @@ use Rattle.tp_cli_files.specs.FaultLines.{fault_line}
 use Rattle.tp_cli_inputs.specs.JudgeLines.{judge_status, judge_text}
 use Rattle.tp_cli_inputs.specs.declared.plan_words.PlanWords.{PlanWords}
 use Rattle.tp_cli_run.specs.RunLines.{network_status, network_text}
-use Rattle.tp_cli_resume.specs.Stops.{resume_failures, resume_status, resume_text}
+use Rattle.tp_cli_resume.specs.Stops.{resume_failures, resume_reads, resume_status, resume_text}
 use Rattle.tp_cli_resume.specs.declared.run_stops.RunResumeStop.{RunResumeStop}
 use Rattle.tp_cli_resume.specs.declared.run_stops.RunResumeStop.TheVariants.{Judging, Network, Resuming, Telling, Write}
 
@@ -21,6 +21,15 @@ run_resume_text w old (Network fault) = network_text fault
 run_resume_text w old (Resuming stop) = resume_text old stop
 run_resume_text w old Telling = fault_line (codes "run") (codes "1 memory")
 run_resume_text w old Write = fault_line (codes "script") (codes "2 write")
+
+-- a read of the input that failed is counted
+abbrev pub run_resume_reads : {T : Type 0} → ℕ → Result T RunResumeStop → ℕ
+run_resume_reads n (Ok x) = n
+run_resume_reads n (Err (Judging fault)) = n
+run_resume_reads n (Err (Network fault)) = n
+run_resume_reads n (Err (Resuming stop)) = resume_reads {T = Unit {0}} n (Err stop)
+run_resume_reads n (Err Telling) = n
+run_resume_reads n (Err Write) = n
 
 -- a write of the output that failed is counted
 abbrev pub run_resume_failures : {T : Type 0} → ℕ → Result T RunResumeStop → ℕ

@@ -21,6 +21,17 @@ resume_text old Lines = fault_line (codes "script") (codes "3 memory")
 resume_text old Making = fault_line (codes "script") (codes "6 log")
 resume_text old (Journaling fault) = journal_text fault
 
+-- a read of the input that failed is counted
+abbrev pub resume_reads : {T : Type 0} → ℕ → Result T ResumeStop → ℕ
+resume_reads n (Ok x) = n
+resume_reads n (Err (Auditing stop)) = n
+resume_reads n (Err Lines) = n
+resume_reads n (Err Making) = n
+resume_reads n (Err (Journaling journal.Read)) = n + 1
+resume_reads n (Err (Journaling journal.Write)) = n
+resume_reads n (Err (Journaling journal.Log)) = n
+resume_reads n (Err (Journaling journal.TooLong)) = n
+
 -- a write of the output that failed is counted
 abbrev pub resume_failures : {T : Type 0} → ℕ → Result T ResumeStop → ℕ
 resume_failures n (Ok x) = n

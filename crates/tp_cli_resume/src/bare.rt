@@ -1,13 +1,13 @@
 //! A run on a network of bounds alone that goes on.
 
-ghost use Rattle.std.specs.Prelude.{◌≡◌, ◌≢◌, ◌≤◌, [], Some, true, false, IfOk, IfErr};
+ghost use Rattle.std.specs.Prelude.{◌≡◌, ◌≢◌, ◌≤◌, ℕ, [], Some, true, false, IfOk, IfErr};
 ghost use Rattle.std.specs.Io.KnownBytes.{Appends};
 ghost use Rattle.tp_device.specs.Bytes.{AppendsPart};
 ghost use Rattle.tp_cli_audit.specs.Audits.{found_line};
 ghost use Rattle.tp_cli_audit.specs.Bare.{HindersBare, HindersTold};
 ghost use Rattle.tp_cli_files.specs.FaultLines.{TellsFault};
 ghost use Rattle.tp_cli_resume.specs.Bare.{EndsResumed, HindersOld, IsTakenBare, IsTakenHead, ResumesPart, SaysOld, StopsResumed, WentBare, ran_result};
-ghost use Rattle.tp_cli_resume.specs.Stops.{resume_failures};
+ghost use Rattle.tp_cli_resume.specs.Stops.{resume_failures, resume_reads};
 ghost use Rattle.tp_cli_run.specs.LogFile.{log_file};
 
 use crate::going::go_on;
@@ -70,6 +70,7 @@ fn say_wrong<O: Sink>(output: &mut O, line: u64) -> Result<bool, ResumeStop>
     ensures cause { IfErr result (λ stop. (stop ≡ ResumeStop.Auditing AuditStop.Write)
         × AppendsPart (O.held output.old) (O.held output.new) (found_line (Found.Wrong line))) }
     ensures told { O.failures output.new ≡ resume_failures (O.failures output.old) result }
+    ensures unread { (n : ℕ) → resume_reads n result ≡ n }
 {
     match say(output, Found::Wrong(line)) {
         Ok(_) => Ok(false),
@@ -88,24 +89,25 @@ fn ran_on(went: Result<Executive<RepairNet>, ResumeStop>) -> Result<bool, Resume
 }
 
 /// Goes on from the journal in the file of a name. Answers whether that is one.
-fn resume<N: Files, L: Logs, I: Source + Drop, O: Sink>(
+fn resume<N: Files, L: Logs, I: Source, O: Sink>(
     alloc: Global,
     files: &mut N,
     logs: &mut L,
     old: &str,
     name: &str,
-    input: I,
+    input: &mut I,
     output: &mut O,
 ) -> Result<bool, ResumeStop>
-    ensures went { IfOk result (SaysOld (N.held files.old old.now) (I.left input)
+    ensures went { IfOk result (SaysOld (N.held files.old old.now) (I.left input.old)
         (O.held output.old) (O.held output.new)
         (log_file name.now (L.asked logs.old) (L.asked logs.new)
         (L.named logs.new) L.blank (L.kept logs.new))) }
-    ensures cause { IfErr result (StopsResumed (N.held files.old old.now) (I.left input)
+    ensures cause { IfErr result (StopsResumed (N.held files.old old.now) (I.left input.old)
         (O.held output.old) (O.held output.new)
         (log_file name.now (L.asked logs.old) (L.asked logs.new)
         (L.named logs.new) L.blank (L.kept logs.new))) }
     ensures told { O.failures output.new ≡ resume_failures (O.failures output.old) result }
+    ensures read { I.failures input.new ≡ resume_reads (I.failures input.old) result }
 {
     match take_old(alloc, files, old) {
         Ok(Taken::Goes(run)) => ran_on(go_on(alloc, logs, name, run, input, output)),
@@ -121,34 +123,36 @@ fn resume<N: Files, L: Logs, I: Source + Drop, O: Sink>(
 /// `wrong N` was written; and for another writes one fault line. The second file is made once the
 /// journal is audited. It takes memory for the journal, and costs what its audit costs and the
 /// commands do.
-pub fn run_bare_resume<N: Files, L: Logs, I: Source + Drop, O: Sink, F: Sink>(
+pub fn run_bare_resume<N: Files, L: Logs, I: Source, O: Sink, F: Sink>(
     alloc: Global,
     files: &mut N,
     logs: &mut L,
     old: &str,
     name: &str,
-    input: I,
+    input: &mut I,
     output: &mut O,
     faults: &mut F,
 ) -> u8
-    ensures resumed { result ≡ 0 → SaysOld (N.held files.old old.now) (I.left input)
+    ensures resumed { result ≡ 0 → SaysOld (N.held files.old old.now) (I.left input.old)
         (O.held output.old) (O.held output.new)
         (log_file name.now (L.asked logs.old) (L.asked logs.new)
         (L.named logs.new) L.blank (L.kept logs.new)) true }
-    ensures wrong { result ≡ 1 → SaysOld (N.held files.old old.now) (I.left input)
+    ensures wrong { result ≡ 1 → SaysOld (N.held files.old old.now) (I.left input.old)
         (O.held output.old) (O.held output.new)
         (log_file name.now (L.asked logs.old) (L.asked logs.new)
         (L.named logs.new) L.blank (L.kept logs.new)) false }
 
     // What stopped it is told, and is as it is told.
     ensures stopped { 2 ≤ result → EndsResumed (N.held files.old old.now) old.now result
-        (I.left input) (O.held output.old) (O.held output.new)
+        (I.left input.old) (I.failures input.old) (I.failures input.new)
+        (O.held output.old) (O.held output.new)
         (log_file name.now (L.asked logs.old) (L.asked logs.new)
         (L.named logs.new) L.blank (L.kept logs.new))
         (O.failures output.old) (O.failures output.new)
         (F.failures faults.old) (F.held faults.old) (F.failures faults.new) (F.held faults.new) }
-    ensures part { result ≡ OUT_OF_ORDER → ResumesPart (N.held files.old old.now) (I.left input)
+    ensures part { result ≡ OUT_OF_ORDER → ResumesPart (N.held files.old old.now) (I.left input.old)
         (O.held output.old) (O.held output.new) }
+    ensures heard { result ≢ OUT_OF_ORDER → I.failures input.new ≡ I.failures input.old }
     ensures told { result ≢ OUT_OF_ORDER → O.failures output.new ≡ O.failures output.old }
 
     // A fault line goes with each fault, and with nothing else.

@@ -5,10 +5,10 @@ ghost use Rattle.tp_device.specs.Bytes.{Writes, failures_after};
 ghost use Rattle.tp_exec_machine.specs.Machine.{Machine};
 ghost use Rattle.tp_script.specs.declared.serving.Served.{Served};
 ghost use Rattle.tp_journal_pairs.specs.GoingOn.{GoesOn};
-ghost use Rattle.tp_journal_pairs.specs.Writing.{write_failures};
+ghost use Rattle.tp_journal_pairs.specs.Writing.{read_failures, write_failures};
 ghost use Rattle.tp_cli_run.specs.LogFile.{IsNamed, log_file};
 ghost use Rattle.tp_cli_resume.specs.Going.{GoesTo, StopsGoing, StopsIn, begin_text, went_result};
-ghost use Rattle.tp_cli_resume.specs.Stops.{resume_failures};
+ghost use Rattle.tp_cli_resume.specs.Stops.{resume_failures, resume_reads};
 
 use crate::old::Run;
 use crate::stops::ResumeStop;
@@ -18,7 +18,7 @@ use tp_device::{Failed, Sink, Source, push_all};
 use tp_exec_machine::Executive;
 use tp_journal_pairs::{JournalFault, journal_on};
 use tp_repair::RepairNet;
-use tp_script::{LONGEST_LINE, Lines};
+use tp_script::{LONGEST_LINE, LineBuffers, Lines};
 
 /// The bytes of a journal behind the first line's word and version.
 #[tactic(auto, using(std::proofs::lemmas::List::drop_min))]
@@ -41,7 +41,7 @@ fn write_beginning<V: Sink>(log: &mut V, kept: &[u8]) -> Result<(), Failed>
 /// it.
 fn go_on_behind<I: Source, O: Sink, V: Sink>(
     executive: Executive<RepairNet>,
-    lines: &mut Lines<I>,
+    lines: &mut Lines<'_, I>,
     output: &mut O,
     log: &mut V,
 ) -> Result<Executive<RepairNet>, JournalFault>
@@ -53,6 +53,8 @@ fn go_on_behind<I: Source, O: Sink, V: Sink>(
         lines.new (O.held output.old) (O.held output.new) (V.held log.old) (V.held log.new)
         (Err fault)) }
     ensures told { O.failures output.new ≡ write_failures (O.failures output.old) result }
+    ensures source { lines.new.source ≡ lines.old.source }
+    ensures read { lines.new.failures ≡ read_failures lines.old.failures result }
 {
     let mut executive = executive;
     match journal_on(&mut executive, lines, output, log) {
@@ -64,7 +66,7 @@ fn go_on_behind<I: Source, O: Sink, V: Sink>(
 /// Writes the journal of a run to a log, and answers the commands of the lines, whose pairs follow.
 fn go_on_in<I: Source, O: Sink, V: Sink>(
     run: Run,
-    lines: &mut Lines<I>,
+    lines: &mut Lines<'_, I>,
     output: &mut O,
     log: &mut V,
 ) -> Result<Executive<RepairNet>, JournalFault>
@@ -74,6 +76,8 @@ fn go_on_in<I: Source, O: Sink, V: Sink>(
     ensures cause { IfErr result (StopsIn run.executive run.kept.items lines.old.rest
         (O.held output.old) (O.held output.new) (V.held log.old) (V.held log.new)) }
     ensures told { O.failures output.new ≡ write_failures (O.failures output.old) result }
+    ensures source { lines.new.source ≡ lines.old.source }
+    ensures read { lines.new.failures ≡ read_failures lines.old.failures result }
 {
     let Run { executive, kept } = run;
     match write_beginning(log, kept.as_slice()) {
@@ -100,7 +104,7 @@ fn go_on_lines<L: Logs, I: Source, O: Sink>(
     logs: &mut L,
     name: &str,
     run: Run,
-    lines: &mut Lines<I>,
+    lines: &mut Lines<'_, I>,
     output: &mut O,
 ) -> Result<Executive<RepairNet>, ResumeStop>
     requires { lines.old.longest ≡ 256 }
@@ -113,6 +117,8 @@ fn go_on_lines<L: Logs, I: Source, O: Sink>(
     ensures named { IfOk result (λ _. IsNamed (log_file name.now (L.asked logs.old)
         (L.asked logs.new) (L.named logs.new) L.blank (L.kept logs.new))) }
     ensures told { O.failures output.new ≡ resume_failures (O.failures output.old) result }
+    ensures source { lines.new.source ≡ lines.old.source }
+    ensures read { lines.new.failures ≡ resume_reads lines.old.failures result }
 {
     match logs.make(name) {
         Ok(log) => {
@@ -127,28 +133,31 @@ fn go_on_lines<L: Logs, I: Source, O: Sink>(
 
 /// Makes the file of a name for the journal of a run, and goes on with the commands of the input.
 /// The executive is as they leave it.
-pub(crate) fn go_on<L: Logs, I: Source + Drop, O: Sink>(
+pub(crate) fn go_on<L: Logs, I: Source, O: Sink>(
     alloc: Global,
     logs: &mut L,
     name: &str,
     run: Run,
-    input: I,
+    input: &mut I,
     output: &mut O,
 ) -> Result<Executive<RepairNet>, ResumeStop>
-    ensures goes { IfOk result (GoesTo run.executive run.kept.items (I.left input)
+    ensures goes { IfOk result (GoesTo run.executive run.kept.items (I.left input.old)
         (O.held output.old) (O.held output.new) L.blank (L.kept logs.new)) }
-    ensures cause { IfErr result (StopsGoing run.executive run.kept.items (I.left input)
+    ensures cause { IfErr result (StopsGoing run.executive run.kept.items (I.left input.old)
         (O.held output.old) (O.held output.new)
         (log_file name.now (L.asked logs.old) (L.asked logs.new)
         (L.named logs.new) L.blank (L.kept logs.new))) }
     ensures named { IfOk result (λ _. IsNamed (log_file name.now (L.asked logs.old)
         (L.asked logs.new) (L.named logs.new) L.blank (L.kept logs.new))) }
     ensures told { O.failures output.new ≡ resume_failures (O.failures output.old) result }
+    ensures read { I.failures input.new ≡ resume_reads (I.failures input.old) result }
 {
-    match Lines::new(alloc, input, LONGEST_LINE) {
-        Ok(lines) => {
-            let mut lines = lines;
-            go_on_lines(logs, name, run, &mut lines, output)
+    match LineBuffers::new(alloc, LONGEST_LINE) {
+        Ok(buffers) => {
+            let mut lines = Lines::new(buffers, input);
+            let went = go_on_lines(logs, name, run, &mut lines, output);
+            let _input = lines.into_source();
+            went
         }
         Err(_) => Err(ResumeStop::Lines),
     }

@@ -14,7 +14,7 @@ ghost use Rattle.tp_cli_inputs.specs.VerdictLines.{invalid_line};
 ghost use Rattle.tp_cli_resume.specs.Old.{IsQuiet};
 ghost use Rattle.tp_cli_run.specs.LogFile.{log_file};
 ghost use Rattle.tp_cli_resume.specs.Run.{ComesFrom, EndsOn, EndsRunResumed, GoesOfPlan, GoesSteps, GoesVerdict, HasStopped, IsTakenNet, ResumesRun, StopsEarly, told_on};
-ghost use Rattle.tp_cli_resume.specs.RunStops.{run_resume_failures};
+ghost use Rattle.tp_cli_resume.specs.RunStops.{run_resume_failures, run_resume_reads};
 
 use crate::going::go_on;
 use crate::old::{Bytes, Run, Taken, kept_in, take_up};
@@ -66,24 +66,25 @@ fn of_telling(told: Result<bool, RunStop>) -> Result<bool, RunResumeStop>
 }
 
 /// Goes on with a run of a plan, and writes the plan of the run. Answers whether there is one.
-fn go_to_end<L: Logs, I: Source + Drop, O: Sink>(
+fn go_to_end<L: Logs, I: Source, O: Sink>(
     alloc: Global,
     logs: &mut L,
     name: &str,
     plan: &ValidPlan<'_>,
     run: Run,
-    input: I,
+    input: &mut I,
     output: &mut O,
 ) -> Result<bool, RunResumeStop>
     requires { CameFrom plan.now.task plan.now.steps run.executive }
     ensures said { IfOk result (EndsOn plan.now.task plan.now.steps run.executive run.kept.items
-        (I.left input) (O.held output.old) (O.held output.new)
+        (I.left input.old) (O.held output.old) (O.held output.new)
         (log_file name.now (L.asked logs.old) (L.asked logs.new)
         (L.named logs.new) L.blank (L.kept logs.new))) }
     ensures cause { IfErr result (HasStopped (O.held output.old) (O.held output.new)
         (log_file name.now (L.asked logs.old) (L.asked logs.new)
         (L.named logs.new) L.blank (L.kept logs.new))) }
     ensures failures { O.failures output.new ≡ run_resume_failures (O.failures output.old) result }
+    ensures read { I.failures input.new ≡ run_resume_reads (I.failures input.old) result }
 {
     match go_on(alloc, logs, name, run, input, output) {
         Ok(executive) => of_telling(tell_run(&executive, plan, output)),
@@ -99,6 +100,7 @@ fn say_wrong<O: Sink>(output: &mut O, line: u64) -> Result<bool, RunResumeStop>
         (ResumeStop.Auditing AuditStop.Write)) × AppendsPart (O.held output.old)
         (O.held output.new) (found_line (Found.Wrong line))) }
     ensures failures { O.failures output.new ≡ run_resume_failures (O.failures output.old) result }
+    ensures unread { (n : ℕ) → run_resume_reads n result ≡ n }
 {
     match say(output, Found::Wrong(line)) {
         Ok(_) => Ok(false),
@@ -113,6 +115,7 @@ fn say_invalid<O: Sink>(output: &mut O, tick: u32, why: Fault) -> Result<bool, R
     ensures cause { IfErr result (λ stop. (stop ≡ RunResumeStop.Write)
         × AppendsPart (O.held output.old) (O.held output.new) (invalid_line tick why)) }
     ensures failures { O.failures output.new ≡ run_resume_failures (O.failures output.old) result }
+    ensures unread { (n : ℕ) → run_resume_reads n result ≡ n }
 {
     match write_invalid(output, tick, why) {
         Ok(()) => Ok(false),
@@ -121,7 +124,7 @@ fn say_invalid<O: Sink>(output: &mut O, tick: u32, why: Fault) -> Result<bool, R
 }
 
 /// Goes on from a journal that was kept, with that head, on the network of a plan.
-fn run_on<L: Logs, I: Source + Drop, O: Sink>(
+fn run_on<L: Logs, I: Source, O: Sink>(
     alloc: Global,
     logs: &mut L,
     name: &str,
@@ -129,19 +132,20 @@ fn run_on<L: Logs, I: Source + Drop, O: Sink>(
     network: &PlanNet,
     head: &JournalHead,
     kept: Vec<u8>,
-    input: I,
+    input: &mut I,
     output: &mut O,
 ) -> Result<bool, RunResumeStop>
     requires { IsPlanNetOf plan.now.task plan.now.steps
         (greatest_limits network.now.horizon) network.now }
     ensures said { IfOk result (GoesSteps plan.now.task plan.now.steps network.now.horizon
-        kept.items (I.left input) (O.held output.old) (O.held output.new)
+        kept.items (I.left input.old) (O.held output.old) (O.held output.new)
         (log_file name.now (L.asked logs.old) (L.asked logs.new)
         (L.named logs.new) L.blank (L.kept logs.new))) }
     ensures cause { IfErr result (HasStopped (O.held output.old) (O.held output.new)
         (log_file name.now (L.asked logs.old) (L.asked logs.new)
         (L.named logs.new) L.blank (L.kept logs.new))) }
     ensures failures { O.failures output.new ≡ run_resume_failures (O.failures output.old) result }
+    ensures read { I.failures input.new ≡ run_resume_reads (I.failures input.old) result }
 {
     match take_net(alloc, network, head, kept) {
         Ok(Taken::Goes(run)) => go_to_end(alloc, logs, name, plan, run, input, output),
@@ -151,7 +155,7 @@ fn run_on<L: Logs, I: Source + Drop, O: Sink>(
 }
 
 /// The same on the network of a validated plan.
-fn run_valid<L: Logs, I: Source + Drop, O: Sink>(
+fn run_valid<L: Logs, I: Source, O: Sink>(
     alloc: Global,
     logs: &mut L,
     name: &str,
@@ -159,18 +163,19 @@ fn run_valid<L: Logs, I: Source + Drop, O: Sink>(
     horizon: u32,
     head: &JournalHead,
     kept: Vec<u8>,
-    input: I,
+    input: &mut I,
     output: &mut O,
 ) -> Result<bool, RunResumeStop>
     requires { horizon ≤ 1000000000 }
     ensures said { IfOk result (GoesSteps plan.now.task plan.now.steps horizon kept.items
-        (I.left input) (O.held output.old) (O.held output.new)
+        (I.left input.old) (O.held output.old) (O.held output.new)
         (log_file name.now (L.asked logs.old) (L.asked logs.new)
         (L.named logs.new) L.blank (L.kept logs.new))) }
     ensures cause { IfErr result (HasStopped (O.held output.old) (O.held output.new)
         (log_file name.now (L.asked logs.old) (L.asked logs.new)
         (L.named logs.new) L.blank (L.kept logs.new))) }
     ensures failures { O.failures output.new ≡ run_resume_failures (O.failures output.old) result }
+    ensures read { I.failures input.new ≡ run_resume_reads (I.failures input.old) result }
 {
     match deorder(alloc, plan, &Limits::greatest(horizon)) {
         Ok(network) => run_on(alloc, logs, name, plan, &network, head, kept, input, output),
@@ -179,7 +184,7 @@ fn run_valid<L: Logs, I: Source + Drop, O: Sink>(
 }
 
 /// The same of a plan that is valid; of another, writes its first fault.
-fn run_verdict<L: Logs, I: Source + Drop, O: Sink>(
+fn run_verdict<L: Logs, I: Source, O: Sink>(
     alloc: Global,
     logs: &mut L,
     name: &str,
@@ -187,11 +192,11 @@ fn run_verdict<L: Logs, I: Source + Drop, O: Sink>(
     horizon: u32,
     head: &JournalHead,
     kept: Vec<u8>,
-    input: I,
+    input: &mut I,
     output: &mut O,
 ) -> Result<bool, RunResumeStop>
     requires { horizon ≤ 1000000000 }
-    ensures said { IfOk result (GoesVerdict verdict.now horizon kept.items (I.left input)
+    ensures said { IfOk result (GoesVerdict verdict.now horizon kept.items (I.left input.old)
         (O.held output.old) (O.held output.new)
         (log_file name.now (L.asked logs.old) (L.asked logs.new)
         (L.named logs.new) L.blank (L.kept logs.new))) }
@@ -199,6 +204,7 @@ fn run_verdict<L: Logs, I: Source + Drop, O: Sink>(
         (log_file name.now (L.asked logs.old) (L.asked logs.new)
         (L.named logs.new) L.blank (L.kept logs.new))) }
     ensures failures { O.failures output.new ≡ run_resume_failures (O.failures output.old) result }
+    ensures read { I.failures input.new ≡ run_resume_reads (I.failures input.old) result }
 {
     match verdict {
         Verdict::Valid(plan) => {
@@ -209,7 +215,7 @@ fn run_verdict<L: Logs, I: Source + Drop, O: Sink>(
 }
 
 /// The same of the plan that the words name, of its task.
-fn run_of<L: Logs, I: Source + Drop, O: Sink>(
+fn run_of<L: Logs, I: Source, O: Sink>(
     alloc: Global,
     logs: &mut L,
     words: PlanWords<'_>,
@@ -218,14 +224,14 @@ fn run_of<L: Logs, I: Source + Drop, O: Sink>(
     plan: Plan,
     head: &JournalHead,
     kept: Vec<u8>,
-    input: I,
+    input: &mut I,
     output: &mut O,
 ) -> Result<bool, RunResumeStop>
     requires limit { words.horizon ≤ 1000000000 }
     requires of_task { IsOfTask task.now plan }
     ensures said { (held : List ℕ → Option (List ℕ))
         → IsNamedPlan held words.entry task.now plan
-        → IfOk result (GoesOfPlan held words.entry kept.items (I.left input)
+        → IfOk result (GoesOfPlan held words.entry kept.items (I.left input.old)
         (O.held output.old) (O.held output.new)
         (log_file name.now (L.asked logs.old) (L.asked logs.new)
         (L.named logs.new) L.blank (L.kept logs.new))) }
@@ -233,6 +239,7 @@ fn run_of<L: Logs, I: Source + Drop, O: Sink>(
         (log_file name.now (L.asked logs.old) (L.asked logs.new)
         (L.named logs.new) L.blank (L.kept logs.new))) }
     ensures failures { O.failures output.new ≡ run_resume_failures (O.failures output.old) result }
+    ensures read { I.failures input.new ≡ run_resume_reads (I.failures input.old) result }
 {
     match verdict_of(alloc, task, plan) {
         Ok(verdict) => {
@@ -254,7 +261,7 @@ fn run_of<L: Logs, I: Source + Drop, O: Sink>(
 
 /// The same with the plan's files read. A file is opened, and the journal file made, only when what
 /// stands before it is done.
-fn run_named<N: Files, L: Logs, I: Source + Drop, O: Sink>(
+fn run_named<N: Files, L: Logs, I: Source, O: Sink>(
     alloc: Global,
     files: &mut N,
     logs: &mut L,
@@ -262,11 +269,11 @@ fn run_named<N: Files, L: Logs, I: Source + Drop, O: Sink>(
     name: &str,
     head: &JournalHead,
     kept: Vec<u8>,
-    input: I,
+    input: &mut I,
     output: &mut O,
 ) -> Result<bool, RunResumeStop>
     requires { words.horizon ≤ 1000000000 }
-    ensures said { IfOk result (GoesOfPlan (N.held files.old) words.entry kept.items (I.left input)
+    ensures said { IfOk result (GoesOfPlan (N.held files.old) words.entry kept.items (I.left input.old)
         (O.held output.old) (O.held output.new)
         (log_file name.now (L.asked logs.old) (L.asked logs.new)
         (L.named logs.new) L.blank (L.kept logs.new))) }
@@ -274,6 +281,7 @@ fn run_named<N: Files, L: Logs, I: Source + Drop, O: Sink>(
         (log_file name.now (L.asked logs.old) (L.asked logs.new)
         (L.named logs.new) L.blank (L.kept logs.new))) }
     ensures failures { O.failures output.new ≡ run_resume_failures (O.failures output.old) result }
+    ensures read { I.failures input.new ≡ run_resume_reads (I.failures input.old) result }
 {
     match plan_in(alloc, files, words) {
         Ok(named) => {
@@ -287,18 +295,18 @@ fn run_named<N: Files, L: Logs, I: Source + Drop, O: Sink>(
 }
 
 /// The same with the head of the journal read first.
-fn run_kept<N: Files, L: Logs, I: Source + Drop, O: Sink>(
+fn run_kept<N: Files, L: Logs, I: Source, O: Sink>(
     alloc: Global,
     files: &mut N,
     logs: &mut L,
     words: PlanWords<'_>,
     name: &str,
     kept: Vec<u8>,
-    input: I,
+    input: &mut I,
     output: &mut O,
 ) -> Result<bool, RunResumeStop>
     requires { words.horizon ≤ 1000000000 }
-    ensures said { IfOk result (GoesOfPlan (N.held files.old) words.entry kept.items (I.left input)
+    ensures said { IfOk result (GoesOfPlan (N.held files.old) words.entry kept.items (I.left input.old)
         (O.held output.old) (O.held output.new)
         (log_file name.now (L.asked logs.old) (L.asked logs.new)
         (L.named logs.new) L.blank (L.kept logs.new))) }
@@ -306,6 +314,7 @@ fn run_kept<N: Files, L: Logs, I: Source + Drop, O: Sink>(
         (log_file name.now (L.asked logs.old) (L.asked logs.new)
         (L.named logs.new) L.blank (L.kept logs.new))) }
     ensures failures { O.failures output.new ≡ run_resume_failures (O.failures output.old) result }
+    ensures read { I.failures input.new ≡ run_resume_reads (I.failures input.old) result }
 {
     let head = head_of(
         alloc,
@@ -320,18 +329,18 @@ fn run_kept<N: Files, L: Logs, I: Source + Drop, O: Sink>(
 }
 
 /// The same of the journal in the file of a name.
-fn run_old<N: Files, L: Logs, I: Source + Drop, O: Sink>(
+fn run_old<N: Files, L: Logs, I: Source, O: Sink>(
     alloc: Global,
     files: &mut N,
     logs: &mut L,
     words: PlanWords<'_>,
     old: &str,
     name: &str,
-    input: I,
+    input: &mut I,
     output: &mut O,
 ) -> Result<bool, RunResumeStop>
     requires { words.horizon ≤ 1000000000 }
-    ensures said { IfOk result (ResumesRun (N.held files.old) words.entry old.now (I.left input)
+    ensures said { IfOk result (ResumesRun (N.held files.old) words.entry old.now (I.left input.old)
         (O.held output.old) (O.held output.new)
         (log_file name.now (L.asked logs.old) (L.asked logs.new)
         (L.named logs.new) L.blank (L.kept logs.new))) }
@@ -339,6 +348,7 @@ fn run_old<N: Files, L: Logs, I: Source + Drop, O: Sink>(
         (log_file name.now (L.asked logs.old) (L.asked logs.new)
         (L.named logs.new) L.blank (L.kept logs.new))) }
     ensures failures { O.failures output.new ≡ run_resume_failures (O.failures output.old) result }
+    ensures read { I.failures input.new ≡ run_resume_reads (I.failures input.old) result }
 {
     match kept_in(alloc, files, old) {
         Ok(kept) => run_kept(alloc, files, logs, words, name, kept, input, output),
@@ -354,36 +364,37 @@ fn run_old<N: Files, L: Logs, I: Source + Drop, O: Sink>(
 /// `wrong N` was written, or where the plan is not valid, and its first fault was; and for another
 /// writes one fault line. The head of the journal is read first, then the plan, then the pairs; the
 /// second file is made once the journal is audited.
-pub fn run_run_resume<N: Files, L: Logs, I: Source + Drop, O: Sink, F: Sink>(
+pub fn run_run_resume<N: Files, L: Logs, I: Source, O: Sink, F: Sink>(
     alloc: Global,
     files: &mut N,
     logs: &mut L,
     words: PlanWords<'_>,
     old: &str,
     name: &str,
-    input: I,
+    input: &mut I,
     output: &mut O,
     faults: &mut F,
 ) -> u8
     requires { words.horizon ≤ 1000000000 }
-    ensures resumed { result ≡ 0 → ResumesRun (N.held files.old) words.entry old.now (I.left input)
+    ensures resumed { result ≡ 0 → ResumesRun (N.held files.old) words.entry old.now (I.left input.old)
         (O.held output.old) (O.held output.new)
         (log_file name.now (L.asked logs.old) (L.asked logs.new)
         (L.named logs.new) L.blank (L.kept logs.new)) true }
-    ensures no { result ≡ 1 → ResumesRun (N.held files.old) words.entry old.now (I.left input)
+    ensures no { result ≡ 1 → ResumesRun (N.held files.old) words.entry old.now (I.left input.old)
         (O.held output.old) (O.held output.new)
         (log_file name.now (L.asked logs.old) (L.asked logs.new)
         (L.named logs.new) L.blank (L.kept logs.new)) false }
 
     // What stopped it is told.
     ensures stopped { 2 ≤ result → EndsRunResumed words.entry old.now result
-        (O.held output.old) (O.held output.new)
+        (I.failures input.old) (I.failures input.new) (O.held output.old) (O.held output.new)
         (log_file name.now (L.asked logs.old) (L.asked logs.new)
         (L.named logs.new) L.blank (L.kept logs.new))
         (O.failures output.old) (O.failures output.new)
         (F.failures faults.old) (F.held faults.old) (F.failures faults.new) (F.held faults.new) }
     ensures part { result ≡ OUT_OF_ORDER
         → StopsEarly (O.held output.old) (O.held output.new) }
+    ensures heard { result ≢ OUT_OF_ORDER → I.failures input.new ≡ I.failures input.old }
     ensures told { result ≢ OUT_OF_ORDER → O.failures output.new ≡ O.failures output.old }
 
     // A fault line goes with each fault, and with nothing else.

@@ -1,5 +1,5 @@
 -- The run of a plan whose journal is kept, from its network to the words that name it.
-use Rattle.std.proofs.Common.{◌≡◌, ◌∙◌, ℕ, List, [], take, Option, Bool, true, false, ◌⊎◌, inl, inr, refl, subst, sym}
+use Rattle.std.proofs.Common.{◌≡◌, ◌∙◌, ℕ, List, [], take, Option, Bool, true, false, ◌⊎◌, inl, inr, refl, subst, sym, ap}
 use Rattle.std.specs.Prelude.{Result, Ok, Err, IfErr, IfOk}
 use Rattle.std.specs.Io.KnownBytes.{Appends}
 use Rattle.std.proofs.KnownBytes.{Appends-trans, Appends-nil}
@@ -19,7 +19,7 @@ use Rattle.tp_cli_files.specs.FaultLines.{Tells}
 use Rattle.tp_cli_files.proofs.FaultLemmas.{whole_part}
 use Rattle.tp_cli_bare.specs.declared.bare.BareFault.TheVariants as bare
 use Rattle.tp_cli_bare.specs.JournalLines.{stop_status}
-use Rattle.tp_cli_bare.specs.Logged.{output_failures}
+use Rattle.tp_cli_bare.specs.Logged.{input_failures, output_failures}
 use Rattle.tp_cli_bare.specs.declared.journal_lines.JournalStop.{JournalStop}
 use Rattle.tp_cli_bare.specs.declared.journal_lines.JournalStop.TheVariants.{Making, Beginning, Journaling}
 use Rattle.tp_cli_inputs.specs.Named.{IsNamedPlan}
@@ -37,7 +37,7 @@ use Rattle.tp_cli_run.specs.JournaledEnds.{LogsSteps, LogsVerdict, StopsSteps, S
 use Rattle.tp_cli_run.specs.LogFile.{IsNamed, LogFile}
 use Rattle.tp_cli_run.specs.Logged.{LogsWhole}
 use Rattle.tp_cli_run.specs.RunJournals.{EndsRunLog, LogsTo, StopsInFile, StopsRunLog}
-use Rattle.tp_cli_run.specs.StopLines.{run_stop_failures, run_stop_status, run_stop_text}
+use Rattle.tp_cli_run.specs.StopLines.{run_stop_failures, run_stop_reads, run_stop_status, run_stop_text}
 use Rattle.tp_cli_run.specs.declared.stop_lines.RunJournalStop.{RunJournalStop}
 use Rattle.tp_cli_run.specs.declared.stop_lines.RunJournalStop.TheVariants.{Judging, Network, Journal, Telling, Write}
 
@@ -264,18 +264,57 @@ stop_is (Journal stop) = journal_is stop
 stop_is Telling = three
 stop_is Write = three
 
-pub ends : (held : List ℕ → Option (List ℕ)) (w : PlanWords) (status : ℕ) (input before now : Option (List ℕ)) (file : LogFile) (output output-now failures : ℕ) (said : Option (List ℕ)) (failures-now : ℕ) (said-now : Option (List ℕ)) (stop : RunJournalStop) (text : List ℕ) → StopsRunLog held w input before now file stop → status ≡ run_stop_status stop → output-now ≡ run_stop_failures {T = Bool} output (Err stop) → text ≡ run_stop_text w stop → Tells text failures said failures-now said-now → EndsRunLog held w status input before now file output output-now failures said failures-now said-now
-ends held w status input before now file output output-now failures said failures-now said-now stop text cause is write line told =
+any_reads : (n : ℕ) (stop : RunJournalStop) → run_stop_reads {T = Bool} n (Err stop) ≡ run_stop_reads {T = Unit {0}} n (Err stop)
+any_reads n (Judging fault) = refl
+any_reads n (Network fault) = refl
+any_reads n (Journal stop) = refl
+any_reads n Telling = refl
+any_reads n Write = refl
+
+no_journal_read : (n : ℕ) (stop : JournalStop) → (stop_status stop ≡ 3 → ⊥) → input_failures {T = Unit {0}} n (Err stop) ≡ n
+no_journal_read n Making other = refl
+no_journal_read n (Beginning bare.Network) other = refl
+no_journal_read n (Beginning (bare.Serving serving.Read)) other = absurd (other refl)
+no_journal_read n (Beginning (bare.Serving serving.Write)) other = refl
+no_journal_read n (Beginning (bare.Serving serving.Memory)) other = refl
+no_journal_read n (Beginning (bare.Serving serving.TooLong)) other = refl
+no_journal_read n (Beginning (bare.Serving serving.Head)) other = refl
+no_journal_read n (Journaling journal.Read) other = absurd (other refl)
+no_journal_read n (Journaling journal.Write) other = refl
+no_journal_read n (Journaling journal.Log) other = refl
+no_journal_read n (Journaling journal.TooLong) other = refl
+
+no_read : (n : ℕ) (stop : RunJournalStop) → (run_stop_status stop ≡ 3 → ⊥) → run_stop_reads {T = Unit {0}} n (Err stop) ≡ n
+no_read n (Judging fault) other = refl
+no_read n (Network fault) other = refl
+no_read n (Journal stop) other = no_journal_read n stop other
+no_read n Telling other = refl
+no_read n Write other = refl
+
+-- the telling of the plan of a run reads nothing
+pub told_reads : (told : Result Bool RunStop) (r : Result Bool RunJournalStop) (n : ℕ) → r ≡ told_result told → run_stop_reads n r ≡ n
+told_reads (Ok done) r n is = ap (run_stop_reads n) is
+told_reads (Err (run.Judging fault)) r n is = ap (run_stop_reads n) is
+told_reads (Err (run.Network fault)) r n is = ap (run_stop_reads n) is
+told_reads (Err (run.Answering fault)) r n is = ap (run_stop_reads n) is
+told_reads (Err run.Write) r n is = ap (run_stop_reads n) is
+
+pub ends : (held : List ℕ → Option (List ℕ)) (w : PlanWords) (status : ℕ) (input : Option (List ℕ)) (reads reads-now : ℕ) (before now : Option (List ℕ)) (file : LogFile) (output output-now failures : ℕ) (said : Option (List ℕ)) (failures-now : ℕ) (said-now : Option (List ℕ)) (stop : RunJournalStop) (text : List ℕ) → StopsRunLog held w input before now file stop → status ≡ run_stop_status stop → output-now ≡ run_stop_failures {T = Bool} output (Err stop) → reads-now ≡ run_stop_reads {T = Bool} reads (Err stop) → text ≡ run_stop_text w stop → Tells text failures said failures-now said-now → EndsRunLog held w status input reads reads-now before now file output output-now failures said failures-now said-now
+ends held w status input reads reads-now before now file output output-now failures said failures-now said-now stop text cause is write read line told =
     record {
       stop = stop;
       is = sym is;
       cause = cause;
+      read = read ∙ any_reads reads stop;
       write = write ∙ any_type output stop;
       told = subst (λ (t : List ℕ). Tells t failures said failures-now said-now) line told;
     }
 
 pub ends_told : (status output output-now : ℕ) (stop : RunJournalStop) → status ≡ run_stop_status stop → output-now ≡ run_stop_failures {T = Bool} output (Err stop) → (status ≡ 3 → ⊥) → output-now ≡ output
 ends_told status output output-now stop is write other = write ∙ (any_type output stop ∙ no_write output stop (λ broken. other (is ∙ broken)))
+
+pub ends_heard : (status reads reads-now : ℕ) (stop : RunJournalStop) → status ≡ run_stop_status stop → reads-now ≡ run_stop_reads {T = Bool} reads (Err stop) → (status ≡ 3 → ⊥) → reads-now ≡ reads
+ends_heard status reads reads-now stop is read other = read ∙ (any_reads reads stop ∙ no_read reads stop (λ broken. other (is ∙ broken)))
 
 pub ends_within : (status : ℕ) (stop : RunJournalStop) → status ≡ run_stop_status stop → IsStatus status
 ends_within status stop is = subst IsStatus (sym is) (stop_is stop)

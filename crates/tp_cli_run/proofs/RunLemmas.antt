@@ -1,6 +1,6 @@
 -- The run of a plan, from its network to the words that name it.
 use Rattle.std.proofs.Common.{◌≡◌, ◌∙◌, ℕ, List, [], take, Option, Some, None, Bool, true, false, ◌⊎◌, inl, inr, refl, subst, sym, arith}
-use Rattle.std.specs.Prelude.{Err}
+use Rattle.std.specs.Prelude.{Result, Ok, Err, IfErr}
 use Rattle.std.specs.Io.KnownBytes.{Appends}
 use Rattle.std.proofs.KnownBytes.{Appends-trans, Appends-nil}
 use Rattle.tp_bounds.specs.RunLimits.{greatest_limits}
@@ -25,7 +25,7 @@ use Rattle.tp_cli_inputs.proofs.NamedLemmas.{Same, explains_over, plan_over}
 use Rattle.tp_cli_run.specs.Answered.{AnswersPart, AnswersWhole, IsLong, IsTooLong, StopsAnswers}
 use Rattle.tp_cli_run.specs.Ends.{RunsSteps, RunsVerdict, StopsSteps, StopsTelling, StopsVerdict, TellsRun}
 use Rattle.tp_cli_run.specs.Invalid.{SaysInvalid, SaysInvalidPart}
-use Rattle.tp_cli_run.specs.RunLines.{run_failures, run_status, run_text}
+use Rattle.tp_cli_run.specs.RunLines.{run_failures, run_reads, run_status, run_text}
 use Rattle.tp_cli_run.specs.Runs.{EndsRun, Runs, RunsNamed, RunsPart, StopsRun, run_lines}
 use Rattle.tp_cli_run.proofs.StatusLemmas.{IsStatus, run_is}
 use Rattle.tp_cli_run.specs.declared.run_lines.RunStop.{RunStop}
@@ -219,18 +219,48 @@ no_write n (Answering (bare.Serving serving.TooLong)) other = refl
 no_write n (Answering (bare.Serving serving.Head)) other = refl
 no_write n Write other = absurd (other refl)
 
-pub ends : (held : List ℕ → Option (List ℕ)) (w : PlanWords) (status : ℕ) (input before now : Option (List ℕ)) (output output-now failures : ℕ) (said : Option (List ℕ)) (failures-now : ℕ) (said-now : Option (List ℕ)) (stop : RunStop) (text : List ℕ) → StopsRun held w input before now stop → status ≡ run_status stop → output-now ≡ run_failures {T = Bool} output (Err stop) → text ≡ run_text w stop → Tells text failures said failures-now said-now → EndsRun held w status input before now output output-now failures said failures-now said-now
-ends held w status input before now output output-now failures said failures-now said-now stop text cause is write line told =
+any_reads : (n : ℕ) (stop : RunStop) → run_reads {T = Bool} n (Err stop) ≡ run_reads {T = Unit {0}} n (Err stop)
+any_reads n (Judging fault) = refl
+any_reads n (Network fault) = refl
+any_reads n (Answering fault) = refl
+any_reads n Write = refl
+
+no_read : (n : ℕ) (stop : RunStop) → (run_status stop ≡ 3 → ⊥) → run_reads {T = Unit {0}} n (Err stop) ≡ n
+no_read n (Judging fault) other = refl
+no_read n (Network fault) other = refl
+no_read n (Answering bare.Network) other = refl
+no_read n (Answering (bare.Serving serving.Read)) other = absurd (other refl)
+no_read n (Answering (bare.Serving serving.Write)) other = refl
+no_read n (Answering (bare.Serving serving.Memory)) other = refl
+no_read n (Answering (bare.Serving serving.TooLong)) other = refl
+no_read n (Answering (bare.Serving serving.Head)) other = refl
+no_read n Write other = refl
+
+-- the telling of the plan of a run reads nothing
+pub told_reads : (task : Task) (steps : List Step) (last : Machine) (before now : Option (List ℕ)) (told : Result Bool RunStop) (n : ℕ) → IfErr told (StopsTelling task steps last before now) → run_reads n told ≡ n
+told_reads task steps last before now (Ok done) n h = refl
+told_reads task steps last before now (Err (Judging fault)) n h = absurd h
+told_reads task steps last before now (Err (Network fault)) n h = absurd h
+told_reads task steps last before now (Err (Answering bare.Network)) n h = refl
+told_reads task steps last before now (Err (Answering (bare.Serving fault))) n h = absurd h
+told_reads task steps last before now (Err Write) n h = refl
+
+pub ends : (held : List ℕ → Option (List ℕ)) (w : PlanWords) (status : ℕ) (input : Option (List ℕ)) (reads reads-now : ℕ) (before now : Option (List ℕ)) (output output-now failures : ℕ) (said : Option (List ℕ)) (failures-now : ℕ) (said-now : Option (List ℕ)) (stop : RunStop) (text : List ℕ) → StopsRun held w input before now stop → status ≡ run_status stop → output-now ≡ run_failures {T = Bool} output (Err stop) → reads-now ≡ run_reads {T = Bool} reads (Err stop) → text ≡ run_text w stop → Tells text failures said failures-now said-now → EndsRun held w status input reads reads-now before now output output-now failures said failures-now said-now
+ends held w status input reads reads-now before now output output-now failures said failures-now said-now stop text cause is write read line told =
     record {
       stop = stop;
       is = sym is;
       cause = cause;
+      read = read ∙ any_reads reads stop;
       write = write ∙ any_type output stop;
       told = subst (λ (t : List ℕ). Tells t failures said failures-now said-now) line told;
     }
 
 pub ends_told : (status output output-now : ℕ) (stop : RunStop) → status ≡ run_status stop → output-now ≡ run_failures {T = Bool} output (Err stop) → (status ≡ 3 → ⊥) → output-now ≡ output
 ends_told status output output-now stop is write other = write ∙ (any_type output stop ∙ no_write output stop (λ broken. other (is ∙ broken)))
+
+pub ends_heard : (status reads reads-now : ℕ) (stop : RunStop) → status ≡ run_status stop → reads-now ≡ run_reads {T = Bool} reads (Err stop) → (status ≡ 3 → ⊥) → reads-now ≡ reads
+ends_heard status reads reads-now stop is read other = read ∙ (any_reads reads stop ∙ no_read reads stop (λ broken. other (is ∙ broken)))
 
 pub ends_within : (status : ℕ) (stop : RunStop) → status ≡ run_status stop → IsStatus status
 ends_within status stop is = subst IsStatus (sym is) (run_is stop)

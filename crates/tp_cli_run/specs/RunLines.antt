@@ -3,7 +3,7 @@ use Rattle.std.specs.Prelude.{ℕ, ◌+◌, List, Result, Ok, Err, codes}
 use Rattle.tp_deorder.specs.declared.DeorderFault.{DeorderFault}
 use Rattle.tp_deorder.specs.declared.DeorderFault.TheVariants as deorder
 use Rattle.tp_cli_files.specs.FaultLines.{fault_line}
-use Rattle.tp_cli_bare.specs.Bare.{bare_failures}
+use Rattle.tp_cli_bare.specs.Bare.{bare_failures, bare_read_failures}
 use Rattle.tp_cli_bare.specs.ServeLines.{bare_status, bare_text}
 use Rattle.tp_cli_inputs.specs.JudgeLines.{judge_status, judge_text}
 use Rattle.tp_cli_inputs.specs.declared.plan_words.PlanWords.{PlanWords}
@@ -29,6 +29,14 @@ run_text w (Judging fault) = judge_text w fault
 run_text w (Network fault) = network_text fault
 run_text w (Answering fault) = bare_text fault
 run_text w Write = fault_line (codes "script") (codes "2 write")
+
+-- a read of the input that failed is counted
+abbrev pub run_reads : {T : Type 0} → ℕ → Result T RunStop → ℕ
+run_reads n (Ok x) = n
+run_reads n (Err (Judging fault)) = n
+run_reads n (Err (Network fault)) = n
+run_reads n (Err (Answering fault)) = bare_read_failures {T = Unit {0}} n (Err fault)
+run_reads n (Err Write) = n
 
 -- a write that failed is counted
 abbrev pub run_failures : {T : Type 0} → ℕ → Result T RunStop → ℕ

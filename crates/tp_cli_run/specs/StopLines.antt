@@ -2,7 +2,7 @@
 use Rattle.std.specs.Prelude.{ℕ, ◌+◌, List, Result, Ok, Err, codes}
 use Rattle.tp_cli_files.specs.FaultLines.{fault_line}
 use Rattle.tp_cli_bare.specs.JournalLines.{stop_status, stop_text}
-use Rattle.tp_cli_bare.specs.Logged.{output_failures}
+use Rattle.tp_cli_bare.specs.Logged.{input_failures, output_failures}
 use Rattle.tp_cli_inputs.specs.JudgeLines.{judge_status, judge_text}
 use Rattle.tp_cli_inputs.specs.declared.plan_words.PlanWords.{PlanWords}
 use Rattle.tp_cli_run.specs.RunLines.{network_status, network_text}
@@ -22,6 +22,15 @@ run_stop_text w (Network fault) = network_text fault
 run_stop_text w (Journal stop) = stop_text stop
 run_stop_text w Telling = fault_line (codes "run") (codes "1 memory")
 run_stop_text w Write = fault_line (codes "script") (codes "2 write")
+
+-- a read of the input that failed is counted
+abbrev pub run_stop_reads : {T : Type 0} → ℕ → Result T RunJournalStop → ℕ
+run_stop_reads n (Ok x) = n
+run_stop_reads n (Err (Judging fault)) = n
+run_stop_reads n (Err (Network fault)) = n
+run_stop_reads n (Err (Journal stop)) = input_failures {T = Unit {0}} n (Err stop)
+run_stop_reads n (Err Telling) = n
+run_stop_reads n (Err Write) = n
 
 -- a write of the output that failed is counted
 abbrev pub run_stop_failures : {T : Type 0} → ℕ → Result T RunJournalStop → ℕ

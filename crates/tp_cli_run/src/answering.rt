@@ -6,7 +6,7 @@ ghost use Rattle.tp_task.specs.declared.task.Task.{Task};
 ghost use Rattle.tp_happen.specs.tp_plan_text.declared.plans.Step.{Step};
 ghost use Rattle.tp_deorder.specs.Answers.{IsPlanNetOf};
 ghost use Rattle.tp_exec.specs.FromPlan.{CameFrom};
-ghost use Rattle.tp_cli_bare.specs.Bare.{bare_failures};
+ghost use Rattle.tp_cli_bare.specs.Bare.{bare_failures, bare_read_failures};
 ghost use Rattle.tp_cli_run.specs.Starts.{AnswersRun};
 ghost use Rattle.tp_cli_run.specs.Answered.{AnswersWhole, StopsAnswers};
 
@@ -17,12 +17,12 @@ use tp_cli_bare::BareFault;
 use tp_device::{Sink, Source};
 use tp_exec_machine::Executive;
 use tp_repair::RepairNet;
-use tp_script::{LONGEST_LINE, Lines, serve};
+use tp_script::{LONGEST_LINE, LineBuffers, Lines, serve};
 
 /// Answers the commands of the lines behind the lags, and hands the executive on.
 fn answer_lines<I: Source, O: Sink>(
     alloc: Global,
-    lines: &mut Lines<I>,
+    lines: &mut Lines<'_, I>,
     network: &PlanNet,
     output: &mut O,
 ) -> Result<Executive<RepairNet>, BareFault>
@@ -33,7 +33,9 @@ fn answer_lines<I: Source, O: Sink>(
     ensures came { IfOk result (λ e. (t : Task) (steps : List Step) → IsPlanNetOf t steps
         (greatest_limits network.now.horizon) network.now → CameFrom t steps e) }
     ensures most { lines.new.most ≡ lines.old.most }
+    ensures source { lines.new.source ≡ lines.old.source }
     ensures told { O.failures output.new ≡ bare_failures (O.failures output.old) result }
+    ensures read { lines.new.failures ≡ bare_read_failures lines.old.failures result }
 {
     match start(alloc, lines, network) {
         Ok(executive) => {
@@ -49,21 +51,25 @@ fn answer_lines<I: Source, O: Sink>(
 
 /// Reads the lags at the beginning of the input, answers the commands behind them on the network of
 /// a plan, and hands the executive on.
-pub(crate) fn answer<I: Source + Drop, O: Sink>(
+pub(crate) fn answer<I: Source, O: Sink>(
     alloc: Global,
-    input: I,
+    input: &mut I,
     network: &PlanNet,
     output: &mut O,
 ) -> Result<Executive<RepairNet>, BareFault>
     requires { length network.now.bounds.items ≤ 65535 }
     ensures whole { IfOk result
-        (AnswersWhole network.now (I.left input) (O.held output.old) (O.held output.new)) }
+        (AnswersWhole network.now (I.left input.old) (O.held output.old) (O.held output.new)) }
     ensures cause { IfErr result
-        (StopsAnswers network.now (I.left input) (O.held output.old) (O.held output.new)) }
+        (StopsAnswers network.now (I.left input.old) (O.held output.old) (O.held output.new)) }
     ensures came { IfOk result (λ e. (t : Task) (steps : List Step) → IsPlanNetOf t steps
         (greatest_limits network.now.horizon) network.now → CameFrom t steps e) }
     ensures told { O.failures output.new ≡ bare_failures (O.failures output.old) result }
+    ensures read { I.failures input.new ≡ bare_read_failures (I.failures input.old) result }
 {
-    let mut lines = Lines::new(alloc, input, LONGEST_LINE)?;
-    answer_lines(alloc, &mut lines, network, output)
+    let buffers = LineBuffers::new(alloc, LONGEST_LINE)?;
+    let mut lines = Lines::new(buffers, input);
+    let answered = answer_lines(alloc, &mut lines, network, output);
+    let _input = lines.into_source();
+    answered
 }

@@ -7,7 +7,7 @@ ghost use Rattle.tp_happen.specs.tp_plan_text.declared.plans.Step.{Step};
 ghost use Rattle.tp_deorder.specs.Answers.{IsPlanNetOf};
 ghost use Rattle.tp_exec.specs.FromPlan.{CameFrom};
 ghost use Rattle.tp_cli_files.specs.FaultLines.{TellsFault};
-ghost use Rattle.tp_cli_bare.specs.Logged.{output_failures};
+ghost use Rattle.tp_cli_bare.specs.Logged.{input_failures, output_failures};
 ghost use Rattle.tp_cli_inputs.specs.Named.{IsNamedPlan};
 ghost use Rattle.tp_validate.specs.OfTask.{IsOfTask};
 ghost use Rattle.tp_cli_run.specs.Answered.{IsLong};
@@ -16,7 +16,7 @@ ghost use Rattle.tp_cli_run.specs.JournaledEnds.{LogsSteps, LogsVerdict, StopsSt
 ghost use Rattle.tp_cli_run.specs.LogFile.{log_file};
 ghost use Rattle.tp_cli_run.specs.Logged.{LogsWhole};
 ghost use Rattle.tp_cli_run.specs.RunJournals.{EndsRunLog, LogsTo, LogsToNone, LogsToPlan, StopsInFile, StopsRunLog};
-ghost use Rattle.tp_cli_run.specs.StopLines.{run_stop_failures};
+ghost use Rattle.tp_cli_run.specs.StopLines.{run_stop_failures, run_stop_reads};
 
 use crate::journaling::log_run;
 use crate::stop_lines::{RunJournalStop, run_stop_line};
@@ -36,25 +36,26 @@ use tp_validate::{ValidPlan, Verdict};
 
 /// Answers the commands of the input on the network of a plan, with their journal in the file of a
 /// name.
-fn journaled<L: Logs, I: Source + Drop, O: Sink>(
+fn journaled<L: Logs, I: Source, O: Sink>(
     alloc: Global,
     logs: &mut L,
     name: &str,
     network: &PlanNet,
-    input: I,
+    input: &mut I,
     output: &mut O,
 ) -> Result<Executive<RepairNet>, JournalStop>
     requires { length network.now.bounds.items ≤ 65535 }
-    ensures whole { IfOk result (LogsWhole network.now (I.left input) (O.held output.old)
+    ensures whole { IfOk result (LogsWhole network.now (I.left input.old) (O.held output.old)
         (O.held output.new) L.blank (L.kept logs.new)) }
     ensures asked { L.asked logs.new ≡ option_map suc (L.asked logs.old) }
     ensures named { IfOk result (λ _. IfSome (L.named logs.new) (λ n. n ≡ name.now)) }
-    ensures cause { IfErr result (StopsInFile network.now (I.left input) (O.held output.old)
+    ensures cause { IfErr result (StopsInFile network.now (I.left input.old) (O.held output.old)
         (O.held output.new) (log_file name.now (L.asked logs.old) (L.asked logs.new)
         (L.named logs.new) L.blank (L.kept logs.new))) }
     ensures came { IfOk result (λ e. (t : Task) (steps : List Step) → IsPlanNetOf t steps
         (greatest_limits network.now.horizon) network.now → CameFrom t steps e) }
     ensures told { O.failures output.new ≡ output_failures (O.failures output.old) result }
+    ensures read { I.failures input.new ≡ input_failures (I.failures input.old) result }
 {
     match logs.make(name) {
         Ok(log) => {
@@ -80,26 +81,27 @@ fn of_telling(told: Result<bool, RunStop>) -> Result<bool, RunJournalStop>
 
 /// Answers the commands of the input on the network of a plan, with their journal in the file of a
 /// name, and writes the plan of the run. Answers whether there is one.
-fn run_on<L: Logs, I: Source + Drop, O: Sink>(
+fn run_on<L: Logs, I: Source, O: Sink>(
     alloc: Global,
     logs: &mut L,
     name: &str,
     plan: &ValidPlan<'_>,
     network: &PlanNet,
-    input: I,
+    input: &mut I,
     output: &mut O,
 ) -> Result<bool, RunJournalStop>
     requires { IsPlanNetOf plan.now.task plan.now.steps
         (greatest_limits network.now.horizon) network.now }
     ensures said { IfOk result (LogsSteps plan.now.task plan.now.steps network.now.horizon
-        (I.left input) (O.held output.old) (O.held output.new)
+        (I.left input.old) (O.held output.old) (O.held output.new)
         (log_file name.now (L.asked logs.old) (L.asked logs.new)
         (L.named logs.new) L.blank (L.kept logs.new))) }
     ensures cause { IfErr result (StopsSteps plan.now.task plan.now.steps network.now.horizon
-        (I.left input) (O.held output.old) (O.held output.new)
+        (I.left input.old) (O.held output.old) (O.held output.new)
         (log_file name.now (L.asked logs.old) (L.asked logs.new)
         (L.named logs.new) L.blank (L.kept logs.new))) }
     ensures failures { O.failures output.new ≡ run_stop_failures (O.failures output.old) result }
+    ensures read { I.failures input.new ≡ run_stop_reads (I.failures input.old) result }
 {
     match journaled(alloc, logs, name, network, input, output) {
         Ok(executive) => of_telling(tell_run(&executive, plan, output)),
@@ -108,25 +110,26 @@ fn run_on<L: Logs, I: Source + Drop, O: Sink>(
 }
 
 /// The same on the network of a validated plan.
-fn run_valid<L: Logs, I: Source + Drop, O: Sink>(
+fn run_valid<L: Logs, I: Source, O: Sink>(
     alloc: Global,
     logs: &mut L,
     name: &str,
     plan: &ValidPlan<'_>,
     horizon: u32,
-    input: I,
+    input: &mut I,
     output: &mut O,
 ) -> Result<bool, RunJournalStop>
     requires { horizon ≤ 1000000000 }
-    ensures said { IfOk result (LogsSteps plan.now.task plan.now.steps horizon (I.left input)
+    ensures said { IfOk result (LogsSteps plan.now.task plan.now.steps horizon (I.left input.old)
         (O.held output.old) (O.held output.new)
         (log_file name.now (L.asked logs.old) (L.asked logs.new)
         (L.named logs.new) L.blank (L.kept logs.new))) }
-    ensures cause { IfErr result (StopsSteps plan.now.task plan.now.steps horizon (I.left input)
+    ensures cause { IfErr result (StopsSteps plan.now.task plan.now.steps horizon (I.left input.old)
         (O.held output.old) (O.held output.new)
         (log_file name.now (L.asked logs.old) (L.asked logs.new)
         (L.named logs.new) L.blank (L.kept logs.new))) }
     ensures failures { O.failures output.new ≡ run_stop_failures (O.failures output.old) result }
+    ensures read { I.failures input.new ≡ run_stop_reads (I.failures input.old) result }
 {
     match deorder(alloc, plan, &Limits::greatest(horizon)) {
         Ok(network) => run_on(alloc, logs, name, plan, &network, input, output),
@@ -135,25 +138,26 @@ fn run_valid<L: Logs, I: Source + Drop, O: Sink>(
 }
 
 /// The same of a plan that is valid; of another, writes its first fault, and makes no file.
-fn run_verdict<L: Logs, I: Source + Drop, O: Sink>(
+fn run_verdict<L: Logs, I: Source, O: Sink>(
     alloc: Global,
     logs: &mut L,
     name: &str,
     verdict: &Verdict<'_>,
     horizon: u32,
-    input: I,
+    input: &mut I,
     output: &mut O,
 ) -> Result<bool, RunJournalStop>
     requires { horizon ≤ 1000000000 }
-    ensures said { IfOk result (LogsVerdict verdict.now horizon (I.left input)
+    ensures said { IfOk result (LogsVerdict verdict.now horizon (I.left input.old)
         (O.held output.old) (O.held output.new)
         (log_file name.now (L.asked logs.old) (L.asked logs.new)
         (L.named logs.new) L.blank (L.kept logs.new))) }
-    ensures cause { IfErr result (StopsVerdict verdict.now horizon (I.left input)
+    ensures cause { IfErr result (StopsVerdict verdict.now horizon (I.left input.old)
         (O.held output.old) (O.held output.new)
         (log_file name.now (L.asked logs.old) (L.asked logs.new)
         (L.named logs.new) L.blank (L.kept logs.new))) }
     ensures failures { O.failures output.new ≡ run_stop_failures (O.failures output.old) result }
+    ensures read { I.failures input.new ≡ run_stop_reads (I.failures input.old) result }
 {
     match verdict {
         Verdict::Valid(plan) => run_valid(alloc, logs, name, plan, horizon, input, output),
@@ -165,14 +169,14 @@ fn run_verdict<L: Logs, I: Source + Drop, O: Sink>(
 }
 
 /// The same of the plan that the words name, of its task.
-fn run_of<L: Logs, I: Source + Drop, O: Sink>(
+fn run_of<L: Logs, I: Source, O: Sink>(
     alloc: Global,
     logs: &mut L,
     words: PlanWords<'_>,
     name: &str,
     task: &Task,
     plan: Plan,
-    input: I,
+    input: &mut I,
     output: &mut O,
 ) -> Result<bool, RunJournalStop>
     requires limit { words.horizon ≤ 1000000000 }
@@ -180,16 +184,17 @@ fn run_of<L: Logs, I: Source + Drop, O: Sink>(
     ensures said { (held : List ℕ → Option (List ℕ))
         → IsNamedPlan held words.entry task.now plan
         → IfOk result (LogsTo held words.entry
-        (I.left input) (O.held output.old) (O.held output.new)
+        (I.left input.old) (O.held output.old) (O.held output.new)
         (log_file name.now (L.asked logs.old) (L.asked logs.new)
         (L.named logs.new) L.blank (L.kept logs.new))) }
     ensures cause { (held : List ℕ → Option (List ℕ))
         → IsNamedPlan held words.entry task.now plan
-        → IfErr result (StopsRunLog held words.entry (I.left input) (O.held output.old)
+        → IfErr result (StopsRunLog held words.entry (I.left input.old) (O.held output.old)
         (O.held output.new)
         (log_file name.now (L.asked logs.old) (L.asked logs.new)
         (L.named logs.new) L.blank (L.kept logs.new))) }
     ensures failures { O.failures output.new ≡ run_stop_failures (O.failures output.old) result }
+    ensures read { I.failures input.new ≡ run_stop_reads (I.failures input.old) result }
 {
     match verdict_of(alloc, task, plan) {
         Ok(verdict) => run_verdict(alloc, logs, name, &verdict, words.horizon, input, output),
@@ -199,25 +204,26 @@ fn run_of<L: Logs, I: Source + Drop, O: Sink>(
 
 /// The same with the files read. A file is opened, and the journal file made, only when what stands
 /// before it is done.
-fn run<N: Files, L: Logs, I: Source + Drop, O: Sink>(
+fn run<N: Files, L: Logs, I: Source, O: Sink>(
     alloc: Global,
     files: &mut N,
     logs: &mut L,
     words: PlanWords<'_>,
     name: &str,
-    input: I,
+    input: &mut I,
     output: &mut O,
 ) -> Result<bool, RunJournalStop>
     requires { words.horizon ≤ 1000000000 }
-    ensures said { IfOk result (LogsTo (N.held files.old) words.entry (I.left input)
+    ensures said { IfOk result (LogsTo (N.held files.old) words.entry (I.left input.old)
         (O.held output.old) (O.held output.new)
         (log_file name.now (L.asked logs.old) (L.asked logs.new)
         (L.named logs.new) L.blank (L.kept logs.new))) }
-    ensures cause { IfErr result (StopsRunLog (N.held files.old) words.entry (I.left input)
+    ensures cause { IfErr result (StopsRunLog (N.held files.old) words.entry (I.left input.old)
         (O.held output.old) (O.held output.new)
         (log_file name.now (L.asked logs.old) (L.asked logs.new)
         (L.named logs.new) L.blank (L.kept logs.new))) }
     ensures failures { O.failures output.new ≡ run_stop_failures (O.failures output.old) result }
+    ensures read { I.failures input.new ≡ run_stop_reads (I.failures input.old) result }
 {
     match plan_in(alloc, files, words) {
         Ok(named) => {
@@ -235,29 +241,29 @@ fn run<N: Files, L: Logs, I: Source + Drop, O: Sink>(
 /// the plan that the words name is not valid, and its first fault was written; and for another
 /// writes one fault line. The file is made once the plan has its network. The cost is that of
 /// `run_run`, and each answer is written twice.
-pub fn run_run_journal<N: Files, L: Logs, I: Source + Drop, O: Sink, F: Sink>(
+pub fn run_run_journal<N: Files, L: Logs, I: Source, O: Sink, F: Sink>(
     alloc: Global,
     files: &mut N,
     logs: &mut L,
     words: PlanWords<'_>,
     name: &str,
-    input: I,
+    input: &mut I,
     output: &mut O,
     faults: &mut F,
 ) -> u8
     requires { words.horizon ≤ 1000000000 }
-    ensures ran { result ≡ 0 → LogsToPlan (N.held files.old) words.entry (I.left input)
+    ensures ran { result ≡ 0 → LogsToPlan (N.held files.old) words.entry (I.left input.old)
         (O.held output.old) (O.held output.new)
         (log_file name.now (L.asked logs.old) (L.asked logs.new)
         (L.named logs.new) L.blank (L.kept logs.new)) }
-    ensures none { result ≡ 1 → LogsToNone (N.held files.old) words.entry (I.left input)
+    ensures none { result ≡ 1 → LogsToNone (N.held files.old) words.entry (I.left input.old)
         (O.held output.old) (O.held output.new)
         (log_file name.now (L.asked logs.old) (L.asked logs.new)
         (L.named logs.new) L.blank (L.kept logs.new)) }
 
     // What stopped it is told, and is as it is told.
-    ensures stopped { 2 ≤ result → EndsRunLog (N.held files.old) words.entry result (I.left input)
-        (O.held output.old) (O.held output.new)
+    ensures stopped { 2 ≤ result → EndsRunLog (N.held files.old) words.entry result (I.left input.old)
+        (I.failures input.old) (I.failures input.new) (O.held output.old) (O.held output.new)
         (log_file name.now (L.asked logs.old) (L.asked logs.new)
         (L.named logs.new) L.blank (L.kept logs.new))
         (O.failures output.old) (O.failures output.new)
@@ -265,11 +271,12 @@ pub fn run_run_journal<N: Files, L: Logs, I: Source + Drop, O: Sink, F: Sink>(
 
     // For input that is refused nothing is written to the output, unless it is refused for its
     // length alone; where memory or a device is wanting, a first part of what is to be written is;
-    // a write that failed is always told.
+    // a read of the input or a write that failed is always told.
     ensures kept { result ≡ REFUSED → (O.held output.new ≡ O.held output.old)
-        ⊎ IsLong (I.left input) }
-    ensures part { result ≡ OUT_OF_ORDER → RunsPart (N.held files.old) words.entry (I.left input)
+        ⊎ IsLong (I.left input.old) }
+    ensures part { result ≡ OUT_OF_ORDER → RunsPart (N.held files.old) words.entry (I.left input.old)
         (O.held output.old) (O.held output.new) }
+    ensures heard { result ≢ OUT_OF_ORDER → I.failures input.new ≡ I.failures input.old }
     ensures told { result ≢ OUT_OF_ORDER → O.failures output.new ≡ O.failures output.old }
 
     // A fault line goes with each fault, and with nothing else.

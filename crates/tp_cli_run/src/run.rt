@@ -8,7 +8,7 @@ ghost use Rattle.tp_cli_inputs.specs.Named.{IsNamedPlan};
 ghost use Rattle.tp_validate.specs.OfTask.{IsOfTask};
 ghost use Rattle.tp_cli_run.specs.Answered.{IsLong};
 ghost use Rattle.tp_cli_run.specs.Ends.{RunsSteps, RunsVerdict, StopsSteps, StopsVerdict};
-ghost use Rattle.tp_cli_run.specs.RunLines.{run_failures};
+ghost use Rattle.tp_cli_run.specs.RunLines.{run_failures, run_reads};
 ghost use Rattle.tp_cli_run.specs.Runs.{EndsRun, Runs, RunsPart, RunsToNone, RunsToPlan, StopsRun};
 
 use crate::answering::answer;
@@ -26,20 +26,21 @@ use tp_validate::{ValidPlan, Verdict};
 
 /// Answers the commands of the input on the network of a plan, and writes the plan of the run.
 /// Answers whether there is one.
-fn run_on<I: Source + Drop, O: Sink>(
+fn run_on<I: Source, O: Sink>(
     alloc: Global,
     plan: &ValidPlan<'_>,
     network: &PlanNet,
-    input: I,
+    input: &mut I,
     output: &mut O,
 ) -> Result<bool, RunStop>
     requires { IsPlanNetOf plan.now.task plan.now.steps
         (greatest_limits network.now.horizon) network.now }
     ensures said { IfOk result (RunsSteps plan.now.task plan.now.steps network.now.horizon
-        (I.left input) (O.held output.old) (O.held output.new)) }
+        (I.left input.old) (O.held output.old) (O.held output.new)) }
     ensures cause { IfErr result (StopsSteps plan.now.task plan.now.steps network.now.horizon
-        (I.left input) (O.held output.old) (O.held output.new)) }
+        (I.left input.old) (O.held output.old) (O.held output.new)) }
     ensures failures { O.failures output.new ≡ run_failures (O.failures output.old) result }
+    ensures read { I.failures input.new ≡ run_reads (I.failures input.old) result }
 {
     match answer(alloc, input, network, output) {
         Ok(executive) => tell_run(&executive, plan, output),
@@ -48,19 +49,20 @@ fn run_on<I: Source + Drop, O: Sink>(
 }
 
 /// The same on the network of a validated plan.
-fn run_valid<I: Source + Drop, O: Sink>(
+fn run_valid<I: Source, O: Sink>(
     alloc: Global,
     plan: &ValidPlan<'_>,
     horizon: u32,
-    input: I,
+    input: &mut I,
     output: &mut O,
 ) -> Result<bool, RunStop>
     requires { horizon ≤ 1000000000 }
-    ensures said { IfOk result (RunsSteps plan.now.task plan.now.steps horizon (I.left input)
+    ensures said { IfOk result (RunsSteps plan.now.task plan.now.steps horizon (I.left input.old)
         (O.held output.old) (O.held output.new)) }
-    ensures cause { IfErr result (StopsSteps plan.now.task plan.now.steps horizon (I.left input)
+    ensures cause { IfErr result (StopsSteps plan.now.task plan.now.steps horizon (I.left input.old)
         (O.held output.old) (O.held output.new)) }
     ensures failures { O.failures output.new ≡ run_failures (O.failures output.old) result }
+    ensures read { I.failures input.new ≡ run_reads (I.failures input.old) result }
 {
     match deorder(alloc, plan, &Limits::greatest(horizon)) {
         Ok(network) => run_on(alloc, plan, &network, input, output),
@@ -69,19 +71,20 @@ fn run_valid<I: Source + Drop, O: Sink>(
 }
 
 /// The same of a plan that is valid; of another, writes its first fault.
-fn run_verdict<I: Source + Drop, O: Sink>(
+fn run_verdict<I: Source, O: Sink>(
     alloc: Global,
     verdict: &Verdict<'_>,
     horizon: u32,
-    input: I,
+    input: &mut I,
     output: &mut O,
 ) -> Result<bool, RunStop>
     requires { horizon ≤ 1000000000 }
     ensures said { IfOk result
-        (RunsVerdict verdict.now horizon (I.left input) (O.held output.old) (O.held output.new)) }
+        (RunsVerdict verdict.now horizon (I.left input.old) (O.held output.old) (O.held output.new)) }
     ensures cause { IfErr result
-        (StopsVerdict verdict.now horizon (I.left input) (O.held output.old) (O.held output.new)) }
+        (StopsVerdict verdict.now horizon (I.left input.old) (O.held output.old) (O.held output.new)) }
     ensures failures { O.failures output.new ≡ run_failures (O.failures output.old) result }
+    ensures read { I.failures input.new ≡ run_reads (I.failures input.old) result }
 {
     match verdict {
         Verdict::Valid(plan) => run_valid(alloc, plan, horizon, input, output),
@@ -93,23 +96,24 @@ fn run_verdict<I: Source + Drop, O: Sink>(
 }
 
 /// The same of the plan that the words name, of its task.
-fn run_of<I: Source + Drop, O: Sink>(
+fn run_of<I: Source, O: Sink>(
     alloc: Global,
     words: PlanWords<'_>,
     task: &Task,
     plan: Plan,
-    input: I,
+    input: &mut I,
     output: &mut O,
 ) -> Result<bool, RunStop>
     requires limit { words.horizon ≤ 1000000000 }
     requires of_task { IsOfTask task.now plan }
     ensures said { (held : List ℕ → Option (List ℕ))
         → IsNamedPlan held words.entry task.now plan → IfOk result
-        (Runs held words.entry (I.left input) (O.held output.old) (O.held output.new)) }
+        (Runs held words.entry (I.left input.old) (O.held output.old) (O.held output.new)) }
     ensures cause { (held : List ℕ → Option (List ℕ))
         → IsNamedPlan held words.entry task.now plan → IfErr result
-        (StopsRun held words.entry (I.left input) (O.held output.old) (O.held output.new)) }
+        (StopsRun held words.entry (I.left input.old) (O.held output.old) (O.held output.new)) }
     ensures failures { O.failures output.new ≡ run_failures (O.failures output.old) result }
+    ensures read { I.failures input.new ≡ run_reads (I.failures input.old) result }
 {
     match verdict_of(alloc, task, plan) {
         Ok(verdict) => run_verdict(alloc, &verdict, words.horizon, input, output),
@@ -118,19 +122,20 @@ fn run_of<I: Source + Drop, O: Sink>(
 }
 
 /// The same with the files read. A file is opened only when what stands before it is done.
-fn run<N: Files, I: Source + Drop, O: Sink>(
+fn run<N: Files, I: Source, O: Sink>(
     alloc: Global,
     files: &mut N,
     words: PlanWords<'_>,
-    input: I,
+    input: &mut I,
     output: &mut O,
 ) -> Result<bool, RunStop>
     requires { words.horizon ≤ 1000000000 }
-    ensures said { IfOk result (Runs (N.held files.old) words.entry (I.left input)
+    ensures said { IfOk result (Runs (N.held files.old) words.entry (I.left input.old)
         (O.held output.old) (O.held output.new)) }
-    ensures cause { IfErr result (StopsRun (N.held files.old) words.entry (I.left input)
+    ensures cause { IfErr result (StopsRun (N.held files.old) words.entry (I.left input.old)
         (O.held output.old) (O.held output.new)) }
     ensures failures { O.failures output.new ≡ run_failures (O.failures output.old) result }
+    ensures read { I.failures input.new ≡ run_reads (I.failures input.old) result }
 {
     match plan_in(alloc, files, words) {
         Ok(named) => {
@@ -146,32 +151,33 @@ fn run<N: Files, I: Source + Drop, O: Sink>(
 /// 1 where there is none, or the plan that the words name is not valid, and its first fault was
 /// written; and for another writes one fault line. The cost is that of `check` and of the network,
 /// and then of the executive for each command.
-pub fn run_run<N: Files, I: Source + Drop, O: Sink, F: Sink>(
+pub fn run_run<N: Files, I: Source, O: Sink, F: Sink>(
     alloc: Global,
     files: &mut N,
     words: PlanWords<'_>,
-    input: I,
+    input: &mut I,
     output: &mut O,
     faults: &mut F,
 ) -> u8
     requires { words.horizon ≤ 1000000000 }
-    ensures ran { result ≡ 0 → RunsToPlan (N.held files.old) words.entry (I.left input)
+    ensures ran { result ≡ 0 → RunsToPlan (N.held files.old) words.entry (I.left input.old)
         (O.held output.old) (O.held output.new) }
-    ensures none { result ≡ 1 → RunsToNone (N.held files.old) words.entry (I.left input)
+    ensures none { result ≡ 1 → RunsToNone (N.held files.old) words.entry (I.left input.old)
         (O.held output.old) (O.held output.new) }
 
     // What stopped it is told, and is as it is told.
-    ensures stopped { 2 ≤ result → EndsRun (N.held files.old) words.entry result (I.left input)
-        (O.held output.old) (O.held output.new) (O.failures output.old) (O.failures output.new)
-        (F.failures faults.old) (F.held faults.old) (F.failures faults.new) (F.held faults.new) }
+    ensures stopped { 2 ≤ result → EndsRun (N.held files.old) words.entry result (I.left input.old)
+        (I.failures input.old) (I.failures input.new) (O.held output.old) (O.held output.new)
+        (O.failures output.old) (O.failures output.new) (F.failures faults.old) (F.held faults.old) (F.failures faults.new) (F.held faults.new) }
 
     // For input that is refused nothing is written, unless it is refused for its length alone;
-    // where memory or a device is wanting, a first part of what is to be written is; a write that
-    // failed is always told.
+    // where memory or a device is wanting, a first part of what is to be written is; a read of the
+    // input or a write that failed is always told.
     ensures kept { result ≡ REFUSED → (O.held output.new ≡ O.held output.old)
-        ⊎ IsLong (I.left input) }
-    ensures part { result ≡ OUT_OF_ORDER → RunsPart (N.held files.old) words.entry (I.left input)
+        ⊎ IsLong (I.left input.old) }
+    ensures part { result ≡ OUT_OF_ORDER → RunsPart (N.held files.old) words.entry (I.left input.old)
         (O.held output.old) (O.held output.new) }
+    ensures heard { result ≢ OUT_OF_ORDER → I.failures input.new ≡ I.failures input.old }
     ensures told { result ≢ OUT_OF_ORDER → O.failures output.new ≡ O.failures output.old }
 
     // A fault line goes with each fault, and with nothing else.

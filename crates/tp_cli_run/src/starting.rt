@@ -8,7 +8,7 @@ ghost use Rattle.tp_happen.specs.tp_plan_text.declared.plans.Step.{Step};
 ghost use Rattle.tp_deorder.specs.Answers.{IsPlanNetOf};
 ghost use Rattle.tp_exec.specs.FromPlan.{CameFrom};
 ghost use Rattle.tp_exec_machine.specs.Machine.{IsFresh, plan_machine};
-ghost use Rattle.tp_cli_bare.specs.Bare.{bare_failures};
+ghost use Rattle.tp_cli_bare.specs.Bare.{bare_failures, bare_read_failures};
 ghost use Rattle.tp_cli_run.specs.Starts.{BeginsRun, IsNewRun};
 
 use std::alloc::{AllocError, Global};
@@ -46,7 +46,7 @@ fn over(
 /// `Network` where memory is wanting; `Serving` with `Read` or `Head` of the lags.
 pub fn start<I: Source>(
     alloc: Global,
-    lines: &mut Lines<I>,
+    lines: &mut Lines<'_, I>,
     network: &PlanNet,
 ) -> Result<Executive<RepairNet>, BareFault>
     requires longest { lines.old.longest ≡ 256 }
@@ -59,7 +59,9 @@ pub fn start<I: Source>(
         (greatest_limits network.now.horizon) network.now → CameFrom t steps e) }
     ensures longest { lines.new.longest ≡ lines.old.longest }
     ensures most { lines.new.most ≡ lines.old.most }
+    ensures source { lines.new.source ≡ lines.old.source }
     ensures told { (n : ℕ) → bare_failures n result ≡ n }
+    ensures read { lines.new.failures ≡ bare_read_failures lines.old.failures result }
 {
     match RepairNet::new(alloc, network.events.len() as u16, network.horizon) {
         Ok(net) => {

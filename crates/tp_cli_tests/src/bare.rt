@@ -37,10 +37,10 @@ fn run<I: Ledger, O: Ledger, F: Ledger>(
         most: usize::MAX,
         broken: false,
     };
-    let input = FromRead::<Feed<'_>, I>::new(feed, reads);
+    let mut input = FromRead::<Feed<'_>, I>::new(feed, reads);
     let mut output = Sheet::<O>::new(alloc, room, writes);
     let mut faults = Sheet::<F>::new(alloc, usize::MAX, tells);
-    let status = run_bare(alloc, input, &mut output, &mut faults);
+    let status = run_bare(alloc, &mut input, &mut output, &mut faults);
     (status, output.into_text(), faults.into_text())
 }
 

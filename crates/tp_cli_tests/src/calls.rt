@@ -140,12 +140,12 @@ fn called<I: Ledger, O: Ledger, F: Ledger, J: Ledger, A: Ledger>(
         most: usize::MAX,
         broken: streams.broken,
     };
-    let input = FromRead::<Feed<'_>, I>::new(feed, blanks.reads);
+    let mut input = FromRead::<Feed<'_>, I>::new(feed, blanks.reads);
     let mut output = Sheet::<O>::new(alloc, streams.output, blanks.writes);
     let mut faults = Sheet::<F>::new(alloc, usize::MAX, blanks.tells);
     let sheet = blank_sheet(alloc, streams.log, blanks.logs);
     let mut logs = CountedLogs::<J, A>::new(alloc, sheet, blanks.asks);
-    let status = run_bare_journal(alloc, &mut logs, LOG, input, &mut output, &mut faults);
+    let status = run_bare_journal(alloc, &mut logs, LOG, &mut input, &mut output, &mut faults);
     Outcome {
         status,
         answers: output.into_text(),

@@ -8,7 +8,7 @@ use tp_cli_files::Files;
 use tp_device::Sink;
 use tp_explain_faults::Call;
 use tp_explain_text::{Page, put_line_place, put_mark_of_line};
-use tp_script::{Lines, write_bound, write_numbered, write_two_numbers};
+use tp_script::{LineBuffers, Lines, write_bound, write_numbered, write_two_numbers};
 
 /// Puts the headline of a line of a head, and the line.
 fn put_headline(page: &mut Page, call: &Call<'_>, number: u64, line: Option<&[u8]>, what: &str) {
@@ -51,13 +51,13 @@ fn line_at<N: Files>(
     call: &Call<'_>,
     number: u64,
 ) -> Result<Option<Vec<u8>>, AllocError> {
-    let Ok(source) = files.open(call.log) else {
+    let Ok(mut source) = files.open(call.log) else {
         return Ok(None);
     };
-    let Ok(lines) = Lines::new(alloc, source, LONGEST) else {
+    let Ok(buffers) = LineBuffers::new(alloc, LONGEST) else {
         return Ok(None);
     };
-    let mut lines = lines;
+    let mut lines = Lines::new(buffers, &mut source);
     for _ in 1..number {
         let _skipped = lines.next_line();
     }
@@ -119,13 +119,13 @@ fn put_first_other<N: Files>(
     call: &Call<'_>,
     network: &PlanNet,
 ) -> Result<(), AllocError> {
-    let Ok(source) = files.open(call.log) else {
+    let Ok(mut source) = files.open(call.log) else {
         return Ok(());
     };
-    let Ok(lines) = Lines::new(alloc, source, LONGEST) else {
+    let Ok(buffers) = LineBuffers::new(alloc, LONGEST) else {
         return Ok(());
     };
-    let mut lines = lines;
+    let mut lines = Lines::new(buffers, &mut source);
     let _version = lines.next_line();
     let last = (network.bounds.len() as u64).saturating_add(4);
     for number in 2..=last {

@@ -12,7 +12,7 @@ use tp_explain_text::{Page, put_line_place, put_mark_of_line};
 use tp_journal::JournalHead;
 use tp_net::Net;
 use tp_repair::RepairNet;
-use tp_script::{Lines, read_command, write_answer};
+use tp_script::{LineBuffers, Lines, read_command, write_answer};
 
 /// A command of a journal, the answer that follows it there, and the one that is allowed.
 #[derive(Drop)]
@@ -41,7 +41,7 @@ fn answer_of<N: Net>(alloc: Global, executive: &mut Executive<N>, line: &[u8]) -
 fn pair_at<N: Net, S: Reader + Drop>(
     alloc: Global,
     executive: &mut Executive<N>,
-    lines: &mut Lines<S>,
+    lines: &mut Lines<'_, S>,
     wanted: u64,
 ) -> Result<Option<Pair>, AllocError> {
     let mut number = 0u64;
@@ -67,7 +67,7 @@ fn pair_at<N: Net, S: Reader + Drop>(
 fn take_pair<N: Net, S: Reader + Drop>(
     alloc: Global,
     executive: &mut Executive<N>,
-    lines: &mut Lines<S>,
+    lines: &mut Lines<'_, S>,
     command: &[u8],
     is_wanted: bool,
 ) -> Result<Option<Pair>, AllocError> {
@@ -129,13 +129,13 @@ pub fn put_wrong<N: Files>(
         return Ok(());
     };
     let mut executive = executive;
-    let Ok(source) = files.open(call.log) else {
+    let Ok(mut source) = files.open(call.log) else {
         return Ok(());
     };
-    let Ok(lines) = Lines::new(alloc, source, LONGEST) else {
+    let Ok(buffers) = LineBuffers::new(alloc, LONGEST) else {
         return Ok(());
     };
-    let mut lines = lines;
+    let mut lines = Lines::new(buffers, &mut source);
     if let Some(pair) = pair_at(alloc, &mut executive, &mut lines, number)? {
         put_pair(page, call, number, &pair);
     }

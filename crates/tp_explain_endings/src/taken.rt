@@ -54,7 +54,7 @@ impl Sink for Taken {
 /// The next line of a journal, without its end.
 pub fn next_of<S: Reader + Drop>(
     alloc: Global,
-    lines: &mut Lines<S>,
+    lines: &mut Lines<'_, S>,
 ) -> Result<Option<Vec<u8>>, AllocError> {
     match lines.next_line() {
         Ok(Next::Line) => Ok(Some(Vec::from_slice(alloc, lines.line())?)),

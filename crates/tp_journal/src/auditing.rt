@@ -44,7 +44,7 @@ pub(crate) enum Piece {
 }
 
 /// Takes what stands first.
-pub(crate) fn take_piece<R: Source>(lines: &mut Lines<R>) -> Result<Piece, AuditFault>
+pub(crate) fn take_piece<R: Source>(lines: &mut Lines<'_, R>) -> Result<Piece, AuditFault>
     requires { lines.old.longest ≡ 16_384 }
     ensures takes { TakesPiece lines.old lines.new result }
     ensures limits { SameLimits lines.old lines.new }
@@ -67,7 +67,7 @@ pub(crate) fn take_piece<R: Source>(lines: &mut Lines<R>) -> Result<Piece, Audit
 }
 
 /// Takes the line of that number.
-pub(crate) fn take_line<R: Source>(lines: &mut Lines<R>, number: u64) -> Result<Found, AuditFault>
+pub(crate) fn take_line<R: Source>(lines: &mut Lines<'_, R>, number: u64) -> Result<Found, AuditFault>
     requires { lines.old.longest ≡ 16_384 }
     ensures takes { TakesNext lines.old lines.new number result }
     ensures limits { SameLimits lines.old lines.new }
@@ -184,7 +184,7 @@ fn match_line(
 /// Takes a line of a head, or the question behind it.
 fn take_turn<R: Source>(
     alloc: Global,
-    lines: &mut Lines<R>,
+    lines: &mut Lines<'_, R>,
     head: &[u8],
     place: Place,
     version: u8,
@@ -212,7 +212,7 @@ fn take_turn<R: Source>(
 }
 
 /// Takes line 1, which names the version.
-pub(crate) fn take_version<R: Source>(lines: &mut Lines<R>) -> Result<u8, AuditFault>
+pub(crate) fn take_version<R: Source>(lines: &mut Lines<'_, R>) -> Result<u8, AuditFault>
     requires { lines.old.longest ≡ 16_384 }
     ensures version { TakesVersion lines.old lines.new result }
     ensures limits { SameLimits lines.old lines.new }
@@ -279,13 +279,14 @@ fn behind(bytes: &[u8], count: usize) -> &[u8]
 fn audit_head<N: Net, R: Source>(
     alloc: Global,
     executive: &Executive<N>,
-    lines: &mut Lines<R>,
+    lines: &mut Lines<'_, R>,
 ) -> Result<Headed, AuditFault>
     requires longest { lines.old.longest ≡ 16_384 }
     requires new { IsNewExecutive executive.now }
     ensures heads { Heads executive.now lines.old lines.new result }
     ensures longest { lines.new.longest ≡ lines.old.longest }
     ensures most { lines.new.most ≡ lines.old.most }
+    ensures source { lines.new.source ≡ lines.old.source }
     ensures few { IfOk result (λ headed. headed.count + 9 ≤ lines.new.taken) }
     ensures read { lines.new.failures ≡ audit_failures lines.old.failures result }
 {
@@ -357,7 +358,7 @@ fn judge_reply<N: Net>(
 fn take_reply<N: Net, R: Source>(
     alloc: Global,
     executive: &mut Executive<N>,
-    lines: &mut Lines<R>,
+    lines: &mut Lines<'_, R>,
     asked: Asked,
     number: u64,
 ) -> Result<(), AuditFault>
@@ -388,7 +389,7 @@ fn take_reply<N: Net, R: Source>(
 /// Takes the next question, if there is one.
 fn take_question<R: Source>(
     alloc: Global,
-    lines: &mut Lines<R>,
+    lines: &mut Lines<'_, R>,
     version: u8,
     number: u64,
 ) -> Result<Option<Asked>, AuditFault>
@@ -412,7 +413,7 @@ fn take_question<R: Source>(
 fn take_pair<N: Net, R: Source>(
     alloc: Global,
     executive: &mut Executive<N>,
-    lines: &mut Lines<R>,
+    lines: &mut Lines<'_, R>,
     version: u8,
     asked: Asked,
     count: u64,
@@ -448,13 +449,14 @@ fn take_pair<N: Net, R: Source>(
 pub fn audit<N: Net + Drop, R: Source>(
     alloc: Global,
     executive: Executive<N>,
-    lines: &mut Lines<R>,
+    lines: &mut Lines<'_, R>,
 ) -> Result<Audited, AuditFault>
     requires longest { lines.old.longest ≡ 16_384 }
     requires new { IsNewExecutive executive }
     ensures audits { Audits executive lines.old lines.new result }
     ensures longest { lines.new.longest ≡ lines.old.longest }
     ensures most { lines.new.most ≡ lines.old.most }
+    ensures source { lines.new.source ≡ lines.old.source }
     ensures read { lines.new.failures ≡ audit_failures lines.old.failures result }
 {
     let mut executive = executive;
@@ -468,7 +470,7 @@ pub fn audit<N: Net + Drop, R: Source>(
 pub fn replay<N: Net, R: Source>(
     alloc: Global,
     executive: &mut Executive<N>,
-    lines: &mut Lines<R>,
+    lines: &mut Lines<'_, R>,
 ) -> Result<Audited, AuditFault>
     requires longest { lines.old.longest ≡ 16_384 }
     requires new { IsNewExecutive executive.old }
@@ -477,6 +479,7 @@ pub fn replay<N: Net, R: Source>(
         (λ bytes. LeadsTo executive.old bytes audited.pairs executive.new)) }
     ensures longest { lines.new.longest ≡ lines.old.longest }
     ensures most { lines.new.most ≡ lines.old.most }
+    ensures source { lines.new.source ≡ lines.old.source }
     ensures read { lines.new.failures ≡ audit_failures lines.old.failures result }
 {
     let headed = match audit_head(alloc, executive, lines) {

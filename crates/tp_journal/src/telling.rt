@@ -137,7 +137,7 @@ fn match_any(line: &[u8], place: Place, number: u64) -> Result<Step, AuditFault>
 }
 
 /// Takes a line behind the lines of a head.
-fn take_any<R: Source>(lines: &mut Lines<R>, place: Place, number: u64) -> Result<Step, AuditFault>
+fn take_any<R: Source>(lines: &mut Lines<'_, R>, place: Place, number: u64) -> Result<Step, AuditFault>
     requires longest { lines.old.longest ≡ 16_384 }
     requires names { is_some (head_version place) ≡ true }
     ensures turns { TurnsAny place number lines.old lines.new result }
@@ -169,13 +169,14 @@ fn take_any<R: Source>(lines: &mut Lines<R>, place: Place, number: u64) -> Resul
 /// `Read` where the reader fails.
 pub fn journal_head<R: Source>(
     alloc: Global,
-    lines: &mut Lines<R>,
+    lines: &mut Lines<'_, R>,
 ) -> Result<JournalHead, AuditFault>
     requires longest { lines.old.longest ≡ 16_384 }
     ensures head { TellsHead lines.old lines.new result }
     ensures alone { IfErr result (StaysInHead lines.old lines.new) }
     ensures longest { lines.new.longest ≡ lines.old.longest }
     ensures most { lines.new.most ≡ lines.old.most }
+    ensures source { lines.new.source ≡ lines.old.source }
     ensures read { lines.new.failures ≡ audit_failures lines.old.failures result }
 {
     let version = match take_version(lines) {

@@ -20,7 +20,7 @@ use tp_script::{Lines, Served};
 /// Those of `journal`.
 pub fn journal_on<N: Net, R: Source, W: Sink, V: Sink>(
     executive: &mut Executive<N>,
-    lines: &mut Lines<R>,
+    lines: &mut Lines<'_, R>,
     answers: &mut W,
     log: &mut V,
 ) -> Result<Served, JournalFault>
@@ -29,6 +29,7 @@ pub fn journal_on<N: Net, R: Source, W: Sink, V: Sink>(
         (W.held answers.new) (V.held log.old) (V.held log.new) result }
     ensures longest { lines.new.longest ≡ lines.old.longest }
     ensures most { lines.new.most ≡ lines.old.most }
+    ensures source { lines.new.source ≡ lines.old.source }
     ensures read { lines.new.failures ≡ read_failures lines.old.failures result }
     ensures write { W.failures answers.new ≡ write_failures (W.failures answers.old) result }
     ensures log { V.failures log.new ≡ log_failures (V.failures log.old) result }

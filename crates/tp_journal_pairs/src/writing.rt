@@ -233,7 +233,7 @@ pub(crate) enum Turn {
 /// Reads a line and enters it.
 pub(crate) fn take_turn<N: Net, R: Source, W: Sink, V: Sink>(
     executive: &mut Executive<N>,
-    lines: &mut Lines<R>,
+    lines: &mut Lines<'_, R>,
     answers: &mut W,
     log: &mut V,
 ) -> Result<Turn, JournalFault>
@@ -270,7 +270,7 @@ pub(crate) fn take_turn<N: Net, R: Source, W: Sink, V: Sink>(
 /// with another limit.
 pub fn journal<N: Net, R: Source, W: Sink, V: Sink>(
     executive: &mut Executive<N>,
-    lines: &mut Lines<R>,
+    lines: &mut Lines<'_, R>,
     answers: &mut W,
     log: &mut V,
 ) -> Result<Served, JournalFault>
@@ -281,6 +281,7 @@ pub fn journal<N: Net, R: Source, W: Sink, V: Sink>(
     ensures head { HeadIsOne executive.old }
     ensures longest { lines.new.longest ≡ lines.old.longest }
     ensures most { lines.new.most ≡ lines.old.most }
+    ensures source { lines.new.source ≡ lines.old.source }
     ensures read { lines.new.failures ≡ read_failures lines.old.failures result }
     ensures write { W.failures answers.new ≡ write_failures (W.failures answers.old) result }
     ensures log { V.failures log.new ≡ log_failures (V.failures log.old) result }

@@ -42,7 +42,7 @@ fn may_set<N: Net>(net: &N, e: u16, lag: u32) -> bool
 /// # Errors `Read` where the reader fails; `Head` for an event that there is not or that has a lag
 /// already, and for a lag over 1,000,000,000 ticks. The lags before it stay set, and the line at
 /// fault was taken.
-pub fn read_lags<N: Net, R: Source>(lines: &mut Lines<R>, net: &mut N) -> Result<(), ServeFault>
+pub fn read_lags<N: Net, R: Source>(lines: &mut Lines<'_, R>, net: &mut N) -> Result<(), ServeFault>
     requires longest { lines.old.longest ≡ 256 }
     requires start { (N.seen net.old).clock ≡ 0 }
     ensures lags { ReadsLags lines.old lines.new (N.seen net.old) (N.seen net.new) result }
@@ -53,6 +53,7 @@ pub fn read_lags<N: Net, R: Source>(lines: &mut Lines<R>, net: &mut N) -> Result
     ensures horizon { (N.seen net.new).horizon ≡ (N.seen net.old).horizon }
     ensures longest { lines.new.longest ≡ lines.old.longest }
     ensures most { lines.new.most ≡ lines.old.most }
+    ensures source { lines.new.source ≡ lines.old.source }
     ensures read { lines.new.failures ≡ read_failures lines.old.failures result }
 {
     loop {

@@ -10,7 +10,7 @@ use tp_bounds::Limits;
 use tp_exec_machine::Executive;
 use tp_journal::{AuditFault, Audited, JournalHead, audit, journal_head};
 use tp_net::ScratchNet;
-use tp_script::{Lines, ServeFault};
+use tp_script::{LineBuffers, Lines, ServeFault};
 use tp_testkit_failing::{Stop, StopSource};
 
 /// A network with own bounds and lags in its head.
@@ -27,8 +27,9 @@ fn head_of<L: Ledger>(
     requires parts { blank.parts ≡ L.parts }
     requires some { 0 < blank.parts }
 {
-    let source = StopSource::<L>::new(text, 64, Stop::Never, blank);
-    let mut lines = Lines::new(alloc, source, 16_384)?;
+    let mut source = StopSource::<L>::new(text, 64, Stop::Never, blank);
+    let buffers = LineBuffers::new(alloc, 16_384)?;
+    let mut lines = Lines::new(buffers, &mut source);
     Ok(journal_head(alloc, &mut lines))
 }
 
@@ -63,8 +64,9 @@ fn audit_of<L: Ledger>(
     requires parts { blank.parts ≡ L.parts }
     requires some { 0 < blank.parts }
 {
-    let source = StopSource::<L>::new(text, 64, Stop::Never, blank);
-    let mut lines = Lines::new(alloc, source, 16_384)?;
+    let mut source = StopSource::<L>::new(text, 64, Stop::Never, blank);
+    let buffers = LineBuffers::new(alloc, 16_384)?;
+    let mut lines = Lines::new(buffers, &mut source);
     let net = ScratchNet::new(alloc, 2, 100)?;
     let executive = Executive::bare(alloc, Limits::greatest(100), net);
     Ok(audit(alloc, executive, &mut lines))

@@ -10,7 +10,7 @@ use tp_bounds::Limits;
 use tp_exec_machine::Executive;
 use tp_journal::{AuditFault, Audited, audit};
 use tp_net::ScratchNet;
-use tp_script::{Lines, ServeFault};
+use tp_script::{LineBuffers, Lines, ServeFault};
 use tp_testkit_failing::{Stop, StopSource};
 
 /// Seven pairs of a network of bounds alone.
@@ -29,9 +29,10 @@ fn audit_over<I: Ledger>(
     requires parts { reads.parts ≡ I.parts }
     requires some { 0 < reads.parts }
 {
-    let source = StopSource::<I>::new(text, 7, Stop::Never, reads);
+    let mut source = StopSource::<I>::new(text, 7, Stop::Never, reads);
     let net = ScratchNet::new(alloc, 2, 100)?;
-    let mut lines = Lines::with_limit(alloc, source, 16_384, most)?;
+    let buffers = LineBuffers::new(alloc, 16_384)?;
+    let mut lines = Lines::with_limit(buffers, &mut source, most);
     let executive = Executive::bare(alloc, Limits::greatest(100), net);
     Ok(audit(alloc, executive, &mut lines))
 }

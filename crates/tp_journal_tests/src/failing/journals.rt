@@ -10,7 +10,7 @@ use std::alloc::Global;
 use std::marker::Brand;
 use std::sync::ledger::{Blank, Ledger};
 use tp_journal_pairs::{JournalFault, journal};
-use tp_script::{Lines, ServeFault, Served};
+use tp_script::{LineBuffers, Lines, ServeFault, Served};
 use tp_testkit_failing::Stop;
 
 /// Two bounds with the origin, a window, and a refused bound.
@@ -55,10 +55,11 @@ fn recorded<I: Ledger, O: Ledger, J: Ledger>(
     requires logs_parts { blanks.logs.parts ≡ J.parts }
     requires logs_some { 0 < blanks.logs.parts }
 {
-    let source = source_of::<I>(COMMANDS, SOUND, blanks.reads);
+    let mut source = source_of::<I>(COMMANDS, SOUND, blanks.reads);
     let mut answers = sink_of::<O>(alloc, SLOW, blanks.writes);
     let mut pages = sink_of::<J>(alloc, log, blanks.logs);
-    let mut lines = Lines::with_limit(alloc, source, 256, most)?;
+    let buffers = LineBuffers::new(alloc, 256)?;
+    let mut lines = Lines::with_limit(buffers, &mut source, most);
     let mut executive = headed(alloc, &mut lines)?;
     let served = journal(&mut executive, &mut lines, &mut answers, &mut pages);
     Ok(Left {

@@ -9,7 +9,7 @@ use std::sync::ledger::{Blank, Ledger};
 use tp_bounds::Limits;
 use tp_exec_machine::Executive;
 use tp_net::{Net, ScratchNet};
-use tp_script::{Lines, ServeFault, Served, read_head, serve};
+use tp_script::{LineBuffers, Lines, ServeFault, Served, read_head, serve};
 use tp_testkit_failing::{Stop, StopSink, StopSource};
 
 /// What an executive is seen as: now, how many bounds are in force, the next identifier, and the
@@ -112,7 +112,7 @@ pub(crate) fn sink_of<L: Ledger>(alloc: Global, device: Device, blank: Blank) ->
 /// An executive over the network of the head.
 pub(crate) fn headed<L: Ledger>(
     alloc: Global,
-    lines: &mut Lines<StopSource<'_, L>>,
+    lines: &mut Lines<'_, StopSource<'_, L>>,
 ) -> Result<Executive<ScratchNet>, ServeFault>
     requires { lines.old.longest ≡ 256 }
     ensures longest { lines.new.longest ≡ 256 }
@@ -137,9 +137,10 @@ fn served<I: Ledger, O: Ledger>(
     requires writes_parts { writes.parts ≡ O.parts }
     requires writes_some { 0 < writes.parts }
 {
-    let source = source_of::<I>(session.input, session.reader, reads);
+    let mut source = source_of::<I>(session.input, session.reader, reads);
     let mut sink = sink_of::<O>(alloc, session.writer, writes);
-    let mut lines = Lines::with_limit(alloc, source, 256, session.most)?;
+    let buffers = LineBuffers::new(alloc, 256)?;
+    let mut lines = Lines::with_limit(buffers, &mut source, session.most);
     let mut executive = headed(alloc, &mut lines)?;
     let served = serve(&mut executive, &mut lines, &mut sink);
     Ok(Left {

@@ -10,7 +10,7 @@ use tp_device::FromRead;
 use tp_exec_machine::Executive;
 use tp_journal::{AuditFault, JournalHead, audit, journal_head};
 use tp_net::{Net, ScratchNet};
-use tp_script::{Lines, ServeFault};
+use tp_script::{LineBuffers, Lines, ServeFault};
 
 /// What a test finds of a journal.
 #[derive(Clone, Copy, PartialEq, Eq)]
@@ -40,7 +40,9 @@ fn audit_over<I: Ledger>(
     requires far { horizon ≤ 1_000_000_000 }
     requires late { lag ≤ 1_000_000_000 }
 {
-    let mut lines = Lines::new(alloc, FromRead::<&[u8], I>::new(text, reads), 16_384)?;
+    let mut source = FromRead::<&[u8], I>::new(text, reads);
+    let buffers = LineBuffers::new(alloc, 16_384)?;
+    let mut lines = Lines::new(buffers, &mut source);
     let mut net = ScratchNet::new(alloc, events, horizon)?;
     net.set_lag(0, lag);
     let executive = Executive::bare(alloc, Limits::greatest(horizon), net);
@@ -104,8 +106,9 @@ fn head_over<I: Ledger>(
     requires reads_parts { reads.parts ≡ I.parts }
     requires reads_some { 0 < reads.parts }
 {
-    let source = FromRead::<&[u8], I>::new(text, reads);
-    let mut lines = Lines::with_limit(alloc, source, 16_384, most)?;
+    let mut source = FromRead::<&[u8], I>::new(text, reads);
+    let buffers = LineBuffers::new(alloc, 16_384)?;
+    let mut lines = Lines::with_limit(buffers, &mut source, most);
     Ok(journal_head(alloc, &mut lines))
 }
 

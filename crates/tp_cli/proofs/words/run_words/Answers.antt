@@ -44,7 +44,7 @@ pub returns-in-Ok-BareLog-clause-broken : goal.returns-in-Ok-BareLog-clause-brok
 returns-in-Ok-BareLog-clause-broken g c =
     λ three.
     let files = call_files (g.N.Files.held c.args.files.now.shelf) (g.L.Logs.asked c.args.files.now.logs) (g.L.Logs.asked c.run_bare_journal.new.files) g.L.Logs.blank (g.L.Logs.named c.run_bare_journal.new.files) (g.L.Logs.kept c.run_bare_journal.new.files) in
-    inr (BareLog c.in-Ok-BareLog.log, rw c.in-Ok-BareLog.field-0-is at c.in-Ok-BareLog.ensures.asked, logs_part files (g.I.Source.left c.args.input) (g.O.Sink.held c.args.output.now) (g.O.Sink.held c.run_bare_journal.new.output) (c.run_bare_journal.ensures.part (λ none. omega (arith, three, none))))
+    inr (BareLog c.in-Ok-BareLog.log, rw c.in-Ok-BareLog.field-0-is at c.in-Ok-BareLog.ensures.asked, logs_part files (g.I.Source.left c.args.input.now) (g.O.Sink.held c.args.output.now) (g.O.Sink.held c.run_bare_journal.new.output) (c.run_bare_journal.ensures.part (λ none. omega (arith, three, none))))
 
 pub returns-in-Ok-BareLog-clause-kept : goal.returns-in-Ok-BareLog-clause-kept
 returns-in-Ok-BareLog-clause-kept g c =
@@ -169,3 +169,33 @@ pub returns-in-Err-Words-clause-stopped : goal.returns-in-Err-Words-clause-stopp
 returns-in-Err-Words-clause-stopped g c =
     λ two.
     inl (c.refuse_words.ensures.refused (g.O.Sink.held c.args.output.now) (g.O.Sink.failures c.args.output.now))
+
+pub returns-in-Ok-Bare-clause-unread : goal.returns-in-Ok-Bare-clause-unread
+returns-in-Ok-Bare-clause-unread g c =
+    λ none.
+    absurd (none.no_bare (rw c.in-Ok-Bare.field-0-is at c.in-Ok-Bare.ensures.asked))
+
+pub returns-in-Ok-BareLog-clause-unread : goal.returns-in-Ok-BareLog-clause-unread
+returns-in-Ok-BareLog-clause-unread g c =
+    λ none.
+    absurd (none.no_log c.in-Ok-BareLog.log (rw c.in-Ok-BareLog.field-0-is at c.in-Ok-BareLog.ensures.asked))
+
+pub returns-in-Ok-BareResume-clause-unread : goal.returns-in-Ok-BareResume-clause-unread
+returns-in-Ok-BareResume-clause-unread g c =
+    λ none.
+    absurd (none.no_resume c.in-Ok-BareResume.old c.in-Ok-BareResume.log (rw c.in-Ok-BareResume.field-0-is at c.in-Ok-BareResume.ensures.asked))
+
+pub returns-in-Ok-Run-clause-unread : goal.returns-in-Ok-Run-clause-unread
+returns-in-Ok-Run-clause-unread g c =
+    λ none.
+    absurd (none.no_run c.in-Ok-Run.plan (rw c.in-Ok-Run.field-0-is at c.in-Ok-Run.ensures.asked))
+
+pub returns-in-Ok-RunLog-clause-unread : goal.returns-in-Ok-RunLog-clause-unread
+returns-in-Ok-RunLog-clause-unread g c =
+    λ none.
+    absurd (none.no_run_log c.in-Ok-RunLog.plan c.in-Ok-RunLog.log (rw c.in-Ok-RunLog.field-0-is at c.in-Ok-RunLog.ensures.asked))
+
+pub returns-in-Ok-RunResume-clause-unread : goal.returns-in-Ok-RunResume-clause-unread
+returns-in-Ok-RunResume-clause-unread g c =
+    λ none.
+    absurd (none.no_run_resume c.in-Ok-RunResume.plan c.in-Ok-RunResume.old c.in-Ok-RunResume.log (rw c.in-Ok-RunResume.field-0-is at c.in-Ok-RunResume.ensures.asked))

@@ -1,6 +1,8 @@
 use Rattle.std.proofs.Common.{◌∙◌, ap, sym}
 use Rattle.tp_script.specs.Serving.{read_failures}
 use Rattle.std.specs.Prelude.{Ok, Err}
+use Rattle.tp_exec_machine.specs.Machine.{Machine}
+use Rattle.tp_script.specs.declared.serving.Served.{Served}
 use Rattle.tp_cli_bare.proofs.BareLemmas.{answers_lines, answers_none, no_more_reads, no_write, same_failures, same_reads}
 use Rattle.tp_cli_bare.proofs.bare.answer.Goals as goal
 
@@ -22,4 +24,4 @@ returns-in-Ok-clause-read g c =
     c.serve.ensures.read ∙ (ap (λ n. read_failures n c.serve.result) c.in-Ok.ensures.read ∙ same_reads c.serve.result c.of_network.result _ c.of_network.ensures)
 
 pub returns-in-Err-clause-read : goal.returns-in-Err-clause-read
-returns-in-Err-clause-read g c = c.in-Err.ensures.read ∙ no_more_reads c.in-Err.fault _
+returns-in-Err-clause-read g c = c.in-Err.ensures.read ∙ no_more_reads {A = Machine} {B = Served} c.in-Err.fault _

@@ -1,5 +1,6 @@
 use Rattle.std.proofs.Common.{sym, subst, ap, ◌∙◌}
 use Rattle.std.specs.Prelude.{Ok, Err}
+use Rattle.tp_exec_machine.specs.Machine.{Machine}
 use Rattle.tp_script.specs.Machine.{IsFresh, new_machine}
 use Rattle.tp_script.proofs.Ready.{fresh_new}
 use Rattle.tp_script.specs.Lags.{ReadsLags}
@@ -31,4 +32,4 @@ returns-in-Ok-read_lags-clause-fresh g c =
     (c.in-Ok-read_lags.ensures.new (subst IsFresh (sym c.in-Ok.ensures.setting) (fresh_new _ _)))
 
 pub returns-in-Err-read_lags-clause-read : goal.returns-in-Err-read_lags-clause-read
-returns-in-Err-read_lags-clause-read g c = c.in-Err-read_lags.ensures.read ∙ lag_reads c.in-Err-read_lags.fault _
+returns-in-Err-read_lags-clause-read g c = c.in-Err-read_lags.ensures.read ∙ lag_reads {A = Unit {0}} {B = Machine} c.in-Err-read_lags.fault _

@@ -1,18 +1,13 @@
-use Rattle.std.proofs.Common.{ap}
+use Rattle.std.proofs.Common.{subst}
+use Rattle.std.specs.Prelude.{IfErr, OnOk}
 use Rattle.tp_script.specs.Pending.{Reading}
-use Rattle.tp_cli_bare.proofs.BareLemmas.{head_stops}
-use Rattle.tp_cli_bare.proofs.LoggedLemmas.{logs_all, logs_stop, stops_by}
+use Rattle.tp_cli_bare.specs.Logged.{LogsAll, StopsLogged}
 use Rattle.tp_cli_bare.proofs.journaling.log_bare.Goals as goal
 
 pub returns-clause-all : goal.returns-clause-all
 returns-clause-all g c =
-    logs_all c.answer.result _ _ _ _ _ c.in_ok-lines.lines c.read_head.new.lines c.answer.new.lines (c.in_ok-events.events, c.in_ok-events.horizon) (ap (λ (l : Reading). l.rest) c.in_ok-lines.ensures.lines) (ap (λ (l : Reading). l.taken) c.in_ok-lines.ensures.lines) (ap (λ (l : Reading). l.most) c.in_ok-lines.ensures.lines) c.in_ok-events.ensures.head c.in_ok-events.ensures.limits.most c.answer.ensures.logs
+    subst (λ (l : Reading). OnOk c.log_all-served.result (LogsAll l.rest (g.O.Sink.held c.args.output.now) (g.O.Sink.held c.log_all-served.new.output) (g.L.Sink.held c.args.log.now) (g.L.Sink.held c.log_all-served.new.log))) c.new-lines.ensures c.log_all-served.ensures.all
 
 pub returns-clause-cause : goal.returns-clause-cause
 returns-clause-cause g c =
-    logs_stop c.answer.result _ _ _ _ _ c.in_ok-lines.lines c.read_head.new.lines c.answer.new.lines (c.in_ok-events.events, c.in_ok-events.horizon) (ap (λ (l : Reading). l.rest) c.in_ok-lines.ensures.lines) (ap (λ (l : Reading). l.taken) c.in_ok-lines.ensures.lines) (ap (λ (l : Reading). l.most) c.in_ok-lines.ensures.lines) c.in_ok-events.ensures.head c.in_ok-events.ensures.limits.most c.answer.ensures.most c.answer.ensures.logs
-
-pub returns-in_err-events-clause-cause : goal.returns-in_err-events-clause-cause
-returns-in_err-events-clause-cause g c =
-    stops_by c.from_residual-in_err-events.result c.in_err-events.field-0.0 _ _ _ c.from_residual-in_err-events.ensures.1
-    (head_stops c.in_err-events.field-0.0 _ _ c.in_ok-lines.lines c.read_head.new.lines (ap (λ (l : Reading). l.rest) c.in_ok-lines.ensures.lines) (ap (λ (l : Reading). l.taken) c.in_ok-lines.ensures.lines) (ap (λ (l : Reading). l.most) c.in_ok-lines.ensures.lines) c.in_err-events.ensures.head c.in_err-events.ensures.limits)
+    subst (λ (l : Reading). IfErr c.log_all-served.result (StopsLogged l.rest (g.O.Sink.held c.args.output.now) (g.O.Sink.held c.log_all-served.new.output) (g.L.Sink.held c.args.log.now) (g.L.Sink.held c.log_all-served.new.log))) c.new-lines.ensures c.log_all-served.ensures.cause

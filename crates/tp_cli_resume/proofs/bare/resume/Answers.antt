@@ -1,7 +1,7 @@
-use Rattle.std.proofs.Common.{◌≡◌, inl, refl}
+use Rattle.std.proofs.Common.{◌≡◌, inl, refl, sym}
 use Rattle.std.proofs.lemmas.Result.{IfErr-weaker, IfOk-weaker}
 use Rattle.tp_cli_run.specs.LogFile.{log_file}
-use Rattle.tp_cli_resume.proofs.BareLemmas.{counted_ran, quiet_old, said_old, stopped_ran, unsaid_old, went_ran}
+use Rattle.tp_cli_resume.proofs.BareLemmas.{counted_ran, heard_ran, quiet_old, said_old, stopped_ran, unsaid_old, went_ran}
 use Rattle.tp_cli_resume.proofs.bare.resume.Goals as goal
 
 pub returns-in-Ok-Goes-clause-went : goal.returns-in-Ok-Goes-clause-went
@@ -28,3 +28,9 @@ returns-in-Err-clause-cause g c = (refl, inl (c.in-Err.ensures.cause, refl))
 
 pub returns-in-Err-clause-told : goal.returns-in-Err-clause-told
 returns-in-Err-clause-told g c = quiet_old (g.N.Files.held c.args.files.now c.args.old.now) c.in-Err.stop _ c.in-Err.ensures.cause
+
+pub returns-in-Ok-Goes-clause-read : goal.returns-in-Ok-Goes-clause-read
+returns-in-Ok-Goes-clause-read g c = heard_ran c.go_on.result c.ran_on.result _ _ c.ran_on.ensures c.go_on.ensures.read
+
+pub returns-in-Ok-Wrong-clause-read : goal.returns-in-Ok-Wrong-clause-read
+returns-in-Ok-Wrong-clause-read g c = sym (c.say_wrong.ensures.unread _)

@@ -3,7 +3,7 @@ use Rattle.std.specs.Prelude.{IfErr, IfOk, IfSome}
 use Rattle.tp_cli_bare.proofs.LoggedLemmas.{moved}
 use Rattle.tp_cli_run.specs.LogFile.{log_file}
 use Rattle.tp_cli_resume.specs.Going.{GoesTo, StopsIn}
-use Rattle.tp_cli_resume.proofs.ResumeLemmas.{counted_of, goes_of, named_of, stops_of}
+use Rattle.tp_cli_resume.proofs.ResumeLemmas.{counted_of, goes_of, heard_of, named_of, stops_of}
 use Rattle.tp_cli_resume.proofs.going.go_on_lines.Goals as goal
 
 pub returns-in-Ok-clause-goes : goal.returns-in-Ok-clause-goes
@@ -27,3 +27,6 @@ returns-in-Ok-clause-cause g c =
 
 pub returns-in-Ok-clause-told : goal.returns-in-Ok-clause-told
 returns-in-Ok-clause-told g c = counted_of c.go_on_in-went.result c.of_journal.result _ _ c.of_journal.ensures c.go_on_in-went.ensures.told
+
+pub returns-in-Ok-clause-read : goal.returns-in-Ok-clause-read
+returns-in-Ok-clause-read g c = heard_of c.go_on_in-went.result c.of_journal.result _ _ c.of_journal.ensures c.go_on_in-went.ensures.read

@@ -1,8 +1,8 @@
-use Rattle.std.proofs.Common.{◌∙◌, ap}
+use Rattle.std.proofs.Common.{◌∙◌, ap, sym}
 use Rattle.tp_cli_run.specs.LogFile.{log_file}
 use Rattle.tp_cli_run.specs.RunLines.{run_failures}
 use Rattle.tp_cli_resume.proofs.Came.{runs_came}
-use Rattle.tp_cli_resume.proofs.RunLemmas.{counted_going, counted_on, said_on, stopped_early, unsaid_on}
+use Rattle.tp_cli_resume.proofs.RunLemmas.{counted_going, counted_on, heard_going, said_on, stopped_early, told_reads, unsaid_on}
 use Rattle.tp_cli_resume.proofs.run.go_to_end.Goals as goal
 
 pub tell_run-requires : goal.tell_run-requires
@@ -26,3 +26,9 @@ returns-in-Err-clause-cause g c = stopped_early c.args.run.executive c.args.run.
 
 pub returns-in-Err-clause-failures : goal.returns-in-Err-clause-failures
 returns-in-Err-clause-failures g c = counted_going c.in-Err.stop _ _ c.in-Err.ensures.told
+
+pub returns-in-Ok-clause-read : goal.returns-in-Ok-clause-read
+returns-in-Ok-clause-read g c = c.in-Ok.ensures.read ∙ sym (told_reads c.tell_run.result c.of_telling.result _ c.of_telling.ensures)
+
+pub returns-in-Err-clause-read : goal.returns-in-Err-clause-read
+returns-in-Err-clause-read g c = heard_going c.in-Err.stop _ _ c.in-Err.ensures.read

@@ -1,4 +1,4 @@
-use Rattle.std.proofs.Common.{inl, refl}
+use Rattle.std.proofs.Common.{inl, refl, sym}
 use Rattle.std.proofs.lemmas.Result.{IfErr-weaker, IfOk-weaker}
 use Rattle.tp_cli_run.specs.LogFile.{log_file}
 use Rattle.tp_cli_resume.proofs.RunLemmas.{ends_on, none_early, quiet_count, said_nowhere, unsaid_nowhere}
@@ -28,3 +28,6 @@ returns-in-Err-clause-cause g c = (none_early (g.O.Sink.held c.args.output.now),
 
 pub returns-in-Err-clause-failures : goal.returns-in-Err-clause-failures
 returns-in-Err-clause-failures g c = quiet_count c.in-Err.stop _ c.in-Err.ensures.quiet
+
+pub returns-in-Ok-Wrong-clause-read : goal.returns-in-Ok-Wrong-clause-read
+returns-in-Ok-Wrong-clause-read g c = sym (c.say_wrong.ensures.unread _)

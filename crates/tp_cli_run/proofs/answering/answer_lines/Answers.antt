@@ -1,3 +1,6 @@
+use Rattle.tp_exec_machine.specs.Machine.{Machine}
+use Rattle.tp_script.specs.declared.serving.Served.{Served}
+use Rattle.tp_cli_bare.proofs.BareLemmas.{serve_reads}
 use Rattle.tp_task.specs.Bounds.{MeetsBounds}
 use Rattle.tp_validate.specs.OfTask.{plan_of, scale_of, state_at}
 use Rattle.tp_deorder.specs.Inequalities.{event_count_of}
@@ -20,3 +23,6 @@ returns-in-Err-serve-clause-answers g c =
 
 pub returns-in-Err-clause-answers : goal.returns-in-Err-clause-answers
 returns-in-Err-clause-answers g c = answers_none c.in-Err.fault c.args.network.now c.args.lines.now c.start.new.lines _ c.in-Err.ensures.begins
+
+pub returns-in-Err-serve-clause-read : goal.returns-in-Err-serve-clause-read
+returns-in-Err-serve-clause-read g c = serve_reads {A = Served} {B = Machine} c.in-Err-serve.fault _ _ _ c.in-Err-serve.ensures.read c.in-Ok.ensures.read

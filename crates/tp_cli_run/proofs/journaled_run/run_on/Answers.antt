@@ -1,6 +1,8 @@
-use Rattle.std.proofs.Common.{◌∙◌, ap}
+use Rattle.std.proofs.Common.{◌∙◌, ap, sym}
+use Rattle.tp_exec_machine.specs.Machine.{Machine}
+use Rattle.tp_cli_bare.proofs.LoggedLemmas.{any_input}
 use Rattle.tp_cli_run.specs.RunLines.{run_failures}
-use Rattle.tp_cli_run.proofs.JournaledLemmas.{counted_telling, said_steps, unsaid_steps}
+use Rattle.tp_cli_run.proofs.JournaledLemmas.{counted_telling, said_steps, told_reads, unsaid_steps}
 use Rattle.tp_cli_run.proofs.journaled_run.run_on.Goals as goal
 
 pub returns-in-Ok-clause-said : goal.returns-in-Ok-clause-said
@@ -18,3 +20,9 @@ pub returns-in-Ok-clause-failures : goal.returns-in-Ok-clause-failures
 returns-in-Ok-clause-failures g c =
     counted_telling c.args.plan.now.task c.args.plan.now.steps c.in-Ok.executive _ _ c.tell_run.result c.of_telling.result (g.O.Sink.failures c.args.output.now) _ c.of_telling.ensures c.tell_run.ensures.cause
     (c.tell_run.ensures.failures ∙ ap (λ n. run_failures n c.tell_run.result) c.in-Ok.ensures.told)
+
+pub returns-in-Ok-clause-read : goal.returns-in-Ok-clause-read
+returns-in-Ok-clause-read g c = c.in-Ok.ensures.read ∙ sym (told_reads c.tell_run.result c.of_telling.result _ c.of_telling.ensures)
+
+pub returns-in-Err-clause-read : goal.returns-in-Err-clause-read
+returns-in-Err-clause-read g c = c.in-Err.ensures.read ∙ any_input {A = Machine} {B = Unit {0}} c.in-Err.stop _

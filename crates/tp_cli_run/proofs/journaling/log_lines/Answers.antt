@@ -1,3 +1,8 @@
+use Rattle.std.proofs.Common.{◌∙◌}
+use Rattle.tp_exec_machine.specs.Machine.{Machine}
+use Rattle.tp_script.specs.declared.serving.Served.{Served}
+use Rattle.tp_cli_bare.proofs.BareLemmas.{no_more_reads}
+use Rattle.tp_cli_bare.proofs.LoggedLemmas.{logged_reads}
 use Rattle.tp_task.specs.Bounds.{MeetsBounds}
 use Rattle.tp_validate.specs.OfTask.{plan_of, scale_of, state_at}
 use Rattle.tp_deorder.specs.Inequalities.{event_count_of}
@@ -21,3 +26,9 @@ returns-in-Ok-journal-clause-came g c =
 pub returns-in-Err-journal-clause-logs : goal.returns-in-Err-journal-clause-logs
 returns-in-Err-journal-clause-logs g c =
     logs_some c.args.network.now c.in-Ok.executive c.journal.new.executive c.args.lines.now c.start.new.lines c.journal.new.lines _ _ _ _ c.in-Err-journal.fault c.in-Ok.ensures.begins c.requires.bounds c.in-Err-journal.ensures.head c.in-Err-journal.ensures.journals
+
+pub returns-in-Err-journal-clause-read : goal.returns-in-Err-journal-clause-read
+returns-in-Err-journal-clause-read g c = logged_reads {A = Served} {B = Machine} c.in-Err-journal.fault _ _ _ c.in-Err-journal.ensures.read c.in-Ok.ensures.read
+
+pub returns-in-Err-clause-read : goal.returns-in-Err-clause-read
+returns-in-Err-clause-read g c = c.in-Err.ensures.read ∙ no_more_reads {A = Machine} {B = Unit {0}} c.in-Err.fault _

@@ -1,5 +1,8 @@
+use Rattle.std.proofs.Common.{◌∙◌, sym}
+use Rattle.tp_exec_machine.specs.Machine.{Machine}
+use Rattle.tp_cli_bare.proofs.BareLemmas.{no_more_reads}
 use Rattle.std.proofs.lemmas.Result.{IfErr-weaker, IfOk-weaker}
-use Rattle.tp_cli_run.proofs.RunLemmas.{ran_steps, stopped_steps}
+use Rattle.tp_cli_run.proofs.RunLemmas.{ran_steps, stopped_steps, told_reads}
 use Rattle.tp_cli_run.proofs.run.run_on.Goals as goal
 
 pub returns-in-Ok-clause-said : goal.returns-in-Ok-clause-said
@@ -12,3 +15,10 @@ returns-in-Ok-clause-cause g c =
 
 pub returns-in-Err-clause-cause : goal.returns-in-Err-clause-cause
 returns-in-Err-clause-cause g c = record { net = c.args.network.now; is_net = c.requires; stops = c.in-Err.ensures.cause }
+
+pub returns-in-Ok-clause-read : goal.returns-in-Ok-clause-read
+returns-in-Ok-clause-read g c =
+    c.in-Ok.ensures.read ∙ sym (told_reads c.args.plan.now.task c.args.plan.now.steps c.in-Ok.executive _ _ c.tell_run.result _ c.tell_run.ensures.cause)
+
+pub returns-in-Err-clause-read : goal.returns-in-Err-clause-read
+returns-in-Err-clause-read g c = c.in-Err.ensures.read ∙ no_more_reads {A = Machine} {B = Unit {0}} c.in-Err.fault _

@@ -1,9 +1,10 @@
 use Rattle.std.proofs.Common.{◌≡◌, ◌∙◌, ap, arith, length, subst, sym}
 use Rattle.std.specs.Prelude.{Ok, Err}
 use Rattle.tp_net.specs.NewNet.{new_setting}
-use Rattle.tp_exec_machine.specs.Machine.{IsFresh}
+use Rattle.tp_exec_machine.specs.Machine.{IsFresh, Machine}
 use Rattle.tp_exec_machine.proofs.Ready.{fresh_new}
 use Rattle.tp_script.specs.Lags.{ReadsLags}
+use Rattle.tp_cli_bare.proofs.BareLemmas.{lag_reads}
 use Rattle.tp_cli_run.proofs.starting.start.Goals as goal
 
 pub over-requires-clause-fresh : goal.over-requires-clause-fresh
@@ -30,3 +31,6 @@ returns-in-Err-read_lags-clause-begins g c =
 pub returns-in-Ok-over-clause-new : goal.returns-in-Ok-over-clause-new
 returns-in-Ok-over-clause-new g c =
     (c.read_lags.new.net.setting, c.in-Ok-read_lags.ensures.new (subst IsFresh (sym c.in-Ok.ensures.setting) (fresh_new _ _)), c.in-Ok-over.ensures.machine)
+
+pub returns-in-Err-read_lags-clause-read : goal.returns-in-Err-read_lags-clause-read
+returns-in-Err-read_lags-clause-read g c = c.in-Err-read_lags.ensures.read ∙ lag_reads {A = Unit {0}} {B = Machine} c.in-Err-read_lags.fault _

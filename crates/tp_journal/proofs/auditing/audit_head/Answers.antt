@@ -20,6 +20,7 @@ head-init g c =
           (head_first c.args.executive.now c.args.lines.now c.take_version.new.lines c.in-Ok-take_version.version c.as_slice.result.now (c.as_slice.ensures.value ∙ c.in-Ok.ensures) c.in-Ok-take_version.ensures.version);
       longest = c.in-Ok-take_version.ensures.limits.longest;
       most = c.in-Ok-take_version.ensures.limits.most;
+      source = c.in-Ok-take_version.ensures.limits.source;
       few = omega (arith, taken.1.counted, version_long taken.0 c.in-Ok-take_version.version taken.2);
       reader = c.in-Ok-take_version.ensures.read;
     }
@@ -33,6 +34,7 @@ head-preserved g c =
           (head_more c.args.executive.now c.args.lines.now c.head.lines c.take_turn.new.lines c.in-Ok-take_version.version c.head.count c.head.place c.in-Ok-Goes.next c.head.left.now turn.0 (drop c.in-Ok-Goes.bytes c.head.left.now) c.head.invariant.so_far turn.1 turn.2.0 turn.2.1 turn.2.4);
       longest = c.in-Ok-Goes.ensures.limits.longest ∙ c.head.invariant.longest;
       most = c.in-Ok-Goes.ensures.limits.most ∙ c.head.invariant.most;
+      source = c.in-Ok-Goes.ensures.limits.source ∙ c.head.invariant.source;
       few = omega (arith, c.head.invariant.few, turn.1.counted);
       reader = c.in-Ok-Goes.ensures.read ∙ c.head.invariant.reader;
     }

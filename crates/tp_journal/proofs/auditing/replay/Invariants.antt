@@ -10,6 +10,7 @@ invariant-pairs g l =
       sound : IsSound l.executive;
       longest : l.lines.longest ≡ l.fn.lines.longest;
       most : l.lines.most ≡ l.fn.lines.most;
+      source : l.lines.source ≡ l.fn.lines.source;
       few : l.count + 9 ≤ l.lines.taken;
       less : l.pairs ≤ l.count;
       reader : l.lines.failures ≡ l.fn.lines.failures;

@@ -21,6 +21,7 @@ head-init g c =
       so_far = subst (ToldSoFar c.args.lines.now c.take_version.new.lines c.in-Ok.version 1 (Network c.in-Ok.version) nothing_told) (sym c.new-lags.ensures.items) (told_first c.args.lines.now c.take_version.new.lines c.in-Ok.version c.in-Ok.ensures.version);
       longest = c.in-Ok.ensures.limits.longest;
       most = c.in-Ok.ensures.limits.most;
+      source = c.in-Ok.ensures.limits.source;
       few = omega (arith, taken.1.counted, version_long taken.0 c.in-Ok.version taken.2);
       reader = c.in-Ok.ensures.read;
     }
@@ -54,6 +55,7 @@ head-preserved g c =
           (c.in-Ok-put_lag.ensures ∙ ap (λ o. c.head.lags.items ++ option_to_list o) (c.new_lag.ensures ∙ ap (new_lag c.head.place) c.line-in-Ok-On.ensures));
       longest = c.in-Ok-On.ensures.limits.longest ∙ c.head.invariant.longest;
       most = c.in-Ok-On.ensures.limits.most ∙ c.head.invariant.most;
+      source = c.in-Ok-On.ensures.limits.source ∙ c.head.invariant.source;
       few = omega (arith, c.head.invariant.few, turn.0.counted);
       reader = c.in-Ok-On.ensures.read ∙ c.head.invariant.reader;
     }

@@ -8,6 +8,7 @@ invariant-head g l =
       so_far : ToldSoFar l.fn.lines l.lines l.version l.count l.place l.told l.lags.items;
       longest : l.lines.longest ≡ l.fn.lines.longest;
       most : l.lines.most ≡ l.fn.lines.most;
+      source : l.lines.source ≡ l.fn.lines.source;
       few : l.count + 9 ≤ l.lines.taken;
       reader : l.lines.failures ≡ l.fn.lines.failures;
     }

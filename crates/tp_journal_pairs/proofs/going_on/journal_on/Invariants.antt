@@ -8,6 +8,7 @@ invariant-loop-n g l =
       follows : Follows l.fn.executive l.executive l.fn.lines l.lines (g.W.Sink.held l.fn.answers) (g.W.Sink.held l.answers) (g.V.Sink.held l.fn.log) (g.V.Sink.held l.log) l.commands;
       longest : l.lines.longest ≡ 256;
       most : l.lines.most ≡ l.fn.lines.most;
+      source : l.lines.source ≡ l.fn.lines.source;
       few : l.commands ≤ l.lines.taken;
       reader : l.lines.failures ≡ l.fn.lines.failures;
       writer : g.W.Sink.failures l.answers ≡ g.W.Sink.failures l.fn.answers;

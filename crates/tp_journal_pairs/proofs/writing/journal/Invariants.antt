@@ -9,6 +9,7 @@ invariant-loop-n g l =
       head : HeadIsOne l.fn.executive;
       longest : l.lines.longest ≡ 256;
       most : l.lines.most ≡ l.fn.lines.most;
+      source : l.lines.source ≡ l.fn.lines.source;
       few : l.commands ≤ l.lines.taken;
       reader : l.lines.failures ≡ l.fn.lines.failures;
       writer : g.W.Sink.failures l.answers ≡ g.W.Sink.failures l.fn.answers;

@@ -16,6 +16,7 @@ loop-e-init g c =
       horizon = refl;
       longest = refl;
       most = refl;
+      source = refl;
       failures = refl;
     }
 
@@ -44,5 +45,6 @@ loop-e-preserved g c =
       horizon = ap (λ (s : Setting). s.horizon) c.set_lag.ensures ∙ c.loop-e.invariant.horizon;
       longest = c.in-Ok-Some.ensures.limits.longest ∙ c.loop-e.invariant.longest;
       most = c.in-Ok-Some.ensures.limits.most ∙ c.loop-e.invariant.most;
+      source = c.in-Ok-Some.ensures.limits.source ∙ c.loop-e.invariant.source;
       failures = c.in-Ok-Some.ensures.cause ∙ c.loop-e.invariant.failures;
     }

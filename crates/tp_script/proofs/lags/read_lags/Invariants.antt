@@ -14,6 +14,7 @@ invariant-loop-e g l =
       horizon : (g.N.Net.seen l.net).horizon ≡ (g.N.Net.seen l.fn.net).horizon;
       longest : l.lines.longest ≡ l.fn.lines.longest;
       most : l.lines.most ≡ l.fn.lines.most;
+      source : l.lines.source ≡ l.fn.lines.source;
       failures : l.lines.failures ≡ l.fn.lines.failures;
     }
 

@@ -8,6 +8,7 @@ invariant-loop-ready g l =
     record {
       bytes : Keeps (rest_of l.fn.self) (rest_of l.self);
       failures : l.self.failures ≡ l.fn.self.failures;
+      source : l.self.source ≡ l.fn.self.source;
     }
 
 abbrev pub decreases-loop-ready : goal.decreases-loop-ready
