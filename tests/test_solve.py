@@ -29,6 +29,29 @@ def brim(first, goal):
     return f"(define (problem p) (:domain brim) (:init (= (x) {first})) (:goal {goal}))"
 
 
+# a lamp that burns once, for 2 to 20 ticks, repairs by its light, and a rest in the dark after them
+LAMP = """(define (domain lamp) (:predicates (full) (lit) (dark) (free) (broken ?x) (whole ?x) (rested))
+ (:durative-action burn :parameters () :duration (and (>= ?duration 2) (<= ?duration 20))
+  :condition (at start (full))
+  :effect (and (at start (not (full))) (at start (lit)) (at start (not (dark))) (at end (not (lit))) (at end (dark))))
+ (:durative-action repair :parameters (?x) :duration (= ?duration 10)
+  :condition (and (at start (free)) (at start (broken ?x)) (over all (lit)))
+  :effect (and (at start (not (free))) (at start (not (broken ?x))) (at end (free)) (at end (whole ?x))))
+ (:durative-action rest :parameters (?x) :duration (= ?duration 8)
+  :condition (and (at start (whole ?x)) (over all (dark))) :effect (at end (rested))))"""
+
+# one that burns for up to 40 ticks
+BRIGHT = LAMP.replace("20", "40")
+
+
+def lamp(goal):
+    return f"(define (problem p) (:domain lamp) (:objects a b) (:init (full) (dark) (free) (broken a) (broken b)) (:goal (and {goal})))"
+
+
+REPAIRED = "0: (burn) [10]\n0: (repair a) [10]\n"
+
+BOTH = "(whole a) (whole b)"
+
 # a domain, a problem of it, the words of the call, what it writes, and its exit status
 ROWS = (
     (TOGGLE, TOGGLED, CALL, "0: (need)\n", 0),
@@ -48,6 +71,12 @@ ROWS = (
     (MATCH, UNLIT, CALL, "exhausted\n", 1),
     (MEET, MET, CALL, "0: (take) [5]\n1: (give) [5]\n", 0),
     (MEET, MET, f"{CALL} --horizon 6", "0: (take) [5]\n1: (give) [5]\n", 0),
+    (LAMP, lamp("(whole a)"), CALL, REPAIRED, 0),
+    (LAMP, lamp("(whole a)"), f"{CALL} --horizon 12", REPAIRED, 0),
+    (LAMP, lamp("(whole a)"), f"{CALL} --horizon 10", REPAIRED, 0),
+    (LAMP, lamp("(whole a)"), f"{CALL} --horizon 9", "exhausted\n", 1),
+    (LAMP, lamp("(whole a) (rested)"), f"{CALL} --horizon 19", f"{REPAIRED}11: (rest a) [8]\n", 0),
+    (BRIGHT, lamp(BOTH), f"{CALL} --horizon 21", "0: (burn) [21]\n0: (repair a) [10]\n11: (repair b) [10]\n", 0),
     (BRIM, brim(999999999999999, "(done)"), CALL, "0: (rise)\n1: (finish)\n", 0),
     (BRIM, brim(1000000000000000, "(done)"), CALL, "0: (finish)\n", 0),
 )
@@ -174,6 +203,10 @@ class Solve(Case):
         for fuses in (2, 3, 6):
             with self.subTest(f"{fuses} fuses"):
                 self.found(CALL, {"domain": HANDS, "problem": handed(fuses)})
+
+    def test_a_lamp_burns_as_long_as_two_repairs_take_and_no_longer(self):
+        plan, _ = self.found(f"{CALL} --horizon 31", {"domain": BRIGHT, "problem": lamp(f"{BOTH} (rested)")})
+        self.assertIn("0: (burn) [21]\n", plan)
 
     def test_better_plans(self):
         files = {"domain": SERIES / "zeno/domain.pddl", "problem": SERIES / "zeno/q03.pddl"}

@@ -1,5 +1,7 @@
 //! What changes from round to round.
 
+use tp_guided_walk::Lengths;
+
 /// How one round searches.
 #[derive(Clone, Copy)]
 pub struct Round {
@@ -13,8 +15,8 @@ pub struct Round {
     pub vary: bool,
     /// Whether a cost is the greatest in place of the sum of those of the conditions.
     pub by_most: bool,
-    /// Whether envelopes are tried as long as what they are for.
-    pub stretch: bool,
+    /// Which durations are tried.
+    pub lengths: Lengths,
 }
 
 /// What came of the rounds so far.
@@ -35,9 +37,19 @@ const FIRST_LENGTH: u32 = 200;
 
 // The first round after which one that has no node left ends a search for any plan, and how many
 // such rounds in a row end one for a better plan.
-const FIRST_TO_END: u32 = 3;
+const FIRST_TO_END: u32 = 4;
 
 const EMPTY_TO_END: u32 = 16;
+
+// Which durations a round of a search for any plan tries.
+fn lengths_of(number: u32) -> Lengths {
+    match number % 8 {
+        0 | 2 | 6 => Lengths::Ends,
+        3 => Lengths::InTurn,
+        4 => Lengths::AtOnce,
+        _ => Lengths::Stretched,
+    }
+}
 
 impl Rounds {
     /// Before the first round.
@@ -68,7 +80,11 @@ impl Rounds {
             } else {
                 self.number % 8 >= 4
             },
-            stretch: !better && self.number % 2 == 1,
+            lengths: if better {
+                Lengths::Ends
+            } else {
+                lengths_of(self.number)
+            },
         }
     }
 

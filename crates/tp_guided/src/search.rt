@@ -73,9 +73,10 @@ impl<'t> Search<'t> {
     pub fn new(alloc: Global, ready: &'t Ready, round: Round) -> Result<Self, AllocError> {
         let task = &ready.task;
         let limit = task.horizon.min(round.bound);
-        let space = Space::new(alloc, task, &ready.watched, limit)?;
+        let cut = round.lengths.outlasts();
+        let space = Space::new(alloc, task, &ready.watched, limit, cut)?;
         let value = Heuristic::new(alloc, task, &ready.relaxed, round.by_most)?;
-        let walk = Walk::new(alloc, task, round.stretch)?;
+        let walk = Walk::new(alloc, task, round.lengths)?;
         let open = Buckets::new(alloc, KEYS)?;
         let rest = Buckets::new(alloc, KEYS)?;
         Ok(Search {

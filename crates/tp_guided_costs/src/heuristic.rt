@@ -142,6 +142,12 @@ impl<'a> Heuristic<'a> {
         }
     }
 
+    /// What the end of an action needs, literals among it: its condition and its invariant.
+    pub fn end_needs(&self, action: u32) -> &[u32] {
+        let relaxed = self.costs.relaxed;
+        relaxed.pre.of(relaxed.end_of(action))
+    }
+
     /// Whether the relaxed task reaches an action's start, and its end if it lasts.
     pub fn is_reached(&self, action: u32) -> bool {
         let end = self.costs.relaxed.end_of(action);

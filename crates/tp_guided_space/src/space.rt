@@ -19,6 +19,7 @@ pub struct Space<'t> {
     task: &'t Task,
     watched: &'t Watched,
     limit: u32,
+    cut: bool,
     store: Store,
     marks: Marks,
     node: u32,
@@ -46,12 +47,14 @@ fn running_from(choice: Choice) -> Running {
 }
 
 impl<'t> Space<'t> {
-    /// The space of a task, whose root is loaded; no step ends past a limit.
+    /// The space of a task, whose root is loaded; no step ends past a limit, to which greatest
+    /// durations are cut or not.
     pub fn new(
         alloc: Global,
         task: &'t Task,
         watched: &'t Watched,
         limit: u32,
+        cut: bool,
     ) -> Result<Self, AllocError> {
         let width = task.changing_atoms.div_ceil(64) as usize;
         let store = Store::new(alloc, width, task.changing_fluents as usize)?;
@@ -61,6 +64,7 @@ impl<'t> Space<'t> {
             task,
             watched,
             limit,
+            cut,
             store,
             marks,
             node: NONE,
@@ -260,6 +264,7 @@ impl<'t> Space<'t> {
         let frame = Frame {
             tick,
             limit: self.limit,
+            cut: self.cut,
         };
         find_choices(self.task, &self.own, frame, self.watched, &mut self.found)?;
         if let Some(node) = self.store.node(self.node) {

@@ -4,11 +4,13 @@ use crate::store::Choice;
 use std::alloc::AllocError;
 use tp_search_compiled::{Action, GREATEST, NONE, Op, State, Task, UNDEFINED, Watched, units};
 
-/// The tick of a start, and the tick that no step ends past.
+/// The tick of a start, the tick that no step ends past, and whether greatest durations are cut to
+/// it.
 #[derive(Clone, Copy)]
 pub struct Frame {
     pub tick: u32,
     pub limit: u32,
+    pub cut: bool,
 }
 
 fn rounded_down(ticks: i64, scale: i64) -> i64 {
@@ -64,6 +66,17 @@ pub fn durations(task: &Task, state: &State, action: &Action) -> Option<(u32, u3
     }
     let least = small_ticks(low);
     Some((least, small_ticks(most).max(least)))
+}
+
+// The greatest of an action's durations from the least one on that ends by the limit, if one does.
+fn cut(task: &Task, frame: Frame, action: &Action, (least, most): (u32, u32)) -> u32 {
+    let room = frame.limit.saturating_sub(frame.tick);
+    let room = if action.duration {
+        small_ticks(rounded_down(i64::from(room), i64::from(task.scale)))
+    } else {
+        room
+    };
+    most.min(room).max(least)
 }
 
 /// The least lawful duration of an action in a state, 0 where there is none.
@@ -125,6 +138,11 @@ fn add_choices(
     };
     let Some((least, most)) = lengths(task, state, action) else {
         return Ok(());
+    };
+    let most = if frame.cut {
+        cut(task, frame, action, (least, most))
+    } else {
+        most
     };
     let choice = Choice {
         action: number,

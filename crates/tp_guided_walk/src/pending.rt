@@ -270,6 +270,12 @@ impl Pending {
         self.last(item).iter().any(|l| self.is_needed(*l))
     }
 
+    /// Whether the end of an item takes what another one needs.
+    pub fn takes_need(&self, item: &Item, other: &Item) -> bool {
+        let needs = self.needs(other);
+        self.last(item).iter().any(|l| needs.contains(l))
+    }
+
     /// Whether what an item needs holds in a state.
     pub fn has_needs(&self, state: &State, item: &Item) -> bool {
         self.needs(item).iter().all(|l| is_true(state, *l))

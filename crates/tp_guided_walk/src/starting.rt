@@ -13,20 +13,8 @@ fn is_possible(space: &Space<'_>, item: &Item) -> bool {
     item.times > 0 && item.open && space.joins(item.action)
 }
 
-fn is_pending_on(value: &Heuristic<'_>, item: &Item, place: u32, envelope: u32) -> bool {
+pub(crate) fn is_pending_on(value: &Heuristic<'_>, item: &Item, place: u32, envelope: u32) -> bool {
     item.times > 0 && value.stands_on(place, envelope)
-}
-
-// The ticks of a sum, in whole units.
-fn whole_units(ticks: u64, scale: u64) -> u64 {
-    match ticks
-        .saturating_add(scale)
-        .saturating_sub(1)
-        .checked_div(scale)
-    {
-        Some(units) => units.saturating_mul(scale),
-        None => ticks,
-    }
 }
 
 fn push_brought(task: &Task, event: Option<&Event>, into: &mut Vec<u32>) -> Result<(), AllocError> {
@@ -244,84 +232,6 @@ impl Walk {
             }
         }
         Ok(false)
-    }
-
-    // The starts of an item that are tried, in order: the least duration first, but the greatest
-    // for an envelope and where its length counts.
-    fn list_tries(
-        &mut self,
-        space: &mut Space<'_>,
-        value: &Heuristic<'_>,
-        item: &Item,
-        place: u32,
-    ) -> Result<(), AllocError> {
-        self.tries.clear();
-        let span = space.choices_of(item.action);
-        let least = span.at;
-        if span.count < 2 {
-            self.tries.push(least)?;
-            return Ok(());
-        }
-        let most = span.at.saturating_add(1);
-        if !self.is_long(space.task(), item) {
-            self.tries.push(least)?;
-            self.tries.push(most)?;
-            return Ok(());
-        }
-        if self.stretch {
-            self.push_stretched(space, value, place, least)?;
-        }
-        self.tries.push(most)?;
-        self.tries.push(least)?;
-        Ok(())
-    }
-
-    // Whether an item is an envelope of pending ones, or its length counts.
-    fn is_long(&self, task: &Task, item: &Item) -> bool {
-        let counts = match task.action(item.action) {
-            Some(action) => action.duration,
-            None => false,
-        };
-        (counts && item.times > 1) || self.pending.is_envelope(item)
-    }
-
-    // A start as long as all that stands on the envelope takes, one after the other, between the
-    // least and the greatest duration.
-    fn push_stretched(
-        &mut self,
-        space: &mut Space<'_>,
-        value: &Heuristic<'_>,
-        place: u32,
-        least: u32,
-    ) -> Result<(), AllocError> {
-        let (Some(low), Some(high)) = (space.choice(least), space.choice(least.saturating_add(1)))
-        else {
-            return Ok(());
-        };
-        let ticks = self.ticks_on(space, value, place);
-        let ticks = u32::try_from(ticks).unwrap_or(NONE);
-        if low.duration < ticks && ticks < high.duration {
-            let number = space.add_choice(Choice {
-                action: low.action,
-                duration: ticks,
-            })?;
-            self.tries.push(number)?;
-        }
-        Ok(())
-    }
-
-    // How long the pending starts that stand on an item take, one after the other.
-    fn ticks_on(&self, space: &Space<'_>, value: &Heuristic<'_>, envelope: u32) -> u64 {
-        let mut sum: u64 = 1;
-        let mut place: u32 = 0;
-        for item in self.pending.items() {
-            if is_pending_on(value, item, place, envelope) {
-                let ticks = u64::from(space.least_duration(item.action));
-                sum = sum.saturating_add(ticks).saturating_add(1);
-            }
-            place = place.saturating_add(1);
-        }
-        whole_units(sum, u64::from(space.task().scale))
     }
 
     /// Whether a start keeps the invariants of the running steps and its own, now and, as all of

@@ -1,6 +1,7 @@
 //! The walk.
 
 use crate::due::{Due, group_end, list_dues};
+use crate::lengths::Lengths;
 use crate::pending::{Pending, holds, is_true, lacks};
 use std::alloc::{AllocError, Global};
 use tp_guided_costs::Heuristic;
@@ -24,8 +25,7 @@ pub struct Walk {
     pub(crate) ends: Marks,
     pub(crate) brought: Vec<u32>,
     pub(crate) tries: Vec<u32>,
-    /// Whether envelopes are tried as long as what they are for.
-    pub(crate) stretch: bool,
+    pub(crate) lengths: Lengths,
     made: Vec<u32>,
     last: Option<u32>,
     moved: bool,
@@ -36,7 +36,7 @@ const MOST_WAITS: u32 = 65_536;
 
 impl Walk {
     /// The walks of a task.
-    pub fn new(alloc: Global, task: &Task, stretch: bool) -> Result<Self, AllocError> {
+    pub fn new(alloc: Global, task: &Task, lengths: Lengths) -> Result<Self, AllocError> {
         let pending = Pending::new(alloc, task)?;
         let ends = Marks::new(alloc, task)?;
         Ok(Walk {
@@ -45,7 +45,7 @@ impl Walk {
             ends,
             brought: Vec::new(alloc),
             tries: Vec::new(alloc),
-            stretch,
+            lengths,
             made: Vec::new(alloc),
             last: None,
             moved: false,
