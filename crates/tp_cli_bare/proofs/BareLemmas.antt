@@ -121,29 +121,29 @@ no_write (Serving TooLong) n = refl
 no_write (Serving Head) n = refl
 
 -- the same of reads
-pub no_more_reads : {A B : Type 0} (fault : BareFault) (n : ℕ) → bare_read_failures {T = A} n (Err fault) ≡ bare_read_failures {T = B} n (Err fault)
-no_more_reads Network n = refl
-no_more_reads (Serving Read) n = refl
-no_more_reads (Serving Write) n = refl
-no_more_reads (Serving Memory) n = refl
-no_more_reads (Serving TooLong) n = refl
-no_more_reads (Serving Head) n = refl
+pub no_more_reads : (A B : Type 0) (fault : BareFault) (n : ℕ) → bare_read_failures {T = A} n (Err fault) ≡ bare_read_failures {T = B} n (Err fault)
+no_more_reads A B Network n = refl
+no_more_reads A B (Serving Read) n = refl
+no_more_reads A B (Serving Write) n = refl
+no_more_reads A B (Serving Memory) n = refl
+no_more_reads A B (Serving TooLong) n = refl
+no_more_reads A B (Serving Head) n = refl
 
-pub lag_reads : {A B : Type 0} (fault : ServeFault) (n : ℕ) → read_failures {T = A} n (Err fault) ≡ bare_read_failures {T = B} n (Err (Serving fault))
-lag_reads Read n = refl
-lag_reads Write n = refl
-lag_reads Memory n = refl
-lag_reads TooLong n = refl
-lag_reads Head n = refl
+pub lag_reads : (A B : Type 0) (fault : ServeFault) (n : ℕ) → read_failures {T = A} n (Err fault) ≡ bare_read_failures {T = B} n (Err (Serving fault))
+lag_reads A B Read n = refl
+lag_reads A B Write n = refl
+lag_reads A B Memory n = refl
+lag_reads A B TooLong n = refl
+lag_reads A B Head n = refl
 
 -- commands behind the lags that were not all read
-pub serve_reads : {A B : Type 0} (fault : ServeFault) (n m k : ℕ) → k ≡ read_failures {T = A} m (Err fault) → m ≡ n → k ≡ bare_read_failures {T = B} n (Err (Serving fault))
-serve_reads {A} {B} fault n m k is same = is ∙ (ap (λ j. read_failures {T = A} j (Err fault)) same ∙ lag_reads {A = A} {B = B} fault n)
+pub serve_reads : (A B : Type 0) (fault : ServeFault) (n m k : ℕ) → k ≡ read_failures {T = A} m (Err fault) → m ≡ n → k ≡ bare_read_failures {T = B} n (Err (Serving fault))
+serve_reads A B fault n m k is same = is ∙ (ap (λ j. read_failures {T = A} j (Err fault)) same ∙ lag_reads A B fault n)
 
 -- a head that was not read
 pub head_reads : (r : Result Served BareFault) (fault : ServeFault) (n : ℕ) → IsErrAnd r (λ e. e ≡ Serving fault) → read_failures {T = ℕ × ℕ} n (Err fault) ≡ bare_read_failures n r
 head_reads (Ok x) fault n is = absurd is
-head_reads (Err f) fault n is = lag_reads {A = ℕ × ℕ} {B = Served} fault n ∙ ap (λ e. bare_read_failures {T = Served} n (Err e)) (sym is)
+head_reads (Err f) fault n is = lag_reads (ℕ × ℕ) Served fault n ∙ ap (λ e. bare_read_failures {T = Served} n (Err e)) (sym is)
 
 pub same_reads : (r : Result Served ServeFault) (q : Result Served BareFault) (n : ℕ) → q ≡ bare_result r → read_failures n r ≡ bare_read_failures n q
 same_reads (Ok x) q n is = ap (bare_read_failures n) (sym is)

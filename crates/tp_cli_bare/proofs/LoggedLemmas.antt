@@ -127,25 +127,25 @@ stops_by (Err f) fault source held log is h = subst (λ e. StopsLogged source he
 -- a head that was not read
 pub head_reads : (r : Result Served JournalStop) (fault : ServeFault) (n : ℕ) → IsErrAnd r (λ e. e ≡ Beginning (Serving fault)) → read_failures {T = ℕ × ℕ} n (Err fault) ≡ input_failures n r
 head_reads (Ok x) fault n is = absurd is
-head_reads (Err f) fault n is = lag_reads {A = ℕ × ℕ} {B = Unit {0}} fault n ∙ ap (λ e. input_failures {T = Served} n (Err e)) (sym is)
+head_reads (Err f) fault n is = lag_reads (ℕ × ℕ) (Unit {0}) fault n ∙ ap (λ e. input_failures {T = Served} n (Err e)) (sym is)
 
-pub any_input : {A B : Type 0} (stop : JournalStop) (n : ℕ) → input_failures {T = A} n (Err stop) ≡ input_failures {T = B} n (Err stop)
-any_input Making n = refl
-any_input (Beginning fault) n = refl
-any_input (Journaling Read) n = refl
-any_input (Journaling Write) n = refl
-any_input (Journaling Log) n = refl
-any_input (Journaling TooLong) n = refl
+pub any_input : (A B : Type 0) (stop : JournalStop) (n : ℕ) → input_failures {T = A} n (Err stop) ≡ input_failures {T = B} n (Err stop)
+any_input A B Making n = refl
+any_input A B (Beginning fault) n = refl
+any_input A B (Journaling Read) n = refl
+any_input A B (Journaling Write) n = refl
+any_input A B (Journaling Log) n = refl
+any_input A B (Journaling TooLong) n = refl
 
-journal_fault_reads : {A B : Type 0} (fault : JournalFault) (n : ℕ) → journal_reads {T = A} n (Err fault) ≡ input_failures {T = B} n (Err (Journaling fault))
-journal_fault_reads Read n = refl
-journal_fault_reads Write n = refl
-journal_fault_reads Log n = refl
-journal_fault_reads TooLong n = refl
+journal_fault_reads : (A B : Type 0) (fault : JournalFault) (n : ℕ) → journal_reads {T = A} n (Err fault) ≡ input_failures {T = B} n (Err (Journaling fault))
+journal_fault_reads A B Read n = refl
+journal_fault_reads A B Write n = refl
+journal_fault_reads A B Log n = refl
+journal_fault_reads A B TooLong n = refl
 
 -- commands behind the lags that were not all read
-pub logged_reads : {A B : Type 0} (fault : JournalFault) (n m k : ℕ) → k ≡ journal_reads {T = A} m (Err fault) → m ≡ n → k ≡ input_failures {T = B} n (Err (Journaling fault))
-logged_reads {A} {B} fault n m k is same = is ∙ (ap (λ j. journal_reads {T = A} j (Err fault)) same ∙ journal_fault_reads {A = A} {B = B} fault n)
+pub logged_reads : (A B : Type 0) (fault : JournalFault) (n m k : ℕ) → k ≡ journal_reads {T = A} m (Err fault) → m ≡ n → k ≡ input_failures {T = B} n (Err (Journaling fault))
+logged_reads A B fault n m k is same = is ∙ (ap (λ j. journal_reads {T = A} j (Err fault)) same ∙ journal_fault_reads A B fault n)
 
 -- ---- the file of a name
 

@@ -78,18 +78,18 @@ pub counted_ran : (went : Result Machine ResumeStop) (r : Result Bool ResumeStop
 counted_ran (Ok last) r n m is count = subst (λ q. m ≡ resume_failures n q) (sym is) count
 counted_ran (Err stop) r n m is count = subst (λ q. m ≡ resume_failures n q) (sym is) (count ∙ machine_type n stop)
 
-pub any_reads : {A B : Type 0} (n : ℕ) (stop : ResumeStop) → resume_reads {T = A} n (Err stop) ≡ resume_reads {T = B} n (Err stop)
-any_reads n (Auditing stop) = refl
-any_reads n Lines = refl
-any_reads n Making = refl
-any_reads n (Journaling journal.Read) = refl
-any_reads n (Journaling journal.Write) = refl
-any_reads n (Journaling journal.Log) = refl
-any_reads n (Journaling journal.TooLong) = refl
+pub any_reads : (A B : Type 0) (n : ℕ) (stop : ResumeStop) → resume_reads {T = A} n (Err stop) ≡ resume_reads {T = B} n (Err stop)
+any_reads A B n (Auditing stop) = refl
+any_reads A B n Lines = refl
+any_reads A B n Making = refl
+any_reads A B n (Journaling journal.Read) = refl
+any_reads A B n (Journaling journal.Write) = refl
+any_reads A B n (Journaling journal.Log) = refl
+any_reads A B n (Journaling journal.TooLong) = refl
 
 pub heard_ran : (went : Result Machine ResumeStop) (r : Result Bool ResumeStop) (n m : ℕ) → r ≡ ran_result went → m ≡ resume_reads n went → m ≡ resume_reads n r
 heard_ran (Ok last) r n m is count = subst (λ q. m ≡ resume_reads n q) (sym is) count
-heard_ran (Err stop) r n m is count = subst (λ q. m ≡ resume_reads n q) (sym is) (count ∙ any_reads {A = Machine} {B = Bool} n stop)
+heard_ran (Err stop) r n m is count = subst (λ q. m ≡ resume_reads n q) (sym is) (count ∙ any_reads Machine Bool n stop)
 
 pub quiet_old : (old : Option (List ℕ)) (stop : AuditStop) (n : ℕ) → HindersOld old stop → n ≡ resume_failures {T = Bool} n (Err (Auditing stop))
 quiet_old old audit.Open n h = refl
@@ -222,7 +222,7 @@ ends old name status input reads reads-now held now file output output-now failu
       stop = stop;
       is = sym is;
       cause = cause;
-      read = read ∙ any_reads {A = Bool} {B = Unit {0}} reads stop;
+      read = read ∙ any_reads Bool (Unit {0}) reads stop;
       write = write ∙ any_type output stop;
       told = subst (λ (t : List ℕ). Tells t failures said failures-now said-now) line told;
     }
@@ -231,7 +231,7 @@ pub ends_told : (status output output-now : ℕ) (stop : ResumeStop) → status 
 ends_told status output output-now stop is write other = write ∙ (any_type output stop ∙ no_write output stop (λ broken. other (is ∙ broken)))
 
 pub ends_heard : (status reads reads-now : ℕ) (stop : ResumeStop) → status ≡ resume_status stop → reads-now ≡ resume_reads {T = Bool} reads (Err stop) → (status ≡ 3 → ⊥) → reads-now ≡ reads
-ends_heard status reads reads-now stop is read other = read ∙ (any_reads {A = Bool} {B = Unit {0}} reads stop ∙ no_read reads stop (λ broken. other (is ∙ broken)))
+ends_heard status reads reads-now stop is read other = read ∙ (any_reads Bool (Unit {0}) reads stop ∙ no_read reads stop (λ broken. other (is ∙ broken)))
 
 pub ends_within : (status : ℕ) (stop : ResumeStop) → status ≡ resume_status stop → IsStatus status
 ends_within status stop is = subst IsStatus (sym is) (stop_is stop)

@@ -119,7 +119,7 @@ stopped_early mid kept input before now file resume.Making h = (early_is before 
 stopped_early mid kept input before now file (resume.Journaling fault) h = (early_in mid kept input before now file.blank file.kept fault h.1, h.0)
 
 pub heard_going : (stop : ResumeStop) (n m : ℕ) → m ≡ resume_reads {T = Machine} n (Err stop) → m ≡ run_resume_reads {T = Bool} n (Err (Resuming stop))
-heard_going stop n m count = count ∙ bares.any_reads {A = Machine} {B = Unit {0}} n stop
+heard_going stop n m count = count ∙ bares.any_reads Machine (Unit {0}) n stop
 
 -- the telling of the plan of a run reads nothing
 pub told_reads : (told : Result Bool RunStop) (r : Result Bool RunResumeStop) (n : ℕ) → r ≡ told_on told → run_resume_reads n r ≡ n

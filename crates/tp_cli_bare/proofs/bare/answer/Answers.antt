@@ -24,4 +24,4 @@ returns-in-Ok-clause-read g c =
     c.serve.ensures.read ∙ (ap (λ n. read_failures n c.serve.result) c.in-Ok.ensures.read ∙ same_reads c.serve.result c.of_network.result _ c.of_network.ensures)
 
 pub returns-in-Err-clause-read : goal.returns-in-Err-clause-read
-returns-in-Err-clause-read g c = c.in-Err.ensures.read ∙ no_more_reads {A = Machine} {B = Served} c.in-Err.fault _
+returns-in-Err-clause-read g c = c.in-Err.ensures.read ∙ no_more_reads Machine Served c.in-Err.fault _

@@ -16,9 +16,9 @@ returns-clause-cause g c =
 
 pub returns-in_err-events-clause-cause : goal.returns-in_err-events-clause-cause
 returns-in_err-events-clause-cause g c =
-    stops_by c.from_residual-in_err-events.result c.in_err-events.field-0.0 _ _ _ c.from_residual-in_err-events.ensures.1
+    stops_by c.from_residual.result c.in_err-events.field-0.0 _ _ _ c.from_residual.ensures.1
     (head_stops c.in_err-events.field-0.0 _ _ c.args.lines.now c.read_head.new.lines refl c.requires.none c.requires.most c.in_err-events.ensures.head c.in_err-events.ensures.limits)
 
 pub returns-in_err-events-clause-read : goal.returns-in_err-events-clause-read
 returns-in_err-events-clause-read g c =
-    c.in_err-events.ensures.read ∙ head_reads c.from_residual-in_err-events.result c.in_err-events.field-0.0 _ c.from_residual-in_err-events.ensures.1
+    c.in_err-events.ensures.read ∙ head_reads c.from_residual.result c.in_err-events.field-0.0 _ c.from_residual.ensures.1

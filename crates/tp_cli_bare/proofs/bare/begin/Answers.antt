@@ -32,4 +32,4 @@ returns-in-Ok-read_lags-clause-fresh g c =
     (c.in-Ok-read_lags.ensures.new (subst IsFresh (sym c.in-Ok.ensures.setting) (fresh_new _ _)))
 
 pub returns-in-Err-read_lags-clause-read : goal.returns-in-Err-read_lags-clause-read
-returns-in-Err-read_lags-clause-read g c = c.in-Err-read_lags.ensures.read ∙ lag_reads {A = Unit {0}} {B = Machine} c.in-Err-read_lags.fault _
+returns-in-Err-read_lags-clause-read g c = c.in-Err-read_lags.ensures.read ∙ lag_reads (Unit {0}) Machine c.in-Err-read_lags.fault _

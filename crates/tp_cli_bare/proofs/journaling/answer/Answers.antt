@@ -12,4 +12,4 @@ returns-in-Ok-clause-logs g c =
     logs_from c.journal.result c.of_journal.result (c.args.events, c.args.horizon) c.in-Ok.executive c.journal.new.executive c.args.lines.now c.begin.new.lines c.journal.new.lines _ _ _ _ c.of_journal.ensures c.in-Ok.ensures.begins c.journal.ensures.journals
 
 pub returns-in-Err-clause-read : goal.returns-in-Err-clause-read
-returns-in-Err-clause-read g c = c.in-Err.ensures.read ∙ no_more_reads {A = Machine} {B = Unit {0}} c.in-Err.fault _
+returns-in-Err-clause-read g c = c.in-Err.ensures.read ∙ no_more_reads Machine (Unit {0}) c.in-Err.fault _

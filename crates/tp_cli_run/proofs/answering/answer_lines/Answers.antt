@@ -25,4 +25,4 @@ pub returns-in-Err-clause-answers : goal.returns-in-Err-clause-answers
 returns-in-Err-clause-answers g c = answers_none c.in-Err.fault c.args.network.now c.args.lines.now c.start.new.lines _ c.in-Err.ensures.begins
 
 pub returns-in-Err-serve-clause-read : goal.returns-in-Err-serve-clause-read
-returns-in-Err-serve-clause-read g c = serve_reads {A = Served} {B = Machine} c.in-Err-serve.fault _ _ _ c.in-Err-serve.ensures.read c.in-Ok.ensures.read
+returns-in-Err-serve-clause-read g c = serve_reads Served Machine c.in-Err-serve.fault _ _ _ c.in-Err-serve.ensures.read c.in-Ok.ensures.read

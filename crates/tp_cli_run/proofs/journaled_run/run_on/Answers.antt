@@ -25,4 +25,4 @@ pub returns-in-Ok-clause-read : goal.returns-in-Ok-clause-read
 returns-in-Ok-clause-read g c = c.in-Ok.ensures.read ∙ sym (told_reads c.tell_run.result c.of_telling.result _ c.of_telling.ensures)
 
 pub returns-in-Err-clause-read : goal.returns-in-Err-clause-read
-returns-in-Err-clause-read g c = c.in-Err.ensures.read ∙ any_input {A = Machine} {B = Unit {0}} c.in-Err.stop _
+returns-in-Err-clause-read g c = c.in-Err.ensures.read ∙ any_input Machine (Unit {0}) c.in-Err.stop _

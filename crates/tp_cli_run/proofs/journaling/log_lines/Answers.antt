@@ -28,7 +28,7 @@ returns-in-Err-journal-clause-logs g c =
     logs_some c.args.network.now c.in-Ok.executive c.journal.new.executive c.args.lines.now c.start.new.lines c.journal.new.lines _ _ _ _ c.in-Err-journal.fault c.in-Ok.ensures.begins c.requires.bounds c.in-Err-journal.ensures.head c.in-Err-journal.ensures.journals
 
 pub returns-in-Err-journal-clause-read : goal.returns-in-Err-journal-clause-read
-returns-in-Err-journal-clause-read g c = logged_reads {A = Served} {B = Machine} c.in-Err-journal.fault _ _ _ c.in-Err-journal.ensures.read c.in-Ok.ensures.read
+returns-in-Err-journal-clause-read g c = logged_reads Served Machine c.in-Err-journal.fault _ _ _ c.in-Err-journal.ensures.read c.in-Ok.ensures.read
 
 pub returns-in-Err-clause-read : goal.returns-in-Err-clause-read
-returns-in-Err-clause-read g c = c.in-Err.ensures.read ∙ no_more_reads {A = Machine} {B = Unit {0}} c.in-Err.fault _
+returns-in-Err-clause-read g c = c.in-Err.ensures.read ∙ no_more_reads Machine (Unit {0}) c.in-Err.fault _

@@ -21,4 +21,4 @@ returns-in-Ok-clause-read g c =
     c.in-Ok.ensures.read ∙ sym (told_reads c.args.plan.now.task c.args.plan.now.steps c.in-Ok.executive _ _ c.tell_run.result _ c.tell_run.ensures.cause)
 
 pub returns-in-Err-clause-read : goal.returns-in-Err-clause-read
-returns-in-Err-clause-read g c = c.in-Err.ensures.read ∙ no_more_reads {A = Machine} {B = Unit {0}} c.in-Err.fault _
+returns-in-Err-clause-read g c = c.in-Err.ensures.read ∙ no_more_reads Machine (Unit {0}) c.in-Err.fault _
