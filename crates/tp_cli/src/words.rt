@@ -78,8 +78,8 @@ pub fn run_words<N: Files, L: Logs, B: Write, I: Source, O: Sink, F: Sink>(
         L.blank (L.named files.new.logs) (L.kept files.new.logs))
         (I.left input.old) (O.held output.old) (O.held output.new) }
 
-    // Where no answers to commands are asked for, the input is left as it is, and nothing is written
-    // for what is refused.
+    // Where no answers to commands are asked for, the input is left as it is, and nothing is
+    // written for what is refused.
     ensures unread { AsksForNoCommands (map string_bytes words.now) → input.new ≡ input.old }
     ensures kept { AsksForNoCommands (map string_bytes words.now) → result ≡ REFUSED
         → O.held output.new ≡ O.held output.old }

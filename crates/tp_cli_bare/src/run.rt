@@ -56,9 +56,11 @@ pub fn run_bare_journal<N: Logs, I: Source, O: Sink, F: Sink>(
     faults: &mut F,
 ) -> u8
     ensures all { result ≡ 0 →
-        LogsAll (I.left input.old) (O.held output.old) (O.held output.new) N.blank (N.kept files.new) }
+        LogsAll (I.left input.old) (O.held output.old) (O.held output.new) N.blank
+        (N.kept files.new) }
     ensures part { result ≢ 0 →
-        LogsPart (I.left input.old) (O.held output.old) (O.held output.new) N.blank (N.kept files.new) }
+        LogsPart (I.left input.old) (O.held output.old) (O.held output.new) N.blank
+        (N.kept files.new) }
     ensures refused { result ≡ REFUSED → IsRefused (I.left input.old) }
 
     // Just one file is asked for. Where it is made, its name is the one that was asked for: so
@@ -66,8 +68,8 @@ pub fn run_bare_journal<N: Logs, I: Source, O: Sink, F: Sink>(
     ensures asked { N.asked files.new ≡ option_map suc (N.asked files.old) }
     ensures named { result ≡ 0 → IfSome (N.named files.new) (λ n. n ≡ name.now) }
 
-    // No status says no, a read of the input or a write that failed is always told, and a fault line
-    // goes with each fault and with nothing else.
+    // No status says no, a read of the input or a write that failed is always told, and a fault
+    // line goes with each fault and with nothing else.
     ensures no { result ≢ 1 }
     ensures within { result ≤ 3 }
     ensures heard { result ≢ OUT_OF_ORDER → I.failures input.new ≡ I.failures input.old }

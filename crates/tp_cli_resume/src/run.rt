@@ -273,7 +273,8 @@ fn run_named<N: Files, L: Logs, I: Source, O: Sink>(
     output: &mut O,
 ) -> Result<bool, RunResumeStop>
     requires { words.horizon ≤ 1000000000 }
-    ensures said { IfOk result (GoesOfPlan (N.held files.old) words.entry kept.items (I.left input.old)
+    ensures said { IfOk result
+        (GoesOfPlan (N.held files.old) words.entry kept.items (I.left input.old)
         (O.held output.old) (O.held output.new)
         (log_file name.now (L.asked logs.old) (L.asked logs.new)
         (L.named logs.new) L.blank (L.kept logs.new))) }
@@ -306,7 +307,8 @@ fn run_kept<N: Files, L: Logs, I: Source, O: Sink>(
     output: &mut O,
 ) -> Result<bool, RunResumeStop>
     requires { words.horizon ≤ 1000000000 }
-    ensures said { IfOk result (GoesOfPlan (N.held files.old) words.entry kept.items (I.left input.old)
+    ensures said { IfOk result
+        (GoesOfPlan (N.held files.old) words.entry kept.items (I.left input.old)
         (O.held output.old) (O.held output.new)
         (log_file name.now (L.asked logs.old) (L.asked logs.new)
         (L.named logs.new) L.blank (L.kept logs.new))) }
@@ -376,7 +378,8 @@ pub fn run_run_resume<N: Files, L: Logs, I: Source, O: Sink, F: Sink>(
     faults: &mut F,
 ) -> u8
     requires { words.horizon ≤ 1000000000 }
-    ensures resumed { result ≡ 0 → ResumesRun (N.held files.old) words.entry old.now (I.left input.old)
+    ensures resumed { result ≡ 0 → ResumesRun (N.held files.old) words.entry old.now
+        (I.left input.old)
         (O.held output.old) (O.held output.new)
         (log_file name.now (L.asked logs.old) (L.asked logs.new)
         (L.named logs.new) L.blank (L.kept logs.new)) true }

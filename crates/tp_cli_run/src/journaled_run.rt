@@ -262,7 +262,8 @@ pub fn run_run_journal<N: Files, L: Logs, I: Source, O: Sink, F: Sink>(
         (L.named logs.new) L.blank (L.kept logs.new)) }
 
     // What stopped it is told, and is as it is told.
-    ensures stopped { 2 ≤ result → EndsRunLog (N.held files.old) words.entry result (I.left input.old)
+    ensures stopped { 2 ≤ result → EndsRunLog (N.held files.old) words.entry result
+        (I.left input.old)
         (I.failures input.old) (I.failures input.new) (O.held output.old) (O.held output.new)
         (log_file name.now (L.asked logs.old) (L.asked logs.new)
         (L.named logs.new) L.blank (L.kept logs.new))
@@ -274,7 +275,8 @@ pub fn run_run_journal<N: Files, L: Logs, I: Source, O: Sink, F: Sink>(
     // a read of the input or a write that failed is always told.
     ensures kept { result ≡ REFUSED → (O.held output.new ≡ O.held output.old)
         ⊎ IsLong (I.left input.old) }
-    ensures part { result ≡ OUT_OF_ORDER → RunsPart (N.held files.old) words.entry (I.left input.old)
+    ensures part { result ≡ OUT_OF_ORDER → RunsPart (N.held files.old) words.entry
+        (I.left input.old)
         (O.held output.old) (O.held output.new) }
     ensures heard { result ≢ OUT_OF_ORDER → I.failures input.new ≡ I.failures input.old }
     ensures told { result ≢ OUT_OF_ORDER → O.failures output.new ≡ O.failures output.old }

@@ -80,9 +80,11 @@ fn run_verdict<I: Source, O: Sink>(
 ) -> Result<bool, RunStop>
     requires { horizon ≤ 1000000000 }
     ensures said { IfOk result
-        (RunsVerdict verdict.now horizon (I.left input.old) (O.held output.old) (O.held output.new)) }
+        (RunsVerdict verdict.now horizon (I.left input.old) (O.held output.old)
+        (O.held output.new)) }
     ensures cause { IfErr result
-        (StopsVerdict verdict.now horizon (I.left input.old) (O.held output.old) (O.held output.new)) }
+        (StopsVerdict verdict.now horizon (I.left input.old) (O.held output.old)
+        (O.held output.new)) }
     ensures failures { O.failures output.new ≡ run_failures (O.failures output.old) result }
     ensures read { I.failures input.new ≡ run_reads (I.failures input.old) result }
 {
@@ -168,14 +170,16 @@ pub fn run_run<N: Files, I: Source, O: Sink, F: Sink>(
     // What stopped it is told, and is as it is told.
     ensures stopped { 2 ≤ result → EndsRun (N.held files.old) words.entry result (I.left input.old)
         (I.failures input.old) (I.failures input.new) (O.held output.old) (O.held output.new)
-        (O.failures output.old) (O.failures output.new) (F.failures faults.old) (F.held faults.old) (F.failures faults.new) (F.held faults.new) }
+        (O.failures output.old) (O.failures output.new) (F.failures faults.old) (F.held faults.old)
+        (F.failures faults.new) (F.held faults.new) }
 
     // For input that is refused nothing is written, unless it is refused for its length alone;
     // where memory or a device is wanting, a first part of what is to be written is; a read of the
     // input or a write that failed is always told.
     ensures kept { result ≡ REFUSED → (O.held output.new ≡ O.held output.old)
         ⊎ IsLong (I.left input.old) }
-    ensures part { result ≡ OUT_OF_ORDER → RunsPart (N.held files.old) words.entry (I.left input.old)
+    ensures part { result ≡ OUT_OF_ORDER → RunsPart (N.held files.old) words.entry
+        (I.left input.old)
         (O.held output.old) (O.held output.new) }
     ensures heard { result ≢ OUT_OF_ORDER → I.failures input.new ≡ I.failures input.old }
     ensures told { result ≢ OUT_OF_ORDER → O.failures output.new ≡ O.failures output.old }
