@@ -67,7 +67,10 @@ pub(crate) fn take_piece<R: Source>(lines: &mut Lines<'_, R>) -> Result<Piece, A
 }
 
 /// Takes the line of that number.
-pub(crate) fn take_line<R: Source>(lines: &mut Lines<'_, R>, number: u64) -> Result<Found, AuditFault>
+pub(crate) fn take_line<R: Source>(
+    lines: &mut Lines<'_, R>,
+    number: u64,
+) -> Result<Found, AuditFault>
     requires { lines.old.longest ≡ 16_384 }
     ensures takes { TakesNext lines.old lines.new number result }
     ensures limits { SameLimits lines.old lines.new }

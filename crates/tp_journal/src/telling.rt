@@ -137,7 +137,11 @@ fn match_any(line: &[u8], place: Place, number: u64) -> Result<Step, AuditFault>
 }
 
 /// Takes a line behind the lines of a head.
-fn take_any<R: Source>(lines: &mut Lines<'_, R>, place: Place, number: u64) -> Result<Step, AuditFault>
+fn take_any<R: Source>(
+    lines: &mut Lines<'_, R>,
+    place: Place,
+    number: u64,
+) -> Result<Step, AuditFault>
     requires longest { lines.old.longest ≡ 16_384 }
     requires names { is_some (head_version place) ≡ true }
     ensures turns { TurnsAny place number lines.old lines.new result }
