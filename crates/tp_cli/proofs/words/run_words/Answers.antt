@@ -7,8 +7,8 @@ use Rattle.tp_cli.specs.Endings.{StopsHelp}
 use Rattle.tp_cli.proofs.StreamLemmas.{logs_part}
 use Rattle.tp_cli.proofs.words.run_words.Goals as goal
 
-pub returns-clause-stopped : goal.returns-clause-stopped
-returns-clause-stopped g c =
+pub returns-in-Err-Memory-clause-stopped : goal.returns-in-Err-Memory-clause-stopped
+returns-in-Err-Memory-clause-stopped g c =
     λ two.
     inr (inl (record {
       three = c.complain.ensures.status ∙ c.out_of_order.ensures.status;
@@ -17,8 +17,8 @@ returns-clause-stopped g c =
       told = subst (λ (t : List ℕ). Tells t (g.F.Sink.failures c.args.faults.now) (g.F.Sink.held c.args.faults.now) (g.F.Sink.failures c.complain.new.faults) (g.F.Sink.held c.complain.new.faults)) c.out_of_order.ensures.text c.complain.ensures.told;
     }))
 
-pub returns-clause-bare : goal.returns-clause-bare
-returns-clause-bare g c =
+pub returns-in-Err-Memory-clause-bare : goal.returns-in-Err-Memory-clause-bare
+returns-in-Err-Memory-clause-bare g c =
     λ asks no.
     inr (record {
       three = c.complain.ensures.status ∙ c.out_of_order.ensures.status;
@@ -27,8 +27,8 @@ returns-clause-bare g c =
       told = subst (λ (t : List ℕ). Tells t (g.F.Sink.failures c.args.faults.now) (g.F.Sink.held c.args.faults.now) (g.F.Sink.failures c.complain.new.faults) (g.F.Sink.held c.complain.new.faults)) c.out_of_order.ensures.text c.complain.ensures.told;
     })
 
-pub returns-clause-broken : goal.returns-clause-broken
-returns-clause-broken g c = λ three. inl (Appends-nil (g.O.Sink.held c.args.output.now))
+pub returns-in-Err-Memory-clause-broken : goal.returns-in-Err-Memory-clause-broken
+returns-in-Err-Memory-clause-broken g c = λ three. inl (Appends-nil (g.O.Sink.held c.args.output.now))
 
 pub returns-in-Ok-Bare-clause-stopped : goal.returns-in-Ok-Bare-clause-stopped
 returns-in-Ok-Bare-clause-stopped g c =
