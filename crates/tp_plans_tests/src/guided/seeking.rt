@@ -92,10 +92,10 @@ fn a_match_is_lit_and_a_fuse_mended(rt: HostRuntime) -> Result<(), Fail> {
     comes_to(&rt, rt.alloc(), FUSES, 8, plan(2, 2))
 }
 
-// A match burns for 8 ticks. Four rounds look at the root, which is dead.
+// A match burns for 8 ticks. Five rounds look at the root, which is dead.
 #[test]
 fn no_step_ends_past_the_horizon(rt: HostRuntime) -> Result<(), Fail> {
-    comes_to(&rt, rt.alloc(), FUSES, 7, none(4, true))
+    comes_to(&rt, rt.alloc(), FUSES, 7, none(5, true))
 }
 
 #[test]
