@@ -20,7 +20,7 @@ import time
 import unittest
 
 TOP = pathlib.Path(__file__).resolve().parent.parent
-WORLDS = "crates/tp_testkit_domains/src/lib.rt"
+WORLDS = "crates/tp_testkit/src/domains.rt"
 # the journal that calls keep
 LOG = "night.log"
 # how long a call may take

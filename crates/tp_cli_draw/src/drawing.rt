@@ -18,7 +18,7 @@ use tp_cli_files::Files;
 use tp_cli_inputs::DrawWords;
 use tp_deorder::deorder;
 use tp_device::Source;
-use tp_draw_svg::picture_text;
+use tp_draw::picture_text;
 use tp_exec_machine::Executive;
 use tp_happen::Step;
 use tp_journal::JournalHead;

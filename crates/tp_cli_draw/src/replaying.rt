@@ -2,7 +2,7 @@
 
 use std::alloc::{AllocError, Global};
 use tp_device::Source;
-use tp_draw_layout::Refusals;
+use tp_draw::Refusals;
 use tp_exec_machine::{Answer, Command, Executive, Refusal, perform};
 use tp_journal_pairs::begins_with;
 use tp_net::Net;

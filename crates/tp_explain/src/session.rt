@@ -1,11 +1,11 @@
 //! What was heard of a call, and the lines that explain it.
 
+use crate::explain::{explain_ending, explain_fault};
 use crate::heard::Listener;
+use crate::narrator::Narrator;
 use std::alloc::Global;
 use std::io::Write;
 use tp_cli_files::Files;
-use tp_explain_answers::Narrator;
-use tp_explain_endings::{explain_ending, explain_fault};
 use tp_explain_text::Page;
 
 /// How many bytes of the standard input are kept, and of each other stream.

@@ -3,8 +3,7 @@
 use std::alloc::{AllocError, Global};
 use tp_cli_files::{Files, open_text};
 use tp_device::Source as Reader;
-use tp_explain_grammar::{Text, Tree, read_tree};
-use tp_explain_text::Source;
+use tp_explain_text::{Source, Text, Tree, read_tree};
 
 /// The most bytes of a text.
 const LONGEST: usize = 1_048_577;

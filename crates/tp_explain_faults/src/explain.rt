@@ -1,17 +1,18 @@
 //! What stands behind a fault line.
 
+use crate::arguments::put_arguments;
 use crate::calls::{Call, call_of};
 use crate::contents::bytes_of;
 use crate::fault_lines::{Line, line_of, number_of};
+use crate::files::{put_file_fault, put_log_fault};
+use crate::journals::{keep_lines, put_journal_line};
+use crate::scripts::{put_head, put_too_much_input};
 use crate::texts::put_text_fault;
+use crate::wholes::put_whole;
 use crate::worlds::put_with_world;
 use std::alloc::{AllocError, Global};
 use tp_cli_files::Files;
-use tp_explain_bytes::{put_no_utf8, put_text_too_long};
-use tp_explain_calls::{
-    keep_lines, put_arguments, put_file_fault, put_head, put_journal_line, put_log_fault,
-    put_too_much_input, put_whole,
-};
+use tp_explain_syntax::{put_no_utf8, put_text_too_long};
 use tp_explain_text::{Page, Source};
 
 /// The name of a file that gave no text, and what is wrong with it.

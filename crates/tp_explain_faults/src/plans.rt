@@ -1,16 +1,19 @@
 //! Faults of tasks, plans, lags and the agents of events.
 
+use crate::actions::put_no_action;
 use crate::calls::Call;
 use crate::contents::bytes_of;
+use crate::events::events_of;
 use crate::fault_lines::{Line, number_of};
+use crate::lines::{put_line, put_too_many_steps};
+use crate::owners::put_owner;
+use crate::scripts::put_lags;
+use crate::steps::{StepLine, line_of, read_step};
+use crate::tasks::{put_range, put_too_many};
+use crate::times::{put_horizon, put_no_duration, put_not_ticks};
 use std::alloc::{AllocError, Global};
 use tp_cli_files::Files;
-use tp_explain_calls::{put_lags, put_owner};
-use tp_explain_names::World;
-use tp_explain_plans::{
-    StepLine, events_of, line_of, put_horizon, put_line, put_no_action, put_no_duration,
-    put_not_ticks, put_range, put_too_many, put_too_many_steps, read_step,
-};
+use tp_explain_syntax::World;
 use tp_explain_text::{Page, Source};
 
 /// Puts what is wrong with a step.

@@ -5,13 +5,11 @@ use crate::contents::{bytes_of, text_in};
 use crate::fault_lines::{Line, cut_fault, cut_word, place_of};
 use std::alloc::{AllocError, Global};
 use tp_cli_files::Files;
-use tp_explain_bytes::{
-    put_bad_byte, put_depth, put_empty, put_extra, put_text_too_long, put_unclosed,
+use tp_explain_syntax::{
+    World, put_bad_byte, put_depth, put_empty, put_extra, put_left_out, put_shape,
+    put_text_too_long, put_twice, put_types, put_unclosed, put_unknown,
 };
-use tp_explain_grammar::{Text, items_of, word_of};
-use tp_explain_names::{World, put_twice, put_types, put_unknown};
-use tp_explain_shapes::{put_left_out, put_shape};
-use tp_explain_text::{Page, Source};
+use tp_explain_text::{Page, Source, Text, items_of, word_of};
 
 /// The name of a domain.
 fn domain_name<'t>(world: &World<'t>) -> Option<&'t str> {

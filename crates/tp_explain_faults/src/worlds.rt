@@ -7,7 +7,7 @@ use crate::plans::put_planned;
 use crate::texts::put_tree_fault;
 use std::alloc::{AllocError, Global};
 use tp_cli_files::Files;
-use tp_explain_names::World;
+use tp_explain_syntax::World;
 use tp_explain_text::Page;
 
 /// Puts what a fault line says of a domain or a problem, or of what stands on both.

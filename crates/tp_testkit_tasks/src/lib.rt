@@ -9,7 +9,7 @@ use tp_bounds::Limits;
 use tp_ground::{ground, ground_reached};
 use tp_syntax::{Domain, Problem, read_domain, read_problem};
 use tp_task::{GroundFault, Task};
-use tp_testkit_domains::{
+use tp_testkit::{
     CHARGE, EMPTY_TANK, LINE, MATCH, MATCHES, TANK, TOGGLE, TOGGLED, UNCHARGED, UNSET,
 };
 use tp_text::Scale;

@@ -11,7 +11,7 @@ use tp_exec_machine::Executive;
 use tp_journal::{AuditFault, Audited, JournalHead, audit, journal_head};
 use tp_net::ScratchNet;
 use tp_script::{LineBuffers, Lines, ServeFault};
-use tp_testkit_failing::{Stop, StopSource};
+use tp_testkit::{Stop, StopSource};
 
 /// A network with own bounds and lags in its head.
 const HEADED: &[u8] =

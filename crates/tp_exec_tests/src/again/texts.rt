@@ -3,7 +3,7 @@
 use std::alloc::Global;
 use std::test::Fail;
 use tp_syntax::{Domain, read_domain, read_problem};
-use tp_testkit_domains::{MATCH, TOGGLE};
+use tp_testkit::{MATCH, TOGGLE};
 use tp_testkit_tasks::{CHARGES, FUSES, SWITCHES, TANKS, World};
 use tp_text::{TextFault, Tree, read_tree, tokens};
 

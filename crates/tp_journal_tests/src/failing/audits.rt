@@ -11,7 +11,7 @@ use tp_exec_machine::Executive;
 use tp_journal::{AuditFault, Audited, audit};
 use tp_net::ScratchNet;
 use tp_script::{LineBuffers, Lines, ServeFault};
-use tp_testkit_failing::{Stop, StopSource};
+use tp_testkit::{Stop, StopSource};
 
 /// Seven pairs of a network of bounds alone.
 const SEVEN: &[u8] =

@@ -6,7 +6,7 @@ use std::alloc::Global;
 use std::marker::Brand;
 use std::sync::ledger::{Blank, Ledger};
 use tp_device::{Failed, Sink, Source, push_all};
-use tp_testkit_failing::{Stop, StopSink, StopSource};
+use tp_testkit::{Stop, StopSink, StopSource};
 
 const THREE: &[u8] = b"abc";
 

@@ -11,7 +11,7 @@ use std::marker::Brand;
 use std::sync::ledger::{Blank, Ledger};
 use tp_journal_pairs::{JournalFault, journal};
 use tp_script::{LineBuffers, Lines, ServeFault, Served};
-use tp_testkit_failing::Stop;
+use tp_testkit::Stop;
 
 /// Two bounds with the origin, a window, and a refused bound.
 const COMMANDS: &[u8] = b"network 2 100\nadd o 0 10\nadd 0 o -3\nwindow 0\nadd 0 o -11\n";

@@ -5,7 +5,7 @@ use super::sessions::{
 };
 use std::alloc::Global;
 use tp_script::{ServeFault, Served};
-use tp_testkit_failing::Stop;
+use tp_testkit::Stop;
 
 /// Two bounds with the origin, and two windows.
 const COMMANDS: &[u8] = b"network 2 100\nadd o 0 10\nadd 0 o -3\nwindow 0\nwindow 1\n";

@@ -10,7 +10,7 @@ use tp_bounds::Limits;
 use tp_exec_machine::Executive;
 use tp_net::{Net, ScratchNet};
 use tp_script::{LineBuffers, Lines, ServeFault, Served, read_head, serve};
-use tp_testkit_failing::{Stop, StopSink, StopSource};
+use tp_testkit::{Stop, StopSink, StopSource};
 
 /// What an executive is seen as: now, how many bounds are in force, the next identifier, and the
 /// windows of the first two events.

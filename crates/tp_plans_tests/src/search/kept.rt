@@ -8,7 +8,7 @@ use std::alloc::Global;
 use std::process::Abort;
 use std::test::Fail;
 use tp_task::Task;
-use tp_testkit_domains::{MATCH, MATCHES, TOGGLE, TOGGLED};
+use tp_testkit::{MATCH, MATCHES, TOGGLE, TOGGLED};
 use tp_testkit_tasks::{World, kept_of, task_of};
 use tp_text::Scale;
 

@@ -7,7 +7,7 @@ use std::process::Abort;
 use std::test::Fail;
 use tp_task::Task;
 use tp_task_reachability::{goal_in_reach, met, reach};
-use tp_testkit_domains::{EMPTY_TANK, MATCH, MATCHES, TANK, TOGGLE};
+use tp_testkit::{EMPTY_TANK, MATCH, MATCHES, TANK, TOGGLE};
 use tp_testkit_tasks::{World, task_of};
 use tp_text::Scale;
 

@@ -8,7 +8,7 @@ use std::process::Abort;
 use std::test::Fail;
 use tp_happen::{Plan, Step, read_plan};
 use tp_task::Task;
-use tp_testkit_domains::TANK;
+use tp_testkit::TANK;
 use tp_testkit_tasks::{FUSES, World, task_of};
 use tp_text::Scale;
 use tp_validate::{Fault, ValidateFault, Verdict, validate};

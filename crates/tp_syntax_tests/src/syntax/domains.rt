@@ -6,7 +6,7 @@ use std::test::Fail;
 use tp_syntax::{
     Body, Cond, Domain, Expr, Joined, Signature, SyntaxFault, TypeName, Typed, read_domain,
 };
-use tp_testkit_domains::{CHARGE, MATCH, TANK, TOGGLE};
+use tp_testkit::{CHARGE, MATCH, TANK, TOGGLE};
 use tp_text::TextFault;
 
 // Whether a domain has this name and so many actions.

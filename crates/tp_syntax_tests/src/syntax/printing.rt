@@ -10,7 +10,7 @@ use std::sync::ledger::{Blank, Ledger};
 use std::test::Fail;
 use tp_device::{Failed, ToWrite};
 use tp_syntax::{Domain, print_domain, read_domain};
-use tp_testkit_domains::{MATCH, TOGGLE};
+use tp_testkit::{MATCH, TOGGLE};
 
 /// What printing to a writer answers.
 fn print_to<L: Ledger, W: Write + Drop>(

@@ -4,7 +4,7 @@ use crate::ground::support::{NOTHING, Told, are_joined, domain, joined_within};
 use std::alloc::Global;
 use std::test::Fail;
 use tp_bounds::Limits;
-use tp_testkit_domains::{MATCH, TOGGLE};
+use tp_testkit::{MATCH, TOGGLE};
 
 const ROADS: &str = "(define (domain roads) (:types place truck hoist)
  (:predicates (road ?x ?y - place) (at ?x - (either truck hoist) ?y - place) (idle ?x - hoist))

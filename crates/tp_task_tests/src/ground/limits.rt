@@ -8,7 +8,7 @@ use std::test::Fail;
 use tp_bounds::Limits;
 use tp_syntax::Domain;
 use tp_task::{GroundFault, TooManyKind};
-use tp_testkit_domains::{MATCH, MATCHES, TANK};
+use tp_testkit::{MATCH, MATCHES, TANK};
 
 // Whether match has no task for this reason, or has one, under limits of so many atoms and actions.
 fn is_refused(

@@ -10,7 +10,7 @@ use std::test::Fail;
 use tp_bounds::Limits;
 use tp_syntax::Domain;
 use tp_task::{GroundFault, TooManyKind};
-use tp_testkit_domains::{MATCH, TOGGLE};
+use tp_testkit::{MATCH, TOGGLE};
 
 const NO_SWITCH: &str = "(define (problem p) (:domain toggle) (:init) (:goal (done)))";
 

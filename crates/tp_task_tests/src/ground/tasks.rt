@@ -4,7 +4,7 @@ use crate::ground::examples::ROADS;
 use crate::ground::support::{NOTHING, Told, are_told};
 use std::test::Fail;
 use tp_task::ActionId;
-use tp_testkit_domains::{CHARGE, MATCH, MATCHES, TANK, TOGGLE, TOGGLED};
+use tp_testkit::{CHARGE, MATCH, MATCHES, TANK, TOGGLE, TOGGLED};
 
 #[test]
 fn what_match_mentions_is_numbered(rt: HostRuntime) -> Result<(), Fail> {

@@ -1,0 +1,105 @@
+//! The answers of the searches for a plan.
+
+use crate::goals::{put_unmet, unmet_goal};
+use std::alloc::{AllocError, Global};
+use tp_bounds::Limits;
+use tp_cli_files::Files;
+use tp_cli_inputs::{PlanWords, domain_in, problem_in};
+use tp_explain_faults::{Call, ReadText, read_text, text_of};
+use tp_explain_syntax::section_of;
+use tp_explain_text::{Page, put_file, put_moment};
+use tp_ground::ground_reached;
+use tp_task::Task;
+use tp_task_reachability::reach;
+
+fn put_horizon(page: &mut Page, call: &Call<'_>) {
+    page.put("note: each step ends by the horizon, ");
+    put_moment(page, call.scale.ticks(), u64::from(call.horizon));
+    page.end_line();
+}
+
+/// Puts that the budget of a search is spent.
+pub fn put_spent(page: &mut Page, call: &Call<'_>, count: &str) {
+    put_file(page, call.problem);
+    page.put("no plan: ");
+    page.put(count);
+    page.put(if count == "1" {
+        " node was"
+    } else {
+        " nodes were"
+    });
+    page.put(" expanded, as many as the budget allows");
+    page.end_line();
+    put_horizon(page, call);
+    page.put("help: `--budget B`, at most ");
+    page.put(if call.command == "solve" {
+        "1000000000"
+    } else {
+        "1000000"
+    });
+    page.end_line();
+}
+
+/// Puts that no node is left to expand.
+pub fn put_exhausted(page: &mut Page, call: &Call<'_>) {
+    put_file(page, call.problem);
+    page.put("no plan: no node is left to expand");
+    page.end_line();
+    page.put(
+        "note: each step was given its least lawful duration, so a plan with longer steps may exist",
+    );
+    page.end_line();
+    put_horizon(page, call);
+}
+
+/// The task of a call, with the actions in reach.
+fn task_of<N: Files>(alloc: Global, files: &mut N, call: &Call<'_>) -> Option<Task> {
+    if call.horizon > 1_000_000_000 {
+        return None;
+    }
+    let words = PlanWords {
+        domain: call.domain,
+        problem: call.problem,
+        plan: call.problem,
+        scale: call.scale,
+        horizon: call.horizon,
+    };
+    let domain = domain_in(alloc, files, words).ok()?;
+    let problem = problem_in(alloc, files, words, &domain).ok()?;
+    let limits = Limits::greatest(call.horizon);
+    ground_reached(alloc, &domain, &problem, &limits, call.scale).ok()
+}
+
+/// Puts which conjunct of the goal of a problem is out of reach.
+fn put_goal(
+    page: &mut Page,
+    problem: &ReadText,
+    task: &Task,
+    atoms: &[bool],
+) -> Result<(), AllocError> {
+    let text = text_of(problem);
+    match section_of(&text, ":goal").first() {
+        Some(goal) => {
+            let unmet = unmet_goal(goal, &task.goal, atoms);
+            put_unmet(page, text.source, task, &unmet)
+        }
+        None => Ok(()),
+    }
+}
+
+/// Puts which conjunct of the goal is out of reach.
+pub fn put_unreachable<N: Files>(
+    alloc: Global,
+    page: &mut Page,
+    files: &mut N,
+    call: &Call<'_>,
+) -> Result<(), AllocError> {
+    let Some(task) = task_of(alloc, files, call) else {
+        return Ok(());
+    };
+    let atoms = reach(alloc, &task)?;
+    match read_text(alloc, files, call.problem) {
+        Some(problem) => put_goal(page, &problem, &task, atoms.as_slice()),
+        None => Ok(()),
+    }
+}

@@ -1,0 +1,126 @@
+//! The agents of events.
+
+use crate::events::{Event, put_event};
+use std::str::from_utf8;
+use tp_explain_text::{Page, Source, end_headline, put_error_at, put_file};
+
+/// The greatest number of an agent.
+const GREATEST: u32 = 1023;
+
+fn is_blank(byte: u8) -> bool {
+    byte == b' ' || (9 <= byte && byte <= 13)
+}
+
+/// A word of the file, and where it stands.
+#[derive(Clone, Copy)]
+struct Word<'o> {
+    text: &'o [u8],
+    at: usize,
+}
+
+/// The word of a number, from 0, and how many words there are.
+fn word_at(text: &[u8], wanted: u64) -> (Option<Word<'_>>, u64) {
+    let mut found = None;
+    let mut count = 0u64;
+    let mut begin = None;
+    for (at, byte) in text.iter().enumerate() {
+        match (is_blank(*byte), begin) {
+            (false, None) => {
+                begin = Some(at);
+                count = count.saturating_add(1);
+            }
+            (true, Some(from)) => {
+                if count.checked_sub(1) == Some(wanted) {
+                    found = text.get(from..at).map(|word| Word {
+                        text: word,
+                        at: from,
+                    });
+                }
+                begin = None;
+            }
+            _ => {}
+        }
+    }
+    if let Some(from) = begin {
+        if count.checked_sub(1) == Some(wanted) {
+            found = text.get(from..).map(|word| Word {
+                text: word,
+                at: from,
+            });
+        }
+    }
+    (found, count)
+}
+
+/// Whether a word is a number of one to four digits.
+fn number_of(word: &[u8]) -> Option<u32> {
+    if word.len() > 4 || !word.iter().all(|byte| byte.is_ascii_digit()) {
+        return None;
+    }
+    from_utf8(word).ok()?.parse::<u32>().ok()
+}
+
+fn put_counts(page: &mut Page, words: u64, events: u64) {
+    page.put("note: the file has ");
+    page.put_count(words, "number", "numbers");
+    page.put(", the network ");
+    page.put_count(events, "event", "events");
+    page.end_line();
+}
+
+/// Puts that an event has no agent.
+fn put_missing(page: &mut Page, source: Source<'_>, event: &Event<'_>, words: u64, events: u64) {
+    put_file(page, source.name);
+    page.put("error: ");
+    put_event(page, event);
+    page.put(", has no agent");
+    page.end_line();
+    put_counts(page, words, events);
+}
+
+/// Puts what is wrong with the number of an agent.
+fn put_number(page: &mut Page, source: Source<'_>, word: &Word<'_>, event: Option<&Event<'_>>) {
+    put_error_at(page, source, word.at);
+    match number_of(word.text) {
+        Some(number) if number > GREATEST => {
+            page.put("agent ");
+            page.put_number(u64::from(number));
+            page.put(" is past 1023, the greatest");
+        }
+        _ => {
+            page.put("expected a number of one to four digits, found `");
+            page.put_bytes(word.text);
+            page.put("`");
+        }
+    }
+    end_headline(page, source, word.at);
+    if let Some(event) = event {
+        page.put("note: it is for ");
+        put_event(page, event);
+        page.end_line();
+    }
+}
+
+/// Puts what is wrong with the word of a number of the file of the agents: `event` is the event
+/// that it is for, if there is one, and `events` tells how many there are.
+pub fn put_owner(
+    page: &mut Page,
+    source: Source<'_>,
+    number: u64,
+    event: Option<&Event<'_>>,
+    events: u64,
+) {
+    let (word, words) = word_at(source.text, number);
+    match (word, event) {
+        (None, Some(event)) => put_missing(page, source, event, words, events),
+        (Some(word), None) if number_of(word.text).is_some() => {
+            put_error_at(page, source, word.at);
+            page.put("there is no event ");
+            page.put_number(number);
+            end_headline(page, source, word.at);
+            put_counts(page, words, events);
+        }
+        (Some(word), event) => put_number(page, source, &word, event),
+        (None, None) => {}
+    }
+}
