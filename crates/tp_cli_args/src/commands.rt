@@ -19,7 +19,7 @@ const EXIT: &str =
 call, and none of a command that reads commands there. With `--explain` faults, verdicts and
 refusals are explained on standard error.
 
-Exit status: 0 yes, 1 no, 2 refused input, 3 memory or a device failed.
+Exit status: 0 yes, 1 no, 2 refused input, 3 memory, a file or a stream failed.
 With 2 and 3 a line `fault PART NUMBER WORD ..` is written to standard error.
 
 Examples:
@@ -69,10 +69,18 @@ const CHECK_HELP: &str = "Reads a domain and a problem of PDDL 2.1, and a plan, 
 
   TIME: (NAME ARG ..) [DURATION]
 
-Prints `valid`, or `invalid TICK WHY`, where WHY is one of
-  condition E, undefined E, clash E, interferes E F, over-all STEP, duration STEP, goal
+Prints `valid`, or `invalid TICK WHY`, where WHY is the first fault, of one tick in this order:
 
-Steps are numbered from 0 in the order of the plan, and events from 0 by step, the start of a step before its end.
+  duration STEP     the duration of STEP is not allowed
+  undefined E       event E reads a fluent without a value
+  condition E       the condition of event E does not hold
+  clash E           event E writes a fluent twice, once by assign or scale-up
+  interferes E F    events E and F of one tick interfere
+  over-all STEP     the invariant of STEP does not hold after the tick
+  goal              the goal does not hold at the end
+
+Steps are numbered from 0 in the order of the plan, and events from 0 by step, the start of a step
+before its end.
 
 Example:
   tempo check domain.pddl problem.pddl plan.txt --scale 1000
@@ -87,9 +95,9 @@ const NET_HELP: &str =
   event E TEXT       each event; TEXT is `start STEP (NAME ARG ..)`, `end STEP ..` or `at STEP ..`
   bound ID F T W     each bound: the moment of T minus that of F is at most W ticks
 
-The moments from 0 to the horizon that meet all bounds are those that keep the plan's durations, the
-order of its interfering events, and its invariants. Each makes a valid plan. For an invalid plan it
-prints the line of `check`.
+The moments from 0 to the horizon that meet all bounds are those that keep the duration constraints
+of the plan's steps, the order of its interfering events, and its invariants. Each makes a valid
+plan. For an invalid plan it prints the line of `check`.
 
 Example:
   tempo net domain.pddl problem.pddl plan.txt --horizon 100
@@ -116,8 +124,8 @@ printed; `tempo audit FILE` with the same three files, scale and horizon judges 
 `--resume OLD --journal NEW` the run whose journal is OLD continues: NEW gets its head and its whole
 pairs, and standard input has only commands.
 
-Exit status: 0 a plan of the run was printed, 1 there is none, 2 refused input, 3 memory or a device
-failed.
+Exit status: 0 a plan of the run was printed, 1 there is none, 2 refused input, 3 memory, a file or
+a stream failed.
 
 Example:
   printf 'dispatch 0\\nadvance 3\\ndispatch 1\\n' | tempo run domain.pddl problem.pddl plan.txt
@@ -188,9 +196,9 @@ It prints
 The network is that of the head. For the journal of `tempo run`, name the domain, the problem and
 the plan: the network is that of the plan. For an invalid plan it prints the line of `check`.
 
-Exit status: 0 for the first, 1 for the others, 2 refused input, 3 memory or a device failed. A
-journal is refused by its first line that breaks the format (`fault journal 3 line N`), or for the
-head of another network (`fault journal 5 head`).
+Exit status: 0 for the first, 1 for the others, 2 refused input, 3 memory, a file or a stream
+failed. A journal is refused by its first line that breaks the format (`fault journal 3 line N`), or
+for the head of another network (`fault journal 5 head`).
 
 Examples:
   tempo audit night.log
@@ -215,7 +223,7 @@ With `--part A` it prints the network of agent A instead, as input of `tempo bar
 numbered from 0, the bounds among them, and two bounds for each of its intervals.
 
 Exit status: 0 for the intervals, even if there are none, 1 for an invalid plan, 2 refused input, 3
-memory or a device failed.
+memory, a file or a stream failed.
 
 Example:
   printf '0 1\\n' >owners.txt
