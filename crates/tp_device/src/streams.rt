@@ -1,39 +1,35 @@
 //! Readers and writers of std as devices.
 
-ghost use Rattle.std.specs.Prelude.{◌≡◌, ◌<◌};
+ghost use Rattle.std.specs.Prelude.{◌≡◌};
 
-use crate::failures::FailureCount;
+use crate::failures::Tally;
 use crate::{Failed, Sink, Source};
 use std::io::{Read, Write};
-use std::sync::ledger::{Blank, Ledger};
 
 /// A reader of std as a source. Each error of the reader is a failure, also an interruption.
 #[derive(Drop)]
-pub struct FromRead<R: Read, L: Ledger> {
+pub struct FromRead<R: Read> {
     reader: R,
-    failed: FailureCount<L>,
+    failed: Tally,
 }
 
-impl<R: Read, L: Ledger> FromRead<R, L> {
-    /// The source of what the reader has left. Its failures are counted in the blank ledger.
-    pub fn new(reader: R, blank: Blank) -> Self
-        requires name { blank.name ≡ L.name }
-        requires parts { blank.parts ≡ L.parts }
-        requires some { 0 < blank.parts }
-        ensures left { ⟦<FromRead<R, L> as Source>⟧.left result ≡ R.remaining reader }
-        ensures failures { ⟦<FromRead<R, L> as Source>⟧.failures result ≡ 0 }
+impl<R: Read> FromRead<R> {
+    /// The source of what the reader has left.
+    pub fn new(reader: R) -> Self
+        ensures left { ⟦<FromRead<R> as Source>⟧.left result ≡ R.remaining reader }
+        ensures failures { ⟦<FromRead<R> as Source>⟧.failures result ≡ 0 }
     {
         FromRead {
             reader,
-            failed: FailureCount::new(blank),
+            failed: Tally::new(),
         }
     }
 }
 
-impl<R: Read, L: Ledger> Source for FromRead<R, L> {
+impl<R: Read> Source for FromRead<R> {
     ghost left = { λ s. R.remaining s.reader };
 
-    ghost failures = { λ s. s.failed };
+    ghost failures = { λ s. s.failed.count };
 
     fn pull(&mut self, buffer: &mut [u8]) -> Result<usize, Failed> {
         match self.reader.read(buffer) {
@@ -50,31 +46,28 @@ impl<R: Read, L: Ledger> Source for FromRead<R, L> {
 /// is a call that takes none of some bytes. It keeps nothing back: what a push took was handed to
 /// the writer.
 #[derive(Drop)]
-pub struct ToWrite<W: Write, L: Ledger> {
+pub struct ToWrite<W: Write> {
     writer: W,
-    failed: FailureCount<L>,
+    failed: Tally,
 }
 
-impl<W: Write, L: Ledger> ToWrite<W, L> {
-    /// The sink that hands its bytes to the writer. Its failures are counted in the blank ledger.
-    pub fn new(writer: W, blank: Blank) -> Self
-        requires name { blank.name ≡ L.name }
-        requires parts { blank.parts ≡ L.parts }
-        requires some { 0 < blank.parts }
-        ensures held { ⟦<ToWrite<W, L> as Sink>⟧.held result ≡ W.contents writer }
-        ensures failures { ⟦<ToWrite<W, L> as Sink>⟧.failures result ≡ 0 }
+impl<W: Write> ToWrite<W> {
+    /// The sink that hands its bytes to the writer.
+    pub fn new(writer: W) -> Self
+        ensures held { ⟦<ToWrite<W> as Sink>⟧.held result ≡ W.contents writer }
+        ensures failures { ⟦<ToWrite<W> as Sink>⟧.failures result ≡ 0 }
     {
         ToWrite {
             writer,
-            failed: FailureCount::new(blank),
+            failed: Tally::new(),
         }
     }
 }
 
-impl<W: Write, L: Ledger> Sink for ToWrite<W, L> {
+impl<W: Write> Sink for ToWrite<W> {
     ghost held = { λ s. W.contents s.writer };
 
-    ghost failures = { λ s. s.failed };
+    ghost failures = { λ s. s.failed.count };
 
     fn push(&mut self, bytes: &[u8]) -> Result<usize, Failed> {
         match self.writer.write(bytes) {

@@ -3,8 +3,7 @@
 ghost use Rattle.std.specs.Prelude.{◌≡◌, ℕ, ◌+◌, ◌-◌, ◌<◌, ◌≤◌, List, [], ◌++◌, length, take, Some};
 
 use std::marker::Model;
-use std::sync::ledger::{Blank, Ledger};
-use tp_device::{Failed, FailureCount, Sink};
+use tp_device::{Failed, Sink, Tally};
 
 /// At most 16,896 bytes: a line of an answer, of which a journal has none of more than 16,384, and
 /// the line of its command.
@@ -61,22 +60,19 @@ impl Sheet {
 /// A sink that keeps what it is given until it is asked for. A push of more than there is room for
 /// fails.
 #[derive(Drop)]
-pub(crate) struct Gathered<L: Ledger> {
+pub(crate) struct Gathered {
     sheet: Sheet,
-    failed: FailureCount<L>,
+    failed: Tally,
 }
 
-impl<L: Ledger> Gathered<L> {
-    /// Nothing is gathered yet. Failures are counted in the blank ledger.
-    pub(crate) fn new(blank: Blank) -> Self
-        requires name { blank.name ≡ L.name }
-        requires parts { blank.parts ≡ L.parts }
-        requires some { 0 < blank.parts }
+impl Gathered {
+    /// Nothing is gathered yet.
+    pub(crate) fn new() -> Self
         ensures { result.sheet ≡ [] }
     {
         Gathered {
             sheet: Sheet::new(),
-            failed: FailureCount::new(blank),
+            failed: Tally::new(),
         }
     }
 
@@ -88,10 +84,10 @@ impl<L: Ledger> Gathered<L> {
     }
 }
 
-impl<L: Ledger> Sink for Gathered<L> {
+impl Sink for Gathered {
     ghost held = { λ s. Some s.sheet };
 
-    ghost failures = { λ s. s.failed };
+    ghost failures = { λ s. s.failed.count };
 
     fn push(&mut self, bytes: &[u8]) -> Result<usize, Failed> {
         if bytes.len() > self.sheet.room() {

@@ -8,24 +8,34 @@ ghost use Rattle.tp_journal_pairs.specs.Writing.{AllAreInForce, IsNewExecutive};
 
 use crate::writing::write_head;
 use std::alloc::{AllocError, Global};
-use std::marker::Brand;
-use std::sync::ledger::{Blank, Ledger};
-use tp_device::{Failed, FailureCount, Sink};
+use tp_device::{Failed, Sink, Tally};
 use tp_exec_machine::{Answer, Command, Executive};
 use tp_net::Net;
 use tp_script::{write_answer, write_command};
 
 /// A text in memory that grows at its end.
 #[derive(Drop)]
-struct Page<L: Ledger> {
+struct Page {
     bytes: Vec<u8>,
-    failed: FailureCount<L>,
+    failed: Tally,
 }
 
-impl<L: Ledger> Sink for Page<L> {
+impl Page {
+    // A text with nothing in it.
+    fn new(alloc: Global) -> Self
+        ensures { result.bytes.items ≡ [] }
+    {
+        Page {
+            bytes: Vec::new(alloc),
+            failed: Tally::new(),
+        }
+    }
+}
+
+impl Sink for Page {
     ghost held = { λ s. Some s.bytes.items };
 
-    ghost failures = { λ s. s.failed };
+    ghost failures = { λ s. s.failed.count };
 
     fn push(&mut self, bytes: &[u8]) -> Result<usize, Failed> {
         match self.bytes.extend_from_slice(bytes) {
@@ -39,20 +49,10 @@ impl<L: Ledger> Sink for Page<L> {
 }
 
 /// The line of an answer.
-fn line_on_page<L: Ledger>(
-    alloc: Global,
-    blank: Blank,
-    answer: &Answer,
-) -> Result<Vec<u8>, AllocError>
-    requires name { blank.name ≡ L.name }
-    requires parts { blank.parts ≡ L.parts }
-    requires some { 0 < blank.parts }
+fn line_on_page(alloc: Global, answer: &Answer) -> Result<Vec<u8>, AllocError>
     ensures { IfOk result (λ bytes. bytes.items ≡ line_of answer.now) }
 {
-    let mut page: Page<L> = Page {
-        bytes: Vec::new(alloc),
-        failed: FailureCount::new(blank),
-    };
+    let mut page = Page::new(alloc);
     match write_answer(&mut page, answer) {
         Ok(()) => Ok(page.bytes),
         Err(_) => Err(AllocError),
@@ -73,25 +73,15 @@ fn is_line_of(line: &[u8], text: &[u8]) -> bool
 pub(crate) fn is_text_of(alloc: Global, answer: &Answer, text: &[u8]) -> Result<bool, AllocError>
     ensures { IfOk result (λ same. IsTrue same ↔ (text.now ≡ answer_text answer.now)) }
 {
-    let line = line_on_page::<Brand>(alloc, Blank::new(1), answer)?;
+    let line = line_on_page(alloc, answer)?;
     Ok(is_line_of(line.as_slice(), text))
 }
 
 /// The line of a command.
-fn command_on_page<L: Ledger>(
-    alloc: Global,
-    blank: Blank,
-    command: &Command,
-) -> Result<Vec<u8>, AllocError>
-    requires name { blank.name ≡ L.name }
-    requires parts { blank.parts ≡ L.parts }
-    requires some { 0 < blank.parts }
+fn command_on_page(alloc: Global, command: &Command) -> Result<Vec<u8>, AllocError>
     ensures { IfOk result (λ bytes. bytes.items ≡ command_line command.now) }
 {
-    let mut page: Page<L> = Page {
-        bytes: Vec::new(alloc),
-        failed: FailureCount::new(blank),
-    };
+    let mut page = Page::new(alloc);
     match write_command(&mut page, command) {
         Ok(()) => Ok(page.bytes),
         Err(_) => Err(AllocError),
@@ -103,26 +93,16 @@ fn command_on_page<L: Ledger>(
 pub fn is_text_of_command(alloc: Global, command: &Command, text: &[u8]) -> Result<bool, AllocError>
     ensures { IfOk result (λ same. IsTrue same ↔ (text.now ≡ command_text command.now)) }
 {
-    let line = command_on_page::<Brand>(alloc, Blank::new(1), command)?;
+    let line = command_on_page(alloc, command)?;
     Ok(is_line_of(line.as_slice(), text))
 }
 
 /// The head of an executive.
-fn head_on_page<N: Net, L: Ledger>(
-    alloc: Global,
-    blank: Blank,
-    executive: &Executive<N>,
-) -> Result<Vec<u8>, AllocError>
-    requires new { AllAreInForce executive.now }
-    requires name { blank.name ≡ L.name }
-    requires parts { blank.parts ≡ L.parts }
-    requires some { 0 < blank.parts }
+fn head_on_page<N: Net>(alloc: Global, executive: &Executive<N>) -> Result<Vec<u8>, AllocError>
+    requires { AllAreInForce executive.now }
     ensures { IfOk result (λ bytes. bytes.items ≡ text_of (head_lines (head_of 2 executive.now))) }
 {
-    let mut page: Page<L> = Page {
-        bytes: Vec::new(alloc),
-        failed: FailureCount::new(blank),
-    };
+    let mut page = Page::new(alloc);
     match write_head(&mut page, executive) {
         Ok(()) => Ok(page.bytes),
         Err(_) => Err(AllocError),
@@ -135,5 +115,5 @@ pub fn head_text<N: Net>(alloc: Global, executive: &Executive<N>) -> Result<Vec<
     requires { IsNewExecutive executive.now }
     ensures { IfOk result (λ bytes. bytes.items ≡ text_of (head_lines (head_of 2 executive.now))) }
 {
-    head_on_page::<N, Brand>(alloc, Blank::new(1), executive)
+    head_on_page(alloc, executive)
 }

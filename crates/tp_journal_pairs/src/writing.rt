@@ -12,8 +12,6 @@ ghost use Rattle.tp_journal_pairs.specs.Writing.{HeadIsOne, IsNewExecutive, AllA
 
 use crate::faults::JournalFault;
 use crate::gathered::Gathered;
-use std::marker::Brand;
-use std::sync::ledger::{Blank, Ledger};
 use tp_bounds::BoundId;
 use tp_device::{Failed, Sink, Source, push_all};
 use tp_exec_machine::{Answer, Command, Executive, Kind, perform};
@@ -135,20 +133,12 @@ fn write_pair<V: Sink>(log: &mut V, command: &Command, answer: &Answer) -> Resul
 
 /// Writes the pair of a command, in as few pushes as the log wants for its bytes: they are gathered
 /// first. What is too long for that goes out piece by piece.
-fn write_pair_whole<V: Sink, L: Ledger>(
-    log: &mut V,
-    blank: Blank,
-    command: &Command,
-    answer: &Answer,
-) -> Result<(), Failed>
-    requires name { blank.name ≡ L.name }
-    requires parts { blank.parts ≡ L.parts }
-    requires some { 0 < blank.parts }
+fn write_pair_whole<V: Sink>(log: &mut V, command: &Command, answer: &Answer) -> Result<(), Failed>
     ensures bytes { Writes (V.held log.old) (V.held log.new)
         (pairs_text (Some (command.now, answer.now) ∷ [])) result }
     ensures cause { V.failures log.new ≡ failures_after (V.failures log.old) result }
 {
-    let mut gathered: Gathered<L> = Gathered::new(blank);
+    let mut gathered = Gathered::new();
     match write_pair(&mut gathered, command, answer) {
         Ok(()) => push_all(log, gathered.as_slice()),
         Err(_) => write_pair(log, command, answer),
@@ -168,7 +158,7 @@ fn enter_command<N: Net, W: Sink, V: Sink>(
     ensures log { V.failures log.new ≡ log_failures (V.failures log.old) result }
 {
     let answer = perform(executive, command);
-    if write_pair_whole::<V, Brand>(log, Blank::new(1), &command, &answer).is_err() {
+    if write_pair_whole(log, &command, &answer).is_err() {
         return Err(JournalFault::Log);
     }
     match write_answer(answers, &answer) {

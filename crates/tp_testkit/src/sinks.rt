@@ -7,19 +7,18 @@ ghost use Rattle.tp_testkit.specs.Stopping.{Taking, share_of, stop_after, passed
 
 use crate::stops::Stop;
 use std::marker::Model;
-use std::sync::ledger::{Blank, Ledger};
-use tp_device::{Failed, FailureCount, Sink};
+use tp_device::{Failed, Sink, Tally};
 
 /// A text behind which bytes are put, of which a call takes at most so many, and which stop there.
 #[derive(Drop)]
-pub struct StopSink<L: Ledger> {
+pub struct StopSink {
     text: Vec<u8>,
     most: usize,
     stop: Stop,
-    failed: FailureCount<L>,
+    failed: Tally,
 }
 
-impl<L: Ledger> Model for StopSink<L> {
+impl Model for StopSink {
     ghost use Rattle.std.specs.Prelude.{◌<◌};
     ghost use Rattle.tp_testkit.specs.Stopping.{Taking};
 
@@ -29,19 +28,15 @@ impl<L: Ledger> Model for StopSink<L> {
       held = s.text.items;
       most = s.most;
       stop = s.stop;
-      failures = s.failed;
+      failures = s.failed.count;
     } };
 
     ghost invariant = { λ s. 0 < s.most };
 }
 
-impl<L: Ledger> StopSink<L> {
-    /// The text, behind which a call takes at most `most` bytes, or one where that is 0. Its
-    /// failures are counted in the blank ledger.
-    pub fn new(text: Vec<u8>, most: usize, stop: Stop, blank: Blank) -> Self
-        requires name { blank.name ≡ L.name }
-        requires parts { blank.parts ≡ L.parts }
-        requires some { 0 < blank.parts }
+impl StopSink {
+    /// The text, behind which a call takes at most `most` bytes, or one where that is 0.
+    pub fn new(text: Vec<u8>, most: usize, stop: Stop) -> Self
         ensures { result
             ≡ record { held = text.items; most = max most 1; stop = stop; failures = 0 } }
     {
@@ -49,7 +44,7 @@ impl<L: Ledger> StopSink<L> {
             text,
             most: most.max(1),
             stop,
-            failed: FailureCount::new(blank),
+            failed: Tally::new(),
         }
     }
 
@@ -61,7 +56,7 @@ impl<L: Ledger> StopSink<L> {
     }
 }
 
-impl<L: Ledger> Sink for StopSink<L> {
+impl Sink for StopSink {
     ghost held = { λ s. Some s.held };
 
     ghost failures = { λ s. s.failures };

@@ -7,19 +7,18 @@ ghost use Rattle.tp_testkit.specs.Stopping.{Giving, room_of, share_of, stop_afte
 
 use crate::stops::Stop;
 use std::marker::Model;
-use std::sync::ledger::{Blank, Ledger};
-use tp_device::{Failed, FailureCount, Source};
+use tp_device::{Failed, Source, Tally};
 
 /// Bytes of which a call gives at most so many, and which stop there.
 #[derive(Drop)]
-pub struct StopSource<'a, L: Ledger> {
+pub struct StopSource<'a> {
     bytes: &'a [u8],
     most: usize,
     stop: Stop,
-    failed: FailureCount<L>,
+    failed: Tally,
 }
 
-impl<'a, L: Ledger> Model for StopSource<'a, L> {
+impl<'a> Model for StopSource<'a> {
     ghost use Rattle.std.specs.Prelude.{◌<◌};
     ghost use Rattle.tp_testkit.specs.Stopping.{Giving};
 
@@ -29,19 +28,15 @@ impl<'a, L: Ledger> Model for StopSource<'a, L> {
       left = s.bytes.now;
       most = s.most;
       stop = s.stop;
-      failures = s.failed;
+      failures = s.failed.count;
     } };
 
     ghost invariant = { λ s. 0 < s.most };
 }
 
-impl<'a, L: Ledger> StopSource<'a, L> {
-    /// These bytes, of which a call gives at most `most`, or one where that is 0. Its failures are
-    /// counted in the blank ledger.
-    pub fn new(bytes: &'a [u8], most: usize, stop: Stop, blank: Blank) -> Self
-        requires name { blank.name ≡ L.name }
-        requires parts { blank.parts ≡ L.parts }
-        requires some { 0 < blank.parts }
+impl<'a> StopSource<'a> {
+    /// These bytes, of which a call gives at most `most`, or one where that is 0.
+    pub fn new(bytes: &'a [u8], most: usize, stop: Stop) -> Self
         ensures { result
             ≡ record { left = bytes.now; most = max most 1; stop = stop; failures = 0 } }
     {
@@ -49,12 +44,12 @@ impl<'a, L: Ledger> StopSource<'a, L> {
             bytes,
             most: most.max(1),
             stop,
-            failed: FailureCount::new(blank),
+            failed: Tally::new(),
         }
     }
 }
 
-impl<L: Ledger> Source for StopSource<'_, L> {
+impl Source for StopSource<'_> {
     ghost left = { λ s. Some s.left };
 
     ghost failures = { λ s. s.failures };
