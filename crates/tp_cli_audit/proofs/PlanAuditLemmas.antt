@@ -13,6 +13,7 @@ use Rattle.tp_validate.specs.declared.verdicts.Verdict.{Verdict}
 use Rattle.tp_validate.specs.declared.verdicts.Verdict.TheVariants.{Valid, Invalid}
 use Rattle.tp_deorder.specs.Answers.{IsPlanNetOf}
 use Rattle.tp_exec_machine.specs.Machine.{Machine}
+use Rattle.tp_cli_files.specs.Causes.{raised}
 use Rattle.tp_cli_files.specs.FaultLines.{Tells}
 use Rattle.tp_journal.specs.Telling.{IsHeadTold}
 use Rattle.tp_journal.specs.declared.faults.JournalHead.{JournalHead}
@@ -27,7 +28,7 @@ use Rattle.tp_cli_inputs.specs.declared.plan_words.PlanWords.{PlanWords}
 use Rattle.tp_cli_inputs.proofs.NamedLemmas.{Same, explains_over}
 use Rattle.tp_cli_run.proofs.RunLemmas.{Judged, invalid_over, invalid_part_over, named_over}
 use Rattle.tp_cli_run.proofs.StatusLemmas.{IsStatus, judge_is, network_is, three, two}
-use Rattle.tp_cli_audit.specs.AuditStops.{plan_stop_failures, plan_stop_status, plan_stop_text}
+use Rattle.tp_cli_audit.specs.AuditStops.{plan_stop_failures, plan_stop_status, plan_stop_text, plan_stop_unread}
 use Rattle.tp_cli_audit.specs.Ends.{HindersNet, SaysHeaded, SaysNet, SaysSteps, SaysVerdict, StopsHeaded, StopsHeadedBy, StopsNet, StopsSteps, StopsStepsBy, StopsVerdict, audit_result}
 use Rattle.tp_cli_audit.specs.PlanAudits.{EndsPlanAudit, IsNetFound, LagsFit, SaysPlan, StopsAuditing, StopsPlanAudit, WritesAuditPart, audit_machine}
 use Rattle.tp_cli_audit.specs.declared.stop_lines.PlanAuditStop.{PlanAuditStop}
@@ -305,12 +306,13 @@ stop_is (Auditing stop) = audit_is stop
 stop_is (Judging fault) = judge_is fault
 stop_is (Deordering fault) = network_is fault
 
-pub ends : (held : List ℕ → Option (List ℕ)) (w : PlanWords) (log : List ℕ) (status : ℕ) (input before now : Option (List ℕ)) (output output-now failures : ℕ) (said : Option (List ℕ)) (failures-now : ℕ) (said-now : Option (List ℕ)) (stop : PlanAuditStop) (text : List ℕ) → StopsPlanAudit held w input before now stop → status ≡ plan_stop_status stop → output-now ≡ plan_stop_failures {T = Bool} output (Err stop) → text ≡ plan_stop_text log w stop → Tells text failures said failures-now said-now → EndsPlanAudit held w log status input before now output output-now failures said failures-now said-now
-ends held w log status input before now output output-now failures said failures-now said-now stop text cause is write line told =
+pub ends : (held : List ℕ → Option (List ℕ)) (w : PlanWords) (log : List ℕ) (status : ℕ) (input before now : Option (List ℕ)) (unread unread-now output output-now failures : ℕ) (said : Option (List ℕ)) (failures-now : ℕ) (said-now : Option (List ℕ)) (stop : PlanAuditStop) (text : List ℕ) → StopsPlanAudit held w input before now stop → status ≡ plan_stop_status stop → output-now ≡ plan_stop_failures {T = Bool} output (Err stop) → unread-now ≡ raised (plan_stop_unread stop) unread → text ≡ plan_stop_text log w stop → Tells text failures said failures-now said-now → EndsPlanAudit held w log status input before now unread unread-now output output-now failures said failures-now said-now
+ends held w log status input before now unread unread-now output output-now failures said failures-now said-now stop text cause is write opened line told =
     record {
       stop = stop;
       is = sym is;
       cause = cause;
+      opened = opened;
       write = write ∙ any_type stop output;
       told = subst (λ (t : List ℕ). Tells t failures said failures-now said-now) line told;
     }
