@@ -45,7 +45,8 @@ pub fn head_of<S: Source>(alloc: Global, source: &mut S) -> Result<JournalHead, 
                 Err(AuditFault::Memory) => Err(AuditStop::Memory),
                 Err(AuditFault::Read) => Err(AuditStop::Read),
                 Err(AuditFault::Line(n)) => Err(AuditStop::Line(n)),
-                Err(_) => Err(AuditStop::Head),
+                Err(AuditFault::Wrong(_)) => Err(AuditStop::Head),
+                Err(AuditFault::Head) => Err(AuditStop::Head),
             }
         }
         Err(_) => Err(AuditStop::Memory),

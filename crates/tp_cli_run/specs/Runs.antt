@@ -114,8 +114,8 @@ StopsRun held w input before now Write =
 -- that the counts of failures tell of.
 pub record EndsRun (held : List ℕ → Option (List ℕ)) (w : PlanWords) (status : ℕ)
     (input : Option (List ℕ)) (reads reads-now : ℕ) (before now : Option (List ℕ))
-    (unread unread-now : ℕ) (output output-now : ℕ) (failures : ℕ) (said : Option (List ℕ)) (failures-now : ℕ)
-    (said-now : Option (List ℕ)) : Type 0 where
+    (unread unread-now : ℕ) (output output-now : ℕ) (failures : ℕ) (said : Option (List ℕ))
+    (failures-now : ℕ) (said-now : Option (List ℕ)) : Type 0 where
   pub stop : RunStop
   pub is : run_status stop ≡ status
   pub cause : StopsRun held w input before now stop
