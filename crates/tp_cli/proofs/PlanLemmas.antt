@@ -12,6 +12,7 @@ use Rattle.tp_validate.specs.declared.verdicts.Verdict.{Verdict}
 use Rattle.tp_validate.specs.declared.verdicts.Verdict.TheVariants.{Valid, Invalid}
 use Rattle.tp_deorder.specs.Answers.{IsPlanNetOf, OnTooMany, PassesLimits}
 use Rattle.tp_deorder.specs.declared.DeorderFault.{DeorderFault}
+use Rattle.tp_cli_files.specs.Causes.{raised}
 use Rattle.tp_cli_files.specs.FaultLines.{Tells}
 use Rattle.tp_cli_check.specs.Files.{IsJudged}
 use Rattle.tp_cli_check.specs.Judgements.{IsJudgement, judgement_line}
@@ -23,7 +24,7 @@ use Rattle.tp_cli_inputs.specs.declared.plan_words.PlanWords.{PlanWords}
 use Rattle.tp_cli_run.proofs.StatusLemmas.{IsStatus, judge_is, network_is, three}
 use Rattle.tp_cli.specs.Checks.{IsVerdictLine, Says, StopsCheck, StopsLine, TellsJudgement}
 use Rattle.tp_cli.specs.Networks.{Shows, ShowsVerdict, StopsNet, StopsShown, TellsNetwork}
-use Rattle.tp_cli.specs.Stops.{EndsPlan, StopsOn, stop_failures, stop_status, stop_text}
+use Rattle.tp_cli.specs.Stops.{EndsPlan, StopsOn, stop_failures, stop_status, stop_text, stop_unread}
 use Rattle.tp_cli.specs.declared.stops.PlanStop.{PlanStop}
 use Rattle.tp_cli.specs.declared.stops.PlanStop.TheVariants.{Judging, Network, Write}
 
@@ -124,12 +125,13 @@ stop_is (Judging fault) = judge_is fault
 stop_is (Network fault) = network_is fault
 stop_is Write = three
 
-pub ends : (tells : Task → List Step → List ℕ → Type 0) (passes : Task → List Step → DeorderFault → Type 0) (held : List ℕ → Option (List ℕ)) (w : PlanWords) (status : ℕ) (before now : Option (List ℕ)) (output output-now failures : ℕ) (said : Option (List ℕ)) (failures-now : ℕ) (said-now : Option (List ℕ)) (stop : PlanStop) (text : List ℕ) → StopsOn tells passes held w before now stop → status ≡ stop_status stop → output-now ≡ stop_failures {T = Bool} output (Err stop) → text ≡ stop_text w stop → Tells text failures said failures-now said-now → EndsPlan tells passes held w status before now output output-now failures said failures-now said-now
-ends tells passes held w status before now output output-now failures said failures-now said-now stop text cause is write line told =
+pub ends : (tells : Task → List Step → List ℕ → Type 0) (passes : Task → List Step → DeorderFault → Type 0) (held : List ℕ → Option (List ℕ)) (w : PlanWords) (status : ℕ) (before now : Option (List ℕ)) (unread unread-now output output-now failures : ℕ) (said : Option (List ℕ)) (failures-now : ℕ) (said-now : Option (List ℕ)) (stop : PlanStop) (text : List ℕ) → StopsOn tells passes held w before now stop → status ≡ stop_status stop → output-now ≡ stop_failures {T = Bool} output (Err stop) → unread-now ≡ raised (stop_unread stop) unread → text ≡ stop_text w stop → Tells text failures said failures-now said-now → EndsPlan tells passes held w status before now unread unread-now output output-now failures said failures-now said-now
+ends tells passes held w status before now unread unread-now output output-now failures said failures-now said-now stop text cause is write opened line told =
     record {
       stop = stop;
       is = sym is;
       cause = cause;
+      opened = opened;
       write = write ∙ any_type output stop;
       told = subst (λ (t : List ℕ). Tells t failures said failures-now said-now) line told;
     }

@@ -4,7 +4,8 @@ use Rattle.tp_cli_run.specs.LogFile.{LogFile, log_file}
 
 -- As far as these are told, held: what the file of a name holds; asked_before, asked_now: how many journal files were asked for before the
 -- call, and by its end; blank: what a journal file holds as it is made; named, kept: the name of the journal file that was made last, and
--- what it holds at the end
+-- what it holds at the end. unread, unread_now: how often a file could not be opened or read, before the call and by its end; logs, logs_now:
+-- how often a journal file could not be made or written
 pub record CallFiles : Type 0 where
   pub held : List ℕ → Option (List ℕ)
   pub asked_before : Option ℕ
@@ -12,10 +13,14 @@ pub record CallFiles : Type 0 where
   pub blank : Option (List ℕ)
   pub named : Option (List ℕ)
   pub kept : Option (List ℕ)
+  pub unread : ℕ
+  pub unread_now : ℕ
+  pub logs : ℕ
+  pub logs_now : ℕ
 
 abbrev pub call_files : (List ℕ → Option (List ℕ)) → Option ℕ → Option ℕ → Option (List ℕ)
-    → Option (List ℕ) → Option (List ℕ) → CallFiles
-call_files held before now blank named kept =
+    → Option (List ℕ) → Option (List ℕ) → ℕ → ℕ → ℕ → ℕ → CallFiles
+call_files held before now blank named kept unread unread_now logs logs_now =
     record {
       held = held;
       asked_before = before;
@@ -23,6 +28,10 @@ call_files held before now blank named kept =
       blank = blank;
       named = named;
       kept = kept;
+      unread = unread;
+      unread_now = unread_now;
+      logs = logs;
+      logs_now = logs_now;
     }
 
 -- the journal file of a name, as the call leaves it

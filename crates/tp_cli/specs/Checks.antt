@@ -66,7 +66,7 @@ abbrev pub StopsCheck : (List ℕ → Option (List ℕ)) → PlanWords → Optio
 StopsCheck held w before now stop = StopsOn IsVerdictLine (λ _ _ _. ⊥) held w before now stop
 
 abbrev pub EndsCheck : (List ℕ → Option (List ℕ)) → PlanWords → ℕ → Option (List ℕ)
-    → Option (List ℕ) → ℕ → ℕ → ℕ → Option (List ℕ) → ℕ → Option (List ℕ) → Type 0
-EndsCheck held w status before now output output-now failures said failures-now said-now =
-    EndsPlan IsVerdictLine (λ _ _ _.
-    ⊥) held w status before now output output-now failures said failures-now said-now
+    → Option (List ℕ) → ℕ → ℕ → ℕ → ℕ → ℕ → Option (List ℕ) → ℕ → Option (List ℕ) → Type 0
+EndsCheck held w status before now unread unread-now output output-now failures said failures-now
+    said-now = EndsPlan IsVerdictLine (λ _ _ _. ⊥) held w status before now unread unread-now
+    output output-now failures said failures-now said-now

@@ -60,51 +60,59 @@ EndsRequest Bare files input reads reads-now status held held-now output output-
 EndsRequest (BareLog log) files input reads reads-now status held held-now output output-now
     failures before failures-now now
     = EndsJournaled status input reads reads-now held held-now files.blank files.kept log.now
-    files.named output output-now failures before failures-now now
+    files.named files.logs files.logs_now output output-now failures before failures-now now
     × AskedOnce (journal_file log.now files)
 EndsRequest (BareResume old log) files input reads reads-now status held held-now output output-now
     failures before failures-now now
     = EndsResumed (files.held old.now) old.now status input reads reads-now held held-now
-    (journal_file log.now files) output output-now failures before failures-now now
+    (journal_file log.now files) files.unread files.unread_now files.logs files.logs_now
+    output output-now failures before failures-now now
 EndsRequest (Check w) files input reads reads-now status held held-now output output-now failures
     before failures-now now
-    = EndsCheck files.held w status held held-now output output-now failures before failures-now now
+    = EndsCheck files.held w status held held-now files.unread files.unread_now output output-now
+    failures before failures-now now
 EndsRequest (Net w) files input reads reads-now status held held-now output output-now failures
     before failures-now now
-    = EndsNet files.held w status held held-now output output-now failures before failures-now now
+    = EndsNet files.held w status held held-now files.unread files.unread_now output output-now
+    failures before failures-now now
 EndsRequest (Run w) files input reads reads-now status held held-now output output-now failures
     before failures-now now
-    = EndsRun files.held w status input reads reads-now held held-now output output-now failures
-    before failures-now now
+    = EndsRun files.held w status input reads reads-now held held-now files.unread files.unread_now
+    output output-now failures before failures-now now
 EndsRequest (RunLog w log) files input reads reads-now status held held-now output output-now
     failures before failures-now now
     = EndsRunLog files.held w status input reads reads-now held held-now (journal_file log.now files)
-    output output-now failures before failures-now now
+    files.unread files.unread_now files.logs files.logs_now output output-now failures before
+    failures-now now
 EndsRequest (RunResume w old log) files input reads reads-now status held held-now output output-now
     failures before failures-now now
     = EndsRunResumed w old.now status reads reads-now held held-now (journal_file log.now files)
-    output output-now failures before failures-now now
+    files.unread files.unread_now files.logs files.logs_now output output-now failures before
+    failures-now now
 EndsRequest (Plan w) files input reads reads-now status held held-now output output-now failures
-    before failures-now now =
-    EndsSearch files.held w status held held-now output output-now failures before failures-now now
+    before failures-now now
+    = EndsSearch files.held w status held held-now files.unread files.unread_now output output-now
+    failures before failures-now now
 EndsRequest (Audit log) files input reads reads-now status held held-now output output-now failures
-    before failures-now now = EndsBareAudit (files.held log.now) log.now status held held-now output
-    output-now failures before failures-now now
+    before failures-now now
+    = EndsBareAudit (files.held log.now) log.now status held held-now files.unread files.unread_now
+    output output-now failures before failures-now now
 EndsRequest (PlanAudit log w) files input reads reads-now status held held-now output output-now
     failures before failures-now now
-    = EndsPlanAudit files.held w log.now status (files.held log.now) held held-now output output-now
-    failures before failures-now now
+    = EndsPlanAudit files.held w log.now status (files.held log.now) held held-now files.unread
+    files.unread_now output output-now failures before failures-now now
 EndsRequest (Split w owners) files input reads reads-now status held held-now output output-now
     failures before failures-now now
-    = EndsSplit None files.held w owners.now status held held-now output output-now failures before
-    failures-now now
+    = EndsSplit None files.held w owners.now status held held-now files.unread files.unread_now
+    output output-now failures before failures-now now
 EndsRequest (Part w owners agent) files input reads reads-now status held held-now output output-now
     failures before failures-now now
-    = EndsSplit (Some agent) files.held w owners.now status held held-now output output-now failures
-    before failures-now now
+    = EndsSplit (Some agent) files.held w owners.now status held held-now files.unread
+    files.unread_now output output-now failures before failures-now now
 EndsRequest (Draw w) files input reads reads-now status held held-now output output-now failures
-    before failures-now now =
-    EndsDraw files.held w status held held-now output output-now failures before failures-now now
+    before failures-now now
+    = EndsDraw files.held w status held held-now files.unread files.unread_now output output-now
+    failures before failures-now now
 EndsRequest (Help text) files input reads reads-now status held held-now output output-now failures
     before failures-now now
     = StopsHelp (string_bytes text) status held held-now failures before failures-now now

@@ -96,8 +96,9 @@ StopsNet held w before now stop =
     (PassesNet (greatest_limits w.horizon)) held w before now stop
 
 abbrev pub EndsNet : (List ℕ → Option (List ℕ)) → PlanWords → ℕ → Option (List ℕ) → Option (List ℕ)
-    → ℕ → ℕ → ℕ → Option (List ℕ) → ℕ → Option (List ℕ) → Type 0
-EndsNet held w status before now output output-now failures said failures-now said-now =
+    → ℕ → ℕ → ℕ → ℕ → ℕ → Option (List ℕ) → ℕ → Option (List ℕ) → Type 0
+EndsNet held w status before now unread unread-now output output-now failures said failures-now
+    said-now =
     EndsPlan (λ task steps text.
     IsShownText task steps (greatest_limits w.horizon) text) (PassesNet (greatest_limits w.horizon))
-    held w status before now output output-now failures said failures-now said-now
+    held w status before now unread unread-now output output-now failures said failures-now said-now

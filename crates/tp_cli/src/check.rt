@@ -1,10 +1,11 @@
 //! The judging of the plan in a file.
 
-ghost use Rattle.std.specs.Prelude.{◌≡◌, ◌≢◌, ◌≤◌, [], IfOk, IfErr};
+ghost use Rattle.std.specs.Prelude.{◌≡◌, ◌≢◌, ◌≤◌, ℕ, [], IfOk, IfErr};
 ghost use Rattle.tp_cli_files.specs.FaultLines.{TellsFault};
 ghost use Rattle.tp_cli_run.specs.Invalid.{SaysInvalid};
 ghost use Rattle.tp_cli.specs.Checks.{EndsCheck, Says, SaysPart, SaysValid, StopsCheck, StopsLine, TellsJudgement};
-ghost use Rattle.tp_cli.specs.Stops.{stop_failures};
+ghost use Rattle.tp_cli.specs.Stops.{stop_failures, stop_unread};
+ghost use Rattle.tp_cli_files.specs.Causes.{counted};
 
 use crate::stops::{PlanStop, stop_line};
 use std::alloc::Global;
@@ -18,6 +19,7 @@ fn tell<O: Sink>(judgement: Judgement, output: &mut O) -> Result<bool, PlanStop>
     ensures said { IfOk result (TellsJudgement judgement (O.held output.old) (O.held output.new)) }
     ensures cause { IfErr result (StopsLine judgement (O.held output.old) (O.held output.new)) }
     ensures failures { O.failures output.new ≡ stop_failures (O.failures output.old) result }
+    ensures opened { (n : ℕ) → counted stop_unread n result ≡ n }
 {
     match write_judgement(output, judgement) {
         Ok(()) => Ok(matches!(judgement, Judgement::Valid)),
@@ -39,6 +41,7 @@ fn check<N: Files, O: Sink>(
     ensures cause { IfErr result
         (StopsCheck (N.held files.old) words.entry (O.held output.old) (O.held output.new)) }
     ensures failures { O.failures output.new ≡ stop_failures (O.failures output.old) result }
+    ensures opened { N.failures files.new ≡ counted stop_unread (N.failures files.old) result }
 {
     match judge_in(alloc, files, words) {
         Ok(judgement) => tell(judgement, output),
@@ -63,7 +66,8 @@ pub fn run_check<N: Files, O: Sink, F: Sink>(
 
     // What stopped it is told, and is as it is told.
     ensures stopped { 2 ≤ result → EndsCheck (N.held files.old) words.entry result
-        (O.held output.old) (O.held output.new) (O.failures output.old) (O.failures output.new)
+        (O.held output.old) (O.held output.new) (N.failures files.old) (N.failures files.new)
+        (O.failures output.old) (O.failures output.new)
         (F.failures faults.old) (F.held faults.old) (F.failures faults.new) (F.held faults.new) }
 
     // Nothing is written for input that is refused, and of the true verdict at most a first part

@@ -8,7 +8,8 @@ ghost use Rattle.tp_cli_inputs.specs.Named.{IsNamedPlan};
 ghost use Rattle.tp_validate.specs.OfTask.{IsOfTask};
 ghost use Rattle.tp_cli_run.specs.Invalid.{SaysInvalid};
 ghost use Rattle.tp_cli.specs.Networks.{EndsNet, Shows, ShowsNetwork, ShowsPart, ShowsVerdict, StopsNet, StopsNetwork, StopsShown, TellsNetwork, WritesNetwork};
-ghost use Rattle.tp_cli.specs.Stops.{stop_failures};
+ghost use Rattle.tp_cli.specs.Stops.{stop_failures, stop_unread};
+ghost use Rattle.tp_cli_files.specs.Causes.{counted};
 
 use crate::stops::{PlanStop, stop_line};
 use std::alloc::Global;
@@ -50,6 +51,7 @@ fn write_network<O: Sink>(
     ensures cause { IfErr result (StopsNetwork plan.now.task plan.now.steps limits.now
         (O.held output.old) (O.held output.new)) }
     ensures failures { O.failures output.new ≡ stop_failures (O.failures output.old) result }
+    ensures opened { (n : ℕ) → counted stop_unread n result ≡ n }
 {
     match lines_of(alloc, plan, limits) {
         Ok(text) => match push_all(output, text.as_bytes()) {
@@ -73,6 +75,7 @@ fn show<O: Sink>(
     ensures cause { IfErr result
         (StopsShown verdict.now limits.now (O.held output.old) (O.held output.new)) }
     ensures failures { O.failures output.new ≡ stop_failures (O.failures output.old) result }
+    ensures opened { (n : ℕ) → counted stop_unread n result ≡ n }
 {
     match verdict {
         Verdict::Valid(plan) => match write_network(alloc, plan, limits, output) {
@@ -102,6 +105,7 @@ fn show_of<O: Sink>(
         → IsNamedPlan held words.entry task.now plan
         → IfErr result (StopsNet held words.entry (O.held output.old) (O.held output.new)) }
     ensures failures { O.failures output.new ≡ stop_failures (O.failures output.old) result }
+    ensures opened { (n : ℕ) → counted stop_unread n result ≡ n }
 {
     let _ = words;
     match verdict_of(alloc, task, plan) {
@@ -124,6 +128,7 @@ fn net<N: Files, O: Sink>(
     ensures cause { IfErr result
         (StopsNet (N.held files.old) words.entry (O.held output.old) (O.held output.new)) }
     ensures failures { O.failures output.new ≡ stop_failures (O.failures output.old) result }
+    ensures opened { N.failures files.new ≡ counted stop_unread (N.failures files.old) result }
 {
     match plan_in(alloc, files, words) {
         Ok(named) => {
@@ -151,7 +156,8 @@ pub fn run_net<N: Files, O: Sink, F: Sink>(
 
     // What stopped it is told, and is as it is told.
     ensures stopped { 2 ≤ result → EndsNet (N.held files.old) words.entry result (O.held output.old)
-        (O.held output.new) (O.failures output.old) (O.failures output.new) (F.failures faults.old)
+        (O.held output.new) (N.failures files.old) (N.failures files.new)
+        (O.failures output.old) (O.failures output.new) (F.failures faults.old)
         (F.held faults.old) (F.failures faults.new) (F.held faults.new) }
 
     // Nothing is written for input that is refused, and of the true text at most a first part where

@@ -136,7 +136,9 @@ fn run_counted<
     requires f_some { 0 < faults.blank.parts }
     ensures ends { Ends (map string_bytes words.now) (call_files (N.held files.old.shelf)
         (L.asked files.old.logs) (L.asked files.new.logs) L.blank
-        (L.named files.new.logs) (L.kept files.new.logs))
+        (L.named files.new.logs) (L.kept files.new.logs)
+        (N.failures files.old.shelf) (N.failures files.new.shelf)
+        (L.failures files.old.logs) (L.failures files.new.logs))
         (R.remaining input.stream)
         (line_writer_contents W.contents output.stream) (V.contents faults.stream) W.contents
         result.status result.output (V.contents result.faults) }
@@ -196,7 +198,9 @@ pub fn run_streams<N: Files, L: Logs, B: Write, R: Read + Drop, W: Write + Drop,
 ) -> Ended<W, V>
     ensures ends { Ends (map string_bytes words.now) (call_files (N.held files.old.shelf)
         (L.asked files.old.logs) (L.asked files.new.logs) L.blank
-        (L.named files.new.logs) (L.kept files.new.logs))
+        (L.named files.new.logs) (L.kept files.new.logs)
+        (N.failures files.old.shelf) (N.failures files.new.shelf)
+        (L.failures files.old.logs) (L.failures files.new.logs))
         (R.remaining input) (W.contents output) (V.contents faults) W.contents result.status
         result.output (V.contents result.faults) }
     ensures quiet { AsksForNoProgress (map string_bytes words.now)

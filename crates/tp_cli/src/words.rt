@@ -40,11 +40,15 @@ pub fn run_words<N: Files, L: Logs, B: Write, I: Source, O: Sink, F: Sink>(
 ) -> u8
     ensures done { result ≡ 0 → DoesWhatIsAsked (map string_bytes words.now)
         (call_files (N.held files.old.shelf) (L.asked files.old.logs) (L.asked files.new.logs)
-        L.blank (L.named files.new.logs) (L.kept files.new.logs))
+        L.blank (L.named files.new.logs) (L.kept files.new.logs)
+        (N.failures files.old.shelf) (N.failures files.new.shelf)
+        (L.failures files.old.logs) (L.failures files.new.logs))
         (I.left input.old) (O.held output.old) (O.held output.new) }
     ensures no { result ≡ 1 → AnswersNo (map string_bytes words.now)
         (call_files (N.held files.old.shelf) (L.asked files.old.logs) (L.asked files.new.logs)
-        L.blank (L.named files.new.logs) (L.kept files.new.logs))
+        L.blank (L.named files.new.logs) (L.kept files.new.logs)
+        (N.failures files.old.shelf) (N.failures files.new.shelf)
+        (L.failures files.old.logs) (L.failures files.new.logs))
         (I.left input.old) (O.held output.old) (O.held output.new) }
 
     // Of a network of bounds alone all is answered, or where the status tells otherwise a first
@@ -66,7 +70,9 @@ pub fn run_words<N: Files, L: Logs, B: Write, I: Source, O: Sink, F: Sink>(
     // What stopped the call is told, and is as it is told.
     ensures stopped { 2 ≤ result → EndsCall (map string_bytes words.now)
         (call_files (N.held files.old.shelf) (L.asked files.old.logs) (L.asked files.new.logs)
-        L.blank (L.named files.new.logs) (L.kept files.new.logs)) (I.left input.old)
+        L.blank (L.named files.new.logs) (L.kept files.new.logs)
+        (N.failures files.old.shelf) (N.failures files.new.shelf)
+        (L.failures files.old.logs) (L.failures files.new.logs)) (I.left input.old)
         (I.failures input.old) (I.failures input.new) result
         (O.held output.old) (O.held output.new) (O.failures output.old) (O.failures output.new)
         (F.failures faults.old) (F.held faults.old) (F.failures faults.new) (F.held faults.new) }
@@ -75,7 +81,9 @@ pub fn run_words<N: Files, L: Logs, B: Write, I: Source, O: Sink, F: Sink>(
     // nothing.
     ensures broken { result ≡ OUT_OF_ORDER → DoesPart (map string_bytes words.now)
         (call_files (N.held files.old.shelf) (L.asked files.old.logs) (L.asked files.new.logs)
-        L.blank (L.named files.new.logs) (L.kept files.new.logs))
+        L.blank (L.named files.new.logs) (L.kept files.new.logs)
+        (N.failures files.old.shelf) (N.failures files.new.shelf)
+        (L.failures files.old.logs) (L.failures files.new.logs))
         (I.left input.old) (O.held output.old) (O.held output.new) }
 
     // Where no answers to commands are asked for, the input is left as it is, and nothing is

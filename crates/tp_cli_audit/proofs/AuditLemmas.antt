@@ -8,10 +8,11 @@ use Rattle.std.proofs.lemmas.List.{length-replicate}
 use Rattle.tp_bounds.specs.Setting.{event_count}
 use Rattle.tp_net.specs.NewNet.{new_setting}
 use Rattle.tp_exec_machine.specs.Machine.{Machine}
+use Rattle.tp_cli_files.specs.Causes.{raised}
 use Rattle.tp_cli_files.specs.FaultLines.{Tells}
 use Rattle.tp_journal.specs.Telling.{IsHeadTold}
 use Rattle.tp_journal.specs.declared.faults.JournalHead.{JournalHead}
-use Rattle.tp_cli_audit.specs.AuditLines.{stop_status, stop_text}
+use Rattle.tp_cli_audit.specs.AuditLines.{stop_status, stop_text, stop_unread}
 use Rattle.tp_cli_audit.specs.Audits.{Hinders, HindersHead, IsFound, Says, found_line, is_journal, say_failures}
 use Rattle.tp_cli_audit.specs.Bare.{EndsBareAudit, HindersBare, HindersTold, IsBareFound, IsToldFound, SaysAuditPart, SaysBare, SaysJournal, SaysWrong, StopsBareAudit, bare_machine}
 use Rattle.tp_cli_audit.specs.declared.audit_lines.AuditStop.{AuditStop}
@@ -105,12 +106,13 @@ same_count (Line k) n = refl
 same_count Head n = refl
 same_count Write n = refl
 
-pub ends : (stop : AuditStop) (input : Option (List ℕ)) (log text : List ℕ) (status line-status : ℕ) (held held-now : Option (List ℕ)) (output output-now failures : ℕ) (before : Option (List ℕ)) (failures-now : ℕ) (now : Option (List ℕ)) → StopsBareAudit input held held-now stop → status ≡ line-status → line-status ≡ stop_status stop → text ≡ stop_text log stop → output-now ≡ say_failures {T = Bool} output (Err stop) → Tells text failures before failures-now now → EndsBareAudit input log status held held-now output output-now failures before failures-now now
-ends stop input log text status line-status held held-now output output-now failures before failures-now now cause is line spelled counted told =
+pub ends : (stop : AuditStop) (input : Option (List ℕ)) (log text : List ℕ) (status line-status : ℕ) (held held-now : Option (List ℕ)) (unread unread-now output output-now failures : ℕ) (before : Option (List ℕ)) (failures-now : ℕ) (now : Option (List ℕ)) → StopsBareAudit input held held-now stop → status ≡ line-status → line-status ≡ stop_status stop → text ≡ stop_text log stop → output-now ≡ say_failures {T = Bool} output (Err stop) → unread-now ≡ raised (stop_unread stop) unread → Tells text failures before failures-now now → EndsBareAudit input log status held held-now unread unread-now output output-now failures before failures-now now
+ends stop input log text status line-status held held-now unread unread-now output output-now failures before failures-now now cause is line spelled counted opened told =
     record {
       stop = stop;
       is = sym (is ∙ line);
       cause = cause;
+      opened = opened;
       write = counted ∙ same_count stop output;
       told = subst (λ t. Tells t failures before failures-now now) spelled told;
     }

@@ -1,5 +1,5 @@
 -- The audit of a plan's journal, from the network of the plan to the words that name it.
-use Rattle.std.proofs.Common.{◌≡◌, ◌∙◌, ℕ, List, [], Option, Bool, true, false, inl, inr, refl, subst, sym, arith}
+use Rattle.std.proofs.Common.{◌≡◌, ◌∙◌, ℕ, List, [], Option, Bool, true, false, inl, inr, refl, ap, subst, sym, arith}
 use Rattle.std.specs.Prelude.{Result, Ok, Err, IfErr, IfOk, IfSome}
 use Rattle.std.specs.Io.KnownBytes.{Appends}
 use Rattle.tp_device.specs.Bytes.{AppendsPart}
@@ -13,10 +13,11 @@ use Rattle.tp_validate.specs.declared.verdicts.Verdict.{Verdict}
 use Rattle.tp_validate.specs.declared.verdicts.Verdict.TheVariants.{Valid, Invalid}
 use Rattle.tp_deorder.specs.Answers.{IsPlanNetOf}
 use Rattle.tp_exec_machine.specs.Machine.{Machine}
+use Rattle.tp_cli_files.specs.Causes.{counted, raised}
 use Rattle.tp_cli_files.specs.FaultLines.{Tells}
 use Rattle.tp_journal.specs.Telling.{IsHeadTold}
 use Rattle.tp_journal.specs.declared.faults.JournalHead.{JournalHead}
-use Rattle.tp_cli_audit.specs.AuditLines.{stop_status}
+use Rattle.tp_cli_audit.specs.AuditLines.{stop_status, stop_unread}
 use Rattle.tp_cli_audit.specs.Audits.{Hinders, HindersHead, IsFound, Says, found_line, is_journal, say_failures}
 use Rattle.tp_cli_audit.specs.declared.audit_lines.AuditStop.{AuditStop}
 use Rattle.tp_cli_audit.specs.declared.audit_lines.AuditStop.TheVariants.{Open, Network, Memory, Read, Line, Head, Write}
@@ -27,7 +28,7 @@ use Rattle.tp_cli_inputs.specs.declared.plan_words.PlanWords.{PlanWords}
 use Rattle.tp_cli_inputs.proofs.NamedLemmas.{Same, explains_over}
 use Rattle.tp_cli_run.proofs.RunLemmas.{Judged, invalid_over, invalid_part_over, named_over}
 use Rattle.tp_cli_run.proofs.StatusLemmas.{IsStatus, judge_is, network_is, three, two}
-use Rattle.tp_cli_audit.specs.AuditStops.{plan_stop_failures, plan_stop_status, plan_stop_text}
+use Rattle.tp_cli_audit.specs.AuditStops.{plan_stop_failures, plan_stop_status, plan_stop_text, plan_stop_unread}
 use Rattle.tp_cli_audit.specs.Ends.{HindersNet, SaysHeaded, SaysNet, SaysSteps, SaysVerdict, StopsHeaded, StopsHeadedBy, StopsNet, StopsSteps, StopsStepsBy, StopsVerdict, audit_result}
 use Rattle.tp_cli_audit.specs.PlanAudits.{EndsPlanAudit, IsNetFound, LagsFit, SaysPlan, StopsAuditing, StopsPlanAudit, WritesAuditPart, audit_machine}
 use Rattle.tp_cli_audit.specs.declared.stop_lines.PlanAuditStop.{PlanAuditStop}
@@ -118,9 +119,14 @@ same_count (Line k) n = refl
 same_count Head n = refl
 same_count Write n = refl
 
-pub counted : (told : Result Bool AuditStop) (r : Result Bool PlanAuditStop) (n m : ℕ) → r ≡ audit_result told → m ≡ say_failures n told → m ≡ plan_stop_failures n r
-counted (Ok b) r n m is count = subst (λ q. m ≡ plan_stop_failures n q) (sym is) count
-counted (Err stop) r n m is count = subst (λ q. m ≡ plan_stop_failures n q) (sym is) (count ∙ same_count stop n)
+pub told_count : (told : Result Bool AuditStop) (r : Result Bool PlanAuditStop) (n m : ℕ) → r ≡ audit_result told → m ≡ say_failures n told → m ≡ plan_stop_failures n r
+told_count (Ok b) r n m is count = subst (λ q. m ≡ plan_stop_failures n q) (sym is) count
+told_count (Err stop) r n m is count = subst (λ q. m ≡ plan_stop_failures n q) (sym is) (count ∙ same_count stop n)
+
+-- the same of the reads of its file
+pub opened_as : (said : Result Bool AuditStop) (r : Result Bool PlanAuditStop) (n m : ℕ) → r ≡ audit_result said → m ≡ counted stop_unread n said → m ≡ counted plan_stop_unread n r
+opened_as (Ok b) r n m is count = count ∙ ap (counted plan_stop_unread n) (sym is)
+opened_as (Err stop) r n m is count = count ∙ ap (counted plan_stop_unread n) (sym is)
 
 -- ---- from a verdict to the words
 
@@ -305,12 +311,13 @@ stop_is (Auditing stop) = audit_is stop
 stop_is (Judging fault) = judge_is fault
 stop_is (Deordering fault) = network_is fault
 
-pub ends : (held : List ℕ → Option (List ℕ)) (w : PlanWords) (log : List ℕ) (status : ℕ) (input before now : Option (List ℕ)) (output output-now failures : ℕ) (said : Option (List ℕ)) (failures-now : ℕ) (said-now : Option (List ℕ)) (stop : PlanAuditStop) (text : List ℕ) → StopsPlanAudit held w input before now stop → status ≡ plan_stop_status stop → output-now ≡ plan_stop_failures {T = Bool} output (Err stop) → text ≡ plan_stop_text log w stop → Tells text failures said failures-now said-now → EndsPlanAudit held w log status input before now output output-now failures said failures-now said-now
-ends held w log status input before now output output-now failures said failures-now said-now stop text cause is write line told =
+pub ends : (held : List ℕ → Option (List ℕ)) (w : PlanWords) (log : List ℕ) (status : ℕ) (input before now : Option (List ℕ)) (unread unread-now output output-now failures : ℕ) (said : Option (List ℕ)) (failures-now : ℕ) (said-now : Option (List ℕ)) (stop : PlanAuditStop) (text : List ℕ) → StopsPlanAudit held w input before now stop → status ≡ plan_stop_status stop → output-now ≡ plan_stop_failures {T = Bool} output (Err stop) → unread-now ≡ raised (plan_stop_unread stop) unread → text ≡ plan_stop_text log w stop → Tells text failures said failures-now said-now → EndsPlanAudit held w log status input before now unread unread-now output output-now failures said failures-now said-now
+ends held w log status input before now unread unread-now output output-now failures said failures-now said-now stop text cause is write opened line told =
     record {
       stop = stop;
       is = sym is;
       cause = cause;
+      opened = opened;
       write = write ∙ any_type stop output;
       told = subst (λ (t : List ℕ). Tells t failures said failures-now said-now) line told;
     }

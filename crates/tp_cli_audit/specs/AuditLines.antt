@@ -1,5 +1,5 @@
 -- The lines of what hinders an audit, and their exit statuses.
-use Rattle.std.specs.Prelude.{ℕ, List, codes}
+use Rattle.std.specs.Prelude.{ℕ, List, Bool, true, false, codes}
 use Rattle.tp_cli_files.specs.FaultLines.{fault_line, named_line, placed_line}
 use Rattle.tp_cli_audit.specs.declared.audit_lines.AuditStop.{AuditStop}
 use Rattle.tp_cli_audit.specs.declared.audit_lines.AuditStop.TheVariants.{Open, Network, Memory, Read, Line, Head, Write}
@@ -22,3 +22,13 @@ stop_text log Read = fault_line (codes "journal") (codes "2 read")
 stop_text log (Line n) = placed_line (codes "journal") (codes "3 line") n
 stop_text log Head = fault_line (codes "journal") (codes "5 head")
 stop_text log Write = fault_line (codes "script") (codes "2 write")
+
+-- the file can't be read
+abbrev pub stop_unread : AuditStop → Bool
+stop_unread Open = true
+stop_unread Network = false
+stop_unread Memory = false
+stop_unread Read = true
+stop_unread (Line n) = false
+stop_unread Head = false
+stop_unread Write = false

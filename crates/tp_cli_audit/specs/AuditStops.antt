@@ -1,8 +1,8 @@
 -- The lines of what hinders the audit of a plan's journal, and their exit statuses.
-use Rattle.std.specs.Prelude.{ℕ, List, Result, Ok, Err}
-use Rattle.tp_cli_audit.specs.AuditLines.{stop_status, stop_text}
+use Rattle.std.specs.Prelude.{ℕ, List, Bool, false, Result, Ok, Err}
+use Rattle.tp_cli_audit.specs.AuditLines.{stop_status, stop_text, stop_unread}
 use Rattle.tp_cli_audit.specs.Audits.{say_failures}
-use Rattle.tp_cli_inputs.specs.JudgeLines.{judge_status, judge_text}
+use Rattle.tp_cli_inputs.specs.JudgeLines.{judge_status, judge_text, judge_unread}
 use Rattle.tp_cli_inputs.specs.declared.plan_words.PlanWords.{PlanWords}
 use Rattle.tp_cli_run.specs.RunLines.{network_status, network_text}
 use Rattle.tp_cli_audit.specs.declared.stop_lines.PlanAuditStop.{PlanAuditStop}
@@ -25,3 +25,9 @@ plan_stop_failures n (Ok x) = n
 plan_stop_failures n (Err (Auditing stop)) = say_failures {T = Unit {0}} n (Err stop)
 plan_stop_failures n (Err (Judging fault)) = n
 plan_stop_failures n (Err (Deordering fault)) = n
+
+-- a file can't be read
+abbrev pub plan_stop_unread : PlanAuditStop → Bool
+plan_stop_unread (Auditing stop) = stop_unread stop
+plan_stop_unread (Judging fault) = judge_unread fault
+plan_stop_unread (Deordering fault) = false

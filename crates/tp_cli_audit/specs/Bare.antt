@@ -6,12 +6,13 @@ use Rattle.tp_device.specs.Bytes.{AppendsPart}
 use Rattle.tp_bounds.specs.Setting.{Setting}
 use Rattle.tp_bounds.specs.Changes.{with_lag}
 use Rattle.tp_exec_machine.specs.Machine.{Machine}
+use Rattle.tp_cli_files.specs.Causes.{raised}
 use Rattle.tp_cli_files.specs.FaultLines.{Tells}
 use Rattle.tp_journal.specs.Auditing.{HasOtherHead}
 use Rattle.tp_journal.specs.Telling.{IsHeadTold}
 use Rattle.tp_journal.specs.declared.faults.JournalHead.{JournalHead}
 use Rattle.tp_cli_bare.specs.Bare.{first_machine, first_setting}
-use Rattle.tp_cli_audit.specs.AuditLines.{stop_status, stop_text}
+use Rattle.tp_cli_audit.specs.AuditLines.{stop_status, stop_text, stop_unread}
 use Rattle.tp_cli_audit.specs.Audits.{BreaksLog, IsFound, Says, found_line, say_failures}
 use Rattle.tp_cli_audit.specs.declared.audit_lines.AuditStop.{AuditStop}
 use Rattle.tp_cli_audit.specs.declared.audit_lines.AuditStop.TheVariants.{Open, Network, Memory, Read, Line, Head, Write}
@@ -123,12 +124,15 @@ StopsBareAudit input held now Head =
 StopsBareAudit input held now Write =
     (f : Found) × IsBareFound input f × AppendsPart held now (found_line f)
 
--- What hindered it with that status was told, and it is as it tells. A failed write is one that the count of failures tells of.
+-- What hindered it with that status was told, and it is as it tells. A file that can't be read and a failed write are ones that the
+-- counts of failures tell of.
 pub record EndsBareAudit (input : Option (List ℕ)) (log : List ℕ) (status : ℕ)
-    (held held-now : Option (List ℕ)) (output output-now : ℕ) (failures : ℕ)
+    (held held-now : Option (List ℕ)) (unread unread-now : ℕ) (output output-now : ℕ)
+    (failures : ℕ)
     (before : Option (List ℕ)) (failures-now : ℕ) (now : Option (List ℕ)) : Type 0 where
   pub stop : AuditStop
   pub is : stop_status stop ≡ status
   pub cause : StopsBareAudit input held held-now stop
+  pub opened : unread-now ≡ raised (stop_unread stop) unread
   pub write : output-now ≡ say_failures {T = Unit {0}} output (Err stop)
   pub told : Tells (stop_text log stop) failures before failures-now now

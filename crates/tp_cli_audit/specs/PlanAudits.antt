@@ -9,6 +9,7 @@ use Rattle.tp_task.specs.declared.task.Task.{Task}
 use Rattle.tp_happen.specs.tp_plan_text.declared.plans.Step.{Step}
 use Rattle.tp_deorder.specs.Answers.{IsPlanNetOf, OnTooMany, PassesLimits}
 use Rattle.tp_exec_machine.specs.Machine.{Machine}
+use Rattle.tp_cli_files.specs.Causes.{raised}
 use Rattle.tp_cli_files.specs.FaultLines.{Tells}
 use Rattle.tp_cli_bare.specs.Bare.{first_setting}
 use Rattle.tp_journal.specs.Auditing.{HasOtherHead}
@@ -25,7 +26,7 @@ use Rattle.tp_cli_inputs.specs.declared.plan_words.PlanWords.{PlanWords}
 use Rattle.tp_cli_run.specs.Invalid.{SaysInvalid, SaysInvalidPart}
 use Rattle.tp_cli_run.specs.Runs.{RunsNamed}
 use Rattle.tp_cli_run.specs.Starts.{net_head, run_machine}
-use Rattle.tp_cli_audit.specs.AuditStops.{plan_stop_failures, plan_stop_status, plan_stop_text}
+use Rattle.tp_cli_audit.specs.AuditStops.{plan_stop_failures, plan_stop_status, plan_stop_text, plan_stop_unread}
 use Rattle.tp_cli_audit.specs.declared.stop_lines.PlanAuditStop.{PlanAuditStop}
 use Rattle.tp_cli_audit.specs.declared.stop_lines.PlanAuditStop.TheVariants.{Auditing, Judging, Deordering}
 
@@ -127,13 +128,16 @@ StopsPlanAudit held w input before now (Deordering fault) =
     WithHead input (λ head. RunsNamed held w (λ task steps. OnTooMany fault
     (PassesLimits (greatest_limits w.horizon) task steps))) × (now ≡ before)
 
--- What hindered it with that status was told, and it is as it tells. A failed write is one that the count of failures tells of.
+-- What hindered it with that status was told, and it is as it tells. A file that can't be read and a failed write are ones that the
+-- counts of failures tell of.
 pub record EndsPlanAudit (held : List ℕ → Option (List ℕ)) (w : PlanWords) (log : List ℕ)
-    (status : ℕ) (input before now : Option (List ℕ)) (output output-now : ℕ) (failures : ℕ)
+    (status : ℕ) (input before now : Option (List ℕ)) (unread unread-now : ℕ)
+    (output output-now : ℕ) (failures : ℕ)
     (said : Option (List ℕ)) (failures-now : ℕ) (said-now : Option (List ℕ)) : Type 0 where
   pub stop : PlanAuditStop
   pub is : plan_stop_status stop ≡ status
   pub cause : StopsPlanAudit held w input before now stop
+  pub opened : unread-now ≡ raised (plan_stop_unread stop) unread
   pub write : output-now ≡ plan_stop_failures {T = Unit {0}} output (Err stop)
   pub told : Tells (plan_stop_text log w stop) failures said failures-now said-now
 

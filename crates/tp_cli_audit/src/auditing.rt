@@ -3,6 +3,8 @@
 ghost use Rattle.std.specs.Prelude.{◌≡◌, ℕ, List, IfOk, IfErr, IfSome};
 ghost use Rattle.tp_journal_pairs.specs.Writing.{IsNewExecutive};
 ghost use Rattle.tp_journal.specs.Telling.{IsHeadTold};
+ghost use Rattle.tp_cli_files.specs.Causes.{counted};
+ghost use Rattle.tp_cli_audit.specs.AuditLines.{stop_unread};
 ghost use Rattle.tp_cli_audit.specs.Audits.{Hinders, HindersHead, IsFound, Leads};
 
 use crate::audit_lines::AuditStop;
@@ -27,20 +29,24 @@ pub enum Found {
 }
 
 /// The head of the journal that a source has left.
-pub fn head_of<S: Source + Drop>(alloc: Global, source: S) -> Result<JournalHead, AuditStop>
-    ensures head { IfOk result (λ head. IfSome (S.left source) (λ bytes. IsHeadTold bytes head)) }
-    ensures cause { IfErr result (HindersHead (S.left source)) }
+pub fn head_of<S: Source>(alloc: Global, source: &mut S) -> Result<JournalHead, AuditStop>
+    ensures head { IfOk result
+        (λ head. IfSome (S.left source.old) (λ bytes. IsHeadTold bytes head)) }
+    ensures cause { IfErr result (HindersHead (S.left source.old)) }
+    ensures opened { S.failures source.new ≡ counted stop_unread (S.failures source.old) result }
 {
-    let mut source = source;
     match LineBuffers::new(alloc, LONGEST) {
         Ok(buffers) => {
-            let mut lines = Lines::new(buffers, &mut source);
-            match journal_head(alloc, &mut lines) {
+            let mut lines = Lines::new(buffers, source);
+            let told = journal_head(alloc, &mut lines);
+            let _source = lines.into_source();
+            match told {
                 Ok(head) => Ok(head),
                 Err(AuditFault::Memory) => Err(AuditStop::Memory),
                 Err(AuditFault::Read) => Err(AuditStop::Read),
                 Err(AuditFault::Line(n)) => Err(AuditStop::Line(n)),
-                Err(_) => Err(AuditStop::Head),
+                Err(AuditFault::Wrong(_)) => Err(AuditStop::Head),
+                Err(AuditFault::Head) => Err(AuditStop::Head),
             }
         }
         Err(_) => Err(AuditStop::Memory),
@@ -57,9 +63,15 @@ pub fn head_in<N: Files>(alloc: Global, files: &mut N, log: &str) -> Result<Jour
         IfSome (N.held files.old log.now) (λ bytes. IsHeadTold bytes head)) }
     ensures cause { IfErr result (HindersHead (N.held files.old log.now)) }
     ensures same { (other : List ℕ) → N.held files.new other ≡ N.held files.old other }
+    ensures opened { N.failures files.new ≡ counted stop_unread (N.failures files.old) result }
 {
     match files.open(log) {
-        Ok(source) => head_of(alloc, source),
+        Ok(source) => {
+            let mut source = source;
+            let head = head_of(alloc, &mut source);
+            files.close(source);
+            head
+        }
         Err(_) => Err(AuditStop::Open),
     }
 }
@@ -71,21 +83,23 @@ pub fn head_in<N: Files>(alloc: Global, files: &mut N, log: &str) -> Result<Jour
 /// # Errors
 /// `Read` where a read fails, `Memory`; `Line(n)` where line n breaks the format; `Head` for the
 /// head of another executive.
-pub fn replay_of<S: Source + Drop>(
+pub fn replay_of<S: Source>(
     alloc: Global,
-    source: S,
+    source: &mut S,
     executive: &mut Executive<RepairNet>,
 ) -> Result<Found, AuditStop>
     requires { IsNewExecutive executive.old }
-    ensures found { IfOk result (IsFound executive.old (S.left source)) }
-    ensures leads { IfOk result (Leads executive.old executive.new (S.left source)) }
-    ensures cause { IfErr result (Hinders executive.old (S.left source)) }
+    ensures found { IfOk result (IsFound executive.old (S.left source.old)) }
+    ensures leads { IfOk result (Leads executive.old executive.new (S.left source.old)) }
+    ensures cause { IfErr result (Hinders executive.old (S.left source.old)) }
+    ensures opened { S.failures source.new ≡ counted stop_unread (S.failures source.old) result }
 {
-    let mut source = source;
     match LineBuffers::new(alloc, LONGEST) {
         Ok(buffers) => {
-            let mut lines = Lines::new(buffers, &mut source);
-            match replay(alloc, executive, &mut lines) {
+            let mut lines = Lines::new(buffers, source);
+            let replayed = replay(alloc, executive, &mut lines);
+            let _source = lines.into_source();
+            match replayed {
                 Ok(audited) => Ok(Found::Journal(audited.pairs)),
                 Err(AuditFault::Wrong(n)) => Ok(Found::Wrong(n)),
                 Err(AuditFault::Memory) => Err(AuditStop::Memory),
@@ -102,14 +116,15 @@ pub fn replay_of<S: Source + Drop>(
 ///
 /// # Errors
 /// Those of `replay_of`.
-pub fn audit_of<S: Source + Drop>(
+pub fn audit_of<S: Source>(
     alloc: Global,
-    source: S,
+    source: &mut S,
     executive: Executive<RepairNet>,
 ) -> Result<Found, AuditStop>
     requires { IsNewExecutive executive }
-    ensures found { IfOk result (IsFound executive (S.left source)) }
-    ensures cause { IfErr result (Hinders executive (S.left source)) }
+    ensures found { IfOk result (IsFound executive (S.left source.old)) }
+    ensures cause { IfErr result (Hinders executive (S.left source.old)) }
+    ensures opened { S.failures source.new ≡ counted stop_unread (S.failures source.old) result }
 {
     let mut executive = executive;
     replay_of(alloc, source, &mut executive)
@@ -129,9 +144,15 @@ pub fn audit_in<N: Files>(
     ensures found { IfOk result (IsFound executive (N.held files.old log.now)) }
     ensures cause { IfErr result (Hinders executive (N.held files.old log.now)) }
     ensures same { (other : List ℕ) → N.held files.new other ≡ N.held files.old other }
+    ensures opened { N.failures files.new ≡ counted stop_unread (N.failures files.old) result }
 {
     match files.open(log) {
-        Ok(source) => audit_of(alloc, source, executive),
+        Ok(source) => {
+            let mut source = source;
+            let found = audit_of(alloc, &mut source, executive);
+            files.close(source);
+            found
+        }
         Err(_) => Err(AuditStop::Open),
     }
 }

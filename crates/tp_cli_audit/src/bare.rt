@@ -6,6 +6,8 @@ ghost use Rattle.tp_exec_machine.specs.Machine.{IsFresh};
 ghost use Rattle.tp_cli_files.specs.FaultLines.{TellsFault};
 ghost use Rattle.tp_journal_pairs.specs.Writing.{IsNewExecutive};
 ghost use Rattle.tp_bounds.specs.Setting.{event_count};
+ghost use Rattle.tp_cli_files.specs.Causes.{counted};
+ghost use Rattle.tp_cli_audit.specs.AuditLines.{stop_unread};
 ghost use Rattle.tp_cli_audit.specs.Audits.{say_failures};
 ghost use Rattle.tp_cli_audit.specs.Bare.{EndsBareAudit, HeadFits, HindersBare, HindersTold, IsBareFound, IsBareHead, IsToldFound, LagFits, SaysAuditPart, SaysBare, SaysJournal, SaysWrong, StopsBareAudit, bare_machine, lagged};
 
@@ -81,6 +83,7 @@ fn audit_told<N: Files>(
 ) -> Result<Found, AuditStop>
     ensures found { IfOk result (IsToldFound head.now (N.held files.old log.now)) }
     ensures cause { IfErr result (HindersTold head.now (N.held files.old log.now)) }
+    ensures opened { N.failures files.new ≡ counted stop_unread (N.failures files.old) result }
 {
     if !is_bare(head) {
         return Err(AuditStop::Head);
@@ -95,6 +98,7 @@ fn audit_told<N: Files>(
 fn audit_bare<N: Files>(alloc: Global, files: &mut N, log: &str) -> Result<Found, AuditStop>
     ensures found { IfOk result (IsBareFound (N.held files.old log.now)) }
     ensures cause { IfErr result (HindersBare (N.held files.old log.now)) }
+    ensures opened { N.failures files.new ≡ counted stop_unread (N.failures files.old) result }
 {
     match head_in(alloc, files, log) {
         Ok(head) => audit_told(alloc, files, log, &head),
@@ -114,6 +118,7 @@ fn say_bare<N: Files, O: Sink>(
     ensures cause { IfErr result
         (StopsBareAudit (N.held files.old log.now) (O.held output.old) (O.held output.new)) }
     ensures failures { O.failures output.new ≡ say_failures (O.failures output.old) result }
+    ensures opened { N.failures files.new ≡ counted stop_unread (N.failures files.old) result }
 {
     match audit_bare(alloc, files, log) {
         Ok(found) => say(output, found),
@@ -141,7 +146,8 @@ pub fn run_bare_audit<N: Files, O: Sink, F: Sink>(
 
     // What hindered it is told, and is as it is told.
     ensures stopped { 2 ≤ result → EndsBareAudit (N.held files.old log.now) log.now result
-        (O.held output.old) (O.held output.new) (O.failures output.old) (O.failures output.new)
+        (O.held output.old) (O.held output.new) (N.failures files.old) (N.failures files.new)
+        (O.failures output.old) (O.failures output.new)
         (F.failures faults.old) (F.held faults.old) (F.failures faults.new) (F.held faults.new) }
     ensures kept { result ≡ REFUSED → O.held output.new ≡ O.held output.old }
     ensures part { result ≡ OUT_OF_ORDER

@@ -1,8 +1,9 @@
 //! The audit of the journal in a file against the plan that words name.
 
-ghost use Rattle.std.specs.Prelude.{◌≡◌, ◌≢◌, ◌≤◌, ℕ, List, [], Option, IfOk, IfErr};
+ghost use Rattle.std.specs.Prelude.{◌≡◌, ◌≢◌, ◌+◌, ◌≤◌, ℕ, List, [], Option, IfOk, IfErr};
 ghost use Rattle.tp_cli_files.specs.FaultLines.{TellsFault};
-ghost use Rattle.tp_cli_audit.specs.AuditStops.{plan_stop_failures};
+ghost use Rattle.tp_cli_files.specs.Causes.{counted};
+ghost use Rattle.tp_cli_audit.specs.AuditStops.{plan_stop_failures, plan_stop_unread};
 ghost use Rattle.tp_cli_audit.specs.Ends.{SaysHeaded, StopsHeaded};
 ghost use Rattle.tp_cli_audit.specs.PlanAudits.{EndsPlanAudit, SaysPlan, SaysPlanJournal, SaysPlanNo, StopsPlanAudit, WritesAuditPart};
 ghost use Rattle.tp_cli_inputs.specs.Named.{IsNamedPlan};
@@ -21,24 +22,26 @@ use tp_task::Task;
 
 /// Audits what a source has left, a journal with that head, against the plan that the words name,
 /// of its task, and writes what was found. Answers whether the plan is valid and it is a journal.
-fn audit_task<S: Source + Drop, O: Sink>(
+fn audit_task<S: Source, O: Sink>(
     alloc: Global,
     words: PlanWords<'_>,
     task: &Task,
     plan: Plan,
     head: &JournalHead,
-    source: S,
+    source: &mut S,
     output: &mut O,
 ) -> Result<bool, PlanAuditStop>
     requires limit { words.horizon ≤ 1000000000 }
     requires of_task { IsOfTask task.now plan }
     ensures said { (held : List ℕ → Option (List ℕ))
         → IsNamedPlan held words.entry task.now plan → IfOk result (SaysHeaded held
-        words.entry head.now (S.left source) (O.held output.old) (O.held output.new)) }
+        words.entry head.now (S.left source.old) (O.held output.old) (O.held output.new)) }
     ensures cause { (held : List ℕ → Option (List ℕ))
         → IsNamedPlan held words.entry task.now plan → IfErr result (StopsHeaded held
-        words.entry head.now (S.left source) (O.held output.old) (O.held output.new)) }
+        words.entry head.now (S.left source.old) (O.held output.old) (O.held output.new)) }
     ensures failures { O.failures output.new ≡ plan_stop_failures (O.failures output.old) result }
+    ensures opened { S.failures source.new ≡
+        counted plan_stop_unread (S.failures source.old) result }
 {
     match verdict_of(alloc, task, plan) {
         Ok(verdict) => audit_verdict(alloc, &verdict, words.horizon, head, source, output),
@@ -47,20 +50,22 @@ fn audit_task<S: Source + Drop, O: Sink>(
 }
 
 /// The same with the files read. A file is opened only when what stands before it is done.
-fn audit_words<N: Files, S: Source + Drop, O: Sink>(
+fn audit_words<N: Files, S: Source, O: Sink>(
     alloc: Global,
     files: &mut N,
     words: PlanWords<'_>,
     head: &JournalHead,
-    source: S,
+    source: &mut S,
     output: &mut O,
 ) -> Result<bool, PlanAuditStop>
     requires { words.horizon ≤ 1000000000 }
-    ensures said { IfOk result (SaysHeaded (N.held files.old) words.entry head.now (S.left source)
+    ensures said { IfOk result (SaysHeaded (N.held files.old) words.entry head.now (S.left source.old)
         (O.held output.old) (O.held output.new)) }
     ensures cause { IfErr result (StopsHeaded (N.held files.old) words.entry head.now
-        (S.left source) (O.held output.old) (O.held output.new)) }
+        (S.left source.old) (O.held output.old) (O.held output.new)) }
     ensures failures { O.failures output.new ≡ plan_stop_failures (O.failures output.old) result }
+    ensures opened { N.failures files.new + S.failures source.new ≡ counted plan_stop_unread
+        (N.failures files.old + S.failures source.old) result }
 {
     match plan_in(alloc, files, words) {
         Ok(named) => {
@@ -87,9 +92,15 @@ fn audit_opened<N: Files, O: Sink>(
     ensures cause { IfErr result (StopsHeaded (N.held files.old) words.entry head.now
         (N.held files.old log.now) (O.held output.old) (O.held output.new)) }
     ensures failures { O.failures output.new ≡ plan_stop_failures (O.failures output.old) result }
+    ensures opened { N.failures files.new ≡ counted plan_stop_unread (N.failures files.old) result }
 {
     match files.open(log) {
-        Ok(source) => audit_words(alloc, files, words, head, source, output),
+        Ok(source) => {
+            let mut source = source;
+            let audited = audit_words(alloc, files, words, head, &mut source, output);
+            files.close(source);
+            audited
+        }
         Err(_) => Err(PlanAuditStop::Auditing(AuditStop::Open)),
     }
 }
@@ -108,6 +119,7 @@ fn audit_log<N: Files, O: Sink>(
     ensures cause { IfErr result (StopsPlanAudit (N.held files.old) words.entry
         (N.held files.old log.now) (O.held output.old) (O.held output.new)) }
     ensures failures { O.failures output.new ≡ plan_stop_failures (O.failures output.old) result }
+    ensures opened { N.failures files.new ≡ counted plan_stop_unread (N.failures files.old) result }
 {
     match head_in(alloc, files, log) {
         Ok(head) => audit_opened(alloc, files, log, words, &head, output),
@@ -140,6 +152,7 @@ pub fn run_plan_audit<N: Files, O: Sink, F: Sink>(
     // What hindered it is told, and is as it is told.
     ensures stopped { 2 ≤ result → EndsPlanAudit (N.held files.old) words.entry log.now result
         (N.held files.old log.now) (O.held output.old) (O.held output.new)
+        (N.failures files.old) (N.failures files.new)
         (O.failures output.old) (O.failures output.new)
         (F.failures faults.old) (F.held faults.old) (F.failures faults.new) (F.held faults.new) }
     ensures kept { result ≡ REFUSED → O.held output.new ≡ O.held output.old }

@@ -1,7 +1,9 @@
 //! The lines of what an audit found.
 
-ghost use Rattle.std.specs.Prelude.{◌≡◌, ◌++◌, codes, decimal, IfOk, IfErr};
+ghost use Rattle.std.specs.Prelude.{◌≡◌, ℕ, ◌++◌, codes, decimal, IfOk, IfErr};
 ghost use Rattle.tp_device.specs.Bytes.{Writes, AppendsPart, failures_after};
+ghost use Rattle.tp_cli_files.specs.Causes.{counted};
+ghost use Rattle.tp_cli_audit.specs.AuditLines.{stop_unread};
 ghost use Rattle.tp_cli_audit.specs.Audits.{Says, found_line, say_failures};
 
 use crate::audit_lines::AuditStop;
@@ -57,6 +59,7 @@ pub fn say<O: Sink>(output: &mut O, found: Found) -> Result<bool, AuditStop>
     ensures part { IfErr result (λ stop. (stop ≡ AuditStop.Write)
         × AppendsPart (O.held output.old) (O.held output.new) (found_line found)) }
     ensures failures { O.failures output.new ≡ say_failures (O.failures output.old) result }
+    ensures opened { (n : ℕ) → counted stop_unread n result ≡ n }
 {
     match write_found(output, found) {
         Ok(()) => Ok(matches!(found, Found::Journal(_))),

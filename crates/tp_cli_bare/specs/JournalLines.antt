@@ -1,5 +1,5 @@
 -- The lines of what ends commands early whose journal is kept, and their exit statuses.
-use Rattle.std.specs.Prelude.{ℕ, List, codes}
+use Rattle.std.specs.Prelude.{ℕ, List, Bool, true, false, codes}
 use Rattle.tp_cli_files.specs.FaultLines.{fault_line}
 use Rattle.tp_journal_pairs.specs.declared.faults.JournalFault.{JournalFault}
 use Rattle.tp_journal_pairs.specs.declared.faults.JournalFault.TheVariants.{Read, Write, Log, TooLong}
@@ -28,3 +28,16 @@ abbrev pub stop_text : JournalStop → List ℕ
 stop_text Making = fault_line (codes "script") (codes "6 log")
 stop_text (Beginning fault) = bare_text fault
 stop_text (Journaling fault) = journal_text fault
+
+-- a write to the journal failed
+abbrev pub journal_unlogged : JournalFault → Bool
+journal_unlogged Read = false
+journal_unlogged Write = false
+journal_unlogged Log = true
+journal_unlogged TooLong = false
+
+-- the journal can't be made, or a write to it failed
+abbrev pub stop_unlogged : JournalStop → Bool
+stop_unlogged Making = true
+stop_unlogged (Beginning fault) = false
+stop_unlogged (Journaling fault) = journal_unlogged fault

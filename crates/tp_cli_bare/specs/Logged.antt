@@ -11,10 +11,11 @@ use Rattle.tp_journal_pairs.specs.Journal.{Entry, Runs}
 use Rattle.tp_journal_pairs.specs.Writing.{EntersAll, Journals, journal_bytes}
 use Rattle.tp_journal_pairs.specs.declared.faults.JournalFault.{JournalFault}
 use Rattle.tp_journal_pairs.specs.declared.faults.JournalFault.TheVariants.{Read, Write, Log, TooLong}
+use Rattle.tp_cli_files.specs.Causes.{raised}
 use Rattle.tp_cli_files.specs.FaultLines.{Tells}
 use Rattle.tp_cli_bare.specs.Bare.{AnswersHead, BareStops, BeginsLines, TakesAllLags, bare_read_failures, first_machine}
 use Rattle.tp_cli_bare.specs.declared.bare.BareFault.TheVariants.{Network, Serving}
-use Rattle.tp_cli_bare.specs.JournalLines.{stop_status, stop_text}
+use Rattle.tp_cli_bare.specs.JournalLines.{stop_status, stop_text, stop_unlogged}
 use Rattle.tp_cli_bare.specs.declared.journal_lines.JournalStop.{JournalStop}
 use Rattle.tp_cli_bare.specs.declared.journal_lines.JournalStop.TheVariants.{Making, Beginning, Journaling}
 
@@ -121,25 +122,17 @@ input_failures n (Err (Journaling Write)) = n
 input_failures n (Err (Journaling Log)) = n
 input_failures n (Err (Journaling TooLong)) = n
 
--- a write of the log that failed is counted
-abbrev pub log_failures : {T : Type 0} → ℕ → Result T JournalStop → ℕ
-log_failures n (Ok x) = n
-log_failures n (Err Making) = n
-log_failures n (Err (Beginning fault)) = n
-log_failures n (Err (Journaling Read)) = n
-log_failures n (Err (Journaling Write)) = n
-log_failures n (Err (Journaling Log)) = n + 1
-log_failures n (Err (Journaling TooLong)) = n
-
 -- The stop that ended it with that status was told, and it is as it tells; a file that was made has the name that was asked for. A failed
--- read of the input and a failed write are ones that the counts of failures tell of.
+-- read of the input, a journal that can't be made or written, and a failed write are ones that the counts of failures tell of.
 pub record EndsJournaled (status : ℕ) (input : Option (List ℕ)) (reads reads-now : ℕ)
-    (held held-now log logged : Option (List ℕ)) (name : List ℕ) (named : Option (List ℕ)) (output output-now : ℕ) (failures : ℕ)
+    (held held-now log logged : Option (List ℕ)) (name : List ℕ) (named : Option (List ℕ)) (logs logs-now : ℕ)
+    (output output-now : ℕ) (failures : ℕ)
     (before : Option (List ℕ)) (failures-now : ℕ) (now : Option (List ℕ)) : Type 0 where
   pub stop : JournalStop
   pub is : stop_status stop ≡ status
   pub cause : StopsLogged input held held-now log logged stop
   pub names : NamesFile name named stop
   pub read : reads-now ≡ input_failures {T = Unit {0}} reads (Err stop)
+  pub journal : logs-now ≡ raised (stop_unlogged stop) logs
   pub write : output-now ≡ output_failures {T = Unit {0}} output (Err stop)
   pub told : Tells (stop_text stop) failures before failures-now now

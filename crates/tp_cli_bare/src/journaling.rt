@@ -1,7 +1,9 @@
 //! Commands on a network of bounds alone, with their journal.
 
 ghost use Rattle.std.specs.Prelude.{◌≡◌, ℕ, ◌≤◌, IfErr, OnOk};
-ghost use Rattle.tp_cli_bare.specs.Logged.{LogsAll, LogsFrom, StopsLogged, input_failures, log_failures, logged_result, output_failures};
+ghost use Rattle.tp_cli_bare.specs.Logged.{LogsAll, LogsFrom, StopsLogged, input_failures, logged_result, output_failures};
+ghost use Rattle.tp_cli_bare.specs.JournalLines.{stop_unlogged};
+ghost use Rattle.tp_cli_files.specs.Causes.{counted};
 
 use crate::journal_lines::JournalStop;
 use crate::{BareFault, begin};
@@ -50,7 +52,7 @@ fn answer<I: Source, O: Sink, L: Sink>(
     ensures most { lines.new.most ≡ lines.old.most }
     ensures source { lines.new.source ≡ lines.old.source }
     ensures told { O.failures output.new ≡ output_failures (O.failures output.old) result }
-    ensures log { L.failures log.new ≡ log_failures (L.failures log.old) result }
+    ensures log { L.failures log.new ≡ counted stop_unlogged (L.failures log.old) result }
     ensures read { lines.new.failures ≡ input_failures lines.old.failures result }
 {
     match begin(alloc, lines, events, horizon) {
@@ -79,7 +81,7 @@ fn log_all<I: Source, O: Sink, L: Sink>(
         (O.held output.new) (L.held log.old) (L.held log.new)) }
     ensures source { lines.new.source ≡ lines.old.source }
     ensures told { O.failures output.new ≡ output_failures (O.failures output.old) result }
-    ensures log { L.failures log.new ≡ log_failures (L.failures log.old) result }
+    ensures log { L.failures log.new ≡ counted stop_unlogged (L.failures log.old) result }
     ensures read { lines.new.failures ≡ input_failures lines.old.failures result }
 {
     let (events, horizon) = read_head(lines)?;
@@ -98,7 +100,7 @@ pub(crate) fn log_bare<I: Source, O: Sink, L: Sink>(
     ensures cause { IfErr result (StopsLogged (I.left input.old) (O.held output.old)
         (O.held output.new) (L.held log.old) (L.held log.new)) }
     ensures told { O.failures output.new ≡ output_failures (O.failures output.old) result }
-    ensures log { L.failures log.new ≡ log_failures (L.failures log.old) result }
+    ensures log { L.failures log.new ≡ counted stop_unlogged (L.failures log.old) result }
     ensures read { I.failures input.new ≡ input_failures (I.failures input.old) result }
 {
     let buffers = LineBuffers::new(alloc, LONGEST_LINE)?;

@@ -1,8 +1,10 @@
 //! The commands of the input, with the journal file of a name.
 
 ghost use Rattle.std.specs.Prelude.{◌≡◌, ◌≢◌, ◌≤◌, suc, [], option_map, OnOk, IfErr, IfSome};
+ghost use Rattle.tp_cli_files.specs.Causes.{counted};
 ghost use Rattle.tp_cli_files.specs.FaultLines.{TellsFault};
 ghost use Rattle.tp_cli_bare.specs.Bare.{IsRefused};
+ghost use Rattle.tp_cli_bare.specs.JournalLines.{stop_unlogged};
 ghost use Rattle.tp_cli_bare.specs.Logged.{EndsJournaled, LogsAll, LogsPart, NamesFile, StopsLogged, input_failures, output_failures};
 
 use crate::journal_lines::{JournalStop, journal_stop_line};
@@ -29,6 +31,7 @@ fn journaled<N: Logs, I: Source, O: Sink>(
     ensures names { IfErr result (NamesFile name.now (N.named files.new)) }
     ensures told { O.failures output.new ≡ output_failures (O.failures output.old) result }
     ensures read { I.failures input.new ≡ input_failures (I.failures input.old) result }
+    ensures log { N.failures files.new ≡ counted stop_unlogged (N.failures files.old) result }
 {
     match files.make(name) {
         Ok(log) => {
@@ -79,7 +82,7 @@ pub fn run_bare_journal<N: Logs, I: Source, O: Sink, F: Sink>(
         (F.failures faults.new) (F.held faults.new) }
     ensures ends { result ≢ 0 → EndsJournaled result (I.left input.old) (I.failures input.old)
         (I.failures input.new) (O.held output.old) (O.held output.new) N.blank (N.kept files.new)
-        name.now (N.named files.new)
+        name.now (N.named files.new) (N.failures files.old) (N.failures files.new)
         (O.failures output.old) (O.failures output.new)
         (F.failures faults.old) (F.held faults.old) (F.failures faults.new) (F.held faults.new) }
 {

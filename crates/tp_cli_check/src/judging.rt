@@ -1,8 +1,10 @@
 //! The judging of the plan in a file.
 
-ghost use Rattle.std.specs.Prelude.{◌≤◌, IfOk, IfErr};
+ghost use Rattle.std.specs.Prelude.{◌≡◌, ◌≤◌, ℕ, IfOk, IfErr};
 ghost use Rattle.tp_validate.specs.OfTask.{IsOfTask};
+ghost use Rattle.tp_cli_files.specs.Causes.{counted};
 ghost use Rattle.tp_cli_inputs.specs.Causes.{Explains, IsUnjudged};
+ghost use Rattle.tp_cli_inputs.specs.JudgeLines.{judge_unread};
 ghost use Rattle.tp_cli_check.specs.Files.{IsJudged};
 ghost use Rattle.tp_cli_check.specs.Judgements.{IsJudgement};
 
@@ -20,6 +22,7 @@ fn judge(alloc: Global, task: &Task, plan: Plan) -> Result<Judgement, JudgeFault
     requires { IsOfTask task.now plan }
     ensures judged { IfOk result (IsJudgement task.now plan) }
     ensures fault { IfErr result (IsUnjudged task.now plan) }
+    ensures opened { (n : ℕ) → counted judge_unread n result ≡ n }
 {
     match verdict_of(alloc, task, plan) {
         Ok(Verdict::Valid(_)) => Ok(Judgement::Valid),
@@ -43,6 +46,7 @@ pub fn judge_in<N: Files>(
     requires { words.horizon ≤ 1000000000 }
     ensures judged { IfOk result (IsJudged (N.held files.old) words.entry) }
     ensures cause { IfErr result (Explains (N.held files.old) words.entry) }
+    ensures opened { N.failures files.new ≡ counted judge_unread (N.failures files.old) result }
 {
     match plan_in(alloc, files, words) {
         Ok(named) => {

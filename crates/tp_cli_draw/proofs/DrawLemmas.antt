@@ -1,6 +1,6 @@
 -- The picture of the plan that the words name, and why there is none.
 use Rattle.std.proofs.Common.{◌≡◌, ◌∙◌, ◌≤◌, ℕ, List, [], Option, Some, None, Bool, true, false, inl, inr, ap, refl, subst, sym}
-use Rattle.std.specs.Prelude.{Err, IfSome, option_map}
+use Rattle.std.specs.Prelude.{Result, Ok, Err, IfErr, IfSome, option_map}
 use Rattle.std.specs.Io.KnownBytes.{Appends}
 use Rattle.std.proofs.KnownBytes.{Appends-nil}
 use Rattle.tp_device.specs.Bytes.{AppendsPart}
@@ -15,6 +15,7 @@ use Rattle.tp_deorder.specs.Answers.{IsPlanNetOf}
 use Rattle.tp_exec_machine.specs.Machine.{Machine}
 use Rattle.tp_journal.specs.Telling.{IsHeadTold}
 use Rattle.tp_journal.specs.declared.faults.JournalHead.{JournalHead}
+use Rattle.tp_cli_files.specs.Causes.{counted, raised}
 use Rattle.tp_cli_files.specs.FaultLines.{Tells}
 use Rattle.tp_cli_inputs.specs.Named.{IsNamedPlan}
 use Rattle.tp_cli_run.proofs.RunLemmas.{Judged}
@@ -27,7 +28,7 @@ use Rattle.tp_cli_audit.specs.declared.audit_lines.AuditStop.TheVariants as audi
 use Rattle.tp_cli_audit.specs.declared.auditing.Found.TheVariants as found
 use Rattle.tp_cli_draw.specs.Draws.{DrawsPart, EndsDraw, FoundNamed, IsDrawn, IsStopped, NamesLog, StopsDraw, StopsLog, drawn_text}
 use Rattle.tp_cli_draw.specs.Pictures.{DrawsJudged, DrawsLog, DrawsNet, DrawsVerdict, HindersJudged, HindersLog, HindersSteps, StopsNet, StopsReplay, StopsSteps, StopsVerdict}
-use Rattle.tp_cli_draw.specs.Stops.{draw_failures, draw_status, draw_text}
+use Rattle.tp_cli_draw.specs.Stops.{draw_failures, draw_status, draw_text, draw_unread}
 use Rattle.tp_cli_draw.specs.Words.{plan_of}
 use Rattle.tp_cli_draw.specs.declared.answers.Drawn.{Drawn}
 use Rattle.tp_cli_draw.specs.declared.answers.Drawn.TheVariants.{Picture, Invalid, Wrong}
@@ -235,12 +236,18 @@ stop_is (Journal stop) = audits.within stop (stop_status stop) refl
 stop_is Memory = three
 stop_is Write = three
 
-pub ends : (held : List ℕ → Option (List ℕ)) (w : DrawWords) (status : ℕ) (before now : Option (List ℕ)) (output output-now failures : ℕ) (said : Option (List ℕ)) (failures-now : ℕ) (said-now : Option (List ℕ)) (stop : DrawStop) (text : List ℕ) → StopsDraw held w before now stop → status ≡ draw_status stop → output-now ≡ draw_failures {T = Bool} output (Err stop) → text ≡ draw_text w stop → Tells text failures said failures-now said-now → EndsDraw held w status before now output output-now failures said failures-now said-now
-ends held w status before now output output-now failures said failures-now said-now stop text cause is write line told =
+-- want of memory is no failure of a file
+pub memory_counts : {T : Type 0} (r : Result T DrawStop) (n : ℕ) → IfErr r (λ stop. stop ≡ Memory) → counted draw_unread n r ≡ n
+memory_counts (Ok x) n h = refl
+memory_counts (Err stop) n h = ap (λ s. raised (draw_unread s) n) h
+
+pub ends : (held : List ℕ → Option (List ℕ)) (w : DrawWords) (status : ℕ) (before now : Option (List ℕ)) (unread unread-now output output-now failures : ℕ) (said : Option (List ℕ)) (failures-now : ℕ) (said-now : Option (List ℕ)) (stop : DrawStop) (text : List ℕ) → StopsDraw held w before now stop → status ≡ draw_status stop → output-now ≡ draw_failures {T = Bool} output (Err stop) → unread-now ≡ raised (draw_unread stop) unread → text ≡ draw_text w stop → Tells text failures said failures-now said-now → EndsDraw held w status before now unread unread-now output output-now failures said failures-now said-now
+ends held w status before now unread unread-now output output-now failures said failures-now said-now stop text cause is write opened line told =
     record {
       stop = stop;
       is = sym is;
       cause = cause;
+      opened = opened;
       write = write ∙ any_type output stop;
       told = subst (λ (t : List ℕ). Tells t failures said failures-now said-now) line told;
     }

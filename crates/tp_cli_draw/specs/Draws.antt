@@ -12,6 +12,7 @@ use Rattle.tp_validate.specs.OfTask.{IsValidPlan}
 use Rattle.tp_validate.specs.declared.ticks.Fault.{Fault}
 use Rattle.tp_deorder.specs.Answers.{OnTooMany, PassesLimits}
 use Rattle.tp_journal.specs.declared.faults.JournalHead.{JournalHead}
+use Rattle.tp_cli_files.specs.Causes.{raised}
 use Rattle.tp_cli_files.specs.FaultLines.{Tells}
 use Rattle.tp_cli_inputs.specs.Causes.{Explains}
 use Rattle.tp_cli_inputs.specs.Named.{IsNamedPlan}
@@ -23,7 +24,7 @@ use Rattle.tp_cli_audit.specs.declared.audit_lines.AuditStop.{AuditStop}
 use Rattle.tp_cli_audit.specs.declared.audit_lines.AuditStop.TheVariants as audit
 use Rattle.tp_cli_audit.specs.declared.auditing.Found.{Found}
 use Rattle.tp_cli_audit.specs.declared.auditing.Found.TheVariants as found
-use Rattle.tp_cli_draw.specs.Stops.{draw_failures, draw_status, draw_text}
+use Rattle.tp_cli_draw.specs.Stops.{draw_failures, draw_status, draw_text, draw_unread}
 use Rattle.tp_cli_draw.specs.Words.{plan_of}
 use Rattle.tp_cli_draw.specs.declared.answers.Drawn.{Drawn}
 use Rattle.tp_cli_draw.specs.declared.answers.Drawn.TheVariants.{Picture, Invalid, Wrong}
@@ -140,13 +141,14 @@ StopsDraw held w before now (Journal stop) = IsStopped held w (Journal stop) × 
 StopsDraw held w before now Memory = IsStopped held w Memory × (now ≡ before)
 StopsDraw held w before now Write = WritesSome held w before now
 
--- It stopped so with that status, and that was told. A failed write is one that the count of
--- failures tells of.
+-- It stopped so with that status, and that was told. A file that can't be read and a
+-- failed write are ones that the counts of failures tell of.
 pub record EndsDraw (held : List ℕ → Option (List ℕ)) (w : DrawWords) (status : ℕ)
-    (before now : Option (List ℕ)) (output output-now : ℕ) (failures : ℕ)
+    (before now : Option (List ℕ)) (unread unread-now : ℕ) (output output-now : ℕ) (failures : ℕ)
     (said : Option (List ℕ)) (failures-now : ℕ) (said-now : Option (List ℕ)) : Type 0 where
   pub stop : DrawStop
   pub is : draw_status stop ≡ status
   pub cause : StopsDraw held w before now stop
+  pub opened : unread-now ≡ raised (draw_unread stop) unread
   pub write : output-now ≡ draw_failures {T = Unit {0}} output (Err stop)
   pub told : Tells (draw_text w stop) failures said failures-now said-now

@@ -1,11 +1,13 @@
 -- The lines of what stops a picture, and their exit statuses.
-use Rattle.std.specs.Prelude.{ℕ, ◌+◌, List, [], Option, Some, None, Result, Ok, Err, codes, option_map}
+use Rattle.std.specs.Prelude.{ℕ, ◌+◌, List, [], Option, Some, None, Bool, true, false, Result, Ok, Err, codes, option_map}
 use Rattle.tp_cli_files.specs.FaultLines.{fault_line}
-use Rattle.tp_cli_inputs.specs.JudgeLines.{judge_status, judge_text}
+use Rattle.tp_cli_inputs.specs.JudgeLines.{judge_status, judge_text, judge_unread}
 use Rattle.tp_cli_run.specs.RunLines.{network_status, network_text}
-use Rattle.tp_cli_audit.specs.AuditLines.{stop_status, stop_text}
+use Rattle.tp_cli_audit.specs.AuditLines.{stop_status, stop_text, stop_unread}
 use Rattle.tp_cli_draw.specs.Words.{plan_of}
 use Rattle.tp_cli_inputs.specs.declared.draw_words.DrawWords.{DrawWords}
+use Rattle.tp_cli_draw.specs.declared.replaying.ReplayStop.{ReplayStop}
+use Rattle.tp_cli_draw.specs.declared.replaying.ReplayStop.TheVariants as replay
 use Rattle.tp_cli_draw.specs.declared.stops.DrawStop.{DrawStop}
 use Rattle.tp_cli_draw.specs.declared.stops.DrawStop.TheVariants.{Judging, Network, Executive, Journal, Memory, Write}
 
@@ -43,3 +45,17 @@ draw_failures n (Err Executive) = n
 draw_failures n (Err (Journal stop)) = n
 draw_failures n (Err Memory) = n
 draw_failures n (Err Write) = n + 1
+
+-- a file can't be read
+abbrev pub draw_unread : DrawStop → Bool
+draw_unread (Judging fault) = judge_unread fault
+draw_unread (Network fault) = false
+draw_unread Executive = false
+draw_unread (Journal stop) = stop_unread stop
+draw_unread Memory = false
+draw_unread Write = false
+
+-- the file of a journal that was judged can't be read again
+abbrev pub replay_unread : ReplayStop → Bool
+replay_unread replay.Memory = false
+replay_unread replay.Read = true

@@ -1,13 +1,14 @@
 //! What is written: a picture, or why there is none.
 
-ghost use Rattle.std.specs.Prelude.{◌≡◌, IfErr, IfOk, false, true};
+ghost use Rattle.std.specs.Prelude.{◌≡◌, ℕ, IfErr, IfOk, false, true};
 ghost use Rattle.std.specs.String.{string_bytes};
 ghost use Rattle.std.specs.Io.KnownBytes.{Appends};
 ghost use Rattle.tp_device.specs.Bytes.{AppendsPart};
 ghost use Rattle.tp_cli_audit.specs.Audits.{found_line};
 ghost use Rattle.tp_cli_inputs.specs.VerdictLines.{invalid_line};
 ghost use Rattle.tp_cli_draw.specs.Draws.{drawn_text, is_picture};
-ghost use Rattle.tp_cli_draw.specs.Stops.{draw_failures};
+ghost use Rattle.tp_cli_files.specs.Causes.{counted};
+ghost use Rattle.tp_cli_draw.specs.Stops.{draw_failures, draw_unread};
 
 use crate::stops::DrawStop;
 use tp_cli_audit::{Found, say};
@@ -33,6 +34,7 @@ fn write_picture<O: Sink>(output: &mut O, text: &String) -> Result<bool, DrawSto
     ensures part { IfErr result (λ stop. (stop ≡ DrawStop.Write)
         × AppendsPart (O.held output.old) (O.held output.new) (string_bytes text.now)) }
     ensures failures { O.failures output.new ≡ draw_failures (O.failures output.old) result }
+    ensures opened { (n : ℕ) → counted draw_unread n result ≡ n }
 {
     match push_all(output, text.as_bytes()) {
         Ok(()) => Ok(true),
@@ -47,6 +49,7 @@ fn write_fault<O: Sink>(output: &mut O, tick: u32, why: Fault) -> Result<bool, D
     ensures part { IfErr result (λ stop. (stop ≡ DrawStop.Write)
         × AppendsPart (O.held output.old) (O.held output.new) (invalid_line tick why)) }
     ensures failures { O.failures output.new ≡ draw_failures (O.failures output.old) result }
+    ensures opened { (n : ℕ) → counted draw_unread n result ≡ n }
 {
     match write_invalid(output, tick, why) {
         Ok(()) => Ok(false),
@@ -61,6 +64,7 @@ fn write_wrong<O: Sink>(output: &mut O, line: u64) -> Result<bool, DrawStop>
     ensures part { IfErr result (λ stop. (stop ≡ DrawStop.Write)
         × AppendsPart (O.held output.old) (O.held output.new) (found_line (Found.Wrong line))) }
     ensures failures { O.failures output.new ≡ draw_failures (O.failures output.old) result }
+    ensures opened { (n : ℕ) → counted draw_unread n result ≡ n }
 {
     match say(output, Found::Wrong(line)) {
         Ok(_) => Ok(false),
@@ -75,6 +79,7 @@ pub(crate) fn write_drawn<O: Sink>(output: &mut O, drawn: &Drawn) -> Result<bool
     ensures part { IfErr result (λ stop. (stop ≡ DrawStop.Write)
         × AppendsPart (O.held output.old) (O.held output.new) (drawn_text drawn.now)) }
     ensures failures { O.failures output.new ≡ draw_failures (O.failures output.old) result }
+    ensures opened { (n : ℕ) → counted draw_unread n result ≡ n }
 {
     match drawn {
         Drawn::Picture(text) => write_picture(output, text),

@@ -1,7 +1,9 @@
 //! The picture of a plan, and that of a journal's run.
 
 ghost use Rattle.std.specs.Prelude.{◌≡◌, ◌≤◌, ℕ, List, Option, length, IfErr, IfOk};
+ghost use Rattle.tp_cli_files.specs.Causes.{counted};
 ghost use Rattle.tp_cli_audit.specs.PlanAudits.{IsNetFound, LagsFit};
+ghost use Rattle.tp_cli_draw.specs.Stops.{draw_unread};
 ghost use Rattle.tp_cli_draw.specs.Pictures.{DrawsJudged, DrawsLog, DrawsNet, DrawsVerdict, HindersJudged, HindersSteps, StopsNet, StopsReplay, StopsSteps, StopsVerdict};
 
 use crate::answers::Drawn;
@@ -72,7 +74,8 @@ fn net_picture(
     names: Option<Names>,
 ) -> Result<String, DrawStop>
     requires { length network.now.bounds.items ≤ 65535 }
-    ensures { IfErr result (StopsSteps plan.now.task plan.now.steps) }
+    ensures cause { IfErr result (StopsSteps plan.now.task plan.now.steps) }
+    ensures opened { (n : ℕ) → counted draw_unread n result ≡ n }
 {
     match begin(alloc, network) {
         Ok(executive) => picture(alloc, names, plan, &executive, None),
@@ -88,7 +91,8 @@ fn plan_picture(
     plan: &ValidPlan<'_>,
     names: Option<Names>,
 ) -> Result<String, DrawStop>
-    ensures { IfErr result (StopsSteps plan.now.task plan.now.steps) }
+    ensures cause { IfErr result (StopsSteps plan.now.task plan.now.steps) }
+    ensures opened { (n : ℕ) → counted draw_unread n result ≡ n }
 {
     let horizon = horizon_or(words, end_of(plan.plan().steps()));
     match deorder(alloc, plan, &Limits::greatest(horizon)) {
@@ -106,6 +110,7 @@ pub(crate) fn draw_verdict(
 ) -> Result<Drawn, DrawStop>
     ensures drawn { IfOk result (DrawsVerdict verdict.now) }
     ensures cause { IfErr result (StopsVerdict verdict.now) }
+    ensures opened { (n : ℕ) → counted draw_unread n result ≡ n }
 {
     match verdict {
         Verdict::Valid(plan) => match plan_picture(alloc, words, plan, names) {
@@ -127,6 +132,7 @@ fn found_in<N: Files>(
     requires { length network.now.bounds.items ≤ 65535 }
     ensures found { IfOk result (IsNetFound network.now head.now (N.held files.old log.now)) }
     ensures cause { IfErr result (StopsNet network.now head.now (N.held files.old log.now)) }
+    ensures opened { N.failures files.new ≡ counted draw_unread (N.failures files.old) result }
 {
     if !lags_suit(network, head) {
         return Err(DrawStop::Journal(AuditStop::Head));
@@ -142,14 +148,15 @@ fn found_in<N: Files>(
 
 /// The picture of the run of the journal that a source has left, over an executive in which the run
 /// began.
-fn replayed_picture<S: Source + Drop>(
+fn replayed_picture<S: Source>(
     alloc: Global,
-    source: S,
+    source: &mut S,
     mut executive: Executive<RepairNet>,
     plan: &ValidPlan<'_>,
     names: Option<Names>,
 ) -> Result<String, DrawStop>
-    ensures { IfErr result StopsReplay }
+    ensures cause { IfErr result StopsReplay }
+    ensures opened { S.failures source.new ≡ counted draw_unread (S.failures source.old) result }
 {
     match replay(alloc, &mut executive, source) {
         Ok(told) => picture(alloc, names, plan, &executive, Some(told)),
@@ -170,13 +177,18 @@ fn log_picture<N: Files>(
 ) -> Result<String, DrawStop>
     requires bounds { length network.now.bounds.items ≤ 65535 }
     requires lags { LagsFit network.now head.now }
-    ensures { IfErr result StopsReplay }
+    ensures cause { IfErr result StopsReplay }
+    ensures opened { N.failures files.new ≡ counted draw_unread (N.failures files.old) result }
 {
-    let Ok(source) = files.open(log) else {
+    let Ok(mut source) = files.open(log) else {
         return Err(DrawStop::Journal(AuditStop::Open));
     };
     match plan_start(alloc, network, head) {
-        Ok(executive) => replayed_picture(alloc, source, executive, plan, names),
+        Ok(executive) => {
+            let text = replayed_picture(alloc, &mut source, executive, plan, names);
+            files.close(source);
+            text
+        }
         Err(_) => Err(DrawStop::Executive),
     }
 }
@@ -197,6 +209,7 @@ fn draw_found<N: Files>(
     ensures drawn { (input : Option (List ℕ)) → IsNetFound network.now head.now input found
         → IfOk result (DrawsNet network.now head.now input) }
     ensures cause { IfErr result StopsReplay }
+    ensures opened { N.failures files.new ≡ counted draw_unread (N.failures files.old) result }
 {
     match found {
         Found::Journal(_) => {
@@ -223,6 +236,7 @@ fn draw_net<N: Files>(
     requires { length network.now.bounds.items ≤ 65535 }
     ensures drawn { IfOk result (DrawsNet network.now head.now (N.held files.old log.now)) }
     ensures cause { IfErr result (StopsNet network.now head.now (N.held files.old log.now)) }
+    ensures opened { N.failures files.new ≡ counted draw_unread (N.failures files.old) result }
 {
     match found_in(alloc, files, log, head, network) {
         Ok(found) => draw_found(alloc, files, log, head, network, found, plan, names),
@@ -245,6 +259,7 @@ fn draw_log<N: Files>(
         (N.held files.old log.now)) }
     ensures cause { IfErr result (HindersSteps plan.now.task plan.now.steps horizon head.now
         (N.held files.old log.now)) }
+    ensures opened { N.failures files.new ≡ counted draw_unread (N.failures files.old) result }
 {
     match deorder(alloc, plan, &Limits::greatest(horizon)) {
         Ok(network) => draw_net(alloc, files, log, head, &network, plan, names),
@@ -267,6 +282,7 @@ pub(crate) fn draw_judged<N: Files>(
         (DrawsJudged verdict.now horizon head.now (N.held files.old log.now)) }
     ensures cause { IfErr result
         (HindersJudged verdict.now horizon head.now (N.held files.old log.now)) }
+    ensures opened { N.failures files.new ≡ counted draw_unread (N.failures files.old) result }
 {
     match verdict {
         Verdict::Valid(plan) => draw_log(alloc, files, log, head, horizon, plan, names),

@@ -1,7 +1,9 @@
 //! The plan that words name, with the names of its domain and its problem.
 
 ghost use Rattle.std.specs.Prelude.{◌≡◌, ◌≤◌, ℕ, List, IfErr, IfOk};
+ghost use Rattle.tp_cli_files.specs.Causes.{counted};
 ghost use Rattle.tp_cli_inputs.specs.Causes.{Explains};
+ghost use Rattle.tp_cli_inputs.specs.JudgeLines.{judge_unread};
 ghost use Rattle.tp_cli_inputs.specs.Named.{IsIn, IsNamedPlan};
 ghost use Rattle.tp_syntax.specs.DomainViews.{domain_view};
 ghost use Rattle.tp_syntax.specs.Domains.{SpellsDomain};
@@ -48,6 +50,7 @@ fn plan_of_domain<N: Files>(
     ensures cause { IsIn (N.held files.old words.entry.domain.now) (λ text. SpellsDomain text
         (domain_view domain.now)) → IfErr result (Explains (N.held files.old) words.entry) }
     ensures same { (other : List ℕ) → N.held files.new other ≡ N.held files.old other }
+    ensures opened { N.failures files.new ≡ counted judge_unread (N.failures files.old) result }
 {
     let problem = problem_in(alloc, files, words, domain)?;
     *names = names_of(&domain.name, &problem.name);
@@ -74,6 +77,7 @@ pub(crate) fn plan_and_names<N: Files>(
     ensures of_task { IfOk result (λ n. IsOfTask n.task n.plan) }
     ensures cause { IfErr result (Explains (N.held files.old) words.entry) }
     ensures same { (other : List ℕ) → N.held files.new other ≡ N.held files.old other }
+    ensures opened { N.failures files.new ≡ counted judge_unread (N.failures files.old) result }
 {
     let domain = domain_in(alloc, files, words)?;
     let plan = plan_of_domain(alloc, files, words, &domain, names);

@@ -1,5 +1,9 @@
 //! The run of a journal, carried out anew.
 
+ghost use Rattle.std.specs.Prelude.{◌≡◌, ℕ};
+ghost use Rattle.tp_cli_files.specs.Causes.{counted};
+ghost use Rattle.tp_cli_draw.specs.Stops.{replay_unread};
+
 use std::alloc::{AllocError, Global};
 use tp_device::Source;
 use tp_draw::Refusals;
@@ -101,7 +105,9 @@ fn carry_out(
     executive: &mut Executive<RepairNet>,
     told: &mut Told,
     command: Command,
-) -> Result<(), ReplayStop> {
+) -> Result<(), ReplayStop>
+    ensures { (n : ℕ) → counted replay_unread n result ≡ n }
+{
     note_report(told, command, executive.net().now());
     match perform(executive, command) {
         Answer::Refused(Refusal::Memory) => Err(ReplayStop::Memory),
@@ -116,7 +122,9 @@ fn take_answer(
     told: &mut Told,
     asked: &Asked,
     answer: &[u8],
-) -> Result<(), ReplayStop> {
+) -> Result<(), ReplayStop>
+    ensures { (n : ℕ) → counted replay_unread n result ≡ n }
+{
     told.commands = told.commands.saturating_add(1);
     if begins_with(answer, b"refused conflict") {
         let now = executive.net().now();
@@ -140,7 +148,9 @@ fn take_question(
     asked: &mut Asked,
     line: &[u8],
     number: u64,
-) -> Result<(), ReplayStop> {
+) -> Result<(), ReplayStop>
+    ensures { (n : ℕ) → counted replay_unread n result ≡ n }
+{
     let mut command = String::new(alloc);
     match put_bytes(&mut command, behind_sign(line)) {
         Ok(()) => {
@@ -160,7 +170,9 @@ fn take_line(
     asked: &mut Asked,
     line: &[u8],
     number: u64,
-) -> Result<(), ReplayStop> {
+) -> Result<(), ReplayStop>
+    ensures { (n : ℕ) → counted replay_unread n result ≡ n }
+{
     if begins_with(line, b"> ") {
         return take_question(alloc, asked, line, number);
     }
@@ -190,7 +202,10 @@ fn replay_lines<R: Source>(
     executive: &mut Executive<RepairNet>,
     lines: &mut Lines<'_, R>,
     mut told: Told,
-) -> Result<Told, ReplayStop> {
+) -> Result<Told, ReplayStop>
+    ensures opened { lines.new.failures ≡ counted replay_unread lines.old.failures result }
+    ensures source { lines.new.source ≡ lines.old.source }
+{
     let mut asked = Asked {
         line: 0,
         command: String::new(alloc),
@@ -219,19 +234,22 @@ const LONGEST: usize = 16_384;
 
 /// Carries out what the journal that a source has left says that was carried out, which was found
 /// to be one of the executive. Answers what it says beside that.
-pub(crate) fn replay<R: Source + Drop>(
+pub(crate) fn replay<R: Source>(
     alloc: Global,
     executive: &mut Executive<RepairNet>,
-    source: R,
-) -> Result<Told, ReplayStop> {
+    source: &mut R,
+) -> Result<Told, ReplayStop>
+    ensures { R.failures source.new ≡ counted replay_unread (R.failures source.old) result }
+{
     let Ok(told) = told_first(alloc, executive.net().events()) else {
         return Err(ReplayStop::Memory);
     };
-    let mut source = source;
     match LineBuffers::new(alloc, LONGEST) {
         Ok(buffers) => {
-            let mut lines = Lines::new(buffers, &mut source);
-            replay_lines(alloc, executive, &mut lines, told)
+            let mut lines = Lines::new(buffers, source);
+            let replayed = replay_lines(alloc, executive, &mut lines, told);
+            let _source = lines.into_source();
+            replayed
         }
         Err(_) => Err(ReplayStop::Memory),
     }

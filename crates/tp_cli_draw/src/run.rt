@@ -6,7 +6,8 @@ ghost use Rattle.tp_cli_inputs.specs.Named.{IsNamedPlan};
 ghost use Rattle.tp_validate.specs.OfTask.{IsOfTask};
 ghost use Rattle.tp_journal.specs.Telling.{IsHeadTold};
 ghost use Rattle.tp_cli_draw.specs.Draws.{Draws, DrawsNo, DrawsPart, EndsDraw, IsDrawn, IsStopped, NamesLog, StopsDraw, WritesDrawn};
-ghost use Rattle.tp_cli_draw.specs.Stops.{draw_failures};
+ghost use Rattle.tp_cli_files.specs.Causes.{counted};
+ghost use Rattle.tp_cli_draw.specs.Stops.{draw_failures, draw_unread};
 ghost use Rattle.tp_cli_draw.specs.Words.{plan_of};
 
 use crate::answers::{Drawn, write_drawn};
@@ -39,6 +40,7 @@ fn draw_task(
     ensures cause { (held : List ℕ → Option (List ℕ)) → (h : ℕ)
         → IsNamedPlan held (plan_of words.entry h) task.now plan
         → IfErr result (IsStopped held words.entry) }
+    ensures opened { (n : ℕ) → counted draw_unread n result ≡ n }
 {
     match verdict_of(alloc, task, plan) {
         Ok(verdict) => draw_verdict(alloc, words, &verdict, names),
@@ -55,6 +57,7 @@ fn draw_plan<N: Files>(
     requires { words.journal ≡ None }
     ensures drawn { IfOk result (IsDrawn (N.held files.old) words.entry) }
     ensures cause { IfErr result (IsStopped (N.held files.old) words.entry) }
+    ensures opened { N.failures files.new ≡ counted draw_unread (N.failures files.old) result }
 {
     let horizon = horizon_or(words, u32::MAX);
     let mut names = None;
@@ -92,6 +95,7 @@ fn draw_run_of<N: Files>(
         → IsNamedPlan held (plan_of words.entry horizon) task.now plan
         → IfSome (held log.now) (λ bytes. IsHeadTold bytes head.now)
         → IfErr result (IsStopped held words.entry) }
+    ensures opened { N.failures files.new ≡ counted draw_unread (N.failures files.old) result }
 {
     let _ = words;
     match verdict_of(alloc, task, plan) {
@@ -118,6 +122,7 @@ fn draw_headed<N: Files>(
         → ((other : List ℕ) → N.held files.old other ≡ held other)
         → IfSome (held log.now) (λ bytes. IsHeadTold bytes head.now)
         → IfErr result (IsStopped held words.entry) }
+    ensures opened { N.failures files.new ≡ counted draw_unread (N.failures files.old) result }
 {
     let horizon = horizon_or(words, head.horizon);
     let mut names = None;
@@ -140,6 +145,7 @@ fn draw_run<N: Files>(
     requires { NamesLog words log.now }
     ensures drawn { IfOk result (IsDrawn (N.held files.old) words.entry) }
     ensures cause { IfErr result (IsStopped (N.held files.old) words.entry) }
+    ensures opened { N.failures files.new ≡ counted draw_unread (N.failures files.old) result }
 {
     match head_in(alloc, files, log) {
         Ok(head) => draw_headed(alloc, files, words, log, &head),
@@ -151,6 +157,7 @@ fn draw_run<N: Files>(
 fn draw<N: Files>(alloc: Global, files: &mut N, words: DrawWords<'_>) -> Result<Drawn, DrawStop>
     ensures drawn { IfOk result (IsDrawn (N.held files.old) words.entry) }
     ensures cause { IfErr result (IsStopped (N.held files.old) words.entry) }
+    ensures opened { N.failures files.new ≡ counted draw_unread (N.failures files.old) result }
 {
     match words.journal {
         None => draw_plan(alloc, files, words),
@@ -170,6 +177,7 @@ fn draw_and_write<N: Files, O: Sink>(
     ensures cause { IfErr result (StopsDraw (N.held files.old) words.entry
         (O.held output.old) (O.held output.new)) }
     ensures failures { O.failures output.new ≡ draw_failures (O.failures output.old) result }
+    ensures opened { N.failures files.new ≡ counted draw_unread (N.failures files.old) result }
 {
     match draw(alloc, files, words) {
         Ok(drawn) => write_drawn(output, &drawn),
@@ -199,7 +207,8 @@ pub fn run_draw<N: Files, O: Sink, F: Sink>(
 
     // What stopped it is told, and is as it is told.
     ensures stopped { 2 ≤ result → EndsDraw (N.held files.old) words.entry result
-        (O.held output.old) (O.held output.new) (O.failures output.old) (O.failures output.new)
+        (O.held output.old) (O.held output.new) (N.failures files.old) (N.failures files.new)
+        (O.failures output.old) (O.failures output.new)
         (F.failures faults.old) (F.held faults.old) (F.failures faults.new) (F.held faults.new) }
 
     // Nothing is written for input that is refused, and at most a first part where memory or a

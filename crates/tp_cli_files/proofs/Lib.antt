@@ -1,1 +1,3 @@
+pub mod CauseLemmas
 pub mod FaultLemmas
+pub mod Walks

@@ -1,4 +1,5 @@
 pub mod Calls
+pub mod Causes
 pub mod FaultLines
 pub mod FileFaults
 pub mod Texts

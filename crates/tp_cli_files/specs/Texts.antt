@@ -21,14 +21,6 @@ abbrev pub HasFault : Option (List ℕ) → FileFault → Type 0
 HasFault None fault = Unit {0}
 HasFault (Some bytes) fault = HasFaultIn bytes fault
 
--- a failure is counted exactly where the file could not be read
-abbrev pub failures_after_file : {T : Type 0} → ℕ → Result T FileFault → ℕ
-failures_after_file n (Err Read) = n + 1
-failures_after_file n (Err Memory) = n
-failures_after_file n (Err Utf8) = n
-failures_after_file n (Err TooLong) = n
-failures_after_file n (Ok x) = n
-
 -- a read gave some first part of these bytes, and an empty one only if there are none
 abbrev pub ReadsKept : {E : Type 0} → List ℕ → Result ℕ E → List ℕ → Type 0
 ReadsKept bytes result buffer =

@@ -1,8 +1,10 @@
 //! Files under names, and the texts that they hold.
 
-ghost use Rattle.std.specs.Prelude.{◌≡◌, ℕ, List, Option, IfOk, IfErr};
+ghost use Rattle.std.specs.Prelude.{◌≡◌, ℕ, ◌+◌, List, Option, IfOk, IfErr};
 ghost use Rattle.std.specs.String.{string_bytes};
-ghost use Rattle.tp_cli_files.specs.Texts.{HasFault, HoldsText, failures_after_file};
+ghost use Rattle.tp_device.specs.Bytes.{failures_after};
+ghost use Rattle.tp_cli_files.specs.Causes.{counted, file_unread};
+ghost use Rattle.tp_cli_files.specs.Texts.{HasFault, HoldsText};
 
 use std::alloc::{AllocError, Global};
 use tp_device::{Failed, Source};
@@ -15,10 +17,20 @@ pub trait Files {
     /// What the file of a name holds, where that is told.
     ghost held: { Self → List ℕ → Option (List ℕ) };
 
+    /// How often a file could not be opened, or a read of one that is closed failed.
+    ghost failures: { Self → ℕ };
+
     /// Opens the file of a name at its first byte.
     fn open(&mut self, name: &str) -> Result<Self::Input, Failed>
         ensures bytes { IfOk result (λ input. Self.Input.left input ≡ held self.old name.now) }
-        ensures same { (other : List ℕ) → held self.new other ≡ held self.old other };
+        ensures new { IfOk result (λ input. Self.Input.failures input ≡ 0) }
+        ensures same { (other : List ℕ) → held self.new other ≡ held self.old other }
+        ensures cause { failures self.new ≡ failures_after (failures self.old) result };
+
+    /// Ends the reading of a file, whose failures count from then on.
+    fn close(&mut self, input: Self::Input)
+        ensures same { (other : List ℕ) → held self.new other ≡ held self.old other }
+        ensures cause { failures self.new ≡ failures self.old + Self.Input.failures input };
 }
 
 /// The most bytes of a text.
@@ -51,7 +63,7 @@ impl From<AllocError> for FileFault {
 fn read_bytes<S: Source>(alloc: Global, source: &mut S) -> Result<Vec<u8>, FileFault>
     ensures whole { IfOk result (λ v. HoldsText (S.left source.old) v.items) }
     ensures fault { IfErr result (HasFault (S.left source.old)) }
-    ensures cause { S.failures source.new ≡ failures_after_file (S.failures source.old) result }
+    ensures cause { S.failures source.new ≡ counted file_unread (S.failures source.old) result }
 {
     let mut chunk = [0; 4096];
     let mut bytes = Vec::new(alloc);
@@ -68,26 +80,32 @@ fn read_bytes<S: Source>(alloc: Global, source: &mut S) -> Result<Vec<u8>, FileF
 }
 
 /// The text that a source has left.
-pub fn read_text<S: Source + Drop>(alloc: Global, source: S) -> Result<String, FileFault>
-    ensures text { IfOk result (λ t. HoldsText (S.left source) (string_bytes t)) }
-    ensures fault { IfErr result (HasFault (S.left source)) }
+pub fn read_text<S: Source>(alloc: Global, source: &mut S) -> Result<String, FileFault>
+    ensures text { IfOk result (λ t. HoldsText (S.left source.old) (string_bytes t)) }
+    ensures fault { IfErr result (HasFault (S.left source.old)) }
+    ensures cause { S.failures source.new ≡ counted file_unread (S.failures source.old) result }
 {
-    let mut source = source;
-    let bytes = read_bytes(alloc, &mut source)?;
+    let bytes = read_bytes(alloc, source)?;
     match String::from_utf8(bytes) {
         Ok(text) => Ok(text),
         Err(_) => Err(FileFault::Utf8),
     }
 }
 
-/// The text in the file of a name.
+/// The text in the file of a name. That it can't be read is told only where a call failed.
 pub fn open_text<F: Files>(alloc: Global, files: &mut F, name: &str) -> Result<String, FileFault>
     ensures text { IfOk result (λ t. HoldsText (F.held files.old name.now) (string_bytes t)) }
     ensures fault { IfErr result (HasFault (F.held files.old name.now)) }
     ensures same { (other : List ℕ) → F.held files.new other ≡ F.held files.old other }
+    ensures cause { F.failures files.new ≡ counted file_unread (F.failures files.old) result }
 {
     match files.open(name) {
-        Ok(source) => read_text(alloc, source),
+        Ok(source) => {
+            let mut source = source;
+            let text = read_text(alloc, &mut source);
+            files.close(source);
+            text
+        }
         Err(_) => Err(FileFault::Read),
     }
 }

@@ -10,6 +10,7 @@ ghost use Rattle.tp_cli_files.specs.Texts.{ReadsKept};
 
 use crate::fault_lines::{FaultLine, complain};
 use crate::files::Files;
+use crate::tally::Tally;
 use std::alloc::{AllocError, AllocFailed, Global};
 use std::cell::RefCell;
 use std::io::{ErrorKind, Read};
@@ -20,21 +21,22 @@ use tp_device::{Failed, Sink, Source};
 /// The name of the standard input among those of files.
 pub const STANDARD_INPUT: &str = "-";
 
-/// A file of the host that is read. Each pull is a read of the host's. Behind 2^64 - 1 reads that
-/// failed there is nothing more in it, so what it has left is told by a clause of `pull` and not by
-/// the source.
+/// A file of the host that is read. Each pull is a read of the host's. What it has left is told by a
+/// clause of `pull` and not by the source, since a file of the host tells nothing as it is opened.
 #[derive(Drop)]
 pub struct HostFile<R: Read> {
     reader: R,
-    failures: u64,
+    failures: Tally,
 }
 
 impl<R: Read> HostFile<R> {
     /// What a reader has left.
-    pub fn new(reader: R) -> Self {
+    pub fn new(reader: R) -> Self
+        ensures failures { result.failures.count ≡ 0 }
+    {
         HostFile {
             reader,
-            failures: 0,
+            failures: Tally::of(&0),
         }
     }
 }
@@ -43,23 +45,20 @@ impl<R: Read> Source for HostFile<R> {
     // It is not told for good: see `read` below.
     ghost left = { λ _. None };
 
-    ghost failures = { λ s. s.failures };
+    ghost failures = { λ s. s.failures.count };
 
     fn pull(&mut self, buffer: &mut [u8]) -> Result<usize, Failed>
         ensures within { IfOk result (λ n. n ≤ length buffer.old) }
         ensures bytes { ReadConsumes None None result buffer.new }
-        ensures cause { self.new.failures ≡ failures_after self.old.failures result }
-        // As long as a failure can be counted, each pull is a read.
-        ensures read { self.old.failures < 2 ^ 64 - 1 → ReadConsumes
+        ensures cause { self.new.failures.count ≡ failures_after self.old.failures.count result }
+        // Each pull is a read.
+        ensures read { ReadConsumes
             (R.remaining self.old.reader) (R.remaining self.new.reader) result buffer.new }
     {
-        if self.failures == u64::MAX {
-            return Ok(0);
-        }
         match self.reader.read(buffer) {
             Ok(count) => Ok(count),
             Err(_) => {
-                self.failures += 1;
+                self.failures = self.failures.plus(&Tally::of(&1));
                 Err(Failed)
             }
         }
@@ -168,26 +167,42 @@ impl<F: Read, I: Read> Read for HostReader<'_, F, I> {
 pub struct HostFiles<'r, 'i, R: HostFileSystem, I> {
     rt: &'r R,
     input: &'i RefCell<StandardInput<I>>,
+    failures: Tally,
 }
 
 impl<'r, 'i, R: HostFileSystem, I: Read> HostFiles<'r, 'i, R, I> {
     /// The files that the runtime reaches, and the standard input.
     pub fn new(rt: &'r R, input: &'i RefCell<StandardInput<I>>) -> Self {
-        HostFiles { rt, input }
+        HostFiles {
+            rt,
+            input,
+            failures: Tally::of(&0),
+        }
     }
 
-    /// Opens the standard input.
-    fn open_input(&self) -> Result<HostFile<HostReader<'i, R::File, I>>, Failed> {
+    /// Opens the standard input, if it can be opened.
+    fn open_input(&self) -> Option<HostReader<'i, R::File, I>> {
         let Ok(mut input) = self.input.try_borrow_mut() else {
-            return Err(Failed);
+            return None;
         };
         if !input.open() {
-            return Err(Failed);
+            return None;
         }
-        Ok(HostFile::new(HostReader::Input(OpenInput {
+        Some(HostReader::Input(OpenInput {
             input: self.input,
             at: 0,
-        })))
+        }))
+    }
+
+    /// Opens what a name names, if it can be opened.
+    fn reader(&self, name: &str) -> Option<HostReader<'i, R::File, I>> {
+        if name == STANDARD_INPUT {
+            return self.open_input();
+        }
+        match fs::open(self.rt, name) {
+            Ok(file) => Some(HostReader::File(file)),
+            Err(_) => None,
+        }
     }
 }
 
@@ -196,14 +211,20 @@ impl<'i, R: HostFileSystem, I: Read> Files for HostFiles<'_, 'i, R, I> {
 
     ghost held = { λ _ _. None };
 
+    ghost failures = { λ s. s.failures.count };
+
     fn open(&mut self, name: &str) -> Result<Self::Input, Failed> {
-        if name == STANDARD_INPUT {
-            return self.open_input();
+        match self.reader(name) {
+            Some(reader) => Ok(HostFile::new(reader)),
+            None => {
+                self.failures = self.failures.plus(&Tally::of(&1));
+                Err(Failed)
+            }
         }
-        match fs::open(self.rt, name) {
-            Ok(reader) => Ok(HostFile::new(HostReader::File(reader))),
-            Err(_) => Err(Failed),
-        }
+    }
+
+    fn close(&mut self, input: Self::Input) {
+        self.failures = self.failures.plus(&input.failures);
     }
 }
 

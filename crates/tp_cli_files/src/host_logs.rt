@@ -1,30 +1,33 @@
 //! Journal files of the host.
 
-ghost use Rattle.std.specs.Prelude.{◌≡◌, ◌-◌, ◌^◌, ◌<◌, ◌≤◌, None, length, IfOk};
+ghost use Rattle.std.specs.Prelude.{◌≡◌, ◌<◌, ◌≤◌, None, length, IfOk};
 ghost use Rattle.std.specs.Io.KnownBytes.{WriteAppends};
 ghost use Rattle.tp_device.specs.Bytes.{failures_after};
 
 use crate::logs::Logs;
+use crate::tally::Tally;
 use std::fs;
 use std::io::Write;
 use std::rt::Files as HostFileSystem;
 use tp_device::{Failed, Sink};
 
 /// A file of the host that is written. Each push is a write of the host's, and none is kept back.
-/// A write that fails, or takes none of some bytes, counts as a failure; behind 2^64 - 1 of them no
-/// more goes to the file, so what it holds is told by a clause of `push` and not by the sink.
+/// A write that fails, or takes none of some bytes, counts as a failure. What the file holds is told
+/// by a clause of `push` and not by the sink, since a file of the host tells nothing as it is made.
 #[derive(Drop)]
 pub struct HostLog<W: Write> {
     writer: W,
-    failures: u64,
+    failures: Tally,
 }
 
 impl<W: Write> HostLog<W> {
     /// What is written goes to the writer.
-    pub fn new(writer: W) -> Self {
+    pub fn new(writer: W) -> Self
+        ensures failures { result.failures.count ≡ 0 }
+    {
         HostLog {
             writer,
-            failures: 0,
+            failures: Tally::of(&0),
         }
     }
 }
@@ -33,24 +36,21 @@ impl<W: Write> Sink for HostLog<W> {
     // It is not told for good: see `written` below.
     ghost held = { λ _. None };
 
-    ghost failures = { λ s. s.failures };
+    ghost failures = { λ s. s.failures.count };
 
     fn push(&mut self, bytes: &[u8]) -> Result<usize, Failed>
         ensures within { IfOk result (λ n. n ≤ length bytes.now) }
         ensures some { 0 < length bytes.now → IfOk result (λ n. 0 < n) }
         ensures bytes { WriteAppends None None result bytes.now }
-        ensures cause { self.new.failures ≡ failures_after self.old.failures result }
-        // As long as a failure can be counted, each push is a write.
-        ensures written { self.old.failures < 2 ^ 64 - 1 → WriteAppends
+        ensures cause { self.new.failures.count ≡ failures_after self.old.failures.count result }
+        // Each push is a write.
+        ensures written { WriteAppends
             (W.contents self.old.writer) (W.contents self.new.writer) result bytes.now }
     {
-        if self.failures == u64::MAX {
-            return Ok(bytes.len());
-        }
         match self.writer.write(bytes) {
             Ok(count) if count != 0 || bytes.is_empty() => Ok(count),
             _ => {
-                self.failures += 1;
+                self.failures = self.failures.plus(&Tally::of(&1));
                 Err(Failed)
             }
         }
@@ -61,12 +61,16 @@ impl<W: Write> Sink for HostLog<W> {
 #[derive(Drop)]
 pub struct HostLogs<'r, R: HostFileSystem> {
     rt: &'r R,
+    failures: Tally,
 }
 
 impl<'r, R: HostFileSystem> HostLogs<'r, R> {
     /// The files that the runtime reaches.
     pub fn new(rt: &'r R) -> Self {
-        HostLogs { rt }
+        HostLogs {
+            rt,
+            failures: Tally::of(&0),
+        }
     }
 }
 
@@ -79,6 +83,8 @@ impl<R: HostFileSystem> Logs for HostLogs<'_, R> {
 
     ghost kept = { λ _. None };
 
+    ghost failures = { λ s. s.failures.count };
+
     ghost blank = { None };
 
     ghost is_blank = { tt };
@@ -86,9 +92,14 @@ impl<R: HostFileSystem> Logs for HostLogs<'_, R> {
     fn make(&mut self, name: &str) -> Result<Self::Log, Failed> {
         match fs::create(self.rt, name) {
             Ok(writer) => Ok(HostLog::new(writer)),
-            Err(_) => Err(Failed),
+            Err(_) => {
+                self.failures = self.failures.plus(&Tally::of(&1));
+                Err(Failed)
+            }
         }
     }
 
-    fn keep(&mut self, _log: Self::Log) {}
+    fn keep(&mut self, log: Self::Log) {
+        self.failures = self.failures.plus(&log.failures);
+    }
 }

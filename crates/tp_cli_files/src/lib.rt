@@ -6,6 +6,7 @@
 //! - `host`: the files of the host, and the arguments of its call
 //! - `logs`: the trait of what creates and keeps journal files
 //! - `host_logs`: the journal files of the host
+//! - `tally`: counts of failed calls, which proofs alone can read
 #![tactic(auto)]
 
 mod fault_lines;
@@ -14,6 +15,7 @@ mod host;
 mod host_logs;
 mod logs;
 mod outlets;
+mod tally;
 
 pub use fault_lines::{Detail, FaultLine, OUT_OF_ORDER, REFUSED, complain, complain_more};
 pub use files::{FileFault, Files, open_text, read_text};
@@ -24,3 +26,4 @@ pub use host::{
 pub use host_logs::{HostLog, HostLogs};
 pub use logs::Logs;
 pub use outlets::Outlet;
+pub use tally::Tally;

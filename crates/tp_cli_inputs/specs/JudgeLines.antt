@@ -1,6 +1,6 @@
 -- The lines of faults of texts, tasks and plans, and their exit statuses: 3 where memory or a device is wanting, and
 -- else 2.
-use Rattle.std.specs.Prelude.{ℕ, List, codes}
+use Rattle.std.specs.Prelude.{ℕ, List, Bool, false, codes}
 use Rattle.tp_text.specs.declared.fault.TextFault.{TextFault}
 use Rattle.tp_text.specs.declared.fault.TextFault.TheVariants as text_fault
 use Rattle.tp_syntax_ast.specs.declared.fault.LeftOutPart.{LeftOutPart}
@@ -13,6 +13,7 @@ use Rattle.tp_task.specs.declared.fault.GroundFault.{GroundFault}
 use Rattle.tp_task.specs.declared.fault.GroundFault.TheVariants as ground_fault
 use Rattle.tp_happen.specs.tp_plan_text.declared.reading.PlanFault.{PlanFault}
 use Rattle.tp_happen.specs.tp_plan_text.declared.reading.PlanFault.TheVariants as plan_fault
+use Rattle.tp_cli_files.specs.Causes.{file_unread}
 use Rattle.tp_cli_files.specs.FaultLines.{construct_line, fault_line, named_line, placed_line}
 use Rattle.tp_cli_files.specs.FileFaults.{file_status, file_text}
 use Rattle.tp_cli_files.specs.declared.files.FileFault.{FileFault}
@@ -126,3 +127,15 @@ judge_text w (PlanFile fault) = file_text (codes "plan") fault w.plan.now
 judge_text w (Plan fault) = plan_text fault
 judge_text w Memory = fault_line (codes "check") (codes "1 memory")
 judge_text w Range = fault_line (codes "check") (codes "2 range")
+
+-- a file can't be read
+abbrev pub judge_unread : JudgeFault → Bool
+judge_unread (DomainFile fault) = file_unread fault
+judge_unread (Domain fault) = false
+judge_unread (ProblemFile fault) = file_unread fault
+judge_unread (Problem fault) = false
+judge_unread (Task fault) = false
+judge_unread (PlanFile fault) = file_unread fault
+judge_unread (Plan fault) = false
+judge_unread Memory = false
+judge_unread Range = false

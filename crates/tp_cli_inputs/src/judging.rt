@@ -11,7 +11,9 @@ ghost use Rattle.tp_validate.specs.OfTask.{IsOfTask};
 ghost use Rattle.tp_bounds.specs.RunLimits.{greatest_limits};
 ghost use Rattle.tp_ground_named.specs.Named.{chosen, IsBegun, HasNoTaskOf};
 ghost use Rattle.tp_happen.specs.tp_plan_text.PlanNames.{plan_names};
+ghost use Rattle.tp_cli_files.specs.Causes.{counted};
 ghost use Rattle.tp_cli_inputs.specs.Causes.{Explains, IsRefusedBy, IsStopped, IsTextFault, IsUnjudged};
+ghost use Rattle.tp_cli_inputs.specs.JudgeLines.{judge_unread};
 ghost use Rattle.tp_cli_inputs.specs.Named.{AreNamed, IsIn, IsNamedPlan, IsTaskFor};
 
 use crate::plan_words::PlanWords;
@@ -70,6 +72,7 @@ pub fn domain_in<N: Files>(
     ensures kind { IfErr result IsTextFault }
     ensures cause { IfErr result (Explains (N.held files.old) words.entry) }
     ensures same { (other : List ℕ) → N.held files.new other ≡ N.held files.old other }
+    ensures opened { N.failures files.new ≡ counted judge_unread (N.failures files.old) result }
 {
     match open_text(alloc, files, words.domain) {
         Ok(text) => match read_domain(alloc, text.as_str()) {
@@ -96,6 +99,7 @@ pub fn problem_in<N: Files>(
     ensures cause { IsIn (N.held files.old words.entry.domain.now) (λ text. SpellsDomain text
         (domain_view domain.now)) → IfErr result (Explains (N.held files.old) words.entry) }
     ensures same { (other : List ℕ) → N.held files.new other ≡ N.held files.old other }
+    ensures opened { N.failures files.new ≡ counted judge_unread (N.failures files.old) result }
 {
     match open_text(alloc, files, words.problem) {
         Ok(text) => match read_problem(alloc, text.as_str(), domain) {
@@ -112,6 +116,7 @@ fn plan_for(alloc: Global, task: Task, text: &str) -> Result<NamedPlan, JudgeFau
         (λ n. (n.task ≡ task) × SpellsPlan (readable n.task) text.now n.plan) }
     ensures of_task { IfOk result (λ n. IsOfTask n.task n.plan) }
     ensures cause { IfErr result (IsRefusedBy task text.now) }
+    ensures opened { (n : ℕ) → counted judge_unread n result ≡ n }
 {
     match read_plan(alloc, text, &task) {
         Ok(plan) => Ok(NamedPlan { task, plan }),
@@ -162,6 +167,7 @@ fn plan_of<'a>(
     ensures of_task { IfOk result (λ n. IsOfTask n.task n.plan) }
     ensures cause { IfErr result (IsStopped words.entry (domain_view domain.now)
         (problem_view problem.now) text.now) }
+    ensures opened { (n : ℕ) → counted judge_unread n result ≡ n }
 {
     match task_for(alloc, words, domain, problem, begun, text) {
         Ok(task) => plan_for(alloc, task, text),
@@ -188,6 +194,7 @@ fn plan_from<'a, N: Files>(
     ensures cause { AreNamed (N.held files.old) words.entry (domain_view domain.now)
         (problem_view problem.now) → IfErr result (Explains (N.held files.old) words.entry) }
     ensures same { (other : List ℕ) → N.held files.new other ≡ N.held files.old other }
+    ensures opened { N.failures files.new ≡ counted judge_unread (N.failures files.old) result }
 {
     match open_text(alloc, files, words.plan) {
         Ok(text) => plan_of(alloc, words, domain, problem, begun, text.as_str()),
@@ -214,6 +221,7 @@ pub fn plan_with<N: Files>(
     ensures cause { AreNamed (N.held files.old) words.entry (domain_view domain.now)
         (problem_view problem.now) → IfErr result (Explains (N.held files.old) words.entry) }
     ensures same { (other : List ℕ) → N.held files.new other ≡ N.held files.old other }
+    ensures opened { N.failures files.new ≡ counted judge_unread (N.failures files.old) result }
 {
     match begin(alloc, domain, problem, &Limits::greatest(words.horizon)) {
         Ok(begun) => plan_from(alloc, files, words, domain, problem, begun),
@@ -236,6 +244,7 @@ fn plan_over<N: Files>(
     ensures cause { IsIn (N.held files.old words.entry.domain.now) (λ text. SpellsDomain text
         (domain_view domain.now)) → IfErr result (Explains (N.held files.old) words.entry) }
     ensures same { (other : List ℕ) → N.held files.new other ≡ N.held files.old other }
+    ensures opened { N.failures files.new ≡ counted judge_unread (N.failures files.old) result }
 {
     let problem = problem_in(alloc, files, words, domain)?;
     let plan = plan_with(alloc, files, words, domain, &problem);
@@ -264,6 +273,7 @@ pub fn plan_in<N: Files>(
     ensures of_task { IfOk result (λ n. IsOfTask n.task n.plan) }
     ensures cause { IfErr result (Explains (N.held files.old) words.entry) }
     ensures same { (other : List ℕ) → N.held files.new other ≡ N.held files.old other }
+    ensures opened { N.failures files.new ≡ counted judge_unread (N.failures files.old) result }
 {
     let domain = domain_in(alloc, files, words)?;
     let plan = plan_over(alloc, files, words, &domain);
@@ -280,6 +290,7 @@ pub fn verdict_of<'t>(alloc: Global, task: &'t Task, plan: Plan) -> Result<Verdi
     requires { IsOfTask task.now plan }
     ensures verdict { IfOk result (IsVerdict task.now plan) }
     ensures cause { IfErr result (IsUnjudged task.now plan) }
+    ensures opened { (n : ℕ) → counted judge_unread n result ≡ n }
 {
     match validate(alloc, task, plan) {
         Ok(verdict) => Ok(verdict),

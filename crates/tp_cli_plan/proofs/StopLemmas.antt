@@ -11,6 +11,7 @@ use Rattle.tp_task.specs.declared.fault.GroundFault.{GroundFault}
 use Rattle.tp_task.specs.declared.fault.GroundFault.TheVariants as ground_fault
 use Rattle.tp_search.specs.tp_search_frontier.declared.fault.SearchFault.{SearchFault}
 use Rattle.tp_search.specs.tp_search_frontier.declared.fault.SearchFault.TheVariants as search_fault
+use Rattle.tp_cli_files.specs.Causes.{raised}
 use Rattle.tp_cli_files.specs.FaultLines.{Tells}
 use Rattle.tp_cli_files.specs.FileFaults.{file_status}
 use Rattle.tp_cli_files.specs.declared.files.FileFault.{FileFault}
@@ -21,7 +22,7 @@ use Rattle.tp_cli_inputs.specs.declared.judging.JudgeFault.TheVariants as judge_
 use Rattle.tp_cli_plan.specs.Searches.{SearchesPart, task_words}
 use Rattle.tp_cli_inputs.specs.declared.plan_words.PlanWords.{PlanWords}
 use Rattle.tp_cli_plan.specs.SearchTasks.{ExplainsTask}
-use Rattle.tp_cli_plan.specs.SearchStops.{EndsSearch, StopsSearch, search_status, stop_failures, stop_status, stop_text}
+use Rattle.tp_cli_plan.specs.SearchStops.{EndsSearch, StopsSearch, search_status, stop_failures, stop_status, stop_text, stop_unread}
 use Rattle.tp_cli_plan.specs.declared.search_words.SearchWords.{SearchWords}
 use Rattle.tp_cli_plan.specs.declared.stops.SearchStop.{SearchStop}
 use Rattle.tp_cli_plan.specs.declared.stops.SearchStop.TheVariants.{Files, Searching, Write}
@@ -109,12 +110,13 @@ no_write n Write other = absurd (other refl)
 pub ends_told : (status output output-now : ℕ) (stop : SearchStop) → status ≡ stop_status stop → output-now ≡ stop_failures {T = Bool} output (Err stop) → (status ≡ 3 → ⊥) → output-now ≡ output
 ends_told status output output-now stop is write other = write ∙ (any_type output stop ∙ no_write output stop (λ broken. other (is ∙ broken)))
 
-pub ends : (held : List ℕ → Option (List ℕ)) (w : SearchWords) (status : ℕ) (before now : Option (List ℕ)) (output output-now failures : ℕ) (said : Option (List ℕ)) (failures-now : ℕ) (said-now : Option (List ℕ)) (stop : SearchStop) (text : List ℕ) → StopsSearch held w before now stop → status ≡ stop_status stop → output-now ≡ stop_failures {T = Bool} output (Err stop) → text ≡ stop_text w stop → Tells text failures said failures-now said-now → EndsSearch held w status before now output output-now failures said failures-now said-now
-ends held w status before now output output-now failures said failures-now said-now stop text cause is write line told =
+pub ends : (held : List ℕ → Option (List ℕ)) (w : SearchWords) (status : ℕ) (before now : Option (List ℕ)) (unread unread-now output output-now failures : ℕ) (said : Option (List ℕ)) (failures-now : ℕ) (said-now : Option (List ℕ)) (stop : SearchStop) (text : List ℕ) → StopsSearch held w before now stop → status ≡ stop_status stop → output-now ≡ stop_failures {T = Bool} output (Err stop) → unread-now ≡ raised (stop_unread stop) unread → text ≡ stop_text w stop → Tells text failures said failures-now said-now → EndsSearch held w status before now unread unread-now output output-now failures said failures-now said-now
+ends held w status before now unread unread-now output output-now failures said failures-now said-now stop text cause is write opened line told =
     record {
       stop = stop;
       is = sym is;
       cause = cause;
+      opened = opened;
       write = write ∙ any_type output stop;
       told = subst (λ (t : List ℕ). Tells t failures said failures-now said-now) line told;
     }

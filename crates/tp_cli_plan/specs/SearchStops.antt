@@ -1,10 +1,11 @@
 -- What is told where a search stops without an answer, and why it stops.
-use Rattle.std.specs.Prelude.{◌≡◌, ℕ, ◌+◌, List, Option, Result, Ok, Err, codes}
+use Rattle.std.specs.Prelude.{◌≡◌, ℕ, ◌+◌, List, Option, Bool, false, Result, Ok, Err, codes}
 use Rattle.tp_task.specs.declared.task.Task.{Task}
 use Rattle.tp_search.specs.tp_search_frontier.declared.fault.SearchFault.{SearchFault}
 use Rattle.tp_search.specs.tp_search_frontier.declared.fault.SearchFault.TheVariants as search
+use Rattle.tp_cli_files.specs.Causes.{raised}
 use Rattle.tp_cli_files.specs.FaultLines.{Tells, fault_line}
-use Rattle.tp_cli_inputs.specs.JudgeLines.{judge_status, judge_text}
+use Rattle.tp_cli_inputs.specs.JudgeLines.{judge_status, judge_text, judge_unread}
 use Rattle.tp_cli_plan.specs.SearchTasks.{ExplainsTask, IsSearchTask}
 use Rattle.tp_cli_plan.specs.Searches.{SearchesSome, task_words}
 use Rattle.tp_cli_plan.specs.declared.search_words.SearchWords.{SearchWords}
@@ -36,6 +37,12 @@ stop_failures n (Err (Files fault)) = n
 stop_failures n (Err (Searching fault)) = n
 stop_failures n (Err Write) = n + 1
 
+-- a file can't be read
+abbrev pub stop_unread : SearchStop → Bool
+stop_unread (Files fault) = judge_unread fault
+stop_unread (Searching fault) = false
+stop_unread Write = false
+
 -- Why a search stopped: the files gave no task, or the search of their task no answer, and nothing was written; or a first part of the answer
 -- was.
 abbrev pub StopsSearch : (List ℕ → Option (List ℕ)) → SearchWords → Option (List ℕ)
@@ -46,12 +53,15 @@ StopsSearch held w before now (Searching fault) =
     ((task : Task) × IsSearchTask held (task_words w) task) × (now ≡ before)
 StopsSearch held w before now Write = SearchesSome held w before now
 
--- It stopped so with that status, and that was told. A failed write is one that the count of failures tells of.
+-- It stopped so with that status, and that was told. A file that can't be read and a failed write are ones that the counts of failures tell
+-- of.
 pub record EndsSearch (held : List ℕ → Option (List ℕ)) (w : SearchWords) (status : ℕ)
-    (before now : Option (List ℕ)) (output output-now : ℕ) (failures : ℕ) (said : Option (List ℕ))
+    (before now : Option (List ℕ)) (unread unread-now : ℕ) (output output-now : ℕ) (failures : ℕ)
+    (said : Option (List ℕ))
     (failures-now : ℕ) (said-now : Option (List ℕ)) : Type 0 where
   pub stop : SearchStop
   pub is : stop_status stop ≡ status
   pub cause : StopsSearch held w before now stop
+  pub opened : unread-now ≡ raised (stop_unread stop) unread
   pub write : output-now ≡ stop_failures {T = Unit {0}} output (Err stop)
   pub told : Tells (stop_text w stop) failures said failures-now said-now

@@ -4,7 +4,8 @@ ghost use Rattle.std.specs.Prelude.{◌≡◌, ◌≢◌, ◌≤◌, ℕ, List, 
 ghost use Rattle.tp_cli_files.specs.FaultLines.{TellsFault};
 ghost use Rattle.tp_search.specs.tp_search_instant.Answers.{IsAnswer};
 ghost use Rattle.tp_cli_plan.specs.FoundText.{IsFoundOfTask};
-ghost use Rattle.tp_cli_plan.specs.SearchStops.{EndsSearch, StopsSearch, stop_failures};
+ghost use Rattle.tp_cli_plan.specs.SearchStops.{EndsSearch, StopsSearch, stop_failures, stop_unread};
+ghost use Rattle.tp_cli_files.specs.Causes.{counted};
 ghost use Rattle.tp_syntax.specs.DomainViews.{domain_view, problem_view};
 ghost use Rattle.tp_solve.specs.Sought.{IsSought};
 ghost use Rattle.tp_cli_inputs.specs.Named.{AreNamed};
@@ -38,6 +39,7 @@ fn tell<O: Sink>(found: &Found<'_>, output: &mut O) -> Result<bool, SearchStop>
     ensures cause { IfErr result (StopsTelling found.now (O.held output.old) (O.held output.new)) }
     ensures of_task { IsFoundOfTask found.now }
     ensures failures { O.failures output.new ≡ stop_failures (O.failures output.old) result }
+    ensures opened { (n : ℕ) → counted stop_unread n result ≡ n }
 {
     match write_found(output, found) {
         Ok(()) => Ok(matches!(found, Found::Plan(_))),
@@ -92,6 +94,7 @@ fn search_of<B: Write, O: Sink>(
         → IsSearchTask held (task_words words.entry) task.now
         → IfErr result (StopsSearch held words.entry (O.held output.old) (O.held output.new)) }
     ensures failures { O.failures output.new ≡ stop_failures (O.failures output.old) result }
+    ensures opened { (n : ℕ) → counted stop_unread n result ≡ n }
     ensures quiet { tells_progress words.entry.order ≡ false → board.new ≡ board.old }
 {
     plans_are_read();
@@ -122,6 +125,7 @@ fn plan_reached<B: Write, O: Sink>(
         (domain_view inputs.now.domain) (problem_view inputs.now.problem)
         → IfErr result (StopsSearch held words.entry (O.held output.old) (O.held output.new)) }
     ensures failures { O.failures output.new ≡ stop_failures (O.failures output.old) result }
+    ensures opened { (n : ℕ) → counted stop_unread n result ≡ n }
     ensures quiet { tells_progress words.entry.order ≡ false → board.new ≡ board.old }
 {
     match reached_task(alloc, words.task_words(), inputs) {
@@ -157,6 +161,7 @@ fn tell_plan<'t, O: Sink>(
     ensures cause { (held : List ℕ → Option (List ℕ)) → IsJoinedOf held words.entry task.now
         → IfErr result (StopsSearch held words.entry (O.held output.old) (O.held output.new)) }
     ensures failures { O.failures output.new ≡ stop_failures (O.failures output.old) result }
+    ensures opened { (n : ℕ) → counted stop_unread n result ≡ n }
 {
     let _ = words;
     let _ = wishes;
@@ -187,6 +192,7 @@ fn tell_proposed<'t, O: Sink>(
     ensures cause { (held : List ℕ → Option (List ℕ)) → IsJoinedOf held words.entry task.now
         → IfErr result (StopsSearch held words.entry (O.held output.old) (O.held output.new)) }
     ensures failures { O.failures output.new ≡ stop_failures (O.failures output.old) result }
+    ensures opened { (n : ℕ) → counted stop_unread n result ≡ n }
 {
     let Proposed { plan, spent } = proposed;
     match plan {
@@ -211,6 +217,7 @@ fn propose_of<B: Write, O: Sink>(
     ensures cause { (held : List ℕ → Option (List ℕ)) → IsJoinedOf held words.entry task.now
         → IfErr result (StopsSearch held words.entry (O.held output.old) (O.held output.new)) }
     ensures failures { O.failures output.new ≡ stop_failures (O.failures output.old) result }
+    ensures opened { (n : ℕ) → counted stop_unread n result ≡ n }
     ensures quiet { wishes.progress ≡ false → board.new ≡ board.old }
 {
     match propose_with(alloc, task, words.budget, words.horizon, wishes, board) {
@@ -237,6 +244,7 @@ fn plan_joined<B: Write, O: Sink>(
         (domain_view inputs.now.domain) (problem_view inputs.now.problem)
         → IfErr result (StopsSearch held words.entry (O.held output.old) (O.held output.new)) }
     ensures failures { O.failures output.new ≡ stop_failures (O.failures output.old) result }
+    ensures opened { (n : ℕ) → counted stop_unread n result ≡ n }
     ensures quiet { wishes.progress ≡ false → board.new ≡ board.old }
 {
     match joined_task(alloc, words.task_words(), inputs) {
@@ -265,6 +273,7 @@ fn plan_rest<B: Write, O: Sink>(
         → IsPart held words.entry before (O.held output.old) part
         → IfErr result (StopsSearch held words.entry before (O.held output.new)) }
     ensures failures { O.failures output.new ≡ stop_failures (O.failures output.old) result }
+    ensures opened { (n : ℕ) → counted stop_unread n result ≡ n }
     ensures quiet { tells_progress words.entry.order ≡ false → board.new ≡ board.old }
 {
     match part {
@@ -293,6 +302,7 @@ fn plan_guided<B: Write, O: Sink>(
         (domain_view inputs.now.domain) (problem_view inputs.now.problem)
         → IfErr result (StopsSearch held words.entry (O.held output.old) (O.held output.new)) }
     ensures failures { O.failures output.new ≡ stop_failures (O.failures output.old) result }
+    ensures opened { (n : ℕ) → counted stop_unread n result ≡ n }
     ensures quiet { wishes.progress ≡ false → board.new ≡ board.old }
 {
     match plan_joined(alloc, words, wishes, inputs, board, output) {
@@ -317,6 +327,7 @@ fn plan_of<B: Write, O: Sink>(
         (domain_view inputs.now.domain) (problem_view inputs.now.problem)
         → IfErr result (StopsSearch held words.entry (O.held output.old) (O.held output.new)) }
     ensures failures { O.failures output.new ≡ stop_failures (O.failures output.old) result }
+    ensures opened { (n : ℕ) → counted stop_unread n result ≡ n }
     ensures quiet { tells_progress words.entry.order ≡ false → board.new ≡ board.old }
 {
     match words.order {
@@ -341,6 +352,7 @@ fn plan<N: Files, B: Write, O: Sink>(
     ensures cause { IfErr result
         (StopsSearch (N.held files.old) words.entry (O.held output.old) (O.held output.new)) }
     ensures failures { O.failures output.new ≡ stop_failures (O.failures output.old) result }
+    ensures opened { N.failures files.new ≡ counted stop_unread (N.failures files.old) result }
     ensures quiet { tells_progress words.entry.order ≡ false → board.new ≡ board.old }
 {
     match inputs_in(alloc, files, words.task_words()) {
@@ -379,7 +391,8 @@ pub fn run_plan<N: Files, B: Write, O: Sink, F: Sink>(
 
     // What stopped it is told, and is as it is told.
     ensures stopped { 2 ≤ result → EndsSearch (N.held files.old) words.entry result
-        (O.held output.old) (O.held output.new) (O.failures output.old) (O.failures output.new)
+        (O.held output.old) (O.held output.new) (N.failures files.old) (N.failures files.new)
+        (O.failures output.old) (O.failures output.new)
         (F.failures faults.old) (F.held faults.old) (F.failures faults.new) (F.held faults.new) }
 
     // Nothing is written for input that is refused, and of a true answer at most a first part where

@@ -1,12 +1,14 @@
 //! The domain and the problem in two files, and tasks of them: of the actions that the relaxed
 //! reach keeps, and of those that joins of static conditions leave.
 
-ghost use Rattle.std.specs.Prelude.{◌≤◌, ℕ, List, Option, IfOk, IfErr, IfSome};
+ghost use Rattle.std.specs.Prelude.{◌≡◌, ◌≤◌, ℕ, List, Option, IfOk, IfErr, IfSome};
 ghost use Rattle.tp_bounds.specs.RunLimits.{greatest_limits};
 ghost use Rattle.tp_syntax.specs.DomainViews.{domain_view, problem_view};
 ghost use Rattle.tp_syntax.specs.Domains.{SpellsDomain};
 ghost use Rattle.tp_ground.specs.Reached.{IsReachedTask};
 ghost use Rattle.tp_ground_joins.specs.Joined.{IsJoinedTask};
+ghost use Rattle.tp_cli_files.specs.Causes.{counted};
+ghost use Rattle.tp_cli_inputs.specs.JudgeLines.{judge_unread};
 ghost use Rattle.tp_cli_inputs.specs.Named.{AreNamed, IsIn};
 ghost use Rattle.tp_cli_plan.specs.SearchTasks.{ExplainsTask};
 
@@ -39,6 +41,7 @@ fn inputs_of<N: Files>(
         AreNamed (N.held files.old) words.entry (domain_view i.domain) (problem_view i.problem)) }
     ensures cause { IsIn (N.held files.old words.entry.domain.now) (λ text. SpellsDomain text
         (domain_view domain)) → IfErr result (ExplainsTask (N.held files.old) words.entry) }
+    ensures opened { N.failures files.new ≡ counted judge_unread (N.failures files.old) result }
 {
     let problem = problem_in(alloc, files, words, &domain)?;
     Ok(Inputs { domain, problem })
@@ -54,6 +57,7 @@ pub(crate) fn inputs_in<N: Files>(
     ensures named { IfOk result (λ i.
         AreNamed (N.held files.old) words.entry (domain_view i.domain) (problem_view i.problem)) }
     ensures cause { IfErr result (ExplainsTask (N.held files.old) words.entry) }
+    ensures opened { N.failures files.new ≡ counted judge_unread (N.failures files.old) result }
 {
     let domain = domain_in(alloc, files, words)?;
     inputs_of(alloc, files, words, domain)
@@ -71,6 +75,7 @@ pub(crate) fn reached_task(
     ensures cause { (held : List ℕ → Option (List ℕ)) → AreNamed held words.entry
         (domain_view inputs.now.domain) (problem_view inputs.now.problem)
         → IfErr result (ExplainsTask held words.entry) }
+    ensures opened { (n : ℕ) → counted judge_unread n result ≡ n }
 {
     let limits = Limits::greatest(words.horizon);
     match ground_reached(alloc, &inputs.domain, &inputs.problem, &limits, words.scale) {

@@ -16,6 +16,7 @@ use Rattle.tp_journal_pairs.specs.GoingOn.{Follows, GoesOn}
 use Rattle.tp_journal_pairs.specs.declared.faults.JournalFault.{JournalFault}
 use Rattle.tp_journal_pairs.specs.declared.faults.JournalFault.TheVariants as journal
 use Rattle.tp_journal_pairs.proofs.WriteLemmas.{enters_answers, enters_more}
+use Rattle.tp_cli_files.specs.Causes.{counted, raised}
 use Rattle.tp_cli_files.specs.FaultLines.{Tells}
 use Rattle.tp_cli_files.proofs.FaultLemmas.{whole_part}
 use Rattle.tp_cli_audit.specs.AuditLines.{stop_status}
@@ -28,7 +29,7 @@ use Rattle.tp_cli_run.specs.LogFile.{IsNamed, LogFile, MadeNone}
 use Rattle.tp_cli_run.proofs.StatusLemmas.{IsStatus, three, two}
 use Rattle.tp_cli_resume.specs.Bare.{EndsResumed, HindersOld, ResumesBare, ResumesPart, SaysOld, StopsResumed, WentBare, ran_result}
 use Rattle.tp_cli_resume.specs.Going.{GoesTo, StopsGoing, StopsIn}
-use Rattle.tp_cli_resume.specs.Stops.{resume_failures, resume_reads, resume_status, resume_text}
+use Rattle.tp_cli_resume.specs.Stops.{resume_failures, resume_reads, resume_status, resume_text, resume_unread, resume_unlogged}
 use Rattle.tp_cli_resume.specs.declared.old.Run.{Run}
 use Rattle.tp_cli_resume.specs.declared.old.Taken.TheVariants.{Goes, Wrong}
 use Rattle.tp_cli_resume.specs.declared.stops.ResumeStop.{ResumeStop}
@@ -216,13 +217,20 @@ no_read n (Journaling journal.Write) other = refl
 no_read n (Journaling journal.Log) other = refl
 no_read n (Journaling journal.TooLong) other = refl
 
-pub ends : (old : Option (List ℕ)) (name : List ℕ) (status : ℕ) (input : Option (List ℕ)) (reads reads-now : ℕ) (held now : Option (List ℕ)) (file : LogFile) (output output-now failures : ℕ) (said : Option (List ℕ)) (failures-now : ℕ) (said-now : Option (List ℕ)) (stop : ResumeStop) (text : List ℕ) → StopsResumed old input held now file stop → status ≡ resume_status stop → output-now ≡ resume_failures {T = Bool} output (Err stop) → reads-now ≡ resume_reads {T = Bool} reads (Err stop) → text ≡ resume_text name stop → Tells text failures said failures-now said-now → EndsResumed old name status input reads reads-now held now file output output-now failures said failures-now said-now
-ends old name status input reads reads-now held now file output output-now failures said failures-now said-now stop text cause is write read line told =
+-- a run that went on fails as its commands did
+pub ran_count : (failed : ResumeStop → Bool) (went : Result Machine ResumeStop) (r : Result Bool ResumeStop) (n : ℕ) → r ≡ ran_result went → counted failed n went ≡ counted failed n r
+ran_count failed (Ok last) r n is = ap (counted failed n) (sym is)
+ran_count failed (Err stop) r n is = ap (counted failed n) (sym is)
+
+pub ends : (old : Option (List ℕ)) (name : List ℕ) (status : ℕ) (input : Option (List ℕ)) (reads reads-now : ℕ) (held now : Option (List ℕ)) (file : LogFile) (unread unread-now logs logs-now output output-now failures : ℕ) (said : Option (List ℕ)) (failures-now : ℕ) (said-now : Option (List ℕ)) (stop : ResumeStop) (text : List ℕ) → StopsResumed old input held now file stop → status ≡ resume_status stop → output-now ≡ resume_failures {T = Bool} output (Err stop) → reads-now ≡ resume_reads {T = Bool} reads (Err stop) → unread-now ≡ raised (resume_unread stop) unread → logs-now ≡ raised (resume_unlogged stop) logs → text ≡ resume_text name stop → Tells text failures said failures-now said-now → EndsResumed old name status input reads reads-now held now file unread unread-now logs logs-now output output-now failures said failures-now said-now
+ends old name status input reads reads-now held now file unread unread-now logs logs-now output output-now failures said failures-now said-now stop text cause is write read opened log line told =
     record {
       stop = stop;
       is = sym is;
       cause = cause;
       read = read ∙ any_reads Bool (Unit {0}) reads stop;
+      opened = opened;
+      journal = log;
       write = write ∙ any_type output stop;
       told = subst (λ (t : List ℕ). Tells t failures said failures-now said-now) line told;
     }

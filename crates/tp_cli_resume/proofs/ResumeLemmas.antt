@@ -22,9 +22,11 @@ use Rattle.tp_journal_pairs.specs.declared.faults.JournalFault.{JournalFault}
 use Rattle.tp_journal_pairs.specs.declared.faults.JournalFault.TheVariants as journal
 use Rattle.tp_journal_pairs.proofs.WriteLemmas.{journal_more, runs_more}
 use Rattle.tp_journal.specs.Replay.{LeadsTo}
+use Rattle.tp_cli_files.specs.Causes.{counted, raised}
+use Rattle.tp_cli_bare.specs.JournalLines.{journal_unlogged}
 use Rattle.tp_cli_run.specs.LogFile.{IsNamed, LogFile}
 use Rattle.tp_cli_resume.specs.Going.{Continues, GoesTo, StopsGoing, StopsIn, begin_text, went_result}
-use Rattle.tp_cli_resume.specs.Stops.{resume_failures, resume_reads}
+use Rattle.tp_cli_resume.specs.Stops.{resume_failures, resume_reads, resume_unlogged, resume_unread}
 use Rattle.tp_cli_resume.specs.declared.stops.ResumeStop.{ResumeStop}
 use Rattle.tp_cli_resume.specs.declared.stops.ResumeStop.TheVariants.{Journaling}
 
@@ -145,3 +147,21 @@ hear_fault n journal.TooLong = refl
 pub heard_of : (went : Result Machine JournalFault) (r : Result Machine ResumeStop) (n m : ℕ) → r ≡ went_result went → m ≡ read_failures n went → m ≡ resume_reads n r
 heard_of (Ok last) r n m is count = subst (λ q. m ≡ resume_reads n q) (sym is) count
 heard_of (Err fault) r n m is count = subst (λ q. m ≡ resume_reads n q) (sym is) (count ∙ hear_fault n fault)
+
+-- the same of the reads of a file, and of the writes to the journal
+pub went_unread : (went : Result Machine JournalFault) (r : Result Machine ResumeStop) (n : ℕ) → r ≡ went_result went → counted resume_unread n r ≡ n
+went_unread (Ok last) r n is = ap (counted resume_unread n) is
+went_unread (Err fault) r n is = ap (counted resume_unread n) is
+
+pub logged_of : (went : Result Machine JournalFault) (r : Result Machine ResumeStop) (n : ℕ) → r ≡ went_result went → counted journal_unlogged n went ≡ counted resume_unlogged n r
+logged_of (Ok last) r n is = ap (counted resume_unlogged n) (sym is)
+logged_of (Err fault) r n is = ap (counted resume_unlogged n) (sym is)
+
+-- where no call failed, the fault tells of none
+raised_none : (failed : Bool) (n : ℕ) → 0 ≡ raised failed 0 → raised failed n ≡ n
+raised_none true n none = let no : ⊥ = omega (arith, none) in absurd no
+raised_none false n none = refl
+
+pub counted_none : {T E : Type 0} (failed : E → Bool) (r : Result T E) (n : ℕ) → 0 ≡ counted failed 0 r → counted failed n r ≡ n
+counted_none failed (Ok x) n none = refl
+counted_none failed (Err e) n none = raised_none (failed e) n none

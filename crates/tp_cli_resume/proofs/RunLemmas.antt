@@ -20,6 +20,7 @@ use Rattle.tp_exec_machine.proofs.Keeping.{step_keeps}
 use Rattle.tp_journal_pairs.specs.Journal.{Entry, Runs}
 use Rattle.tp_journal_pairs.specs.declared.faults.JournalFault.{JournalFault}
 use Rattle.tp_journal.specs.declared.faults.JournalHead.{JournalHead}
+use Rattle.tp_cli_files.specs.Causes.{counted, raised}
 use Rattle.tp_cli_files.specs.FaultLines.{Tells}
 use Rattle.tp_cli_files.proofs.FaultLemmas.{whole_part}
 use Rattle.tp_cli_inputs.specs.Named.{IsNamedPlan}
@@ -43,7 +44,7 @@ use Rattle.tp_cli_run.proofs.StatusLemmas.{IsStatus, judge_is, network_is, three
 use Rattle.tp_cli_resume.specs.Going.{GoesTo, StopsGoing, StopsIn}
 use Rattle.tp_cli_resume.specs.Old.{IsQuiet, IsTaken, IsUnread}
 use Rattle.tp_cli_resume.specs.Run.{ComesFrom, EndsOn, EndsRunResumed, GoesOfPlan, GoesSteps, GoesVerdict, HasStopped, StopsEarly, told_on}
-use Rattle.tp_cli_resume.specs.RunStops.{run_resume_failures, run_resume_reads, run_resume_status, run_resume_text}
+use Rattle.tp_cli_resume.specs.RunStops.{run_resume_failures, run_resume_reads, run_resume_status, run_resume_text, run_resume_unread, run_resume_unlogged}
 use Rattle.tp_cli_resume.specs.Stops.{resume_failures, resume_reads}
 use Rattle.tp_cli_resume.specs.declared.old.Run.{Run}
 use Rattle.tp_cli_resume.specs.declared.old.Taken.{Taken}
@@ -261,13 +262,23 @@ any_reads n (Resuming stop) = refl
 any_reads n Telling = refl
 any_reads n Write = refl
 
-pub ends : (w : PlanWords) (old : List ℕ) (status : ℕ) (reads reads-now : ℕ) (before now : Option (List ℕ)) (file : LogFile) (output output-now failures : ℕ) (said : Option (List ℕ)) (failures-now : ℕ) (said-now : Option (List ℕ)) (stop : RunResumeStop) (text : List ℕ) → HasStopped before now file stop → status ≡ run_resume_status stop → output-now ≡ run_resume_failures {T = Bool} output (Err stop) → reads-now ≡ run_resume_reads {T = Bool} reads (Err stop) → text ≡ run_resume_text w old stop → Tells text failures said failures-now said-now → EndsRunResumed w old status reads reads-now before now file output output-now failures said failures-now said-now
-ends w old status reads reads-now before now file output output-now failures said failures-now said-now stop text cause is write read line told =
+-- nor does it fail as a file or a journal
+pub told_fails : (failed : RunResumeStop → Bool) → failed Telling ≡ false → failed Write ≡ false → (told : Result Bool RunStop) (r : Result Bool RunResumeStop) (n : ℕ) → r ≡ told_on told → counted failed n r ≡ n
+told_fails failed telling write (Ok done) r n is = ap (counted failed n) is
+told_fails failed telling write (Err (run.Judging fault)) r n is = ap (counted failed n) is ∙ ap (λ b. raised b n) telling
+told_fails failed telling write (Err (run.Network fault)) r n is = ap (counted failed n) is ∙ ap (λ b. raised b n) telling
+told_fails failed telling write (Err (run.Answering fault)) r n is = ap (counted failed n) is ∙ ap (λ b. raised b n) telling
+told_fails failed telling write (Err run.Write) r n is = ap (counted failed n) is ∙ ap (λ b. raised b n) write
+
+pub ends : (w : PlanWords) (old : List ℕ) (status : ℕ) (reads reads-now : ℕ) (before now : Option (List ℕ)) (file : LogFile) (unread unread-now logs logs-now output output-now failures : ℕ) (said : Option (List ℕ)) (failures-now : ℕ) (said-now : Option (List ℕ)) (stop : RunResumeStop) (text : List ℕ) → HasStopped before now file stop → status ≡ run_resume_status stop → output-now ≡ run_resume_failures {T = Bool} output (Err stop) → reads-now ≡ run_resume_reads {T = Bool} reads (Err stop) → unread-now ≡ raised (run_resume_unread stop) unread → logs-now ≡ raised (run_resume_unlogged stop) logs → text ≡ run_resume_text w old stop → Tells text failures said failures-now said-now → EndsRunResumed w old status reads reads-now before now file unread unread-now logs logs-now output output-now failures said failures-now said-now
+ends w old status reads reads-now before now file unread unread-now logs logs-now output output-now failures said failures-now said-now stop text cause is write read opened log line told =
     record {
       stop = stop;
       is = sym is;
       cause = cause;
       read = read ∙ any_reads reads stop;
+      opened = opened;
+      journal = log;
       write = write ∙ any_type output stop;
       told = subst (λ (t : List ℕ). Tells t failures said failures-now said-now) line told;
     }

@@ -9,6 +9,7 @@ use Rattle.tp_journal_pairs.specs.Writing.{EntersAll}
 use Rattle.tp_journal.specs.Auditing.{DisallowsAt}
 use Rattle.tp_journal.specs.Replay.{LeadsTo}
 use Rattle.tp_journal.specs.declared.faults.JournalHead.{JournalHead}
+use Rattle.tp_cli_files.specs.Causes.{raised}
 use Rattle.tp_cli_files.specs.FaultLines.{Tells}
 use Rattle.tp_cli_audit.specs.Audits.{found_line}
 use Rattle.tp_cli_audit.specs.Bare.{HindersBare, bare_machine}
@@ -18,7 +19,7 @@ use Rattle.tp_cli_audit.specs.declared.auditing.Found.TheVariants as found
 use Rattle.tp_cli_run.specs.LogFile.{LogFile, MadeNone}
 use Rattle.tp_cli_resume.specs.Going.{Continues, StopsGoing}
 use Rattle.tp_cli_resume.specs.Old.{IsKept, IsTaken, IsUnread}
-use Rattle.tp_cli_resume.specs.Stops.{resume_failures, resume_reads, resume_status, resume_text}
+use Rattle.tp_cli_resume.specs.Stops.{resume_failures, resume_reads, resume_status, resume_text, resume_unlogged, resume_unread}
 use Rattle.tp_cli_resume.specs.declared.old.Taken.{Taken}
 use Rattle.tp_cli_resume.specs.declared.old.Taken.TheVariants.{Goes, Wrong}
 use Rattle.tp_cli_resume.specs.declared.stops.ResumeStop.{ResumeStop}
@@ -84,16 +85,19 @@ StopsResumed old input held now file (Journaling fault) =
     (run : _) × WentBare old (Goes run)
     × StopsGoing run.executive run.kept.items input held now file (Journaling fault)
 
--- It stopped so with that status, and that was told. A failed read of the input and a failed write are ones that the counts of failures
--- tell of.
+-- It stopped so with that status, and that was told. A failed read of the input, a file that can't be read, a journal that can't be made
+-- or written, and a failed write are ones that the counts of failures tell of.
 pub record EndsResumed (old : Option (List ℕ)) (name : List ℕ) (status : ℕ)
     (input : Option (List ℕ)) (reads reads-now : ℕ) (held held-now : Option (List ℕ))
-    (file : LogFile) (output output-now : ℕ) (failures : ℕ) (before : Option (List ℕ))
+    (file : LogFile) (unread unread-now logs logs-now : ℕ) (output output-now : ℕ) (failures : ℕ)
+    (before : Option (List ℕ))
     (failures-now : ℕ) (now : Option (List ℕ)) : Type 0 where
   pub stop : ResumeStop
   pub is : resume_status stop ≡ status
   pub cause : StopsResumed old input held held-now file stop
   pub read : reads-now ≡ resume_reads {T = Unit {0}} reads (Err stop)
+  pub opened : unread-now ≡ raised (resume_unread stop) unread
+  pub journal : logs-now ≡ raised (resume_unlogged stop) logs
   pub write : output-now ≡ resume_failures {T = Unit {0}} output (Err stop)
   pub told : Tells (resume_text name stop) failures before failures-now now
 

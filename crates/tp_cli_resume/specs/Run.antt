@@ -13,6 +13,7 @@ use Rattle.tp_exec.specs.FromPlan.{CameFrom, IsPlanOfRun, TellsPlan}
 use Rattle.tp_exec_machine.specs.Machine.{Machine}
 use Rattle.tp_journal.specs.Auditing.{DisallowsAt}
 use Rattle.tp_journal.specs.declared.faults.JournalHead.{JournalHead}
+use Rattle.tp_cli_files.specs.Causes.{raised}
 use Rattle.tp_cli_files.specs.FaultLines.{Tells}
 use Rattle.tp_cli_inputs.specs.VerdictLines.{invalid_line}
 use Rattle.tp_cli_inputs.specs.declared.plan_words.PlanWords.{PlanWords}
@@ -27,7 +28,7 @@ use Rattle.tp_cli_run.specs.declared.run_lines.RunStop.{RunStop}
 use Rattle.tp_cli_run.specs.declared.run_lines.RunStop.TheVariants as run
 use Rattle.tp_cli_resume.specs.Going.{Continues, GoesTo}
 use Rattle.tp_cli_resume.specs.Old.{IsKept, IsTaken}
-use Rattle.tp_cli_resume.specs.RunStops.{run_resume_failures, run_resume_reads, run_resume_status, run_resume_text}
+use Rattle.tp_cli_resume.specs.RunStops.{run_resume_failures, run_resume_reads, run_resume_status, run_resume_text, run_resume_unlogged, run_resume_unread}
 use Rattle.tp_cli_resume.specs.declared.old.Taken.{Taken}
 use Rattle.tp_cli_resume.specs.declared.old.Taken.TheVariants.{Goes, Wrong}
 use Rattle.tp_cli_audit.specs.declared.audit_lines.AuditStop.TheVariants.{Write as NotWritten}
@@ -159,14 +160,17 @@ LeavesFile before now file Write = MadeNone file ⊎ IsNamed file
 abbrev pub HasStopped : Option (List ℕ) → Option (List ℕ) → LogFile → RunResumeStop → Type 0
 HasStopped before now file stop = StopsEarly before now × LeavesFile before now file stop
 
--- It stopped so with that status, and that was told. A failed read of the input and a failed write are ones that the counts of failures
--- tell of.
+-- It stopped so with that status, and that was told. A failed read of the input, a file that can't be read, a journal that can't be made
+-- or written, and a failed write are ones that the counts of failures tell of.
 pub record EndsRunResumed (w : PlanWords) (old : List ℕ) (status : ℕ) (reads reads-now : ℕ)
-    (before now : Option (List ℕ)) (file : LogFile) (output output-now : ℕ) (failures : ℕ)
+    (before now : Option (List ℕ)) (file : LogFile) (unread unread-now logs logs-now : ℕ)
+    (output output-now : ℕ) (failures : ℕ)
     (said : Option (List ℕ)) (failures-now : ℕ) (said-now : Option (List ℕ)) : Type 0 where
   pub stop : RunResumeStop
   pub is : run_resume_status stop ≡ status
   pub cause : HasStopped before now file stop
   pub read : reads-now ≡ run_resume_reads {T = Unit {0}} reads (Err stop)
+  pub opened : unread-now ≡ raised (run_resume_unread stop) unread
+  pub journal : logs-now ≡ raised (run_resume_unlogged stop) logs
   pub write : output-now ≡ run_resume_failures {T = Unit {0}} output (Err stop)
   pub told : Tells (run_resume_text w old stop) failures said failures-now said-now

@@ -1,10 +1,10 @@
 -- The lines of what stops a run of a plan that goes on, and their exit statuses.
-use Rattle.std.specs.Prelude.{ℕ, ◌+◌, List, Result, Ok, Err, codes}
+use Rattle.std.specs.Prelude.{ℕ, ◌+◌, List, Bool, false, Result, Ok, Err, codes}
 use Rattle.tp_cli_files.specs.FaultLines.{fault_line}
-use Rattle.tp_cli_inputs.specs.JudgeLines.{judge_status, judge_text}
+use Rattle.tp_cli_inputs.specs.JudgeLines.{judge_status, judge_text, judge_unread}
 use Rattle.tp_cli_inputs.specs.declared.plan_words.PlanWords.{PlanWords}
 use Rattle.tp_cli_run.specs.RunLines.{network_status, network_text}
-use Rattle.tp_cli_resume.specs.Stops.{resume_failures, resume_reads, resume_status, resume_text}
+use Rattle.tp_cli_resume.specs.Stops.{resume_failures, resume_reads, resume_status, resume_text, resume_unlogged, resume_unread}
 use Rattle.tp_cli_resume.specs.declared.run_stops.RunResumeStop.{RunResumeStop}
 use Rattle.tp_cli_resume.specs.declared.run_stops.RunResumeStop.TheVariants.{Judging, Network, Resuming, Telling, Write}
 
@@ -39,3 +39,19 @@ run_resume_failures n (Err (Network fault)) = n
 run_resume_failures n (Err (Resuming stop)) = resume_failures {T = Unit {0}} n (Err stop)
 run_resume_failures n (Err Telling) = n
 run_resume_failures n (Err Write) = n + 1
+
+-- a file can't be read
+abbrev pub run_resume_unread : RunResumeStop → Bool
+run_resume_unread (Judging fault) = judge_unread fault
+run_resume_unread (Network fault) = false
+run_resume_unread (Resuming stop) = resume_unread stop
+run_resume_unread Telling = false
+run_resume_unread Write = false
+
+-- the new journal can't be made, or a write to it failed
+abbrev pub run_resume_unlogged : RunResumeStop → Bool
+run_resume_unlogged (Judging fault) = false
+run_resume_unlogged (Network fault) = false
+run_resume_unlogged (Resuming stop) = resume_unlogged stop
+run_resume_unlogged Telling = false
+run_resume_unlogged Write = false

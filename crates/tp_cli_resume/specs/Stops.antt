@@ -1,10 +1,10 @@
 -- The lines of what stops a run that goes on, and their exit statuses.
-use Rattle.std.specs.Prelude.{ℕ, ◌+◌, List, Result, Ok, Err, codes}
+use Rattle.std.specs.Prelude.{ℕ, ◌+◌, List, Bool, true, false, Result, Ok, Err, codes}
 use Rattle.tp_cli_files.specs.FaultLines.{fault_line}
 use Rattle.tp_journal_pairs.specs.declared.faults.JournalFault.TheVariants as journal
-use Rattle.tp_cli_audit.specs.AuditLines.{stop_status, stop_text}
+use Rattle.tp_cli_audit.specs.AuditLines.{stop_status, stop_text, stop_unread}
 use Rattle.tp_cli_audit.specs.Audits.{say_failures}
-use Rattle.tp_cli_bare.specs.JournalLines.{journal_status, journal_text}
+use Rattle.tp_cli_bare.specs.JournalLines.{journal_status, journal_text, journal_unlogged}
 use Rattle.tp_cli_resume.specs.declared.stops.ResumeStop.{ResumeStop}
 use Rattle.tp_cli_resume.specs.declared.stops.ResumeStop.TheVariants.{Auditing, Lines, Making, Journaling}
 
@@ -42,3 +42,17 @@ resume_failures n (Err (Journaling journal.Read)) = n
 resume_failures n (Err (Journaling journal.Write)) = n + 1
 resume_failures n (Err (Journaling journal.Log)) = n
 resume_failures n (Err (Journaling journal.TooLong)) = n
+
+-- the file of the journal can't be read
+abbrev pub resume_unread : ResumeStop → Bool
+resume_unread (Auditing stop) = stop_unread stop
+resume_unread Lines = false
+resume_unread Making = false
+resume_unread (Journaling fault) = false
+
+-- the new journal can't be made, or a write to it failed
+abbrev pub resume_unlogged : ResumeStop → Bool
+resume_unlogged (Auditing stop) = false
+resume_unlogged Lines = false
+resume_unlogged Making = true
+resume_unlogged (Journaling fault) = journal_unlogged fault

@@ -5,9 +5,11 @@ ghost use Rattle.std.specs.Io.KnownBytes.{Appends};
 ghost use Rattle.tp_device.specs.Bytes.{AppendsPart};
 ghost use Rattle.tp_cli_audit.specs.Audits.{found_line};
 ghost use Rattle.tp_cli_audit.specs.Bare.{HindersBare, HindersTold};
+ghost use Rattle.tp_cli_audit.specs.AuditLines.{stop_unread};
+ghost use Rattle.tp_cli_files.specs.Causes.{counted};
 ghost use Rattle.tp_cli_files.specs.FaultLines.{TellsFault};
 ghost use Rattle.tp_cli_resume.specs.Bare.{EndsResumed, HindersOld, IsTakenBare, IsTakenHead, ResumesPart, SaysOld, StopsResumed, WentBare, ran_result};
-ghost use Rattle.tp_cli_resume.specs.Stops.{resume_failures, resume_reads};
+ghost use Rattle.tp_cli_resume.specs.Stops.{resume_failures, resume_reads, resume_unlogged, resume_unread};
 ghost use Rattle.tp_cli_run.specs.LogFile.{log_file};
 
 use crate::going::go_on;
@@ -25,6 +27,7 @@ use tp_repair::RepairNet;
 fn take_headed(alloc: Global, kept: Vec<u8>, head: &JournalHead) -> Result<Taken, AuditStop>
     ensures taken { IfOk result (IsTakenHead head.now kept.items) }
     ensures cause { IfErr result (HindersTold head.now (Some kept.items)) }
+    ensures opened { (n : ℕ) → counted stop_unread n result ≡ n }
 {
     if !is_bare(head) {
         return Err(AuditStop::Head);
@@ -39,14 +42,12 @@ fn take_headed(alloc: Global, kept: Vec<u8>, head: &JournalHead) -> Result<Taken
 fn take_kept(alloc: Global, kept: Vec<u8>) -> Result<Taken, AuditStop>
     ensures taken { IfOk result (IsTakenBare kept.items) }
     ensures cause { IfErr result (HindersBare (Some kept.items)) }
+    ensures opened { (n : ℕ) → counted stop_unread n result ≡ n }
 {
-    let head = head_of(
-        alloc,
-        Bytes {
-            left: kept.as_slice(),
-        },
-    );
-    match head {
+    let mut bytes = Bytes {
+        left: kept.as_slice(),
+    };
+    match head_of(alloc, &mut bytes) {
         Ok(head) => take_headed(alloc, kept, &head),
         Err(stop) => Err(stop),
     }
@@ -56,6 +57,7 @@ fn take_kept(alloc: Global, kept: Vec<u8>) -> Result<Taken, AuditStop>
 fn take_old<N: Files>(alloc: Global, files: &mut N, old: &str) -> Result<Taken, AuditStop>
     ensures taken { IfOk result (WentBare (N.held files.old old.now)) }
     ensures cause { IfErr result (HindersOld (N.held files.old old.now)) }
+    ensures opened { N.failures files.new ≡ counted stop_unread (N.failures files.old) result }
 {
     match kept_in(alloc, files, old) {
         Ok(kept) => take_kept(alloc, kept),
@@ -71,6 +73,8 @@ fn say_wrong<O: Sink>(output: &mut O, line: u64) -> Result<bool, ResumeStop>
         × AppendsPart (O.held output.old) (O.held output.new) (found_line (Found.Wrong line))) }
     ensures told { O.failures output.new ≡ resume_failures (O.failures output.old) result }
     ensures unread { (n : ℕ) → resume_reads n result ≡ n }
+    ensures opened { (n : ℕ) → counted resume_unread n result ≡ n }
+    ensures unlogged { (n : ℕ) → counted resume_unlogged n result ≡ n }
 {
     match say(output, Found::Wrong(line)) {
         Ok(_) => Ok(false),
@@ -108,6 +112,8 @@ fn resume<N: Files, L: Logs, I: Source, O: Sink>(
         (L.named logs.new) L.blank (L.kept logs.new))) }
     ensures told { O.failures output.new ≡ resume_failures (O.failures output.old) result }
     ensures read { I.failures input.new ≡ resume_reads (I.failures input.old) result }
+    ensures opened { N.failures files.new ≡ counted resume_unread (N.failures files.old) result }
+    ensures log { L.failures logs.new ≡ counted resume_unlogged (L.failures logs.old) result }
 {
     match take_old(alloc, files, old) {
         Ok(Taken::Goes(run)) => ran_on(go_on(alloc, logs, name, run, input, output)),
@@ -148,6 +154,7 @@ pub fn run_bare_resume<N: Files, L: Logs, I: Source, O: Sink, F: Sink>(
         (O.held output.old) (O.held output.new)
         (log_file name.now (L.asked logs.old) (L.asked logs.new)
         (L.named logs.new) L.blank (L.kept logs.new))
+        (N.failures files.old) (N.failures files.new) (L.failures logs.old) (L.failures logs.new)
         (O.failures output.old) (O.failures output.new)
         (F.failures faults.old) (F.held faults.old) (F.failures faults.new) (F.held faults.new) }
     ensures part { result ≡ OUT_OF_ORDER → ResumesPart (N.held files.old old.now) (I.left input.old)

@@ -1,6 +1,6 @@
 //! A run goes on: its journal goes to a new file, and the commands of the input are answered.
 
-ghost use Rattle.std.specs.Prelude.{◌≡◌, drop, Ok, Err, IfOk, IfErr};
+ghost use Rattle.std.specs.Prelude.{◌≡◌, ℕ, drop, Ok, Err, IfOk, IfErr};
 ghost use Rattle.tp_device.specs.Bytes.{Writes, failures_after};
 ghost use Rattle.tp_exec_machine.specs.Machine.{Machine};
 ghost use Rattle.tp_script.specs.declared.serving.Served.{Served};
@@ -8,7 +8,9 @@ ghost use Rattle.tp_journal_pairs.specs.GoingOn.{GoesOn};
 ghost use Rattle.tp_journal_pairs.specs.Writing.{read_failures, write_failures};
 ghost use Rattle.tp_cli_run.specs.LogFile.{IsNamed, log_file};
 ghost use Rattle.tp_cli_resume.specs.Going.{GoesTo, StopsGoing, StopsIn, begin_text, went_result};
-ghost use Rattle.tp_cli_resume.specs.Stops.{resume_failures, resume_reads};
+ghost use Rattle.tp_cli_resume.specs.Stops.{resume_failures, resume_reads, resume_unlogged, resume_unread};
+ghost use Rattle.tp_cli_bare.specs.JournalLines.{journal_unlogged};
+ghost use Rattle.tp_cli_files.specs.Causes.{counted};
 
 use crate::old::Run;
 use crate::stops::ResumeStop;
@@ -55,6 +57,7 @@ fn go_on_behind<I: Source, O: Sink, V: Sink>(
     ensures told { O.failures output.new ≡ write_failures (O.failures output.old) result }
     ensures source { lines.new.source ≡ lines.old.source }
     ensures read { lines.new.failures ≡ read_failures lines.old.failures result }
+    ensures log { V.failures log.new ≡ counted journal_unlogged (V.failures log.old) result }
 {
     let mut executive = executive;
     match journal_on(&mut executive, lines, output, log) {
@@ -78,6 +81,7 @@ fn go_on_in<I: Source, O: Sink, V: Sink>(
     ensures told { O.failures output.new ≡ write_failures (O.failures output.old) result }
     ensures source { lines.new.source ≡ lines.old.source }
     ensures read { lines.new.failures ≡ read_failures lines.old.failures result }
+    ensures log { V.failures log.new ≡ counted journal_unlogged (V.failures log.old) result }
 {
     let Run { executive, kept } = run;
     match write_beginning(log, kept.as_slice()) {
@@ -119,6 +123,8 @@ fn go_on_lines<L: Logs, I: Source, O: Sink>(
     ensures told { O.failures output.new ≡ resume_failures (O.failures output.old) result }
     ensures source { lines.new.source ≡ lines.old.source }
     ensures read { lines.new.failures ≡ resume_reads lines.old.failures result }
+    ensures opened { (n : ℕ) → counted resume_unread n result ≡ n }
+    ensures log { L.failures logs.new ≡ counted resume_unlogged (L.failures logs.old) result }
 {
     match logs.make(name) {
         Ok(log) => {
@@ -151,6 +157,8 @@ pub(crate) fn go_on<L: Logs, I: Source, O: Sink>(
         (L.asked logs.new) (L.named logs.new) L.blank (L.kept logs.new))) }
     ensures told { O.failures output.new ≡ resume_failures (O.failures output.old) result }
     ensures read { I.failures input.new ≡ resume_reads (I.failures input.old) result }
+    ensures opened { (n : ℕ) → counted resume_unread n result ≡ n }
+    ensures log { L.failures logs.new ≡ counted resume_unlogged (L.failures logs.old) result }
 {
     match LineBuffers::new(alloc, LONGEST_LINE) {
         Ok(buffers) => {

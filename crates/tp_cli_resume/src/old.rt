@@ -2,6 +2,8 @@
 
 ghost use Rattle.std.specs.Prelude.{◌≡◌, ◌++◌, ℕ, List, Some, IfOk, IfErr, IfSome, OnOk};
 ghost use Rattle.tp_journal_pairs.specs.Writing.{IsNewExecutive};
+ghost use Rattle.tp_cli_files.specs.Causes.{counted};
+ghost use Rattle.tp_cli_audit.specs.AuditLines.{stop_unread};
 ghost use Rattle.tp_cli_audit.specs.Audits.{Hinders};
 ghost use Rattle.tp_cli_resume.specs.Old.{IsKept, IsTaken, IsUnread};
 
@@ -34,6 +36,7 @@ impl Source for Bytes<'_> {
 fn put(bytes: &mut Vec<u8>, more: &[u8]) -> Result<(), AuditStop>
     ensures put { OnOk result (bytes.new.items ≡ bytes.old.items ++ more.now) }
     ensures cause { IfErr result IsUnread }
+    ensures opened { (n : ℕ) → counted stop_unread n result ≡ n }
 {
     match bytes.extend_from_slice(more) {
         Ok(()) => Ok(()),
@@ -45,6 +48,7 @@ fn put(bytes: &mut Vec<u8>, more: &[u8]) -> Result<(), AuditStop>
 fn pull_all<S: Source>(alloc: Global, source: &mut S) -> Result<Vec<u8>, AuditStop>
     ensures whole { IfOk result (λ v. IfSome (S.left source.old) (λ bytes. v.items ≡ bytes)) }
     ensures cause { IfErr result IsUnread }
+    ensures opened { S.failures source.new ≡ counted stop_unread (S.failures source.old) result }
 {
     let mut chunk = [0; 4096];
     let mut bytes = Vec::new(alloc);
@@ -60,15 +64,6 @@ fn pull_all<S: Source>(alloc: Global, source: &mut S) -> Result<Vec<u8>, AuditSt
     Err(AuditStop::Memory)
 }
 
-/// The same of a source that is done with.
-fn all_bytes<S: Source + Drop>(alloc: Global, source: S) -> Result<Vec<u8>, AuditStop>
-    ensures whole { IfOk result (λ v. IfSome (S.left source) (λ bytes. v.items ≡ bytes)) }
-    ensures cause { IfErr result IsUnread }
-{
-    let mut source = source;
-    pull_all(alloc, &mut source)
-}
-
 /// The journal in the file of a name, up to its last whole pair.
 pub(crate) fn kept_in<N: Files>(
     alloc: Global,
@@ -78,10 +73,14 @@ pub(crate) fn kept_in<N: Files>(
     ensures kept { IfOk result (λ v. IsKept (N.held files.old name.now) v.items) }
     ensures cause { IfErr result IsUnread }
     ensures same { (other : List ℕ) → N.held files.new other ≡ N.held files.old other }
+    ensures opened { N.failures files.new ≡ counted stop_unread (N.failures files.old) result }
 {
     match files.open(name) {
         Ok(source) => {
-            let mut bytes = all_bytes(alloc, source)?;
+            let mut source = source;
+            let pulled = pull_all(alloc, &mut source);
+            files.close(source);
+            let mut bytes = pulled?;
             let whole = whole_pairs(bytes.as_slice());
             bytes.truncate(whole);
             Ok(bytes)
@@ -115,16 +114,13 @@ pub(crate) fn take_up(
     requires { IsNewExecutive executive }
     ensures taken { IfOk result (IsTaken executive kept.items) }
     ensures cause { IfErr result (Hinders executive (Some kept.items)) }
+    ensures opened { (n : ℕ) → counted stop_unread n result ≡ n }
 {
     let mut executive = executive;
-    let found = replay_of(
-        alloc,
-        Bytes {
-            left: kept.as_slice(),
-        },
-        &mut executive,
-    );
-    match found {
+    let mut bytes = Bytes {
+        left: kept.as_slice(),
+    };
+    match replay_of(alloc, &mut bytes, &mut executive) {
         Ok(Found::Journal(_)) => Ok(Taken::Goes(Run { executive, kept })),
         Ok(Found::Wrong(n)) => Ok(Taken::Wrong(n)),
         Err(stop) => Err(stop),

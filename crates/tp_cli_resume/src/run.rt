@@ -14,7 +14,9 @@ ghost use Rattle.tp_cli_inputs.specs.VerdictLines.{invalid_line};
 ghost use Rattle.tp_cli_resume.specs.Old.{IsQuiet};
 ghost use Rattle.tp_cli_run.specs.LogFile.{log_file};
 ghost use Rattle.tp_cli_resume.specs.Run.{ComesFrom, EndsOn, EndsRunResumed, GoesOfPlan, GoesSteps, GoesVerdict, HasStopped, IsTakenNet, ResumesRun, StopsEarly, told_on};
-ghost use Rattle.tp_cli_resume.specs.RunStops.{run_resume_failures, run_resume_reads};
+ghost use Rattle.tp_cli_resume.specs.RunStops.{run_resume_failures, run_resume_reads, run_resume_unlogged, run_resume_unread};
+ghost use Rattle.tp_cli_audit.specs.AuditLines.{stop_unread};
+ghost use Rattle.tp_cli_files.specs.Causes.{counted};
 
 use crate::going::go_on;
 use crate::old::{Bytes, Run, Taken, kept_in, take_up};
@@ -44,6 +46,7 @@ fn take_net(
     ensures taken { IfOk result (IsTakenNet network.now head.now kept.items) }
     ensures came { IfOk result (ComesFrom network.now) }
     ensures quiet { IfErr result IsQuiet }
+    ensures opened { (n : ℕ) → counted stop_unread n result ≡ n }
 {
     if !lags_suit(network, head) {
         return Err(AuditStop::Head);
@@ -85,6 +88,8 @@ fn go_to_end<L: Logs, I: Source, O: Sink>(
         (L.named logs.new) L.blank (L.kept logs.new))) }
     ensures failures { O.failures output.new ≡ run_resume_failures (O.failures output.old) result }
     ensures read { I.failures input.new ≡ run_resume_reads (I.failures input.old) result }
+    ensures opened { (n : ℕ) → counted run_resume_unread n result ≡ n }
+    ensures log { L.failures logs.new ≡ counted run_resume_unlogged (L.failures logs.old) result }
 {
     match go_on(alloc, logs, name, run, input, output) {
         Ok(executive) => of_telling(tell_run(&executive, plan, output)),
@@ -101,6 +106,8 @@ fn say_wrong<O: Sink>(output: &mut O, line: u64) -> Result<bool, RunResumeStop>
         (O.held output.new) (found_line (Found.Wrong line))) }
     ensures failures { O.failures output.new ≡ run_resume_failures (O.failures output.old) result }
     ensures unread { (n : ℕ) → run_resume_reads n result ≡ n }
+    ensures opened { (n : ℕ) → counted run_resume_unread n result ≡ n }
+    ensures unlogged { (n : ℕ) → counted run_resume_unlogged n result ≡ n }
 {
     match say(output, Found::Wrong(line)) {
         Ok(_) => Ok(false),
@@ -116,6 +123,8 @@ fn say_invalid<O: Sink>(output: &mut O, tick: u32, why: Fault) -> Result<bool, R
         × AppendsPart (O.held output.old) (O.held output.new) (invalid_line tick why)) }
     ensures failures { O.failures output.new ≡ run_resume_failures (O.failures output.old) result }
     ensures unread { (n : ℕ) → run_resume_reads n result ≡ n }
+    ensures opened { (n : ℕ) → counted run_resume_unread n result ≡ n }
+    ensures unlogged { (n : ℕ) → counted run_resume_unlogged n result ≡ n }
 {
     match write_invalid(output, tick, why) {
         Ok(()) => Ok(false),
@@ -146,6 +155,8 @@ fn run_on<L: Logs, I: Source, O: Sink>(
         (L.named logs.new) L.blank (L.kept logs.new))) }
     ensures failures { O.failures output.new ≡ run_resume_failures (O.failures output.old) result }
     ensures read { I.failures input.new ≡ run_resume_reads (I.failures input.old) result }
+    ensures opened { (n : ℕ) → counted run_resume_unread n result ≡ n }
+    ensures log { L.failures logs.new ≡ counted run_resume_unlogged (L.failures logs.old) result }
 {
     match take_net(alloc, network, head, kept) {
         Ok(Taken::Goes(run)) => go_to_end(alloc, logs, name, plan, run, input, output),
@@ -176,6 +187,8 @@ fn run_valid<L: Logs, I: Source, O: Sink>(
         (L.named logs.new) L.blank (L.kept logs.new))) }
     ensures failures { O.failures output.new ≡ run_resume_failures (O.failures output.old) result }
     ensures read { I.failures input.new ≡ run_resume_reads (I.failures input.old) result }
+    ensures opened { (n : ℕ) → counted run_resume_unread n result ≡ n }
+    ensures log { L.failures logs.new ≡ counted run_resume_unlogged (L.failures logs.old) result }
 {
     match deorder(alloc, plan, &Limits::greatest(horizon)) {
         Ok(network) => run_on(alloc, logs, name, plan, &network, head, kept, input, output),
@@ -205,6 +218,8 @@ fn run_verdict<L: Logs, I: Source, O: Sink>(
         (L.named logs.new) L.blank (L.kept logs.new))) }
     ensures failures { O.failures output.new ≡ run_resume_failures (O.failures output.old) result }
     ensures read { I.failures input.new ≡ run_resume_reads (I.failures input.old) result }
+    ensures opened { (n : ℕ) → counted run_resume_unread n result ≡ n }
+    ensures log { L.failures logs.new ≡ counted run_resume_unlogged (L.failures logs.old) result }
 {
     match verdict {
         Verdict::Valid(plan) => {
@@ -240,6 +255,8 @@ fn run_of<L: Logs, I: Source, O: Sink>(
         (L.named logs.new) L.blank (L.kept logs.new))) }
     ensures failures { O.failures output.new ≡ run_resume_failures (O.failures output.old) result }
     ensures read { I.failures input.new ≡ run_resume_reads (I.failures input.old) result }
+    ensures opened { (n : ℕ) → counted run_resume_unread n result ≡ n }
+    ensures log { L.failures logs.new ≡ counted run_resume_unlogged (L.failures logs.old) result }
 {
     match verdict_of(alloc, task, plan) {
         Ok(verdict) => {
@@ -283,6 +300,9 @@ fn run_named<N: Files, L: Logs, I: Source, O: Sink>(
         (L.named logs.new) L.blank (L.kept logs.new))) }
     ensures failures { O.failures output.new ≡ run_resume_failures (O.failures output.old) result }
     ensures read { I.failures input.new ≡ run_resume_reads (I.failures input.old) result }
+    ensures opened { N.failures files.new ≡
+        counted run_resume_unread (N.failures files.old) result }
+    ensures log { L.failures logs.new ≡ counted run_resume_unlogged (L.failures logs.old) result }
 {
     match plan_in(alloc, files, words) {
         Ok(named) => {
@@ -317,14 +337,14 @@ fn run_kept<N: Files, L: Logs, I: Source, O: Sink>(
         (L.named logs.new) L.blank (L.kept logs.new))) }
     ensures failures { O.failures output.new ≡ run_resume_failures (O.failures output.old) result }
     ensures read { I.failures input.new ≡ run_resume_reads (I.failures input.old) result }
+    ensures opened { N.failures files.new ≡
+        counted run_resume_unread (N.failures files.old) result }
+    ensures log { L.failures logs.new ≡ counted run_resume_unlogged (L.failures logs.old) result }
 {
-    let head = head_of(
-        alloc,
-        Bytes {
-            left: kept.as_slice(),
-        },
-    );
-    match head {
+    let mut bytes = Bytes {
+        left: kept.as_slice(),
+    };
+    match head_of(alloc, &mut bytes) {
         Ok(head) => run_named(alloc, files, logs, words, name, &head, kept, input, output),
         Err(stop) => Err(RunResumeStop::Resuming(ResumeStop::Auditing(stop))),
     }
@@ -351,6 +371,9 @@ fn run_old<N: Files, L: Logs, I: Source, O: Sink>(
         (L.named logs.new) L.blank (L.kept logs.new))) }
     ensures failures { O.failures output.new ≡ run_resume_failures (O.failures output.old) result }
     ensures read { I.failures input.new ≡ run_resume_reads (I.failures input.old) result }
+    ensures opened { N.failures files.new ≡
+        counted run_resume_unread (N.failures files.old) result }
+    ensures log { L.failures logs.new ≡ counted run_resume_unlogged (L.failures logs.old) result }
 {
     match kept_in(alloc, files, old) {
         Ok(kept) => run_kept(alloc, files, logs, words, name, kept, input, output),
@@ -393,6 +416,7 @@ pub fn run_run_resume<N: Files, L: Logs, I: Source, O: Sink, F: Sink>(
         (I.failures input.old) (I.failures input.new) (O.held output.old) (O.held output.new)
         (log_file name.now (L.asked logs.old) (L.asked logs.new)
         (L.named logs.new) L.blank (L.kept logs.new))
+        (N.failures files.old) (N.failures files.new) (L.failures logs.old) (L.failures logs.new)
         (O.failures output.old) (O.failures output.new)
         (F.failures faults.old) (F.held faults.old) (F.failures faults.new) (F.held faults.new) }
     ensures part { result ≡ OUT_OF_ORDER

@@ -15,6 +15,7 @@ use Rattle.tp_deorder.specs.Answers.{IsPlanNetOf}
 use Rattle.tp_exec_machine.specs.Machine.{Machine}
 use Rattle.tp_script.specs.declared.serving.ServeFault.TheVariants as serving
 use Rattle.tp_journal_pairs.specs.declared.faults.JournalFault.TheVariants as journal
+use Rattle.tp_cli_files.specs.Causes.{counted, raised}
 use Rattle.tp_cli_files.specs.FaultLines.{Tells}
 use Rattle.tp_cli_files.proofs.FaultLemmas.{whole_part}
 use Rattle.tp_cli_bare.specs.declared.bare.BareFault.TheVariants as bare
@@ -37,7 +38,7 @@ use Rattle.tp_cli_run.specs.JournaledEnds.{LogsSteps, LogsVerdict, StopsSteps, S
 use Rattle.tp_cli_run.specs.LogFile.{IsNamed, LogFile}
 use Rattle.tp_cli_run.specs.Logged.{LogsWhole}
 use Rattle.tp_cli_run.specs.RunJournals.{EndsRunLog, LogsTo, StopsInFile, StopsRunLog}
-use Rattle.tp_cli_run.specs.StopLines.{run_stop_failures, run_stop_reads, run_stop_status, run_stop_text}
+use Rattle.tp_cli_run.specs.StopLines.{run_stop_failures, run_stop_reads, run_stop_status, run_stop_text, run_stop_unread, run_stop_unlogged}
 use Rattle.tp_cli_run.specs.declared.stop_lines.RunJournalStop.{RunJournalStop}
 use Rattle.tp_cli_run.specs.declared.stop_lines.RunJournalStop.TheVariants.{Judging, Network, Journal, Telling, Write}
 
@@ -299,13 +300,23 @@ told_reads (Err (run.Network fault)) r n is = ap (run_stop_reads n) is
 told_reads (Err (run.Answering fault)) r n is = ap (run_stop_reads n) is
 told_reads (Err run.Write) r n is = ap (run_stop_reads n) is
 
-pub ends : (held : List ℕ → Option (List ℕ)) (w : PlanWords) (status : ℕ) (input : Option (List ℕ)) (reads reads-now : ℕ) (before now : Option (List ℕ)) (file : LogFile) (output output-now failures : ℕ) (said : Option (List ℕ)) (failures-now : ℕ) (said-now : Option (List ℕ)) (stop : RunJournalStop) (text : List ℕ) → StopsRunLog held w input before now file stop → status ≡ run_stop_status stop → output-now ≡ run_stop_failures {T = Bool} output (Err stop) → reads-now ≡ run_stop_reads {T = Bool} reads (Err stop) → text ≡ run_stop_text w stop → Tells text failures said failures-now said-now → EndsRunLog held w status input reads reads-now before now file output output-now failures said failures-now said-now
-ends held w status input reads reads-now before now file output output-now failures said failures-now said-now stop text cause is write read line told =
+-- nor does it fail as a file or a journal
+pub told_fails : (failed : RunJournalStop → Bool) → failed Telling ≡ false → failed Write ≡ false → (told : Result Bool RunStop) (r : Result Bool RunJournalStop) (n : ℕ) → r ≡ told_result told → counted failed n r ≡ n
+told_fails failed telling write (Ok done) r n is = ap (counted failed n) is
+told_fails failed telling write (Err (run.Judging fault)) r n is = ap (counted failed n) is ∙ ap (λ b. raised b n) telling
+told_fails failed telling write (Err (run.Network fault)) r n is = ap (counted failed n) is ∙ ap (λ b. raised b n) telling
+told_fails failed telling write (Err (run.Answering fault)) r n is = ap (counted failed n) is ∙ ap (λ b. raised b n) telling
+told_fails failed telling write (Err run.Write) r n is = ap (counted failed n) is ∙ ap (λ b. raised b n) write
+
+pub ends : (held : List ℕ → Option (List ℕ)) (w : PlanWords) (status : ℕ) (input : Option (List ℕ)) (reads reads-now : ℕ) (before now : Option (List ℕ)) (file : LogFile) (unread unread-now logs logs-now output output-now failures : ℕ) (said : Option (List ℕ)) (failures-now : ℕ) (said-now : Option (List ℕ)) (stop : RunJournalStop) (text : List ℕ) → StopsRunLog held w input before now file stop → status ≡ run_stop_status stop → output-now ≡ run_stop_failures {T = Bool} output (Err stop) → reads-now ≡ run_stop_reads {T = Bool} reads (Err stop) → unread-now ≡ raised (run_stop_unread stop) unread → logs-now ≡ raised (run_stop_unlogged stop) logs → text ≡ run_stop_text w stop → Tells text failures said failures-now said-now → EndsRunLog held w status input reads reads-now before now file unread unread-now logs logs-now output output-now failures said failures-now said-now
+ends held w status input reads reads-now before now file unread unread-now logs logs-now output output-now failures said failures-now said-now stop text cause is write read opened log line told =
     record {
       stop = stop;
       is = sym is;
       cause = cause;
       read = read ∙ any_reads reads stop;
+      opened = opened;
+      journal = log;
       write = write ∙ any_type output stop;
       told = subst (λ (t : List ℕ). Tells t failures said failures-now said-now) line told;
     }

@@ -14,6 +14,7 @@ use Rattle.tp_validate.specs.declared.verdicts.Verdict.TheVariants.{Valid, Inval
 use Rattle.tp_deorder.specs.Answers.{IsPlanNetOf}
 use Rattle.tp_exec_machine.specs.Machine.{Machine}
 use Rattle.tp_script.specs.declared.serving.ServeFault.TheVariants as serving
+use Rattle.tp_cli_files.specs.Causes.{raised}
 use Rattle.tp_cli_files.specs.FaultLines.{Tells}
 use Rattle.tp_cli_files.proofs.FaultLemmas.{whole_part}
 use Rattle.tp_cli_bare.specs.ServeLines.{bare_status}
@@ -25,7 +26,7 @@ use Rattle.tp_cli_inputs.proofs.NamedLemmas.{Same, explains_over, plan_over}
 use Rattle.tp_cli_run.specs.Answered.{AnswersPart, AnswersWhole, IsLong, IsTooLong, StopsAnswers}
 use Rattle.tp_cli_run.specs.Ends.{RunsSteps, RunsVerdict, StopsSteps, StopsTelling, StopsVerdict, TellsRun}
 use Rattle.tp_cli_run.specs.Invalid.{SaysInvalid, SaysInvalidPart}
-use Rattle.tp_cli_run.specs.RunLines.{run_failures, run_reads, run_status, run_text}
+use Rattle.tp_cli_run.specs.RunLines.{run_failures, run_reads, run_status, run_text, run_unread}
 use Rattle.tp_cli_run.specs.Runs.{EndsRun, Runs, RunsNamed, RunsPart, StopsRun, run_lines}
 use Rattle.tp_cli_run.proofs.StatusLemmas.{IsStatus, run_is}
 use Rattle.tp_cli_run.specs.declared.run_lines.RunStop.{RunStop}
@@ -245,13 +246,14 @@ told_reads task steps last before now (Err (Answering bare.Network)) n h = refl
 told_reads task steps last before now (Err (Answering (bare.Serving fault))) n h = absurd h
 told_reads task steps last before now (Err Write) n h = refl
 
-pub ends : (held : List ℕ → Option (List ℕ)) (w : PlanWords) (status : ℕ) (input : Option (List ℕ)) (reads reads-now : ℕ) (before now : Option (List ℕ)) (output output-now failures : ℕ) (said : Option (List ℕ)) (failures-now : ℕ) (said-now : Option (List ℕ)) (stop : RunStop) (text : List ℕ) → StopsRun held w input before now stop → status ≡ run_status stop → output-now ≡ run_failures {T = Bool} output (Err stop) → reads-now ≡ run_reads {T = Bool} reads (Err stop) → text ≡ run_text w stop → Tells text failures said failures-now said-now → EndsRun held w status input reads reads-now before now output output-now failures said failures-now said-now
-ends held w status input reads reads-now before now output output-now failures said failures-now said-now stop text cause is write read line told =
+pub ends : (held : List ℕ → Option (List ℕ)) (w : PlanWords) (status : ℕ) (input : Option (List ℕ)) (reads reads-now : ℕ) (before now : Option (List ℕ)) (unread unread-now output output-now failures : ℕ) (said : Option (List ℕ)) (failures-now : ℕ) (said-now : Option (List ℕ)) (stop : RunStop) (text : List ℕ) → StopsRun held w input before now stop → status ≡ run_status stop → output-now ≡ run_failures {T = Bool} output (Err stop) → reads-now ≡ run_reads {T = Bool} reads (Err stop) → unread-now ≡ raised (run_unread stop) unread → text ≡ run_text w stop → Tells text failures said failures-now said-now → EndsRun held w status input reads reads-now before now unread unread-now output output-now failures said failures-now said-now
+ends held w status input reads reads-now before now unread unread-now output output-now failures said failures-now said-now stop text cause is write read opened line told =
     record {
       stop = stop;
       is = sym is;
       cause = cause;
       read = read ∙ any_reads reads stop;
+      opened = opened;
       write = write ∙ any_type output stop;
       told = subst (λ (t : List ℕ). Tells t failures said failures-now said-now) line told;
     }

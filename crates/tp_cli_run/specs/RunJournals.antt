@@ -6,6 +6,7 @@ use Rattle.tp_task.specs.declared.task.Task.{Task}
 use Rattle.tp_happen.specs.tp_plan_text.declared.plans.Step.{Step}
 use Rattle.tp_deorder.specs.Answers.{IsPlanNetOf, OnTooMany, PassesLimits}
 use Rattle.tp_exec_machine.specs.Machine.{Machine}
+use Rattle.tp_cli_files.specs.Causes.{raised}
 use Rattle.tp_cli_files.specs.FaultLines.{Tells}
 use Rattle.tp_cli_inputs.specs.Causes.{Explains}
 use Rattle.tp_cli_inputs.specs.declared.plan_words.PlanWords.{PlanWords}
@@ -15,7 +16,7 @@ use Rattle.tp_cli_run.specs.Invalid.{SaysInvalid, SaysInvalidPart}
 use Rattle.tp_cli_run.specs.Runs.{EndsInNone, EndsInPart, EndsInPlan, RunsNamed}
 use Rattle.tp_cli_run.specs.LogFile.{AskedOnce, IsNamed, LogFile, MadeNone}
 use Rattle.tp_cli_run.specs.Logged.{IsLogged, LogsWhole, StopsLogged}
-use Rattle.tp_cli_run.specs.StopLines.{run_stop_failures, run_stop_reads, run_stop_status, run_stop_text}
+use Rattle.tp_cli_run.specs.StopLines.{run_stop_failures, run_stop_reads, run_stop_status, run_stop_text, run_stop_unlogged, run_stop_unread}
 use Rattle.tp_cli_run.specs.declared.stop_lines.RunJournalStop.{RunJournalStop}
 use Rattle.tp_cli_run.specs.declared.stop_lines.RunJournalStop.TheVariants.{Judging, Network, Journal, Telling, Write}
 
@@ -108,15 +109,18 @@ StopsRunLog held w input before now file Write =
     (SaysInvalidPart held w before now × MadeNone file)
     ⊎ RunsNamed held w (λ task steps. LogsInPart task steps w.horizon input before now file)
 
--- It stopped so with that status, and that was told. A failed read of the input and a failed write are ones that the counts of failures
--- tell of.
+-- It stopped so with that status, and that was told. A failed read of the input, a file that can't be read, a journal that can't be made
+-- or written, and a failed write are ones that the counts of failures tell of.
 pub record EndsRunLog (held : List ℕ → Option (List ℕ)) (w : PlanWords) (status : ℕ)
     (input : Option (List ℕ)) (reads reads-now : ℕ) (before now : Option (List ℕ)) (file : LogFile)
-    (output output-now : ℕ) (failures : ℕ) (said : Option (List ℕ)) (failures-now : ℕ)
+    (unread unread-now logs logs-now : ℕ) (output output-now : ℕ) (failures : ℕ)
+    (said : Option (List ℕ)) (failures-now : ℕ)
     (said-now : Option (List ℕ)) : Type 0 where
   pub stop : RunJournalStop
   pub is : run_stop_status stop ≡ status
   pub cause : StopsRunLog held w input before now file stop
   pub read : reads-now ≡ run_stop_reads {T = Unit {0}} reads (Err stop)
+  pub opened : unread-now ≡ raised (run_stop_unread stop) unread
+  pub journal : logs-now ≡ raised (run_stop_unlogged stop) logs
   pub write : output-now ≡ run_stop_failures {T = Unit {0}} output (Err stop)
   pub told : Tells (run_stop_text w stop) failures said failures-now said-now

@@ -1,11 +1,11 @@
 -- The lines of what stops the run of a plan, and their exit statuses.
-use Rattle.std.specs.Prelude.{ℕ, ◌+◌, List, Result, Ok, Err, codes}
+use Rattle.std.specs.Prelude.{ℕ, ◌+◌, List, Bool, false, Result, Ok, Err, codes}
 use Rattle.tp_deorder.specs.declared.DeorderFault.{DeorderFault}
 use Rattle.tp_deorder.specs.declared.DeorderFault.TheVariants as deorder
 use Rattle.tp_cli_files.specs.FaultLines.{fault_line}
 use Rattle.tp_cli_bare.specs.Bare.{bare_failures, bare_read_failures}
 use Rattle.tp_cli_bare.specs.ServeLines.{bare_status, bare_text}
-use Rattle.tp_cli_inputs.specs.JudgeLines.{judge_status, judge_text}
+use Rattle.tp_cli_inputs.specs.JudgeLines.{judge_status, judge_text, judge_unread}
 use Rattle.tp_cli_inputs.specs.declared.plan_words.PlanWords.{PlanWords}
 use Rattle.tp_cli_run.specs.declared.run_lines.RunStop.{RunStop}
 use Rattle.tp_cli_run.specs.declared.run_lines.RunStop.TheVariants.{Judging, Network, Answering, Write}
@@ -45,3 +45,10 @@ run_failures n (Err (Judging fault)) = n
 run_failures n (Err (Network fault)) = n
 run_failures n (Err (Answering fault)) = bare_failures {T = Unit {0}} n (Err fault)
 run_failures n (Err Write) = n + 1
+
+-- a file can't be read
+abbrev pub run_unread : RunStop → Bool
+run_unread (Judging fault) = judge_unread fault
+run_unread (Network fault) = false
+run_unread (Answering fault) = false
+run_unread Write = false

@@ -11,6 +11,7 @@ use Rattle.tp_validate.specs.OfTask.{IsValidPlan}
 use Rattle.tp_deorder.specs.Answers.{IsPlanNetOf, OnTooMany, PassesLimits}
 use Rattle.tp_exec.specs.FromPlan.{IsPlanOfRun, TellsPlan}
 use Rattle.tp_exec_machine.specs.Machine.{Machine}
+use Rattle.tp_cli_files.specs.Causes.{raised}
 use Rattle.tp_cli_files.specs.FaultLines.{Tells}
 use Rattle.tp_cli_bare.specs.declared.bare.BareFault.{BareFault}
 use Rattle.tp_cli_inputs.specs.Causes.{Explains}
@@ -18,7 +19,7 @@ use Rattle.tp_cli_inputs.specs.Named.{IsNamedPlan}
 use Rattle.tp_cli_inputs.specs.declared.plan_words.PlanWords.{PlanWords}
 use Rattle.tp_cli_run.specs.Answered.{Answered, AnswersPart, StopsAnswers}
 use Rattle.tp_cli_run.specs.Invalid.{SaysInvalid, SaysInvalidPart}
-use Rattle.tp_cli_run.specs.RunLines.{run_failures, run_reads, run_status, run_text}
+use Rattle.tp_cli_run.specs.RunLines.{run_failures, run_reads, run_status, run_text, run_unread}
 use Rattle.tp_cli_run.specs.declared.run_lines.RunStop.{RunStop}
 use Rattle.tp_cli_run.specs.declared.run_lines.RunStop.TheVariants.{Judging, Network, Answering, Write}
 
@@ -109,16 +110,17 @@ StopsRun held w input before now Write =
     SaysInvalidPart held w before now
     ⊎ RunsNamed held w (λ task steps. EndsInPart task steps w.horizon input before now)
 
--- It stopped so with that status, and that was told. A failed read of the input and a failed write are ones that the counts of failures
--- tell of.
+-- It stopped so with that status, and that was told. A failed read of the input, a file that can't be read and a failed write are ones
+-- that the counts of failures tell of.
 pub record EndsRun (held : List ℕ → Option (List ℕ)) (w : PlanWords) (status : ℕ)
     (input : Option (List ℕ)) (reads reads-now : ℕ) (before now : Option (List ℕ))
-    (output output-now : ℕ) (failures : ℕ) (said : Option (List ℕ)) (failures-now : ℕ)
-    (said-now : Option (List ℕ)) : Type 0 where
+    (unread unread-now : ℕ) (output output-now : ℕ) (failures : ℕ) (said : Option (List ℕ))
+    (failures-now : ℕ) (said-now : Option (List ℕ)) : Type 0 where
   pub stop : RunStop
   pub is : run_status stop ≡ status
   pub cause : StopsRun held w input before now stop
   pub read : reads-now ≡ run_reads {T = Unit {0}} reads (Err stop)
+  pub opened : unread-now ≡ raised (run_unread stop) unread
   pub write : output-now ≡ run_failures {T = Unit {0}} output (Err stop)
   pub told : Tells (run_text w stop) failures said failures-now said-now
 

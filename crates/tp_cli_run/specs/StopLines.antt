@@ -1,9 +1,9 @@
 -- The lines of what stops the run of a plan whose journal is kept, and their exit statuses.
-use Rattle.std.specs.Prelude.{ℕ, ◌+◌, List, Result, Ok, Err, codes}
+use Rattle.std.specs.Prelude.{ℕ, ◌+◌, List, Bool, false, Result, Ok, Err, codes}
 use Rattle.tp_cli_files.specs.FaultLines.{fault_line}
-use Rattle.tp_cli_bare.specs.JournalLines.{stop_status, stop_text}
+use Rattle.tp_cli_bare.specs.JournalLines.{stop_status, stop_text, stop_unlogged}
 use Rattle.tp_cli_bare.specs.Logged.{input_failures, output_failures}
-use Rattle.tp_cli_inputs.specs.JudgeLines.{judge_status, judge_text}
+use Rattle.tp_cli_inputs.specs.JudgeLines.{judge_status, judge_text, judge_unread}
 use Rattle.tp_cli_inputs.specs.declared.plan_words.PlanWords.{PlanWords}
 use Rattle.tp_cli_run.specs.RunLines.{network_status, network_text}
 use Rattle.tp_cli_run.specs.declared.stop_lines.RunJournalStop.{RunJournalStop}
@@ -40,3 +40,19 @@ run_stop_failures n (Err (Network fault)) = n
 run_stop_failures n (Err (Journal stop)) = output_failures {T = Unit {0}} n (Err stop)
 run_stop_failures n (Err Telling) = n
 run_stop_failures n (Err Write) = n + 1
+
+-- a file can't be read
+abbrev pub run_stop_unread : RunJournalStop → Bool
+run_stop_unread (Judging fault) = judge_unread fault
+run_stop_unread (Network fault) = false
+run_stop_unread (Journal stop) = false
+run_stop_unread Telling = false
+run_stop_unread Write = false
+
+-- the journal can't be made, or a write to it failed
+abbrev pub run_stop_unlogged : RunJournalStop → Bool
+run_stop_unlogged (Judging fault) = false
+run_stop_unlogged (Network fault) = false
+run_stop_unlogged (Journal stop) = stop_unlogged stop
+run_stop_unlogged Telling = false
+run_stop_unlogged Write = false

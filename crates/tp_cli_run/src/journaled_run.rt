@@ -16,7 +16,9 @@ ghost use Rattle.tp_cli_run.specs.JournaledEnds.{LogsSteps, LogsVerdict, StopsSt
 ghost use Rattle.tp_cli_run.specs.LogFile.{log_file};
 ghost use Rattle.tp_cli_run.specs.Logged.{LogsWhole};
 ghost use Rattle.tp_cli_run.specs.RunJournals.{EndsRunLog, LogsTo, LogsToNone, LogsToPlan, StopsInFile, StopsRunLog};
-ghost use Rattle.tp_cli_run.specs.StopLines.{run_stop_failures, run_stop_reads};
+ghost use Rattle.tp_cli_run.specs.StopLines.{run_stop_failures, run_stop_reads, run_stop_unlogged, run_stop_unread};
+ghost use Rattle.tp_cli_files.specs.Causes.{counted};
+ghost use Rattle.tp_cli_bare.specs.JournalLines.{stop_unlogged};
 
 use crate::journaling::log_run;
 use crate::stop_lines::{RunJournalStop, run_stop_line};
@@ -56,6 +58,7 @@ fn journaled<L: Logs, I: Source, O: Sink>(
         (greatest_limits network.now.horizon) network.now → CameFrom t steps e) }
     ensures told { O.failures output.new ≡ output_failures (O.failures output.old) result }
     ensures read { I.failures input.new ≡ input_failures (I.failures input.old) result }
+    ensures log { L.failures logs.new ≡ counted stop_unlogged (L.failures logs.old) result }
 {
     match logs.make(name) {
         Ok(log) => {
@@ -102,6 +105,8 @@ fn run_on<L: Logs, I: Source, O: Sink>(
         (L.named logs.new) L.blank (L.kept logs.new))) }
     ensures failures { O.failures output.new ≡ run_stop_failures (O.failures output.old) result }
     ensures read { I.failures input.new ≡ run_stop_reads (I.failures input.old) result }
+    ensures opened { (n : ℕ) → counted run_stop_unread n result ≡ n }
+    ensures log { L.failures logs.new ≡ counted run_stop_unlogged (L.failures logs.old) result }
 {
     match journaled(alloc, logs, name, network, input, output) {
         Ok(executive) => of_telling(tell_run(&executive, plan, output)),
@@ -130,6 +135,8 @@ fn run_valid<L: Logs, I: Source, O: Sink>(
         (L.named logs.new) L.blank (L.kept logs.new))) }
     ensures failures { O.failures output.new ≡ run_stop_failures (O.failures output.old) result }
     ensures read { I.failures input.new ≡ run_stop_reads (I.failures input.old) result }
+    ensures opened { (n : ℕ) → counted run_stop_unread n result ≡ n }
+    ensures log { L.failures logs.new ≡ counted run_stop_unlogged (L.failures logs.old) result }
 {
     match deorder(alloc, plan, &Limits::greatest(horizon)) {
         Ok(network) => run_on(alloc, logs, name, plan, &network, input, output),
@@ -158,6 +165,8 @@ fn run_verdict<L: Logs, I: Source, O: Sink>(
         (L.named logs.new) L.blank (L.kept logs.new))) }
     ensures failures { O.failures output.new ≡ run_stop_failures (O.failures output.old) result }
     ensures read { I.failures input.new ≡ run_stop_reads (I.failures input.old) result }
+    ensures opened { (n : ℕ) → counted run_stop_unread n result ≡ n }
+    ensures log { L.failures logs.new ≡ counted run_stop_unlogged (L.failures logs.old) result }
 {
     match verdict {
         Verdict::Valid(plan) => run_valid(alloc, logs, name, plan, horizon, input, output),
@@ -195,6 +204,8 @@ fn run_of<L: Logs, I: Source, O: Sink>(
         (L.named logs.new) L.blank (L.kept logs.new))) }
     ensures failures { O.failures output.new ≡ run_stop_failures (O.failures output.old) result }
     ensures read { I.failures input.new ≡ run_stop_reads (I.failures input.old) result }
+    ensures opened { (n : ℕ) → counted run_stop_unread n result ≡ n }
+    ensures log { L.failures logs.new ≡ counted run_stop_unlogged (L.failures logs.old) result }
 {
     match verdict_of(alloc, task, plan) {
         Ok(verdict) => run_verdict(alloc, logs, name, &verdict, words.horizon, input, output),
@@ -224,6 +235,8 @@ fn run<N: Files, L: Logs, I: Source, O: Sink>(
         (L.named logs.new) L.blank (L.kept logs.new))) }
     ensures failures { O.failures output.new ≡ run_stop_failures (O.failures output.old) result }
     ensures read { I.failures input.new ≡ run_stop_reads (I.failures input.old) result }
+    ensures opened { N.failures files.new ≡ counted run_stop_unread (N.failures files.old) result }
+    ensures log { L.failures logs.new ≡ counted run_stop_unlogged (L.failures logs.old) result }
 {
     match plan_in(alloc, files, words) {
         Ok(named) => {
@@ -267,6 +280,7 @@ pub fn run_run_journal<N: Files, L: Logs, I: Source, O: Sink, F: Sink>(
         (I.failures input.old) (I.failures input.new) (O.held output.old) (O.held output.new)
         (log_file name.now (L.asked logs.old) (L.asked logs.new)
         (L.named logs.new) L.blank (L.kept logs.new))
+        (N.failures files.old) (N.failures files.new) (L.failures logs.old) (L.failures logs.new)
         (O.failures output.old) (O.failures output.new)
         (F.failures faults.old) (F.held faults.old) (F.failures faults.new) (F.held faults.new) }
 

@@ -6,6 +6,8 @@ ghost use Rattle.tp_task.specs.declared.task.Task.{Task};
 ghost use Rattle.tp_happen.specs.tp_plan_text.declared.plans.Step.{Step};
 ghost use Rattle.tp_deorder.specs.Answers.{IsPlanNetOf};
 ghost use Rattle.tp_exec.specs.FromPlan.{CameFrom};
+ghost use Rattle.tp_cli_files.specs.Causes.{counted};
+ghost use Rattle.tp_cli_bare.specs.JournalLines.{stop_unlogged};
 ghost use Rattle.tp_cli_bare.specs.Logged.{input_failures, output_failures};
 ghost use Rattle.tp_cli_run.specs.Logged.{LogsRun, LogsWhole, StopsLogged};
 
@@ -38,6 +40,7 @@ fn log_lines<I: Source, O: Sink, L: Sink>(
     ensures source { lines.new.source ≡ lines.old.source }
     ensures told { O.failures output.new ≡ output_failures (O.failures output.old) result }
     ensures read { lines.new.failures ≡ input_failures lines.old.failures result }
+    ensures log { L.failures log.new ≡ counted stop_unlogged (L.failures log.old) result }
 {
     match start(alloc, lines, network) {
         Ok(executive) => {
@@ -69,6 +72,7 @@ pub(crate) fn log_run<I: Source, O: Sink, L: Sink>(
         (greatest_limits network.now.horizon) network.now → CameFrom t steps e) }
     ensures told { O.failures output.new ≡ output_failures (O.failures output.old) result }
     ensures read { I.failures input.new ≡ input_failures (I.failures input.old) result }
+    ensures log { L.failures log.new ≡ counted stop_unlogged (L.failures log.old) result }
 {
     let buffers = LineBuffers::new(alloc, LONGEST_LINE)?;
     let mut lines = Lines::new(buffers, input);

@@ -1,12 +1,13 @@
 //! The plan of a run, behind the answers.
 
-ghost use Rattle.std.specs.Prelude.{◌≡◌, ◌≤◌, IfOk, IfErr};
+ghost use Rattle.std.specs.Prelude.{◌≡◌, ◌≤◌, ℕ, IfOk, IfErr};
 ghost use Rattle.tp_device.specs.Bytes.{Writes, failures_after};
 ghost use Rattle.tp_bounds.specs.RunLimits.{greatest_limits};
 ghost use Rattle.tp_deorder.specs.Answers.{IsPlanNetOf};
 ghost use Rattle.tp_exec.specs.FromPlan.{CameFrom};
 ghost use Rattle.tp_cli_run.specs.Ends.{StopsTelling, TellsRun};
-ghost use Rattle.tp_cli_run.specs.RunLines.{run_failures};
+ghost use Rattle.tp_cli_files.specs.Causes.{counted};
+ghost use Rattle.tp_cli_run.specs.RunLines.{run_failures, run_unread};
 ghost use Rattle.tp_cli_run.specs.Runs.{run_lines};
 
 use crate::run_lines::RunStop;
@@ -45,6 +46,7 @@ pub fn tell_run<O: Sink>(
     ensures cause { IfErr result (StopsTelling plan.now.task plan.now.steps executive.now
         (O.held output.old) (O.held output.new)) }
     ensures failures { O.failures output.new ≡ run_failures (O.failures output.old) result }
+    ensures opened { (n : ℕ) → counted run_unread n result ≡ n }
 {
     match run_plan(executive, plan) {
         Ok(None) => Ok(false),

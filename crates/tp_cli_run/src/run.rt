@@ -8,7 +8,8 @@ ghost use Rattle.tp_cli_inputs.specs.Named.{IsNamedPlan};
 ghost use Rattle.tp_validate.specs.OfTask.{IsOfTask};
 ghost use Rattle.tp_cli_run.specs.Answered.{IsLong};
 ghost use Rattle.tp_cli_run.specs.Ends.{RunsSteps, RunsVerdict, StopsSteps, StopsVerdict};
-ghost use Rattle.tp_cli_run.specs.RunLines.{run_failures, run_reads};
+ghost use Rattle.tp_cli_files.specs.Causes.{counted};
+ghost use Rattle.tp_cli_run.specs.RunLines.{run_failures, run_reads, run_unread};
 ghost use Rattle.tp_cli_run.specs.Runs.{EndsRun, Runs, RunsPart, RunsToNone, RunsToPlan, StopsRun};
 
 use crate::answering::answer;
@@ -41,6 +42,7 @@ fn run_on<I: Source, O: Sink>(
         (I.left input.old) (O.held output.old) (O.held output.new)) }
     ensures failures { O.failures output.new ≡ run_failures (O.failures output.old) result }
     ensures read { I.failures input.new ≡ run_reads (I.failures input.old) result }
+    ensures opened { (n : ℕ) → counted run_unread n result ≡ n }
 {
     match answer(alloc, input, network, output) {
         Ok(executive) => tell_run(&executive, plan, output),
@@ -63,6 +65,7 @@ fn run_valid<I: Source, O: Sink>(
         (O.held output.old) (O.held output.new)) }
     ensures failures { O.failures output.new ≡ run_failures (O.failures output.old) result }
     ensures read { I.failures input.new ≡ run_reads (I.failures input.old) result }
+    ensures opened { (n : ℕ) → counted run_unread n result ≡ n }
 {
     match deorder(alloc, plan, &Limits::greatest(horizon)) {
         Ok(network) => run_on(alloc, plan, &network, input, output),
@@ -87,6 +90,7 @@ fn run_verdict<I: Source, O: Sink>(
         (O.held output.new)) }
     ensures failures { O.failures output.new ≡ run_failures (O.failures output.old) result }
     ensures read { I.failures input.new ≡ run_reads (I.failures input.old) result }
+    ensures opened { (n : ℕ) → counted run_unread n result ≡ n }
 {
     match verdict {
         Verdict::Valid(plan) => run_valid(alloc, plan, horizon, input, output),
@@ -116,6 +120,7 @@ fn run_of<I: Source, O: Sink>(
         (StopsRun held words.entry (I.left input.old) (O.held output.old) (O.held output.new)) }
     ensures failures { O.failures output.new ≡ run_failures (O.failures output.old) result }
     ensures read { I.failures input.new ≡ run_reads (I.failures input.old) result }
+    ensures opened { (n : ℕ) → counted run_unread n result ≡ n }
 {
     match verdict_of(alloc, task, plan) {
         Ok(verdict) => run_verdict(alloc, &verdict, words.horizon, input, output),
@@ -138,6 +143,7 @@ fn run<N: Files, I: Source, O: Sink>(
         (O.held output.old) (O.held output.new)) }
     ensures failures { O.failures output.new ≡ run_failures (O.failures output.old) result }
     ensures read { I.failures input.new ≡ run_reads (I.failures input.old) result }
+    ensures opened { N.failures files.new ≡ counted run_unread (N.failures files.old) result }
 {
     match plan_in(alloc, files, words) {
         Ok(named) => {
@@ -170,6 +176,7 @@ pub fn run_run<N: Files, I: Source, O: Sink, F: Sink>(
     // What stopped it is told, and is as it is told.
     ensures stopped { 2 ≤ result → EndsRun (N.held files.old) words.entry result (I.left input.old)
         (I.failures input.old) (I.failures input.new) (O.held output.old) (O.held output.new)
+        (N.failures files.old) (N.failures files.new)
         (O.failures output.old) (O.failures output.new) (F.failures faults.old) (F.held faults.old)
         (F.failures faults.new) (F.held faults.new) }
 

@@ -21,6 +21,7 @@ use Rattle.tp_agents.specs.Splits.{IsUnbegun}
 use Rattle.tp_agents.specs.Texts.{AreNumbers, words_of}
 use Rattle.tp_exec_machine.proofs.OwnBounds.{same_events}
 use Rattle.tp_exec_machine.proofs.Ready.{fresh_new}
+use Rattle.tp_cli_files.specs.Causes.{raised}
 use Rattle.tp_cli_files.specs.FaultLines.{Tells}
 use Rattle.tp_cli_files.specs.FileFaults.{file_status}
 use Rattle.tp_cli_files.specs.declared.files.FileFault.{FileFault}
@@ -33,7 +34,7 @@ use Rattle.tp_cli_run.proofs.RunLemmas.{Judged, invalid_over, invalid_part_over}
 use Rattle.tp_cli_run.proofs.StatusLemmas.{IsStatus, judge_is, network_is, three, two}
 use Rattle.tp_cli_split.specs.Divides.{IsMisread, IsMistold, StopsAmong, StopsDividing, StopsPlan, net_setting}
 use Rattle.tp_cli_split.specs.Splits.{EndsSplit, Splits, SplitsPart, StopsSplit, StopsTelling, StopsWriting, TellsSplit, WritesPlan, WritesSome}
-use Rattle.tp_cli_split.specs.Stops.{split_failures, split_status, split_text}
+use Rattle.tp_cli_split.specs.Stops.{split_failures, split_status, split_text, split_unread}
 use Rattle.tp_cli_split.specs.declared.stops.SplitStop.{SplitStop}
 use Rattle.tp_cli_split.specs.declared.stops.SplitStop.TheVariants.{Judging, Network, Setting as NoSetting, OwnersFile, Owner, Agent, TooMany, Memory, Conflict, Write}
 
@@ -237,12 +238,13 @@ no_write n Memory other = refl
 no_write n Conflict other = refl
 no_write n Write other = absurd (other refl)
 
-pub ends : (part : Option ℕ) (held : List ℕ → Option (List ℕ)) (w : PlanWords) (owners : List ℕ) (status : ℕ) (before now : Option (List ℕ)) (output output-now failures : ℕ) (said : Option (List ℕ)) (failures-now : ℕ) (said-now : Option (List ℕ)) (stop : SplitStop) (text : List ℕ) → StopsSplit part held w owners before now stop → status ≡ split_status stop → output-now ≡ split_failures {T = Bool} output (Err stop) → text ≡ split_text w owners stop → Tells text failures said failures-now said-now → EndsSplit part held w owners status before now output output-now failures said failures-now said-now
-ends part held w owners status before now output output-now failures said failures-now said-now stop text cause is write line told =
+pub ends : (part : Option ℕ) (held : List ℕ → Option (List ℕ)) (w : PlanWords) (owners : List ℕ) (status : ℕ) (before now : Option (List ℕ)) (unread unread-now output output-now failures : ℕ) (said : Option (List ℕ)) (failures-now : ℕ) (said-now : Option (List ℕ)) (stop : SplitStop) (text : List ℕ) → StopsSplit part held w owners before now stop → status ≡ split_status stop → output-now ≡ split_failures {T = Bool} output (Err stop) → unread-now ≡ raised (split_unread stop) unread → text ≡ split_text w owners stop → Tells text failures said failures-now said-now → EndsSplit part held w owners status before now unread unread-now output output-now failures said failures-now said-now
+ends part held w owners status before now unread unread-now output output-now failures said failures-now said-now stop text cause is write opened line told =
     record {
       stop = stop;
       is = sym is;
       cause = cause;
+      opened = opened;
       write = write ∙ any_type output stop;
       told = subst (λ (t : List ℕ). Tells t failures said failures-now said-now) line told;
     }

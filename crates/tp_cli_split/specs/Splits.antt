@@ -6,6 +6,7 @@ use Rattle.tp_task.specs.declared.task.Task.{Task}
 use Rattle.tp_happen.specs.tp_plan_text.declared.plans.Step.{Step}
 use Rattle.tp_validate.specs.declared.verdicts.Verdict.{Verdict}
 use Rattle.tp_validate.specs.declared.verdicts.Verdict.TheVariants.{Valid, Invalid}
+use Rattle.tp_cli_files.specs.Causes.{raised}
 use Rattle.tp_cli_files.specs.FaultLines.{Tells}
 use Rattle.tp_cli_inputs.specs.Causes.{Explains}
 use Rattle.tp_cli_inputs.specs.VerdictLines.{invalid_line}
@@ -13,7 +14,7 @@ use Rattle.tp_cli_inputs.specs.declared.plan_words.PlanWords.{PlanWords}
 use Rattle.tp_cli_run.specs.Invalid.{SaysInvalid, SaysInvalidPart}
 use Rattle.tp_cli_run.specs.Runs.{RunsNamed}
 use Rattle.tp_cli_split.specs.Divides.{DividesPlan, StopsPlan}
-use Rattle.tp_cli_split.specs.Stops.{split_failures, split_status, split_text}
+use Rattle.tp_cli_split.specs.Stops.{split_failures, split_status, split_text, split_unread}
 use Rattle.tp_cli_split.specs.declared.stops.SplitStop.{SplitStop}
 use Rattle.tp_cli_split.specs.declared.stops.SplitStop.TheVariants.{Judging, Network, Setting, OwnersFile, Owner, Agent, TooMany, Memory, Conflict, Write}
 
@@ -110,12 +111,15 @@ SplitsPart part held w owners before now =
     Appends before now [] ⊎ (SaysInvalidPart held w before now
     ⊎ RunsNamed held w (λ task steps. WritesSome part task steps w.horizon (held owners) before now))
 
--- It stopped so with that status, and that was told. A failed write is one that the count of failures tells of.
+-- It stopped so with that status, and that was told. A file that can't be read and a failed write are ones that the counts of failures tell
+-- of.
 pub record EndsSplit (part : Option ℕ) (held : List ℕ → Option (List ℕ)) (w : PlanWords) (owners : List ℕ)
-    (status : ℕ) (before now : Option (List ℕ)) (output output-now : ℕ) (failures : ℕ)
+    (status : ℕ) (before now : Option (List ℕ)) (unread unread-now : ℕ) (output output-now : ℕ)
+    (failures : ℕ)
     (said : Option (List ℕ)) (failures-now : ℕ) (said-now : Option (List ℕ)) : Type 0 where
   pub stop : SplitStop
   pub is : split_status stop ≡ status
   pub cause : StopsSplit part held w owners before now stop
+  pub opened : unread-now ≡ raised (split_unread stop) unread
   pub write : output-now ≡ split_failures {T = Unit {0}} output (Err stop)
   pub told : Tells (split_text w owners stop) failures said failures-now said-now

@@ -1,8 +1,9 @@
 -- The lines of what stops a split, and their exit statuses.
-use Rattle.std.specs.Prelude.{ℕ, ◌+◌, List, Result, Ok, Err, codes}
+use Rattle.std.specs.Prelude.{ℕ, ◌+◌, List, Bool, false, Result, Ok, Err, codes}
+use Rattle.tp_cli_files.specs.Causes.{file_unread}
 use Rattle.tp_cli_files.specs.FaultLines.{fault_line, placed_line}
 use Rattle.tp_cli_files.specs.FileFaults.{file_status, file_text}
-use Rattle.tp_cli_inputs.specs.JudgeLines.{judge_status, judge_text}
+use Rattle.tp_cli_inputs.specs.JudgeLines.{judge_status, judge_text, judge_unread}
 use Rattle.tp_cli_inputs.specs.declared.plan_words.PlanWords.{PlanWords}
 use Rattle.tp_cli_run.specs.RunLines.{network_status, network_text}
 use Rattle.tp_cli_split.specs.declared.stops.SplitStop.{SplitStop}
@@ -46,3 +47,16 @@ split_failures n (Err TooMany) = n
 split_failures n (Err Memory) = n
 split_failures n (Err Conflict) = n
 split_failures n (Err Write) = n + 1
+
+-- a file can't be read
+abbrev pub split_unread : SplitStop → Bool
+split_unread (Judging fault) = judge_unread fault
+split_unread (Network fault) = false
+split_unread Setting = false
+split_unread (OwnersFile fault) = file_unread fault
+split_unread (Owner e) = false
+split_unread (Agent a) = false
+split_unread TooMany = false
+split_unread Memory = false
+split_unread Conflict = false
+split_unread Write = false

@@ -1,10 +1,12 @@
 //! The intervals of the events of a plan's network.
 
-ghost use Rattle.std.specs.Prelude.{◌≤◌, length, Some, IfOk, IfErr};
+ghost use Rattle.std.specs.Prelude.{◌≡◌, ◌≤◌, ℕ, length, Some, false, IfOk, IfErr};
 ghost use Rattle.std.specs.String.{string_bytes};
 ghost use Rattle.tp_agents.specs.Splits.{IsUnbegun};
 ghost use Rattle.tp_agents.specs.Texts.{AreNumbers, words_of};
+ghost use Rattle.tp_cli_files.specs.Causes.{counted};
 ghost use Rattle.tp_cli_inputs.specs.Named.{IsIn};
+ghost use Rattle.tp_cli_split.specs.Stops.{split_unread};
 ghost use Rattle.tp_cli_split.specs.Divides.{Divides, DividesPlan, IsMisread, IsSplitText, SplitsInto, StopsAmong, StopsAs, StopsDividing, StopsPlan, net_setting};
 
 use crate::interval_lines::intervals_text;
@@ -20,7 +22,8 @@ use tp_validate::ValidPlan;
 
 /// Why a split stopped, without its reason.
 fn stop_of(fault: SplitFault) -> SplitStop
-    ensures { StopsAs fault result }
+    ensures told { StopsAs fault result }
+    ensures opened { split_unread result ≡ false }
 {
     match fault {
         SplitFault::Memory => SplitStop::Memory,
@@ -35,6 +38,7 @@ fn part_text(alloc: Global, split: &Split, agent: u32) -> Result<String, SplitSt
         split.now.owners.items split.now.intervals.items (string_bytes text)) }
     ensures cause { IfErr result
         (StopsAmong (Some agent) split.now.setting split.now.owners.items) }
+    ensures opened { (n : ℕ) → counted split_unread n result ≡ n }
 {
     if agent >= u32::from(split.agents()) {
         return Err(SplitStop::Agent(agent));
@@ -54,6 +58,7 @@ fn split_text(alloc: Global, split: &Split, agent: Option<u32>) -> Result<String
     ensures lines { IfOk result (λ text. IsSplitText agent split.now.setting
         split.now.owners.items split.now.intervals.items (string_bytes text)) }
     ensures cause { IfErr result (StopsAmong agent split.now.setting split.now.owners.items) }
+    ensures opened { (n : ℕ) → counted split_unread n result ≡ n }
 {
     match agent {
         Some(agent) => part_text(alloc, split, agent),
@@ -69,6 +74,7 @@ fn owners_in<N: Files>(alloc: Global, files: &mut N, owners: &str) -> Result<Own
     ensures spelled { IfOk result (λ numbers. IsIn (N.held files.old owners.now) (λ text.
         AreNumbers (words_of text) numbers)) }
     ensures cause { IfErr result (IsMisread (N.held files.old owners.now)) }
+    ensures opened { N.failures files.new ≡ counted split_unread (N.failures files.old) result }
 {
     match open_text(alloc, files, owners) {
         Ok(text) => match read_owners(alloc, text.as_str()) {
@@ -91,6 +97,7 @@ fn lines_among(
     ensures lines { IfOk result (λ text.
         SplitsInto agent setting.now owners.now (string_bytes text)) }
     ensures cause { IfErr result (StopsAmong agent setting.now owners.now) }
+    ensures opened { (n : ℕ) → counted split_unread n result ≡ n }
 {
     match split(alloc, setting, owners) {
         Ok(split) => split_text(alloc, &split, agent),
@@ -111,6 +118,7 @@ fn lines_of<N: Files>(
     ensures lines { IfOk result (λ text.
         Divides agent setting.now (N.held files.old owners.now) (string_bytes text)) }
     ensures cause { IfErr result (StopsDividing agent setting.now (N.held files.old owners.now)) }
+    ensures opened { N.failures files.new ≡ counted split_unread (N.failures files.old) result }
 {
     match owners_in(alloc, files, owners) {
         Ok(numbers) => lines_among(alloc, setting, &numbers, agent),
@@ -131,6 +139,7 @@ fn lines_of_net<N: Files>(
         Divides agent (net_setting network.now) (N.held files.old owners.now) (string_bytes text)) }
     ensures cause { IfErr result
         (StopsDividing agent (net_setting network.now) (N.held files.old owners.now)) }
+    ensures opened { N.failures files.new ≡ counted split_unread (N.failures files.old) result }
 {
     match plan_setting(alloc, network) {
         Ok(setting) => lines_of(alloc, files, owners, &setting, agent),
@@ -153,6 +162,7 @@ pub(crate) fn lines_of_plan<N: Files>(
         (N.held files.old owners.now) (string_bytes text)) }
     ensures cause { IfErr result
         (StopsPlan agent plan.now.task plan.now.steps horizon (N.held files.old owners.now)) }
+    ensures opened { N.failures files.new ≡ counted split_unread (N.failures files.old) result }
 {
     match deorder(alloc, plan, &Limits::greatest(horizon)) {
         Ok(network) => lines_of_net(alloc, files, owners, &network, agent),

@@ -6,7 +6,8 @@ ghost use Rattle.tp_cli_inputs.specs.Named.{IsNamedPlan};
 ghost use Rattle.tp_validate.specs.OfTask.{IsOfTask};
 ghost use Rattle.tp_cli_run.specs.Invalid.{SaysInvalid};
 ghost use Rattle.tp_cli_split.specs.Splits.{EndsSplit, Splits, SplitsPart, StopsSplit, StopsTelling, StopsWriting, TellsSplit, WritesPlan, WritesSplit};
-ghost use Rattle.tp_cli_split.specs.Stops.{split_failures};
+ghost use Rattle.tp_cli_files.specs.Causes.{counted};
+ghost use Rattle.tp_cli_split.specs.Stops.{split_failures, split_unread};
 
 use crate::dividing::lines_of_plan;
 use crate::stops::{SplitStop, split_line};
@@ -34,6 +35,7 @@ fn write_lines<N: Files, O: Sink>(
     ensures cause { IfErr result (StopsWriting agent plan.now.task plan.now.steps horizon
         (N.held files.old owners.now) (O.held output.old) (O.held output.new)) }
     ensures failures { O.failures output.new ≡ split_failures (O.failures output.old) result }
+    ensures opened { N.failures files.new ≡ counted split_unread (N.failures files.old) result }
 {
     match lines_of_plan(alloc, files, owners, plan, horizon, agent) {
         Ok(text) => match push_all(output, text.as_bytes()) {
@@ -61,6 +63,7 @@ fn tell<N: Files, O: Sink>(
     ensures cause { IfErr result (StopsTelling agent verdict.now horizon
         (N.held files.old owners.now) (O.held output.old) (O.held output.new)) }
     ensures failures { O.failures output.new ≡ split_failures (O.failures output.old) result }
+    ensures opened { N.failures files.new ≡ counted split_unread (N.failures files.old) result }
 {
     match verdict {
         Verdict::Valid(plan) => match write_lines(
@@ -98,6 +101,7 @@ fn split_of<N: Files, O: Sink>(
         → IsNamedPlan held words.entry task.now plan → IfErr result
         (StopsSplit agent held words.entry owners.now (O.held output.old) (O.held output.new)) }
     ensures failures { O.failures output.new ≡ split_failures (O.failures output.old) result }
+    ensures opened { N.failures files.new ≡ counted split_unread (N.failures files.old) result }
 {
     match verdict_of(alloc, task, plan) {
         Ok(verdict) => tell(alloc, files, owners, &verdict, words.horizon, agent, output),
@@ -120,6 +124,7 @@ fn split_named<N: Files, O: Sink>(
     ensures cause { IfErr result (StopsSplit agent
         (N.held files.old) words.entry owners.now (O.held output.old) (O.held output.new)) }
     ensures failures { O.failures output.new ≡ split_failures (O.failures output.old) result }
+    ensures opened { N.failures files.new ≡ counted split_unread (N.failures files.old) result }
 {
     match plan_in(alloc, files, words) {
         Ok(named) => {
@@ -155,7 +160,8 @@ pub fn run_split<N: Files, O: Sink, F: Sink>(
 
     // What stopped it is told, and is as it is told.
     ensures stopped { 2 ≤ result → EndsSplit agent (N.held files.old) words.entry owners.now result
-        (O.held output.old) (O.held output.new) (O.failures output.old) (O.failures output.new)
+        (O.held output.old) (O.held output.new) (N.failures files.old) (N.failures files.new)
+        (O.failures output.old) (O.failures output.new)
         (F.failures faults.old) (F.held faults.old) (F.failures faults.new) (F.held faults.new) }
 
     // Nothing is written for input that is refused, and of the true text at most a first part where

@@ -20,7 +20,7 @@ const BROKEN: [(&[u8], usize); 3] = [(b"", 1), (b"(a)", 1), (b"(a)", 100)];
 
 /// What is read of the file of that name. Where memory is refused, it is read once more.
 fn read(alloc: Global, files: &[(&str, &[u8])], name: &str) -> Result<String, FileFault> {
-    let mut shelf = Shelf { files };
+    let mut shelf = Shelf::new(files);
     match open_text(alloc, &mut shelf, name) {
         Err(FileFault::Memory) => open_text(alloc, &mut shelf, name),
         other => other,
@@ -83,8 +83,8 @@ fn read_broken(alloc: Global, bytes: &[u8], most: usize) -> Result<String, FileF
         most,
         broken: true,
     };
-    match read_text(alloc, HostFile::new(feed)) {
-        Err(FileFault::Memory) => read_text(alloc, HostFile::new(feed)),
+    match read_text(alloc, &mut HostFile::new(feed)) {
+        Err(FileFault::Memory) => read_text(alloc, &mut HostFile::new(feed)),
         other => other,
     }
 }

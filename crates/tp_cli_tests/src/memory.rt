@@ -2,7 +2,7 @@
 
 ghost use Rattle.std.specs.Prelude.{
   ◌≡◌,
-  ◌<◌,
+  ◌+◌,
   refl,
   [],
   None,
@@ -17,8 +17,7 @@ ghost use Rattle.std.specs.String.{string_bytes};
 use std::alloc::Global;
 use std::io;
 use std::io::{ErrorKind, Read};
-use std::sync::ledger::{Blank, Book, Ledger, Share};
-use tp_cli_files::{Files, Logs};
+use tp_cli_files::{Files, Logs, Tally};
 use tp_device::{Failed, Sink, Source};
 
 /// Bytes that come at most so many a call. Behind them is the end, or where it is broken an error.
@@ -59,21 +58,43 @@ impl Source for Stored<'_> {
 }
 
 /// Files in memory, under their names.
-#[derive(Clone, Copy)]
+#[derive(Drop)]
 pub struct Shelf<'a> {
-    pub files: &'a [(&'a str, &'a [u8])],
+    files: &'a [(&'a str, &'a [u8])],
+    failures: Tally,
+}
+
+impl<'a> Shelf<'a> {
+    /// These.
+    pub fn new(files: &'a [(&'a str, &'a [u8])]) -> Self {
+        Shelf {
+            files,
+            failures: Tally::of(&0),
+        }
+    }
 }
 
 impl<'a> Files for Shelf<'a> {
     type Input = Stored<'a>;
 
-    ghost held = { λ s name. option_map (λ f. f.1.now) (find (λ f. bytes_eq f.0.now name) s.files.now) };
+    ghost held = {
+        λ s name. option_map (λ f. f.1.now) (find (λ f. bytes_eq f.0.now name) s.files.now)
+    };
+
+    ghost failures = { λ s. s.failures.count };
 
     fn open(&mut self, name: &str) -> Result<Stored<'a>, Failed> {
         match self.files.iter().find(|file| file.0 == name) {
             Some(file) => Ok(Stored { bytes: file.1 }),
-            None => Err(Failed),
+            None => {
+                self.failures = self.failures.plus(&Tally::of(&1));
+                Err(Failed)
+            }
         }
+    }
+
+    fn close(&mut self, _input: Stored<'a>) {
+        self.failures = self.failures.plus(&Tally::of(&0));
     }
 }
 
@@ -128,27 +149,22 @@ impl Sink for Note {
 /// A text with room for so many bytes. A push takes as many as there is room for; where there is
 /// none, it fails.
 #[derive(Drop)]
-pub(crate) struct Sheet<L: Ledger> {
+pub(crate) struct Sheet {
     text: Vec<u8>,
     room: usize,
-    book: Book<L>,
-    share: Share<L>,
-    ghost counts: { 0 < share.parts },
+    failures: Tally,
 }
 
-impl<L: Ledger> Sheet<L> {
-    /// An empty sheet. Its failures are counted in the blank ledger.
-    pub(crate) fn new(alloc: Global, room: usize, blank: Blank) -> Self
-        requires name { blank.name ≡ L.name }
-        requires parts { blank.parts ≡ L.parts }
-        requires some { 0 < blank.parts }
+impl Sheet {
+    /// An empty sheet.
+    pub(crate) fn new(alloc: Global, room: usize) -> Self
+        ensures text { result.text.items ≡ [] }
+        ensures failures { result.failures.count ≡ 0 }
     {
-        let (book, share) = blank.open();
         Sheet {
             text: Vec::new(alloc),
             room,
-            book,
-            share,
+            failures: Tally::of(&0),
         }
     }
 
@@ -158,16 +174,16 @@ impl<L: Ledger> Sheet<L> {
     }
 }
 
-impl<L: Ledger> Sink for Sheet<L> {
+impl Sink for Sheet {
     ghost held = { λ s. Some s.text.items };
 
-    ghost failures = { λ s. s.book.total };
+    ghost failures = { λ s. s.failures.count };
 
     fn push(&mut self, bytes: &[u8]) -> Result<usize, Failed> {
         let count = bytes.len().min(self.room);
         let full = count == 0 && !bytes.is_empty();
         if full || self.text.extend_from_slice(&bytes[..count]).is_err() {
-            self.book.add(&mut self.share, 1);
+            self.failures = self.failures.plus(&Tally::of(&1));
             return Err(Failed);
         }
         self.room -= count;
@@ -175,83 +191,80 @@ impl<L: Ledger> Sink for Sheet<L> {
     }
 }
 
-/// Room for one file that is made and written. It is made of the sheet that lies there, if there is
-/// one. How many files were asked for is counted.
+/// Room for one file that is made and written, if there is any. How many files were asked for, and
+/// how many calls failed, is counted.
 #[derive(Drop)]
-pub(crate) struct CountedLogs<L: Ledger, A: Ledger> {
+pub(crate) struct CountedLogs {
     alloc: Global,
-    sheet: Option<Sheet<L>>,
+    room: Option<usize>,
     name: Option<String>,
-    last: Option<Sheet<L>>,
-    asked: Book<A>,
-    share: Share<A>,
-    ghost counts: { 0 < share.parts },
+    last: Option<Sheet>,
+    asked: Tally,
+    failures: Tally,
 }
 
-impl<L: Ledger, A: Ledger> CountedLogs<L, A> {
-    /// A place for that sheet, if there is one. The files that are asked for are counted in the
-    /// blank ledger.
-    pub(crate) fn new(alloc: Global, sheet: Option<Sheet<L>>, blank: Blank) -> Self
-        requires name { blank.name ≡ A.name }
-        requires parts { blank.parts ≡ A.parts }
-        requires some { 0 < blank.parts }
-    {
-        let (asked, share) = blank.open();
+impl CountedLogs {
+    /// Room for so many bytes, if a file can be made.
+    pub(crate) fn new(alloc: Global, room: Option<usize>) -> Self {
         CountedLogs {
             alloc,
-            sheet,
+            room,
             name: None,
             last: None,
-            asked,
-            share,
+            asked: Tally::of(&0),
+            failures: Tally::of(&0),
         }
     }
 
     /// What the file that was kept holds, if one was.
     pub(crate) fn into_text(self) -> Option<Vec<u8>> {
-        let CountedLogs {
-            alloc: _,
-            sheet: _,
-            name: _,
-            last,
-            asked: _,
-            share: _,
-        } = self;
-        match last {
+        match self.last {
             Some(sheet) => Some(sheet.into_text()),
             None => None,
         }
     }
+
+    /// Notes that a file was asked for, and could not be made.
+    fn fail(&mut self) -> Failed
+        ensures failures { self.new.failures.count ≡ self.old.failures.count + 1 }
+        ensures asked { self.new.asked.count ≡ self.old.asked.count }
+    {
+        self.failures = self.failures.plus(&Tally::of(&1));
+        Failed
+    }
 }
 
-impl<L: Ledger, A: Ledger> Logs for CountedLogs<L, A> {
-    type Log = Sheet<L>;
+impl Logs for CountedLogs {
+    type Log = Sheet;
 
-    ghost asked = { λ d. Some d.asked.total };
+    ghost asked = { λ d. Some d.asked.count };
 
     ghost named = { λ d. option_map string_bytes d.name };
 
     ghost kept = { λ d. option_map (λ s. s.text.items) d.last };
 
+    ghost failures = { λ d. d.failures.count };
+
     ghost blank = { Some [] };
 
     ghost is_blank = { refl };
 
-    fn make(&mut self, name: &str) -> Result<Sheet<L>, Failed> {
-        self.asked.add(&mut self.share, 1);
+    fn make(&mut self, name: &str) -> Result<Sheet, Failed> {
+        self.asked = self.asked.plus(&Tally::of(&1));
         let Ok(name) = String::from_str(self.alloc, name) else {
-            return Err(Failed);
+            return Err(self.fail());
         };
-        match self.sheet.take() {
-            Some(sheet) if sheet.text.is_empty() => {
+        match self.room.take() {
+            Some(room) => {
                 self.name = Some(name);
-                Ok(sheet)
+                Ok(Sheet::new(self.alloc, room))
             }
-            _ => Err(Failed),
+            None => Err(self.fail()),
         }
     }
 
-    fn keep(&mut self, log: Sheet<L>) {
+    fn keep(&mut self, log: Sheet) {
+        self.failures = self.failures.plus(&log.failures);
         self.last = Some(log);
     }
 }

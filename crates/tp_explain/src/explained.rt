@@ -1,6 +1,6 @@
 //! The run of a call whose streams are heard.
 
-ghost use Rattle.std.specs.Prelude.{None};
+ghost use Rattle.std.specs.Prelude.{ℕ, None};
 ghost use Rattle.std.specs.String.{string_bytes};
 ghost use Rattle.tp_cli.specs.CallFiles.{call_files};
 ghost use Rattle.tp_cli.specs.Streams.{Ends};
@@ -40,7 +40,7 @@ pub struct Explained<L, W, V> {
 /// that reads it as a file.
 ///
 /// What is promised of a call of the words without `--explain` is promised of this one. A proof can
-/// refer to no byte of a file of the host.
+/// refer to no byte of a file of the host, and the counts of its failures stay within the call.
 pub fn run_explained<R, L, J, I, W, V, B, E>(
     rt: &R,
     alloc: Global,
@@ -58,8 +58,9 @@ where
     V: Write + Drop,
     B: Write + Drop,
     E: Write + Drop,
-    ensures ends { RunsPlain string_bytes words.items (λ plain. Ends plain (call_files (λ _. None)
-        (L.asked logs) (L.asked result.logs) L.blank (L.named result.logs) (L.kept result.logs))
+    ensures ends { RunsPlain string_bytes words.items (λ plain. (unread unread-now : ℕ) × Ends plain
+        (call_files (λ _. None) (L.asked logs) (L.asked result.logs) L.blank (L.named result.logs)
+        (L.kept result.logs) unread unread-now (L.failures logs) (L.failures result.logs))
         (I.remaining streams.input) (W.contents streams.output) (V.contents streams.faults)
         W.contents result.ended.status result.ended.output (V.contents result.ended.faults)) }
 {

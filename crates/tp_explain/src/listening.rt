@@ -56,7 +56,9 @@ pub(crate) fn run_heard<
 ) -> Ended<W, V>
     ensures ends { Ends (map string_bytes words.now) (call_files (N.held files.old.shelf)
         (L.asked files.old.logs) (L.asked files.new.logs) L.blank
-        (L.named files.new.logs) (L.kept files.new.logs))
+        (L.named files.new.logs) (L.kept files.new.logs)
+        (N.failures files.old.shelf) (N.failures files.new.shelf)
+        (L.failures files.old.logs) (L.failures files.new.logs))
         (R.remaining streams.0) (W.contents streams.1) (V.contents streams.2) W.contents
         result.status result.output (V.contents result.faults) }
     ensures quiet { AsksForNoProgress (map string_bytes words.now)

@@ -6,7 +6,7 @@ use Rattle.tp_cli.proofs.check.run_check.Goals as goal
 pub returns-in-Err-clause-stopped : goal.returns-in-Err-clause-stopped
 returns-in-Err-clause-stopped g c =
     λ two.
-    ends IsVerdictLine (λ _ _ _. ⊥) (g.N.Files.held c.args.files.now) c.args.words _ _ _ _ _ _ _ _ _ c.in-Err.stop _ c.in-Err.ensures.cause (c.complain.ensures.status ∙ c.stop_line.ensures.status) c.in-Err.ensures.failures c.stop_line.ensures.text c.complain.ensures.told
+    ends IsVerdictLine (λ _ _ _. ⊥) (g.N.Files.held c.args.files.now) c.args.words _ _ _ _ _ _ _ _ _ _ _ c.in-Err.stop _ c.in-Err.ensures.cause (c.complain.ensures.status ∙ c.stop_line.ensures.status) c.in-Err.ensures.failures c.in-Err.ensures.opened c.stop_line.ensures.text c.complain.ensures.told
 
 pub returns-in-Err-clause-kept : goal.returns-in-Err-clause-kept
 returns-in-Err-clause-kept g c =

@@ -43,7 +43,7 @@ returns-in-Ok-BareLog-clause-stopped g c =
 pub returns-in-Ok-BareLog-clause-broken : goal.returns-in-Ok-BareLog-clause-broken
 returns-in-Ok-BareLog-clause-broken g c =
     λ three.
-    let files = call_files (g.N.Files.held c.args.files.now.shelf) (g.L.Logs.asked c.args.files.now.logs) (g.L.Logs.asked c.run_bare_journal.new.files) g.L.Logs.blank (g.L.Logs.named c.run_bare_journal.new.files) (g.L.Logs.kept c.run_bare_journal.new.files) in
+    let files = call_files (g.N.Files.held c.args.files.now.shelf) (g.L.Logs.asked c.args.files.now.logs) (g.L.Logs.asked c.run_bare_journal.new.files) g.L.Logs.blank (g.L.Logs.named c.run_bare_journal.new.files) (g.L.Logs.kept c.run_bare_journal.new.files) (g.N.Files.failures c.args.files.now.shelf) (g.N.Files.failures c.args.files.now.shelf) (g.L.Logs.failures c.args.files.now.logs) (g.L.Logs.failures c.run_bare_journal.new.files) in
     inr (BareLog c.in-Ok-BareLog.log, rw c.in-Ok-BareLog.field-0-is at c.in-Ok-BareLog.ensures.asked, logs_part files (g.I.Source.left c.args.input.now) (g.O.Sink.held c.args.output.now) (g.O.Sink.held c.run_bare_journal.new.output) (c.run_bare_journal.ensures.part (λ none. omega (arith, three, none))))
 
 pub returns-in-Ok-BareLog-clause-kept : goal.returns-in-Ok-BareLog-clause-kept

@@ -5,7 +5,7 @@ use Rattle.tp_cli_audit.proofs.bare.run_bare_audit.Goals as goal
 pub returns-in-Err-clause-stopped : goal.returns-in-Err-clause-stopped
 returns-in-Err-clause-stopped g c =
     λ two.
-    ends c.in-Err.stop _ _ _ _ _ _ _ _ _ _ _ _ _ c.in-Err.ensures.cause c.complain.ensures.status c.audit_stop_line.ensures.status c.audit_stop_line.ensures.text c.in-Err.ensures.failures c.complain.ensures.told
+    ends c.in-Err.stop _ _ _ _ _ _ _ _ _ _ _ _ _ _ _ c.in-Err.ensures.cause c.complain.ensures.status c.audit_stop_line.ensures.status c.audit_stop_line.ensures.text c.in-Err.ensures.failures c.in-Err.ensures.opened c.complain.ensures.told
 
 pub returns-in-Err-clause-kept : goal.returns-in-Err-clause-kept
 returns-in-Err-clause-kept g c =

@@ -1,6 +1,6 @@
 use Rattle.std.proofs.Common.{subst}
 use Rattle.tp_deorder.specs.Answers.{IsPlanNetOf}
-use Rattle.tp_cli_audit.proofs.PlanAuditLemmas.{counted, said_steps, stopped_steps}
+use Rattle.tp_cli_audit.proofs.PlanAuditLemmas.{opened_as, said_steps, stopped_steps, told_count}
 use Rattle.tp_cli_audit.proofs.plan_auditing.audit_valid.Goals as goal
 
 pub returns-in-Ok-clause-said : goal.returns-in-Ok-clause-said
@@ -16,4 +16,7 @@ returns-in-Ok-clause-cause g c =
     c.say_net.result c.of_audit.result c.of_audit.ensures c.say_net.ensures.cause
 
 pub returns-in-Ok-clause-failures : goal.returns-in-Ok-clause-failures
-returns-in-Ok-clause-failures g c = counted c.say_net.result c.of_audit.result _ _ c.of_audit.ensures c.say_net.ensures.failures
+returns-in-Ok-clause-failures g c = told_count c.say_net.result c.of_audit.result _ _ c.of_audit.ensures c.say_net.ensures.failures
+
+pub returns-in-Ok-clause-opened : goal.returns-in-Ok-clause-opened
+returns-in-Ok-clause-opened g c = opened_as c.say_net.result c.of_audit.result _ _ c.of_audit.ensures c.say_net.ensures.opened

@@ -5,7 +5,7 @@ use Rattle.tp_cli_audit.proofs.run.run_plan_audit.Goals as goal
 pub returns-in-Err-clause-stopped : goal.returns-in-Err-clause-stopped
 returns-in-Err-clause-stopped g c =
     λ two.
-    ends (g.N.Files.held c.args.files.now) c.args.words c.args.log.now _ _ _ _ _ _ _ _ _ _ c.in-Err.stop _ c.in-Err.ensures.cause (c.complain.ensures.status ∙ c.plan_stop_line.ensures.status) c.in-Err.ensures.failures c.plan_stop_line.ensures.text c.complain.ensures.told
+    ends (g.N.Files.held c.args.files.now) c.args.words c.args.log.now _ _ _ _ _ _ _ _ _ _ _ _ c.in-Err.stop _ c.in-Err.ensures.cause (c.complain.ensures.status ∙ c.plan_stop_line.ensures.status) c.in-Err.ensures.failures c.in-Err.ensures.opened c.plan_stop_line.ensures.text c.complain.ensures.told
 
 pub returns-in-Err-clause-kept : goal.returns-in-Err-clause-kept
 returns-in-Err-clause-kept g c =

@@ -1,7 +1,8 @@
-use Rattle.std.proofs.Common.{◌≡◌, inl, refl, sym}
+use Rattle.std.proofs.Common.{◌≡◌, ◌∙◌, inl, refl, sym}
 use Rattle.std.proofs.lemmas.Result.{IfErr-weaker, IfOk-weaker}
 use Rattle.tp_cli_run.specs.LogFile.{log_file}
-use Rattle.tp_cli_resume.proofs.BareLemmas.{counted_ran, heard_ran, quiet_old, said_old, stopped_ran, unsaid_old, went_ran}
+use Rattle.tp_cli_resume.proofs.BareLemmas.{counted_ran, heard_ran, quiet_old, ran_count, said_old, stopped_ran, unsaid_old, went_ran}
+use Rattle.tp_cli_resume.specs.Stops.{resume_unlogged, resume_unread}
 use Rattle.tp_cli_resume.proofs.bare.resume.Goals as goal
 
 pub returns-in-Ok-Goes-clause-went : goal.returns-in-Ok-Goes-clause-went
@@ -34,3 +35,16 @@ returns-in-Ok-Goes-clause-read g c = heard_ran c.go_on.result c.ran_on.result _ 
 
 pub returns-in-Ok-Wrong-clause-read : goal.returns-in-Ok-Wrong-clause-read
 returns-in-Ok-Wrong-clause-read g c = sym (c.say_wrong.ensures.unread _)
+
+pub returns-in-Ok-Goes-clause-opened : goal.returns-in-Ok-Goes-clause-opened
+returns-in-Ok-Goes-clause-opened g c =
+    c.in-Ok-Goes.ensures.opened ∙ (sym (c.go_on.ensures.opened _) ∙ ran_count resume_unread c.go_on.result c.ran_on.result _ c.ran_on.ensures)
+
+pub returns-in-Ok-Goes-clause-log : goal.returns-in-Ok-Goes-clause-log
+returns-in-Ok-Goes-clause-log g c = c.go_on.ensures.log ∙ ran_count resume_unlogged c.go_on.result c.ran_on.result _ c.ran_on.ensures
+
+pub returns-in-Ok-Wrong-clause-opened : goal.returns-in-Ok-Wrong-clause-opened
+returns-in-Ok-Wrong-clause-opened g c = c.in-Ok-Wrong.ensures.opened ∙ sym (c.say_wrong.ensures.opened _)
+
+pub returns-in-Ok-Wrong-clause-log : goal.returns-in-Ok-Wrong-clause-log
+returns-in-Ok-Wrong-clause-log g c = sym (c.say_wrong.ensures.unlogged _)

@@ -5,7 +5,7 @@ use Rattle.tp_cli_resume.proofs.bare.run_bare_resume.Goals as goal
 pub returns-in-Err-clause-stopped : goal.returns-in-Err-clause-stopped
 returns-in-Err-clause-stopped g c =
     λ two.
-    ends (g.N.Files.held c.args.files.now c.args.old.now) c.args.old.now _ _ _ _ _ _ _ _ _ _ _ _ _ c.in-Err.stop _ c.in-Err.ensures.cause (c.complain.ensures.status ∙ c.resume_line.ensures.status) c.in-Err.ensures.told c.in-Err.ensures.read c.resume_line.ensures.text c.complain.ensures.told
+    ends (g.N.Files.held c.args.files.now c.args.old.now) c.args.old.now _ _ _ _ _ _ _ _ _ _ _ _ _ _ _ _ _ c.in-Err.stop _ c.in-Err.ensures.cause (c.complain.ensures.status ∙ c.resume_line.ensures.status) c.in-Err.ensures.told c.in-Err.ensures.read c.in-Err.ensures.opened c.in-Err.ensures.log c.resume_line.ensures.text c.complain.ensures.told
 
 pub returns-in-Err-clause-part : goal.returns-in-Err-clause-part
 returns-in-Err-clause-part g c = λ broken. part_then (g.N.Files.held c.args.files.now c.args.old.now) _ _ _ _ c.in-Err.stop c.in-Err.ensures.cause

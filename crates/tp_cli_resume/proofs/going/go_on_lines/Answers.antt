@@ -1,9 +1,12 @@
-use Rattle.std.proofs.Common.{◌≡◌, ◌∙◌, subst, sym}
+use Rattle.std.proofs.Common.{◌≡◌, ◌∙◌, ◌+◌, ap, subst, sym}
 use Rattle.std.specs.Prelude.{IfErr, IfOk, IfSome}
+use Rattle.tp_cli_files.specs.Causes.{counted}
+use Rattle.tp_cli_files.proofs.CauseLemmas.{counted_from}
+use Rattle.tp_cli_bare.specs.JournalLines.{journal_unlogged}
 use Rattle.tp_cli_bare.proofs.LoggedLemmas.{moved}
 use Rattle.tp_cli_run.specs.LogFile.{log_file}
 use Rattle.tp_cli_resume.specs.Going.{GoesTo, StopsIn}
-use Rattle.tp_cli_resume.proofs.ResumeLemmas.{counted_of, goes_of, heard_of, named_of, stops_of}
+use Rattle.tp_cli_resume.proofs.ResumeLemmas.{counted_of, goes_of, heard_of, logged_of, named_of, stops_of, went_unread}
 use Rattle.tp_cli_resume.proofs.going.go_on_lines.Goals as goal
 
 pub returns-in-Ok-clause-goes : goal.returns-in-Ok-clause-goes
@@ -30,3 +33,6 @@ returns-in-Ok-clause-told g c = counted_of c.go_on_in-went.result c.of_journal.r
 
 pub returns-in-Ok-clause-read : goal.returns-in-Ok-clause-read
 returns-in-Ok-clause-read g c = heard_of c.go_on_in-went.result c.of_journal.result _ _ c.of_journal.ensures c.go_on_in-went.ensures.read
+
+pub returns-in-Ok-clause-opened : goal.returns-in-Ok-clause-opened
+returns-in-Ok-clause-opened g c = λ n. went_unread c.go_on_in-went.result c.of_journal.result n c.of_journal.ensures

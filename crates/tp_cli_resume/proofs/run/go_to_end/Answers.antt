@@ -1,8 +1,9 @@
-use Rattle.std.proofs.Common.{◌∙◌, ap, sym}
+use Rattle.std.proofs.Common.{◌∙◌, ap, refl, sym}
 use Rattle.tp_cli_run.specs.LogFile.{log_file}
 use Rattle.tp_cli_run.specs.RunLines.{run_failures}
+use Rattle.tp_cli_resume.specs.RunStops.{run_resume_unlogged, run_resume_unread}
 use Rattle.tp_cli_resume.proofs.Came.{runs_came}
-use Rattle.tp_cli_resume.proofs.RunLemmas.{counted_going, counted_on, heard_going, said_on, stopped_early, told_reads, unsaid_on}
+use Rattle.tp_cli_resume.proofs.RunLemmas.{counted_going, counted_on, heard_going, said_on, stopped_early, told_fails, told_reads, unsaid_on}
 use Rattle.tp_cli_resume.proofs.run.go_to_end.Goals as goal
 
 pub tell_run-requires : goal.tell_run-requires
@@ -32,3 +33,9 @@ returns-in-Ok-clause-read g c = c.in-Ok.ensures.read ∙ sym (told_reads c.tell_
 
 pub returns-in-Err-clause-read : goal.returns-in-Err-clause-read
 returns-in-Err-clause-read g c = heard_going c.in-Err.stop _ _ c.in-Err.ensures.read
+
+pub returns-in-Ok-clause-opened : goal.returns-in-Ok-clause-opened
+returns-in-Ok-clause-opened g c = λ n. told_fails run_resume_unread refl refl c.tell_run.result c.of_telling.result n c.of_telling.ensures
+
+pub returns-in-Ok-clause-log : goal.returns-in-Ok-clause-log
+returns-in-Ok-clause-log g c = c.in-Ok.ensures.log ∙ sym (told_fails run_resume_unlogged refl refl c.tell_run.result c.of_telling.result _ c.of_telling.ensures)

@@ -8,7 +8,7 @@ returns-in-Ok-true-clause-resumed g c = λ zero. rw c.in-Ok-true.field-0-test at
 pub returns-in-Err-clause-stopped : goal.returns-in-Err-clause-stopped
 returns-in-Err-clause-stopped g c =
     λ two.
-    ends c.args.words c.args.old.now _ _ _ _ _ _ _ _ _ _ _ _ c.in-Err.stop _ c.in-Err.ensures.cause (c.complain.ensures.status ∙ c.run_resume_line.ensures.status) c.in-Err.ensures.failures c.in-Err.ensures.read c.run_resume_line.ensures.text c.complain.ensures.told
+    ends c.args.words c.args.old.now _ _ _ _ _ _ _ _ _ _ _ _ _ _ _ _ c.in-Err.stop _ c.in-Err.ensures.cause (c.complain.ensures.status ∙ c.run_resume_line.ensures.status) c.in-Err.ensures.failures c.in-Err.ensures.read c.in-Err.ensures.opened c.in-Err.ensures.log c.run_resume_line.ensures.text c.complain.ensures.told
 
 pub returns-in-Err-clause-part : goal.returns-in-Err-clause-part
 returns-in-Err-clause-part g c = λ broken. c.in-Err.ensures.cause.0

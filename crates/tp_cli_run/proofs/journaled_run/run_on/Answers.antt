@@ -1,8 +1,9 @@
-use Rattle.std.proofs.Common.{◌∙◌, ap, sym}
+use Rattle.std.proofs.Common.{◌∙◌, ap, refl, sym}
 use Rattle.tp_exec_machine.specs.Machine.{Machine}
 use Rattle.tp_cli_bare.proofs.LoggedLemmas.{any_input}
 use Rattle.tp_cli_run.specs.RunLines.{run_failures}
-use Rattle.tp_cli_run.proofs.JournaledLemmas.{counted_telling, said_steps, told_reads, unsaid_steps}
+use Rattle.tp_cli_run.specs.StopLines.{run_stop_unlogged, run_stop_unread}
+use Rattle.tp_cli_run.proofs.JournaledLemmas.{counted_telling, said_steps, told_fails, told_reads, unsaid_steps}
 use Rattle.tp_cli_run.proofs.journaled_run.run_on.Goals as goal
 
 pub returns-in-Ok-clause-said : goal.returns-in-Ok-clause-said
@@ -26,3 +27,9 @@ returns-in-Ok-clause-read g c = c.in-Ok.ensures.read ∙ sym (told_reads c.tell_
 
 pub returns-in-Err-clause-read : goal.returns-in-Err-clause-read
 returns-in-Err-clause-read g c = c.in-Err.ensures.read ∙ any_input Machine (Unit {0}) c.in-Err.stop _
+
+pub returns-in-Ok-clause-opened : goal.returns-in-Ok-clause-opened
+returns-in-Ok-clause-opened g c = λ n. told_fails run_stop_unread refl refl c.tell_run.result c.of_telling.result n c.of_telling.ensures
+
+pub returns-in-Ok-clause-log : goal.returns-in-Ok-clause-log
+returns-in-Ok-clause-log g c = c.in-Ok.ensures.log ∙ sym (told_fails run_stop_unlogged refl refl c.tell_run.result c.of_telling.result _ c.of_telling.ensures)

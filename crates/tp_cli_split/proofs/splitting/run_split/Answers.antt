@@ -5,7 +5,7 @@ use Rattle.tp_cli_split.proofs.splitting.run_split.Goals as goal
 pub returns-in-Err-clause-stopped : goal.returns-in-Err-clause-stopped
 returns-in-Err-clause-stopped g c =
     λ two.
-    ends c.args.agent (g.N.Files.held c.args.files.now) c.args.words c.args.owners.now _ _ _ _ _ _ _ _ _ c.in-Err.stop _ c.in-Err.ensures.cause (c.complain.ensures.status ∙ c.split_line.ensures.status) c.in-Err.ensures.failures c.split_line.ensures.text c.complain.ensures.told
+    ends c.args.agent (g.N.Files.held c.args.files.now) c.args.words c.args.owners.now _ _ _ _ _ _ _ _ _ _ _ c.in-Err.stop _ c.in-Err.ensures.cause (c.complain.ensures.status ∙ c.split_line.ensures.status) c.in-Err.ensures.failures c.in-Err.ensures.opened c.split_line.ensures.text c.complain.ensures.told
 
 pub returns-in-Err-clause-kept : goal.returns-in-Err-clause-kept
 returns-in-Err-clause-kept g c =
