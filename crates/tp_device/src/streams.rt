@@ -62,6 +62,13 @@ impl<W: Write> ToWrite<W> {
             failed: Tally::new(),
         }
     }
+
+    /// The writer, with what it holds.
+    pub fn into_writer(self) -> W
+        ensures { W.contents result ≡ ⟦<ToWrite<W> as Sink>⟧.held self }
+    {
+        self.writer
+    }
 }
 
 impl<W: Write> Sink for ToWrite<W> {
