@@ -689,7 +689,7 @@ stopped_over words files input a held first contents status (Some w) now keeps h
       told = h.told;
     }
 
-ends_over : {W : Type 0} (words : List (List ℕ)) (files : CallFiles) (input a held first : Option (List ℕ)) (contents : W → Option (List ℕ)) (status : ℕ) (output : Option W) (now : Option (List ℕ)) → Keeps held a → Ends words files input a first contents status output now → Ends words files input held first contents status output now
+pub ends_over : {W : Type 0} (words : List (List ℕ)) (files : CallFiles) (input a held first : Option (List ℕ)) (contents : W → Option (List ℕ)) (status : ℕ) (output : Option W) (now : Option (List ℕ)) → Keeps held a → Ends words files input a first contents status output now → Ends words files input held first contents status output now
 ends_over words files input a held first contents status output now keeps h =
     record {
       output_holds = over_buffer words files input status a held contents output keeps h.output_holds;
@@ -700,13 +700,6 @@ ends_over words files input a held first contents status output now keeps h =
       stopped = λ two. stopped_over words files input a held first contents status output now keeps (h.stopped two);
       unlogged = h.unlogged;
     }
-
-pub ends_from : {W : Type 0} (words : List (List ℕ)) (files : CallFiles) (left input inside a held start first : Option (List ℕ)) (contents : W → Option (List ℕ)) (status : ℕ) (output : Option W) (now : Option (List ℕ)) → left ≡ input → inside ≡ a → start ≡ first → Keeps held a → Ends words files left inside start contents status output now → Ends words files input held first contents status output now
-ends_from words files left input inside a held start first contents status output now from is begin keeps h =
-    ends_over words files input a held first contents status output now keeps
-    (subst (λ i. Ends words files i a first contents status output now) from
-    (subst (λ o. Ends words files left o first contents status output now) is
-    (subst (λ f. Ends words files left inside f contents status output now) begin h)))
 
 -- nothing was done, since memory ran out
 pub ends_lost : {W : Type 0} (words : List (List ℕ)) (files : CallFiles) (input held first : Option (List ℕ)) (contents : W → Option (List ℕ)) (status : ℕ) (output : Option W) (now : Option (List ℕ)) → status ≡ 3 → output ≡ None → TellsSome first now → files.asked_now ≡ files.asked_before → Ends words files input held first contents status output now

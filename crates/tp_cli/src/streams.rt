@@ -15,12 +15,8 @@ use crate::desk::Desk;
 use crate::words::run_words;
 use std::alloc::Global;
 use std::io::{LineWriter, Read, Write};
-use std::marker::Brand;
-use std::sync::ledger::{Blank, Ledger};
-use tp_cli_files::{
-    CallFault, FaultLine, Files, Logs, OUT_OF_ORDER, Outlet, complain, refuse_call,
-};
-use tp_device::{FromRead, Sink};
+use tp_cli_files::{CallFault, FaultLine, Files, Logs, OUT_OF_ORDER, complain, refuse_call};
+use tp_device::{FromRead, Sink, ToWrite};
 
 /// What a run came to: its exit status, and the writers. The output is gone where the last of it
 /// could not be handed on.
@@ -29,26 +25,6 @@ pub struct Ended<W, V> {
     pub status: u8,
     pub output: Option<W>,
     pub faults: V,
-}
-
-/// A reader or writer, and the blank ledger that its failures will be counted in.
-#[derive(Drop)]
-struct Counted<T> {
-    stream: T,
-    blank: Blank,
-}
-
-impl<T> Counted<T> {
-    /// A stream whose failures are counted from now on.
-    fn new(stream: T) -> Self
-        ensures stream { result.stream ≡ stream }
-        ensures parts { result.blank.parts ≡ 1 }
-    {
-        Counted {
-            stream,
-            blank: Blank::new(1),
-        }
-    }
 }
 
 /// An exit status, and the output where all of it could be handed on.
@@ -106,48 +82,29 @@ fn hand_on<W: Write + Drop, F: Sink>(
     }
 }
 
-/// Does what the words ask for, and counts the failures of each stream in a ledger of its own.
-fn run_counted<
-    I: Ledger,
-    O: Ledger,
-    F: Ledger,
-    N: Files,
-    L: Logs,
-    B: Write,
-    R: Read + Drop,
-    W: Write + Drop,
-    V: Write + Drop,
->(
+/// Does what the words ask for, and counts the failures of each stream.
+fn run_counted<N: Files, L: Logs, B: Write, R: Read + Drop, W: Write + Drop, V: Write + Drop>(
     alloc: Global,
     words: &[String],
     files: &mut Desk<N, L, B>,
-    input: Counted<R>,
-    output: Counted<LineWriter<W>>,
-    faults: Counted<V>,
+    input: R,
+    output: LineWriter<W>,
+    faults: V,
 ) -> Ended<W, V>
-    requires i { input.blank.name ≡ I.name }
-    requires i_parts { input.blank.parts ≡ I.parts }
-    requires i_some { 0 < input.blank.parts }
-    requires o { output.blank.name ≡ O.name }
-    requires o_parts { output.blank.parts ≡ O.parts }
-    requires o_some { 0 < output.blank.parts }
-    requires f { faults.blank.name ≡ F.name }
-    requires f_parts { faults.blank.parts ≡ F.parts }
-    requires f_some { 0 < faults.blank.parts }
     ensures ends { Ends (map string_bytes words.now) (call_files (N.held files.old.shelf)
         (L.asked files.old.logs) (L.asked files.new.logs) L.blank
         (L.named files.new.logs) (L.kept files.new.logs)
         (N.failures files.old.shelf) (N.failures files.new.shelf)
         (L.failures files.old.logs) (L.failures files.new.logs))
-        (R.remaining input.stream)
-        (line_writer_contents W.contents output.stream) (V.contents faults.stream) W.contents
+        (R.remaining input)
+        (line_writer_contents W.contents output) (V.contents faults) W.contents
         result.status result.output (V.contents result.faults) }
     ensures quiet { AsksForNoProgress (map string_bytes words.now)
         → files.new.board ≡ files.old.board }
 {
-    let mut input = FromRead::<R, I>::new(input.stream, input.blank);
-    let mut output = Outlet::<LineWriter<W>, O>::new(output.stream, output.blank);
-    let mut faults = Outlet::<V, F>::new(faults.stream, faults.blank);
+    let mut input = FromRead::new(input);
+    let mut output = ToWrite::new(output);
+    let mut faults = ToWrite::new(faults);
     let status = run_words(alloc, words, files, &mut input, &mut output, &mut faults);
     let handed_on = hand_on(status, output.into_writer(), &mut faults);
     Ended {
@@ -167,15 +124,12 @@ fn refuse_memory<F: Sink>(faults: &mut F) -> u8
 }
 
 /// Ends a run that has no memory for the buffer of the output. Nothing is done.
-fn end_lost<F: Ledger, W, V: Write + Drop>(faults: Counted<V>) -> Ended<W, V>
-    requires f { faults.blank.name ≡ F.name }
-    requires f_parts { faults.blank.parts ≡ F.parts }
-    requires f_some { 0 < faults.blank.parts }
+fn end_lost<W, V: Write + Drop>(faults: V) -> Ended<W, V>
     ensures status { result.status ≡ OUT_OF_ORDER }
     ensures output { result.output ≡ None }
-    ensures fault { TellsSome (V.contents faults.stream) (V.contents result.faults) }
+    ensures fault { TellsSome (V.contents faults) (V.contents result.faults) }
 {
-    let mut faults = Outlet::<V, F>::new(faults.stream, faults.blank);
+    let mut faults = ToWrite::new(faults);
     let status = refuse_memory(&mut faults);
     Ended {
         status,
@@ -206,16 +160,9 @@ pub fn run_streams<N: Files, L: Logs, B: Write, R: Read + Drop, W: Write + Drop,
     ensures quiet { AsksForNoProgress (map string_bytes words.now)
         → files.new.board ≡ files.old.board }
 {
-    let input = Counted::new(input);
-    let faults = Counted::new(faults);
     match LineWriter::new(alloc, output) {
-        Ok(writer) => {
-            let output = Counted::new(writer);
-            run_counted::<Brand, Brand, Brand, _, _, _, _, _, _>(
-                alloc, words, files, input, output, faults,
-            )
-        }
-        Err(_) => end_lost::<Brand, _, _>(faults),
+        Ok(writer) => { run_counted(alloc, words, files, input, writer, faults) }
+        Err(_) => end_lost(faults),
     }
 }
 
@@ -226,28 +173,16 @@ pub struct Refused<V> {
     pub faults: V,
 }
 
-/// Tells why the words of a call were not taken, and counts the failures of the writer.
-fn refuse_counted<F: Ledger, V: Write + Drop>(why: CallFault, faults: Counted<V>) -> Refused<V>
-    requires f { faults.blank.name ≡ F.name }
-    requires f_parts { faults.blank.parts ≡ F.parts }
-    requires f_some { 0 < faults.blank.parts }
-    ensures status { result.status ≡ call_status why }
-    ensures told { AppendsPart (V.contents faults.stream) (V.contents result.faults)
-        (call_text why) }
-{
-    let mut faults = Outlet::<V, F>::new(faults.stream, faults.blank);
-    let status = refuse_call(why, &mut faults);
-    Refused {
-        status,
-        faults: faults.into_writer(),
-    }
-}
-
 /// Tells a writer of std why the words of a call were not taken: the whole line, or where the
 /// writer fails a first part of it.
 pub fn refuse_streams<V: Write + Drop>(why: CallFault, faults: V) -> Refused<V>
     ensures status { result.status ≡ call_status why }
     ensures told { AppendsPart (V.contents faults) (V.contents result.faults) (call_text why) }
 {
-    refuse_counted::<Brand, _>(why, Counted::new(faults))
+    let mut faults = ToWrite::new(faults);
+    let status = refuse_call(why, &mut faults);
+    Refused {
+        status,
+        faults: faults.into_writer(),
+    }
 }

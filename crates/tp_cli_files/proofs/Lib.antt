@@ -1,3 +1,2 @@
 pub mod CauseLemmas
 pub mod FaultLemmas
-pub mod Walks

@@ -10,13 +10,12 @@ ghost use Rattle.tp_cli_files.specs.Texts.{ReadsKept};
 
 use crate::fault_lines::{FaultLine, complain};
 use crate::files::Files;
-use crate::tally::Tally;
 use std::alloc::{AllocError, AllocFailed, Global};
 use std::cell::RefCell;
 use std::io::{ErrorKind, Read};
 use std::rt::{Env, Files as HostFileSystem};
 use std::{env, fs, io};
-use tp_device::{Failed, Sink, Source};
+use tp_device::{Failed, Sink, Source, Tally};
 
 /// The name of the standard input among those of files.
 pub const STANDARD_INPUT: &str = "-";
@@ -36,7 +35,7 @@ impl<R: Read> HostFile<R> {
     {
         HostFile {
             reader,
-            failures: Tally::of(&0),
+            failures: Tally::new(),
         }
     }
 }
@@ -58,7 +57,7 @@ impl<R: Read> Source for HostFile<R> {
         match self.reader.read(buffer) {
             Ok(count) => Ok(count),
             Err(_) => {
-                self.failures = self.failures.plus(&Tally::of(&1));
+                self.failures.tick();
                 Err(Failed)
             }
         }
@@ -176,7 +175,7 @@ impl<'r, 'i, R: HostFileSystem, I: Read> HostFiles<'r, 'i, R, I> {
         HostFiles {
             rt,
             input,
-            failures: Tally::of(&0),
+            failures: Tally::new(),
         }
     }
 
@@ -217,14 +216,14 @@ impl<'i, R: HostFileSystem, I: Read> Files for HostFiles<'_, 'i, R, I> {
         match self.reader(name) {
             Some(reader) => Ok(HostFile::new(reader)),
             None => {
-                self.failures = self.failures.plus(&Tally::of(&1));
+                self.failures.tick();
                 Err(Failed)
             }
         }
     }
 
     fn close(&mut self, input: Self::Input) {
-        self.failures = self.failures.plus(&input.failures);
+        self.failures.add(&input.failures);
     }
 }
 

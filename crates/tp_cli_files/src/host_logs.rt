@@ -5,11 +5,10 @@ ghost use Rattle.std.specs.Io.KnownBytes.{WriteAppends};
 ghost use Rattle.tp_device.specs.Bytes.{failures_after};
 
 use crate::logs::Logs;
-use crate::tally::Tally;
 use std::fs;
 use std::io::Write;
 use std::rt::Files as HostFileSystem;
-use tp_device::{Failed, Sink};
+use tp_device::{Failed, Sink, Tally};
 
 /// A file of the host that is written. Each push is a write of the host's, and none is kept back.
 /// A write that fails, or takes none of some bytes, counts as a failure. What the file holds is told
@@ -27,7 +26,7 @@ impl<W: Write> HostLog<W> {
     {
         HostLog {
             writer,
-            failures: Tally::of(&0),
+            failures: Tally::new(),
         }
     }
 }
@@ -50,7 +49,7 @@ impl<W: Write> Sink for HostLog<W> {
         match self.writer.write(bytes) {
             Ok(count) if count != 0 || bytes.is_empty() => Ok(count),
             _ => {
-                self.failures = self.failures.plus(&Tally::of(&1));
+                self.failures.tick();
                 Err(Failed)
             }
         }
@@ -69,7 +68,7 @@ impl<'r, R: HostFileSystem> HostLogs<'r, R> {
     pub fn new(rt: &'r R) -> Self {
         HostLogs {
             rt,
-            failures: Tally::of(&0),
+            failures: Tally::new(),
         }
     }
 }
@@ -93,13 +92,13 @@ impl<R: HostFileSystem> Logs for HostLogs<'_, R> {
         match fs::create(self.rt, name) {
             Ok(writer) => Ok(HostLog::new(writer)),
             Err(_) => {
-                self.failures = self.failures.plus(&Tally::of(&1));
+                self.failures.tick();
                 Err(Failed)
             }
         }
     }
 
     fn keep(&mut self, log: Self::Log) {
-        self.failures = self.failures.plus(&log.failures);
+        self.failures.add(&log.failures);
     }
 }

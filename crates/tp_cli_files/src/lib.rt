@@ -2,11 +2,9 @@
 //!
 //! - `files`: files under names, and the texts that they hold
 //! - `fault_lines`: fault lines, with their exit statuses
-//! - `outlets`: a writer of std as a sink that returns the writer
 //! - `host`: the files of the host, and the arguments of its call
 //! - `logs`: the trait of what creates and keeps journal files
 //! - `host_logs`: the journal files of the host
-//! - `tally`: counts of failed calls, which proofs alone can read
 #![tactic(auto)]
 
 mod fault_lines;
@@ -14,8 +12,6 @@ mod files;
 mod host;
 mod host_logs;
 mod logs;
-mod outlets;
-mod tally;
 
 pub use fault_lines::{Detail, FaultLine, OUT_OF_ORDER, REFUSED, complain, complain_more};
 pub use files::{FileFault, Files, open_text, read_text};
@@ -25,5 +21,3 @@ pub use host::{
 };
 pub use host_logs::{HostLog, HostLogs};
 pub use logs::Logs;
-pub use outlets::Outlet;
-pub use tally::Tally;
