@@ -1,5 +1,5 @@
 -- The audit of a plan's journal, from the network of the plan to the words that name it.
-use Rattle.std.proofs.Common.{◌≡◌, ◌∙◌, ℕ, List, [], Option, Bool, true, false, inl, inr, refl, ap, subst, sym, arith}
+use Rattle.std.proofs.Common.{◌≡◌, ◌∙◌, ◌+◌, ℕ, List, [], Option, Bool, true, false, inl, inr, refl, ap, subst, sym, arith}
 use Rattle.std.specs.Prelude.{Result, Ok, Err, IfErr, IfOk, IfSome}
 use Rattle.std.specs.Io.KnownBytes.{Appends}
 use Rattle.tp_device.specs.Bytes.{AppendsPart}
@@ -122,6 +122,10 @@ same_count Write n = refl
 pub told_count : (told : Result Bool AuditStop) (r : Result Bool PlanAuditStop) (n m : ℕ) → r ≡ audit_result told → m ≡ say_failures n told → m ≡ plan_stop_failures n r
 told_count (Ok b) r n m is count = subst (λ q. m ≡ plan_stop_failures n q) (sym is) count
 told_count (Err stop) r n m is count = subst (λ q. m ≡ plan_stop_failures n q) (sym is) (count ∙ same_count stop n)
+
+-- a file that is opened has not failed yet
+pub none_before : (files source before : ℕ) → files ≡ before → source ≡ 0 → files + source ≡ before
+none_before files source before same none = omega (arith, same, none)
 
 -- the same of the reads of its file
 pub opened_as : (said : Result Bool AuditStop) (r : Result Bool PlanAuditStop) (n m : ℕ) → r ≡ audit_result said → m ≡ counted stop_unread n said → m ≡ counted plan_stop_unread n r

@@ -59,8 +59,8 @@ fn audit_words<N: Files, S: Source, O: Sink>(
     output: &mut O,
 ) -> Result<bool, PlanAuditStop>
     requires { words.horizon ≤ 1000000000 }
-    ensures said { IfOk result (SaysHeaded (N.held files.old) words.entry head.now (S.left source.old)
-        (O.held output.old) (O.held output.new)) }
+    ensures said { IfOk result (SaysHeaded (N.held files.old) words.entry head.now
+        (S.left source.old) (O.held output.old) (O.held output.new)) }
     ensures cause { IfErr result (StopsHeaded (N.held files.old) words.entry head.now
         (S.left source.old) (O.held output.old) (O.held output.new)) }
     ensures failures { O.failures output.new ≡ plan_stop_failures (O.failures output.old) result }

@@ -58,9 +58,9 @@ where
     V: Write + Drop,
     B: Write + Drop,
     E: Write + Drop,
-    ensures ends { RunsPlain string_bytes words.items (λ plain. (unread unread-now : ℕ) × Ends plain
+    ensures ends { RunsPlain string_bytes words.items (λ plain. (unread later : ℕ) × Ends plain
         (call_files (λ _. None) (L.asked logs) (L.asked result.logs) L.blank (L.named result.logs)
-        (L.kept result.logs) unread unread-now (L.failures logs) (L.failures result.logs))
+        (L.kept result.logs) unread later (L.failures logs) (L.failures result.logs))
         (I.remaining streams.input) (W.contents streams.output) (V.contents streams.faults)
         W.contents result.ended.status result.ended.output (V.contents result.ended.faults)) }
 {
