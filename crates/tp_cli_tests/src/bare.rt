@@ -19,7 +19,8 @@ fn comes_to(alloc: Global, room: usize, status: u8, answers: &[u8], faults: &[u8
     let mut output = Sheet::new(alloc, room);
     let mut told = Sheet::new(alloc, usize::MAX);
     let ended = run_bare(alloc, &mut input, &mut output, &mut told);
-    ended == status && output.into_text().as_slice() == answers
+    ended == status
+        && output.into_text().as_slice() == answers
         && told.into_text().as_slice() == faults
 }
 

@@ -17,8 +17,8 @@ ghost use Rattle.std.specs.String.{string_bytes};
 use std::alloc::Global;
 use std::io;
 use std::io::{ErrorKind, Read};
-use tp_cli_files::{Files, Logs, Tally};
-use tp_device::{Failed, Sink, Source};
+use tp_cli_files::{Files, Logs};
+use tp_device::{Failed, Sink, Source, Tally};
 
 /// Bytes that come at most so many a call. Behind them is the end, or where it is broken an error.
 #[derive(Clone, Copy)]
@@ -69,7 +69,7 @@ impl<'a> Shelf<'a> {
     pub fn new(files: &'a [(&'a str, &'a [u8])]) -> Self {
         Shelf {
             files,
-            failures: Tally::of(&0),
+            failures: Tally::new(),
         }
     }
 }
@@ -77,9 +77,7 @@ impl<'a> Shelf<'a> {
 impl<'a> Files for Shelf<'a> {
     type Input = Stored<'a>;
 
-    ghost held = {
-        λ s name. option_map (λ f. f.1.now) (find (λ f. bytes_eq f.0.now name) s.files.now)
-    };
+    ghost held = { λ s name. option_map (λ f. f.1.now) (find (λ f. bytes_eq f.0.now name) s.files.now) };
 
     ghost failures = { λ s. s.failures.count };
 
@@ -87,15 +85,13 @@ impl<'a> Files for Shelf<'a> {
         match self.files.iter().find(|file| file.0 == name) {
             Some(file) => Ok(Stored { bytes: file.1 }),
             None => {
-                self.failures = self.failures.plus(&Tally::of(&1));
+                self.failures.tick();
                 Err(Failed)
             }
         }
     }
 
-    fn close(&mut self, _input: Stored<'a>) {
-        self.failures = self.failures.plus(&Tally::of(&0));
-    }
+    fn close(&mut self, _input: Stored<'a>) {}
 }
 
 /// A text with room for so many bytes. It fails at the piece that does not fit, and then takes no
@@ -164,7 +160,7 @@ impl Sheet {
         Sheet {
             text: Vec::new(alloc),
             room,
-            failures: Tally::of(&0),
+            failures: Tally::new(),
         }
     }
 
@@ -183,7 +179,7 @@ impl Sink for Sheet {
         let count = bytes.len().min(self.room);
         let full = count == 0 && !bytes.is_empty();
         if full || self.text.extend_from_slice(&bytes[..count]).is_err() {
-            self.failures = self.failures.plus(&Tally::of(&1));
+            self.failures.tick();
             return Err(Failed);
         }
         self.room -= count;
@@ -211,8 +207,8 @@ impl CountedLogs {
             room,
             name: None,
             last: None,
-            asked: Tally::of(&0),
-            failures: Tally::of(&0),
+            asked: Tally::new(),
+            failures: Tally::new(),
         }
     }
 
@@ -229,7 +225,7 @@ impl CountedLogs {
         ensures failures { self.new.failures.count ≡ self.old.failures.count + 1 }
         ensures asked { self.new.asked.count ≡ self.old.asked.count }
     {
-        self.failures = self.failures.plus(&Tally::of(&1));
+        self.failures.tick();
         Failed
     }
 }
@@ -250,7 +246,7 @@ impl Logs for CountedLogs {
     ghost is_blank = { refl };
 
     fn make(&mut self, name: &str) -> Result<Sheet, Failed> {
-        self.asked = self.asked.plus(&Tally::of(&1));
+        self.asked.tick();
         let Ok(name) = String::from_str(self.alloc, name) else {
             return Err(self.fail());
         };
@@ -264,7 +260,7 @@ impl Logs for CountedLogs {
     }
 
     fn keep(&mut self, log: Sheet) {
-        self.failures = self.failures.plus(&log.failures);
+        self.failures.add(&log.failures);
         self.last = Some(log);
     }
 }
