@@ -31,8 +31,8 @@ fn relax(
     requires settled { 0 < slice_index ranks.now point }
     requires last { (x : ℕ) → 0 < slice_index ranks.now x
         → slice_index amounts.old point ≤ slice_index amounts.old x }
-    requires queue { IsQueue (length potential.now.moments.now) (λ x. slice_index amounts.old x) (λ x.
-        slice_index ranks.now x) (heap_items queue.old) }
+    requires queue { IsQueue (length potential.now.moments.now) (λ x.
+        slice_index amounts.old x) (λ x. slice_index ranks.now x) (heap_items queue.old) }
     ensures looks { IfOk result (λ looks.
         looks ≡ length (keys_of direction potential.now.store.now point)) }
     ensures queue { OnOk result (IsQueue (length potential.now.moments.now) (λ x.

@@ -7,8 +7,8 @@
 //! with the most on; `queue` tells which point that is. `tighten` works out from it what one more
 //! edge does to the least and the greatest moments, `rising` what floors that rise do to the least
 //! ones, `loosen` where moments go back to when an edge that held them leaves; with this `solve`
-//! works out anew what such an edge may have held. `star` has the edges with which a network begins,
-//! `engine` the edges with their moments, `change` what takes edges out or changes them.
+//! works out anew what such an edge may have held. `star` has the edges with which a network
+//! begins, `engine` the edges with their moments, `change` what takes edges out or changes them.
 #![tactic(auto)]
 
 pub mod change;

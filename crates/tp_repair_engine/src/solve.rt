@@ -14,7 +14,7 @@ ghost use Rattle.tp_repair_engine.specs.declared.store.Direction.TheVariants.{Up
 
 use crate::engine::Engine;
 use crate::flow::Work;
-use crate::loosen::free;
+use crate::loosen::{Marked, free};
 use crate::potential::Potential;
 use crate::store::Direction;
 use crate::tighten::spread_from;
@@ -83,28 +83,27 @@ pub fn holds_high(high: &[u64], arc: Arc) -> bool
 /// The amounts that meet the edges, where points that are not marked have the amount. Where the
 /// origin is marked, it alone has.
 fn free_marked(
-    potential: &Potential<'_>,
+    marked: &Marked<'_>,
     direction: Direction,
-    marks: &[u64],
     work: &mut Work,
-    amount: u64,
 ) -> Result<u64, AllocError>
-    requires marks { length marks.now ≡ length potential.now.moments.now }
-    requires positive { 0 < amount }
-    requires idle { IsIdle (length potential.now.moments.now) work.old }
-    ensures idle { IsIdle (length potential.now.moments.now) work.new }
-    ensures freed { OnOk result (IsFreed direction (arcs_of potential.now.store.now.nodes.slots)
-        (length potential.now.moments.now) (λ x. slice_index potential.now.moments.now x) (λ x.
-        slice_index marks.now x) amount (λ x. slice_index work.new.amounts.items x)) }
+    requires { IsIdle (length marked.now.potential.moments.now) work.old }
+    ensures idle { IsIdle (length marked.now.potential.moments.now) work.new }
+    ensures freed { OnOk result (IsFreed direction
+        (arcs_of marked.now.potential.store.now.nodes.slots)
+        (length marked.now.potential.moments.now) (λ x.
+        slice_index marked.now.potential.moments.now x) (λ x. slice_index marked.now.marks.now x)
+        marked.now.amount (λ x. slice_index work.new.amounts.items x)) }
     ensures looks { IfOk result (λ looks. looks ≤ sum_to (λ y.
-        length (keys_of Up potential.now.store.now y)) (length potential.now.moments.now)
-        + sum_to (λ y. length (keys_of Down potential.now.store.now y))
-        (length potential.now.moments.now)) }
+        length (keys_of Up marked.now.potential.store.now y))
+        (length marked.now.potential.moments.now)
+        + sum_to (λ y. length (keys_of Down marked.now.potential.store.now y))
+        (length marked.now.potential.moments.now)) }
 {
-    if marks[0] == 0 {
-        return Ok(free(potential, direction, marks, work, amount)?);
+    if marked.marks[0] == 0 {
+        return Ok(free(marked, direction, work)?);
     }
-    Ok(spread_from(potential, direction, work, 0, amount)?)
+    Ok(spread_from(&marked.potential, direction, work, 0, marked.amount)?)
 }
 
 /// Marks what follows a point by tight edges, and works out the amounts that marked points have by
@@ -137,7 +136,12 @@ fn held_back(
         (length potential.now.moments.now))) }
 {
     let marked = spread_from(potential, direction, marks, seed, 1)?;
-    let freed = free_marked(potential, direction, &marks.amounts, work, amount)?;
+    let marked_points = Marked {
+        potential: *potential,
+        marks: &marks.amounts,
+        amount,
+    };
+    let freed = free_marked(&marked_points, direction, work)?;
     Ok(marked + freed)
 }
 

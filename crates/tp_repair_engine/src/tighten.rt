@@ -115,14 +115,16 @@ pub fn way_back(
     target: usize,
 ) -> Result<Vec<usize>, AllocError>
     requires positive { 0 < slice_index work.now.amounts.items target }
-    requires spread { IsSpread (links_of Up (λ x. slice_index potential.now.moments.now x)
-        (arcs_of potential.now.store.now.nodes.slots)) seed (slice_index work.now.amounts.items seed)
+    requires spread { IsSpread (links_of Up (λ x. slice_index potential.now.moments.now x) (arcs_of
+        potential.now.store.now.nodes.slots)) seed (slice_index work.now.amounts.items seed)
         work.now.amounts.items work.now.ranks.items work.now.parents.items }
     requires parents { HaveParents potential.now.store.now.nodes.slots seed work.now }
-    ensures there { IfOk result (λ path. All (HasNode potential.now.store.now.nodes.slots) path.items) }
-    ensures trace { IfOk result (λ path. IsTrace (links_of Up (λ x. slice_index potential.now.moments.now x)
-        (arcs_of potential.now.store.now.nodes.slots)) target seed (slice_index work.now.amounts.items seed)
-        (slice_index work.now.amounts.items target) path.items) }
+    ensures there { IfOk result (λ path. All (HasNode potential.now.store.now.nodes.slots)
+        path.items) }
+    ensures trace { IfOk result (λ path. IsTrace (links_of Up (λ x. slice_index
+        potential.now.moments.now x) (arcs_of potential.now.store.now.nodes.slots)) target seed
+        (slice_index work.now.amounts.items seed) (slice_index work.now.amounts.items target)
+        path.items) }
 {
     let mut path = Vec::new(alloc);
     let mut point = target;

@@ -6,6 +6,6 @@ use Rattle.tp_repair_engine.proofs.loosen.begin.Given as goal
 
 abbrev pub invariant-loop-point : goal.invariant-loop-point
 invariant-loop-point l = record {
-  beginning : IsBeginning l.direction l.potential.store.now l.potential.moments.now l.marks l.amount l.point l.work;
-  looks : l.looks ≤ sum_to (λ y. length (keys_of l.direction l.potential.store.now y)) l.point;
+  beginning : IsBeginning l.direction l.marked.potential.store.now l.marked.potential.moments.now l.marked.marks.now l.marked.amount l.point l.work;
+  looks : l.looks ≤ sum_to (λ y. length (keys_of l.direction l.marked.potential.store.now y)) l.point;
 }
