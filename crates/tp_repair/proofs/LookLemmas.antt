@@ -1,5 +1,5 @@
 -- The looks of an `add`, in numbers of events and of edges.
-use Rattle.std.proofs.Common.{◌≡◌, ◌≢◌, ℕ, zero, suc, ◌+◌, ◌*◌, ◌<◌, ◌≤◌, inl, inr, Bool, true, false, cond, nat_eq, List, [], ◌∷◌, map, refl, sym, ap, arith}
+use Rattle.std.proofs.Common.{◌≡◌, ◌≢◌, ℕ, zero, suc, ◌+◌, ◌*◌, ◌≤◌, inl, inr, Bool, true, false, cond, List, [], ◌∷◌, map, refl, ap, arith}
 use Rattle.std.specs.Prelude.{◌||◌, None}
 use Rattle.std.specs.List.{sum_by}
 use Rattle.std.specs.FinMap.{get, entries, len}
@@ -17,7 +17,7 @@ use Rattle.tp_repair_engine.specs.declared.store.Direction.TheVariants.{Up, Down
 use Rattle.tp_repair_engine.specs.Store.{near, one_at}
 use Rattle.tp_repair_engine.specs.Flow.{sum_to}
 use Rattle.tp_repair_engine.specs.Told.{edge_count}
-use Rattle.tp_repair_engine.specs.Costs.{bounds_at, degree, degrees_of, how_many, IsCheap, has_moved}
+use Rattle.tp_repair_engine.specs.Costs.{bounds_at, degree, degrees_of, IsCheap, has_moved}
 use Rattle.tp_repair_engine.proofs.Cheap.{sum_le, sum_add}
 use Rattle.tp_repair_engine.proofs.Degrees.{sum_inserted, len_inserted}
 use Rattle.tp_repair.specs.Looks.{is_among, touches, edges_touching, most_looks, LooksNearby}

@@ -29,8 +29,8 @@ use Rattle.tp_net.specs.Moments.{IsStart}
 use Rattle.tp_repair_engine.specs.Store.{names_of, kept_arcs, KeepsOthers, keys_of, near, one_at}
 use Rattle.tp_repair_engine.proofs.Degrees.{counted_same, counted_left, removed_none}
 use Rattle.tp_repair_engine.specs.Kept.{IsUnder, AreNodes}
-use Rattle.tp_repair_engine.specs.Engine.{IsWired, IsRepaired, AreMapped, IsChanged, IsLeft, IsUntouched}
-use Rattle.tp_repair_engine.specs.Slots.{raised_node, past_node, past_slots, left_slots, IsOpenFloor}
+use Rattle.tp_repair_engine.specs.Engine.{MayLeave, AreFloorAndEnd, IsWired, IsRepaired, AreMapped, IsChanged, IsLeft, IsUntouched}
+use Rattle.tp_repair_engine.specs.Slots.{raised_node, past_node, past_slots, left_slots, IsOpenFloor, AreOpenFloors, AreAtEarlier}
 use Rattle.tp_repair_engine.specs.Bringing.{IsUnbrought}
 use Rattle.tp_repair_engine.specs.Asked.{IsFromEvent}
 use Rattle.tp_net.specs.Graph.{HasNoSolution}
@@ -43,7 +43,7 @@ use Rattle.std.proofs.lemmas.Int.{ints}
 use Rattle.tp_net.specs.Kept.{IsKept}
 use Rattle.tp_net.specs.Sizes.{IsSmallWeight}
 use Rattle.tp_net.specs.Slacks.{JoinsPoints}
-use Rattle.tp_net.proofs.KeptMoments.{kept_low_fits, kept_high_fits, high_schedule}
+use Rattle.tp_net.proofs.KeptMoments.{high_schedule}
 use Rattle.tp_net.proofs.Starts.{start}
 use Rattle.tp_net.proofs.Laws.{withdrawn}
 use Rattle.tp_net.proofs.Listings.{events_of}
@@ -353,14 +353,6 @@ module _ (s : Setting) (count : ℕ) (keys : BTreeMap ℕ ℕ) (floors ends : Li
   k : IsKept s (names_of g.store.nodes.slots) (kept_arcs g.store.nodes.slots) g.low.items g.high.items
   k = kept s count keys floors ends g r
 
-  pub low_fits : (x : ℕ) → x < length g.low.items → get_or g.low.items x 0 < 2 ^ 32
-  low_fits zero within = let o = r.exact.least.solution.0 in omega (arith, ints, o)
-  low_fits (suc e) within = kept_low_fits s (names_of g.store.nodes.slots) (kept_arcs g.store.nodes.slots) g.low.items g.high.items k e (let p = r.wired.low_len in omega (arith, within, p))
-
-  pub high_fits : (x : ℕ) → x < length g.high.items → get_or g.high.items x 0 < 2 ^ 32
-  high_fits zero within = let o = r.exact.greatest.solution.0 in omega (arith, ints, o)
-  high_fits (suc e) within = kept_high_fits s (names_of g.store.nodes.slots) (kept_arcs g.store.nodes.slots) g.low.items g.high.items k e (let p = r.wired.high_len in omega (arith, within, p))
-
   pub has_own_key : (id : BoundId) (b : Bound) → get s.bounds id.0 ≡ Some b → tree.get nat_cmp keys id.0 ≢ None
   has_own_key id b is none =
       let x = r.nodes.all (Own id) b is in
@@ -372,6 +364,20 @@ module _ (s : Setting) (count : ℕ) (keys : BTreeMap ℕ ℕ) (floors ends : Li
   own_node id b key is key_is =
       let x = own_there s count keys floors ends g id b key r is key_is in
       (x.0, x.1, arc_has (JoinsPoints (length g.low.items)) g.store.nodes.slots key x.0 x.1 (among s count keys floors ends g r), arc_has (λ (e : Arc). IsSmallWeight e.weight) g.store.nodes.slots key x.0 x.1 (weights s count keys floors ends g r))
+
+  pub may_leave : (id : BoundId) (b : Bound) (key amount : ℕ) → get s.bounds id.0 ≡ Some b → tree.get nat_cmp keys id.0 ≡ Some key → amount ≡ suc s.horizon → amount < 2 ^ 32 → MayLeave key amount g
+  may_leave id b key amount is key_is far fits =
+      let n = own_node id b key is key_is in
+      record {
+        node = n.0;
+        here = n.1;
+        joins = n.2;
+        weight = n.3;
+        low = start_left s count keys floors ends g id b key amount r is key_is far;
+        high = start_left_high s count keys floors ends g id b key amount r is key_is far;
+        positive = omega (arith, far);
+        amount_fits = fits;
+      }
 
 -- ---- what the edges of events with the origin are
 
@@ -410,3 +416,17 @@ module _ (s : Setting) (count : ℕ) (keys : BTreeMap ℕ ℕ) (floors ends : Li
 
   pub from_event : (k : ℕ) (n : Node) → slice_index_or g.store.nodes.slots k None ≡ Some n → IsFromEvent n.name n.arc
   from_event k n is = let y = r.nodes.exist k n is in subst (λ a. IsFromEvent n.name a) (sym y.2) (event_of n.name y.0 y.1)
+
+  pub floor_and_end : (e m f h : ℕ) → e < event_count s → fixed_at s e ≡ None → floor_of s e ≤ m → m ≤ s.horizon → get_or floors e 0 ≡ f → get_or ends e 0 ≡ h → AreFloorAndEnd e m f h g.store.nodes.slots
+  floor_and_end e m f h lt free above soon f_is h_is = record {
+    floor = (let x = floor_is e lt free m above in (x.0, ap (λ j. slice_index_or g.store.nodes.slots j None) (sym f_is) ∙ x.1, x.2, x.3, x.4, x.5));
+    end = (let x = end_is e lt free m soon in (x.0, ap (λ j. slice_index_or g.store.nodes.slots j None) (sym h_is) ∙ x.1, x.2, x.3, x.4, x.5));
+    only_floor = λ k x is named. sym (subst (λ (a : Edge). IsUnder keys floors ends a k) named (r.nodes.under k x is)) ∙ f_is;
+    only_end = λ k x is named. sym (subst (λ (a : Edge). IsUnder keys floors ends a k) named (r.nodes.under k x is)) ∙ h_is;
+  }
+
+  pub open_floors : AreOpenFloors floors s.fixed g.store.nodes.slots
+  open_floors = record { events = r.fit.events; len = r.floors_len; there = floor_there s count keys floors ends g r; only = floors_only s count keys floors ends g r }
+
+  pub at_earlier : (now : ℕ) → s.clock ≤ now → AreAtEarlier now s.lags g.store.nodes.slots
+  at_earlier now forward = record { from = from_event; clock = s.clock; earlier = forward; arcs = floors_before s count keys floors ends g r }

@@ -259,6 +259,15 @@ sum_part f i (suc n) h =
       | inr ne ↦ (let r = sum_part f i n (omega (arith, h, ne)) in omega (arith, r))
     ]
 
+-- the list of a point is no longer than all together
+pub list_few : (d : Direction) (s : Store) (n y : ℕ) → y < n → length (halves_at (lists_of d s) y) ≤ sum_to (λ x. length (keys_of d s x)) n
+list_few d s n y lt =
+    let f : ℕ → ℕ = λ x. length (keys_of d s x) in
+    let a = sum_step f y in
+    let b = sum_part f (y + 1) n (omega (arith, lt)) in
+    let k = keys_len (halves_at (lists_of d s) y) in
+    omega (arith, a, b, k)
+
 -- ---- a flow from one point
 
 pub spread_follows : (d : Direction) (arcs : List Arc) (m : ℕ → ℕ) (seed amount : ℕ) (amounts ranks parents : List ℕ) → IsSpread (links_of d m arcs) seed amount amounts ranks parents

@@ -1,5 +1,5 @@
 -- Lists of halves when an edge comes, goes, or gets another weight.
-use Rattle.std.proofs.Common.{◌≡◌, ◌≢◌, ℕ, ◌+◌, ◌-◌, ◌<◌, List, [], ◌∷◌, ◌++◌, length, refl, sym, ◌∙◌, ap, subst, inl, inr, arith, set, get_or-set_other, zero, suc, take}
+use Rattle.std.proofs.Common.{◌≡◌, ◌≢◌, ℕ, ◌+◌, ◌-◌, ◌<◌, ◌≤◌, List, [], ◌∷◌, ◌++◌, length, refl, sym, ◌∙◌, ap, subst, inl, inr, arith, set, get_or-set_other, zero, suc, take}
 use Rattle.std.specs.Prelude.{Result, Ok, Err, OnErr, Option, Some, None, ℤ, slice_index_or}
 use Rattle.std.specs.declared.alloc.Global.{Global}
 use Rattle.std.specs.declared.vec.Vec.{Vec}
@@ -15,6 +15,7 @@ use Rattle.tp_repair_engine.specs.declared.store.Direction.{Direction}
 use Rattle.tp_repair_engine.specs.declared.store.Direction.TheVariants.{Up, Down}
 use Rattle.tp_net.specs.declared.slacks.Arc.{Arc}
 use Rattle.tp_repair_engine.specs.Store.{near, far_end, place_of, other_place, placed, weighed, half_of, half_at, no_half, halves_at, one_at, IsHalf, AreHalves, AreHalvesBut, AreMoved}
+use Rattle.tp_repair_engine.proofs.Stores.{HalfNode, stands, half_of_node}
 
 pub push_len : (xs : List Half) (h : Half) → length (xs ++ h ∷ []) ≡ length xs + 1
 push_len xs h = grind (arith, common_steps)
@@ -38,7 +39,7 @@ pub one_there : (p y : ℕ) → y ≢ p → one_at p y ≡ 0
 one_there p y ne = grind (arith, nat_tests)
 
 -- a half is there as before
-half_kept : (d : Direction) (slots slots' : List (Option Node)) (y j : ℕ) (h : Half) → ((k : ℕ) → k ≡ h.key → at_key slots' k ≡ at_key slots k) → IsHalf d slots y j h → IsHalf d slots' y j h
+half_kept : (d : Direction) (slots slots' : List (Option Node)) (y j : ℕ) (h : Half) → ((k : ℕ) → k ≡ h.key → at_key slots' k ≡ at_key slots k) → HalfNode d slots y j h → HalfNode d slots' y j h
 half_kept d slots slots' y j h same s = record { node = s.node; here = same h.key refl ∙ s.here; far = s.far; weight = s.weight; near_point = s.near_point; at_place = s.at_place }
 
 -- an edge comes
@@ -51,27 +52,27 @@ module _ (d : Direction) (slots slots' : List (Option Node)) (lists lists' : Lis
     (pushed : halves_at lists' (near d n.arc) ≡ halves_at lists (near d n.arc) ++ half_of d key n.arc ∷ [])
     (apart : (y : ℕ) → y ≢ near d n.arc → halves_at lists' y ≡ halves_at lists y)
   where
-    stood : (y j : ℕ) → j < length (halves_at lists y) → IsHalf d slots' y j (half_at (halves_at lists y) j)
+    stood : (y j : ℕ) → j < length (halves_at lists y) → HalfNode d slots' y j (half_at (halves_at lists y) j)
     stood y j inside =
-        let s = t.stand y j inside in
+        let s = stands _ _ _ _ _ (t.stand y j inside) in
         half_kept d slots slots' y j (half_at (halves_at lists y) j)
         (λ k is. others k (λ e. none-some s.node (sym free ∙ ap (λ z. at_key slots z) (sym e ∙ is) ∙ s.here))) s
 
-    new_half : IsHalf d slots' (near d n.arc) (length (halves_at lists (near d n.arc))) (half_of d key n.arc)
+    new_half : HalfNode d slots' (near d n.arc) (length (halves_at lists (near d n.arc))) (half_of d key n.arc)
     new_half = record { node = n; here = here; far = refl; weight = refl; near_point = refl; at_place = place }
 
-    at_near : (j : ℕ) → j < length (halves_at lists' (near d n.arc)) → IsHalf d slots' (near d n.arc) j (half_at (halves_at lists' (near d n.arc)) j)
+    at_near : (j : ℕ) → j < length (halves_at lists' (near d n.arc)) → HalfNode d slots' (near d n.arc) j (half_at (halves_at lists' (near d n.arc)) j)
     at_near j inside =
         let xs = halves_at lists (near d n.arc) in
         let len : length (halves_at lists' (near d n.arc)) ≡ length xs + 1 = ap (λ (hs : List Half). length hs) pushed ∙ push_len xs (half_of d key n.arc) in
         elim (same_or j (length xs)) [
           | inl last ↦
               let v : half_at (halves_at lists' (near d n.arc)) j ≡ half_of d key n.arc = ap (λ hs. half_at hs j) pushed ∙ get_or_push xs (half_of d key n.arc) no_half j (sym last) in
-              subst (λ h. IsHalf d slots' (near d n.arc) j h) (sym v) (subst (λ z. IsHalf d slots' (near d n.arc) z (half_of d key n.arc)) (sym last) new_half)
+              subst (λ h. HalfNode d slots' (near d n.arc) j h) (sym v) (subst (λ z. HalfNode d slots' (near d n.arc) z (half_of d key n.arc)) (sym last) new_half)
           | inr before ↦
               let within : j < length xs = omega (arith, inside, len, before) in
               let v : half_at (halves_at lists' (near d n.arc)) j ≡ half_at xs j = ap (λ hs. half_at hs j) pushed ∙ get_or_append_left xs (half_of d key n.arc ∷ []) no_half j within in
-              subst (λ h. IsHalf d slots' (near d n.arc) j h) (sym v) (stood (near d n.arc) j within)
+              subst (λ h. HalfNode d slots' (near d n.arc) j h) (sym v) (stood (near d n.arc) j within)
         ]
 
     abbrev Stands : ℕ → Node → Type 0
@@ -101,13 +102,12 @@ module _ (d : Direction) (slots slots' : List (Option Node)) (lists lists' : Lis
 
     pub halves_inserted : AreHalves d slots' lists'
     halves_inserted = record {
-      stand = λ y j inside.
-          elim (same_or y (near d n.arc)) [
-            | inl e ↦ subst (λ z. IsHalf d slots' z j (half_at (halves_at lists' z) j)) (sym e) (at_near j (subst (λ z. j < length (halves_at lists' z)) e inside))
-            | inr ne ↦
-                subst (λ hs. IsHalf d slots' y j (half_at hs j)) (sym (apart y ne))
-                (stood y j (subst (λ (hs : List Half). j < length hs) (apart y ne) inside))
-          ];
+      stand = λ y j inside. half_of_node _ _ _ _ _ (elim (same_or y (near d n.arc)) [
+        | inl e ↦ subst (λ z. HalfNode d slots' z j (half_at (halves_at lists' z) j)) (sym e) (at_near j (subst (λ z. j < length (halves_at lists' z)) e inside))
+        | inr ne ↦
+            subst (λ hs. HalfNode d slots' y j (half_at hs j)) (sym (apart y ne))
+            (stood y j (subst (λ (hs : List Half). j < length hs) (apart y ne) inside))
+      ]);
       complete = λ k m is.
           elim (same_or k key) [
             | inl e ↦
@@ -160,16 +160,15 @@ module _ (d : Direction) (slots slots' : List (Option Node)) (lists : List (Vec 
     pub halves_left : AreHalvesBut d slots' lists (near d n.arc) (place_of d n)
     halves_left = record {
       here = (t.complete key n was).0;
-      stand = λ y j inside apart.
-          (let h = half_at (halves_at lists y) j in
-          let s = t.stand y j inside in
+      stand = λ y j inside apart. half_of_node _ _ _ _ _ ((let h = half_at (halves_at lists y) j in
+          let s = stands _ _ _ _ _ (t.stand y j inside) in
           half_kept d slots slots' y j h
           (λ k is. others k (λ e.
           (let same : Some n ≡ Some s.node = sym was ∙ ap (λ z. at_key slots z) (sym e ∙ is) ∙ s.here in
           let node : n ≡ s.node = same_Some n s.node same in
           let y_is : y ≡ near d n.arc = sym s.near_point ∙ ap (λ (m : Node). near d m.arc) (sym node) in
           let j_is : j ≡ place_of d n = sym s.at_place ∙ ap (λ m. place_of d m) (sym node) in
-          apart y_is j_is))) s);
+          apart y_is j_is))) s));
       complete = λ k m is. t.complete k m (sym (others k (not_gone k m is)) ∙ is);
       apart = λ k m is near_is place_is.
           (let c = t.complete k m (sym (others k (not_gone k m is)) ∙ is) in
@@ -184,7 +183,7 @@ module _ (d e : Direction) (slots slots' : List (Option Node)) (lists : List (Ve
     (same : (m n : Node) → other_place e m ≡ other_place e n → place_of d m ≡ place_of d n)
     (moved : AreMoved e slots slots')
   where
-    moved_half : (y j : ℕ) (h : Half) → IsHalf d slots y j h → IsHalf d slots' y j h
+    moved_half : (y j : ℕ) (h : Half) → HalfNode d slots y j h → HalfNode d slots' y j h
     moved_half y j h s =
         let m = moved.forth h.key s.node s.here in
         record {
@@ -207,7 +206,7 @@ module _ (d e : Direction) (slots slots' : List (Option Node)) (lists : List (Ve
     pub halves_but_moved : (point place : ℕ) → AreHalvesBut d slots lists point place → AreHalvesBut d slots' lists point place
     halves_but_moved point place t = record {
       here = t.here;
-      stand = λ y j inside apart. moved_half y j (half_at (halves_at lists y) j) (t.stand y j inside apart);
+      stand = λ y j inside apart. half_of_node _ _ _ _ _ (moved_half y j (half_at (halves_at lists y) j) (stands _ _ _ _ _ (t.stand y j inside apart)));
       complete = λ k m is. moved_stands k m (t.complete k) is;
       apart = λ k m is near_is. (let n = moved.back k m is in λ e. t.apart k n.0 n.1 (ap (λ a. near d a) (sym n.3) ∙ near_is) (sym (same m n.0 n.4) ∙ e));
     }
@@ -256,6 +255,29 @@ module _ (d : Direction) (slots : List (Option Node)) (lists lists' : List (Vec 
               (omega (arith, before, shorter), ap (λ (h : Half). h.key) (stay (place_of d m) ne before) ∙ c')
         ]
 
+    -- it was the last
+    pub halves_taken_last : length (halves_at lists' p) ≤ q → AreHalves d slots lists'
+    halves_taken_last done = record {
+      stand = λ y j within.
+          elim (same_or y p) [
+            | inr ne ↦
+                subst (λ hs. IsHalf d slots y j (half_at hs j)) (sym (apart y ne))
+                (t.stand y j (subst (λ (hs : List Half). j < length hs) (apart y ne) within) (λ e. absurd (ne e)))
+            | inl e ↦
+                let within' : j < length (halves_at lists' p) = subst (λ z. j < length (halves_at lists' z)) e within in
+                let ne : j ≢ q = λ z. omega (arith, z, within', done) in
+                let before : j + 1 < length (halves_at lists p) = omega (arith, within', shorter) in
+                subst (λ z. IsHalf d slots z j (half_at (halves_at lists' z) j)) (sym e)
+                (subst (λ h. IsHalf d slots p j h) (sym (stay j ne before)) (t.stand p j (omega (arith, before)) (λ _. ne)))
+          ];
+      complete = λ k m is.
+          stayed k m is (λ e.
+          (let inside : place_of d m < length (halves_at lists p) = subst (λ y. place_of d m < length (halves_at lists y)) e (t.complete k m is).0 in
+          let ne = t.apart k m is e in
+          let here = t.here in
+          omega (arith, inside, ne, here, shorter, done)));
+    }
+
     -- the last one came to its place
     module _ (slots' : List (Option Node)) (key : ℕ) (n : Node)
         (inside : q < length (halves_at lists' p))
@@ -270,8 +292,8 @@ module _ (d : Direction) (slots : List (Option Node)) (lists lists' : List (Vec 
         late : q + 1 < length (halves_at lists p)
         late = omega (arith, inside, shorter)
 
-        last_half : IsHalf d slots p last (half_at (halves_at lists p) last)
-        last_half = t.stand p last (omega (arith, late)) (λ _ e. absurd (omega (arith, late, e)))
+        last_half : HalfNode d slots p last (half_at (halves_at lists p) last)
+        last_half = stands _ _ _ _ _ (t.stand p last (omega (arith, late)) (λ _ e. absurd (omega (arith, late, e))))
 
         last_key : (half_at (halves_at lists p) last).key ≡ key
         last_key = ap (λ (h : Half). h.key) (sym (moved late)) ∙ sym key_is
@@ -286,7 +308,7 @@ module _ (d : Direction) (slots : List (Option Node)) (lists lists' : List (Vec 
         n_place = ap (λ m. place_of d m) (sym last_node) ∙ last_half.at_place
 
         -- a half of another edge
-        other_half : (y j : ℕ) (h : Half) → (y ≡ p → j ≢ last) → IsHalf d slots y j h → IsHalf d slots' y j h
+        other_half : (y j : ℕ) (h : Half) → (y ≡ p → j ≢ last) → HalfNode d slots y j h → HalfNode d slots' y j h
         other_half y j h ne s = half_kept d slots slots' y j h
             (λ k is. others k (λ e.
             (let node : n ≡ s.node = same_Some n s.node (sym was ∙ ap (λ z. at_key slots z) (sym e ∙ is) ∙ s.here) in
@@ -294,9 +316,9 @@ module _ (d : Direction) (slots : List (Option Node)) (lists lists' : List (Vec 
             let j_is : j ≡ last = sym s.at_place ∙ ap (λ m. place_of d m) (sym node) ∙ n_place in
             ne y_is j_is))) s
 
-        came : IsHalf d slots' p q (half_at (halves_at lists' p) q)
+        came : HalfNode d slots' p q (half_at (halves_at lists' p) q)
         came =
-            subst (λ h. IsHalf d slots' p q h) (sym (moved late))
+            subst (λ h. HalfNode d slots' p q h) (sym (moved late))
             (record {
               node = placed d q n;
               here = ap (λ z. at_key slots' z) last_key ∙ now;
@@ -313,21 +335,20 @@ module _ (d : Direction) (slots : List (Option Node)) (lists lists' : List (Vec 
 
         pub halves_taken_moved : AreHalves d slots' lists'
         halves_taken_moved = record {
-          stand = λ y j within.
-              elim (same_or y p) [
-                | inr ne ↦
-                    subst (λ hs. IsHalf d slots' y j (half_at hs j)) (sym (apart y ne))
-                    (other_half y j (half_at (halves_at lists y) j) (λ e. absurd (ne e)) (t.stand y j (subst (λ (hs : List Half). j < length hs) (apart y ne) within) (λ e. absurd (ne e))))
-                | inl e ↦ subst (λ z. IsHalf d slots' z j (half_at (halves_at lists' z) j)) (sym e)
-                    (elim (same_or j q) [
-                      | inl here ↦ subst (λ z. IsHalf d slots' p z (half_at (halves_at lists' p) z)) (sym here) came
-                      | inr there ↦
-                          let within' : j < length (halves_at lists' p) = subst (λ z. j < length (halves_at lists' z)) e within in
-                          let before : j + 1 < length (halves_at lists p) = omega (arith, within', shorter) in
-                          subst (λ h. IsHalf d slots' p j h) (sym (stay j there before))
-                          (other_half p j (half_at (halves_at lists p) j) (λ _ z. absurd (omega (arith, before, z))) (t.stand p j (omega (arith, before)) (λ _. there)))
-                    ])
-              ];
+          stand = λ y j within. half_of_node _ _ _ _ _ (elim (same_or y p) [
+            | inr ne ↦
+                subst (λ hs. HalfNode d slots' y j (half_at hs j)) (sym (apart y ne))
+                (other_half y j (half_at (halves_at lists y) j) (λ e. absurd (ne e)) (stands _ _ _ _ _ (t.stand y j (subst (λ (hs : List Half). j < length hs) (apart y ne) within) (λ e. absurd (ne e)))))
+            | inl e ↦ subst (λ z. HalfNode d slots' z j (half_at (halves_at lists' z) j)) (sym e)
+                (elim (same_or j q) [
+                  | inl here ↦ subst (λ z. HalfNode d slots' p z (half_at (halves_at lists' p) z)) (sym here) came
+                  | inr there ↦
+                      let within' : j < length (halves_at lists' p) = subst (λ z. j < length (halves_at lists' z)) e within in
+                      let before : j + 1 < length (halves_at lists p) = omega (arith, within', shorter) in
+                      subst (λ h. HalfNode d slots' p j h) (sym (stay j there before))
+                      (other_half p j (half_at (halves_at lists p) j) (λ _ z. absurd (omega (arith, before, z))) (stands _ _ _ _ _ (t.stand p j (omega (arith, before)) (λ _. there))))
+                ])
+          ]);
           complete = λ k m is.
               elim (same_or k key) [
                 | inl e ↦
@@ -350,7 +371,7 @@ pub came_node : (d : Direction) (slots : List (Option Node)) (lists lists' : Lis
     → q < length (halves_at lists' p) → key ≡ (half_at (halves_at lists' p) q).key → (n : Node) × (at_key slots key ≡ Some n)
 came_node d slots lists lists' p q key t shorter moved inside key_is =
     let late : q + 1 < length (halves_at lists p) = omega (arith, inside, shorter) in
-    let s = t.stand p (length (halves_at lists p) - 1) (omega (arith, late)) (λ _ e. absurd (omega (arith, late, e))) in
+    let s = stands _ _ _ _ _ (t.stand p (length (halves_at lists p) - 1) (omega (arith, late)) (λ _ e. absurd (omega (arith, late, e)))) in
     (s.node, ap (λ z. at_key slots z) (key_is ∙ ap (λ (h : Half). h.key) (moved late)) ∙ s.here)
 
 weighed_near : (d : Direction) (name : Edge) (w : ℤ) (n : Node) → near d (weighed name w n).arc ≡ near d n.arc
@@ -381,14 +402,14 @@ module _ (d : Direction) (slots slots' : List (Option Node)) (lists lists' : Lis
     was_in : (place_of d n < length (halves_at lists (near d n.arc))) × ((half_at (halves_at lists (near d n.arc)) (place_of d n)).key ≡ key)
     was_in = t.complete key n was
 
-    was_half : IsHalf d slots (near d n.arc) (place_of d n) (half_at (halves_at lists (near d n.arc)) (place_of d n))
-    was_half = t.stand (near d n.arc) (place_of d n) was_in.0
+    was_half : HalfNode d slots (near d n.arc) (place_of d n) (half_at (halves_at lists (near d n.arc)) (place_of d n))
+    was_half = stands _ _ _ _ _ (t.stand (near d n.arc) (place_of d n) was_in.0)
 
     was_node : was_half.node ≡ n
     was_node = same_Some was_half.node n (sym was_half.here ∙ ap (λ z. at_key slots z) was_in.1 ∙ was)
 
-    weighed_half : IsHalf d slots' (near d n.arc) (place_of d n) (half_at (halves_at lists' (near d n.arc)) (place_of d n))
-    weighed_half = subst (λ h. IsHalf d slots' (near d n.arc) (place_of d n) h) (sym here)
+    weighed_half : HalfNode d slots' (near d n.arc) (place_of d n) (half_at (halves_at lists' (near d n.arc)) (place_of d n))
+    weighed_half = subst (λ h. HalfNode d slots' (near d n.arc) (place_of d n) h) (sym here)
         (record {
           node = weighed name w n;
           here = ap (λ z. at_key slots' z) was_in.1 ∙ now;
@@ -398,10 +419,10 @@ module _ (d : Direction) (slots slots' : List (Option Node)) (lists lists' : Lis
           at_place = weighed_place d name w n;
         })
 
-    same_half : (y j : ℕ) → j < length (halves_at lists y) → (y ≡ near d n.arc → j ≢ place_of d n) → IsHalf d slots' y j (half_at (halves_at lists' y) j)
-    same_half y j inside apart = subst (λ h. IsHalf d slots' y j h) (sym (stay y j apart))
+    same_half : (y j : ℕ) → j < length (halves_at lists y) → (y ≡ near d n.arc → j ≢ place_of d n) → HalfNode d slots' y j (half_at (halves_at lists' y) j)
+    same_half y j inside apart = subst (λ h. HalfNode d slots' y j h) (sym (stay y j apart))
         (let h = half_at (halves_at lists y) j in
-        let s = t.stand y j inside in
+        let s = stands _ _ _ _ _ (t.stand y j inside) in
         half_kept d slots slots' y j h
         (λ k is. others k (λ e.
         (let node : n ≡ s.node = same_Some n s.node (sym was ∙ ap (λ z. at_key slots z) (sym e ∙ is) ∙ s.here) in
@@ -409,15 +430,14 @@ module _ (d : Direction) (slots slots' : List (Option Node)) (lists lists' : Lis
 
     pub halves_weighed : AreHalves d slots' lists'
     halves_weighed = record {
-      stand = λ y j inside'.
-          let inside : j < length (halves_at lists y) = omega (arith, inside', lens y) in
+      stand = λ y j inside'. half_of_node _ _ _ _ _ (let inside : j < length (halves_at lists y) = omega (arith, inside', lens y) in
           elim (same_or y (near d n.arc)) [
             | inr ne ↦ same_half y j inside (λ e. absurd (ne e))
             | inl e ↦ elim (same_or j (place_of d n)) [
               | inr ne ↦ same_half y j inside (λ _. ne)
-              | inl i ↦ subst (λ z. IsHalf d slots' z j (half_at (halves_at lists' z) j)) (sym e) (subst (λ z. IsHalf d slots' (near d n.arc) z (half_at (halves_at lists' (near d n.arc)) z)) (sym i) weighed_half)
+              | inl i ↦ subst (λ z. HalfNode d slots' z j (half_at (halves_at lists' z) j)) (sym e) (subst (λ z. HalfNode d slots' (near d n.arc) z (half_at (halves_at lists' (near d n.arc)) z)) (sym i) weighed_half)
             ]
-          ];
+          ]);
       complete = λ k m is.
           elim (same_or k key) [
             | inl e ↦

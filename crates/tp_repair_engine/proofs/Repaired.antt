@@ -1,5 +1,5 @@
 -- What holds of a network that is repaired holds of the plain one, and after each change.
-use Rattle.std.proofs.Common.{◌≡◌, ◌≢◌, ℕ, ◌+◌, ◌*◌, ◌<◌, ◌≤◌, ◌^◌, inl, inr, cond, List, length, refl, sym, ◌∙◌, ap, subst, arith}
+use Rattle.std.proofs.Common.{◌≡◌, ◌≢◌, ℕ, ◌+◌, ◌*◌, ◌<◌, ◌≤◌, ◌^◌, inl, inr, zero, suc, get_or, cond, List, length, refl, sym, ◌∙◌, ap, subst, arith}
 use Rattle.std.specs.Prelude.{All, Option, Some, None, slice_index_or}
 use Rattle.std.specs.Ordering.{nat_cmp}
 use Rattle.std.specs.BTreeMap.{BTreeMap, is_at}
@@ -23,12 +23,12 @@ use Rattle.tp_net.specs.Kept.{IsKept}
 use Rattle.tp_net.specs.Moments.{HoldsLeast}
 use Rattle.tp_net.proofs.Spreads.{same_or}
 use Rattle.tp_net.proofs.Laws.{get_inserted, get_insert_other, key_itself, other_key}
-use Rattle.tp_net.proofs.KeptMoments.{kept_small_low, kept_small_high, kept_weights, kept_among, fit_added, still_there, own_or}
+use Rattle.tp_net.proofs.KeptMoments.{kept_low_fits, kept_high_fits, kept_small_low, kept_small_high, kept_weights, kept_among, fit_added, still_there, own_or}
 use Rattle.tp_repair_engine.specs.declared.store.Node.{Node}
 use Rattle.tp_repair_engine.specs.declared.engine.Engine.{Engine}
 use Rattle.tp_repair_engine.specs.Store.{arcs_of, names_of, kept_arcs}
 use Rattle.tp_repair_engine.specs.Kept.{IsUnder, AreNodes}
-use Rattle.tp_repair_engine.specs.Engine.{IsWired, AreSame, IsEntered, IsRepaired}
+use Rattle.tp_repair_engine.specs.Engine.{IsWired, IsSolved, AreSame, IsEntered, IsRepaired}
 use Rattle.tp_repair_engine.specs.Bringing.{IsUnbrought, IsBroughtIn}
 use Rattle.tp_repair_engine.proofs.Nodes.{nodes_listed, exact_kept, all_arcs, exact_alike}
 use Rattle.tp_repair_engine.proofs.Wires.{entered_node, same_there, same_back}
@@ -63,6 +63,17 @@ module _ (s : Setting) (count : ℕ) (keys : BTreeMap ℕ ℕ) (floors ends : Li
 
   pub wired_here : IsWired (length g.low.items) (count + 2 * event_count s) g
   wired_here = subst (λ p. IsWired p (count + 2 * event_count s) g) (sym r.wired.low_len) r.wired
+
+  pub low_fits : (x : ℕ) → x < length g.low.items → get_or g.low.items x 0 < 2 ^ 32
+  low_fits zero within = let o = r.exact.least.solution.0 in omega (arith, ints, o)
+  low_fits (suc e) within = kept_low_fits s (names_of g.store.nodes.slots) (kept_arcs g.store.nodes.slots) g.low.items g.high.items kept e (let p = r.wired.low_len in omega (arith, within, p))
+
+  pub high_fits : (x : ℕ) → x < length g.high.items → get_or g.high.items x 0 < 2 ^ 32
+  high_fits zero within = let o = r.exact.greatest.solution.0 in omega (arith, ints, o)
+  high_fits (suc e) within = kept_high_fits s (names_of g.store.nodes.slots) (kept_arcs g.store.nodes.slots) g.low.items g.high.items kept e (let p = r.wired.high_len in omega (arith, within, p))
+
+  pub solved : IsSolved g
+  solved = record { edges = count + 2 * event_count s; wired = wired_here; exact = r.exact; holds = holds_least; low_fits = low_fits; high_fits = high_fits }
 
 -- ---- where each edge has its key
 

@@ -14,7 +14,7 @@ use Rattle.std.specs.Prelude.{Option, Some, None}
 use Rattle.tp_repair_engine.specs.declared.store.Node.{Node}
 use Rattle.tp_repair_engine.specs.declared.store.Store.{Store}
 use Rattle.tp_repair_engine.specs.Store.{arcs_of, near, place_of, lists_of, halves_at, half_at, keys_of, HasNode, AreHalves}
-use Rattle.tp_repair_engine.proofs.Stores.{along_is, along_to, key_at, keys_len, arc_is, link_near, arc_free}
+use Rattle.tp_repair_engine.proofs.Stores.{along_is, along_to, key_at, keys_len, stands, arc_is, link_near, arc_free}
 use Rattle.tp_net.proofs.Spreads.{same_or, below_or}
 
 pub links_len : (d : Direction) (m : ℕ → ℕ) (arcs : List Arc) → length (links_of d m arcs) ≡ length arcs
@@ -157,7 +157,7 @@ parents_there d m s start points looks seed amounts ranks parents t others f x n
       | inr source ↦
           let y = (link_of d m (arc_at (arcs_of s.nodes.slots) (get_or parents x 0))).to in
           let hs = halves_at (lists_of d s) y in
-          let h = t.stand y source.place (let l = source.within in omega (arith, l, keys_len hs)) in
+          let h = stands _ _ _ _ _ (t.stand y source.place (let l = source.within in omega (arith, l, keys_len hs))) in
           (h.node, ap (λ k. slice_index_or s.nodes.slots k None) (sym source.listed ∙ key_at hs source.place) ∙ h.here)
     ]
 

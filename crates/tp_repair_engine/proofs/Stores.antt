@@ -16,7 +16,10 @@ use Rattle.tp_repair_engine.specs.declared.store.Half.{Half}
 use Rattle.tp_repair_engine.specs.declared.store.Direction.{Direction}
 use Rattle.tp_repair_engine.specs.declared.store.Direction.TheVariants.{Up, Down}
 use Rattle.tp_repair_engine.specs.Flow.{link_of}
-use Rattle.tp_repair_engine.specs.Store.{arcs_of, arc_in, near, far_end, arc_along, half_at, no_half, halves_at, keys_in, IsHalf, AreHalves}
+use Rattle.tp_repair_engine.specs.Store.{arcs_of, arc_in, near, far_end, arc_along, half_at, no_half, halves_at, keys_in, place_of, lists_of, IsHalfOf, IsHalf, AreHalves}
+use Rattle.tp_repair_engine.specs.declared.store.Store.{Store}
+use Rattle.tp_repair_engine.specs.Potential.{IsPotential, IsAlong}
+use Rattle.tp_net.specs.Graph.{MeetsArc, moment}
 
 -- a node's arc is the arc under its key
 pub arc_is : (slots : List (Option Node)) (k : ℕ) (n : Node) → slice_index_or slots k None ≡ Some n → (k < length (arcs_of slots)) × (arc_at (arcs_of slots) k ≡ n.arc)
@@ -65,10 +68,39 @@ same_along : (d : Direction) (point : ℕ) (h : Half) (e : Arc) → h.far ≡ fa
 same_along Up point h e f w n = arc_eq (arc_along Up point h) e f (sym n) w
 same_along Down point h e f w n = arc_eq (arc_along Down point h) e (sym n) f w
 
+-- the edge for which a half stands
+pub record HalfNode (d : Direction) (slots : List (Option Node)) (point place : ℕ) (h : Half) : Type 0 where
+  pub node : Node
+  pub here : slice_index_or slots h.key None ≡ Some node
+  pub far : h.far ≡ far_end d node.arc
+  pub weight : h.weight ≡ node.arc.weight
+  pub near_point : near d node.arc ≡ point
+  pub at_place : place_of d node ≡ place
+
+some_node : (o : Option Node) → o ≢ None → (n : Node) × (o ≡ Some n)
+some_node None there = absurd (there refl)
+some_node (Some n) there = (n, refl)
+
+pub stands : (d : Direction) (slots : List (Option Node)) (point place : ℕ) (h : Half) → IsHalf d slots point place h → HalfNode d slots point place h
+stands d slots point place h s =
+    let n = some_node (slice_index_or slots h.key None) s.there in
+    let e : IsHalfOf d n.0 point place h = s.each n.0 n.1 in
+    record { node = n.0; here = n.1; far = e.far; weight = e.weight; near_point = e.near_point; at_place = e.at_place }
+
+pub half_of_node : (d : Direction) (slots : List (Option Node)) (point place : ℕ) (h : Half) → HalfNode d slots point place h → IsHalf d slots point place h
+half_of_node d slots point place h s = record {
+  there = λ none. none-some s.node (sym none ∙ s.here);
+  each = λ n is.
+      (let both : Some s.node ≡ Some n = sym s.here ∙ is in
+      let it : s.node ≡ n = cc in
+      subst (λ (x : Node). IsHalfOf d x point place h) it (record { far = s.far; weight = s.weight; near_point = s.near_point; at_place = s.at_place }));
+}
+
 -- a half stands for the arc under its key
 pub along_is : (d : Direction) (slots : List (Option Node)) (point place : ℕ) (h : Half) → IsHalf d slots point place h
     → (h.key < length (arcs_of slots)) × (arc_along d point h ≡ arc_at (arcs_of slots) h.key)
-along_is d slots point place h s =
+along_is d slots point place h half =
+    let s = stands d slots point place h half in
     let a = arc_is slots h.key s.node s.here in (
       a.0,
       same_along d point h s.node.arc s.far s.weight s.near_point ∙ sym a.1,
@@ -96,15 +128,32 @@ pub weight_along : (d : Direction) (y : ℕ) (h : Half) → (arc_along d y h).we
 weight_along Up y h = refl
 weight_along Down y h = refl
 
--- what `relax` asks of a list
-pub list_far : (d : Direction) (n y : ℕ) (hs : List Half) → All (λ h. JoinsPoints n (arc_along d y h)) hs → All (λ h. h.far < n) hs
-list_far d n y hs all = λ j e inside. far_within d n y (slice_index_or hs j e) (all j e inside)
-
-pub list_weights : (d : Direction) (y : ℕ) (hs : List Half) → All (λ h. IsSmallWeight (arc_along d y h).weight) hs → All (λ h. IsSmallWeight h.weight) hs
-list_weights d y hs all = λ j e inside. subst IsSmallWeight (weight_along d y (slice_index_or hs j e)) (all j e inside)
-
 pub all_three : (P Q R : Arc → Type 0) (arcs : List Arc) → All (λ e. P e × Q e × R e) arcs → All P arcs × All Q arcs × All R arcs
 all_three P Q R arcs all = (λ k d inside. (all k d inside).0, λ k d inside. (all k d inside).1, λ k d inside. (all k d inside).2)
+
+-- what holds of the edges of a potential
+module _ (s : Store) (moments : List ℕ) (p : IsPotential s moments) where
+  all : All (JoinsPoints (length moments)) (arcs_of s.nodes.slots) × All (λ (e : Arc). IsSmallWeight e.weight) (arcs_of s.nodes.slots) × All (MeetsArc (moment moments)) (arcs_of s.nodes.slots)
+  all = all_three (JoinsPoints (length moments)) (λ e. IsSmallWeight e.weight) (MeetsArc (moment moments)) (arcs_of s.nodes.slots) p.arcs
+
+  pub arcs_among : All (JoinsPoints (length moments)) (arcs_of s.nodes.slots)
+  arcs_among = all.0
+
+  pub arcs_weigh : All (λ (e : Arc). IsSmallWeight e.weight) (arcs_of s.nodes.slots)
+  arcs_weigh = all.1
+
+  pub arcs_met : All (MeetsArc (moment moments)) (arcs_of s.nodes.slots)
+  arcs_met = all.2
+
+  -- the edges in the list of a point are met
+  pub list_along : (d : Direction) (y : ℕ) → All (IsAlong moments d y) (halves_at (lists_of d s) y)
+  list_along d y =
+      let far = halves_have d (JoinsPoints (length moments)) s.nodes.slots (lists_of d s) y (p.halves d) arcs_among in
+      let weights = halves_have d (λ e. IsSmallWeight e.weight) s.nodes.slots (lists_of d s) y (p.halves d) arcs_weigh in
+      let met = halves_have d (MeetsArc (moment moments)) s.nodes.slots (lists_of d s) y (p.halves d) arcs_met in
+      λ j e inside.
+      (let h = slice_index_or (halves_at (lists_of d s) y) j e in
+      record { far = far_within d (length moments) y h (far j e inside); weight = subst IsSmallWeight (weight_along d y h) (weights j e inside); met = met j e inside })
 
 -- a list that was written
 pub halves_written : (lists : List (Vec Half Global)) (p : ℕ) (v : Vec Half Global) → p < length lists → halves_at (set lists p v) p ≡ v.items

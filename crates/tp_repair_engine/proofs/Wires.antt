@@ -1,11 +1,15 @@
 -- The lists and the arcs of a network after an edge came or went.
 use Rattle.std.proofs.Common.{◌≡◌, ℕ, zero, suc, ◌+◌, ◌-◌, ◌<◌, inl, inr, List, [], ◌∷◌, ◌++◌, length, get_or, refl, sym, ◌∙◌, ap, subst, arith}
-use Rattle.std.specs.Prelude.{Option, Some, None, slice_index_or, ℤ}
+use Rattle.std.specs.Prelude.{All, Option, Some, None, slice_index_or, ℤ, ◌^◌}
+use Rattle.std.proofs.lemmas.List.{get_or_default}
+use Rattle.std.specs.declared.alloc.Global.{Global}
+use Rattle.std.specs.declared.vec.Vec.{Vec}
 use Rattle.std.proofs.lemmas.Option.{none-some}
 use Rattle.tp_bounds.specs.declared.Edge.{Edge}
 use Rattle.tp_net.specs.declared.slacks.Arc.{Arc}
-use Rattle.tp_net.specs.Graph.{IsSolution, MeetsArc}
-use Rattle.tp_net.specs.Moments.{AreExact}
+use Rattle.tp_net.specs.Graph.{IsSolution, MeetsArc, moment}
+use Rattle.tp_net.specs.Sizes.{IsSmall, IsSmallWeight}
+use Rattle.tp_net.specs.Moments.{AreExact, IsStart}
 use Rattle.tp_net.proofs.Spreads.{same_or}
 use Rattle.tp_net.proofs.Additions.{with_new, without_new}
 use Rattle.tp_repair_engine.specs.declared.store.Node.{Node}
@@ -16,8 +20,9 @@ use Rattle.tp_repair_engine.specs.declared.store.Direction.TheVariants.{Up, Down
 use Rattle.tp_repair_engine.specs.declared.engine.Engine.{Engine}
 use Rattle.tp_repair_engine.specs.Store.{arcs_of, keys_of, near, one_at, AreHalves, SamePoints, IsNode}
 use Rattle.tp_repair_engine.specs.Flow.{sum_to}
-use Rattle.tp_repair_engine.specs.Work.{Rises, Falls}
-use Rattle.tp_repair_engine.specs.Engine.{IsWired, AreSame, IsEntered}
+use Rattle.tp_repair_engine.specs.Work.{Rises, Falls, IsIdle}
+use Rattle.tp_repair_engine.specs.Engine.{IsWired, IsSolved, MayLeave, AreSame, IsEntered}
+use Rattle.tp_repair_engine.specs.Potential.{IsPotential, IsMetBy}
 use Rattle.tp_repair_engine.proofs.Nodes.{solution_by_key, key_met, least_alike, greatest_alike}
 use Rattle.tp_repair_engine.proofs.Halves.{one_here, one_there}
 
@@ -159,3 +164,66 @@ wired_looks p edges looks g store w = record {
   many_down = w.many_down;
   few = w.few;
 }
+
+-- moments that meet the edges, with the lists of an engine
+pub wired_potential : (edges : ℕ) (g : Engine) (moments : List ℕ) → IsWired (length moments) edges g → All IsSmall moments → All (λ (e : Arc). IsSmallWeight e.weight) (arcs_of g.store.nodes.slots)
+    → All (JoinsPoints (length moments)) (arcs_of g.store.nodes.slots) → IsSolution (arcs_of g.store.nodes.slots) (moment moments) → IsPotential g.store moments
+wired_potential edges g moments w small weights among met = record {
+  some = w.some;
+  small = small;
+  arcs = λ k e within. (among k e within, weights k e within, met.1 k e within);
+  lists = elim [ Up ↦ w.into_len | Down ↦ w.out_len ];
+  halves = elim [ Up ↦ w.halves_in | Down ↦ w.halves_out ];
+  few = elim [ Up ↦ (let m = w.many_up in let f = w.few in omega (arith, m, f)) | Down ↦ (let m = w.many_down in let f = w.few in omega (arith, m, f)) ];
+}
+
+module _ (g : Engine) (s : IsSolved g) where
+  pub small_of : (moments : List ℕ) → ((x : ℕ) → x < length moments → get_or moments x 0 < 2 ^ 32) → All IsSmall moments
+  small_of moments fits = λ x d within. (let f = fits x within in let e = get_or_default moments x d 0 within in omega (arith, f, e))
+
+  pub high_small : All IsSmall g.high.items
+  high_small = small_of g.high.items s.high_fits
+
+  pub low_potential : IsPotential g.store g.low.items
+  low_potential = wired_potential s.edges g g.low.items s.wired s.holds.small s.holds.weights s.holds.among s.holds.least.solution
+
+  pub high_potential : IsPotential g.store g.high.items
+  high_potential =
+      let len = s.exact.len in
+      wired_potential s.edges g g.high.items (subst (λ n. IsWired n s.edges g) len s.wired) high_small s.holds.weights
+      (subst (λ n. All (JoinsPoints n) (arcs_of g.store.nodes.slots)) len s.holds.among) s.exact.greatest.solution
+
+-- what is known of moments from which others can be worked out
+pub start_potential : (edges amount : ℕ) (g : Engine) (moments : List ℕ) → IsWired (length moments) edges g → IsStart (arcs_of g.store.nodes.slots) moments amount → IsPotential g.store moments
+start_potential edges amount g moments w s = wired_potential edges g moments w s.small s.weights s.among s.solution
+
+-- an edge that may leave is met
+pub leaving_met : (key amount : ℕ) (g : Engine) (may : MayLeave key amount g) (n : Node) → slice_index_or g.store.nodes.slots key None ≡ Some n
+    → (moments : List ℕ) → length g.low.items ≡ length moments → IsSolution (arcs_of g.store.nodes.slots) (moment moments) → IsMetBy moments n.arc
+leaving_met key amount g may n at moments len met =
+    let both : Some may.node ≡ Some n = sym may.here ∙ at in
+    let it : may.node ≡ n = cc in (
+      subst (λ k. JoinsPoints k n.arc) len (subst (λ (x : Node). JoinsPoints (length g.low.items) x.arc) it may.joins),
+      subst (λ (x : Node). IsSmallWeight x.arc.weight) it may.weight,
+      key_met g.store.nodes.slots (moment moments) key n at met,
+    )
+
+-- the lists are right where nothing but the room has changed
+pub wired_room : (p edges : ℕ) (g t : Engine) → IsWired p edges g → t.store ≡ g.store → t.low ≡ g.low → t.high ≡ g.high → IsIdle p t.up → IsIdle p t.down → IsWired p edges t
+wired_room p edges g t w store low high up down = record {
+  some = w.some;
+  low_len = ap (λ (v : Vec ℕ Global). length v.items) low ∙ w.low_len;
+  high_len = ap (λ (v : Vec ℕ Global). length v.items) high ∙ w.high_len;
+  into_len = ap (λ (s : Store). length s.into.items) store ∙ w.into_len;
+  out_len = ap (λ (s : Store). length s.out.items) store ∙ w.out_len;
+  halves_in = subst (λ (s : Store). AreHalves Up s.nodes.slots s.into.items) (sym store) w.halves_in;
+  halves_out = subst (λ (s : Store). AreHalves Down s.nodes.slots s.out.items) (sym store) w.halves_out;
+  up = up;
+  down = down;
+  many_up = ap (λ (s : Store). sum_to (λ y. length (keys_of Up s y)) p) store ∙ w.many_up;
+  many_down = ap (λ (s : Store). sum_to (λ y. length (keys_of Down s y)) p) store ∙ w.many_down;
+  few = w.few;
+}
+
+pub same_itself : (slots : List (Option Node)) → AreSame slots slots
+same_itself slots = record { forth = λ k n is. (n, is, refl, refl); back = λ k n is. (n, is, refl, refl) }

@@ -17,6 +17,10 @@ AsksUpto upto fixed lags now x m =
 abbrev pub AsksFloor : List (Option ℕ) → List ℕ → ℕ → ℕ → ℕ → Type 0
 AsksFloor fixed lags now x m = AsksUpto (length fixed) fixed lags now x m
 
+-- a moment for the origin and one for each event
+abbrev pub HaveMoments : List (Option ℕ) → List ℕ → Type 0
+HaveMoments fixed low = (length fixed ≤ 1024) × (length low ≡ suc (length fixed))
+
 -- each point has by how much what is asked of it passes its least moment
 pub record AreOffered (asks : ℕ → ℕ → Type 0) (low : List ℕ) (w : Work) : Type 0 where
   pub ready : IsReady (length low) w

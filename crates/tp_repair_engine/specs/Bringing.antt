@@ -28,6 +28,10 @@ IsMore arc old new =
     (d : Direction) (y : ℕ)
     → length (keys_of d new y) ≡ length (keys_of d old y) + one_at (near d arc) y
 
+-- neither a bound nor a key stands under an identifier
+abbrev pub IsFree : ℕ → BTreeMap ℕ Bound → BTreeMap ℕ ℕ → Type 0
+IsFree id bounds keys = (get nat_cmp bounds id ≡ None) × (get nat_cmp keys id ≡ None)
+
 -- a bound and a key stand under an identifier
 pub record IsRecorded (id : ℕ) (bound : Bound) (key : ℕ) (bounds bounds' : BTreeMap ℕ Bound)
     (keys keys' : BTreeMap ℕ ℕ) : Type 0 where

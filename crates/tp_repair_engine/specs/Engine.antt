@@ -1,22 +1,26 @@
 -- A network as arcs under keys, with the moments that they leave.
-use Rattle.std.specs.Prelude.{◌≡◌, ◌≢◌, ℕ, suc, ◌+◌, ◌*◌, ◌<◌, ◌≤◌, ◌^◌, List, length, ◌⊎◌, ◌+ℤ◌, ◌<ℤ◌, Option, Some, None, slice_index_or}
+use Rattle.std.specs.Prelude.{◌≡◌, ◌≢◌, ℕ, suc, ◌+◌, ◌*◌, ◌<◌, ◌≤◌, ◌^◌, List, length, ◌⊎◌, ◌+ℤ◌, ◌-ℤ◌, ◌<ℤ◌, ◌≤ℤ◌, pos, Option, Some, None, slice_index, slice_index_or}
 use Rattle.std.specs.Ordering.{nat_cmp}
 use Rattle.std.specs.BTreeMap.{BTreeMap}
 use Rattle.std.specs.BTreeMap as tree
 use Rattle.std.specs.FinMap as map
 use Rattle.tp_bounds.specs.declared.Edge.{Edge}
+use Rattle.tp_bounds.specs.declared.Edge.TheVariants.{Now, End}
 use Rattle.tp_bounds.specs.Setting.{Setting, event_count}
 use Rattle.tp_net.specs.declared.slacks.Arc.{Arc}
 use Rattle.tp_net.specs.Graph.{moment}
-use Rattle.tp_net.specs.Moments.{AreExact}
+use Rattle.tp_net.specs.Sizes.{IsSmallWeight}
+use Rattle.tp_net.specs.Slacks.{JoinsPoints}
+use Rattle.tp_net.specs.Moments.{AreExact, HoldsLeast, IsStart}
 use Rattle.tp_net.specs.Kept.{IsFit}
 use Rattle.tp_repair_engine.specs.declared.store.Node.{Node}
 use Rattle.tp_repair_engine.specs.declared.engine.Engine.{Engine}
 use Rattle.tp_repair_engine.specs.declared.store.Direction.TheVariants.{Up, Down}
-use Rattle.tp_repair_engine.specs.Store.{arcs_of, keys_of, near, one_at, AreHalves, IsNode, KeepsOthers}
+use Rattle.tp_repair_engine.specs.Store.{arcs_of, kept_arcs, keys_of, near, one_at, AreHalves, IsNode, KeepsOthers}
 use Rattle.tp_repair_engine.specs.declared.store.Direction.{Direction}
 use Rattle.tp_repair_engine.specs.Flow.{sum_to}
 use Rattle.tp_repair_engine.specs.Work.{IsIdle}
+use Rattle.tp_repair_engine.specs.Slots.{left_slots}
 use Rattle.tp_repair_engine.specs.Kept.{AreNodes}
 use Rattle.tp_repair_engine.specs.Costs.{AreCountedEdges, SameDegrees}
 
@@ -34,6 +38,15 @@ pub record IsWired (points edges : ℕ) (g : Engine) : Type 0 where
   pub many_up : sum_to (λ y. length (keys_of Up g.store y)) points ≡ edges
   pub many_down : sum_to (λ y. length (keys_of Down g.store y)) points ≡ edges
   pub few : edges < 2 ^ 61
+
+-- the lists are right, and the moments are the least and the greatest that meet the edges
+pub record IsSolved (g : Engine) : Type 0 where
+  pub edges : ℕ
+  pub wired : IsWired (length g.low.items) edges g
+  pub exact : AreExact (arcs_of g.store.nodes.slots) g.low.items g.high.items
+  pub holds : HoldsLeast (arcs_of g.store.nodes.slots) g.low.items
+  pub low_fits : (x : ℕ) → x < length g.low.items → slice_index g.low.items x < 2 ^ 32
+  pub high_fits : (x : ℕ) → x < length g.high.items → slice_index g.high.items x < 2 ^ 32
 
 -- under each key there is an edge of the name and the arc that it had, or none as before
 pub record AreSame (old new : List (Option Node)) : Type 0 where
@@ -97,6 +110,36 @@ pub record IsLeft (key : ℕ) (g g' : Engine) : Type 0 where
       (n : Node) → slice_index_or g.store.nodes.slots key None ≡ Some n → (d : Direction) (y : ℕ)
       → length (keys_of d g'.store y) + one_at (near d n.arc) y ≡ length (keys_of d g.store y)
   pub exact : AreExact (arcs_of g'.store.nodes.slots) g'.low.items g'.high.items
+
+-- an edge may leave: from the moments those without it can be worked out
+pub record MayLeave (key amount : ℕ) (g : Engine) : Type 0 where
+  pub node : Node
+  pub here : slice_index_or g.store.nodes.slots key None ≡ Some node
+  pub joins : JoinsPoints (length g.low.items) node.arc
+  pub weight : IsSmallWeight node.arc.weight
+  pub low : IsStart (kept_arcs (left_slots key g.store.nodes.slots)) g.low.items amount
+  pub high : IsStart (kept_arcs (left_slots key g.store.nodes.slots)) g.high.items amount
+  pub positive : 0 < amount
+  pub amount_fits : amount < 2 ^ 32
+
+-- the moment is in the window of an event
+pub record IsInWindow (e moment : ℕ) (g : Engine) : Type 0 where
+  pub point : suc e < length g.low.items
+  pub above : slice_index g.low.items (suc e) ≤ moment
+  pub below : moment ≤ slice_index g.high.items (suc e)
+
+-- the floor and the end of an event stand under these keys, and under no others; both let it happen
+-- at the moment
+pub record AreFloorAndEnd (e moment floor_key end_key : ℕ) (slots : List (Option Node)) : Type 0
+  where
+    pub floor : (n : Node) × (slice_index_or slots floor_key None ≡ Some n) × (n.name ≡ Now e)
+        × (n.arc.from ≡ suc e) × (n.arc.to ≡ 0) × ((pos 0 -ℤ pos moment) ≤ℤ n.arc.weight)
+    pub end : (n : Node) × (slice_index_or slots end_key None ≡ Some n) × (n.name ≡ End e)
+        × (n.arc.from ≡ 0) × (n.arc.to ≡ suc e) × (pos moment ≤ℤ n.arc.weight)
+    pub only_floor : (k : ℕ) (n : Node) → slice_index_or slots k None ≡ Some n → n.name ≡ Now e
+        → k ≡ floor_key
+    pub only_end : (k : ℕ) (n : Node) → slice_index_or slots k None ≡ Some n → n.name ≡ End e
+        → k ≡ end_key
 
 -- an edge that is tight neither at the least moments nor at the greatest ones
 abbrev pub IsLoose : List ℕ → List ℕ → Arc → Type 0

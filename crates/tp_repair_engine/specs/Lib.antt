@@ -1,4 +1,5 @@
 pub mod Flow
+pub mod Potential
 pub mod Store
 pub mod Queue
 pub mod Work

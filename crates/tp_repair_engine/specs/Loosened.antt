@@ -1,9 +1,11 @@
 -- Where moments go back to when an edge that held them leaves.
-use Rattle.std.specs.Prelude.{◌≡◌, ◌⊎◌, ℕ, ◌+◌, ◌<◌, ◌≤◌, List, length, slice_index, ℤ, ◌+ℤ◌, ◌≤ℤ◌, ◌<ℤ◌}
+use Rattle.std.specs.Prelude.{◌≡◌, ◌⊎◌, ℕ, ◌+◌, ◌<◌, ◌≤◌, ◌^◌, List, length, slice_index, ℤ, ◌+ℤ◌, ◌≤ℤ◌, ◌<ℤ◌}
 use Rattle.std.specs.BinaryHeap.{heap_items}
 use Rattle.tp_net.specs.declared.slacks.Arc.{Arc}
 use Rattle.tp_net.specs.Graph.{IsSolution, moment, arc_at}
 use Rattle.tp_net.specs.Links.{MeetsLink}
+use Rattle.tp_net.specs.Moments.{IsStart}
+use Rattle.tp_repair_engine.specs.Potential.{IsMetBy}
 use Rattle.tp_repair_engine.specs.declared.flow.Work.{Work}
 use Rattle.tp_repair_engine.specs.declared.store.Half.{Half}
 use Rattle.tp_repair_engine.specs.declared.store.Store.{Store}
@@ -18,6 +20,14 @@ use Rattle.tp_repair_engine.specs.Work.{HasPlaces, IsOrder}
 abbrev pub turned : Direction → Direction
 turned Up = Down
 turned Down = Up
+
+-- an arc that the moments met has left: they are at less than the amount from the origin, so those
+-- that the others leave can be worked out from them
+pub record HasLost (arcs : List Arc) (moments : List ℕ) (arc : Arc) (amount : ℕ) : Type 0 where
+  pub start : IsStart arcs moments amount
+  pub met : IsMetBy moments arc
+  pub positive : 0 < amount
+  pub fits : amount < 2 ^ 41
 
 -- the most that a point has by the halves in its list that lead to points that are not marked, which have the amount
 pub record IsBest (d : Direction) (m marks : ℕ → ℕ) (amount point : ℕ) (halves : List Half)

@@ -70,15 +70,18 @@ lists_of Down s = s.out.items
 abbrev pub keys_of : Direction → Store → ℕ → List ℕ
 keys_of d s y = keys_in (halves_at (lists_of d s) y)
 
--- the half stands for the edge under its key, which is near the point and knows this place
-pub record IsHalf (d : Direction) (slots : List (Option Node)) (point place : ℕ)
-    (h : Half) : Type 0 where
-  pub node : Node
-  pub here : slice_index_or slots h.key None ≡ Some node
+-- the half is that of an edge, which is near the point and knows this place
+pub record IsHalfOf (d : Direction) (node : Node) (point place : ℕ) (h : Half) : Type 0 where
   pub far : h.far ≡ far_end d node.arc
   pub weight : h.weight ≡ node.arc.weight
   pub near_point : near d node.arc ≡ point
   pub at_place : place_of d node ≡ place
+
+-- the half stands for the edge under its key
+pub record IsHalf (d : Direction) (slots : List (Option Node)) (point place : ℕ)
+    (h : Half) : Type 0 where
+  pub there : slice_index_or slots h.key None ≢ None
+  pub each : (n : Node) → slice_index_or slots h.key None ≡ Some n → IsHalfOf d n point place h
 
 -- each edge stands in the list of its point, at the place that it knows, and nothing else does
 pub record AreHalves (d : Direction) (slots : List (Option Node))
@@ -123,6 +126,10 @@ pub record AreMoved (d : Direction) (old new : List (Option Node)) : Type 0 wher
 -- 1 at one point, and 0 at the others
 abbrev pub one_at : ℕ → ℕ → ℕ
 one_at p y = cond (nat_eq y p) 1 0
+
+-- there are lists for the points of an arc
+abbrev pub HasPoints : Store → Arc → Type 0
+HasPoints s e = (e.to < length s.into.items) × (e.from < length s.out.items)
 
 -- both have lists for as many points
 abbrev pub SamePoints : Store → Store → Type 0

@@ -58,6 +58,16 @@ pub record IsClear (points : ℕ) (w : Work) : Type 0 where
   pub queue : heap_items w.queue ≡ []
   pub heap : IsHeap by_amount (heap_items w.queue)
 
+-- a point is neither settled nor has it something
+pub record IsOpenAt (points point : ℕ) (w : Work) : Type 0 where
+  pub places : HasPlaces points w
+  pub order : IsOrder w.ranks.items w.order.items
+  pub queue : IsQueue points (λ x. slice_index w.amounts.items x) (λ x.
+      slice_index w.ranks.items x) (heap_items w.queue)
+  pub within : point < points
+  pub nothing : slice_index w.amounts.items point ≡ 0
+  pub unsettled : slice_index w.ranks.items point ≡ 0
+
 -- one point has something, and the others nothing
 pub record IsSetOut (points seed amount : ℕ) (w : Work) : Type 0 where
   pub ready : IsReady points w

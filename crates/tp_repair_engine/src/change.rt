@@ -1,23 +1,19 @@
 //! Changes of edges that are there: an edge leaves, an event is fixed, now is raised.
-ghost use Rattle.std.specs.Prelude.{◌≡◌, ◌≢◌, ℕ, ◌+◌, ◌*◌, ◌<◌, ◌≤◌, ◌^◌, All, length, OnOk, OnErr, Some, None, slice_index, slice_index_or, suc, pos, ◌-ℤ◌, ◌+ℤ◌, ◌≤ℤ◌, ◌<ℤ◌, ◌⊎◌, true, false};
+ghost use Rattle.std.specs.Prelude.{◌≡◌, ℕ, ◌+◌, ◌*◌, ◌<◌, ◌≤◌, length, OnOk, OnErr, Some, slice_index};
 ghost use Rattle.slab.specs.Slab.{get};
-ghost use Rattle.tp_bounds.specs.declared.Edge.TheVariants.{Now, End};
-ghost use Rattle.tp_net.specs.Graph.{MeetsArc, moment};
 ghost use Rattle.tp_net.specs.Arcs.{AllWait};
-ghost use Rattle.tp_net.specs.Moments.{IsStart, AreExact, HoldsLeast};
-ghost use Rattle.tp_net.specs.Slacks.{JoinsPoints};
-ghost use Rattle.tp_net.specs.Sizes.{IsSmall, IsSmallWeight};
 ghost use Rattle.tp_repair_engine.specs.declared.store.Node.{Node};
-ghost use Rattle.tp_repair_engine.specs.Store.{kept_arcs, AreHalves, SamePoints, keys_of, arcs_of};
-ghost use Rattle.tp_repair_engine.specs.Engine.{IsWired, IsUntouched, IsChanged, IsLeft, AreMapped, IsLoose};
+ghost use Rattle.tp_repair_engine.specs.Store.{AreHalves, SamePoints, keys_of};
+ghost use Rattle.tp_repair_engine.specs.Engine.{IsWired, IsSolved, MayLeave, IsInWindow, AreFloorAndEnd, IsUntouched, IsChanged, IsLeft, AreMapped, IsLoose};
 ghost use Rattle.tp_repair_engine.specs.Bringing.{AreMovedBy};
-ghost use Rattle.tp_repair_engine.specs.Slots.{left_slots, past_node, raised_node, IsOpenFloor};
-ghost use Rattle.tp_repair_engine.specs.Asked.{IsFromEvent};
+ghost use Rattle.tp_repair_engine.specs.Slots.{past_node, raised_node, AreOpenFloors, AreAtEarlier};
+ghost use Rattle.tp_repair_engine.specs.Asked.{HaveMoments};
 ghost use Rattle.tp_repair_engine.specs.Flow.{looks_at};
 ghost use Rattle.tp_repair_engine.specs.declared.store.Direction.{Direction};
 ghost use Rattle.tp_repair_engine.specs.declared.store.Direction.TheVariants.{Up, Down};
 
 use crate::engine::Engine;
+use crate::potential::Potential;
 use crate::rising::rise_floors;
 use crate::solve::{holds_high, holds_low, solve};
 use crate::store::{Store, remove, set_edge};
@@ -32,21 +28,8 @@ const NEVER_TIGHT: i64 = 1_000_000_000_000;
 /// Takes an edge out, and works the moments out anew that it may have held. Where a growth is
 /// refused, it is there as before.
 fn renew(alloc: Global, engine: &mut Engine, key: usize, amount: u64) -> Result<(), AllocError>
-    requires wired { (edges : ℕ) × IsWired (length engine.old.low.items) edges engine.old }
-    requires exact { AreExact
-        (arcs_of engine.old.store.nodes.slots) engine.old.low.items engine.old.high.items }
-    requires node { (n : Node) × (get engine.old.store.nodes key ≡ Some n)
-        × JoinsPoints (length engine.old.low.items) n.arc × IsSmallWeight n.arc.weight }
-    requires start { IsStart
-        (kept_arcs (left_slots key engine.old.store.nodes.slots)) engine.old.low.items amount }
-    requires start_high { IsStart
-        (kept_arcs (left_slots key engine.old.store.nodes.slots)) engine.old.high.items amount }
-    requires low { (x : ℕ) → x < length engine.old.low.items
-        → slice_index engine.old.low.items x < 2 ^ 32 }
-    requires high { (x : ℕ) → x < length engine.old.high.items
-        → slice_index engine.old.high.items x < 2 ^ 32 }
-    requires positive { 0 < amount }
-    requires amount { amount < 2 ^ 32 }
+    requires solved { IsSolved engine.old }
+    requires may { MayLeave key amount engine.old }
     ensures ok { OnOk result (IsLeft key engine.old engine.new) }
     ensures err { OnErr result (IsUntouched engine.old engine.new) }
     ensures looks { (edges : ℕ) → IsWired (length engine.old.low.items) edges engine.old
@@ -67,23 +50,8 @@ fn renew(alloc: Global, engine: &mut Engine, key: usize, amount: u64) -> Result<
 /// Takes an edge out. One that holds no moment leaves all moments as they are, and costs a look;
 /// else the moments are worked out anew. Where a growth is refused, it is there as before.
 pub fn leave(alloc: Global, engine: &mut Engine, key: usize, amount: u64) -> Result<(), AllocError>
-    requires wired { (edges : ℕ) × IsWired (length engine.old.low.items) edges engine.old }
-    requires exact { AreExact
-        (arcs_of engine.old.store.nodes.slots) engine.old.low.items engine.old.high.items }
-    requires holds { HoldsLeast (arcs_of engine.old.store.nodes.slots) engine.old.low.items }
-    requires small { All IsSmall engine.old.high.items }
-    requires node { (n : Node) × (get engine.old.store.nodes key ≡ Some n)
-        × JoinsPoints (length engine.old.low.items) n.arc × IsSmallWeight n.arc.weight }
-    requires start { IsStart
-        (kept_arcs (left_slots key engine.old.store.nodes.slots)) engine.old.low.items amount }
-    requires start_high { IsStart
-        (kept_arcs (left_slots key engine.old.store.nodes.slots)) engine.old.high.items amount }
-    requires low { (x : ℕ) → x < length engine.old.low.items
-        → slice_index engine.old.low.items x < 2 ^ 32 }
-    requires high { (x : ℕ) → x < length engine.old.high.items
-        → slice_index engine.old.high.items x < 2 ^ 32 }
-    requires positive { 0 < amount }
-    requires amount { amount < 2 ^ 32 }
+    requires solved { IsSolved engine.old }
+    requires may { MayLeave key amount engine.old }
     ensures ok { OnOk result (IsLeft key engine.old engine.new) }
     ensures err { OnErr result (IsUntouched engine.old engine.new) }
     ensures looks { (edges : ℕ) → IsWired (length engine.old.low.items) edges engine.old
@@ -115,24 +83,10 @@ pub fn settle(
     e: u16,
     moment: u32,
 ) -> Result<(), AllocError>
-    requires wired { (edges : ℕ) × IsWired (length engine.old.low.items) edges engine.old
-        × (edges < 2 ^ 60) }
-    requires exact { AreExact
-        (arcs_of engine.old.store.nodes.slots) engine.old.low.items engine.old.high.items }
-    requires holds { HoldsLeast (arcs_of engine.old.store.nodes.slots) engine.old.low.items }
-    requires small { All IsSmall engine.old.high.items }
+    requires solved { IsSolved engine.old }
     requires looks { engine.old.looks ≡ 0 }
-    requires point { suc e < length engine.old.low.items }
-    requires above { slice_index engine.old.low.items (suc e) ≤ moment }
-    requires below { moment ≤ slice_index engine.old.high.items (suc e) }
-    requires floor { (n : Node) × (get engine.old.store.nodes floor ≡ Some n) × (n.name ≡ Now e)
-        × (n.arc.from ≡ suc e) × (n.arc.to ≡ 0) × ((pos 0 -ℤ pos moment) ≤ℤ n.arc.weight) }
-    requires end { (n : Node) × (get engine.old.store.nodes end ≡ Some n) × (n.name ≡ End e)
-        × (n.arc.from ≡ 0) × (n.arc.to ≡ suc e) × (pos moment ≤ℤ n.arc.weight) }
-    requires only_floor { (k : ℕ) (n : Node) → get engine.old.store.nodes k ≡ Some n
-        → n.name ≡ Now e → k ≡ floor }
-    requires only_end { (k : ℕ) (n : Node) → get engine.old.store.nodes k ≡ Some n → n.name ≡ End e
-        → k ≡ end }
+    requires window { IsInWindow e moment engine.old }
+    requires keys { AreFloorAndEnd e moment floor end engine.old.store.nodes.slots }
     ensures ok { OnOk result (IsChanged (past_node e moment) engine.old engine.new) }
     ensures err { OnErr result (IsUntouched engine.old engine.new) }
     ensures looks { OnOk result (engine.new.looks ≡ (1 + looks_at (keys_of Up engine.old.store)
@@ -145,23 +99,18 @@ pub fn settle(
 {
     let start = start_arc(e, moment);
     let stop = stop_arc(e, moment);
-    if let Some(_path) = rise(
-        alloc,
-        &engine.store,
-        &engine.low,
-        &mut engine.up,
-        start,
-        &mut engine.looks,
-    )? {
+    let low = Potential {
+        store: &engine.store,
+        moments: &engine.low,
+    };
+    if let Some(_path) = rise(alloc, &low, &mut engine.up, start, &mut engine.looks)? {
         unreachable!();
     }
-    fall(
-        &engine.store,
-        &engine.high,
-        &mut engine.down,
-        stop,
-        &mut engine.looks,
-    )?;
+    let high = Potential {
+        store: &engine.store,
+        moments: &engine.high,
+    };
+    fall(&high, &mut engine.down, stop, &mut engine.looks)?;
     set_edge(&mut engine.store, floor, Edge::PastLow(e), start.weight);
     set_edge(&mut engine.store, end, Edge::PastHigh(e), stop.weight);
     move_up(&mut engine.low, &engine.up);
@@ -171,12 +120,7 @@ pub fn settle(
 
 /// Gives the floor of each event that is not fixed the weight that it has at a moment.
 fn set_floors(store: &mut Store, floors: &[usize], fixed: &[Option<u32>], lags: &[u32], now: u32)
-    requires events { length fixed.now ≤ 1024 }
-    requires len { length floors.now ≡ length fixed.now }
-    requires floors { (e : ℕ) → e < length fixed.now → slice_index_or fixed.now e None ≡ None →
-        (n : Node) × (get store.old.nodes (slice_index floors.now e) ≡ Some n) × (n.name ≡ Now e) }
-    requires only { (k : ℕ) (n : Node) → get store.old.nodes k ≡ Some n
-        → IsOpenFloor floors.now fixed.now n.name k }
+    requires floors { AreOpenFloors floors.now fixed.now store.old.nodes.slots }
     requires halves_in { AreHalves Up store.old.nodes.slots store.old.into.items }
     requires halves_out { AreHalves Down store.old.nodes.slots store.old.out.items }
     ensures points { SamePoints store.old store.new }
@@ -209,24 +153,11 @@ pub fn raise(
     lags: &[u32],
     now: u32,
 ) -> Result<(), AllocError>
-    requires wired { (edges : ℕ) × IsWired (length engine.old.low.items) edges engine.old }
-    requires exact { AreExact
-        (arcs_of engine.old.store.nodes.slots) engine.old.low.items engine.old.high.items }
-    requires holds { HoldsLeast (arcs_of engine.old.store.nodes.slots) engine.old.low.items }
-    requires small { All IsSmall engine.old.high.items }
+    requires solved { IsSolved engine.old }
     requires looks { engine.old.looks ≡ 0 }
-    requires events { length fixed.now ≤ 1024 }
-    requires points { length engine.old.low.items ≡ suc (length fixed.now) }
-    requires len { length floors.now ≡ length fixed.now }
-    requires floors { (e : ℕ) → e < length fixed.now → slice_index_or fixed.now e None ≡ None
-        → (n : Node) × (get engine.old.store.nodes (slice_index floors.now e) ≡ Some n)
-        × (n.name ≡ Now e) }
-    requires only { (k : ℕ) (n : Node) → get engine.old.store.nodes k ≡ Some n
-        → IsOpenFloor floors.now fixed.now n.name k }
-    requires from { (k : ℕ) (n : Node) → get engine.old.store.nodes k ≡ Some n
-        → IsFromEvent n.name n.arc }
-    requires before { (clock : ℕ) × (clock ≤ now) × ((k : ℕ) (n : Node)
-        → get engine.old.store.nodes k ≡ Some n → n.arc ≡ (raised_node clock lags.now n).arc) }
+    requires events { HaveMoments fixed.now engine.old.low.items }
+    requires floors { AreOpenFloors floors.now fixed.now engine.old.store.nodes.slots }
+    requires before { AreAtEarlier now lags.now engine.old.store.nodes.slots }
     requires wait { AllWait fixed.now engine.old.high.items lags.now now }
     ensures ok { OnOk result (IsChanged (raised_node now lags.now) engine.old engine.new) }
     ensures err { OnErr result (IsUntouched engine.old engine.new) }
@@ -240,8 +171,11 @@ pub fn raise(
         → engine.new.looks ≤ edges }
     ensures err_looks { OnErr result (engine.new.looks ≡ 0) }
 {
-    let looks = rise_floors(&engine.store, &engine.low, &mut engine.up, fixed, lags, now)?;
-    engine.looks = looks;
+    let low = Potential {
+        store: &engine.store,
+        moments: &engine.low,
+    };
+    engine.looks = rise_floors(&low, &mut engine.up, fixed, lags, now)?;
     set_floors(&mut engine.store, floors, fixed, lags, now);
     move_up(&mut engine.low, &engine.up);
     Ok(())

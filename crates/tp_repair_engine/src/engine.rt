@@ -1,5 +1,5 @@
 //! The arcs of a network with the moments that they leave, and what one more edge does to them.
-ghost use Rattle.std.specs.Prelude.{◌≡◌, ◌≢◌, ℕ, List, ◌+◌, ◌*◌, ◌<◌, ◌≤◌, ◌^◌, length, ◌++◌, ◌∷◌, [], All, IfOk, OnOk, OnErr, MatchResult, Some, None, slice_index};
+ghost use Rattle.std.specs.Prelude.{◌≡◌, ◌≢◌, ℕ, List, ◌+◌, ◌*◌, ◌<◌, ◌≤◌, length, ◌++◌, ◌∷◌, [], IfOk, OnOk, OnErr, Some, None};
 ghost use Rattle.std.specs.Ordering.{nat_cmp};
 ghost use Rattle.std.specs.BTreeMap.{BTreeMap, get, btree_map_len};
 ghost use Rattle.std.specs.FinMap as map;
@@ -8,18 +8,19 @@ ghost use Rattle.tp_bounds.specs.declared.Edge.TheVariants.{Own};
 ghost use Rattle.tp_net.specs.Arcs.{arc_of, NamesCycle};
 ghost use Rattle.tp_bounds.specs.Held.{held};
 ghost use Rattle.tp_net.specs.Slacks.{JoinsPoints};
-ghost use Rattle.tp_net.specs.Sizes.{IsSmall, IsSmallWeight};
+ghost use Rattle.tp_net.specs.Sizes.{IsSmallWeight};
 ghost use Rattle.tp_net.specs.Graph.{HasNoSolution};
-ghost use Rattle.tp_net.specs.Moments.{AreExact, HoldsLeast};
-ghost use Rattle.tp_repair_engine.specs.Store.{arcs_of, names_of, kept_arcs, AreHalves, SamePoints, keys_of};
-ghost use Rattle.tp_repair_engine.specs.Engine.{IsWired, AreSame, IsEntered, IsUntouched};
-ghost use Rattle.tp_repair_engine.specs.Work.{AreCounted};
-ghost use Rattle.tp_repair_engine.specs.Bringing.{IsBrought, IsUnbrought, IsRecorded, IsMore};
+ghost use Rattle.tp_repair_engine.specs.Potential.{IsEdgeOf};
+ghost use Rattle.tp_repair_engine.specs.Store.{arcs_of, names_of, kept_arcs, HasPoints, AreHalves, SamePoints, keys_of};
+ghost use Rattle.tp_repair_engine.specs.Engine.{IsWired, IsSolved, AreSame, IsEntered, IsUntouched};
+ghost use Rattle.tp_repair_engine.specs.Work.{AreCounted, AreThere, IsIdle, IsTightened};
+ghost use Rattle.tp_repair_engine.specs.Bringing.{IsFree, IsBrought, IsUnbrought, IsRecorded, IsMore};
 ghost use Rattle.tp_repair_engine.specs.declared.store.Direction.TheVariants.{Up, Down};
 
 use crate::flow::Work;
+use crate::potential::Potential;
 use crate::store::{Store, insert, named, remove};
-use crate::tighten::{move_down, move_up, rise, tighten};
+use crate::tighten::{fall, move_down, move_up, rise};
 use std::alloc::{AllocError, Global};
 use std::collections::BTreeMap;
 use tp_bounds::{Bound, BoundId, Edge, Reason};
@@ -47,8 +48,7 @@ fn record(
     bound: Bound,
     key: usize,
 ) -> Result<(), AllocError>
-    requires bound { get nat_cmp bounds.old id.0 ≡ None }
-    requires key { get nat_cmp keys.old id.0 ≡ None }
+    requires free { IsFree id.0 bounds.old keys.old }
     ensures ok { OnOk result (IsRecorded id.0 bound key bounds.old bounds.new keys.old keys.new) }
     ensures err { OnErr result (bounds.new.entries ≡ bounds.old.entries) }
     ensures err_keys { OnErr result ((q : ℕ) → get nat_cmp keys.new q ≡ get nat_cmp keys.old q) }
@@ -69,10 +69,8 @@ fn enter(
     id: BoundId,
     bound: Bound,
 ) -> Result<(), AllocError>
-    requires bound { get nat_cmp bounds.old id.0 ≡ None }
-    requires key { get nat_cmp keys.old id.0 ≡ None }
-    requires into { (arc_of bound).to < length store.old.into.items }
-    requires out { (arc_of bound).from < length store.old.out.items }
+    requires free { IsFree id.0 bounds.old keys.old }
+    requires points { HasPoints store.old (arc_of bound) }
     requires halves_in { AreHalves Up store.old.nodes.slots store.old.into.items }
     requires halves_out { AreHalves Down store.old.nodes.slots store.old.out.items }
     ensures points { SamePoints store.old store.new }
@@ -98,6 +96,41 @@ fn enter(
     Ok(())
 }
 
+/// What one more edge does in both directions. The moments stay, so that nothing has to be put back
+/// where it can't be met, or where a growth is refused.
+fn tighten(alloc: Global, engine: &mut Engine, new: Arc) -> Result<Option<Vec<usize>>, AllocError>
+    requires solved { IsSolved engine.old }
+    requires edge { IsEdgeOf (length engine.old.low.items) new }
+    requires looks { engine.old.looks ≡ 0 }
+    ensures store { engine.new.store ≡ engine.old.store }
+    ensures low { engine.new.low ≡ engine.old.low }
+    ensures high { engine.new.high ≡ engine.old.high }
+    ensures idle_up { IsIdle (length engine.old.low.items) engine.new.up }
+    ensures idle_down { IsIdle (length engine.old.low.items) engine.new.down }
+    ensures there { IfOk result (λ r. AreThere engine.old.store.nodes.slots r) }
+    ensures tightened { IfOk result (λ r. IsTightened (arcs_of engine.old.store.nodes.slots) new
+        engine.old.low.items engine.old.high.items engine.new.up.amounts.items
+        engine.new.down.amounts.items r) }
+    ensures counted { IfOk result (λ r. AreCounted engine.old.store (length engine.old.low.items)
+        engine.new.up.amounts.items engine.new.down.amounts.items 0 engine.new.looks r) }
+    ensures looks { (edges : ℕ) → IsWired (length engine.old.low.items) edges engine.old
+        → engine.new.looks ≤ 2 * (edges + 1) }
+{
+    let low = Potential {
+        store: &engine.store,
+        moments: &engine.low,
+    };
+    if let Some(path) = rise(alloc, &low, &mut engine.up, new, &mut engine.looks)? {
+        return Ok(Some(path));
+    }
+    let high = Potential {
+        store: &engine.store,
+        moments: &engine.high,
+    };
+    fall(&high, &mut engine.down, new, &mut engine.looks)?;
+    Ok(None)
+}
+
 /// Brings a bound in with the moments that it leaves, or tells the rest of a negative cycle that
 /// begins with its edge. Where it can't be met, or a growth is refused, the edges and the moments
 /// are as before. The edge and each other one are looked at once a direction at most.
@@ -109,20 +142,11 @@ pub fn bring(
     id: BoundId,
     bound: Bound,
 ) -> Result<Option<Vec<usize>>, AllocError>
-    requires wired { (edges : ℕ) × IsWired (length engine.old.low.items) edges engine.old
-        × (edges < 2 ^ 60) }
-    requires exact { AreExact
-        (arcs_of engine.old.store.nodes.slots) engine.old.low.items engine.old.high.items }
-    requires small_low { All IsSmall engine.old.low.items }
-    requires small_high { All IsSmall engine.old.high.items }
-    requires weights { All (λ e. IsSmallWeight e.weight) (arcs_of engine.old.store.nodes.slots) }
-    requires among { All (JoinsPoints (length engine.old.low.items))
-        (arcs_of engine.old.store.nodes.slots) }
+    requires solved { IsSolved engine.old }
     requires weight { IsSmallWeight bound.w }
-    requires new_among { JoinsPoints (length engine.old.low.items) (arc_of bound) }
+    requires among { JoinsPoints (length engine.old.low.items) (arc_of bound) }
     requires looks { engine.old.looks ≡ 0 }
-    requires bound { get nat_cmp bounds.old id.0 ≡ None }
-    requires key { get nat_cmp keys.old id.0 ≡ None }
+    requires free { IsFree id.0 bounds.old keys.old }
     ensures ok { IfOk result (λ r.
         IsBrought id bound engine.old engine.new bounds.old bounds.new keys.old keys.new r) }
     ensures err { OnErr result
@@ -132,17 +156,7 @@ pub fn bring(
     ensures looks { (edges : ℕ) → IsWired (length engine.old.low.items) edges engine.old
         → engine.new.looks ≤ 2 * (edges + 1) }
 {
-    let new = arc(&bound);
-    if let Some(path) = tighten(
-        alloc,
-        &engine.store,
-        &engine.low,
-        &engine.high,
-        &mut engine.up,
-        &mut engine.down,
-        new,
-        &mut engine.looks,
-    )? {
+    if let Some(path) = tighten(alloc, engine, arc(&bound))? {
         return Ok(Some(path));
     }
     enter(&mut engine.store, bounds, keys, id, bound)?;
@@ -159,9 +173,7 @@ pub fn refute(
     first: Edge,
     new: Arc,
 ) -> Result<Reason, AllocError>
-    requires wired { (edges : ℕ) × IsWired (length engine.old.low.items) edges engine.old
-        × (edges < 2 ^ 60) }
-    requires holds { HoldsLeast (arcs_of engine.old.store.nodes.slots) engine.old.low.items }
+    requires solved { IsSolved engine.old }
     requires weight { IsSmallWeight new.weight }
     requires among { JoinsPoints (length engine.old.low.items) new }
     requires none { HasNoSolution (arcs_of engine.old.store.nodes.slots ++ new ∷ []) }
@@ -173,14 +185,11 @@ pub fn refute(
         → engine.new.looks ≤ edges + 1 }
     ensures some { IfOk result (λ _. 1 ≤ engine.new.looks) }
 {
-    match rise(
-        alloc,
-        &engine.store,
-        &engine.low,
-        &mut engine.up,
-        new,
-        &mut engine.looks,
-    )? {
+    let low = Potential {
+        store: &engine.store,
+        moments: &engine.low,
+    };
+    match rise(alloc, &low, &mut engine.up, new, &mut engine.looks)? {
         Some(path) => Ok(named(alloc, &engine.store, first, &path)?),
         None => unreachable!(),
     }

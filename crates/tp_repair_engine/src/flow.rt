@@ -1,51 +1,22 @@
 //! Dijkstra on reduced costs: how far each point has to move, and in which order that is found out.
-ghost use Rattle.std.specs.Prelude.{◌≡◌, ◌≢◌, ℕ, List, ◌+◌, ◌-◌, ◌^◌, ◌<◌, ◌≤◌, length, All, IfOk, OnOk, slice_index};
+ghost use Rattle.std.specs.Prelude.{◌≡◌, ℕ, ◌+◌, ◌<◌, ◌≤◌, length, IfOk, OnOk, slice_index};
 ghost use Rattle.std.specs.BinaryHeap.{heap_items, heap_len};
-ghost use Rattle.tp_net.specs.declared.spread.Link.{Link};
-ghost use Rattle.tp_net.specs.Graph.{MeetsArc, moment, arc_at};
-ghost use Rattle.tp_net.specs.Sizes.{IsSmall, IsSmallWeight};
-ghost use Rattle.tp_net.specs.Slacks.{JoinsPoints};
-ghost use Rattle.tp_repair_engine.specs.Flow.{Flowing, AreListed, link_of, IsFlow, looks_at, sum_to};
-ghost use Rattle.tp_repair_engine.specs.Store.{arcs_of, arc_along, lists_of, keys_in, keys_of, half_at, AreHalves};
+ghost use Rattle.tp_repair_engine.specs.Flow.{Flowing, IsFlow, looks_at};
+ghost use Rattle.tp_repair_engine.specs.Potential.{link_in};
+ghost use Rattle.tp_repair_engine.specs.Store.{keys_of};
 ghost use Rattle.tp_repair_engine.specs.Queue.{IsQueue};
 ghost use Rattle.tp_repair_engine.specs.Work.{IsBegun, IsIdle, HasPlaces, IsOrder};
 
+use crate::potential::Potential;
 use crate::queue::next_point;
-use crate::store::{Direction, Half, Store, lists, look_at};
+use crate::store::Direction;
 use std::alloc::{AllocError, Global};
 use std::collections::BinaryHeap;
-use tp_net::slacks::slack;
-
-/// Looks at an edge in the list of a point: how far it is from being tight.
-pub fn slack_along(
-    half: &Half,
-    moments: &[u64],
-    direction: Direction,
-    point: usize,
-    looks: &mut u64,
-) -> u64
-    requires small { All IsSmall moments.now }
-    requires point { point < length moments.now }
-    requires far { half.now.far < length moments.now }
-    requires weight { IsSmallWeight half.now.weight }
-    requires met { MeetsArc (moment moments.now) (arc_along direction point half.now) }
-    requires looks { looks.old < 2 ^ 63 }
-    ensures slack { result ≡ (link_of direction (λ x.
-        slice_index moments.now x) (arc_along direction point half.now)).slack }
-    ensures counted { looks.new ≡ looks.old + 1 }
-{
-    let weight = look_at(half, looks);
-    match direction {
-        Direction::Up => slack(moments[half.far], moments[point], weight),
-        Direction::Down => slack(moments[point], moments[half.far], weight),
-    }
-}
 
 /// Goes through the list of a point that has just been settled, and tells how many edges it looked
 /// at.
 fn relax(
-    list: &[Half],
-    moments: &[u64],
+    potential: &Potential<'_>,
     direction: Direction,
     point: usize,
     ranks: &[usize],
@@ -53,35 +24,32 @@ fn relax(
     parents: &mut [usize],
     queue: &mut BinaryHeap<(u64, usize)>,
 ) -> Result<u64, AllocError>
-    requires small { All IsSmall moments.now }
-    requires far { All (λ h. h.far < length moments.now) list.now }
-    requires weights { All (λ h. IsSmallWeight h.weight) list.now }
-    requires met { All (λ h. MeetsArc (moment moments.now) (arc_along direction point h)) list.now }
-    requires looks { length list.now < 2 ^ 63 }
-    requires amounts { length amounts.old ≡ length moments.now }
-    requires ranks { length ranks.now ≡ length moments.now }
-    requires parents { length parents.old ≡ length moments.now }
-    requires point { point < length moments.now }
+    requires amounts { length amounts.old ≡ length potential.now.moments.now }
+    requires ranks { length ranks.now ≡ length potential.now.moments.now }
+    requires parents { length parents.old ≡ length potential.now.moments.now }
+    requires point { point < length potential.now.moments.now }
     requires settled { 0 < slice_index ranks.now point }
     requires last { (x : ℕ) → 0 < slice_index ranks.now x
         → slice_index amounts.old point ≤ slice_index amounts.old x }
-    requires queue { IsQueue (length moments.now) (λ x. slice_index amounts.old x) (λ x.
-        slice_index ranks.now x) (heap_items queue.old) }
-    ensures looks { IfOk result (λ looks. looks ≡ length list.now) }
-    ensures queue { OnOk result (IsQueue (length moments.now) (λ x. slice_index amounts.new x) (λ x.
-        slice_index ranks.now x) (heap_items queue.new)) }
-    ensures flowing { OnOk result ((link : ℕ → Link) (lists : ℕ → List ℕ) (start : ℕ → ℕ)
-        → lists point ≡ keys_in list.now
-        → ((j : ℕ) → j < length list.now → link (half_at list.now j).key ≡ link_of direction (λ x.
-        slice_index moments.now x) (arc_along direction point (half_at list.now j)))
-        → AreListed link lists → Flowing link lists start point 0 (λ x.
+    requires queue { IsQueue (length potential.now.moments.now) (λ x.
+        slice_index amounts.old x) (λ x. slice_index ranks.now x) (heap_items queue.old) }
+    ensures looks { IfOk result (λ looks.
+        looks ≡ length (keys_of direction potential.now.store.now point)) }
+    ensures queue { OnOk result (IsQueue (length potential.now.moments.now) (λ x.
+        slice_index amounts.new x) (λ x. slice_index ranks.now x) (heap_items queue.new)) }
+    ensures flowing { OnOk result ((start : ℕ → ℕ) → Flowing
+        (link_in direction potential.now.store.now potential.now.moments.now)
+        (keys_of direction potential.now.store.now) start point 0 (λ x.
         slice_index amounts.old x) (λ x. slice_index ranks.now x) (λ x. slice_index parents.old x)
-        → Flowing link lists start point (length list.now) (λ x. slice_index amounts.new x) (λ x.
-        slice_index ranks.now x) (λ x. slice_index parents.new x)) }
+        → Flowing (link_in direction potential.now.store.now potential.now.moments.now)
+        (keys_of direction potential.now.store.now) start point
+        (length (keys_of direction potential.now.store.now point)) (λ x. slice_index amounts.new x)
+        (λ x. slice_index ranks.now x) (λ x. slice_index parents.new x)) }
 {
+    let list = potential.list(direction, point);
     let mut looks = 0;
     for half in list {
-        let slack = slack_along(half, moments, direction, point, &mut looks);
+        let slack = potential.slack_along(direction, point, half, &mut looks);
         let amount = amounts[point].saturating_sub(slack);
         if ranks[half.far] == 0 && amounts[half.far] < amount {
             queue.push((amount, half.far))?;
@@ -125,38 +93,28 @@ impl Work {
 /// Lets amounts flow from the points that have some to those that have to follow, and tells how
 /// many edges it looked at: the lists of the points that it settles. Points may be settled already.
 pub fn flow(
-    store: &Store,
-    moments: &[u64],
+    potential: &Potential<'_>,
     direction: Direction,
     work: &mut Work,
 ) -> Result<u64, AllocError>
-    requires small { All IsSmall moments.now }
-    requires arcs { All (λ e. JoinsPoints (length moments.now) e × IsSmallWeight e.weight
-        × MeetsArc (moment moments.now) e) (arcs_of store.now.nodes.slots) }
-    requires lists { length (lists_of direction store.now) ≡ length moments.now }
-    requires halves { AreHalves direction store.now.nodes.slots (lists_of direction store.now) }
-    requires looks { sum_to (λ y. length (keys_of direction store.now y)) (length moments.now)
-        < 2 ^ 63 }
-    requires begun { IsBegun (λ k. link_of direction (λ x.
-        slice_index moments.now x) (arc_at (arcs_of store.now.nodes.slots) k))
-        (keys_of direction store.now) (length moments.now) work.old }
-    ensures places { HasPlaces (length moments.now) work.new }
-    ensures flow { IfOk result (λ looks. IsFlow (λ k. link_of direction (λ x.
-        slice_index moments.now x) (arc_at (arcs_of store.now.nodes.slots) k)) (keys_of direction
-        store.now) (λ x. slice_index work.old.amounts.items x) (length moments.now) (looks_at
-        (keys_of direction store.now) (λ x. slice_index work.old.ranks.items x) (length moments.now)
+    requires begun { IsBegun (link_in direction potential.now.store.now potential.now.moments.now)
+        (keys_of direction potential.now.store.now) (length potential.now.moments.now) work.old }
+    ensures places { HasPlaces (length potential.now.moments.now) work.new }
+    ensures flow { IfOk result (λ looks. IsFlow
+        (link_in direction potential.now.store.now potential.now.moments.now)
+        (keys_of direction potential.now.store.now) (λ x. slice_index work.old.amounts.items x)
+        (length potential.now.moments.now) (looks_at (keys_of direction potential.now.store.now)
+        (λ x. slice_index work.old.ranks.items x) (length potential.now.moments.now)
         + looks) work.new.amounts.items work.new.ranks.items work.new.parents.items) }
     ensures order { OnOk result (IsOrder work.new.ranks.items work.new.order.items) }
     ensures empty { OnOk result (heap_len work.new.queue ≡ 0) }
 {
-    let lists = lists(store, direction);
     let mut looks = 0;
     while let Some(point) = next_point(&work.amounts, &work.ranks, &mut work.queue) {
         work.order.push(point)?;
         work.ranks[point] = work.order.len();
         looks += relax(
-            &lists[point],
-            moments,
+            potential,
             direction,
             point,
             &work.ranks,

@@ -1,15 +1,15 @@
 //! How far the least moments rise when the floors of events do.
-ghost use Rattle.std.specs.Prelude.{◌≡◌, ◌≢◌, ℕ, suc, ◌+◌, ◌-◌, ◌^◌, ◌<◌, ◌≤◌, length, All, IfOk, OnOk, OnErr, slice_index};
-ghost use Rattle.tp_net.specs.Sizes.{IsSmall};
-ghost use Rattle.tp_net.specs.Moments.{HoldsLeast};
-ghost use Rattle.tp_repair_engine.specs.Flow.{looks_at, sum_to};
-ghost use Rattle.tp_repair_engine.specs.Store.{arcs_of, lists_of, keys_of, AreHalves};
+ghost use Rattle.std.specs.Prelude.{◌≡◌, ◌≢◌, ℕ, ◌-◌, ◌<◌, ◌≤◌, length, IfOk, OnOk, slice_index};
+ghost use Rattle.tp_net.specs.Graph.{IsLeast};
+ghost use Rattle.tp_repair_engine.specs.Flow.{looks_at};
+ghost use Rattle.tp_repair_engine.specs.Store.{arcs_of, keys_of};
 ghost use Rattle.tp_repair_engine.specs.Work.{HasPlaces, IsClear, IsReady, IsIdle, IsOrder};
-ghost use Rattle.tp_repair_engine.specs.Asked.{AreOffered, AsksFloor, IsRaisedTo};
+ghost use Rattle.tp_repair_engine.specs.Asked.{AreOffered, AsksFloor, HaveMoments, IsRaisedTo};
 ghost use Rattle.tp_repair_engine.specs.declared.store.Direction.TheVariants.{Up};
 
 use crate::flow::{Work, flow};
-use crate::store::{Direction, Store};
+use crate::potential::Potential;
+use crate::store::Direction;
 use crate::tighten::{clear, wipe};
 use std::alloc::AllocError;
 use tp_net::edges::floor;
@@ -41,8 +41,7 @@ fn set_out_floors(
     now: u32,
 ) -> Result<(), AllocError>
     requires clear { IsClear (length low.now) work.old }
-    requires events { length fixed.now ≤ 1024 }
-    requires points { length low.now ≡ suc (length fixed.now) }
+    requires events { HaveMoments fixed.now low.now }
     ensures places { HasPlaces (length low.now) work.new }
     ensures offered { OnOk result (AreOffered (AsksFloor fixed.now lags.now now) low.now work.new) }
 {
@@ -57,59 +56,49 @@ fn set_out_floors(
 
 /// The same from where nothing is worked out; where a growth is refused, work is left over.
 fn try_rise_floors(
-    store: &Store,
-    low: &[u64],
+    low: &Potential<'_>,
     work: &mut Work,
     fixed: &[Option<u32>],
     lags: &[u32],
     now: u32,
 ) -> Result<u64, AllocError>
-    requires holds { HoldsLeast (arcs_of store.now.nodes.slots) low.now }
-    requires lists { length (lists_of Up store.now) ≡ length low.now }
-    requires halves { AreHalves Up store.now.nodes.slots (lists_of Up store.now) }
-    requires looks { sum_to (λ y. length (keys_of Up store.now y)) (length low.now) < 2 ^ 63 }
-    requires clear { IsClear (length low.now) work.old }
-    requires events { length fixed.now ≤ 1024 }
-    requires points { length low.now ≡ suc (length fixed.now) }
-    ensures places { HasPlaces (length low.now) work.new }
-    ensures raised { OnOk result (IsRaisedTo (arcs_of store.now.nodes.slots)
-        (AsksFloor fixed.now lags.now now) low.now work.new.amounts.items) }
+    requires least { IsLeast (arcs_of low.now.store.now.nodes.slots) low.now.moments.now }
+    requires clear { IsClear (length low.now.moments.now) work.old }
+    requires events { HaveMoments fixed.now low.now.moments.now }
+    ensures places { HasPlaces (length low.now.moments.now) work.new }
+    ensures raised { OnOk result (IsRaisedTo (arcs_of low.now.store.now.nodes.slots)
+        (AsksFloor fixed.now lags.now now) low.now.moments.now work.new.amounts.items) }
     ensures order { OnOk result (IsOrder work.new.ranks.items work.new.order.items) }
     ensures ended { OnOk result ((x : ℕ) → slice_index work.new.ranks.items x ≡ 0
         → slice_index work.new.amounts.items x ≡ 0) }
-    ensures looks { IfOk result (λ looks. looks ≡ looks_at (keys_of Up store.now) (λ x.
-        slice_index work.new.amounts.items x) (length low.now)) }
+    ensures looks { IfOk result (λ looks. looks ≡ looks_at (keys_of Up low.now.store.now) (λ x.
+        slice_index work.new.amounts.items x) (length low.now.moments.now)) }
 {
-    set_out_floors(work, low, fixed, lags, now)?;
-    Ok(flow(store, low, Direction::Up, work)?)
+    set_out_floors(work, low.moments, fixed, lags, now)?;
+    Ok(flow(low, Direction::Up, work)?)
 }
 
 /// How far the least moments rise where the floors of events that are not fixed rise to those at a
 /// moment; and how many edges were looked at: those that end at points that rise.
 pub fn rise_floors(
-    store: &Store,
-    low: &[u64],
+    low: &Potential<'_>,
     work: &mut Work,
     fixed: &[Option<u32>],
     lags: &[u32],
     now: u32,
 ) -> Result<u64, AllocError>
-    requires holds { HoldsLeast (arcs_of store.now.nodes.slots) low.now }
-    requires lists { length (lists_of Up store.now) ≡ length low.now }
-    requires halves { AreHalves Up store.now.nodes.slots (lists_of Up store.now) }
-    requires looks { sum_to (λ y. length (keys_of Up store.now y)) (length low.now) < 2 ^ 63 }
-    requires idle { IsIdle (length low.now) work.old }
-    requires events { length fixed.now ≤ 1024 }
-    requires points { length low.now ≡ suc (length fixed.now) }
-    ensures idle { IsIdle (length low.now) work.new }
-    ensures raised { OnOk result (IsRaisedTo (arcs_of store.now.nodes.slots)
-        (AsksFloor fixed.now lags.now now) low.now work.new.amounts.items) }
-    ensures looks { IfOk result (λ looks. looks ≡ looks_at (keys_of Up store.now) (λ x.
-        slice_index work.new.amounts.items x) (length low.now)) }
+    requires least { IsLeast (arcs_of low.now.store.now.nodes.slots) low.now.moments.now }
+    requires idle { IsIdle (length low.now.moments.now) work.old }
+    requires events { HaveMoments fixed.now low.now.moments.now }
+    ensures idle { IsIdle (length low.now.moments.now) work.new }
+    ensures raised { OnOk result (IsRaisedTo (arcs_of low.now.store.now.nodes.slots)
+        (AsksFloor fixed.now lags.now now) low.now.moments.now work.new.amounts.items) }
+    ensures looks { IfOk result (λ looks. looks ≡ looks_at (keys_of Up low.now.store.now) (λ x.
+        slice_index work.new.amounts.items x) (length low.now.moments.now)) }
 {
-    let points = low.len();
+    let points = low.moments.len();
     clear(work, points);
-    match try_rise_floors(store, low, work, fixed, lags, now) {
+    match try_rise_floors(low, work, fixed, lags, now) {
         Ok(looks) => Ok(looks),
         Err(error) => {
             wipe(work, points);

@@ -1,22 +1,22 @@
 //! The least and the greatest moments when an edge leaves: those that it may have held are worked
 //! out anew from the others.
 ghost use Rattle.std.specs.Prelude.{◌≡◌, ◌≢◌, ◌⊎◌, ℕ, ◌+◌, ◌*◌, ◌-◌, ◌<◌, ◌≤◌, ◌^◌, ◌+ℤ◌, ◌<ℤ◌, All, length, IfOk, OnOk, OnErr, slice_index, true, false};
-ghost use Rattle.tp_net.specs.Graph.{MeetsArc, moment, arc_at};
+ghost use Rattle.tp_net.specs.Graph.{moment};
 ghost use Rattle.tp_net.specs.Links.{MeetsLink};
-ghost use Rattle.tp_net.specs.Sizes.{IsSmall, IsSmallWeight};
-ghost use Rattle.tp_net.specs.Slacks.{JoinsPoints};
-ghost use Rattle.tp_net.specs.Moments.{IsStart};
-ghost use Rattle.tp_repair_engine.specs.Flow.{link_of, sum_to};
-ghost use Rattle.tp_repair_engine.specs.Store.{arcs_of, lists_of, keys_of, AreHalves};
+ghost use Rattle.tp_net.specs.Sizes.{IsSmall};
+ghost use Rattle.tp_repair_engine.specs.Flow.{sum_to};
+ghost use Rattle.tp_repair_engine.specs.Store.{arcs_of, keys_of};
+ghost use Rattle.tp_repair_engine.specs.Potential.{IsMetBy, link_in};
 ghost use Rattle.tp_repair_engine.specs.Work.{IsIdle};
 ghost use Rattle.tp_repair_engine.specs.Engine.{IsWired};
-ghost use Rattle.tp_repair_engine.specs.Loosened.{IsFreed, IsLowered, IsHeightened};
+ghost use Rattle.tp_repair_engine.specs.Loosened.{HasLost, IsFreed, IsLowered, IsHeightened};
 ghost use Rattle.tp_repair_engine.specs.declared.store.Direction.TheVariants.{Up, Down};
 
 use crate::engine::Engine;
 use crate::flow::Work;
-use crate::loosen::free;
-use crate::store::{Direction, Store};
+use crate::loosen::{Marked, free};
+use crate::potential::Potential;
+use crate::store::Direction;
 use crate::tighten::spread_from;
 use std::alloc::{AllocError, Global};
 use tp_net::slacks::{Arc, slack};
@@ -53,9 +53,7 @@ fn highest(high: &mut Vec<u64>, known: &[u64], amounts: &[u64], amount: u64)
 /// Whether an edge may hold the least moment of the point where it begins: it is tight there.
 pub fn holds_low(low: &[u64], arc: Arc) -> bool
     requires small { All IsSmall low.now }
-    requires among { JoinsPoints (length low.now) arc }
-    requires weight { IsSmallWeight arc.weight }
-    requires met { MeetsArc (moment low.now) arc }
+    requires met { IsMetBy low.now arc }
     ensures held { result ≡ true → (arc.from ≢ 0)
         × (moment low.now arc.to ≡ (moment low.now arc.from +ℤ arc.weight)) }
     ensures loose { result ≡ false → (arc.from ≡ 0)
@@ -70,9 +68,7 @@ pub fn holds_low(low: &[u64], arc: Arc) -> bool
 /// Whether an edge may hold the greatest moment of the point where it ends: it is tight there.
 pub fn holds_high(high: &[u64], arc: Arc) -> bool
     requires small { All IsSmall high.now }
-    requires among { JoinsPoints (length high.now) arc }
-    requires weight { IsSmallWeight arc.weight }
-    requires met { MeetsArc (moment high.now) arc }
+    requires met { IsMetBy high.now arc }
     ensures held { result ≡ true → (arc.to ≢ 0)
         × (moment high.now arc.to ≡ (moment high.now arc.from +ℤ arc.weight)) }
     ensures loose { result ≡ false → (arc.to ≡ 0)
@@ -87,165 +83,125 @@ pub fn holds_high(high: &[u64], arc: Arc) -> bool
 /// The amounts that meet the edges, where points that are not marked have the amount. Where the
 /// origin is marked, it alone has.
 fn free_marked(
-    store: &Store,
-    moments: &[u64],
+    marked: &Marked<'_>,
     direction: Direction,
-    marks: &[u64],
     work: &mut Work,
-    amount: u64,
 ) -> Result<u64, AllocError>
-    requires small { All IsSmall moments.now }
-    requires arcs { All (λ e. JoinsPoints (length moments.now) e × IsSmallWeight e.weight
-        × MeetsArc (moment moments.now) e) (arcs_of store.now.nodes.slots) }
-    requires lists_up { length (lists_of Up store.now) ≡ length moments.now }
-    requires lists_down { length (lists_of Down store.now) ≡ length moments.now }
-    requires halves_up { AreHalves Up store.now.nodes.slots (lists_of Up store.now) }
-    requires halves_down { AreHalves Down store.now.nodes.slots (lists_of Down store.now) }
-    requires looks_up { sum_to (λ y. length (keys_of Up store.now y)) (length moments.now)
-        < 2 ^ 61 }
-    requires looks_down { sum_to (λ y. length (keys_of Down store.now y)) (length moments.now)
-        < 2 ^ 61 }
-    requires marks { length marks.now ≡ length moments.now }
-    requires some { 0 < length moments.now }
-    requires positive { 0 < amount }
-    requires idle { IsIdle (length moments.now) work.old }
-    ensures idle { IsIdle (length moments.now) work.new }
-    ensures freed { OnOk result (IsFreed direction (arcs_of store.now.nodes.slots)
-        (length moments.now) (λ x. slice_index moments.now x) (λ x.
-        slice_index marks.now x) amount (λ x. slice_index work.new.amounts.items x)) }
-    ensures looks { IfOk result (λ looks.
-        looks ≤ sum_to (λ y. length (keys_of Up store.now y)) (length moments.now)
-        + sum_to (λ y. length (keys_of Down store.now y)) (length moments.now)) }
+    requires { IsIdle (length marked.now.potential.moments.now) work.old }
+    ensures idle { IsIdle (length marked.now.potential.moments.now) work.new }
+    ensures freed { OnOk result (IsFreed direction
+        (arcs_of marked.now.potential.store.now.nodes.slots)
+        (length marked.now.potential.moments.now) (λ x.
+        slice_index marked.now.potential.moments.now x) (λ x. slice_index marked.now.marks.now x)
+        marked.now.amount (λ x. slice_index work.new.amounts.items x)) }
+    ensures looks { IfOk result (λ looks. looks ≤ sum_to (λ y.
+        length (keys_of Up marked.now.potential.store.now y))
+        (length marked.now.potential.moments.now)
+        + sum_to (λ y. length (keys_of Down marked.now.potential.store.now y))
+        (length marked.now.potential.moments.now)) }
 {
-    if marks[0] == 0 {
-        return Ok(free(store, moments, direction, marks, work, amount)?);
+    if marked.marks[0] == 0 {
+        return Ok(free(marked, direction, work)?);
     }
-    Ok(spread_from(store, moments, direction, work, 0, amount)?)
+    Ok(spread_from(&marked.potential, direction, work, 0, marked.amount)?)
 }
 
 /// Marks what follows a point by tight edges, and works out the amounts that marked points have by
 /// the others.
 fn held_back(
-    store: &Store,
-    moments: &[u64],
+    potential: &Potential<'_>,
     direction: Direction,
     marks: &mut Work,
     work: &mut Work,
     seed: usize,
     amount: u64,
 ) -> Result<u64, AllocError>
-    requires small { All IsSmall moments.now }
-    requires arcs { All (λ e. JoinsPoints (length moments.now) e × IsSmallWeight e.weight
-        × MeetsArc (moment moments.now) e) (arcs_of store.now.nodes.slots) }
-    requires lists_up { length (lists_of Up store.now) ≡ length moments.now }
-    requires lists_down { length (lists_of Down store.now) ≡ length moments.now }
-    requires halves_up { AreHalves Up store.now.nodes.slots (lists_of Up store.now) }
-    requires halves_down { AreHalves Down store.now.nodes.slots (lists_of Down store.now) }
-    requires looks_up { sum_to (λ y. length (keys_of Up store.now y)) (length moments.now)
-        < 2 ^ 61 }
-    requires looks_down { sum_to (λ y. length (keys_of Down store.now y)) (length moments.now)
-        < 2 ^ 61 }
-    requires seed { seed < length moments.now }
+    requires seed { seed < length potential.now.moments.now }
     requires positive { 0 < amount }
-    requires idle_marks { IsIdle (length moments.now) marks.old }
-    requires idle { IsIdle (length moments.now) work.old }
-    ensures idle_marks { IsIdle (length moments.now) marks.new }
-    ensures idle { IsIdle (length moments.now) work.new }
+    requires idle_marks { IsIdle (length potential.now.moments.now) marks.old }
+    requires idle { IsIdle (length potential.now.moments.now) work.old }
+    ensures idle_marks { IsIdle (length potential.now.moments.now) marks.new }
+    ensures idle { IsIdle (length potential.now.moments.now) work.new }
     ensures seeded { OnOk result (0 < slice_index marks.new.amounts.items seed) }
-    ensures follows { OnOk result ((k : ℕ) → k < length (arcs_of store.now.nodes.slots)
-        → MeetsLink (λ x. slice_index marks.new.amounts.items x) (link_of direction (λ x.
-        slice_index moments.now x) (arc_at (arcs_of store.now.nodes.slots) k))) }
-    ensures freed { OnOk result (IsFreed direction (arcs_of store.now.nodes.slots)
-        (length moments.now) (λ x. slice_index moments.now x) (λ x.
+    ensures follows { OnOk result ((k : ℕ)
+        → k < length (arcs_of potential.now.store.now.nodes.slots) → MeetsLink (λ x.
+        slice_index marks.new.amounts.items x)
+        (link_in direction potential.now.store.now potential.now.moments.now k)) }
+    ensures freed { OnOk result (IsFreed direction (arcs_of potential.now.store.now.nodes.slots)
+        (length potential.now.moments.now) (λ x. slice_index potential.now.moments.now x) (λ x.
         slice_index marks.new.amounts.items x) amount (λ x. slice_index work.new.amounts.items x)) }
-    ensures looks { IfOk result (λ looks.
-        looks ≤ 2 * (sum_to (λ y. length (keys_of Up store.now y)) (length moments.now)
-        + sum_to (λ y. length (keys_of Down store.now y)) (length moments.now))) }
+    ensures looks { IfOk result (λ looks. looks ≤ 2 * (sum_to (λ y.
+        length (keys_of Up potential.now.store.now y)) (length potential.now.moments.now)
+        + sum_to (λ y. length (keys_of Down potential.now.store.now y))
+        (length potential.now.moments.now))) }
 {
-    let marked = spread_from(store, moments, direction, marks, seed, 1)?;
-    let freed = free_marked(store, moments, direction, &marks.amounts, work, amount)?;
+    let marked = spread_from(potential, direction, marks, seed, 1)?;
+    let marked_points = Marked {
+        potential: *potential,
+        marks: &marks.amounts,
+        amount,
+    };
+    let freed = free_marked(&marked_points, direction, work)?;
     Ok(marked + freed)
 }
 
 /// The least moments without an edge that left, where it is known that they meet the others.
 fn low_without(
     alloc: Global,
-    store: &Store,
-    low: &[u64],
+    low: &Potential<'_>,
     up: &mut Work,
     down: &mut Work,
     arc: Arc,
     amount: u64,
 ) -> Result<(Vec<u64>, u64), AllocError>
-    requires start { IsStart (arcs_of store.now.nodes.slots) low.now amount }
-    requires positive { 0 < amount }
-    requires fits { amount < 2 ^ 41 }
-    requires among { JoinsPoints (length low.now) arc }
-    requires weight { IsSmallWeight arc.weight }
-    requires met { MeetsArc (moment low.now) arc }
-    requires lists_up { length (lists_of Up store.now) ≡ length low.now }
-    requires lists_down { length (lists_of Down store.now) ≡ length low.now }
-    requires halves_up { AreHalves Up store.now.nodes.slots (lists_of Up store.now) }
-    requires halves_down { AreHalves Down store.now.nodes.slots (lists_of Down store.now) }
-    requires looks_up { sum_to (λ y. length (keys_of Up store.now y)) (length low.now) < 2 ^ 61 }
-    requires looks_down { sum_to (λ y. length (keys_of Down store.now y)) (length low.now)
-        < 2 ^ 61 }
-    requires idle_up { IsIdle (length low.now) up.old }
-    requires idle_down { IsIdle (length low.now) down.old }
-    ensures idle_up { IsIdle (length low.now) up.new }
-    ensures idle_down { IsIdle (length low.now) down.new }
-    ensures lowered { IfOk result (λ r.
-        IsLowered (arcs_of store.now.nodes.slots) low.now arc r.0.items) }
-    ensures looks { IfOk result (λ r. r.1 ≤ 2 * (sum_to (λ y. length (keys_of Up store.now y))
-        (length low.now) + sum_to (λ y. length (keys_of Down store.now y)) (length low.now))) }
+    requires lost { HasLost (arcs_of low.now.store.now.nodes.slots) low.now.moments.now arc amount }
+    requires idle_up { IsIdle (length low.now.moments.now) up.old }
+    requires idle_down { IsIdle (length low.now.moments.now) down.old }
+    ensures idle_up { IsIdle (length low.now.moments.now) up.new }
+    ensures idle_down { IsIdle (length low.now.moments.now) down.new }
+    ensures lowered { IfOk result (λ r. IsLowered (arcs_of low.now.store.now.nodes.slots)
+        low.now.moments.now arc r.0.items) }
+    ensures looks { IfOk result (λ r. r.1 ≤ 2 * (sum_to (λ y.
+        length (keys_of Up low.now.store.now y)) (length low.now.moments.now)
+        + sum_to (λ y. length (keys_of Down low.now.store.now y))
+        (length low.now.moments.now))) }
 {
-    if !holds_low(low, arc) {
-        return Ok((Vec::from_slice(alloc, low)?, 0));
+    if !holds_low(low.moments, arc) {
+        return Ok((Vec::from_slice(alloc, low.moments)?, 0));
     }
-    let looks = held_back(store, low, Direction::Up, up, down, arc.from, amount)?;
-    let mut lowered = Vec::from_slice(alloc, low)?;
-    lowest(&mut lowered, low, &down.amounts, amount);
+    let looks = held_back(low, Direction::Up, up, down, arc.from, amount)?;
+    let mut lowered = Vec::from_slice(alloc, low.moments)?;
+    lowest(&mut lowered, low.moments, &down.amounts, amount);
     Ok((lowered, looks))
 }
 
 /// The greatest moments without an edge that left, where it is known that they meet the others.
 fn high_without(
     alloc: Global,
-    store: &Store,
-    high: &[u64],
+    high: &Potential<'_>,
     up: &mut Work,
     down: &mut Work,
     arc: Arc,
     amount: u64,
 ) -> Result<(Vec<u64>, u64), AllocError>
-    requires start { IsStart (arcs_of store.now.nodes.slots) high.now amount }
-    requires positive { 0 < amount }
-    requires fits { amount < 2 ^ 41 }
-    requires among { JoinsPoints (length high.now) arc }
-    requires weight { IsSmallWeight arc.weight }
-    requires met { MeetsArc (moment high.now) arc }
-    requires lists_up { length (lists_of Up store.now) ≡ length high.now }
-    requires lists_down { length (lists_of Down store.now) ≡ length high.now }
-    requires halves_up { AreHalves Up store.now.nodes.slots (lists_of Up store.now) }
-    requires halves_down { AreHalves Down store.now.nodes.slots (lists_of Down store.now) }
-    requires looks_up { sum_to (λ y. length (keys_of Up store.now y)) (length high.now) < 2 ^ 61 }
-    requires looks_down { sum_to (λ y. length (keys_of Down store.now y)) (length high.now)
-        < 2 ^ 61 }
-    requires idle_up { IsIdle (length high.now) up.old }
-    requires idle_down { IsIdle (length high.now) down.old }
-    ensures idle_up { IsIdle (length high.now) up.new }
-    ensures idle_down { IsIdle (length high.now) down.new }
-    ensures heightened { IfOk result (λ r.
-        IsHeightened (arcs_of store.now.nodes.slots) high.now arc r.0.items) }
-    ensures looks { IfOk result (λ r. r.1 ≤ 2 * (sum_to (λ y. length (keys_of Up store.now y))
-        (length high.now) + sum_to (λ y. length (keys_of Down store.now y)) (length high.now))) }
+    requires lost { HasLost (arcs_of high.now.store.now.nodes.slots) high.now.moments.now arc amount }
+    requires idle_up { IsIdle (length high.now.moments.now) up.old }
+    requires idle_down { IsIdle (length high.now.moments.now) down.old }
+    ensures idle_up { IsIdle (length high.now.moments.now) up.new }
+    ensures idle_down { IsIdle (length high.now.moments.now) down.new }
+    ensures heightened { IfOk result (λ r. IsHeightened (arcs_of high.now.store.now.nodes.slots)
+        high.now.moments.now arc r.0.items) }
+    ensures looks { IfOk result (λ r. r.1 ≤ 2 * (sum_to (λ y.
+        length (keys_of Up high.now.store.now y)) (length high.now.moments.now)
+        + sum_to (λ y. length (keys_of Down high.now.store.now y))
+        (length high.now.moments.now))) }
 {
-    if !holds_high(high, arc) {
-        return Ok((Vec::from_slice(alloc, high)?, 0));
+    if !holds_high(high.moments, arc) {
+        return Ok((Vec::from_slice(alloc, high.moments)?, 0));
     }
-    let looks = held_back(store, high, Direction::Down, down, up, arc.to, amount)?;
-    let mut heightened = Vec::from_slice(alloc, high)?;
-    highest(&mut heightened, high, &up.amounts, amount);
+    let looks = held_back(high, Direction::Down, down, up, arc.to, amount)?;
+    let mut heightened = Vec::from_slice(alloc, high.moments)?;
+    highest(&mut heightened, high.moments, &up.amounts, amount);
     Ok((heightened, looks))
 }
 
@@ -253,16 +209,10 @@ fn high_without(
 /// growth is refused, they stay.
 pub fn solve(alloc: Global, engine: &mut Engine, arc: Arc, amount: u64) -> Result<(), AllocError>
     requires wired { (edges : ℕ) × IsWired (length engine.old.low.items) edges engine.old }
-    requires start_low { IsStart
-        (arcs_of engine.old.store.nodes.slots) engine.old.low.items amount }
-    requires start_high { IsStart
-        (arcs_of engine.old.store.nodes.slots) engine.old.high.items amount }
-    requires positive { 0 < amount }
-    requires amount { amount < 2 ^ 41 }
-    requires among { JoinsPoints (length engine.old.low.items) arc }
-    requires weight { IsSmallWeight arc.weight }
-    requires met_low { MeetsArc (moment engine.old.low.items) arc }
-    requires met_high { MeetsArc (moment engine.old.high.items) arc }
+    requires lost_low { HasLost (arcs_of engine.old.store.nodes.slots) engine.old.low.items arc
+        amount }
+    requires lost_high { HasLost (arcs_of engine.old.store.nodes.slots) engine.old.high.items arc
+        amount }
     ensures wired { (edges : ℕ) → IsWired (length engine.old.low.items) edges engine.old
         → IsWired (length engine.old.low.items) edges engine.new }
     ensures store { engine.new.store ≡ engine.old.store }
@@ -277,24 +227,16 @@ pub fn solve(alloc: Global, engine: &mut Engine, arc: Arc, amount: u64) -> Resul
     ensures some { OnOk result (1 ≤ engine.new.looks) }
     ensures err_looks { OnErr result (engine.new.looks ≡ engine.old.looks) }
 {
-    let (low, more) = low_without(
-        alloc,
-        &engine.store,
-        &engine.low,
-        &mut engine.up,
-        &mut engine.down,
-        arc,
-        amount,
-    )?;
-    let (high, rest) = high_without(
-        alloc,
-        &engine.store,
-        &engine.high,
-        &mut engine.up,
-        &mut engine.down,
-        arc,
-        amount,
-    )?;
+    let low = Potential {
+        store: &engine.store,
+        moments: &engine.low,
+    };
+    let (low, more) = low_without(alloc, &low, &mut engine.up, &mut engine.down, arc, amount)?;
+    let high = Potential {
+        store: &engine.store,
+        moments: &engine.high,
+    };
+    let (high, rest) = high_without(alloc, &high, &mut engine.up, &mut engine.down, arc, amount)?;
     engine.low = low;
     engine.high = high;
     engine.looks = 1 + more + rest;

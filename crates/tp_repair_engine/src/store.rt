@@ -2,7 +2,7 @@
 ghost use Rattle.std.specs.Prelude.{◌≡◌, ◌≢◌, ℕ, List, ◌+◌, ◌-◌, ◌<◌, ◌≤◌, ◌^◌, ◌∷◌, ◌++◌, [], length, OnOk, OnErr, IfOk, MatchOption, All, Some, None};
 ghost use Rattle.tp_net.specs.declared.slacks.Arc.{Arc};
 ghost use Rattle.slab.specs.Slab.{get, ContainsKey, SameValues};
-ghost use Rattle.tp_repair_engine.specs.Store.{lists_of, halves_at, half_at, half_of, keys_of, near, one_at, placed, weighed, AreHalves, AreHalvesBut, AreMoved, KeepsOthers, IsNode, SamePoints, HasNode, arcs_of, names_of, kept_arcs};
+ghost use Rattle.tp_repair_engine.specs.Store.{lists_of, halves_at, half_at, half_of, keys_of, near, one_at, placed, weighed, AreHalves, AreHalvesBut, AreMoved, KeepsOthers, IsNode, SamePoints, HasNode, HasPoints, arcs_of, names_of, kept_arcs};
 ghost use Rattle.tp_net.specs.Arcs.{NamesCycle};
 ghost use Rattle.tp_net.specs.Moments.{CycleBeginsWith};
 ghost use Rattle.tp_repair_engine.specs.declared.store.Direction.TheVariants.{Up, Down};
@@ -199,8 +199,7 @@ fn push_both(
 
 /// Puts an edge under a key that is free, and after the others in the lists of both its points.
 pub fn insert(store: &mut Store, name: Edge, arc: Arc) -> Result<usize, AllocError>
-    requires into { arc.to < length store.old.into.items }
-    requires out { arc.from < length store.old.out.items }
+    requires points { HasPoints store.old arc }
     requires halves_in { AreHalves Up store.old.nodes.slots store.old.into.items }
     requires halves_out { AreHalves Down store.old.nodes.slots store.old.out.items }
     ensures points { SamePoints store.old store.new }

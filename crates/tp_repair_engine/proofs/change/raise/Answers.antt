@@ -3,7 +3,7 @@ use Rattle.tp_repair_engine.specs.declared.engine.Engine.{Engine}
 use Rattle.tp_repair_engine.specs.declared.store.Direction.TheVariants.{Up, Down}
 use Rattle.tp_repair_engine.specs.Store.{arcs_of, keys_of}
 use Rattle.tp_repair_engine.specs.Asked.{AsksFloor, IsRaisedTo}
-use Rattle.tp_repair_engine.proofs.Wires.{sum_same}
+use Rattle.tp_repair_engine.proofs.Wires.{sum_same, low_potential, high_small}
 use Rattle.tp_repair_engine.specs.Flow.{looks_at}
 use Rattle.tp_repair_engine.proofs.Cheap.{read_most}
 use Rattle.tp_repair_engine.proofs.Rises.{floors_below_high, floors_exact}
@@ -14,9 +14,9 @@ move_up-requires-clause-fits c = λ x within.
     let g : Engine = c.args.engine.now in
     let low = g.low.items in
     let amounts = c.rise_floors.new.work.amounts.items in
-    let r : IsRaisedTo (arcs_of g.store.nodes.slots) (AsksFloor c.args.fixed.now c.args.lags.now c.args.now) low amounts = simp c.deref.ensures.value at c.in_ok-looks.ensures.raised in
-    let h = floors_below_high c.args.now c.args.lags.now c.args.floors.now c.args.fixed.now g.store.nodes.slots low g.high.items amounts c.requires.exact c.requires.holds.origin c.requires.wait r x within in
-    let s = c.requires.small x 0 (let l = c.requires.exact.len in omega (arith, within, l)) in
+    let r : IsRaisedTo (arcs_of g.store.nodes.slots) (AsksFloor c.args.fixed.now c.args.lags.now c.args.now) low amounts = simp c.deref.ensures.value at c.in_ok-engine.ensures.raised in
+    let h = floors_below_high c.args.now c.args.lags.now c.args.floors.now c.args.fixed.now g.store.nodes.slots low g.high.items amounts c.requires.solved.exact c.requires.solved.holds.origin c.requires.wait r x within in
+    let s = high_small g c.requires.solved x 0 (let l = c.requires.solved.exact.len in omega (arith, within, l)) in
     omega (arith, h, s)
 
 pub returns-clause-ok : goal.returns-clause-ok
@@ -29,8 +29,9 @@ returns-clause-ok c =
     let amounts = c.rise_floors.new.work.amounts.items in
     let at : c.deref.result.now ≡ low = c.deref.ensures.value in
     let same : length c.deref.result.now ≡ length low = ap (λ (xs : List ℕ). length xs) at in
-    let r : IsRaisedTo (arcs_of old) (AsksFloor c.args.fixed.now c.args.lags.now c.args.now) low amounts = simp c.deref.ensures.value at c.in_ok-looks.ensures.raised in
+    let r : IsRaisedTo (arcs_of old) (AsksFloor c.args.fixed.now c.args.lags.now c.args.now) low amounts = simp c.deref.ensures.value at c.in_ok-engine.ensures.raised in
     let b = c.requires.before in
+    let floors = c.requires.floors in
     record {
       wired = λ edges w. record {
         some = w.some;
@@ -48,15 +49,18 @@ returns-clause-ok c =
       };
       edges = e.mapped;
       degrees = e.degrees;
-      exact = floors_exact c.args.now c.args.lags.now c.args.floors.now c.args.fixed.now old low g.high.items amounts c.requires.exact c.requires.holds.origin c.requires.wait r
-          b.0 new c.move_up.new.low.items b.1 c.requires.only c.requires.floors b.2 c.requires.from e.mapped c.move_up.ensures.len c.move_up.ensures.each;
+      exact = floors_exact c.args.now c.args.lags.now c.args.floors.now c.args.fixed.now old low g.high.items amounts c.requires.solved.exact c.requires.solved.holds.origin c.requires.wait r
+          b.clock new c.move_up.new.low.items b.earlier floors.only floors.there b.arcs b.from e.mapped c.move_up.ensures.len c.move_up.ensures.each;
     }
 
 pub returns-clause-most : goal.returns-clause-most
 returns-clause-most c = λ edges w.
     let g : Engine = c.args.engine.now in
     let same : length c.deref.result.now ≡ length g.low.items = ap (λ (xs : List ℕ). length xs) c.deref.ensures.value in
-    let read : c.in_ok-looks.looks ≡ looks_at (keys_of Up g.store) (λ x. get_or c.rise_floors.new.work.amounts.items x 0) (length g.low.items) = simp same at c.in_ok-looks.ensures.looks in
+    let read : c.in_ok-engine.field-0 ≡ looks_at (keys_of Up g.store) (λ x. get_or c.rise_floors.new.work.amounts.items x 0) (length g.low.items) = simp same at c.in_ok-engine.ensures.looks in
     let most = read_most (keys_of Up g.store) (λ x. get_or c.rise_floors.new.work.amounts.items x 0) (length g.low.items) in
     let many = w.many_up in
     omega (arith, read, most, many)
+
+pub invariant_of-low : goal.invariant_of-low
+invariant_of-low c = rw c.deref.ensures.value (record { met = low_potential c.args.engine.now c.requires.solved })

@@ -1,8 +1,7 @@
-use Rattle.std.proofs.Common.{◌≡◌, ◌≢◌, ℕ, ◌+◌, length, refl, sym, ap, subst, ◌∙◌, rules, w64}
+use Rattle.std.proofs.Common.{◌≡◌, ◌≢◌, ℕ, ◌+◌, length, refl, sym, ap, subst, ◌∙◌, arith, rules, w64}
 use Rattle.std.proofs.lemmas.Int.{to_z-of_z}
 use mir.Val.{SFits}
 use Rattle.std.specs.Prelude.{Some, None, slice_index_or, pos}
-use Rattle.tp_net.specs.Graph.{moment}
 use Rattle.tp_net.specs.Slacks.{JoinsPoints}
 use Rattle.tp_repair_engine.specs.declared.engine.Engine.{Engine}
 use Rattle.tp_repair_engine.specs.declared.store.Node.{Node}
@@ -10,8 +9,7 @@ use Rattle.tp_repair_engine.specs.declared.store.Store.{Store}
 use Rattle.tp_repair_engine.specs.declared.store.Direction.{Direction}
 use Rattle.tp_repair_engine.specs.declared.store.Direction.TheVariants.{Up, Down}
 use Rattle.tp_repair_engine.specs.Store.{weighed, KeepsOthers, keys_of, near, one_at}
-use Rattle.tp_repair_engine.proofs.Nodes.{key_met}
-use Rattle.tp_repair_engine.proofs.Wires.{wired_store, wired_removed}
+use Rattle.tp_repair_engine.proofs.Wires.{wired_store, wired_removed, leaving_met}
 use Rattle.tp_repair_engine.proofs.Settled.{put_back}
 use Rattle.tp_repair_engine.proofs.Changes.{heavy_start, heavy_exact}
 use Rattle.tp_repair_engine.proofs.Held.{renewed_exact}
@@ -21,41 +19,39 @@ pub solve-requires-clause-wired : goal.solve-requires-clause-wired
 solve-requires-clause-wired c =
     let g : Engine = c.args.engine.now in
     let e = c.set_edge.ensures in
-    (c.requires.wired.0, wired_store (length g.low.items) c.requires.wired.0 g c.set_edge.new.store c.requires.wired.1 e.points e.halves_in e.halves_out e.degrees)
+    (c.requires.solved.edges, wired_store (length g.low.items) c.requires.solved.edges g c.set_edge.new.store c.requires.solved.wired e.points e.halves_in e.halves_out e.degrees)
 
-pub solve-requires-clause-start_low : goal.solve-requires-clause-start_low
-solve-requires-clause-start_low c =
+pub solve-requires-clause-lost_low : goal.solve-requires-clause-lost_low
+solve-requires-clause-lost_low c =
     let g : Engine = c.args.engine.now in
     let old = g.store.nodes.slots in
     let mid = c.set_edge.new.store.nodes.slots in
+    let may = c.requires.may in
     let n : Node = c.index-node.result.now in
     let m : Node = weighed n.name (pos 1_000_000_000_000) n in
-    let both : Some c.requires.node.0 ≡ Some n = sym c.requires.node.1 ∙ c.index-node.ensures in
-    let it : c.requires.node.0 ≡ n = cc in
-    let joins : JoinsPoints (length g.low.items) n.arc = subst (λ (x : Node). JoinsPoints (length g.low.items) x.arc) it c.requires.node.2 in
-    heavy_start old mid mid c.args.key m g.low.items c.args.amount (c.set_edge.ensures.here n c.index-node.ensures) c.set_edge.ensures.others joins refl c.requires.low c.requires.positive c.requires.amount c.requires.start
+    let met = leaving_met c.args.key c.args.amount g may n c.index-node.ensures g.low.items refl c.requires.solved.exact.least.solution in
+    record {
+      start = heavy_start old mid mid c.args.key m g.low.items c.args.amount (c.set_edge.ensures.here n c.index-node.ensures) c.set_edge.ensures.others met.0 refl c.requires.solved.low_fits may.positive may.amount_fits may.low;
+      met = met;
+      positive = may.positive;
+      fits = omega (arith, may.amount_fits);
+    }
 
-pub solve-requires-clause-start_high : goal.solve-requires-clause-start_high
-solve-requires-clause-start_high c =
+pub solve-requires-clause-lost_high : goal.solve-requires-clause-lost_high
+solve-requires-clause-lost_high c =
     let g : Engine = c.args.engine.now in
     let old = g.store.nodes.slots in
     let mid = c.set_edge.new.store.nodes.slots in
+    let may = c.requires.may in
     let n : Node = c.index-node.result.now in
     let m : Node = weighed n.name (pos 1_000_000_000_000) n in
-    let both : Some c.requires.node.0 ≡ Some n = sym c.requires.node.1 ∙ c.index-node.ensures in
-    let it : c.requires.node.0 ≡ n = cc in
-    let joins : JoinsPoints (length g.high.items) n.arc = subst (λ k. JoinsPoints k n.arc) c.requires.exact.len (subst (λ (x : Node). JoinsPoints (length g.low.items) x.arc) it c.requires.node.2) in
-    heavy_start old mid mid c.args.key m g.high.items c.args.amount (c.set_edge.ensures.here n c.index-node.ensures) c.set_edge.ensures.others joins refl c.requires.high c.requires.positive c.requires.amount c.requires.start_high
-
-pub solve-requires-clause-met_low : goal.solve-requires-clause-met_low
-solve-requires-clause-met_low c =
-    let g : Engine = c.args.engine.now in
-    key_met g.store.nodes.slots (moment g.low.items) c.args.key c.index-node.result.now c.index-node.ensures c.requires.exact.least.solution
-
-pub solve-requires-clause-met_high : goal.solve-requires-clause-met_high
-solve-requires-clause-met_high c =
-    let g : Engine = c.args.engine.now in
-    key_met g.store.nodes.slots (moment g.high.items) c.args.key c.index-node.result.now c.index-node.ensures c.requires.exact.greatest.solution
+    let met = leaving_met c.args.key c.args.amount g may n c.index-node.ensures g.high.items c.requires.solved.exact.len c.requires.solved.exact.greatest.solution in
+    record {
+      start = heavy_start old mid mid c.args.key m g.high.items c.args.amount (c.set_edge.ensures.here n c.index-node.ensures) c.set_edge.ensures.others met.0 refl c.requires.solved.high_fits may.positive may.amount_fits may.high;
+      met = met;
+      positive = may.positive;
+      fits = omega (arith, may.amount_fits);
+    }
 
 pub returns-in-Err-clause-err : goal.returns-in-Err-clause-err
 returns-in-Err-clause-err c =
@@ -97,9 +93,9 @@ returns-clause-ok c =
     let new = c.remove.new.store.nodes.slots in
     let n : Node = c.index-node.result.now in
     let m : Node = weighed n.name (pos 1_000_000_000_000) n in
-    let both : Some c.requires.node.0 ≡ Some n = sym c.requires.node.1 ∙ c.index-node.ensures in
-    let it : c.requires.node.0 ≡ n = cc in
-    let joins : JoinsPoints p n.arc = subst (λ (x : Node). JoinsPoints p x.arc) it c.requires.node.2 in
+    let both : Some c.requires.may.node ≡ Some n = sym c.requires.may.here ∙ c.index-node.ensures in
+    let it : c.requires.may.node ≡ n = cc in
+    let joins : JoinsPoints p n.arc = subst (λ (x : Node). JoinsPoints p x.arc) it c.requires.may.joins in
     let here = e.here n c.index-node.ensures in
     let there : slice_index_or h.store.nodes.slots c.args.key None ≡ Some m = ap (λ (s : Store). slice_index_or s.nodes.slots c.args.key None) c.solve.ensures.store ∙ here in
     let stay : (k : ℕ) → k ≢ c.args.key → slice_index_or h.store.nodes.slots k None ≡ slice_index_or old k None = λ k ne. (ap (λ (s : Store). slice_index_or s.nodes.slots k None) c.solve.ensures.store ∙ e.others k ne) in
@@ -118,8 +114,8 @@ returns-clause-ok c =
         forth = λ k x ne is. f.others.forth k x ne (stay k ne ∙ is);
         back = λ k x ne is. (let y = f.others.back k x ne is in (y.0, sym (stay k ne) ∙ y.1, y.2, y.3));
       };
-      exact = heavy_exact old mid new c.args.key m g.low.items c.args.amount here e.others joins refl c.requires.low c.requires.positive c.requires.amount c.requires.start keeps f.gone h.low.items h.high.items
-          (renewed_exact old mid c.args.key n g.low.items g.high.items h.low.items h.high.items c.requires.exact c.index-node.ensures e.others c.in_default.ensures.lowered c.in_default.ensures.heightened);
+      exact = heavy_exact old mid new c.args.key m g.low.items c.args.amount here e.others joins refl c.requires.solved.low_fits c.requires.may.positive c.requires.may.amount_fits c.requires.may.low keeps f.gone h.low.items h.high.items
+          (renewed_exact old mid c.args.key n g.low.items g.high.items h.low.items h.high.items c.requires.solved.exact c.index-node.ensures e.others c.in_default.ensures.lowered c.in_default.ensures.heightened);
     }
 
 pub returns-clause-looks : goal.returns-clause-looks

@@ -35,7 +35,7 @@ loop-e-preserved c =
           let new = w.set_edge.new.store.nodes.slots in
           let a = w.set_edge.ensures in
           let free : slice_index_or fixed e None ≡ None = none_is (slice_index_or fixed e None) c.is_none.result c.is_none.ensures w.if-is_none.true in
-          let n = c.requires.floors e c.loop-e-test.true free in
+          let n = c.requires.floors.there e c.loop-e-test.true free in
           let m = i.mapped.forth (get_or floors e 0) n.0 n.1 in
           let fits : SFits w64 w.start_arc.result.weight = search rules in
           let here : slice_index_or new (get_or floors e 0) None ≡ Some (weighed (Now e) w.start_arc.result.weight m.0) = simp to_z-of_z at (a.here m.0 m.1) in
@@ -46,7 +46,7 @@ loop-e-preserved c =
             halves_in = a.halves_in;
             halves_out = a.halves_out;
             degrees = λ d y. a.degrees d y ∙ i.degrees d y;
-            mapped = upto_written e now (get_or floors e 0) lags floors fixed old mid new m.0 w.start_arc.result.weight refl c.requires.only i.mapped m.1 (m.2 ∙ n.2) weight here a.others;
+            mapped = upto_written e now (get_or floors e 0) lags floors fixed old mid new m.0 w.start_arc.result.weight refl c.requires.floors.only i.mapped m.1 (m.2 ∙ n.2) weight here a.others;
           })
       | else-is_none w ↦
           let closed : slice_index_or fixed e None ≢ None = some_is (slice_index_or fixed e None) c.is_none.result c.is_none.ensures w.if-is_none.false in
@@ -56,11 +56,11 @@ loop-e-preserved c =
             halves_in = i.halves_in;
             halves_out = i.halves_out;
             degrees = i.degrees;
-            mapped = upto_passed e now lags old mid (λ k n is named. closed (open_is floors fixed n.name e k named (c.requires.only k n is)).1) i.mapped;
+            mapped = upto_passed e now lags old mid (λ k n is named. closed (open_is floors fixed n.name e k named (c.requires.floors.only k n is)).1) i.mapped;
           })
     ]
 
 pub returns-clause-mapped : goal.returns-clause-mapped
 returns-clause-mapped c =
     let done : c.loop-e.e ≡ length c.args.fixed.now = omega arith in
-    upto_all c.args.now c.args.lags.now c.args.floors.now c.args.fixed.now c.args.store.now.nodes.slots c.loop-e.store.nodes.slots c.loop-e.e done c.requires.only c.loop-e.invariant.mapped
+    upto_all c.args.now c.args.lags.now c.args.floors.now c.args.fixed.now c.args.store.now.nodes.slots c.loop-e.store.nodes.slots c.loop-e.e done c.requires.floors.only c.loop-e.invariant.mapped

@@ -14,7 +14,7 @@ use Rattle.tp_repair_engine.specs.declared.engine.Engine.{Engine}
 use Rattle.tp_repair_engine.specs.declared.store.Direction.TheVariants.{Up, Down}
 use Rattle.tp_repair_engine.specs.Store.{arcs_of, keys_of, weighed}
 use Rattle.tp_repair_engine.specs.Work.{Rises, Falls, WouldRise, IsIdle}
-use Rattle.tp_repair_engine.proofs.Wires.{sum_same}
+use Rattle.tp_repair_engine.proofs.Wires.{sum_same, low_potential, high_potential}
 use Rattle.tp_repair_engine.proofs.Settled.{two_keys, settled_mapped}
 use Rattle.tp_repair_engine.proofs.Names.{has_key}
 use Rattle.tp_repair_engine.proofs.Fixed.{cycle_none, between_met, fixed_exact}
@@ -35,9 +35,9 @@ unreachable-requires c =
     let back = get_or high (suc e) 0 - m in
     let new = arc_of (at_least e m) in
     let t : ℕ → ℤ = λ x. pos (max (get_or low x 0) (get_or high x 0 - back)) in
-    let s = between_met arcs low high back c.requires.exact.least.solution c.requires.exact.greatest.solution in
-    let above = c.requires.above in
-    let below = c.requires.below in
+    let s = between_met arcs low high back c.requires.solved.exact.least.solution c.requires.solved.exact.greatest.solution in
+    let above = c.requires.window.above in
+    let below = c.requires.window.below in
     let at : max (get_or low (suc e) 0) (get_or high (suc e) 0 - back) ≡ m = max_is (get_or low (suc e) 0) (get_or high (suc e) 0) m (omega (arith, above)) (omega (arith, below)) in
     let o = s.0 in
     let met : MeetsArc t new = omega (arith, ints, at, o) in
@@ -54,9 +54,9 @@ fall-requires-clause-solution c =
     let m = c.args.moment in
     let back = get_or high (suc e) 0 - m in
     let t : ℕ → ℤ = λ x. pos (max (get_or low x 0) (get_or high x 0 - back)) in
-    let s = between_met arcs low high back c.requires.exact.least.solution c.requires.exact.greatest.solution in
-    let above = c.requires.above in
-    let below = c.requires.below in
+    let s = between_met arcs low high back c.requires.solved.exact.least.solution c.requires.solved.exact.greatest.solution in
+    let above = c.requires.window.above in
+    let below = c.requires.window.below in
     let at : max (get_or low (suc e) 0) (get_or high (suc e) 0 - back) ≡ m = max_is (get_or low (suc e) 0) (get_or high (suc e) 0) m (omega (arith, above)) (omega (arith, below)) in
     let o = s.0 in
     let new = arc_of (at_most e m) in
@@ -67,8 +67,8 @@ pub set_edge-requires-2-clause-exists : goal.set_edge-requires-2-clause-exists
 set_edge-requires-2-clause-exists c =
     let g : Engine = c.args.engine.now in
     let mid = c.set_edge.new.store.nodes.slots in
-    let nf = c.requires.floor in
-    let nh = c.requires.end in
+    let nf = c.requires.keys.floor in
+    let nh = c.requires.keys.end in
     let apart = two_keys c.args.e c.args.moment c.args.floor c.args.end g.store.nodes.slots mid mid nf.0 nh.0 nf.1 nf.2 nh.1 nh.2 in
     has_key mid c.args.end (nh.0, c.set_edge.ensures.others c.args.end apart ∙ nh.1)
 
@@ -82,9 +82,9 @@ returns-clause-ok c =
     let m = c.args.moment in
     let back = get_or high (suc e) 0 - m in
     let t : ℕ → ℤ = λ x. pos (max (get_or low x 0) (get_or high x 0 - back)) in
-    let s = between_met arcs low high back c.requires.exact.least.solution c.requires.exact.greatest.solution in
-    let above = c.requires.above in
-    let below = c.requires.below in
+    let s = between_met arcs low high back c.requires.solved.exact.least.solution c.requires.solved.exact.greatest.solution in
+    let above = c.requires.window.above in
+    let below = c.requires.window.below in
     let at : max (get_or low (suc e) 0) (get_or high (suc e) 0 - back) ≡ m = max_is (get_or low (suc e) 0) (get_or high (suc e) 0) m (omega (arith, above)) (omega (arith, below)) in
     let o = s.0 in
     let a = c.set_edge.ensures in
@@ -92,13 +92,13 @@ returns-clause-ok c =
     let old = g.store.nodes.slots in
     let mid = c.set_edge.new.store.nodes.slots in
     let new = c.set_edge-2.new.store.nodes.slots in
-    let nf = c.requires.floor in
-    let nh = c.requires.end in
+    let nf = c.requires.keys.floor in
+    let nh = c.requires.keys.end in
     let up = c.rise.new.work.amounts.items in
     let down = c.fall.new.work.amounts.items in
     let same : length c.deref.result.now ≡ length low = ap (λ (xs : List ℕ). length xs) c.deref.ensures.value in
     let same_high : length c.deref-2.result.now ≡ length high = ap (λ (xs : List ℕ). length xs) c.deref-2.ensures.value in
-    let high_low : length c.deref-2.result.now ≡ length low = same_high ∙ sym c.requires.exact.len in
+    let high_low : length c.deref-2.result.now ≡ length low = same_high ∙ sym c.requires.solved.exact.len in
     let apart = two_keys e m c.args.floor c.args.end old mid new nf.0 nh.0 nf.1 nf.2 nh.1 nh.2 in
     let fits : SFits w64 c.start_arc-start.result.weight = search rules in
     let fits_high : SFits w64 c.stop_arc-stop.result.weight = search rules in
@@ -127,16 +127,16 @@ returns-clause-ok c =
         few = wd.few;
       };
       degrees = λ d y. b.degrees d y ∙ a.degrees d y;
-      edges = settled_mapped e m c.args.floor c.args.end old mid new nf.0 nh.0 nf.1 nf.2 nh.1 nh.2 v w c.requires.only_floor c.requires.only_end f_now a.others h_now b.others v_is w_is;
+      edges = settled_mapped e m c.args.floor c.args.end old mid new nf.0 nh.0 nf.1 nf.2 nh.1 nh.2 v w c.requires.keys.only_floor c.requires.keys.only_end f_now a.others h_now b.others v_is w_is;
       exact = fixed_exact e m c.args.floor c.args.end old new nf.0 nh.0 (PastLow e) (PastHigh e) v w nf.1 nh.1 f_new h_now (λ k ne other. b.others k other ∙ a.others k ne)
           (nf.3, nf.4, nf.5) (nh.3, nh.4, nh.5) v_is w_is
           c.move_up.new.low.items c.move_down.new.high.items
-          (let l = c.move_up.ensures.len in let p = c.requires.point in omega (arith, l, p))
-          (let l = c.move_down.ensures.len in let p = c.requires.point in let q = c.requires.exact.len in omega (arith, l, p, q))
+          (let l = c.move_up.ensures.len in let p = c.requires.window.point in omega (arith, l, p))
+          (let l = c.move_down.ensures.len in let p = c.requires.window.point in let q = c.requires.solved.exact.len in omega (arith, l, p, q))
           (rises.least c.move_up.new.low.items c.move_up.ensures.len c.move_up.ensures.each)
           (falls.greatest c.move_down.new.high.items c.move_down.ensures.len c.move_down.ensures.each)
           t s (ap pos at)
-          (c.move_up.ensures.len ∙ (c.requires.exact.len ∙ sym c.move_down.ensures.len));
+          (c.move_up.ensures.len ∙ (c.requires.solved.exact.len ∙ sym c.move_down.ensures.len));
     }
 
 pub returns-clause-moves : goal.returns-clause-moves
@@ -146,7 +146,7 @@ returns-clause-moves c =
     let e = c.args.e in
     let m = c.args.moment in
     let falls : Falls arcs (arc_of (at_most e m)) g.high.items c.fall.new.work.amounts.items = simp (c.deref-2.ensures.value, c.stop_arc-stop.ensures) at c.in_ok-fall.ensures.falls in
-    let len = c.requires.exact.len in
+    let len = c.requires.solved.exact.len in
     record {
       up = c.move_up.ensures.each;
       down = λ x within.
@@ -154,3 +154,9 @@ returns-clause-moves c =
           let w = falls.within x (omega (arith, within, len)) in
           omega (arith, h, w));
     }
+
+pub invariant_of-low : goal.invariant_of-low
+invariant_of-low c = rw c.deref.ensures.value (record { met = low_potential c.args.engine.now c.requires.solved })
+
+pub invariant_of-high : goal.invariant_of-high
+invariant_of-high c = rw c.deref-2.ensures.value (record { met = high_potential c.args.engine.now c.requires.solved })

@@ -5,7 +5,7 @@ use Rattle.tp_repair_engine.proofs.engine.record.Goals as goal
 
 pub returns-clause-ok : goal.returns-clause-ok
 returns-clause-ok c =
-    let none : c.in_default.field-0 ≡ None = c.in_default.ensures.old ∙ c.requires.bound in
+    let none : c.in_default.field-0 ≡ None = c.in_default.ensures.old ∙ c.requires.free.0 in
     record {
       holds = held_inserted c.args.bounds.now c.insert-2.new.self c.args.id.0 c.args.bound c.in_default.ensures.updates.0;
       len = c.in_default.ensures.len ∙ ap (λ o. btree_map_len c.args.bounds.now + cond (is_some o) 0 1) none;

@@ -1,31 +1,23 @@
-use Rattle.std.proofs.Common.{◌≡◌, ℕ, ◌+◌, ◌<◌, ◌^◌, length, get_or, set, subst, sym, ap, ◌∙◌, arith, rules, List, [], ◌∷◌, take, drop, ◌++◌}
-use Rattle.std.specs.Prelude.{All, count_by, nat_eq}
+use Rattle.std.proofs.Common.{◌≡◌, ℕ, ◌+◌, ◌<◌, ◌^◌, length, get_or, set, subst, sym, arith, rules, [], ◌∷◌, take, drop, ◌++◌}
+use Rattle.std.specs.Prelude.{count_by, nat_eq}
 use Rattle.std.specs.BinaryHeap.{heap_items}
-use Rattle.tp_net.specs.declared.spread.Link.{Link}
-use Rattle.tp_net.specs.Graph.{arc_at}
-use Rattle.tp_net.proofs.Spreads.{written_back}
-use Rattle.tp_repair_engine.specs.Flow.{Flowing, link_of, looks_at, AreListed}
-use Rattle.std.specs.declared.alloc.Global.{Global}
-use Rattle.std.specs.declared.vec.Vec.{Vec}
-use Rattle.tp_net.specs.Graph.{MeetsArc, moment}
-use Rattle.tp_net.specs.Sizes.{IsSmallWeight}
-use Rattle.tp_net.specs.Slacks.{JoinsPoints}
-use Rattle.tp_repair_engine.specs.declared.store.Half.{Half}
-use Rattle.tp_repair_engine.specs.Store.{arcs_of, arc_along, lists_of, halves_at, half_at, keys_in, keys_of}
-use Rattle.tp_repair_engine.specs.Queue.{IsQueue}
-use Rattle.tp_repair_engine.proofs.Stores.{along_is, keys_len, halves_at_is, halves_have, list_far, list_weights, all_three}
-use Rattle.tp_repair_engine.proofs.Repairs.{halves_known}
 use Rattle.std.proofs.lemmas.Grind.{common_steps}
+use Rattle.tp_net.specs.declared.spread.Link.{Link}
+use Rattle.tp_net.proofs.Spreads.{written_back}
+use Rattle.tp_repair_engine.specs.Flow.{Flowing, looks_at}
+use Rattle.tp_repair_engine.specs.Potential.{link_in}
+use Rattle.tp_repair_engine.specs.Store.{keys_of}
+use Rattle.tp_repair_engine.specs.Queue.{IsQueue}
 use Rattle.tp_repair_engine.proofs.Flows.{IsOnward, onward_begins, onward_state, onward_more, looks_more, looks_within, order_more, flow_ended}
 use Rattle.tp_repair_engine.proofs.flow.flow.Goals as goal
 
 pub loop-point-init : goal.loop-point-init
 loop-point-init c =
-    let link : ℕ → Link = λ k. link_of c.args.direction (λ x. get_or c.args.moments.now x 0) (arc_at (arcs_of c.args.store.now.nodes.slots) k) in
+    let link : ℕ → Link = link_in c.args.direction c.args.potential.now.store.now c.args.potential.now.moments.now in
     let b = c.requires.begun in
     let w = c.args.work.now in
-    let keys = keys_of c.args.direction c.args.store.now in
-    let n = length c.args.moments.now in
+    let keys = keys_of c.args.direction c.args.potential.now.store.now in
+    let n = length c.args.potential.now.moments.now in
     let base = looks_at keys (λ x. get_or w.ranks.items x 0) n in
     let total = length w.order.items + count_by (λ r. nat_eq r 0) w.ranks.items in
     record {
@@ -37,27 +29,24 @@ loop-point-init c =
 
 pub overflow_add-looks : goal.overflow_add-looks
 overflow_add-looks c =
-    let link : ℕ → Link = λ k. link_of c.args.direction (λ x. get_or c.args.moments.now x 0) (arc_at (arcs_of c.args.store.now.nodes.slots) k) in
+    let link : ℕ → Link = link_in c.args.direction c.args.potential.now.store.now c.args.potential.now.moments.now in
     let w = c.loop-point.work in
     let point = c.in-Some.point in
-    let n = length c.args.moments.now in
-    let lists = keys_of c.args.direction c.args.store.now in
+    let n = length c.args.potential.now.moments.now in
+    let lists = keys_of c.args.direction c.args.potential.now.store.now in
     let s = c.loop-point.invariant.onward in
     let base = looks_at lists (λ x. get_or c.args.work.now.ranks.items x 0) n in
     let total = length c.args.work.now.order.items + count_by (λ r. nat_eq r 0) c.args.work.now.ranks.items in
     let next = simp (c.deref.ensures.value, c.deref-in-loop-point.ensures.value) at c.in-Some.ensures.next in
     let more = looks_more link lists (λ x. get_or c.args.work.now.amounts.items x 0) n total (length w.order.items) (base + c.loop-point.looks) point w.amounts.items w.ranks.items w.parents.items s next.0 next.1 in
     let most = looks_within lists (λ x. get_or (set w.ranks.items point (length w.order.items + 1)) x 0) n in
-    let within_lists : point < length c.lists-lists.result.now = (let e : length c.lists-lists.result.now ≡ length (lists_of c.args.direction c.args.store.now) = ap (λ (ls : List (Vec Half Global)). length ls) c.lists-lists.ensures in omega (arith, e, next.0, c.loop-point.invariant.onward.amounts_len, c.requires.lists)) in
-    let row : c.deref-in-Some.result.now ≡ halves_at (lists_of c.args.direction c.args.store.now) point =
-    c.deref-in-Some.ensures.value ∙ halves_at_is c.lists-lists.result.now point c.index-lists-point.result within_lists c.index-lists-point.is ∙ ap (λ ls. halves_at ls point) c.lists-lists.ensures in
-    let e : c.in_ok-looks.field-0 ≡ length (lists point) = c.in_ok-looks.ensures.looks ∙ ap (λ (hs : List Half). length hs) row ∙ sym (keys_len (halves_at (lists_of c.args.direction c.args.store.now) point)) in
-    let h : c.loop-point.looks + c.in_ok-looks.field-0 < 2 ^ 64 = omega (arith, more, most, e, c.requires.looks) in
+    let e : c.in_ok-looks.field-0 ≡ length (lists point) = c.in_ok-looks.ensures.looks in
+    let h : c.loop-point.looks + c.in_ok-looks.field-0 < 2 ^ 64 = omega (arith, more, most, e, c.args.potential.now.met.few c.args.direction) in
     search rules
 
 pub loop-point-preserved : goal.loop-point-preserved
 loop-point-preserved c =
-    let link : ℕ → Link = λ k. link_of c.args.direction (λ x. get_or c.args.moments.now x 0) (arc_at (arcs_of c.args.store.now.nodes.slots) k) in
+    let link : ℕ → Link = link_in c.args.direction c.args.potential.now.store.now c.args.potential.now.moments.now in
     let w = c.loop-point.work in
     let amounts = w.amounts.items in
     let ranks = w.ranks.items in
@@ -66,8 +55,8 @@ loop-point-preserved c =
     let order' = c.push.new.self.items in
     let point = c.in-Some.point in
     let rank = c.len.result in
-    let n = length c.args.moments.now in
-    let lists = keys_of c.args.direction c.args.store.now in
+    let n = length c.args.potential.now.moments.now in
+    let lists = keys_of c.args.direction c.args.potential.now.store.now in
     let start : ℕ → ℕ = λ x. get_or c.args.work.now.amounts.items x 0 in
     let s = c.loop-point.invariant.onward in
     let base = looks_at lists (λ x. get_or c.args.work.now.ranks.items x 0) n in
@@ -78,32 +67,18 @@ loop-point-preserved c =
     let rank_is : rank ≡ length order + 1 = omega (arith, c.len.ensures, c.push.new.self.ok.0, len_order) in
     let state = onward_state link lists start n total (length order) (base + c.loop-point.looks) point amounts ranks parents s next.0 next.1 in
     let state' = subst (λ k. Flowing link lists start point 0 (λ x. get_or amounts x 0) (λ x. get_or (set ranks point k) x 0) (λ x. get_or parents x 0)) (sym rank_is) state in
-    let d = c.args.direction in
-    let m : ℕ → ℕ = λ x. get_or c.args.moments.now x 0 in
-    let slots = c.args.store.now.nodes.slots in
-    let within_lists : point < length c.lists-lists.result.now = (let e : length c.lists-lists.result.now ≡ length (lists_of c.args.direction c.args.store.now) = ap (λ (ls : List (Vec Half Global)). length ls) c.lists-lists.ensures in omega (arith, e, next.0, c.loop-point.invariant.onward.amounts_len, c.requires.lists)) in
-    let row : c.deref-in-Some.result.now ≡ halves_at (lists_of c.args.direction c.args.store.now) point =
-    c.deref-in-Some.ensures.value ∙ halves_at_is c.lists-lists.result.now point c.index-lists-point.result within_lists c.index-lists-point.is ∙ ap (λ ls. halves_at ls point) c.lists-lists.ensures in
-    let hs = halves_at (lists_of d c.args.store.now) point in
-    let listed : AreListed link lists = λ y j inside. (halves_known d m c.args.store.now c.requires.halves y j inside).1 in
-    let here : lists point ≡ keys_in c.deref-in-Some.result.now = ap (λ xs. keys_in xs) (sym row) in
-    let match : (j : ℕ) → j < length c.deref-in-Some.result.now → link (half_at c.deref-in-Some.result.now j).key ≡ link_of d m (arc_along d point (half_at c.deref-in-Some.result.now j)) =
-    subst (λ (xs : List Half). (j : ℕ) → j < length xs → link (half_at xs j).key ≡ link_of d m (arc_along d point (half_at xs j))) (sym row)
-    (λ j inside. ap (λ e. link_of d m e) (sym (along_is d slots point j (half_at hs j) (c.requires.halves.stand point j inside)).1)) in
-    let after0 = (simp (c.deref_mut.ensures.value, c.deref_mut-in-Some.ensures.value, c.deref-in-Some-2.ensures.value) at (c.in_ok-looks.ensures.flowing link lists start here match listed)) state' in
-    let len_row : length c.deref-in-Some.result.now ≡ length (lists point) = ap (λ (xs : List Half). length xs) row ∙ sym (keys_len hs) in
-    let after1 = subst (λ k. Flowing link lists start point k (λ x. get_or c.relax.new.amounts x 0) (λ x. get_or (set ranks point rank) x 0) (λ x. get_or c.relax.new.parents x 0)) len_row after0 in
-    let after = subst (λ k. Flowing link lists start point (length (lists point)) (λ x. get_or c.relax.new.amounts x 0) (λ x. get_or (set ranks point k) x 0) (λ x. get_or c.relax.new.parents x 0)) rank_is after1 in
+    let after0 = (simp (c.deref_mut.ensures.value, c.deref_mut-in-Some.ensures.value, c.deref-in-Some.ensures.value) at (c.in_ok-looks.ensures.flowing start)) state' in
+    let after = subst (λ k. Flowing link lists start point (length (lists point)) (λ x. get_or c.relax.new.amounts x 0) (λ x. get_or (set ranks point k) x 0) (λ x. get_or c.relax.new.parents x 0)) rank_is after0 in
     let len_a : length c.relax.new.amounts ≡ length amounts = omega arith in
     let len_p : length c.relax.new.parents ≡ length parents = omega arith in
     let on = onward_more link lists start n total (length order) (base + c.loop-point.looks) point amounts ranks parents s next.0 next.1 c.relax.new.amounts c.relax.new.parents len_a len_p after in
     let within : point < length ranks = omega (arith, next.0, s.amounts_len, s.ranks_len) in
     let on1 = subst (λ k. IsOnward link lists start n total k ((base + c.loop-point.looks) + length (lists point)) c.relax.new.amounts (set ranks point k) c.relax.new.parents) (sym rank_is) on in
     let on2 = subst (λ k. IsOnward link lists start n total k ((base + c.loop-point.looks) + length (lists point)) c.relax.new.amounts (set ranks point rank) c.relax.new.parents) (let e : rank ≡ length order' = omega (arith, rank_is, len_order) in e) on1 in
-    let on3 = subst (λ k. IsOnward link lists start n total (length order') ((base + c.loop-point.looks) + k) c.relax.new.amounts (set ranks point rank) c.relax.new.parents) (sym (c.in_ok-looks.ensures.looks ∙ len_row)) on2 in
+    let on3 = subst (λ k. IsOnward link lists start n total (length order') ((base + c.loop-point.looks) + k) c.relax.new.amounts (set ranks point rank) c.relax.new.parents) (sym c.in_ok-looks.ensures.looks) on2 in
     let regrouped : (base + c.loop-point.looks) + c.in_ok-looks.field-0 ≡ base + (c.loop-point.looks + c.in_ok-looks.field-0) = omega arith in
     let on4 = subst (λ k. IsOnward link lists start n total (length order') k c.relax.new.amounts (set ranks point rank) c.relax.new.parents) regrouped on3 in
-    let queue = simp c.deref-in-Some-2.ensures.value at c.in_ok-looks.ensures.queue in
+    let queue = simp c.deref-in-Some.ensures.value at c.in_ok-looks.ensures.queue in
     let wa = written_back amounts c.relax.new.amounts w.amounts.len w.amounts.ok.0 len_a in
     let wp = written_back parents c.relax.new.parents w.parents.len w.parents.ok.0 len_p in
     record {
@@ -115,48 +90,10 @@ loop-point-preserved c =
 
 pub returns-clause-flow : goal.returns-clause-flow
 returns-clause-flow c =
-    let link : ℕ → Link = λ k. link_of c.args.direction (λ x. get_or c.args.moments.now x 0) (arc_at (arcs_of c.args.store.now.nodes.slots) k) in
+    let link : ℕ → Link = link_in c.args.direction c.args.potential.now.store.now c.args.potential.now.moments.now in
     let w = c.loop-point.work in
     let none = simp (c.deref.ensures.value, c.deref-in-loop-point.ensures.value) at c.in_default.ensures.next in
-    let base = looks_at (keys_of c.args.direction c.args.store.now) (λ x. get_or c.args.work.now.ranks.items x 0) (length c.args.moments.now) in
+    let base = looks_at (keys_of c.args.direction c.args.potential.now.store.now) (λ x. get_or c.args.work.now.ranks.items x 0) (length c.args.potential.now.moments.now) in
     let total = length c.args.work.now.order.items + count_by (λ r. nat_eq r 0) c.args.work.now.ranks.items in
-    flow_ended link (keys_of c.args.direction c.args.store.now) (λ x. get_or c.args.work.now.amounts.items x 0) (length c.args.moments.now) total (length w.order.items) (base + c.loop-point.looks) w.amounts.items w.ranks.items w.parents.items
+    flow_ended link (keys_of c.args.direction c.args.potential.now.store.now) (λ x. get_or c.args.work.now.amounts.items x 0) (length c.args.potential.now.moments.now) total (length w.order.items) (base + c.loop-point.looks) w.amounts.items w.ranks.items w.parents.items
     c.loop-point.invariant.onward none.0
-
-pub relax-requires-clause-far : goal.relax-requires-clause-far
-relax-requires-clause-far c =
-    let d = c.args.direction in
-    let point = c.in-Some.point in
-    let next = simp (c.deref.ensures.value, c.deref-in-loop-point.ensures.value) at c.in-Some.ensures.next in
-    let within_lists : point < length c.lists-lists.result.now = (let e : length c.lists-lists.result.now ≡ length (lists_of c.args.direction c.args.store.now) = ap (λ (ls : List (Vec Half Global)). length ls) c.lists-lists.ensures in omega (arith, e, next.0, c.loop-point.invariant.onward.amounts_len, c.requires.lists)) in
-    let row : c.deref-in-Some.result.now ≡ halves_at (lists_of c.args.direction c.args.store.now) point =
-    c.deref-in-Some.ensures.value ∙ halves_at_is c.lists-lists.result.now point c.index-lists-point.result within_lists c.index-lists-point.is ∙ ap (λ ls. halves_at ls point) c.lists-lists.ensures in
-    let arcs = all_three (JoinsPoints (length c.args.moments.now)) (λ e. IsSmallWeight e.weight) (MeetsArc (moment c.args.moments.now)) (arcs_of c.args.store.now.nodes.slots) c.requires.arcs in
-    subst (λ (hs : List Half). All (λ h. h.far < length c.args.moments.now) hs) (sym row)
-    (list_far d (length c.args.moments.now) point (halves_at (lists_of d c.args.store.now) point)
-    (halves_have d (JoinsPoints (length c.args.moments.now)) c.args.store.now.nodes.slots (lists_of d c.args.store.now) point c.requires.halves arcs.0))
-
-pub relax-requires-clause-weights : goal.relax-requires-clause-weights
-relax-requires-clause-weights c =
-    let d = c.args.direction in
-    let point = c.in-Some.point in
-    let next = simp (c.deref.ensures.value, c.deref-in-loop-point.ensures.value) at c.in-Some.ensures.next in
-    let within_lists : point < length c.lists-lists.result.now = (let e : length c.lists-lists.result.now ≡ length (lists_of c.args.direction c.args.store.now) = ap (λ (ls : List (Vec Half Global)). length ls) c.lists-lists.ensures in omega (arith, e, next.0, c.loop-point.invariant.onward.amounts_len, c.requires.lists)) in
-    let row : c.deref-in-Some.result.now ≡ halves_at (lists_of c.args.direction c.args.store.now) point =
-    c.deref-in-Some.ensures.value ∙ halves_at_is c.lists-lists.result.now point c.index-lists-point.result within_lists c.index-lists-point.is ∙ ap (λ ls. halves_at ls point) c.lists-lists.ensures in
-    let arcs = all_three (JoinsPoints (length c.args.moments.now)) (λ e. IsSmallWeight e.weight) (MeetsArc (moment c.args.moments.now)) (arcs_of c.args.store.now.nodes.slots) c.requires.arcs in
-    subst (λ (hs : List Half). All (λ h. IsSmallWeight h.weight) hs) (sym row)
-    (list_weights d point (halves_at (lists_of d c.args.store.now) point)
-    (halves_have d (λ e. IsSmallWeight e.weight) c.args.store.now.nodes.slots (lists_of d c.args.store.now) point c.requires.halves arcs.1))
-
-pub relax-requires-clause-met : goal.relax-requires-clause-met
-relax-requires-clause-met c =
-    let d = c.args.direction in
-    let point = c.in-Some.point in
-    let next = simp (c.deref.ensures.value, c.deref-in-loop-point.ensures.value) at c.in-Some.ensures.next in
-    let within_lists : point < length c.lists-lists.result.now = (let e : length c.lists-lists.result.now ≡ length (lists_of c.args.direction c.args.store.now) = ap (λ (ls : List (Vec Half Global)). length ls) c.lists-lists.ensures in omega (arith, e, next.0, c.loop-point.invariant.onward.amounts_len, c.requires.lists)) in
-    let row : c.deref-in-Some.result.now ≡ halves_at (lists_of c.args.direction c.args.store.now) point =
-    c.deref-in-Some.ensures.value ∙ halves_at_is c.lists-lists.result.now point c.index-lists-point.result within_lists c.index-lists-point.is ∙ ap (λ ls. halves_at ls point) c.lists-lists.ensures in
-    let arcs = all_three (JoinsPoints (length c.args.moments.now)) (λ e. IsSmallWeight e.weight) (MeetsArc (moment c.args.moments.now)) (arcs_of c.args.store.now.nodes.slots) c.requires.arcs in
-    subst (λ (hs : List Half). All (λ h. MeetsArc (moment c.args.moments.now) (arc_along d point h)) hs) (sym row)
-    (halves_have d (MeetsArc (moment c.args.moments.now)) c.args.store.now.nodes.slots (lists_of d c.args.store.now) point c.requires.halves arcs.2)

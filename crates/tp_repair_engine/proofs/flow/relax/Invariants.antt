@@ -12,6 +12,6 @@ invariant-loop-half l = record {
   looks_is : l.looks ≡ l.half-index;
   parents_len : length l.parents ≡ length l.fn.parents;
   last : (x : ℕ) → 0 < get_or l.ranks x 0 → get_or l.amounts l.point 0 ≤ get_or l.amounts x 0;
-  flowing : (link : ℕ → Link) → ((j : ℕ) → j < length l.list → link (half_at l.list j).key ≡ link_of l.direction (λ x. get_or l.moments x 0) (arc_along l.direction l.point (half_at l.list j))) → IsFlowing link (keys_in l.list) l.point l.half-index l.fn.amounts l.ranks l.fn.parents l.amounts l.parents;
-  queue : IsQueue (length l.moments) (λ x. get_or l.amounts x 0) (λ x. get_or l.ranks x 0) (heap_items l.queue);
+  flowing : (link : ℕ → Link) → ((j : ℕ) → j < length l.list → link (half_at l.list j).key ≡ link_of l.direction (λ x. get_or l.potential.moments.now x 0) (arc_along l.direction l.point (half_at l.list j))) → IsFlowing link (keys_in l.list) l.point l.half-index l.fn.amounts l.ranks l.fn.parents l.amounts l.parents;
+  queue : IsQueue (length l.potential.moments.now) (λ x. get_or l.amounts x 0) (λ x. get_or l.ranks x 0) (heap_items l.queue);
 }

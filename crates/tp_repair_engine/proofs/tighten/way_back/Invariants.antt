@@ -8,8 +8,8 @@ use Rattle.tp_repair_engine.proofs.tighten.way_back.Given as goal
 
 abbrev pub invariant-loop-point : goal.invariant-loop-point
 invariant-loop-point l = record {
-  tracing : IsTracing (links_of Up (λ x. get_or l.fn.moments x 0) (arcs_of l.store.nodes.slots)) l.seed l.target l.point l.work.amounts.items l.work.ranks.items l.path.items;
-  there : All (HasNode l.store.nodes.slots) l.path.items;
+  tracing : IsTracing (links_of Up (λ x. get_or l.potential.moments.now x 0) (arcs_of l.potential.store.now.nodes.slots)) l.seed l.target l.point l.work.amounts.items l.work.ranks.items l.path.items;
+  there : All (HasNode l.potential.store.now.nodes.slots) l.path.items;
 }
 
 abbrev pub decreases-loop-point : goal.decreases-loop-point

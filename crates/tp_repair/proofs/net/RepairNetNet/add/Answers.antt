@@ -19,27 +19,21 @@ use Rattle.tp_repair_engine.specs.Work.{AreCounted}
 use Rattle.tp_repair_engine.specs.Bringing.{IsBrought, IsBroughtIn, IsUnbrought}
 use Rattle.tp_repair_engine.specs.Costs.{IsCheap}
 use Rattle.tp_repair_engine.proofs.Cheap.{cheap}
-use Rattle.tp_repair_engine.proofs.Repaired.{wired_here, small_low, small_high, weights, among, kept, with_looks, relooked, repaired_brought, repaired_unbrought}
+use Rattle.tp_repair_engine.proofs.Repaired.{wired_here, solved, kept, with_looks, relooked, repaired_brought, repaired_unbrought}
 use Rattle.tp_repair.proofs.Few.{fewer_ids}
 use Rattle.tp_repair.proofs.net.RepairNetNet.add.Goals as goal
 
-pub bring-requires-clause-small_low : goal.bring-requires-clause-small_low
-bring-requires-clause-small_low c = small_low _ _ _ _ _ _ c.self.invariant
+pub bring-requires-clause-solved : goal.bring-requires-clause-solved
+bring-requires-clause-solved c =
+    let i = c.self.inside in
+    let s : Setting = settled i.horizon i.clock i.bounds.entries i.fixed.items i.lags.items in
+    let n = length i.bounds.entries in
+    solved s n i.keys i.floors.items i.ends.items (with_looks i.engine 0) (relooked s n i.keys i.floors.items i.ends.items i.engine 0 c.self.invariant)
 
-pub bring-requires-clause-small_high : goal.bring-requires-clause-small_high
-bring-requires-clause-small_high c = small_high _ _ _ _ _ _ c.self.invariant
-
-pub bring-requires-clause-weights : goal.bring-requires-clause-weights
-bring-requires-clause-weights c = weights _ _ _ _ _ _ c.self.invariant
-
-pub bring-requires-clause-among : goal.bring-requires-clause-among
-bring-requires-clause-among c = among _ _ _ _ _ _ c.self.invariant
-
-pub bring-requires-clause-bound : goal.bring-requires-clause-bound
-bring-requires-clause-bound c = sym (get_held c.self.inside.bounds c.args.id.0) ∙ (ap (λ (t : Told). get t.setting.bounds c.args.id.0) c.self.view_is ∙ c.requires.unused)
-
-pub bring-requires-clause-key : goal.bring-requires-clause-key
-bring-requires-clause-key c = c.self.invariant.spare c.args.id.0 (ap (λ (t : Told). get t.setting.bounds c.args.id.0) c.self.view_is ∙ c.requires.unused)
+pub bring-requires-clause-free : goal.bring-requires-clause-free
+bring-requires-clause-free c =
+    let none = ap (λ (t : Told). get t.setting.bounds c.args.id.0) c.self.view_is ∙ c.requires.unused in
+    (sym (get_held c.self.inside.bounds c.args.id.0) ∙ none, c.self.invariant.spare c.args.id.0 none)
 
 pub invariant_of-self : goal.invariant_of-self
 invariant_of-self c =

@@ -1,5 +1,4 @@
 use Rattle.std.proofs.Common.{◌≡◌, suc, ◌+◌, ◌*◌, ◌<◌, ◌≤◌, inl, inr, None, length, get_or, refl, sym, subst, ap, ◌∙◌, arith}
-use Rattle.std.specs.Prelude.{slice_index_or}
 use Rattle.tp_bounds.specs.declared.Edge.TheVariants.{PastLow, PastHigh}
 use Rattle.tp_bounds.specs.Setting.{Setting, event_count, fixed_at, floor_of}
 use Rattle.tp_bounds.specs.Changes.{with_fixed}
@@ -14,7 +13,6 @@ use Rattle.tp_net.proofs.Fixes.{refused_fix, past_low, past_high}
 use Rattle.tp_repair_engine.specs.Told.{Told, settled}
 use Rattle.tp_repair_engine.specs.declared.engine.Engine.{Engine}
 use Rattle.tp_repair_engine.specs.Store.{names_of, kept_arcs}
-use Rattle.tp_repair_engine.specs.Kept.{IsUnder}
 use Rattle.tp_repair_engine.specs.Slots.{past_slots}
 use Rattle.tp_repair_engine.specs.Engine.{IsRepaired}
 use Rattle.tp_repair_engine.specs.Costs.{IsCheap}
@@ -22,12 +20,16 @@ use Rattle.tp_repair_engine.proofs.Cheap.{cheap, edges_are}
 use Rattle.std.proofs.Common.{length-set}
 use Rattle.std.specs.Prelude.{Some}
 use Rattle.tp_repair_engine.specs.Told.{edge_count}
-use Rattle.tp_repair_engine.proofs.Repaired.{kept, holds_least, small_high, wired_here, with_looks, relooked}
-use Rattle.tp_repair.proofs.Renewed.{are_names_past, floor_is, end_is, none_arcs, past_reason, repaired_fixed, repaired_untouched}
+use Rattle.tp_repair_engine.proofs.Repaired.{kept, solved, wired_here, with_looks, relooked}
+use Rattle.tp_repair.proofs.Renewed.{are_names_past, floor_and_end, none_arcs, past_reason, repaired_fixed, repaired_untouched}
 use Rattle.tp_repair.proofs.net.RepairNetNet.fix.Goals as goal
 
-pub refute-requires-clause-holds : goal.refute-requires-clause-holds
-refute-requires-clause-holds c = holds_least _ _ _ _ _ _ c.self.invariant
+pub refute-requires-clause-solved : goal.refute-requires-clause-solved
+refute-requires-clause-solved c =
+    let i = c.self.inside in
+    let s : Setting = settled i.horizon i.clock i.bounds.entries i.fixed.items i.lags.items in
+    let n = length i.bounds.entries in
+    solved s n i.keys i.floors.items i.ends.items (with_looks i.engine 0) (relooked s n i.keys i.floors.items i.ends.items i.engine 0 c.self.invariant)
 
 pub refute-requires-clause-none : goal.refute-requires-clause-none
 refute-requires-clause-none c =
@@ -96,8 +98,12 @@ returns-then-index-from-clause-exact c =
     subst (λ (t : Told). Refutes (IsPastOf c.args.e) (with_fixed t.setting c.args.e c.args.moment) (with_fixed t.setting c.args.e c.args.moment) c.past.result.edges.items) c.self.view_is
     (refused_fix s c.args.e c.args.moment lt free floor soon (names_of slots) (kept_arcs slots) g.low.items g.high.items (names_of (past_slots c.args.e c.args.moment slots)) (PastLow c.args.e) (at_least c.args.e c.args.moment) c.past.result.edges.items k (are_names_past c.args.e c.args.moment slots) (inr refl) (past_low s c.args.e c.args.moment lt free floor soon) h)
 
-pub refute-requires-then-from-index-clause-holds : goal.refute-requires-then-from-index-clause-holds
-refute-requires-then-from-index-clause-holds c = holds_least _ _ _ _ _ _ c.self.invariant
+pub refute-requires-then-from-index-clause-solved : goal.refute-requires-then-from-index-clause-solved
+refute-requires-then-from-index-clause-solved c =
+    let i = c.self.inside in
+    let s : Setting = settled i.horizon i.clock i.bounds.entries i.fixed.items i.lags.items in
+    let n = length i.bounds.entries in
+    solved s n i.keys i.floors.items i.ends.items (with_looks i.engine 0) (relooked s n i.keys i.floors.items i.ends.items i.engine 0 c.self.invariant)
 
 pub refute-requires-then-from-index-clause-none : goal.refute-requires-then-from-index-clause-none
 refute-requires-then-from-index-clause-none c =
@@ -167,8 +173,15 @@ returns-then-from-index-clause-exact c =
     subst (λ (t : Told). Refutes (IsPastOf c.args.e) (with_fixed t.setting c.args.e c.args.moment) (with_fixed t.setting c.args.e c.args.moment) c.past-then-from-index.result.edges.items) c.self.view_is
     (refused_fix s c.args.e c.args.moment lt free floor soon (names_of slots) (kept_arcs slots) g.low.items g.high.items (names_of (past_slots c.args.e c.args.moment slots)) (PastHigh c.args.e) (at_most c.args.e c.args.moment) c.past-then-from-index.result.edges.items k (are_names_past c.args.e c.args.moment slots) (inl refl) (past_high s c.args.e c.args.moment lt free floor soon) h)
 
-pub settle-requires-clause-floor : goal.settle-requires-clause-floor
-settle-requires-clause-floor c =
+pub settle-requires-clause-solved : goal.settle-requires-clause-solved
+settle-requires-clause-solved c =
+    let i = c.self.inside in
+    let s : Setting = settled i.horizon i.clock i.bounds.entries i.fixed.items i.lags.items in
+    let n = length i.bounds.entries in
+    solved s n i.keys i.floors.items i.ends.items (with_looks i.engine 0) (relooked s n i.keys i.floors.items i.ends.items i.engine 0 c.self.invariant)
+
+pub settle-requires-clause-keys : goal.settle-requires-clause-keys
+settle-requires-clause-keys c =
     let i = c.self.inside in
     let s : Setting = settled i.horizon i.clock i.bounds.entries i.fixed.items i.lags.items in
     let n = length i.bounds.entries in
@@ -183,54 +196,11 @@ settle-requires-clause-floor c =
     let floor : floor_of s c.args.e ≤ c.args.moment = subst (λ (t : Told). floor_of t.setting c.args.e ≤ c.args.moment) (sym c.self.view_is) c.requires.floor in
     let soon : c.args.moment ≤ i.horizon = subst (λ (t : Told). c.args.moment ≤ t.setting.horizon) (sym c.self.view_is) c.requires.in_time in
     let read : get_or i.floors.items c.args.e 0 ≡ c.index-floor.result.now = read_at i.floors.items c.args.e c.index-floor.result.now (let l = r.floors_len in omega (arith, lt, l)) c.index-floor.ensures in
-    let x = floor_is s n i.keys i.floors.items i.ends.items g r c.args.e lt free c.args.moment floor in
-    (x.0, ap (λ j. slice_index_or slots j None) (sym read) ∙ x.1, x.2, x.3, x.4, x.5)
+    let end : get_or i.ends.items c.args.e 0 ≡ c.index-end.result.now = read_at i.ends.items c.args.e c.index-end.result.now (let l = r.ends_len in omega (arith, lt, l)) c.index-end.ensures in
+    floor_and_end s n i.keys i.floors.items i.ends.items g r c.args.e c.args.moment c.index-floor.result.now c.index-end.result.now lt free floor soon read end
 
-pub settle-requires-clause-end : goal.settle-requires-clause-end
-settle-requires-clause-end c =
-    let i = c.self.inside in
-    let s : Setting = settled i.horizon i.clock i.bounds.entries i.fixed.items i.lags.items in
-    let n = length i.bounds.entries in
-    let g : Engine = i.engine in
-    let g0 : Engine = with_looks g 0 in
-    let slots = g.store.nodes.slots in
-    let r : IsRepaired s n i.keys i.floors.items i.ends.items g = c.self.invariant in
-    let r0 : IsRepaired s n i.keys i.floors.items i.ends.items g0 = relooked s n i.keys i.floors.items i.ends.items g 0 r in
-    let k : IsKept s (names_of slots) (kept_arcs slots) g.low.items g.high.items = kept s n i.keys i.floors.items i.ends.items g r in
-    let lt : c.args.e < length i.fixed.items = subst (λ (t : Told). c.args.e < event_count t.setting) (sym c.self.view_is) c.requires.event in
-    let free : fixed_at s c.args.e ≡ None = subst (λ (t : Told). fixed_at t.setting c.args.e ≡ None) (sym c.self.view_is) c.requires.free in
-    let floor : floor_of s c.args.e ≤ c.args.moment = subst (λ (t : Told). floor_of t.setting c.args.e ≤ c.args.moment) (sym c.self.view_is) c.requires.floor in
-    let soon : c.args.moment ≤ i.horizon = subst (λ (t : Told). c.args.moment ≤ t.setting.horizon) (sym c.self.view_is) c.requires.in_time in
-    let read : get_or i.ends.items c.args.e 0 ≡ c.index-end.result.now = read_at i.ends.items c.args.e c.index-end.result.now (let l = r.ends_len in omega (arith, lt, l)) c.index-end.ensures in
-    let x = end_is s n i.keys i.floors.items i.ends.items g r c.args.e lt free c.args.moment soon in
-    (x.0, ap (λ j. slice_index_or slots j None) (sym read) ∙ x.1, x.2, x.3, x.4, x.5)
-
-pub settle-requires-clause-wired : goal.settle-requires-clause-wired
-settle-requires-clause-wired c =
-    let i = c.self.inside in
-    let s : Setting = settled i.horizon i.clock i.bounds.entries i.fixed.items i.lags.items in
-    let n = length i.bounds.entries in
-    let g : Engine = i.engine in
-    let g0 : Engine = with_looks g 0 in
-    let r : IsRepaired s n i.keys i.floors.items i.ends.items g = c.self.invariant in
-    let r0 : IsRepaired s n i.keys i.floors.items i.ends.items g0 = relooked s n i.keys i.floors.items i.ends.items g 0 r in
-    (n + 2 * event_count s, wired_here s n i.keys i.floors.items i.ends.items g0 r0, (let f = r.few in let e = r.fit.events in omega (arith, f, e)))
-
-pub settle-requires-clause-exact : goal.settle-requires-clause-exact
-settle-requires-clause-exact c =
-    let i = c.self.inside in
-    let s : Setting = settled i.horizon i.clock i.bounds.entries i.fixed.items i.lags.items in
-    let r : IsRepaired s (length i.bounds.entries) i.keys i.floors.items i.ends.items i.engine = c.self.invariant in
-    r.exact
-
-pub settle-requires-clause-holds : goal.settle-requires-clause-holds
-settle-requires-clause-holds c = holds_least _ _ _ _ _ _ c.self.invariant
-
-pub settle-requires-clause-small : goal.settle-requires-clause-small
-settle-requires-clause-small c = small_high _ _ _ _ _ _ c.self.invariant
-
-pub settle-requires-clause-above : goal.settle-requires-clause-above
-settle-requires-clause-above c =
+pub settle-requires-clause-window : goal.settle-requires-clause-window
+settle-requires-clause-window c =
     let i = c.self.inside in
     let s : Setting = settled i.horizon i.clock i.bounds.entries i.fixed.items i.lags.items in
     let n = length i.bounds.entries in
@@ -241,57 +211,12 @@ settle-requires-clause-above c =
     let high_len = r.wired.high_len in
     let low_len = r.wired.low_len in
     let low : get_or g.low.items (suc c.args.e) 0 ≡ c.index-2.result.now = ap (λ j. get_or g.low.items j 0) (sym at1) ∙ read_at g.low.items (c.from-point.result + 1) c.index-2.result.now (omega (arith, at1, low_len, lt)) c.index-2.ensures in
-    omega (arith, low, c.if-from-index.false, c.from-2.ensures)
-
-pub settle-requires-clause-below : goal.settle-requires-clause-below
-settle-requires-clause-below c =
-    let i = c.self.inside in
-    let s : Setting = settled i.horizon i.clock i.bounds.entries i.fixed.items i.lags.items in
-    let n = length i.bounds.entries in
-    let g : Engine = i.engine in
-    let r : IsRepaired s n i.keys i.floors.items i.ends.items g = c.self.invariant in
-    let lt : c.args.e < length i.fixed.items = subst (λ (t : Told). c.args.e < event_count t.setting) (sym c.self.view_is) c.requires.event in
-    let at1 : c.from-point.result + 1 ≡ suc c.args.e = omega (arith, c.from-point.ensures) in
-    let high_len = r.wired.high_len in
-    let low_len = r.wired.low_len in
     let high : get_or g.high.items (suc c.args.e) 0 ≡ c.index.result.now = ap (λ j. get_or g.high.items j 0) (sym at1) ∙ read_at g.high.items (c.from-point.result + 1) c.index.result.now (omega (arith, at1, high_len, lt)) c.index.ensures in
-    omega (arith, high, c.if-index-from.false, c.from.ensures)
-
-pub settle-requires-clause-only_floor : goal.settle-requires-clause-only_floor
-settle-requires-clause-only_floor c =
-    let i = c.self.inside in
-    let s : Setting = settled i.horizon i.clock i.bounds.entries i.fixed.items i.lags.items in
-    let n = length i.bounds.entries in
-    let g : Engine = i.engine in
-    let g0 : Engine = with_looks g 0 in
-    let slots = g.store.nodes.slots in
-    let r : IsRepaired s n i.keys i.floors.items i.ends.items g = c.self.invariant in
-    let r0 : IsRepaired s n i.keys i.floors.items i.ends.items g0 = relooked s n i.keys i.floors.items i.ends.items g 0 r in
-    let k : IsKept s (names_of slots) (kept_arcs slots) g.low.items g.high.items = kept s n i.keys i.floors.items i.ends.items g r in
-    let lt : c.args.e < length i.fixed.items = subst (λ (t : Told). c.args.e < event_count t.setting) (sym c.self.view_is) c.requires.event in
-    let free : fixed_at s c.args.e ≡ None = subst (λ (t : Told). fixed_at t.setting c.args.e ≡ None) (sym c.self.view_is) c.requires.free in
-    let floor : floor_of s c.args.e ≤ c.args.moment = subst (λ (t : Told). floor_of t.setting c.args.e ≤ c.args.moment) (sym c.self.view_is) c.requires.floor in
-    let soon : c.args.moment ≤ i.horizon = subst (λ (t : Told). c.args.moment ≤ t.setting.horizon) (sym c.self.view_is) c.requires.in_time in
-    let read : get_or i.floors.items c.args.e 0 ≡ c.index-floor.result.now = read_at i.floors.items c.args.e c.index-floor.result.now (let l = r.floors_len in omega (arith, lt, l)) c.index-floor.ensures in
-    λ j x is named. (sym (subst (λ f. IsUnder i.keys i.floors.items i.ends.items f j) named (r.nodes.under j x is)) ∙ read)
-
-pub settle-requires-clause-only_end : goal.settle-requires-clause-only_end
-settle-requires-clause-only_end c =
-    let i = c.self.inside in
-    let s : Setting = settled i.horizon i.clock i.bounds.entries i.fixed.items i.lags.items in
-    let n = length i.bounds.entries in
-    let g : Engine = i.engine in
-    let g0 : Engine = with_looks g 0 in
-    let slots = g.store.nodes.slots in
-    let r : IsRepaired s n i.keys i.floors.items i.ends.items g = c.self.invariant in
-    let r0 : IsRepaired s n i.keys i.floors.items i.ends.items g0 = relooked s n i.keys i.floors.items i.ends.items g 0 r in
-    let k : IsKept s (names_of slots) (kept_arcs slots) g.low.items g.high.items = kept s n i.keys i.floors.items i.ends.items g r in
-    let lt : c.args.e < length i.fixed.items = subst (λ (t : Told). c.args.e < event_count t.setting) (sym c.self.view_is) c.requires.event in
-    let free : fixed_at s c.args.e ≡ None = subst (λ (t : Told). fixed_at t.setting c.args.e ≡ None) (sym c.self.view_is) c.requires.free in
-    let floor : floor_of s c.args.e ≤ c.args.moment = subst (λ (t : Told). floor_of t.setting c.args.e ≤ c.args.moment) (sym c.self.view_is) c.requires.floor in
-    let soon : c.args.moment ≤ i.horizon = subst (λ (t : Told). c.args.moment ≤ t.setting.horizon) (sym c.self.view_is) c.requires.in_time in
-    let read : get_or i.ends.items c.args.e 0 ≡ c.index-end.result.now = read_at i.ends.items c.args.e c.index-end.result.now (let l = r.ends_len in omega (arith, lt, l)) c.index-end.ensures in
-    λ j x is named. (sym (subst (λ f. IsUnder i.keys i.floors.items i.ends.items f j) named (r.nodes.under j x is)) ∙ read)
+    record {
+      point = omega (arith, low_len, lt);
+      above = omega (arith, low, c.if-from-index.false, c.from-2.ensures);
+      below = omega (arith, high, c.if-index-from.false, c.from.ensures);
+    }
 
 pub invariant_of-self-in_err-settle : goal.invariant_of-self-in_err-settle
 invariant_of-self-in_err-settle c =

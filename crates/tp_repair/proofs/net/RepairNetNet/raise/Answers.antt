@@ -18,8 +18,8 @@ use Rattle.tp_repair_engine.specs.Costs.{IsCheap}
 use Rattle.tp_repair_engine.proofs.Cheap.{cheap_up, cheap_still, edges_are}
 use Rattle.std.proofs.Common.{refl}
 use Rattle.tp_repair_engine.specs.Told.{edge_count}
-use Rattle.tp_repair_engine.proofs.Repaired.{kept, holds_least, small_high, wired_here, with_looks, relooked}
-use Rattle.tp_repair.proofs.Renewed.{floor_there, floors_only, floors_before, from_event, none_arcs, repaired_raised, repaired_untouched}
+use Rattle.tp_repair_engine.proofs.Repaired.{kept, solved, wired_here, with_looks, relooked}
+use Rattle.tp_repair.proofs.Renewed.{open_floors, at_earlier, none_arcs, repaired_raised, repaired_untouched}
 use Rattle.tp_repair.proofs.net.RepairNetNet.raise.Goals as goal
 
 pub returns-then-now-self-clause-exact : goal.returns-then-now-self-clause-exact
@@ -27,21 +27,12 @@ returns-then-now-self-clause-exact c =
     let still : c.args.now ≡ c.args.self.now.setting.clock = c.if-now-self.true ∙ ap (λ (t : Told). t.setting.clock) c.self.view_is in
     subst HasSchedule (sym (at_same c.args.self.now.setting c.args.now still)) (subst (λ (t : Told). HasSchedule t.setting) c.self.view_is (kept_possible _ _ _ _ _ (kept _ _ _ _ _ _ c.self.invariant)))
 
-pub refute-requires-clause-wired : goal.refute-requires-clause-wired
-refute-requires-clause-wired c =
+pub refute-requires-clause-solved : goal.refute-requires-clause-solved
+refute-requires-clause-solved c =
     let i = c.self.inside in
     let s : Setting = settled i.horizon i.clock i.bounds.entries i.fixed.items i.lags.items in
     let n = length i.bounds.entries in
-    let g : Engine = i.engine in
-    let g0 : Engine = with_looks g 0 in
-    let slots = g.store.nodes.slots in
-    let r : IsRepaired s n i.keys i.floors.items i.ends.items g = c.self.invariant in
-    let r0 : IsRepaired s n i.keys i.floors.items i.ends.items g0 = relooked s n i.keys i.floors.items i.ends.items g 0 r in
-    let k : IsKept s (names_of slots) (kept_arcs slots) g.low.items g.high.items = kept s n i.keys i.floors.items i.ends.items g r in
-    (n + 2 * event_count s, wired_here s n i.keys i.floors.items i.ends.items g0 r0, (let f = r.few in let e = r.fit.events in omega (arith, f, e)))
-
-pub refute-requires-clause-holds : goal.refute-requires-clause-holds
-refute-requires-clause-holds c = holds_least _ _ _ _ _ _ c.self.invariant
+    solved s n i.keys i.floors.items i.ends.items (with_looks i.engine 0) (relooked s n i.keys i.floors.items i.ends.items i.engine 0 c.self.invariant)
 
 pub refute-requires-clause-none : goal.refute-requires-clause-none
 refute-requires-clause-none c =
@@ -103,18 +94,12 @@ returns-in-Some-clause-exact c =
     subst (λ (t : Told). Refutes IsNow (at_moment t.setting c.args.now) (at_moment t.setting c.args.now) c.in_ok-reason.reason.edges.items) c.self.view_is
     (refused_raise s (names_of slots) (kept_arcs slots) g.low.items g.high.items c.args.now c.in-Some.e c.in_ok-reason.reason.edges.items k forward late h)
 
-pub raise-requires-clause-wired : goal.raise-requires-clause-wired
-raise-requires-clause-wired c =
+pub raise-requires-clause-solved : goal.raise-requires-clause-solved
+raise-requires-clause-solved c =
     let i = c.self.inside in
     let s : Setting = settled i.horizon i.clock i.bounds.entries i.fixed.items i.lags.items in
     let n = length i.bounds.entries in
-    let g : Engine = i.engine in
-    let g0 : Engine = with_looks g 0 in
-    let slots = g.store.nodes.slots in
-    let r : IsRepaired s n i.keys i.floors.items i.ends.items g = c.self.invariant in
-    let r0 : IsRepaired s n i.keys i.floors.items i.ends.items g0 = relooked s n i.keys i.floors.items i.ends.items g 0 r in
-    let k : IsKept s (names_of slots) (kept_arcs slots) g.low.items g.high.items = kept s n i.keys i.floors.items i.ends.items g r in
-    (n + 2 * event_count s, wired_here s n i.keys i.floors.items i.ends.items g0 r0)
+    solved s n i.keys i.floors.items i.ends.items (with_looks i.engine 0) (relooked s n i.keys i.floors.items i.ends.items i.engine 0 c.self.invariant)
 
 pub raise-requires-clause-floors : goal.raise-requires-clause-floors
 raise-requires-clause-floors c =
@@ -127,47 +112,16 @@ raise-requires-clause-floors c =
     let r : IsRepaired s n i.keys i.floors.items i.ends.items g = c.self.invariant in
     let r0 : IsRepaired s n i.keys i.floors.items i.ends.items g0 = relooked s n i.keys i.floors.items i.ends.items g 0 r in
     let k : IsKept s (names_of slots) (kept_arcs slots) g.low.items g.high.items = kept s n i.keys i.floors.items i.ends.items g r in
-    simp (c.deref-4.ensures.value, c.deref-5.ensures.value) (floor_there s n i.keys i.floors.items i.ends.items g r)
+    simp (c.deref-4.ensures.value, c.deref-5.ensures.value) (open_floors s n i.keys i.floors.items i.ends.items g r)
 
-pub raise-requires-clause-only : goal.raise-requires-clause-only
-raise-requires-clause-only c =
-    let i = c.self.inside in
-    let s : Setting = settled i.horizon i.clock i.bounds.entries i.fixed.items i.lags.items in
-    let n = length i.bounds.entries in
-    let g : Engine = i.engine in
-    let g0 : Engine = with_looks g 0 in
-    let slots = g.store.nodes.slots in
-    let r : IsRepaired s n i.keys i.floors.items i.ends.items g = c.self.invariant in
-    let r0 : IsRepaired s n i.keys i.floors.items i.ends.items g0 = relooked s n i.keys i.floors.items i.ends.items g 0 r in
-    let k : IsKept s (names_of slots) (kept_arcs slots) g.low.items g.high.items = kept s n i.keys i.floors.items i.ends.items g r in
-    simp (c.deref-4.ensures.value, c.deref-5.ensures.value) (floors_only s n i.keys i.floors.items i.ends.items g r)
-
-pub raise-requires-clause-exact : goal.raise-requires-clause-exact
-raise-requires-clause-exact c =
+pub raise-requires-clause-events : goal.raise-requires-clause-events
+raise-requires-clause-events c =
     let i = c.self.inside in
     let s : Setting = settled i.horizon i.clock i.bounds.entries i.fixed.items i.lags.items in
     let n = length i.bounds.entries in
     let g : Engine = i.engine in
     let r : IsRepaired s n i.keys i.floors.items i.ends.items g = c.self.invariant in
-    r.exact
-
-pub raise-requires-clause-holds : goal.raise-requires-clause-holds
-raise-requires-clause-holds c = holds_least _ _ _ _ _ _ c.self.invariant
-
-pub raise-requires-clause-small : goal.raise-requires-clause-small
-raise-requires-clause-small c = small_high _ _ _ _ _ _ c.self.invariant
-
-pub raise-requires-clause-points : goal.raise-requires-clause-points
-raise-requires-clause-points c =
-    let i = c.self.inside in
-    let s : Setting = settled i.horizon i.clock i.bounds.entries i.fixed.items i.lags.items in
-    let n = length i.bounds.entries in
-    let g : Engine = i.engine in
-    let r : IsRepaired s n i.keys i.floors.items i.ends.items g = c.self.invariant in
-    simp c.deref-5.ensures.value r.wired.low_len
-
-pub raise-requires-clause-from : goal.raise-requires-clause-from
-raise-requires-clause-from c = from_event _ _ _ _ _ _ c.self.invariant
+    simp c.deref-5.ensures.value (r.fit.events, r.wired.low_len)
 
 pub raise-requires-clause-before : goal.raise-requires-clause-before
 raise-requires-clause-before c =
@@ -177,7 +131,7 @@ raise-requires-clause-before c =
     let g : Engine = i.engine in
     let r : IsRepaired s n i.keys i.floors.items i.ends.items g = c.self.invariant in
     let forward : i.clock ≤ c.args.now = subst (λ (t : Told). t.setting.clock ≤ c.args.now) (sym c.self.view_is) c.requires.forward in
-    (i.clock, forward, simp c.deref-6.ensures.value (floors_before s n i.keys i.floors.items i.ends.items g r))
+    simp c.deref-6.ensures.value (at_earlier s n i.keys i.floors.items i.ends.items g r c.args.now forward)
 
 pub raise-requires-clause-wait : goal.raise-requires-clause-wait
 raise-requires-clause-wait c =

@@ -1,4 +1,4 @@
-use Rattle.std.proofs.Common.{◌≡◌, ◌≢◌, ◌+◌, cond, None, length, sym, subst, ap, ◌∙◌, arith}
+use Rattle.std.proofs.Common.{◌≡◌, ◌≢◌, suc, ◌+◌, cond, None, length, sym, subst, ap, ◌∙◌, arith}
 use Rattle.std.specs.Prelude.{Some, is_some}
 use Rattle.std.specs.FinMap.{FinMap, get}
 use Rattle.std.specs.Ordering.{nat_cmp}
@@ -14,8 +14,8 @@ use Rattle.tp_repair_engine.specs.declared.engine.Engine.{Engine}
 use Rattle.tp_repair_engine.specs.Engine.{IsRepaired}
 use Rattle.tp_repair_engine.specs.Costs.{AreWindows}
 use Rattle.tp_repair.proofs.Loose.{loose_node}
-use Rattle.tp_repair_engine.proofs.Repaired.{kept, holds_least, small_high, with_looks, relooked}
-use Rattle.tp_repair.proofs.Renewed.{some_of, low_fits, high_fits, has_own_key, own_node, start_left, start_left_high, repaired_left, repaired_untouched}
+use Rattle.tp_repair_engine.proofs.Repaired.{kept, solved, with_looks, relooked}
+use Rattle.tp_repair.proofs.Renewed.{some_of, has_own_key, may_leave, repaired_left, repaired_untouched}
 use Rattle.tp_repair.proofs.net.RepairNetNet.remove.Goals as goal
 
 pub key_of-key-requires : goal.key_of-key-requires
@@ -31,8 +31,15 @@ key_of-key-requires c =
     let b = some_of (get s.bounds c.args.id.0) there in
     has_own_key s n i.keys i.floors.items i.ends.items g r c.args.id b.0 b.1
 
-pub leave-requires-clause-node : goal.leave-requires-clause-node
-leave-requires-clause-node c =
+pub leave-requires-clause-solved : goal.leave-requires-clause-solved
+leave-requires-clause-solved c =
+    let i = c.self.inside in
+    let s : Setting = settled i.horizon i.clock i.bounds.entries i.fixed.items i.lags.items in
+    let n = length i.bounds.entries in
+    solved s n i.keys i.floors.items i.ends.items (with_looks i.engine 0) (relooked s n i.keys i.floors.items i.ends.items i.engine 0 c.self.invariant)
+
+pub leave-requires-clause-may : goal.leave-requires-clause-may
+leave-requires-clause-may c =
     let i = c.self.inside in
     let s : Setting = settled i.horizon i.clock i.bounds.entries i.fixed.items i.lags.items in
     let n = length i.bounds.entries in
@@ -42,52 +49,8 @@ leave-requires-clause-node c =
     let r0 : IsRepaired s n i.keys i.floors.items i.ends.items g0 = relooked s n i.keys i.floors.items i.ends.items g 0 r in
     let there : get s.bounds c.args.id.0 ≢ None = λ none. c.requires.in_force (sym (ap (λ (t : Told). get t.setting.bounds c.args.id.0) c.self.view_is) ∙ none) in
     let b = some_of (get s.bounds c.args.id.0) there in
-    own_node s n i.keys i.floors.items i.ends.items g r c.args.id b.0 c.key_of-key.result b.1 c.key_of-key.ensures
-
-pub leave-requires-clause-start : goal.leave-requires-clause-start
-leave-requires-clause-start c =
-    let i = c.self.inside in
-    let s : Setting = settled i.horizon i.clock i.bounds.entries i.fixed.items i.lags.items in
-    let n = length i.bounds.entries in
-    let g : Engine = i.engine in
-    let g0 : Engine = with_looks g 0 in
-    let r : IsRepaired s n i.keys i.floors.items i.ends.items g = c.self.invariant in
-    let r0 : IsRepaired s n i.keys i.floors.items i.ends.items g0 = relooked s n i.keys i.floors.items i.ends.items g 0 r in
-    let there : get s.bounds c.args.id.0 ≢ None = λ none. c.requires.in_force (sym (ap (λ (t : Told). get t.setting.bounds c.args.id.0) c.self.view_is) ∙ none) in
-    let b = some_of (get s.bounds c.args.id.0) there in
-    start_left s n i.keys i.floors.items i.ends.items g c.args.id b.0 c.key_of-key.result (c.from-amount.result + 1) r b.1 c.key_of-key.ensures (omega (arith, c.from-amount.ensures))
-
-pub leave-requires-clause-exact : goal.leave-requires-clause-exact
-leave-requires-clause-exact c =
-    let i = c.self.inside in
-    let s : Setting = settled i.horizon i.clock i.bounds.entries i.fixed.items i.lags.items in
-    let r : IsRepaired s (length i.bounds.entries) i.keys i.floors.items i.ends.items i.engine = c.self.invariant in
-    r.exact
-
-pub leave-requires-clause-holds : goal.leave-requires-clause-holds
-leave-requires-clause-holds c = holds_least _ _ _ _ _ _ c.self.invariant
-
-pub leave-requires-clause-small : goal.leave-requires-clause-small
-leave-requires-clause-small c = small_high _ _ _ _ _ _ c.self.invariant
-
-pub leave-requires-clause-low : goal.leave-requires-clause-low
-leave-requires-clause-low c = low_fits _ _ _ _ _ _ c.self.invariant
-
-pub leave-requires-clause-start_high : goal.leave-requires-clause-start_high
-leave-requires-clause-start_high c =
-    let i = c.self.inside in
-    let s : Setting = settled i.horizon i.clock i.bounds.entries i.fixed.items i.lags.items in
-    let n = length i.bounds.entries in
-    let g : Engine = i.engine in
-    let g0 : Engine = with_looks g 0 in
-    let r : IsRepaired s n i.keys i.floors.items i.ends.items g = c.self.invariant in
-    let r0 : IsRepaired s n i.keys i.floors.items i.ends.items g0 = relooked s n i.keys i.floors.items i.ends.items g 0 r in
-    let there : get s.bounds c.args.id.0 ≢ None = λ none. c.requires.in_force (sym (ap (λ (t : Told). get t.setting.bounds c.args.id.0) c.self.view_is) ∙ none) in
-    let b = some_of (get s.bounds c.args.id.0) there in
-    start_left_high s n i.keys i.floors.items i.ends.items g c.args.id b.0 c.key_of-key.result (c.from-amount.result + 1) r b.1 c.key_of-key.ensures (omega (arith, c.from-amount.ensures))
-
-pub leave-requires-clause-high : goal.leave-requires-clause-high
-leave-requires-clause-high c = high_fits _ _ _ _ _ _ c.self.invariant
+    let amount : c.from-amount.result + 1 ≡ suc i.horizon = omega (arith, c.from-amount.ensures) in
+    may_leave s n i.keys i.floors.items i.ends.items g0 r0 c.args.id b.0 c.key_of-key.result (c.from-amount.result + 1) b.1 c.key_of-key.ensures amount (let h = r.fit.horizon in omega (arith, amount, h))
 
 pub invariant_of-self : goal.invariant_of-self
 invariant_of-self c =
