@@ -1,5 +1,5 @@
 -- A run that goes on where its journal ends.
-use Rattle.std.proofs.Common.{◌≡◌, ◌∙◌, ◌≤◌, ℕ, inl, inr, List, [], ◌∷◌, ◌++◌, drop, take, length, Option, Some, None, Bool, true, false, map, flat_map, refl, ap, sym, subst, append_assoc, append-nil, arith, codes, decimal}
+use Rattle.std.proofs.Common.{◌≡◌, ◌∙◌, ◌+◌, ◌≤◌, ℕ, inl, inr, List, [], ◌∷◌, ◌++◌, drop, take, length, Option, Some, None, Bool, true, false, map, flat_map, refl, ap, sym, subst, append_assoc, append-nil, arith, codes, decimal}
 use Rattle.std.specs.Prelude.{Result, Ok, Err, IfErr, IfOk, IfSome}
 use Rattle.std.specs.Io.KnownBytes.{Appends, Consumes, IsAtEnd}
 use Rattle.std.proofs.KnownBytes.{Appends-trans, Appends-nil}
@@ -23,6 +23,7 @@ use Rattle.tp_journal_pairs.specs.declared.faults.JournalFault.TheVariants as jo
 use Rattle.tp_journal_pairs.proofs.WriteLemmas.{journal_more, runs_more}
 use Rattle.tp_journal.specs.Replay.{LeadsTo}
 use Rattle.tp_cli_files.specs.Causes.{counted, raised}
+use Rattle.tp_cli_files.proofs.CauseLemmas.{counted_from}
 use Rattle.tp_cli_bare.specs.JournalLines.{journal_unlogged}
 use Rattle.tp_cli_run.specs.LogFile.{IsNamed, LogFile}
 use Rattle.tp_cli_resume.specs.Going.{Continues, GoesTo, StopsGoing, StopsIn, begin_text, went_result}
@@ -156,6 +157,11 @@ went_unread (Err fault) r n is = ap (counted resume_unread n) is
 pub logged_of : (went : Result Machine JournalFault) (r : Result Machine ResumeStop) (n : ℕ) → r ≡ went_result went → counted journal_unlogged n went ≡ counted resume_unlogged n r
 logged_of (Ok last) r n is = ap (counted resume_unlogged n) (sym is)
 logged_of (Err fault) r n is = ap (counted resume_unlogged n) (sym is)
+
+-- the failures of a journal count with the others once it is kept
+pub kept_log : (went : Result Machine JournalFault) (r : Result Machine ResumeStop) (before made kept start log : ℕ) → r ≡ went_result went → kept ≡ made + log → made ≡ before → start ≡ 0 → log ≡ counted journal_unlogged start went → kept ≡ counted resume_unlogged before r
+kept_log went r before made kept start log is sum same none wrote =
+    sum ∙ (ap (λ (n : ℕ). made + n) (wrote ∙ ap (λ (n : ℕ). counted journal_unlogged n went) none) ∙ (counted_from journal_unlogged made went ∙ (logged_of went r made is ∙ ap (λ (n : ℕ). counted resume_unlogged n r) same)))
 
 -- where no call failed, the fault tells of none
 raised_none : (failed : Bool) (n : ℕ) → 0 ≡ raised failed 0 → raised failed n ≡ n

@@ -1,4 +1,4 @@
-use Rattle.std.proofs.Common.{subst, Option, List, ℕ}
+use Rattle.std.proofs.Common.{subst, Option, List, ℕ, sym}
 use Rattle.std.specs.Prelude.{IfErr, IfOk}
 use Rattle.std.proofs.lemmas.Result.{IfErr-weaker, IfOk-weaker}
 use Rattle.tp_cli_inputs.proofs.NamedLemmas.{unjudged}
@@ -23,3 +23,6 @@ pub returns-in-Err-clause-cause : goal.returns-in-Err-clause-cause
 returns-in-Err-clause-cause g c =
     λ held same named told.
     (c.args.horizon, unjudged held (plan_of c.args.words c.args.horizon) c.args.task.now c.args.plan c.in-Err.fault named c.in-Err.ensures.cause)
+
+pub returns-in-Err-clause-opened : goal.returns-in-Err-clause-opened
+returns-in-Err-clause-opened g c = sym (c.in-Err.ensures.opened _)

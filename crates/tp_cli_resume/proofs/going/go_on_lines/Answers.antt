@@ -1,12 +1,9 @@
-use Rattle.std.proofs.Common.{◌≡◌, ◌∙◌, ◌+◌, ap, subst, sym}
+use Rattle.std.proofs.Common.{◌≡◌, ◌∙◌, subst, sym}
 use Rattle.std.specs.Prelude.{IfErr, IfOk, IfSome}
-use Rattle.tp_cli_files.specs.Causes.{counted}
-use Rattle.tp_cli_files.proofs.CauseLemmas.{counted_from}
-use Rattle.tp_cli_bare.specs.JournalLines.{journal_unlogged}
 use Rattle.tp_cli_bare.proofs.LoggedLemmas.{moved}
 use Rattle.tp_cli_run.specs.LogFile.{log_file}
 use Rattle.tp_cli_resume.specs.Going.{GoesTo, StopsIn}
-use Rattle.tp_cli_resume.proofs.ResumeLemmas.{counted_of, goes_of, heard_of, logged_of, named_of, stops_of, went_unread}
+use Rattle.tp_cli_resume.proofs.ResumeLemmas.{counted_of, goes_of, heard_of, kept_log, named_of, stops_of, went_unread}
 use Rattle.tp_cli_resume.proofs.going.go_on_lines.Goals as goal
 
 pub returns-in-Ok-clause-goes : goal.returns-in-Ok-clause-goes
@@ -36,3 +33,7 @@ returns-in-Ok-clause-read g c = heard_of c.go_on_in-went.result c.of_journal.res
 
 pub returns-in-Ok-clause-opened : goal.returns-in-Ok-clause-opened
 returns-in-Ok-clause-opened g c = λ n. went_unread c.go_on_in-went.result c.of_journal.result n c.of_journal.ensures
+
+pub returns-in-Ok-clause-log : goal.returns-in-Ok-clause-log
+returns-in-Ok-clause-log g c =
+    kept_log c.go_on_in-went.result c.of_journal.result _ _ _ _ _ c.of_journal.ensures c.keep.ensures.cause c.in-Ok.ensures.cause c.in-Ok.ensures.new c.go_on_in-went.ensures.log

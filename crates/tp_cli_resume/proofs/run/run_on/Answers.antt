@@ -31,3 +31,6 @@ returns-in-Err-clause-failures g c = quiet_count c.in-Err.stop _ c.in-Err.ensure
 
 pub returns-in-Ok-Wrong-clause-read : goal.returns-in-Ok-Wrong-clause-read
 returns-in-Ok-Wrong-clause-read g c = sym (c.say_wrong.ensures.unread _)
+
+pub returns-in-Ok-Wrong-clause-log : goal.returns-in-Ok-Wrong-clause-log
+returns-in-Ok-Wrong-clause-log g c = sym (c.say_wrong.ensures.unlogged _)

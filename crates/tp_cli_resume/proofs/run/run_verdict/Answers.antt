@@ -14,3 +14,6 @@ returns-in-Invalid-clause-cause g c =
 
 pub returns-in-Invalid-clause-read : goal.returns-in-Invalid-clause-read
 returns-in-Invalid-clause-read g c = sym (c.say_invalid.ensures.unread _)
+
+pub returns-in-Invalid-clause-log : goal.returns-in-Invalid-clause-log
+returns-in-Invalid-clause-log g c = sym (c.say_invalid.ensures.unlogged _)

@@ -1,4 +1,4 @@
-use Rattle.std.proofs.Common.{refl, subst, Option, List, ℕ}
+use Rattle.std.proofs.Common.{refl, subst, Option, List, ℕ, sym}
 use Rattle.std.proofs.lemmas.Result.{IfErr-weaker, IfOk-weaker}
 use Rattle.tp_cli_inputs.proofs.NamedLemmas.{unjudged}
 use Rattle.tp_cli_split.specs.Splits.{StopsTelling, TellsSplit}
@@ -19,3 +19,6 @@ returns-in-Ok-clause-cause g c =
 
 pub returns-in-Err-clause-cause : goal.returns-in-Err-clause-cause
 returns-in-Err-clause-cause g c = λ held same named. (unjudged held c.args.words c.args.task.now c.args.plan c.in-Err.fault named c.in-Err.ensures.cause, refl)
+
+pub returns-in-Err-clause-opened : goal.returns-in-Err-clause-opened
+returns-in-Err-clause-opened g c = sym (c.in-Err.ensures.opened _)
