@@ -1,39 +1,26 @@
 //! Readers and writers in memory, as devices.
-ghost use Rattle.std.specs.Prelude.{◌≡◌, ◌<◌};
 
 use std::io;
 use std::io::{ErrorKind, Read, Write};
-use std::marker::Brand;
-use std::sync::ledger::{Blank, Ledger};
 use tp_device::{Failed, FromRead, Sink, Source, ToWrite, push_all};
 
 /// What two pulls answer.
-fn pulls<L: Ledger, R: Read + Drop>(
+fn pulls<R: Read + Drop>(
     reader: R,
-    blank: Blank,
     first: &mut [u8],
     second: &mut [u8],
-) -> (Result<usize, Failed>, Result<usize, Failed>)
-    requires name { blank.name ≡ L.name }
-    requires parts { blank.parts ≡ L.parts }
-    requires some { 0 < blank.parts }
-{
-    let mut source = FromRead::<R, L>::new(reader, blank);
+) -> (Result<usize, Failed>, Result<usize, Failed>) {
+    let mut source = FromRead::new(reader);
     (source.pull(first), source.pull(second))
 }
 
 /// What a push answers, and then a push of all of some bytes.
-fn pushes<L: Ledger, W: Write + Drop>(
+fn pushes<W: Write + Drop>(
     writer: W,
-    blank: Blank,
     first: &[u8],
     second: &[u8],
-) -> (Result<usize, Failed>, Result<(), Failed>)
-    requires name { blank.name ≡ L.name }
-    requires parts { blank.parts ≡ L.parts }
-    requires some { 0 < blank.parts }
-{
-    let mut sink = ToWrite::<W, L>::new(writer, blank);
+) -> (Result<usize, Failed>, Result<(), Failed>) {
+    let mut sink = ToWrite::new(writer);
     (sink.push(first), push_all(&mut sink, second))
 }
 
@@ -81,42 +68,42 @@ impl Write for Narrow {
 fn a_source_gives_its_bytes_and_then_none(rt: HostRuntime) {
     let mut first = [0; 3];
     let mut second = [0; 3];
-    let answers = pulls::<Brand, _>(b"abcde".as_slice(), Blank::new(1), &mut first, &mut second);
+    let answers = pulls(b"abcde".as_slice(), &mut first, &mut second);
     assert!(rt; answers == (Ok(3), Ok(2)) && first == *b"abc" && second == *b"de\0");
-    let answers = pulls::<Brand, _>(b"ab".as_slice(), Blank::new(1), &mut first, &mut second);
+    let answers = pulls(b"ab".as_slice(), &mut first, &mut second);
     assert!(rt; answers == (Ok(2), Ok(0)));
 }
 
 #[test]
 fn a_pull_into_no_room_takes_nothing(rt: HostRuntime) {
     let mut second = [0; 2];
-    let answers = pulls::<Brand, _>(b"ab".as_slice(), Blank::new(1), &mut [], &mut second);
+    let answers = pulls(b"ab".as_slice(), &mut [], &mut second);
     assert!(rt; answers == (Ok(0), Ok(2)) && second == *b"ab");
 }
 
 #[test]
 fn a_sink_hands_on_what_is_pushed(rt: HostRuntime) {
     let mut room = [0; 5];
-    let answers = pushes::<Brand, _>(room.as_mut_slice(), Blank::new(1), b"", b"abcde");
+    let answers = pushes(room.as_mut_slice(), b"", b"abcde");
     assert!(rt; answers == (Ok(0), Ok(())) && room == *b"abcde");
-    let answers = pushes::<Brand, _>(Narrow { room: 3 }, Blank::new(1), b"ab", b"cd");
+    let answers = pushes(Narrow { room: 3 }, b"ab", b"cd");
     assert!(rt; answers == (Ok(1), Ok(())));
 }
 
 #[test]
 fn each_error_is_a_failure(rt: HostRuntime) {
-    let answers = pulls::<Brand, _>(Broken, Blank::new(1), &mut [0; 3], &mut [0; 3]);
+    let answers = pulls(Broken, &mut [0; 3], &mut [0; 3]);
     assert!(rt; answers == (Err(Failed), Err(Failed)));
-    let answers = pushes::<Brand, _>(Broken, Blank::new(1), b"a", b"b");
+    let answers = pushes(Broken, b"a", b"b");
     assert!(rt; answers == (Err(Failed), Err(Failed)));
 }
 
 #[test]
 fn a_writer_that_takes_nothing_has_failed_if_something_was_pushed(rt: HostRuntime) {
-    let answers = pushes::<Brand, _>(Narrow { room: 3 }, Blank::new(1), b"a", b"bcd");
+    let answers = pushes(Narrow { room: 3 }, b"a", b"bcd");
     assert!(rt; answers == (Ok(1), Err(Failed)));
-    let answers = pushes::<Brand, _>(Narrow { room: 0 }, Blank::new(1), b"a", b"");
+    let answers = pushes(Narrow { room: 0 }, b"a", b"");
     assert!(rt; answers == (Err(Failed), Ok(())));
-    let answers = pushes::<Brand, _>(Narrow { room: 0 }, Blank::new(1), b"", b"");
+    let answers = pushes(Narrow { room: 0 }, b"", b"");
     assert!(rt; answers == (Ok(0), Ok(())));
 }

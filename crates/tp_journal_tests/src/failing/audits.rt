@@ -1,11 +1,7 @@
 //! Audits of journals that are cut, or longer than may be.
 
-ghost use Rattle.std.specs.Prelude.{◌≡◌, ◌<◌};
-
 use super::sessions::{MOST, front, lines_in};
 use std::alloc::Global;
-use std::marker::Brand;
-use std::sync::ledger::{Blank, Ledger};
 use tp_bounds::Limits;
 use tp_exec_machine::Executive;
 use tp_journal::{AuditFault, Audited, audit};
@@ -19,17 +15,12 @@ const SEVEN: &[u8] =
 
 /// What the audit finds of a journal that comes in pieces of seven bytes, of which at most so many
 /// bytes are read.
-fn audit_over<I: Ledger>(
+fn audit_over(
     alloc: Global,
     text: &[u8],
     most: u64,
-    reads: Blank,
-) -> Result<Result<Audited, AuditFault>, ServeFault>
-    requires name { reads.name ≡ I.name }
-    requires parts { reads.parts ≡ I.parts }
-    requires some { 0 < reads.parts }
-{
-    let mut source = StopSource::<I>::new(text, 7, Stop::Never, reads);
+) -> Result<Result<Audited, AuditFault>, ServeFault> {
+    let mut source = StopSource::new(text, 7, Stop::Never);
     let net = ScratchNet::new(alloc, 2, 100)?;
     let buffers = LineBuffers::new(alloc, 16_384)?;
     let mut lines = Lines::with_limit(buffers, &mut source, most);
@@ -39,7 +30,7 @@ fn audit_over<I: Ledger>(
 
 /// Whether the audit finds that.
 fn finds(alloc: Global, text: &[u8], most: u64, wanted: Result<u64, AuditFault>) -> bool {
-    match audit_over::<Brand>(alloc, text, most, Blank::new(1)) {
+    match audit_over(alloc, text, most) {
         Ok(found) => found.map(|audited| audited.pairs) == wanted,
         Err(_) => false,
     }

@@ -1,17 +1,15 @@
 //! Where the devices stop.
 
-ghost use Rattle.std.specs.Prelude.{◌≡◌, ◌<◌};
-
 use std::alloc::Global;
-use std::marker::Brand;
-use std::sync::ledger::{Blank, Ledger};
 use tp_device::{Failed, Sink, Source, push_all};
 use tp_testkit::{Stop, StopSink, StopSource};
 
 const THREE: &[u8] = b"abc";
 
-/// What each of four pulls answers: how many bytes, or that it failed.
-fn pulls(source: &mut impl Source) -> [Result<usize, Failed>; 4] {
+/// What each of four pulls answers, of three bytes of which a pull gives at most two: how many
+/// bytes, or that it failed.
+fn pulls(stop: Stop) -> [Result<usize, Failed>; 4] {
+    let mut source = StopSource::new(THREE, 2, stop);
     let mut room = [0; 8];
     [
         source.pull(&mut room),
@@ -19,16 +17,6 @@ fn pulls(source: &mut impl Source) -> [Result<usize, Failed>; 4] {
         source.pull(&mut room),
         source.pull(&mut room),
     ]
-}
-
-/// The same of three bytes, of which a pull gives at most two.
-fn pulls_until<L: Ledger>(stop: Stop, blank: Blank) -> [Result<usize, Failed>; 4]
-    requires name { blank.name ≡ L.name }
-    requires parts { blank.parts ≡ L.parts }
-    requires some { 0 < blank.parts }
-{
-    let mut source = StopSource::<L>::new(THREE, 2, stop, blank);
-    pulls(&mut source)
 }
 
 /// Where a source stops, and what four pulls answer.
@@ -52,28 +40,13 @@ const SOURCES: [Row; 6] = [
 #[test]
 fn sources_stop_where_they_are_told_to(rt: HostRuntime) {
     for (stop, answers) in SOURCES {
-        let found = pulls_until::<Brand>(stop, Blank::new(1));
+        let found = pulls(stop);
         assert!(rt; found == answers, "{stop:?}");
     }
 }
 
-/// What a push of three bytes answers, and then that of as many in all, and what was written.
-fn pushes<L: Ledger>(
-    alloc: Global,
-    stop: Stop,
-    blank: Blank,
-) -> (Result<usize, Failed>, Result<(), Failed>, Vec<u8>)
-    requires name { blank.name ≡ L.name }
-    requires parts { blank.parts ≡ L.parts }
-    requires some { 0 < blank.parts }
-{
-    let mut sink = StopSink::<L>::new(Vec::new(alloc), 2, stop, blank);
-    let first = sink.push(THREE);
-    let all = push_all(&mut sink, THREE);
-    (first, all, sink.into_text())
-}
-
-/// Where a sink stops, what a push and then a push of all answer, and what is written.
+/// Where a sink stops, what a push of three bytes and then a push of all three answer, and what is
+/// written.
 const SINKS: [(Stop, Result<usize, Failed>, Result<(), Failed>, &[u8]); 6] = [
     (Stop::Never, Ok(2), Ok(()), b"ababc"),
     (Stop::Bytes(0), Err(Failed), Err(Failed), b""),
@@ -85,7 +58,10 @@ const SINKS: [(Stop, Result<usize, Failed>, Result<(), Failed>, &[u8]); 6] = [
 
 /// Whether a sink that stops there answers so, and holds that text.
 fn takes(alloc: Global, row: (Stop, Result<usize, Failed>, Result<(), Failed>, &[u8])) -> bool {
-    let (first, all, text) = pushes::<Brand>(alloc, row.0, Blank::new(1));
+    let mut sink = StopSink::new(Vec::new(alloc), 2, row.0);
+    let first = sink.push(THREE);
+    let all = push_all(&mut sink, THREE);
+    let text = sink.into_text();
     first == row.1 && all == row.2 && text.as_slice() == row.3
 }
 

@@ -1,14 +1,10 @@
 //! Sessions whose journal is kept, and what stops them.
 
-ghost use Rattle.std.specs.Prelude.{◌≡◌, ◌<◌};
-
 use super::sessions::{
     Device, MOST, SLOW, SOUND, Seen, front, front_lines, headed, lines_in, run, see, sink_of,
     source_of, whole,
 };
 use std::alloc::Global;
-use std::marker::Brand;
-use std::sync::ledger::{Blank, Ledger};
 use tp_journal_pairs::{JournalFault, journal};
 use tp_script::{LineBuffers, Lines, ServeFault, Served};
 use tp_testkit::Stop;
@@ -21,14 +17,6 @@ const ANSWERS: &[u8] = b"bound 0\nbound 1\nwindow 3 10\nrefused conflict new b0\
 const JOURNAL: &[u8] =
     b"journal 2\nnetwork 2 100\nbare\n> add o 0 10\n< bound 0\n> add 0 o -3\n< bound 1\n> window 0\n< window 3 10\n> add 0 o -11\n< refused conflict new b0\n";
 
-/// The ledgers of a reader, a writer and a log.
-#[derive(Drop)]
-struct Blanks {
-    reads: Blank,
-    writes: Blank,
-    logs: Blank,
-}
-
 /// What is left behind a session whose journal is kept.
 #[derive(Drop)]
 struct Left {
@@ -39,25 +27,10 @@ struct Left {
 }
 
 /// What is left behind these commands, of which at most so many bytes are read.
-fn recorded<I: Ledger, O: Ledger, J: Ledger>(
-    alloc: Global,
-    most: u64,
-    log: Device,
-    blanks: Blanks,
-) -> Result<Left, ServeFault>
-    requires reads_name { blanks.reads.name ≡ I.name }
-    requires reads_parts { blanks.reads.parts ≡ I.parts }
-    requires reads_some { 0 < blanks.reads.parts }
-    requires writes_name { blanks.writes.name ≡ O.name }
-    requires writes_parts { blanks.writes.parts ≡ O.parts }
-    requires writes_some { 0 < blanks.writes.parts }
-    requires logs_name { blanks.logs.name ≡ J.name }
-    requires logs_parts { blanks.logs.parts ≡ J.parts }
-    requires logs_some { 0 < blanks.logs.parts }
-{
-    let mut source = source_of::<I>(COMMANDS, SOUND, blanks.reads);
-    let mut answers = sink_of::<O>(alloc, SLOW, blanks.writes);
-    let mut pages = sink_of::<J>(alloc, log, blanks.logs);
+fn record(alloc: Global, most: u64, log: Device) -> Result<Left, ServeFault> {
+    let mut source = source_of(COMMANDS, SOUND);
+    let mut answers = sink_of(alloc, SLOW);
+    let mut pages = sink_of(alloc, log);
     let buffers = LineBuffers::new(alloc, 256)?;
     let mut lines = Lines::with_limit(buffers, &mut source, most);
     let mut executive = headed(alloc, &mut lines)?;
@@ -68,15 +41,6 @@ fn recorded<I: Ledger, O: Ledger, J: Ledger>(
         log: pages.into_text(),
         seen: see(&executive),
     })
-}
-
-fn record(alloc: Global, most: u64, log: Device) -> Result<Left, ServeFault> {
-    let blanks = Blanks {
-        reads: Blank::new(1),
-        writes: Blank::new(1),
-        logs: Blank::new(1),
-    };
-    recorded::<Brand, Brand, Brand>(alloc, most, log, blanks)
 }
 
 /// How many answers stand for the first so many bytes of the journal, one for each pair that is

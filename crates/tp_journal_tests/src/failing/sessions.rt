@@ -1,11 +1,9 @@
 //! Commands of a head's network that are served, and what is left behind them.
 
-ghost use Rattle.std.specs.Prelude.{◌≡◌, ◌<◌, IfOk};
+ghost use Rattle.std.specs.Prelude.{◌≡◌, IfOk};
 ghost use Rattle.tp_journal_pairs.specs.Writing.{IsNewExecutive};
 
 use std::alloc::Global;
-use std::marker::Brand;
-use std::sync::ledger::{Blank, Ledger};
 use tp_bounds::Limits;
 use tp_exec_machine::Executive;
 use tp_net::{Net, ScratchNet};
@@ -92,27 +90,19 @@ pub(crate) struct Left {
 }
 
 /// The source of some bytes.
-pub(crate) fn source_of<L: Ledger>(bytes: &[u8], device: Device, blank: Blank) -> StopSource<'_, L>
-    requires name { blank.name ≡ L.name }
-    requires parts { blank.parts ≡ L.parts }
-    requires some { 0 < blank.parts }
-{
-    StopSource::new(bytes, device.pace, device.stop, blank)
+pub(crate) fn source_of(bytes: &[u8], device: Device) -> StopSource<'_> {
+    StopSource::new(bytes, device.pace, device.stop)
 }
 
 /// A sink behind an empty text.
-pub(crate) fn sink_of<L: Ledger>(alloc: Global, device: Device, blank: Blank) -> StopSink<L>
-    requires name { blank.name ≡ L.name }
-    requires parts { blank.parts ≡ L.parts }
-    requires some { 0 < blank.parts }
-{
-    StopSink::new(Vec::new(alloc), device.pace, device.stop, blank)
+pub(crate) fn sink_of(alloc: Global, device: Device) -> StopSink {
+    StopSink::new(Vec::new(alloc), device.pace, device.stop)
 }
 
 /// An executive over the network of the head.
-pub(crate) fn headed<L: Ledger>(
+pub(crate) fn headed(
     alloc: Global,
-    lines: &mut Lines<'_, StopSource<'_, L>>,
+    lines: &mut Lines<'_, StopSource<'_>>,
 ) -> Result<Executive<ScratchNet>, ServeFault>
     requires { lines.old.longest ≡ 256 }
     ensures longest { lines.new.longest ≡ 256 }
@@ -124,21 +114,9 @@ pub(crate) fn headed<L: Ledger>(
 }
 
 /// What is left behind a session, or why it has no network.
-fn served<I: Ledger, O: Ledger>(
-    alloc: Global,
-    session: Session<'_>,
-    reads: Blank,
-    writes: Blank,
-) -> Result<Left, ServeFault>
-    requires reads_name { reads.name ≡ I.name }
-    requires reads_parts { reads.parts ≡ I.parts }
-    requires reads_some { 0 < reads.parts }
-    requires writes_name { writes.name ≡ O.name }
-    requires writes_parts { writes.parts ≡ O.parts }
-    requires writes_some { 0 < writes.parts }
-{
-    let mut source = source_of::<I>(session.input, session.reader, reads);
-    let mut sink = sink_of::<O>(alloc, session.writer, writes);
+pub(crate) fn run(alloc: Global, session: Session<'_>) -> Result<Left, ServeFault> {
+    let mut source = source_of(session.input, session.reader);
+    let mut sink = sink_of(alloc, session.writer);
     let buffers = LineBuffers::new(alloc, 256)?;
     let mut lines = Lines::with_limit(buffers, &mut source, session.most);
     let mut executive = headed(alloc, &mut lines)?;
@@ -148,11 +126,6 @@ fn served<I: Ledger, O: Ledger>(
         text: sink.into_text(),
         seen: see(&executive),
     })
-}
-
-/// The same.
-pub(crate) fn run(alloc: Global, session: Session<'_>) -> Result<Left, ServeFault> {
-    served::<Brand, Brand>(alloc, session, Blank::new(1), Blank::new(1))
 }
 
 /// How many lines are whole.

@@ -1,10 +1,6 @@
 //! Journals that are audited, and their heads.
 
-ghost use Rattle.std.specs.Prelude.{◌≡◌, ◌<◌, ◌≤◌};
-
 use std::alloc::Global;
-use std::marker::Brand;
-use std::sync::ledger::{Blank, Ledger};
 use tp_bounds::Limits;
 use tp_device::FromRead;
 use tp_exec_machine::Executive;
@@ -19,50 +15,28 @@ enum Found {
     Pairs(u64),
     /// Another fault.
     Fault(AuditFault),
-    /// No audit was made.
-    Nothing,
 }
 
-/// The audit of a journal, over a new network of so many events and ticks, whose event 0 has a lag.
-fn audit_over<I: Ledger>(
+/// What an audit finds of a journal, over a new network of so many events, one at least, and ticks,
+/// whose event 0 has a lag.
+fn audited(
     alloc: Global,
     text: &[u8],
-    reads: Blank,
-    events: u16,
-    horizon: u32,
-    lag: u32,
-) -> Result<Found, ServeFault>
-    requires reads_name { reads.name ≡ I.name }
-    requires reads_parts { reads.parts ≡ I.parts }
-    requires reads_some { 0 < reads.parts }
-    requires few { events ≤ 1_024 }
-    requires some { 0 < events }
-    requires far { horizon ≤ 1_000_000_000 }
-    requires late { lag ≤ 1_000_000_000 }
-{
-    let mut source = FromRead::<&[u8], I>::new(text, reads);
+    events: u8,
+    horizon: u16,
+    lag: u16,
+) -> Result<Found, ServeFault> {
+    let mut source = FromRead::new(text);
     let buffers = LineBuffers::new(alloc, 16_384)?;
     let mut lines = Lines::new(buffers, &mut source);
-    let mut net = ScratchNet::new(alloc, events, horizon)?;
-    net.set_lag(0, lag);
+    let horizon = u32::from(horizon);
+    let mut net = ScratchNet::new(alloc, u16::from(events).max(1), horizon)?;
+    net.set_lag(0, u32::from(lag));
     let executive = Executive::bare(alloc, Limits::greatest(horizon), net);
     Ok(match audit(alloc, executive, &mut lines) {
         Ok(audited) => Found::Pairs(audited.pairs),
         Err(fault) => Found::Fault(fault),
     })
-}
-
-/// What an audit finds.
-fn audited(alloc: Global, text: &[u8], events: u16, horizon: u32, lag: u32) -> Found
-    requires few { events ≤ 1_024 }
-    requires some { 0 < events }
-    requires far { horizon ≤ 1_000_000_000 }
-    requires late { lag ≤ 1_000_000_000 }
-{
-    match audit_over::<Brand>(alloc, text, Blank::new(1), events, horizon, lag) {
-        Ok(found) => found,
-        Err(_) => Found::Nothing,
-    }
 }
 
 /// A journal of seven pairs.
@@ -73,10 +47,10 @@ const SEVEN: &'static [u8] =
 #[test]
 fn a_whole_journal_and_other_heads(rt: HostRuntime) {
     let alloc = rt.alloc();
-    assert!(rt; audited(alloc, SEVEN, 2, 100, 0) == Found::Pairs(7));
-    assert!(rt; audited(alloc, SEVEN, 3, 100, 0) == Found::Fault(AuditFault::Head));
-    assert!(rt; audited(alloc, SEVEN, 2, 99, 0) == Found::Fault(AuditFault::Head));
-    assert!(rt; audited(alloc, SEVEN, 2, 100, 3) == Found::Fault(AuditFault::Head));
+    assert!(rt; audited(alloc, SEVEN, 2, 100, 0) == Ok(Found::Pairs(7)));
+    assert!(rt; audited(alloc, SEVEN, 3, 100, 0) == Ok(Found::Fault(AuditFault::Head)));
+    assert!(rt; audited(alloc, SEVEN, 2, 99, 0) == Ok(Found::Fault(AuditFault::Head)));
+    assert!(rt; audited(alloc, SEVEN, 2, 100, 3) == Ok(Found::Fault(AuditFault::Head)));
 }
 
 /// A journal with a lag, and the same without.
@@ -85,28 +59,23 @@ fn events_that_are_reported_late(rt: HostRuntime) {
     let alloc = rt.alloc();
     let with =
         b"journal 2\nnetwork 2 10\nbare\nlag 0 3\n> add o 0 2\n< bound 0\n> advance 6\n< refused conflict now0 b0\n> advance 5\n< ok\n> happened 0 2\n< ok\n";
-    assert!(rt; audited(alloc, with, 2, 10, 3) == Found::Pairs(4));
-    assert!(rt; audited(alloc, with, 2, 10, 4) == Found::Fault(AuditFault::Head));
-    assert!(rt; audited(alloc, with, 2, 10, 0) == Found::Fault(AuditFault::Head));
+    assert!(rt; audited(alloc, with, 2, 10, 3) == Ok(Found::Pairs(4)));
+    assert!(rt; audited(alloc, with, 2, 10, 4) == Ok(Found::Fault(AuditFault::Head)));
+    assert!(rt; audited(alloc, with, 2, 10, 0) == Ok(Found::Fault(AuditFault::Head)));
     let first = b"journal 1\nnetwork 2 10\nbare\n> happened 0 0\n< ok\n";
-    assert!(rt; audited(alloc, first, 2, 10, 0) == Found::Fault(AuditFault::Line(4)));
+    assert!(rt; audited(alloc, first, 2, 10, 0) == Ok(Found::Fault(AuditFault::Line(4))));
 }
 
 /// The most bytes of a journal.
 const MOST: u64 = 4_294_967_296;
 
 /// The head of a journal, of which so many bytes may be taken.
-fn head_over<I: Ledger>(
+fn head_over(
     alloc: Global,
     text: &[u8],
-    reads: Blank,
     most: u64,
-) -> Result<Result<JournalHead, AuditFault>, ServeFault>
-    requires reads_name { reads.name ≡ I.name }
-    requires reads_parts { reads.parts ≡ I.parts }
-    requires reads_some { 0 < reads.parts }
-{
-    let mut source = FromRead::<&[u8], I>::new(text, reads);
+) -> Result<Result<JournalHead, AuditFault>, ServeFault> {
+    let mut source = FromRead::new(text);
     let buffers = LineBuffers::new(alloc, 16_384)?;
     let mut lines = Lines::with_limit(buffers, &mut source, most);
     Ok(journal_head(alloc, &mut lines))
@@ -121,7 +90,7 @@ fn headed(
     own: Option<u32>,
     lags: &[(u16, u32)],
 ) -> bool {
-    let Ok(Ok(head)) = head_over::<Brand>(alloc, text, Blank::new(1), MOST) else {
+    let Ok(Ok(head)) = head_over(alloc, text, MOST) else {
         return false;
     };
     head.version == version
@@ -142,7 +111,7 @@ fn heads_of_both_versions(rt: HostRuntime) {
 
 /// The fault of the head of a journal, if it has one.
 fn head_fault(alloc: Global, text: &[u8]) -> Option<AuditFault> {
-    match head_over::<Brand>(alloc, text, Blank::new(1), MOST) {
+    match head_over(alloc, text, MOST) {
         Ok(Err(fault)) => Some(fault),
         _ => None,
     }
@@ -207,7 +176,7 @@ fn what_too_long_a_line_is_behind_a_head(rt: HostRuntime) {
 
 /// Whether a head ends, or has that fault, where so many bytes of the text may be taken.
 fn cut_head(alloc: Global, text: &[u8], most: u64, wanted: Option<AuditFault>) -> bool {
-    match head_over::<Brand>(alloc, text, Blank::new(1), most) {
+    match head_over(alloc, text, most) {
         Ok(Ok(_)) => wanted.is_none(),
         Ok(Err(fault)) => wanted == Some(fault),
         Err(_) => false,

@@ -1,6 +1,6 @@
 //! Answers that the machine allows, and others.
 
-ghost use Rattle.std.specs.Prelude.{◌≡◌, ◌≤◌, IfOk};
+ghost use Rattle.std.specs.Prelude.{IfOk};
 ghost use Rattle.tp_journal_pairs.specs.Sound.{IsSound};
 
 use std::alloc::{AllocError, Global};
@@ -10,27 +10,17 @@ use tp_journal_pairs::{Finding, judge};
 use tp_net::ScratchNet;
 use tp_script::read_command;
 
-/// An executive over a new network of so many events and ticks.
-fn start(alloc: Global, events: u16, horizon: u32) -> Result<Executive<ScratchNet>, AllocError>
-    requires few { events ≤ 1_024 }
-    requires far { horizon ≤ 1_000_000_000 }
+/// An executive over a new network of one event and 5 ticks.
+fn start(alloc: Global) -> Result<Executive<ScratchNet>, AllocError>
     ensures { IfOk result IsSound }
 {
-    let net = ScratchNet::new(alloc, events, horizon)?;
-    Ok(Executive::bare(alloc, Limits::greatest(horizon), net))
+    let net = ScratchNet::new(alloc, 1, 5)?;
+    Ok(Executive::bare(alloc, Limits::greatest(5), net))
 }
 
 /// Whether each answer to its command, in turn, is found as told: right, or not.
-fn judged(
-    alloc: Global,
-    events: u16,
-    horizon: u32,
-    pairs: &[(&'static [u8], &'static [u8], bool)],
-) -> bool
-    requires few { events ≤ 1_024 }
-    requires far { horizon ≤ 1_000_000_000 }
-{
-    let Ok(mut executive) = start(alloc, events, horizon) else {
+fn judged(alloc: Global, pairs: &[(&'static [u8], &'static [u8], bool)]) -> bool {
+    let Ok(mut executive) = start(alloc) else {
         return false;
     };
     for (line, text, right) in pairs {
@@ -67,7 +57,7 @@ fn reasons_that_qualify_and_others(rt: HostRuntime) {
         (b"advance 4", b"refused conflict now0 b1", true),
         (b"report", b"report 0 bare 0", true),
     ];
-    assert!(rt; judged(rt.alloc(), 1, 5, &pairs));
+    assert!(rt; judged(rt.alloc(), &pairs));
 }
 
 /// That memory ran out is right after a command that may want some and is refused for nothing else;
@@ -84,7 +74,7 @@ fn memory_that_ran_out(rt: HostRuntime) {
         (b"add o 0 4", b"bound 0", true),
         (b"window 0", b"window 0 4", true),
     ];
-    assert!(rt; judged(rt.alloc(), 1, 5, &pairs));
+    assert!(rt; judged(rt.alloc(), &pairs));
 }
 
 /// Reports of events that happened: their reasons begin with the event's moment.
@@ -101,5 +91,5 @@ fn events_that_happened(rt: HostRuntime) {
         (b"happened 0 4", b"ok", true),
         (b"happened 0 4", b"refused done", true),
     ];
-    assert!(rt; judged(rt.alloc(), 1, 5, &pairs));
+    assert!(rt; judged(rt.alloc(), &pairs));
 }

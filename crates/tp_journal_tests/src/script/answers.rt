@@ -1,11 +1,7 @@
 //! The lines of answers.
 
-ghost use Rattle.std.specs.Prelude.{◌≡◌, ◌<◌};
-
 use std::alloc::{AllocError, Global};
 use std::io::Write;
-use std::marker::Brand;
-use std::sync::ledger::{Blank, Ledger};
 use std::test::Fail;
 use tp_bounds::{BoundId, Edge, Reason};
 use tp_device::{Failed, ToWrite};
@@ -13,16 +9,8 @@ use tp_exec_machine::{Kind, Refusal, Report};
 use tp_script::{Answer, write_answer};
 
 /// Writes the lines of answers.
-fn write_all<W: Write + Drop, L: Ledger>(
-    writer: W,
-    blank: Blank,
-    answers: &[Answer],
-) -> Result<(), Failed>
-    requires name { blank.name ≡ L.name }
-    requires parts { blank.parts ≡ L.parts }
-    requires some { 0 < blank.parts }
-{
-    let mut sink = ToWrite::<W, L>::new(writer, blank);
+fn write_all<W: Write + Drop>(writer: W, answers: &[Answer]) -> Result<(), Failed> {
+    let mut sink = ToWrite::new(writer);
     for answer in answers {
         write_answer(&mut sink, answer)?;
     }
@@ -62,7 +50,7 @@ fn answers_and_their_lines(rt: HostRuntime) {
     ];
     let text = b"ok\nbound 7\nwindow 3 10\n";
     let mut room = [0; 23];
-    let written = write_all::<_, Brand>(room.as_mut_slice(), Blank::new(1), &answers);
+    let written = write_all(room.as_mut_slice(), &answers);
     assert!(rt; written == Ok(()) && room == *text);
 }
 
@@ -77,7 +65,7 @@ fn refusals_and_their_lines(rt: HostRuntime) {
     ];
     let text = b"refused event\nrefused done\nrefused bound\nrefused weight\nrefused back\n";
     let mut room = [0; 69];
-    let written = write_all::<_, Brand>(room.as_mut_slice(), Blank::new(1), &answers);
+    let written = write_all(room.as_mut_slice(), &answers);
     assert!(rt; written == Ok(()) && room == *text);
 }
 
@@ -91,7 +79,7 @@ fn later_refusals_and_their_lines(rt: HostRuntime) {
     ];
     let text = b"refused moment\nrefused full\nrefused spent\nrefused memory\n";
     let mut room = [0; 57];
-    let written = write_all::<_, Brand>(room.as_mut_slice(), Blank::new(1), &answers);
+    let written = write_all(room.as_mut_slice(), &answers);
     assert!(rt; written == Ok(()) && room == *text);
 }
 
@@ -100,7 +88,7 @@ fn a_report_and_its_line(rt: HostRuntime) -> Result<(), Fail> {
     let answers = [a_report(rt.alloc())?];
     let text = b"report 4 bare 4! 6\n";
     let mut room = [0; 19];
-    let written = write_all::<_, Brand>(room.as_mut_slice(), Blank::new(1), &answers);
+    let written = write_all(room.as_mut_slice(), &answers);
     assert!(rt; written == Ok(()) && room == *text);
     Ok(())
 }
@@ -110,7 +98,7 @@ fn a_conflict_and_its_line(rt: HostRuntime) -> Result<(), Fail> {
     let answers = [a_conflict(rt.alloc())?];
     let text = b"refused conflict b12 new past2+ past0- now4 end1\n";
     let mut room = [0; 49];
-    let written = write_all::<_, Brand>(room.as_mut_slice(), Blank::new(1), &answers);
+    let written = write_all(room.as_mut_slice(), &answers);
     assert!(rt; written == Ok(()) && room == *text);
     Ok(())
 }

@@ -1,25 +1,13 @@
 //! The lines of commands.
 
-ghost use Rattle.std.specs.Prelude.{◌≡◌, ◌<◌};
-
 use std::io::Write;
-use std::marker::Brand;
-use std::sync::ledger::{Blank, Ledger};
 use tp_bounds::{Bound, BoundId, Point};
 use tp_device::{Failed, ToWrite};
 use tp_script::{Command, write_command};
 
 /// Writes the lines of commands.
-fn write_all<W: Write + Drop, L: Ledger>(
-    writer: W,
-    blank: Blank,
-    commands: &[Command],
-) -> Result<(), Failed>
-    requires name { blank.name ≡ L.name }
-    requires parts { blank.parts ≡ L.parts }
-    requires some { 0 < blank.parts }
-{
-    let mut sink = ToWrite::<W, L>::new(writer, blank);
+fn write_all<W: Write + Drop>(writer: W, commands: &[Command]) -> Result<(), Failed> {
+    let mut sink = ToWrite::new(writer);
     for command in commands {
         write_command(&mut sink, command)?;
     }
@@ -44,7 +32,7 @@ fn commands_and_their_lines(rt: HostRuntime) {
     let text =
         b"advance 4294967295\nwithdraw 0\nwindow 65535\ndispatch 10\nhappened 3 20\nreport\n";
     let mut room = [0; 76];
-    let written = write_all::<_, Brand>(room.as_mut_slice(), Blank::new(1), &commands);
+    let written = write_all(room.as_mut_slice(), &commands);
     assert!(rt; written == Ok(()) && room == *text);
 }
 
@@ -58,6 +46,6 @@ fn additions_and_their_lines(rt: HostRuntime) {
     ];
     let text = b"add o 0 10\nadd 1 o -3\nadd 12 7 0\nadd o o -9999999999\n";
     let mut room = [0; 53];
-    let written = write_all::<_, Brand>(room.as_mut_slice(), Blank::new(1), &commands);
+    let written = write_all(room.as_mut_slice(), &commands);
     assert!(rt; written == Ok(()) && room == *text);
 }
